@@ -1,0 +1,9 @@
+-- What is said of a fault.
+use Rattle.std.specs.Prelude.{ℕ, List, codes}
+use Rattle.nj_scope.specs.declared.source.SourceFault.{SourceFault}
+use Rattle.nj_scope.specs.declared.source.SourceFault.TheVariants.{Io, OutOfMemory}
+
+-- its text
+abbrev pub fault_text : SourceFault → List ℕ
+fault_text Io = codes "the file could not be read"
+fault_text OutOfMemory = codes "out of memory"

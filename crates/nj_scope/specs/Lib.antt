@@ -1,0 +1,4 @@
+pub mod Readings
+pub mod Faults
+pub mod Memory
+pub mod Table

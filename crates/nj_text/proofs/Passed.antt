@@ -1,0 +1,57 @@
+-- Blanks that are passed.
+use Rattle.std.proofs.Common.{◌≡◌, ℕ, suc, ◌+◌, ◌≤◌, ◌<◌, Bool, true, false, cond, eqb, List, [], ◌∷◌, ◌++◌, length, take, drop, refl, sym, ap, subst, ◌∙◌, arith}
+use Rattle.std.specs.List.{take_while}
+use Rattle.std.proofs.lemmas.Bool.{eqb-true, false≢true}
+use Rattle.nj_text.specs.declared.spot.Spot.{Spot}
+use Rattle.nj_text.specs.Bytes.{is_space, is_ordinary_byte, begins_with, drop_while}
+use Rattle.nj_text.specs.Units.{Meaning, Ordinary, Join, TextUnit, Within, cut}
+use Rattle.nj_text.specs.Scans.{along, units_within, Begins, BeginsBadly, begins_with_space_byte}
+use Rattle.nj_text.specs.Words.{is_blank, is_blank_meaning}
+use Rattle.nj_text.proofs.Lists.{AllIn, AllIn-weaker, AllIn-take_while, drop_while-append, drop_while-cons_no}
+use Rattle.nj_text.proofs.Cuts.{plain_units, cut-run}
+
+-- a unit that is no blank stops them
+pub blanks_stop : (spot : Spot) (bytes : List ℕ) (m : Meaning) (n : ℕ) (behind : List TextUnit) → Begins spot bytes m n behind → is_blank_meaning m ≡ false → drop_while is_blank (units_within spot bytes) ≡ units_within spot bytes
+blanks_stop spot bytes m n behind e h = rw e (rw h refl)
+
+pub blanks_stop_badly : (spot : Spot) (bytes : List ℕ) (m : Meaning) → BeginsBadly spot bytes m → is_blank_meaning m ≡ false → drop_while is_blank (units_within spot bytes) ≡ units_within spot bytes
+blanks_stop_badly spot bytes m b h = blanks_stop spot bytes m b.0 b.1 b.2 h
+
+pub blanks_stop_at_end : (spot : Spot) (bytes : List ℕ) → bytes ≡ [] → drop_while is_blank (units_within spot bytes) ≡ units_within spot bytes
+unfolding cut
+blanks_stop_at_end spot bytes e = rw e refl
+
+pub first_is_no_space : (b : ℕ) (bytes : List ℕ) → begins_with b bytes ≡ true → begins_with_space_byte bytes ≡ false → is_space b ≡ false
+first_is_no_space b [] e h = absurd cc
+first_is_no_space b (x ∷ bs) e h = ap is_space (sym (eqb-true x b e)) ∙ h
+
+-- a join is one
+pub blanks_over_join : (spot : Spot) (bytes : List ℕ) (n : ℕ) (behind : List TextUnit) → Begins spot bytes Join n behind → drop_while is_blank (units_within spot bytes) ≡ drop_while is_blank behind
+blanks_over_join spot bytes n behind e = rw e refl
+
+space_is_ordinary : (b : ℕ) → is_space b ≡ true → is_ordinary_byte b ≡ true
+space_is_ordinary b h = rw (eqb-true b 32 h) refl
+
+spaces_are_blanks : (spot : Spot) (xs : List ℕ) → AllIn is_space xs → AllIn is_blank (plain_units spot xs)
+spaces_are_blanks spot [] h = tt
+spaces_are_blanks spot (x ∷ xs) h = (h.0, spaces_are_blanks (along 1 spot) xs h.1)
+
+-- and so are spaces
+pub blanks_over_spaces : (spot : Spot) (bytes xs ys : List ℕ) → bytes ≡ xs ++ ys → AllIn is_space xs → drop_while is_blank (units_within spot bytes) ≡ drop_while is_blank (units_within (along (length xs) spot) ys)
+blanks_over_spaces spot bytes xs ys e h =
+    ap (λ bs. drop_while is_blank (units_within spot bs)) e
+    ∙ ap (drop_while is_blank) (cut-run spot xs ys (AllIn-weaker is_space is_ordinary_byte xs space_is_ordinary h))
+    ∙ drop_while-append is_blank (plain_units spot xs) (units_within (along (length xs) spot) ys) (spaces_are_blanks spot xs h)
+
+pub no_space_behind : (bytes : List ℕ) → begins_with_space_byte (drop_while is_space bytes) ≡ false
+no_space_behind [] = refl
+no_space_behind (b ∷ bs) = by_test (is_space b) refl (no_space_behind bs)
+  where
+    by_test : (t : Bool) → is_space b ≡ t → begins_with_space_byte (drop_while is_space bs) ≡ false → begins_with_space_byte (cond t (drop_while is_space bs) (b ∷ bs)) ≡ false
+    by_test true e h = h
+    by_test false e h = e
+
+pub blanks_over_run : (spot : Spot) (bytes xs ys : List ℕ) (there : Spot) → bytes ≡ xs ++ ys → xs ≡ take_while is_space bytes → there ≡ along (length xs) spot
+    → drop_while is_blank (units_within spot bytes) ≡ drop_while is_blank (units_within there ys)
+blanks_over_run spot bytes xs ys there whole run e =
+    blanks_over_spaces spot bytes xs ys whole (rw run (AllIn-take_while is_space bytes)) ∙ ap (λ p. drop_while is_blank (units_within p ys)) (sym e)

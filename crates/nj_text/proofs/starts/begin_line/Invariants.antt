@@ -1,0 +1,10 @@
+use Rattle.std.proofs.Common.{◌≡◌, length}
+use Rattle.nj_text.specs.Calls.{without_comments}
+use Rattle.nj_text.specs.Standing.{lines_at}
+use Rattle.nj_text.proofs.starts.begin_line.Given as goal
+
+abbrev pub invariant-comments : goal.invariant-comments
+invariant-comments l = without_comments (lines_at l.cursor) ≡ without_comments (lines_at l.fn.start)
+
+abbrev pub decreases-comments : goal.decreases-comments
+decreases-comments l = length l.cursor.rest.now

@@ -1,0 +1,188 @@
+-- What each call of the lexer answers, and where it leaves the lexer.
+use Rattle.std.specs.Prelude.{◌≡◌, ℕ, Bool, true, false, ◌&&◌, not, if◌then◌else◌, Option, Some, None, Result, Ok, Err, List, [], ◌∷◌, drop}
+use Rattle.std.specs.List.{take_while, flat_map}
+use Rattle.nj_text.specs.declared.fault.LexFault.{LexFault}
+use Rattle.nj_text.specs.declared.fault.LexFault.TheVariants as fault
+use Rattle.nj_text.specs.declared.sign.Sign.{Sign}
+use Rattle.nj_text.specs.declared.sign.Sign.TheVariants as sign
+use Rattle.nj_text.specs.declared.sign.LineStart.{LineStart}
+use Rattle.nj_text.specs.declared.sign.LineStart.TheVariants as start
+use Rattle.nj_text.specs.declared.spot.Spot.{Spot}
+use Rattle.nj_text.specs.Bytes.{drop_while}
+use Rattle.nj_text.specs.Units.{TextUnit, first_spot}
+use Rattle.nj_text.specs.Lines.{Line, text_lines, line_spot, with_units, lines_behind, Kind, CommentLine, TabLine, BlankLine, IndentedLine, PlainLine, kind_of, is_space_unit}
+use Rattle.nj_text.specs.Words.{is_blank, is_blank_or_opening, in_identifier, opens_word, in_word, begins_with_byte, next_fault, first_fault, parts_of, WordText}
+
+-- Where a lexer stands: between lines, before those that are left; inside a line, before what is left of it, and then
+-- the lines behind it; or at a fault, for good.
+pub data State : Type 0 where
+  Between : (lines : List Line) → State
+  Inside : (line : Line) (lines : List Line) → State
+  Failed : (fault : LexFault) → State
+
+-- what a call answers, and where it leaves the lexer
+pub record Reply (A : Type 0) : Type 0 where
+  pub answer : Result A LexFault
+  pub after : State
+
+abbrev pub reply : {A : Type 0} → A → State → Reply A
+reply x after = record { answer = Ok x; after = after }
+
+abbrev pub failing : {A : Type 0} → LexFault → Reply A
+failing f = record { answer = Err f; after = Failed f }
+
+-- a fault comes first
+abbrev pub unless_fault : {A : Type 0} → Option LexFault → Reply A → Reply A
+unless_fault None r = r
+unless_fault (Some f) r = failing f
+
+-- a lexer at the front of a text
+abbrev pub at_front : List ℕ → State
+at_front text = Between (text_lines text)
+
+-- ---- start_line
+
+abbrev pub is_empty : {A : Type 0} → List A → Bool
+is_empty [] = true
+is_empty (x ∷ xs) = false
+
+-- how a line begins that is no comment
+abbrev pub begun_by : Kind → Line → List Line → Reply LineStart
+begun_by CommentLine l ls = reply start.Plain (Inside l ls)
+begun_by (TabLine tab) l ls = failing (fault.Tab tab)
+begun_by BlankLine l ls =
+    if l.is_last && is_empty l.units then reply start.End (Between (l ∷ ls)) else reply start.Blank (Between (lines_behind l ls))
+begun_by IndentedLine l ls = reply start.Indented (Inside (with_units (drop_while is_space_unit l.units) l) ls)
+begun_by PlainLine l ls = reply start.Plain (Inside l ls)
+
+abbrev pub is_comment : Kind → Bool
+is_comment CommentLine = true
+is_comment kind = false
+
+-- the lines from the first on that is no comment
+abbrev pub without_comments : List Line → List Line
+without_comments [] = []
+without_comments (l ∷ ls) = if is_comment (kind_of l) then lines_behind l (without_comments ls) else l ∷ ls
+
+abbrev pub begun : List Line → Reply LineStart
+begun [] = reply start.End (Between [])
+begun (l ∷ ls) = begun_by (kind_of l) l ls
+
+abbrev pub start_line_of : State → Reply LineStart
+start_line_of (Between ls) = begun (without_comments ls)
+start_line_of (Inside l ls) = reply start.Middle (Inside l ls)
+start_line_of (Failed f) = failing f
+
+-- ---- ident
+
+abbrev pub behind_blanks : Line → Line
+behind_blanks l = with_units (drop_while is_blank l.units) l
+
+-- the bytes of the units, as they stand
+abbrev pub bytes_of : List TextUnit → List ℕ
+bytes_of us = flat_map (λ u. u.bytes) us
+
+-- the bytes, where there are any
+abbrev pub some_bytes : List ℕ → Option (List ℕ)
+some_bytes [] = None
+some_bytes (b ∷ bs) = Some (b ∷ bs)
+
+abbrev pub ident_at : Line → List Line → Reply (Option (List ℕ))
+ident_at l ls =
+    unless_fault (next_fault l.units) (reply (some_bytes (bytes_of (take_while in_identifier l.units))) (Inside (with_units (drop_while in_identifier l.units) l) ls))
+
+abbrev pub ident_of : State → Reply (Option (List ℕ))
+ident_of (Between ls) = reply None (Between ls)
+ident_of (Inside l ls) = ident_at (behind_blanks l) ls
+ident_of (Failed f) = failing f
+
+-- ---- sign
+
+abbrev pub is_sign : Sign → List TextUnit → Bool
+is_sign sign.Colon us = begins_with_byte 58 us
+is_sign sign.Equals us = begins_with_byte 61 us
+is_sign sign.Pipe us = begins_with_byte 124 us && not (begins_with_byte 124 (drop 1 us)) && not (begins_with_byte 64 (drop 1 us))
+is_sign sign.Pipe2 us = begins_with_byte 124 us && begins_with_byte 124 (drop 1 us)
+is_sign sign.PipeAt us = begins_with_byte 124 us && begins_with_byte 64 (drop 1 us)
+is_sign sign.LineEnd us = is_empty us
+
+abbrev pub behind_sign : Sign → Line → List Line → State
+behind_sign sign.LineEnd l ls = Between (lines_behind l ls)
+behind_sign sign.Pipe2 l ls = Inside (with_units (drop 2 l.units) l) ls
+behind_sign sign.PipeAt l ls = Inside (with_units (drop 2 l.units) l) ls
+behind_sign want l ls = Inside (with_units (drop 1 l.units) l) ls
+
+abbrev pub sign_at : Sign → Line → List Line → Reply Bool
+sign_at want l ls = unless_fault (next_fault l.units) (if is_sign want l.units then reply true (behind_sign want l ls) else reply false (Inside l ls))
+
+abbrev pub sign_of : Sign → State → Reply Bool
+sign_of want (Between ls) = reply false (Between ls)
+sign_of want (Inside l ls) = sign_at want (behind_blanks l) ls
+sign_of want (Failed f) = failing f
+
+-- ---- path_word
+
+abbrev pub begins_word : List TextUnit → Bool
+begins_word [] = false
+begins_word (u ∷ us) = opens_word u
+
+abbrev pub word_here : Line → WordText
+word_here l = record { spot = line_spot l; parts = parts_of (take_while in_word l.units) }
+
+abbrev pub word_at : Line → List Line → Reply (Option WordText)
+word_at l ls =
+    unless_fault (next_fault l.units)
+    (if begins_word l.units
+    then unless_fault (next_fault (drop_while in_word l.units)) (reply (Some (word_here l)) (Inside (with_units (drop_while in_word l.units) l) ls))
+    else reply None (Inside l ls))
+
+abbrev pub path_word_of : State → Reply (Option WordText)
+path_word_of (Between ls) = reply None (Between ls)
+path_word_of (Inside l ls) = word_at (behind_blanks l) ls
+path_word_of (Failed f) = failing f
+
+-- ---- value
+
+abbrev pub value_at : Line → List Line → Reply WordText
+value_at l ls = unless_fault (first_fault l.units) (reply (record { spot = line_spot l; parts = parts_of l.units }) (Inside (with_units [] l) ls))
+
+abbrev pub no_word : Spot → WordText
+no_word spot = record { spot = spot; parts = [] }
+
+-- ---- spot
+
+abbrev pub first_line_spot : List Line → Spot
+first_line_spot [] = first_spot
+first_line_spot (l ∷ ls) = line_spot l
+
+abbrev pub fault_spot : LexFault → Spot
+fault_spot (fault.BadByte spot) = spot
+fault_spot (fault.Tab spot) = spot
+fault_spot (fault.BadEscape spot) = spot
+fault_spot fault.OutOfMemory = first_spot
+
+abbrev pub spot_of : State → Spot
+spot_of (Between ls) = first_line_spot ls
+spot_of (Inside l ls) = line_spot l
+spot_of (Failed f) = fault_spot f
+
+abbrev pub value_of : State → Reply WordText
+value_of (Between ls) = reply (no_word (first_line_spot ls)) (Between ls)
+value_of (Inside l ls) = value_at (with_units (drop_while is_blank_or_opening l.units) l) ls
+value_of (Failed f) = failing f
+
+-- ---- what a call of the program does
+
+-- It answers as the definition says, and leaves the lexer where the definition does.
+abbrev pub Answers : {X Y : Type 0} → (X → Y) → Result X LexFault → State → Reply Y → Type 0
+Answers view (Ok x) after expected = (expected.answer ≡ Ok (view x)) × (after ≡ expected.after)
+Answers view (Err f) after expected = (expected.answer ≡ Err f) × (after ≡ expected.after)
+
+abbrev pub FailsOrWants : {Y : Type 0} → LexFault → (before after : State) → Reply Y → Type 0
+FailsOrWants fault.OutOfMemory before after expected = after ≡ before
+FailsOrWants f before after expected = (expected.answer ≡ Err f) × (after ≡ expected.after)
+
+-- The same of a call that takes memory: where memory is refused the lexer stands where it stood.
+abbrev pub AnswersOrWants : {X Y : Type 0} → (X → Y) → Result X LexFault → (before after : State) → Reply Y → Type 0
+AnswersOrWants view (Ok x) before after expected = (expected.answer ≡ Ok (view x)) × (after ≡ expected.after)
+AnswersOrWants view (Err f) before after expected = FailsOrWants f before after expected

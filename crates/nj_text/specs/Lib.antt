@@ -1,0 +1,9 @@
+pub mod Bytes
+pub mod Units
+pub mod Lines
+pub mod Words
+pub mod Calls
+pub mod Runs
+pub mod Scans
+pub mod Gathering
+pub mod Standing

@@ -1,0 +1,89 @@
+-- The logical lines of a text: its units, cut behind each line end.
+use Rattle.std.specs.Prelude.{ℕ, Bool, true, false, if◌then◌else◌, Option, Some, None, List, [], ◌∷◌}
+use Rattle.nj_text.specs.declared.spot.Spot.{Spot}
+use Rattle.nj_text.specs.Bytes.{is_space, drop_while}
+use Rattle.nj_text.specs.Units.{Meaning, Ordinary, Escape, Reference, Join, OpeningJoin, Comment, LeadingTab, LineEnd, TextEnd, BadByte, BadEscape, TextUnit, is_ordinary_in, units}
+
+-- a line: its units, the place where it ends, and whether the text ends there too
+pub record Line : Type 0 where
+  pub units : List TextUnit
+  pub end : Spot
+  pub is_last : Bool
+
+-- whether a unit ends its line, and then whether it ends the text
+abbrev pub ending_of : Meaning → Option Bool
+ending_of LineEnd = Some false
+ending_of TextEnd = Some true
+ending_of m = None
+
+-- a unit before the first of the lines
+abbrev pub before_first_line : TextUnit → List Line → List Line
+before_first_line u [] = []
+before_first_line u (l ∷ ls) = record { units = u ∷ l.units; end = l.end; is_last = l.is_last } ∷ ls
+
+abbrev pub lines_before : Option Bool → TextUnit → List Line → List Line
+lines_before None u ls = before_first_line u ls
+lines_before (Some is_last) u ls = record { units = []; end = u.spot; is_last = is_last } ∷ ls
+
+abbrev pub lines_of : List TextUnit → List Line
+lines_of [] = []
+lines_of (u ∷ us) = lines_before (ending_of u.means) u (lines_of us)
+
+-- the lines of a whole text; behind its last line end stands one more, which may have no units
+abbrev pub text_lines : List ℕ → List Line
+text_lines text = lines_of (units text)
+
+-- the place of the first of the units, or the end where there is none
+abbrev pub spot_of_first : List TextUnit → Spot → Spot
+spot_of_first [] end = end
+spot_of_first (u ∷ us) end = u.spot
+
+-- the place of a line's first unit, or of its end
+abbrev pub line_spot : Line → Spot
+line_spot l = spot_of_first l.units l.end
+
+-- a line with these units in the place of its own
+abbrev pub with_units : List TextUnit → Line → Line
+with_units us l = record { units = us; end = l.end; is_last = l.is_last }
+
+-- the lines behind one; behind the last stays its empty end
+abbrev pub lines_behind : Line → List Line → List Line
+lines_behind l ls = if l.is_last then with_units [] l ∷ ls else ls
+
+-- ---- kinds of lines
+
+pub data Kind : Type 0 where
+  -- a comment
+  CommentLine : Kind
+  -- a tab as the first byte after the leading spaces, whatever follows
+  TabLine : (tab : Spot) → Kind
+  -- nothing but spaces
+  BlankLine : Kind
+  -- spaces, and then something
+  IndentedLine : Kind
+  -- something at once
+  PlainLine : Kind
+
+abbrev pub is_space_unit : TextUnit → Bool
+is_space_unit u = is_ordinary_in is_space u.means
+
+abbrev pub text_kind : (indented : Bool) → Kind
+text_kind true = IndentedLine
+text_kind false = PlainLine
+
+-- a line with this unit behind its leading spaces, which may be none
+abbrev pub kind_with : Meaning → Spot → (indented : Bool) → Kind
+kind_with Comment spot indented = CommentLine
+kind_with LeadingTab spot indented = TabLine spot
+kind_with m spot indented = text_kind indented
+
+abbrev pub kind_behind_spaces : List TextUnit → (indented : Bool) → Kind
+kind_behind_spaces [] indented = BlankLine
+kind_behind_spaces (u ∷ us) indented = kind_with u.means u.spot indented
+
+abbrev pub begins_with_space : List TextUnit → Bool
+begins_with_space [] = false
+begins_with_space (u ∷ us) = is_space_unit u
+
+abbrev pub kind_of : Line → Kind
+kind_of l = kind_behind_spaces (drop_while is_space_unit l.units) (begins_with_space l.units)

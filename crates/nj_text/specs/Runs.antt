@@ -1,0 +1,13 @@
+-- The runs of bytes that the lexer passes as one.
+use Rattle.std.specs.Prelude.{ℕ, Bool, ◌&&◌, ◌||◌, not, ◌==◌}
+use Rattle.nj_text.specs.declared.runs.Run.{Run}
+use Rattle.nj_text.specs.declared.runs.Run.TheVariants as run
+use Rattle.nj_text.specs.Bytes.{is_space, is_line_feed, is_name_byte, is_identifier_byte, is_ordinary_byte, is_word_byte}
+
+abbrev pub in_run : Run → ℕ → Bool
+in_run run.Spaces b = is_space b
+in_run run.Name b = is_name_byte b
+in_run run.Identifier b = is_identifier_byte b
+in_run run.Word b = is_word_byte b
+in_run run.Value b = is_ordinary_byte b
+in_run run.Comment b = not (is_line_feed b)

@@ -1,0 +1,122 @@
+-- Identifiers, words and values: what the units of a line say.
+use Rattle.std.specs.Prelude.{ℕ, Bool, true, false, ◌&&◌, ◌||◌, not, ◌==◌, Option, Some, None, List, [], ◌∷◌, map}
+use Rattle.nj_text.specs.declared.fault.LexFault.{LexFault}
+use Rattle.nj_text.specs.declared.fault.LexFault.TheVariants as fault
+use Rattle.nj_text.specs.declared.spot.Spot.{Spot}
+use Rattle.nj_text.specs.declared.word.Part.{Part}
+use Rattle.nj_text.specs.declared.word.Part.TheVariants as part
+use Rattle.nj_text.specs.declared.word.Word.{Word}
+use Rattle.nj_text.specs.Bytes.{is_space, is_identifier_byte, is_word_byte}
+use Rattle.nj_text.specs.Units.{Meaning, Ordinary, Escape, Reference, Join, OpeningJoin, Comment, LeadingTab, LineEnd, TextEnd, BadByte, BadEscape, TextUnit, is_ordinary_in}
+
+-- ---- tests on units
+
+-- blanks stand between the parts of a line: spaces and joins
+abbrev pub is_blank_meaning : Meaning → Bool
+is_blank_meaning (Ordinary b) = is_space b
+is_blank_meaning Join = true
+is_blank_meaning m = false
+
+abbrev pub is_blank : TextUnit → Bool
+is_blank u = is_blank_meaning u.means
+
+-- before a value a join is a blank also where it opens the line
+abbrev pub is_blank_or_opening_meaning : Meaning → Bool
+is_blank_or_opening_meaning OpeningJoin = true
+is_blank_or_opening_meaning m = is_blank_meaning m
+
+abbrev pub is_blank_or_opening : TextUnit → Bool
+is_blank_or_opening u = is_blank_or_opening_meaning u.means
+
+abbrev pub in_identifier : TextUnit → Bool
+in_identifier u = is_ordinary_in is_identifier_byte u.means
+
+abbrev pub opens_word_meaning : Meaning → Bool
+opens_word_meaning (Ordinary b) = is_word_byte b
+opens_word_meaning (Escape b) = true
+opens_word_meaning (Reference name) = true
+opens_word_meaning m = false
+
+abbrev pub opens_word : TextUnit → Bool
+opens_word u = opens_word_meaning u.means
+
+-- a join inside a word does not end it
+abbrev pub in_word_meaning : Meaning → Bool
+in_word_meaning Join = true
+in_word_meaning m = opens_word_meaning m
+
+abbrev pub in_word : TextUnit → Bool
+in_word u = in_word_meaning u.means
+
+-- whether the units begin with this ordinary byte
+abbrev pub begins_with_byte : ℕ → List TextUnit → Bool
+begins_with_byte b [] = false
+begins_with_byte b (u ∷ us) = is_ordinary_in (λ c. c == b) u.means
+
+-- ---- bad units
+
+abbrev pub fault_of_meaning : Meaning → Spot → Option LexFault
+fault_of_meaning BadByte spot = Some (fault.BadByte spot)
+fault_of_meaning BadEscape spot = Some (fault.BadEscape spot)
+fault_of_meaning LeadingTab spot = Some (fault.Tab spot)
+fault_of_meaning m spot = None
+
+abbrev pub fault_of : TextUnit → Option LexFault
+fault_of u = fault_of_meaning u.means u.spot
+
+-- the fault of the first of the units, where it is a bad one
+abbrev pub next_fault : List TextUnit → Option LexFault
+next_fault [] = None
+next_fault (u ∷ us) = fault_of u
+
+abbrev pub or_else : Option LexFault → Option LexFault → Option LexFault
+or_else None other = other
+or_else (Some f) other = Some f
+
+-- the fault of the first bad unit among them
+abbrev pub first_fault : List TextUnit → Option LexFault
+first_fault [] = None
+first_fault (u ∷ us) = or_else (fault_of u) (first_fault us)
+
+-- ---- what the units of a word or a value say
+
+-- bytes that stand for themselves, or the name of a reference
+pub data PartText : Type 0 where
+  Text : (bytes : List ℕ) → PartText
+  Name : (name : List ℕ) → PartText
+
+-- a byte before a run of ordinary bytes
+abbrev pub longer_run : ℕ → List PartText → List PartText
+longer_run b [] = []
+longer_run b (Text bytes ∷ ps) = Text (b ∷ bytes) ∷ ps
+longer_run b (Name name ∷ ps) = Text (b ∷ []) ∷ Name name ∷ ps
+
+abbrev pub part_before : Meaning → (run_goes_on : Bool) → List PartText → List PartText
+part_before (Ordinary b) true ps = longer_run b ps
+part_before (Ordinary b) false ps = Text (b ∷ []) ∷ ps
+part_before (Escape b) run_goes_on ps = Text (b ∷ []) ∷ ps
+part_before (Reference name) run_goes_on ps = Name name ∷ ps
+part_before m run_goes_on ps = ps
+
+abbrev pub begins_with_ordinary : List TextUnit → Bool
+begins_with_ordinary [] = false
+begins_with_ordinary (u ∷ us) = is_ordinary_in (λ b. true) u.means
+
+-- A longest run of ordinary bytes is one part; an escape and a reference are a part each; joins say nothing.
+abbrev pub parts_of : List TextUnit → List PartText
+parts_of [] = []
+parts_of (u ∷ us) = part_before u.means (begins_with_ordinary us) (parts_of us)
+
+-- a word or a value: its place and its parts
+pub record WordText : Type 0 where
+  pub spot : Spot
+  pub parts : List PartText
+
+-- ---- the same of the program's values
+
+abbrev pub part_text : Part → PartText
+part_text (part.Bytes bytes) = Text bytes.now
+part_text (part.Name name) = Name name.now
+
+abbrev pub word_text : Word → WordText
+word_text w = record { spot = w.spot; parts = map part_text w.parts.items }

@@ -1,0 +1,43 @@
+//! Blanks: spaces and joins.
+
+ghost use Rattle.std.specs.Prelude.{◌≡◌, ◌<◌, false, length, MatchOption, IfSome};
+ghost use Rattle.nj_text.specs.Bytes.{drop_while};
+ghost use Rattle.nj_text.specs.Scans.{units_within, begins_with_space_byte};
+ghost use Rattle.nj_text.specs.Words.{is_blank};
+
+use crate::cursor::Cursor;
+use crate::next::{Next, next_unit};
+use crate::runs::Run;
+
+/// Behind the join that stands next; None where none does.
+fn past_join(cursor: Cursor<'_>) -> Option<Cursor<'_>>
+    ensures blanks { MatchOption result
+        (begins_with_space_byte cursor.entry.rest.now ≡ false → drop_while is_blank (units_within cursor.entry.spot cursor.entry.rest.now) ≡ units_within cursor.entry.spot cursor.entry.rest.now)
+        (λ after. drop_while is_blank (units_within cursor.entry.spot cursor.entry.rest.now) ≡ drop_while is_blank (units_within after.spot after.rest.now)) }
+    ensures shorter { IfSome result (λ after. length after.rest.now < length cursor.entry.rest.now) }
+{
+    match next_unit(cursor.rest) {
+        Next::Join(length, spaces) => Some(cursor.on_next_line(length - spaces, spaces)),
+        Next::End => None,
+        Next::Ordinary(_) => None,
+        Next::Escape(_) => None,
+        Next::Reference(_, _) => None,
+        Next::LineEnd(_) => None,
+        Next::BadByte => None,
+        Next::BadEscape => None,
+    }
+}
+
+/// Behind the blanks that stand next.
+pub fn skip_blanks(start: Cursor<'_>) -> Cursor<'_>
+    ensures { units_within result.spot result.rest.now ≡ drop_while is_blank (units_within start.entry.spot start.entry.rest.now) }
+{
+    let mut cursor = start;
+    'blanks: loop {
+        let (_, behind) = cursor.run(Run::Spaces);
+        let Some(after) = past_join(behind) else {
+            return behind;
+        };
+        cursor = after;
+    }
+}

@@ -1,0 +1,72 @@
+//! What a `$` and the bytes behind it are: a join, an escape or a reference.
+
+ghost use Rattle.std.specs.Prelude.{◌≡◌, ◌≤◌, ◌+◌, ℕ, false, ◌∷◌, length};
+ghost use Rattle.nj_text.specs.Bytes.{is_line_feed};
+ghost use Rattle.nj_text.specs.Units.{behind_dollar, in_braces};
+ghost use Rattle.nj_text.specs.Scans.{line_end_length, dollar_found, LandsIn};
+
+use crate::runs::{Run, first_byte, run_length, split_run};
+
+/// What the bytes behind a `$` make of it.
+#[derive(Clone, Copy)]
+pub enum Dollar<'a> {
+    /// A join: how many bytes of its line end, and how many spaces after that.
+    Join(usize, usize),
+    /// The byte of an escape.
+    Escape(u8),
+    /// The name of a reference, and how many bytes it takes with its braces.
+    Reference(&'a [u8], usize),
+    /// Nothing that may stand behind a `$`.
+    Bad,
+}
+
+/// How many bytes of a line end stand at the front: of a line feed, or of a carriage return and a line feed.
+pub fn line_end_length(bytes: &[u8]) -> usize
+    ensures length { result ≡ line_end_length bytes.now }
+    ensures within { result ≤ length bytes.now }
+{
+    match bytes {
+        [b'\n', ..] => 1,
+        [b'\r', b'\n', ..] => 2,
+        [..] => 0,
+    }
+}
+
+fn braced(bytes: &[u8]) -> Dollar<'_>
+    ensures found { dollar_found result ≡ in_braces bytes.now }
+    ensures lands { (b : ℕ) → is_line_feed b ≡ false → LandsIn result (b ∷ bytes.now) }
+    ensures within { (dollar_found result).1 ≤ length bytes.now + 1 }
+{
+    let (name, behind) = split_run(Run::Identifier, bytes);
+    match first_byte(behind) {
+        Some((b'}', _)) if !name.is_empty() => Dollar::Reference(name, name.len() + 2),
+        Some(_) | None => Dollar::Bad,
+    }
+}
+
+/// What the bytes behind a `$` make of it.
+pub fn behind_dollar(bytes: &[u8]) -> Dollar<'_>
+    ensures found { dollar_found result ≡ behind_dollar bytes.now }
+    ensures lands { LandsIn result bytes.now }
+    ensures within { (dollar_found result).1 ≤ length bytes.now }
+{
+    let Some((byte, behind)) = first_byte(bytes) else {
+        return Dollar::Bad;
+    };
+    match byte {
+        b'\n' => Dollar::Join(1, run_length(Run::Spaces, behind)),
+        b'\r' => match first_byte(behind) {
+            Some((b'\n', spaces)) => Dollar::Join(2, run_length(Run::Spaces, spaces)),
+            Some(_) | None => Dollar::Bad,
+        },
+        b'{' => braced(behind),
+        b' ' | b':' | b'$' => Dollar::Escape(byte),
+        _ => {
+            let (name, _) = split_run(Run::Name, bytes);
+            if name.is_empty() {
+                return Dollar::Bad;
+            }
+            Dollar::Reference(name, name.len())
+        }
+    }
+}

@@ -1,0 +1,22 @@
+//! The text of a Ninja file: its lines, and the identifiers, signs, words and values in them.
+//!
+//! A [`Lexer`] reads a text from its front, one line at a time, and copies none of it: what it gives are slices of the text.
+#![tactic(auto)]
+
+mod blanks;
+mod cursor;
+mod dollar;
+mod fault;
+mod next;
+mod parts;
+mod runs;
+mod sign;
+mod spot;
+mod stand;
+mod starts;
+mod word;
+
+pub use fault::LexFault;
+pub use sign::{LineStart, Sign};
+pub use spot::Spot;
+pub use word::{Part, Word};

@@ -1,0 +1,99 @@
+//! The parts of words and values.
+
+ghost use Rattle.std.specs.Prelude.{◌≡◌, ◌<◌, ◌+◌, length, map, IfSome};
+ghost use Rattle.nj_text.specs.Scans.{units_within};
+ghost use Rattle.nj_text.specs.Runs.{in_run};
+ghost use Rattle.nj_text.specs.Gathering.{run_of, Gathers, PieceIs, NoneInRun, IsShorter};
+
+use crate::cursor::Cursor;
+use crate::fault::LexFault;
+use crate::next::{Next, next_unit};
+use crate::runs::Run;
+use crate::word::Part;
+use std::alloc::Global;
+
+/// A text with references.
+#[derive(Clone, Copy)]
+pub enum TextKind {
+    /// A word, which ends at a space, `:`, `|` or the line's end.
+    Word,
+    /// A value, which ends at the line's end.
+    Value,
+}
+
+/// What stands next in a text.
+#[derive(Clone, Copy)]
+pub enum Piece<'a> {
+    /// A part of it, and where that ends.
+    Part(Part<'a>, Cursor<'a>),
+    /// A join, and where that ends.
+    Join(Cursor<'a>),
+    /// Nothing that belongs to it.
+    End,
+    /// A unit at which no text goes on.
+    Bad(LexFault),
+}
+
+impl TextKind {
+    fn run(self) -> Run
+        ensures { result ≡ run_of self }
+    {
+        match self {
+            TextKind::Word => Run::Word,
+            TextKind::Value => Run::Value,
+        }
+    }
+}
+
+/// What stands next in a text that has no ordinary byte of its own next.
+fn special_piece(kind: TextKind, cursor: Cursor<'_>) -> Piece<'_>
+    requires { NoneInRun (in_run (run_of kind)) cursor.rest.now }
+    ensures piece { PieceIs kind (units_within cursor.entry.spot cursor.entry.rest.now) result }
+    ensures shorter { IsShorter (length cursor.entry.rest.now) result }
+{
+    match next_unit(cursor.rest) {
+        Next::Join(length, spaces) => Piece::Join(cursor.on_next_line(length - spaces, spaces)),
+        Next::Escape(byte) => Piece::Part(Part::Bytes(byte), cursor.along(2)),
+        Next::Reference(name, length) => Piece::Part(Part::Name(name), cursor.along(length)),
+        Next::BadByte => Piece::Bad(LexFault::BadByte(cursor.spot)),
+        Next::BadEscape => Piece::Bad(LexFault::BadEscape(cursor.spot)),
+        Next::End => Piece::End,
+        Next::Ordinary(_) => Piece::End,
+        Next::LineEnd(_) => Piece::End,
+    }
+}
+
+/// What stands next in a text.
+fn next_piece(kind: TextKind, cursor: Cursor<'_>) -> Piece<'_>
+    ensures piece { PieceIs kind (units_within cursor.entry.spot cursor.entry.rest.now) result }
+    ensures shorter { IsShorter (length cursor.entry.rest.now) result }
+{
+    let (bytes, behind) = cursor.run(kind.run());
+    if bytes.is_empty() {
+        return special_piece(kind, cursor);
+    }
+    Piece::Part(Part::Bytes(bytes), behind)
+}
+
+/// The parts of the text that stands next, and where it ends.
+pub fn gather<'a>(
+    alloc: Global,
+    kind: TextKind,
+    start: Cursor<'a>,
+) -> Result<(Vec<Part<'a>>, Cursor<'a>), LexFault>
+    ensures { Gathers kind (units_within start.entry.spot start.entry.rest.now) result }
+{
+    let mut parts = Vec::new(alloc);
+    let mut cursor = start;
+    'pieces: loop {
+        match next_piece(kind, cursor) {
+            Piece::Part(part, after) => {
+                parts.push(part)?;
+                cursor = after;
+            }
+            Piece::Join(after) => cursor = after,
+            Piece::End => return Ok((parts, cursor)),
+            Piece::Bad(fault) => return Err(fault),
+        }
+    }
+}

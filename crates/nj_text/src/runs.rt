@@ -1,0 +1,90 @@
+//! Runs of bytes of one kind, and how long they are.
+
+ghost use Rattle.std.specs.Prelude.{◌≡◌, ◌≤◌, [], ◌∷◌, ◌++◌, length, MatchOption};
+ghost use Rattle.std.specs.List.{prefix_len, take_while};
+ghost use Rattle.nj_text.specs.Bytes.{drop_while};
+ghost use Rattle.nj_text.specs.Runs.{in_run};
+
+/// The kinds of bytes that are passed as one run.
+#[derive(Clone, Copy)]
+pub enum Run {
+    /// Spaces.
+    Spaces,
+    /// The bytes of a name after a bare `$`.
+    Name,
+    /// The bytes of an identifier, and of a name in braces.
+    Identifier,
+    /// The ordinary bytes of a word.
+    Word,
+    /// The ordinary bytes of a value.
+    Value,
+    /// All up to the end of a physical line.
+    Comment,
+}
+
+#[inline(always)]
+fn is_name(byte: u8) -> bool
+    ensures { result ≡ in_run Run.Name byte }
+{
+    matches!(byte, b'a'..=b'z' | b'A'..=b'Z' | b'0'..=b'9' | b'_' | b'-')
+}
+
+/// Whether a byte stands for itself.
+#[inline(always)]
+pub fn is_ordinary(byte: u8) -> bool
+    ensures { result ≡ in_run Run.Value byte }
+{
+    !matches!(byte, b'$' | b'\n' | b'\r' | 0)
+}
+
+/// Whether a byte belongs to a run.
+#[inline(always)]
+fn is_in(run: Run, byte: u8) -> bool
+    ensures { result ≡ in_run run byte }
+{
+    match run {
+        Run::Spaces => byte == b' ',
+        Run::Name => is_name(byte),
+        Run::Identifier => is_name(byte) || byte == b'.',
+        Run::Word => is_ordinary(byte) && !matches!(byte, b' ' | b':' | b'|'),
+        Run::Value => is_ordinary(byte),
+        Run::Comment => byte != b'\n',
+    }
+}
+
+/// How many bytes of the run stand at the front.
+#[inline(always)]
+pub fn run_length(run: Run, bytes: &[u8]) -> usize
+    ensures length { result ≡ prefix_len (in_run run) bytes.now }
+    ensures within { result ≤ length bytes.now }
+{
+    let mut length = 0;
+    for byte in bytes {
+        if !is_in(run, *byte) {
+            return length;
+        }
+        length += 1;
+    }
+    length
+}
+
+/// The run at the front, which may be empty, and the bytes behind it.
+#[inline(always)]
+pub fn split_run(run: Run, bytes: &[u8]) -> (&[u8], &[u8])
+    ensures run { result.0.now ≡ take_while (in_run run) bytes.now }
+    ensures behind { result.1.now ≡ drop_while (in_run run) bytes.now }
+    ensures whole { bytes.now ≡ result.0.now ++ result.1.now }
+{
+    bytes.split_at(run_length(run, bytes))
+}
+
+/// The first byte, and those behind it.
+#[inline(always)]
+pub fn first_byte(bytes: &[u8]) -> Option<(u8, &[u8])>
+    ensures { MatchOption result (bytes.now ≡ []) (λ first. bytes.now ≡ first.0 ∷ first.1.now) }
+{
+    match bytes {
+        [] => None,
+        [byte, behind @ ..] => Some((*byte, behind)),
+    }
+}

@@ -1,0 +1,120 @@
+//! How lines begin.
+
+ghost use Rattle.std.specs.Prelude.{◌≡◌, ◌<◌, false, length, MatchOption, IfSome};
+ghost use Rattle.nj_text.specs.Units.{opens_comment};
+ghost use Rattle.nj_text.specs.Scans.{begins_with_space_byte};
+ghost use Rattle.nj_text.specs.Calls.{without_comments};
+ghost use Rattle.nj_text.specs.Standing.{lines_at, BegunIs, BegunBehindSpaces};
+
+use crate::cursor::Cursor;
+use crate::fault::LexFault;
+use crate::next::{Next, next_unit};
+use crate::runs::{Run, first_byte};
+use crate::sign::LineStart;
+use crate::stand::Stand;
+
+/// How a line begins.
+#[derive(Clone, Copy)]
+pub enum Begun<'a> {
+    /// In this way, which leads here.
+    As(LineStart, Stand<'a>, Cursor<'a>),
+    /// With a fault.
+    Fault(LexFault),
+}
+
+/// Behind the comment that stands next, and its line end; None where none does.
+fn past_comment(cursor: Cursor<'_>) -> Option<Cursor<'_>>
+    ensures comment { MatchOption result (opens_comment cursor.entry.rest.now ≡ false)
+        (λ after. without_comments (lines_at cursor.entry) ≡ without_comments (lines_at after)) }
+    ensures shorter { IfSome result (λ after. length after.rest.now < length cursor.entry.rest.now) }
+{
+    let (_, behind) = cursor.run(Run::Spaces);
+    let Some((b'#', _)) = first_byte(behind.rest) else {
+        return None;
+    };
+    let (_, end) = cursor.run(Run::Comment);
+    if end.rest.is_empty() {
+        return Some(end);
+    }
+    Some(end.on_next_line(1, 0))
+}
+
+/// How a line begins that has neither leading spaces nor a comment.
+fn begin_at_once(cursor: Cursor<'_>) -> Begun<'_>
+    requires no_comment { opens_comment cursor.rest.now ≡ false }
+    requires no_space { begins_with_space_byte cursor.rest.now ≡ false }
+    ensures { BegunIs (lines_at cursor.entry) result }
+{
+    match next_unit(cursor.rest) {
+        Next::End => Begun::As(LineStart::End, Stand::Between, cursor),
+        Next::LineEnd(length) => {
+            let after = cursor.on_next_line(length, 0);
+            Begun::As(LineStart::Blank, Stand::Between, after)
+        }
+        Next::Join(length, spaces) => {
+            let stand = Stand::Opening(cursor.spot, &cursor.rest[..length]);
+            let after = cursor.on_next_line(length - spaces, spaces);
+            Begun::As(LineStart::Plain, stand, after)
+        }
+        Next::Ordinary(byte) => {
+            if byte == b'\t' {
+                return Begun::Fault(LexFault::Tab(cursor.spot));
+            }
+            Begun::As(LineStart::Plain, Stand::Inside, cursor)
+        }
+        Next::Escape(_) => Begun::As(LineStart::Plain, Stand::Inside, cursor),
+        Next::Reference(_, _) => Begun::As(LineStart::Plain, Stand::Inside, cursor),
+        Next::BadByte => Begun::As(LineStart::Plain, Stand::Inside, cursor),
+        Next::BadEscape => Begun::As(LineStart::Plain, Stand::Inside, cursor),
+    }
+}
+
+/// How a line begins, from behind its leading spaces on.
+fn begin_behind_spaces(cursor: Cursor<'_>) -> Begun<'_>
+    requires { begins_with_space_byte cursor.rest.now ≡ false }
+    ensures { BegunBehindSpaces cursor.entry result }
+{
+    match next_unit(cursor.rest) {
+        Next::End => Begun::As(LineStart::Blank, Stand::Between, cursor),
+        Next::LineEnd(length) => {
+            let after = cursor.on_next_line(length, 0);
+            Begun::As(LineStart::Blank, Stand::Between, after)
+        }
+        Next::Ordinary(byte) => {
+            if byte == b'\t' {
+                return Begun::Fault(LexFault::Tab(cursor.spot));
+            }
+            Begun::As(LineStart::Indented, Stand::Inside, cursor)
+        }
+        Next::Join(_, _) => Begun::As(LineStart::Indented, Stand::Inside, cursor),
+        Next::Escape(_) => Begun::As(LineStart::Indented, Stand::Inside, cursor),
+        Next::Reference(_, _) => Begun::As(LineStart::Indented, Stand::Inside, cursor),
+        Next::BadByte => Begun::As(LineStart::Indented, Stand::Inside, cursor),
+        Next::BadEscape => Begun::As(LineStart::Indented, Stand::Inside, cursor),
+    }
+}
+
+/// How the line that stands next begins, which is no comment.
+fn begin_text_line(cursor: Cursor<'_>) -> Begun<'_>
+    requires { opens_comment cursor.rest.now ≡ false }
+    ensures { BegunIs (lines_at cursor.entry) result }
+{
+    let (spaces, behind) = cursor.run(Run::Spaces);
+    if spaces.is_empty() {
+        return begin_at_once(cursor);
+    }
+    begin_behind_spaces(behind)
+}
+
+/// How the next line begins that is no comment.
+pub fn begin_line(start: Cursor<'_>) -> Begun<'_>
+    ensures { BegunIs (without_comments (lines_at start.entry)) result }
+{
+    let mut cursor = start;
+    'comments: loop {
+        let Some(after) = past_comment(cursor) else {
+            return begin_text_line(cursor);
+        };
+        cursor = after;
+    }
+}

@@ -1,0 +1,21 @@
+//! Words and values: texts with references.
+
+use crate::spot::Spot;
+
+/// A part of a word or of a value.
+#[derive(Clone, Copy, Debug, PartialEq, Eq)]
+pub enum Part<'a> {
+    /// Bytes that stand for themselves: a run of ordinary bytes, or the byte of an escape.
+    Bytes(&'a [u8]),
+    /// A reference: the name of the variable whose value stands here.
+    Name(&'a [u8]),
+}
+
+/// A word of a line, or the value of a binding, not yet expanded.
+#[derive(Debug, Drop)]
+pub struct Word<'a> {
+    /// Where it begins; of a value without parts, where its line ends.
+    pub spot: Spot,
+    /// Its parts from left to right, each a slice of the text. A run of ordinary bytes is one part.
+    pub parts: Vec<Part<'a>>,
+}

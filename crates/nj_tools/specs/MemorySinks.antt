@@ -1,0 +1,27 @@
+-- What can be told of a sink in memory.
+use Rattle.std.specs.Prelude.{ℕ, ◌-◌, Bool, List, length, take, Option, Some, None}
+use Rattle.nj_tools.specs.Sinks.{SinkState}
+
+-- a sink in memory
+pub record Memory : Type 0 where
+  -- the bytes that it took so far
+  pub bytes : List ℕ
+  -- how many bytes it takes at most, where there is a limit
+  pub limit : Option ℕ
+  -- how many bytes fit in the memory that it holds
+  pub capacity : ℕ
+  pub failures : ℕ
+  pub took_since_failure : Bool
+
+-- what can be told of it as of any sink: it tells its bytes
+abbrev pub state_of : Memory → SinkState
+state_of m = record { taken = Some m.bytes; failures = m.failures; took_since_failure = m.took_since_failure }
+
+-- the beginning of these bytes that the limit leaves room for, after so many bytes
+abbrev pub within_limit : Option ℕ → ℕ → List ℕ → List ℕ
+within_limit None taken bytes = bytes
+within_limit (Some limit) taken bytes = take (limit - taken) bytes
+
+-- the beginning of these bytes that the sink has room for
+abbrev pub fitting : Memory → List ℕ → List ℕ
+fitting m bytes = within_limit m.limit (length m.bytes) bytes

@@ -1,0 +1,57 @@
+-- What can be told of a sink, and what a sink and a whole write do to it.
+use Rattle.std.specs.Prelude.{◌≡◌, ◌≢◌, ℕ, zero, suc, ◌+◌, ◌-◌, ◌^◌, ◌≤◌, min, Bool, true, false, ◌||◌, List, [], ◌∷◌, ◌++◌, length, take, Option, Some, Result, Ok, Err}
+use Rattle.std.specs.Io.KnownBytes.{Appends}
+use Rattle.nj_tools.specs.declared.sinks.SinkFault.{SinkFault}
+
+-- what can be told of a sink
+pub record SinkState : Type 0 where
+  -- the bytes that it took so far, of a sink that tells them
+  pub taken : Option (List ℕ)
+  -- how often it failed to take bytes
+  pub failures : ℕ
+  -- whether it took a byte since it was made, or since it last failed
+  pub took_since_failure : Bool
+
+-- whether there are bytes
+abbrev pub has_bytes : List ℕ → Bool
+has_bytes [] = false
+has_bytes (byte ∷ bytes) = true
+
+-- one failure more, for a count that stays at its greatest value
+abbrev pub one_more : ℕ → ℕ
+one_more failures = min (failures + 1) (2 ^ 64 - 1)
+
+-- the sink took these bytes after all that it took before, and did not fail
+pub record Takes (old new : SinkState) (bytes : List ℕ) : Type 0 where
+  pub taken : Appends old.taken new.taken bytes
+  pub failures : new.failures ≡ old.failures
+  pub took_since_failure : new.took_since_failure ≡ (has_bytes bytes || old.took_since_failure)
+
+-- the sink took these bytes, then failed once, and took nothing after that
+pub record FailsAfter (old new : SinkState) (bytes : List ℕ) : Type 0 where
+  pub taken : Appends old.taken new.taken bytes
+  pub failures : new.failures ≡ one_more old.failures
+  pub took_since_failure : new.took_since_failure ≡ false
+
+-- what an answer of `put` says: an error, or 0 of some bytes, is a failure
+abbrev pub Puts : SinkState → SinkState → List ℕ → Result ℕ SinkFault → Type 0
+Puts old new [] (Ok count) = (count ≡ 0) × Takes old new []
+Puts old new (byte ∷ bytes) (Ok zero) = FailsAfter old new []
+Puts old new (byte ∷ bytes) (Ok (suc more)) =
+    (suc more ≤ length (byte ∷ bytes)) × Takes old new (take (suc more) (byte ∷ bytes))
+Puts old new bytes (Err fault) = FailsAfter old new []
+
+-- the front is a beginning of the text, and not all of it
+abbrev pub IsCutShort : List ℕ → List ℕ → Type 0
+IsCutShort front text = (rest : List ℕ) × (front ++ rest ≡ text) × (rest ≢ [])
+
+-- what the end of a whole write says: the sink took the text, or failed once after a beginning of it
+abbrev pub Writes : SinkState → SinkState → List ℕ → Result Unit SinkFault → Type 0
+Writes old new text (Ok done) = Takes old new text
+Writes old new text (Err fault) = (front : List ℕ) × IsCutShort front text × FailsAfter old new front
+
+-- what a sink that told the bytes before tells after a whole write: the text follows them, or a beginning of it
+abbrev pub TellsWritten : List ℕ → SinkState → List ℕ → Result Unit SinkFault → Type 0
+TellsWritten before new text (Ok done) = new.taken ≡ Some (before ++ text)
+TellsWritten before new text (Err fault) =
+    (front : List ℕ) × IsCutShort front text × (new.taken ≡ Some (before ++ front))

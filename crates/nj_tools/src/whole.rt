@@ -1,0 +1,21 @@
+//! Writing a whole text.
+
+ghost use Rattle.nj_tools.specs.Sinks.{Writes};
+
+use crate::sinks::{Sink, SinkFault};
+
+/// Writes the whole text to the sink. It ends at the first `put` that takes nothing, and an empty
+/// text makes no `put`.
+pub fn write_whole<S: Sink>(sink: &mut S, text: &[u8]) -> Result<(), SinkFault>
+    ensures { Writes (S.state sink.old) (S.state sink.new) text.now result }
+{
+    let mut rest = text;
+    'puts: while !rest.is_empty() {
+        let count = sink.put(rest)?;
+        if count == 0 {
+            return Err(SinkFault);
+        }
+        rest = &rest[count..];
+    }
+    Ok(())
+}
