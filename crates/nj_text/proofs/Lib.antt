@@ -5,3 +5,4 @@ pub mod Nexts
 pub mod Passed
 pub mod Gathered
 pub mod LineStarts
+pub mod Bridges

@@ -7,7 +7,7 @@ use Rattle.std.proofs.lemmas.Bool.{eqb-true, false≢true, true≢false}
 use Rattle.nj_text.specs.declared.spot.Spot.{Spot}
 use Rattle.nj_text.specs.declared.sign.LineStart.TheVariants as start
 use Rattle.nj_text.specs.declared.fault.LexFault.TheVariants as fault
-use Rattle.nj_text.specs.Bytes.{is_space, is_line_feed, is_ordinary_byte, is_identifier_byte, begins_with, drop_while}
+use Rattle.nj_text.specs.Bytes.{is_space, is_line_feed, is_ordinary_byte, is_name_byte, is_identifier_byte, begins_with, drop_while}
 use Rattle.nj_text.specs.Units.{Meaning, Ordinary, Escape, Reference, Join, OpeningJoin, Comment, LeadingTab, LineEnd, TextEnd, BadByte, BadEscape, TextUnit, is_ordinary_in, Position, AtStart, AfterSpaces, Within, Follows, Feed, Return, Brace, Itself, NameByte, Nothing, follows_of, behind_dollar_by, behind_dollar, named, Found, Class, Dollar, LineFeed, CarriageReturn, Nul, Plain, class_of, unit_by, unit_at, found_at, opening, opens_comment, position_after, spot_after, spots_after, cut}
 use Rattle.nj_text.specs.Lines.{Line, ending_of, before_first_line, lines_before, lines_of, with_units, lines_behind, Kind, CommentLine, TabLine, BlankLine, IndentedLine, PlainLine, is_space_unit, text_kind, kind_with, kind_behind_spaces, begins_with_space, kind_of}
 use Rattle.nj_text.specs.Scans.{along, on_next_line, units_within, Begins, BeginsBadly, begins_with_space_byte}
@@ -100,18 +100,18 @@ abbrev reopened : List TextUnit → List TextUnit
 reopened [] = []
 reopened (u ∷ us) = record { spot = u.spot; bytes = u.bytes; means = opening u.means } ∷ us
 
-no_space_if_no_byte : (m : Meaning) → is_ordinary_in (λ c. true) m ≡ false → is_ordinary_in is_space m ≡ false
-no_space_if_no_byte (Ordinary b) h = absurd cc
-no_space_if_no_byte (Escape b) h = refl
-no_space_if_no_byte (Reference n) h = refl
-no_space_if_no_byte Join h = refl
-no_space_if_no_byte OpeningJoin h = refl
-no_space_if_no_byte Comment h = refl
-no_space_if_no_byte LeadingTab h = refl
-no_space_if_no_byte LineEnd h = refl
-no_space_if_no_byte TextEnd h = refl
-no_space_if_no_byte BadByte h = refl
-no_space_if_no_byte BadEscape h = refl
+pub fails_if_no_byte : (p : ℕ → Bool) (m : Meaning) → is_ordinary_in (λ c. true) m ≡ false → is_ordinary_in p m ≡ false
+fails_if_no_byte p (Ordinary b) h = absurd cc
+fails_if_no_byte p (Escape b) h = refl
+fails_if_no_byte p (Reference n) h = refl
+fails_if_no_byte p Join h = refl
+fails_if_no_byte p OpeningJoin h = refl
+fails_if_no_byte p Comment h = refl
+fails_if_no_byte p LeadingTab h = refl
+fails_if_no_byte p LineEnd h = refl
+fails_if_no_byte p TextEnd h = refl
+fails_if_no_byte p BadByte h = refl
+fails_if_no_byte p BadEscape h = refl
 
 -- a byte that is no space begins no unit that is one
 unit_is_no_space : (b : ℕ) (bs : List ℕ) → is_space b ≡ false → is_ordinary_in is_space (unit_at b bs).0 ≡ false
@@ -119,7 +119,7 @@ unit_is_no_space b bs h = by_test (is_ordinary_byte b) refl
   where
     by_test : (t : Bool) → is_ordinary_byte b ≡ t → is_ordinary_in is_space (unit_at b bs).0 ≡ false
     by_test true e = rw (unit-ordinary b bs e) h
-    by_test false e = no_space_if_no_byte (unit_at b bs).0 (not_ordinary b bs e)
+    by_test false e = fails_if_no_byte is_space (unit_at b bs).0 (not_ordinary b bs e)
 
 start_position : (m : Meaning) → is_ordinary_in is_space m ≡ false → position_after AtStart (opening m) ≡ position_after Within m
 start_position (Ordinary b) h = rw h refl
@@ -169,6 +169,7 @@ no_tab spot (b ∷ bs) m n behind e h = by_test (eqb b 9) refl
     first_meaning : List TextUnit → Meaning
     first_meaning [] = TextEnd
     first_meaning (u ∷ us) = u.means
+
     by_test : (t : Bool) → eqb b 9 ≡ t → t ≡ false
     by_test true f = absurd (h (sym (ap first_meaning e) ∙ ap (λ x. (unit_at x bs).0) (eqb-true b 9 f)))
     by_test false f = refl
@@ -317,8 +318,8 @@ comment_cut spot (b ∷ bs) h =
     let n-is : n ≡ prefix_len no_feed bs = length-take_while no_feed bs in
     let step : spot_after b spot ≡ along 1 spot = rw (not_true (is_line_feed b) first) refl in
     let there : spots_after (take n bs) (spot_after b spot) ≡ along (suc n) spot =
-        ap (λ k. spots_after (take k bs) (spot_after b spot)) n-is ∙ ap (spots_after (take_while no_feed bs)) step ∙ spots_along (take_while no_feed bs) (along 1 spot) (AllIn-take_while no_feed bs)
-        ∙ ap (λ c. record { line = spot.line; column = c }) (omega arith) in
+    ap (λ k. spots_after (take k bs) (spot_after b spot)) n-is ∙ ap (spots_after (take_while no_feed bs)) step ∙ spots_along (take_while no_feed bs) (along 1 spot) (AllIn-take_while no_feed bs)
+    ∙ ap (λ c. record { line = spot.line; column = c }) (omega arith) in
     let rest : drop n bs ≡ drop_while no_feed bs = ap (λ k. drop k bs) n-is ∙ drop-prefix_len no_feed bs in
     (b ∷ take n bs, rw (h, take_while-cons_yes no_feed b bs first, first) (ap (λ us. record { spot = spot; bytes = b ∷ take n bs; means = Comment } ∷ us) (cut-skip Within n (spot_after b spot) bs long ∙ ap (λ p. cut Within 0 p (drop n bs)) there ∙ ap (cut Within 0 (along (suc n) spot)) rest)))
 
@@ -418,36 +419,54 @@ abbrev says_comment : Meaning → Bool
 says_comment Comment = true
 says_comment m = false
 
-abbrev finds_comment : Found → Bool
-finds_comment found = says_comment found.0
+-- what the units found within a line never say
+pub record IsUnsaid (q : Meaning → Bool) : Type 0 where
+  pub ordinary : (b : ℕ) → q (Ordinary b) ≡ false
+  pub escape : (b : ℕ) → q (Escape b) ≡ false
+  pub reference : (name : List ℕ) → q (Reference name) ≡ false
+  pub join : q Join ≡ false
+  pub line_end : q LineEnd ≡ false
+  pub bad_byte : q BadByte ≡ false
+  pub bad_escape : q BadEscape ≡ false
 
-named_says_none : (bs : List ℕ) (t : Bool) → finds_comment (named bs t) ≡ false
-named_says_none [] t = refl
-named_says_none (b ∷ bs) false = refl
-named_says_none (b ∷ bs) true = refl
+module _ (q : Meaning → Bool) (unsaid : IsUnsaid q) where
+  choice_is_unsaid : (t : Bool) (x y : Found) → q x.0 ≡ false → q y.0 ≡ false → q (cond t x y).0 ≡ false
+  choice_is_unsaid true x y h k = h
+  choice_is_unsaid false x y h k = k
 
-choice_says_none : (t : Bool) (x y : Found) → finds_comment x ≡ false → finds_comment y ≡ false → finds_comment (cond t x y) ≡ false
+  named_is_unsaid : (bs : List ℕ) (t : Bool) → q (named bs t).0 ≡ false
+  named_is_unsaid [] t = unsaid.bad_escape
+  named_is_unsaid (b ∷ bs) false = unsaid.bad_escape
+  named_is_unsaid (b ∷ bs) true = unsaid.reference (b ∷ bs)
+
+  follower_is_unsaid : (f : Follows) (b : ℕ) (bs : List ℕ) → q (behind_dollar_by f b bs).0 ≡ false
+  follower_is_unsaid Feed b bs = unsaid.join
+  follower_is_unsaid Return b bs = choice_is_unsaid (begins_with 10 bs) _ _ unsaid.join unsaid.bad_escape
+  follower_is_unsaid Brace b bs = named_is_unsaid (take_while is_identifier_byte bs) (begins_with 125 (drop_while is_identifier_byte bs))
+  follower_is_unsaid Itself b bs = unsaid.escape b
+  follower_is_unsaid NameByte b bs = unsaid.reference (b ∷ take_while is_name_byte bs)
+  follower_is_unsaid Nothing b bs = unsaid.bad_escape
+
+  dollar_is_unsaid : (bs : List ℕ) → q (behind_dollar bs).0 ≡ false
+  dollar_is_unsaid [] = unsaid.bad_escape
+  dollar_is_unsaid (b ∷ bs) = follower_is_unsaid (follows_of b) b bs
+
+  class_is_unsaid : (c : Class) (b : ℕ) (bs : List ℕ) → q (unit_by c b bs).0 ≡ false
+  class_is_unsaid Dollar b bs = dollar_is_unsaid bs
+  class_is_unsaid LineFeed b bs = unsaid.line_end
+  class_is_unsaid CarriageReturn b bs = choice_is_unsaid (begins_with 10 bs) _ _ unsaid.line_end unsaid.bad_byte
+  class_is_unsaid Nul b bs = unsaid.bad_byte
+  class_is_unsaid Plain b bs = unsaid.ordinary b
+
+  pub unit_is_unsaid : (b : ℕ) (bs : List ℕ) → q (unit_at b bs).0 ≡ false
+  unit_is_unsaid b bs = class_is_unsaid (class_of b) b bs
+
+comment_is_unsaid : IsUnsaid says_comment
+comment_is_unsaid = record { ordinary = λ b. refl; escape = λ b. refl; reference = λ n. refl; join = refl; line_end = refl; bad_byte = refl; bad_escape = refl }
+
+choice_says_none : (t : Bool) (x y : Found) → says_comment x.0 ≡ false → says_comment y.0 ≡ false → says_comment (cond t x y).0 ≡ false
 choice_says_none true x y h k = h
 choice_says_none false x y h k = k
-
-follower_says_none : (f : Follows) (b : ℕ) (bs : List ℕ) → finds_comment (behind_dollar_by f b bs) ≡ false
-follower_says_none Feed b bs = refl
-follower_says_none Return b bs = choice_says_none (begins_with 10 bs) _ _ refl refl
-follower_says_none Brace b bs = named_says_none (take_while is_identifier_byte bs) (begins_with 125 (drop_while is_identifier_byte bs))
-follower_says_none Itself b bs = refl
-follower_says_none NameByte b bs = refl
-follower_says_none Nothing b bs = refl
-
-dollar_says_none : (bs : List ℕ) → finds_comment (behind_dollar bs) ≡ false
-dollar_says_none [] = refl
-dollar_says_none (b ∷ bs) = follower_says_none (follows_of b) b bs
-
-class_says_none : (c : Class) (b : ℕ) (bs : List ℕ) → finds_comment (unit_by c b bs) ≡ false
-class_says_none Dollar b bs = dollar_says_none bs
-class_says_none LineFeed b bs = refl
-class_says_none CarriageReturn b bs = choice_says_none (begins_with 10 bs) _ _ refl refl
-class_says_none Nul b bs = refl
-class_says_none Plain b bs = refl
 
 text_kind_is_none : (t : Bool) → is_comment (text_kind t) ≡ false
 text_kind_is_none true = refl
@@ -499,10 +518,10 @@ after_spaces_is_none spot (b ∷ bs) t = by_test (is_space b) refl (λ p. after_
         rw (eqb-true b 32 e) (ap is_comment (first_is_space (record { spot = spot; bytes = 32 ∷ []; means = Ordinary 32 }) (cut AfterSpaces 0 (along 1 spot) bs) t (cut_has_line AfterSpaces 0 (along 1 spot) bs) refl refl) ∙ rest (along 1 spot))
     by_test false e rest =
         first_is_none (record { spot = spot; bytes = b ∷ take (cond (eqb b 9) (LeadingTab, 0) (unit_at b bs)).1 bs; means = (cond (eqb b 9) (LeadingTab, 0) (unit_at b bs)).0 })
-            (cut (position_after AfterSpaces (cond (eqb b 9) (LeadingTab, 0) (unit_at b bs)).0) (cond (eqb b 9) (LeadingTab, 0) (unit_at b bs)).1 (spot_after b spot) bs) t
-            (cut_has_line (position_after AfterSpaces (cond (eqb b 9) (LeadingTab, 0) (unit_at b bs)).0) (cond (eqb b 9) (LeadingTab, 0) (unit_at b bs)).1 (spot_after b spot) bs)
-            (choice_says_none (eqb b 9) (LeadingTab, 0) (unit_at b bs) refl (class_says_none (class_of b) b bs))
-            (choice_no_space (eqb b 9) (LeadingTab, 0) (unit_at b bs) refl (unit_is_no_space b bs e))
+        (cut (position_after AfterSpaces (cond (eqb b 9) (LeadingTab, 0) (unit_at b bs)).0) (cond (eqb b 9) (LeadingTab, 0) (unit_at b bs)).1 (spot_after b spot) bs) t
+        (cut_has_line (position_after AfterSpaces (cond (eqb b 9) (LeadingTab, 0) (unit_at b bs)).0) (cond (eqb b 9) (LeadingTab, 0) (unit_at b bs)).1 (spot_after b spot) bs)
+        (choice_says_none (eqb b 9) (LeadingTab, 0) (unit_at b bs) refl (unit_is_unsaid says_comment comment_is_unsaid b bs))
+        (choice_no_space (eqb b 9) (LeadingTab, 0) (unit_at b bs) refl (unit_is_no_space b bs e))
 
 opened_says_none : (m : Meaning) → says_comment m ≡ false → says_comment (opening m) ≡ false
 opened_says_none (Ordinary b) h = refl
@@ -542,9 +561,9 @@ start_is_none spot b bs t h = by_test (is_space b) refl
     by_test false e =
         let found : Found = cond (eqb b 9) (LeadingTab, 0) (opening (unit_at b bs).0, (unit_at b bs).1) in
         rw h (first_is_none (record { spot = spot; bytes = b ∷ take found.1 bs; means = found.0 }) (cut (position_after AtStart found.0) found.1 (spot_after b spot) bs) t
-            (cut_has_line (position_after AtStart found.0) found.1 (spot_after b spot) bs)
-            (choice_says_none (eqb b 9) (LeadingTab, 0) (opening (unit_at b bs).0, (unit_at b bs).1) refl (opened_says_none (unit_at b bs).0 (class_says_none (class_of b) b bs)))
-            (choice_no_space (eqb b 9) (LeadingTab, 0) (opening (unit_at b bs).0, (unit_at b bs).1) refl (opened_is_no_space (unit_at b bs).0 (unit_is_no_space b bs e))))
+        (cut_has_line (position_after AtStart found.0) found.1 (spot_after b spot) bs)
+        (choice_says_none (eqb b 9) (LeadingTab, 0) (opening (unit_at b bs).0, (unit_at b bs).1) refl (opened_says_none (unit_at b bs).0 (unit_is_unsaid says_comment comment_is_unsaid b bs)))
+        (choice_no_space (eqb b 9) (LeadingTab, 0) (opening (unit_at b bs).0, (unit_at b bs).1) refl (opened_is_no_space (unit_at b bs).0 (unit_is_no_space b bs e))))
 
 pub is_no_comment : (spot : Spot) (bs : List ℕ) → opens_comment bs ≡ false → without_comments (lines_from spot bs) ≡ lines_from spot bs
 unfolding cut

@@ -11,7 +11,7 @@ use Rattle.nj_text.specs.declared.spot.Spot.{Spot}
 use Rattle.nj_text.specs.Bytes.{drop_while}
 use Rattle.nj_text.specs.Units.{TextUnit, first_spot}
 use Rattle.nj_text.specs.Lines.{Line, text_lines, line_spot, with_units, lines_behind, Kind, CommentLine, TabLine, BlankLine, IndentedLine, PlainLine, kind_of, is_space_unit}
-use Rattle.nj_text.specs.Words.{is_blank, is_blank_or_opening, in_identifier, opens_word, in_word, begins_with_byte, next_fault, first_fault, parts_of, WordText}
+use Rattle.nj_text.specs.Words.{is_blank, behind_opening, in_identifier, opens_word, in_word, begins_with_byte, next_fault, first_fault, parts_of, WordText}
 
 -- Where a lexer stands: between lines, before those that are left; inside a line, before what is left of it, and then
 -- the lines behind it; or at a fault, for good.
@@ -168,7 +168,7 @@ spot_of (Failed f) = fault_spot f
 
 abbrev pub value_of : State → Reply WordText
 value_of (Between ls) = reply (no_word (first_line_spot ls)) (Between ls)
-value_of (Inside l ls) = value_at (with_units (drop_while is_blank_or_opening l.units) l) ls
+value_of (Inside l ls) = value_at (behind_blanks (with_units (behind_opening l.units) l)) ls
 value_of (Failed f) = failing f
 
 -- ---- what a call of the program does

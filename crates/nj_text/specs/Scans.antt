@@ -1,10 +1,12 @@
 -- What the lexer's scans of bytes answer, in the words of the units.
-use Rattle.std.specs.Prelude.{◌≡◌, ℕ, ◌+◌, ◌<◌, Bool, true, false, ◌&&◌, if◌then◌else◌, List, [], ◌∷◌, length, take, drop}
+use Rattle.std.specs.Prelude.{◌≡◌, ℕ, ◌+◌, ◌<◌, Bool, true, false, not, ◌&&◌, if◌then◌else◌, List, [], ◌∷◌, length, take, drop}
 use Rattle.nj_text.specs.declared.spot.Spot.{Spot}
 use Rattle.nj_text.specs.declared.dollar.Dollar.{Dollar}
 use Rattle.nj_text.specs.declared.dollar.Dollar.TheVariants as dollar
 use Rattle.nj_text.specs.declared.next.Next.{Next}
 use Rattle.nj_text.specs.declared.next.Next.TheVariants as next
+use Rattle.nj_text.specs.declared.sign.Sign.{Sign}
+use Rattle.nj_text.specs.declared.sign.Sign.TheVariants as sign
 use Rattle.nj_text.specs.Bytes.{begins_with, is_space, is_ordinary_byte}
 use Rattle.nj_text.specs.Units.{Meaning, Ordinary, Escape, Reference, Join, LineEnd, TextEnd, BadByte, BadEscape, TextUnit, Found, AtStart, Within, spots_after, cut}
 
@@ -78,3 +80,12 @@ HasLength other = Unit {0}
 abbrev pub begins_with_space_byte : List ℕ → Bool
 begins_with_space_byte [] = false
 begins_with_space_byte (b ∷ bs) = is_space b
+
+-- how many bytes a sign that is no line end takes, where the bytes begin with it; else 0
+abbrev pub sign_length : Sign → List ℕ → ℕ
+sign_length sign.Colon bytes = if begins_with 58 bytes then 1 else 0
+sign_length sign.Equals bytes = if begins_with 61 bytes then 1 else 0
+sign_length sign.Pipe bytes = if begins_with 124 bytes && not (begins_with 124 (drop 1 bytes)) && not (begins_with 64 (drop 1 bytes)) then 1 else 0
+sign_length sign.Pipe2 bytes = if begins_with 124 bytes && begins_with 124 (drop 1 bytes) then 2 else 0
+sign_length sign.PipeAt bytes = if begins_with 124 bytes && begins_with 64 (drop 1 bytes) then 2 else 0
+sign_length sign.LineEnd bytes = 0

@@ -1,16 +1,18 @@
 -- The state of a lexer, of where it stands in the text.
-use Rattle.std.specs.Prelude.{◌≡◌, ℕ, Bool, true, false, List, [], ◌∷◌, ◌++◌}
+use Rattle.std.specs.Prelude.{◌≡◌, ℕ, Bool, true, false, Option, Some, None, is_some, Result, Ok, Err, List, [], ◌∷◌, ◌++◌}
 use Rattle.std.specs.List.{AllByRecursion}
 use Rattle.nj_text.specs.declared.spot.Spot.{Spot}
 use Rattle.nj_text.specs.declared.cursor.Cursor.{Cursor}
+use Rattle.nj_text.specs.declared.fault.LexFault.{LexFault}
+use Rattle.nj_text.specs.declared.fault.LexFault.TheVariants as fault
 use Rattle.nj_text.specs.declared.stand.Stand.{Stand}
 use Rattle.nj_text.specs.declared.stand.Stand.TheVariants as stand
 use Rattle.nj_text.specs.declared.starts.Begun.{Begun}
 use Rattle.nj_text.specs.declared.starts.Begun.TheVariants as starts
 use Rattle.nj_text.specs.Units.{TextUnit, Ordinary, OpeningJoin, AtStart, AfterSpaces, Within, first_spot, cut}
-use Rattle.nj_text.specs.Scans.{along}
-use Rattle.nj_text.specs.Lines.{Line, lines_of, before_first_line}
-use Rattle.nj_text.specs.Calls.{State, Between, Inside, Failed, reply, failing, begun}
+use Rattle.nj_text.specs.Scans.{along, units_within}
+use Rattle.nj_text.specs.Lines.{Line, lines_of, before_first_line, lines_behind, ending_of}
+use Rattle.nj_text.specs.Calls.{State, Between, Inside, Failed, Reply, reply, failing, begun}
 
 abbrev pub first_line : List Line → Line
 first_line [] = record { units = []; end = first_spot; is_last = true }
@@ -55,3 +57,36 @@ space_units spot (b ∷ bs) = record { spot = spot; bytes = b ∷ []; means = Or
 abbrev pub BegunBehindSpaces : Cursor → Begun → Type 0
 BegunBehindSpaces c begun =
     (spot : Spot) (b : ℕ) (bs : List ℕ) → AllByRecursion (λ x. x ≡ 32) (b ∷ bs) → BegunIs (lines_of (space_units spot (b ∷ bs) ++ cut AfterSpaces 0 c.spot c.rest.now)) begun
+
+-- whether the units begin with the end of a line
+abbrev pub ends_next : List TextUnit → Bool
+ends_next [] = true
+ends_next (u ∷ us) = is_some (ending_of u.means)
+
+-- behind the end of the line, where that stands next
+abbrev pub EndsLine : Cursor → Option Cursor → Type 0
+EndsLine c None = ends_next (units_within c.spot c.rest.now) ≡ false
+EndsLine c (Some after) =
+    ((first_line (lines_within c.spot c.rest.now)).units ≡ [])
+    × (lines_behind (first_line (lines_within c.spot c.rest.now)) (other_lines (lines_within c.spot c.rest.now)) ≡ lines_from after.spot after.rest.now)
+
+-- what a call within a line answers, and where it leaves the lexer
+abbrev pub Steps : {X Y : Type 0} → (X → Y) → Reply Y → Result (X × Cursor) LexFault → Type 0
+Steps view expected (Ok step) = expected ≡ reply (view step.0) (inside (lines_within step.1.spot step.1.rest.now))
+Steps view expected (Err f) = expected ≡ failing f
+
+-- the same of a call that takes memory
+abbrev pub FailsStep : {Y : Type 0} → Reply Y → LexFault → Type 0
+FailsStep expected fault.OutOfMemory = Unit {0}
+FailsStep expected f = expected ≡ failing f
+
+abbrev pub StepsOrWants : {X Y : Type 0} → (X → Y) → Reply Y → Result (X × Cursor) LexFault → Type 0
+StepsOrWants view expected (Ok step) = expected ≡ reply (view step.0) (inside (lines_within step.1.spot step.1.rest.now))
+StepsOrWants view expected (Err f) = FailsStep expected f
+
+-- the line that stands at a cursor, and the lines behind it
+abbrev pub line_at : Cursor → Line
+line_at c = first_line (lines_within c.spot c.rest.now)
+
+abbrev pub lines_after : Cursor → List Line
+lines_after c = other_lines (lines_within c.spot c.rest.now)

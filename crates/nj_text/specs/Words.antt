@@ -1,5 +1,5 @@
 -- Identifiers, words and values: what the units of a line say.
-use Rattle.std.specs.Prelude.{ℕ, Bool, true, false, ◌&&◌, ◌||◌, not, ◌==◌, Option, Some, None, List, [], ◌∷◌, map}
+use Rattle.std.specs.Prelude.{ℕ, Bool, true, false, ◌&&◌, ◌||◌, not, ◌==◌, if◌then◌else◌, Option, Some, None, List, [], ◌∷◌, map}
 use Rattle.nj_text.specs.declared.fault.LexFault.{LexFault}
 use Rattle.nj_text.specs.declared.fault.LexFault.TheVariants as fault
 use Rattle.nj_text.specs.declared.spot.Spot.{Spot}
@@ -20,13 +20,14 @@ is_blank_meaning m = false
 abbrev pub is_blank : TextUnit → Bool
 is_blank u = is_blank_meaning u.means
 
--- before a value a join is a blank also where it opens the line
-abbrev pub is_blank_or_opening_meaning : Meaning → Bool
-is_blank_or_opening_meaning OpeningJoin = true
-is_blank_or_opening_meaning m = is_blank_meaning m
+abbrev pub is_opening_meaning : Meaning → Bool
+is_opening_meaning OpeningJoin = true
+is_opening_meaning m = false
 
-abbrev pub is_blank_or_opening : TextUnit → Bool
-is_blank_or_opening u = is_blank_or_opening_meaning u.means
+-- the units behind a join that opens their line, if one does
+abbrev pub behind_opening : List TextUnit → List TextUnit
+behind_opening [] = []
+behind_opening (u ∷ us) = if is_opening_meaning u.means then us else u ∷ us
 
 abbrev pub in_identifier : TextUnit → Bool
 in_identifier u = is_ordinary_in is_identifier_byte u.means

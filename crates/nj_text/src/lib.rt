@@ -11,6 +11,7 @@ mod next;
 mod parts;
 mod runs;
 mod sign;
+mod signs;
 mod spot;
 mod stand;
 mod starts;

@@ -29,7 +29,7 @@ returns-in-Join c =
     let after = c.on_next_line-after-in-Join in
     at_once_join spot (on_next_line k spot) bytes n c.requires.no_comment c.requires.no_space (c.in-Join.ensures.unit spot)
     ∙ ap (λ ls. reply start.Plain (inside (before_first_line (record { spot = spot; bytes = take n bytes; means = OpeningJoin }) ls)))
-        (sym (within_moved (on_next_line k spot) after.result.spot bytes after.result.rest.now n k after.ensures.spot after.ensures.rest c.in-Join.ensures.joined))
+    (sym (within_moved (on_next_line k spot) after.result.spot bytes after.result.rest.now n k after.ensures.spot after.ensures.rest c.in-Join.ensures.joined))
 
 pub returns-then-byte-eq9 : goal.returns-then-byte-eq9
 returns-then-byte-eq9 c = at_once_tab c.args.cursor.spot c.in-Ordinary.byte c.args.cursor.rest.now c.requires.no_comment c.in-Ordinary.ensures.unit.1 c.if-byte-eq9.true
@@ -40,7 +40,7 @@ returns-else-byte-eq9 c =
     let bytes = c.args.cursor.rest.now in
     let b = c.in-Ordinary.byte in
     at_once_plain spot bytes (Ordinary b) 1 (units_within (along 1 spot) (drop 1 bytes)) c.requires.no_comment c.requires.no_space (not_nine b c.if-byte-eq9.false) refl
-        (plain_ordinary b bytes c.in-Ordinary.ensures.unit.1 c.requires.no_space) (c.in-Ordinary.ensures.unit.2 spot)
+    (plain_ordinary b bytes c.in-Ordinary.ensures.unit.1 c.requires.no_space) (c.in-Ordinary.ensures.unit.2 spot)
 
 pub returns-in-Escape : goal.returns-in-Escape
 returns-in-Escape c =

@@ -27,7 +27,7 @@ returns-else-byte-eq9 c = λ spot b bs h.
     let bytes = c.args.cursor.rest.now in
     let byte = c.in-Ordinary.byte in
     behind_plain spot b bs here bytes (Ordinary byte) 1 (units_within (along 1 here) (drop 1 bytes)) h c.requires (not_nine byte c.if-byte-eq9.false)
-        (plain_ordinary byte bytes c.in-Ordinary.ensures.unit.1 c.requires) (c.in-Ordinary.ensures.unit.2 here)
+    (plain_ordinary byte bytes c.in-Ordinary.ensures.unit.1 c.requires) (c.in-Ordinary.ensures.unit.2 here)
 
 pub returns-in-Join : goal.returns-in-Join
 returns-in-Join c = λ spot b bs h.

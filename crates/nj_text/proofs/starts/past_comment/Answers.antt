@@ -11,7 +11,7 @@ returns-then-is_empty-clause-comment c =
     let end = c.run-2 in
     let opens = comment_opens cursor.rest.now c.run.result.1.rest.now hash.field-0-1.now hash.field-0-0 c.run.ensures.behind hash.ensures hash.field-0-0-test in
     over_last_comment cursor.spot end.result.1.spot cursor.rest.now end.result.1.rest.now opens (comment_spot cursor.spot end.result.1.spot cursor.rest.now end.result.0.now end.ensures.spot end.ensures.run) end.ensures.behind
-        (nil_if_empty end.result.1.rest.now (sym c.is_empty.ensures ∙ c.if-is_empty.true))
+    (nil_if_empty end.result.1.rest.now (sym c.is_empty.ensures ∙ c.if-is_empty.true))
 
 pub returns-clause-comment : goal.returns-clause-comment
 returns-clause-comment c =
@@ -21,5 +21,5 @@ returns-clause-comment c =
     let after = c.on_next_line in
     let opens = comment_opens cursor.rest.now c.run.result.1.rest.now hash.field-0-1.now hash.field-0-0 c.run.ensures.behind hash.ensures hash.field-0-0-test in
     over_comment_read cursor.spot end.result.1.spot after.result.spot cursor.rest.now end.result.1.rest.now after.result.rest.now opens
-        (comment_spot cursor.spot end.result.1.spot cursor.rest.now end.result.0.now end.ensures.spot end.ensures.run) end.ensures.behind
-        (sym c.is_empty.ensures ∙ c.if-is_empty.false) after.ensures.spot after.ensures.rest
+    (comment_spot cursor.spot end.result.1.spot cursor.rest.now end.result.0.now end.ensures.spot end.ensures.run) end.ensures.behind
+    (sym c.is_empty.ensures ∙ c.if-is_empty.false) after.ensures.spot after.ensures.rest

@@ -1,0 +1,76 @@
+//! Bad units and signs.
+
+ghost use Rattle.std.specs.Prelude.{◌≡◌};
+ghost use Rattle.nj_text.specs.Scans.{units_within};
+ghost use Rattle.nj_text.specs.Words.{next_fault};
+ghost use Rattle.nj_text.specs.Bytes.{begins_with};
+ghost use Rattle.nj_text.specs.Scans.{sign_length};
+ghost use Rattle.nj_text.specs.Standing.{EndsLine};
+
+use crate::cursor::Cursor;
+use crate::fault::LexFault;
+use crate::next::{Next, next_unit};
+use crate::runs::first_byte;
+use crate::sign::Sign;
+
+/// The fault of the unit that stands next, where it is a bad one.
+pub fn bad_unit(cursor: Cursor<'_>) -> Option<LexFault>
+    ensures { result ≡ next_fault (units_within cursor.entry.spot cursor.entry.rest.now) }
+{
+    match next_unit(cursor.rest) {
+        Next::BadByte => Some(LexFault::BadByte(cursor.spot)),
+        Next::BadEscape => Some(LexFault::BadEscape(cursor.spot)),
+        Next::End => None,
+        Next::Ordinary(_) => None,
+        Next::Join(_, _) => None,
+        Next::Escape(_) => None,
+        Next::Reference(_, _) => None,
+        Next::LineEnd(_) => None,
+    }
+}
+
+/// Behind the line end that stands next; None where none does. The end of the text ends its line, and stays.
+pub fn past_line_end(cursor: Cursor<'_>) -> Option<Cursor<'_>>
+    ensures { EndsLine cursor.entry result }
+{
+    match next_unit(cursor.rest) {
+        Next::LineEnd(length) => Some(cursor.on_next_line(length, 0)),
+        Next::End => Some(cursor),
+        Next::Ordinary(_) => None,
+        Next::Join(_, _) => None,
+        Next::Escape(_) => None,
+        Next::Reference(_, _) => None,
+        Next::BadByte => None,
+        Next::BadEscape => None,
+    }
+}
+
+#[inline(always)]
+fn begins_with(byte: u8, bytes: &[u8]) -> bool
+    ensures { result ≡ begins_with byte bytes.now }
+{
+    match first_byte(bytes) {
+        Some((first, _)) => first == byte,
+        None => false,
+    }
+}
+
+/// How many bytes the sign takes, which is no line end, where it stands next; else 0.
+pub fn sign_length(want: Sign, bytes: &[u8]) -> usize
+    ensures { result ≡ sign_length want bytes.now }
+{
+    let Some((first, behind)) = first_byte(bytes) else {
+        return 0;
+    };
+    let is_pipe = first == b'|';
+    match want {
+        Sign::Colon => usize::from(first == b':'),
+        Sign::Equals => usize::from(first == b'='),
+        Sign::Pipe => usize::from(
+            is_pipe && !begins_with(b'|', behind) && !begins_with(b'@', behind),
+        ),
+        Sign::Pipe2 => 2 * usize::from(is_pipe && begins_with(b'|', behind)),
+        Sign::PipeAt => 2 * usize::from(is_pipe && begins_with(b'@', behind)),
+        Sign::LineEnd => 0,
+    }
+}
