@@ -6,3 +6,6 @@ pub mod Passed
 pub mod Gathered
 pub mod LineStarts
 pub mod Bridges
+pub mod Steps
+pub mod Stands
+pub mod SignsTaken

@@ -81,11 +81,20 @@ abbrev pub begins_with_space_byte : List ℕ → Bool
 begins_with_space_byte [] = false
 begins_with_space_byte (b ∷ bs) = is_space b
 
--- how many bytes a sign that is no line end takes, where the bytes begin with it; else 0
+-- whether the bytes begin with a sign that is no line end
+abbrev pub has_sign : Sign → List ℕ → Bool
+has_sign sign.Colon bytes = begins_with 58 bytes
+has_sign sign.Equals bytes = begins_with 61 bytes
+has_sign sign.Pipe bytes = begins_with 124 bytes && not (begins_with 124 (drop 1 bytes)) && not (begins_with 64 (drop 1 bytes))
+has_sign sign.Pipe2 bytes = begins_with 124 bytes && begins_with 124 (drop 1 bytes)
+has_sign sign.PipeAt bytes = begins_with 124 bytes && begins_with 64 (drop 1 bytes)
+has_sign sign.LineEnd bytes = false
+
+abbrev pub sign_size : Sign → ℕ
+sign_size sign.Pipe2 = 2
+sign_size sign.PipeAt = 2
+sign_size want = 1
+
+-- how many bytes the sign takes that the bytes begin with; else 0
 abbrev pub sign_length : Sign → List ℕ → ℕ
-sign_length sign.Colon bytes = if begins_with 58 bytes then 1 else 0
-sign_length sign.Equals bytes = if begins_with 61 bytes then 1 else 0
-sign_length sign.Pipe bytes = if begins_with 124 bytes && not (begins_with 124 (drop 1 bytes)) && not (begins_with 64 (drop 1 bytes)) then 1 else 0
-sign_length sign.Pipe2 bytes = if begins_with 124 bytes && begins_with 124 (drop 1 bytes) then 2 else 0
-sign_length sign.PipeAt bytes = if begins_with 124 bytes && begins_with 64 (drop 1 bytes) then 2 else 0
-sign_length sign.LineEnd bytes = 0
+sign_length want bytes = if has_sign want bytes then sign_size want else 0

@@ -5,6 +5,9 @@ use Rattle.nj_text.specs.declared.spot.Spot.{Spot}
 use Rattle.nj_text.specs.declared.cursor.Cursor.{Cursor}
 use Rattle.nj_text.specs.declared.fault.LexFault.{LexFault}
 use Rattle.nj_text.specs.declared.fault.LexFault.TheVariants as fault
+use Rattle.nj_text.specs.declared.signs.SignTaken.{SignTaken}
+use Rattle.nj_text.specs.declared.signs.SignTaken.TheVariants as taken
+use Rattle.nj_text.specs.declared.word.Word.{Word}
 use Rattle.nj_text.specs.declared.stand.Stand.{Stand}
 use Rattle.nj_text.specs.declared.stand.Stand.TheVariants as stand
 use Rattle.nj_text.specs.declared.starts.Begun.{Begun}
@@ -90,3 +93,19 @@ line_at c = first_line (lines_within c.spot c.rest.now)
 
 abbrev pub lines_after : Cursor → List Line
 lines_after c = other_lines (lines_within c.spot c.rest.now)
+
+-- what became of a wanted sign
+abbrev pub SignIs : Reply Bool → SignTaken → Type 0
+SignIs expected (taken.No after) = expected ≡ reply false (inside (lines_within after.spot after.rest.now))
+SignIs expected (taken.InLine after) = expected ≡ reply true (inside (lines_within after.spot after.rest.now))
+SignIs expected (taken.LineEnd after) = expected ≡ reply true (Between (lines_from after.spot after.rest.now))
+SignIs expected (taken.Fault f) = expected ≡ failing f
+
+-- what became of a value that was read in a line
+abbrev pub SettlesFault : LexFault → (old new : State) → Result Word LexFault → Type 0
+SettlesFault fault.OutOfMemory old new result = (result ≡ Err fault.OutOfMemory) × (new ≡ old)
+SettlesFault f old new result = (result ≡ Err f) × (new ≡ Failed f)
+
+abbrev pub Settles : Result (Word × Cursor) LexFault → (old new : State) → Result Word LexFault → Type 0
+Settles (Ok step) old new result = (result ≡ Ok step.0) × (new ≡ inside (lines_within step.1.spot step.1.rest.now))
+Settles (Err f) old new result = SettlesFault f old new result

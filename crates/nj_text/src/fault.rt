@@ -2,6 +2,7 @@
 
 ghost use Rattle.std.specs.Prelude.{◌≡◌};
 ghost use Rattle.nj_text.specs.declared.fault.LexFault.TheVariants.{OutOfMemory};
+ghost use Rattle.nj_text.specs.Calls.{fault_spot};
 
 use crate::spot::Spot;
 use std::alloc::{AllocError, AllocFailed};
@@ -17,6 +18,20 @@ pub enum LexFault {
     BadEscape(Spot),
     /// Memory was refused.
     OutOfMemory,
+}
+
+impl LexFault {
+    /// The place of the fault; want of memory has the first place.
+    pub fn spot(self) -> Spot
+        ensures { result ≡ fault_spot self }
+    {
+        match self {
+            LexFault::BadByte(spot) => spot,
+            LexFault::Tab(spot) => spot,
+            LexFault::BadEscape(spot) => spot,
+            LexFault::OutOfMemory => Spot { line: 1, column: 1 },
+        }
+    }
 }
 
 impl From<AllocError> for LexFault {

@@ -7,6 +7,7 @@ mod blanks;
 mod cursor;
 mod dollar;
 mod fault;
+mod lexer;
 mod next;
 mod parts;
 mod runs;
@@ -16,8 +17,10 @@ mod spot;
 mod stand;
 mod starts;
 mod word;
+mod words;
 
 pub use fault::LexFault;
+pub use lexer::Lexer;
 pub use sign::{LineStart, Sign};
 pub use spot::Spot;
 pub use word::{Part, Word};

@@ -3,12 +3,13 @@
 ghost use Rattle.std.specs.Prelude.{◌≡◌, ◌<◌, ◌+◌, length, map, IfSome};
 ghost use Rattle.nj_text.specs.Scans.{units_within};
 ghost use Rattle.nj_text.specs.Runs.{in_run};
+ghost use Rattle.nj_text.specs.Calls.{begins_word};
 ghost use Rattle.nj_text.specs.Gathering.{run_of, Gathers, PieceIs, NoneInRun, IsShorter};
 
 use crate::cursor::Cursor;
 use crate::fault::LexFault;
 use crate::next::{Next, next_unit};
-use crate::runs::Run;
+use crate::runs::{Run, is_in};
 use crate::word::Part;
 use std::alloc::Global;
 
@@ -95,5 +96,21 @@ pub fn gather<'a>(
             Piece::End => return Ok((parts, cursor)),
             Piece::Bad(fault) => return Err(fault),
         }
+    }
+}
+
+/// Whether a word begins.
+pub fn begins_word(cursor: Cursor<'_>) -> bool
+    ensures { result ≡ begins_word (units_within cursor.entry.spot cursor.entry.rest.now) }
+{
+    match next_unit(cursor.rest) {
+        Next::Ordinary(byte) => is_in(Run::Word, byte),
+        Next::Escape(_) => true,
+        Next::Reference(_, _) => true,
+        Next::Join(_, _) => false,
+        Next::BadByte => false,
+        Next::BadEscape => false,
+        Next::End => false,
+        Next::LineEnd(_) => false,
     }
 }

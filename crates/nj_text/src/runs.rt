@@ -39,7 +39,7 @@ pub fn is_ordinary(byte: u8) -> bool
 
 /// Whether a byte belongs to a run.
 #[inline(always)]
-fn is_in(run: Run, byte: u8) -> bool
+pub fn is_in(run: Run, byte: u8) -> bool
     ensures { result ≡ in_run run byte }
 {
     match run {

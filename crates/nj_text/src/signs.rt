@@ -1,12 +1,14 @@
 //! Bad units and signs.
 
-ghost use Rattle.std.specs.Prelude.{◌≡◌};
+ghost use Rattle.std.specs.Prelude.{◌≡◌, None};
 ghost use Rattle.nj_text.specs.Scans.{units_within};
 ghost use Rattle.nj_text.specs.Words.{next_fault};
 ghost use Rattle.nj_text.specs.Bytes.{begins_with};
 ghost use Rattle.nj_text.specs.Scans.{sign_length};
-ghost use Rattle.nj_text.specs.Standing.{EndsLine};
+ghost use Rattle.nj_text.specs.Calls.{behind_blanks, sign_at};
+ghost use Rattle.nj_text.specs.Standing.{EndsLine, SignIs, line_at, lines_after};
 
+use crate::blanks::skip_blanks;
 use crate::cursor::Cursor;
 use crate::fault::LexFault;
 use crate::next::{Next, next_unit};
@@ -73,4 +75,46 @@ pub fn sign_length(want: Sign, bytes: &[u8]) -> usize
         Sign::PipeAt => 2 * usize::from(is_pipe && begins_with(b'@', behind)),
         Sign::LineEnd => 0,
     }
+}
+
+/// What became of a wanted sign.
+#[derive(Clone, Copy)]
+pub enum SignTaken<'a> {
+    /// It does not stand behind the blanks, which end here.
+    No(Cursor<'a>),
+    /// It stood there, and the line goes on here.
+    InLine(Cursor<'a>),
+    /// It ended the line, and the next one begins here.
+    LineEnd(Cursor<'a>),
+    /// A bad unit stands behind the blanks.
+    Fault(LexFault),
+}
+
+/// Takes the line end that stands next, if one does.
+fn take_line_end(cursor: Cursor<'_>) -> SignTaken<'_>
+    requires { next_fault (units_within cursor.spot cursor.rest.now) ≡ None }
+    ensures { SignIs (sign_at Sign.LineEnd (line_at cursor.entry) (lines_after cursor.entry)) result }
+{
+    let Some(after) = past_line_end(cursor) else {
+        return SignTaken::No(cursor);
+    };
+    SignTaken::LineEnd(after)
+}
+
+/// Takes the wanted sign behind the blanks, where it stands there.
+pub fn take_sign(want: Sign, start: Cursor<'_>) -> SignTaken<'_>
+    ensures { SignIs (sign_at want (behind_blanks (line_at start.entry)) (lines_after start.entry)) result }
+{
+    let cursor = skip_blanks(start);
+    if let Some(fault) = bad_unit(cursor) {
+        return SignTaken::Fault(fault);
+    }
+    if let Sign::LineEnd = want {
+        return take_line_end(cursor);
+    }
+    let length = sign_length(want, cursor.rest);
+    if length == 0 {
+        return SignTaken::No(cursor);
+    }
+    SignTaken::InLine(cursor.along(length))
 }

@@ -1,0 +1,113 @@
+-- The states of a lexer, by where it stands.
+use Rattle.std.proofs.Common.{◌≡◌, ℕ, ◌+◌, Bool, true, false, cond, not, ◌&&◌, eqb, List, [], ◌∷◌, length, take, drop, map, Option, Some, None, Result, Ok, Err, refl, sym, ap, subst, ◌∙◌, arith}
+use Rattle.std.specs.Prelude.{is_some}
+use Rattle.nj_text.specs.declared.spot.Spot.{Spot}
+use Rattle.nj_text.specs.declared.cursor.Cursor.{Cursor}
+use Rattle.nj_text.specs.declared.fault.LexFault.{LexFault}
+use Rattle.nj_text.specs.declared.fault.LexFault.TheVariants as fault
+use Rattle.nj_text.specs.declared.sign.Sign.{Sign}
+use Rattle.nj_text.specs.declared.sign.Sign.TheVariants as sign
+use Rattle.nj_text.specs.declared.word.Word.{Word}
+use Rattle.nj_text.specs.declared.word.Part.{Part}
+use Rattle.nj_text.specs.Units.{Meaning, Ordinary, Escape, Reference, Join, OpeningJoin, Comment, LeadingTab, LineEnd, TextEnd, BadByte, BadEscape, TextUnit, AtStart, Within, unit_at, position_after, spot_after, cut}
+use Rattle.nj_text.specs.Lines.{Line, lines_of, before_first_line, with_units, line_spot}
+use Rattle.nj_text.specs.Words.{WordText, word_text, part_text, is_opening_meaning, behind_opening}
+use Rattle.nj_text.specs.Calls.{State, Between, Inside, Failed, Reply, reply, failing, behind_blanks, value_at, value_of, sign_of, first_line_spot, AnswersOrWants, no_word}
+use Rattle.nj_text.specs.Standing.{first_line, other_lines, inside, lines_from, lines_within, StepsOrWants, FailsStep, Settles, SettlesFault}
+use Rattle.nj_text.proofs.LineStarts.{cut_has_line, IsUnsaid, unit_is_unsaid}
+use Rattle.nj_text.proofs.Bridges.{spot_of_line, of_first, first_of_line}
+use Rattle.nj_text.proofs.Steps.{line, others}
+
+abbrev HasLine : List Line → Type 0
+HasLine ls = (l : Line) × (more : List Line) × (ls ≡ l ∷ more)
+
+-- ---- places
+
+first_spot_is : (ls : List Line) → first_line_spot ls ≡ line_spot (first_line ls)
+first_spot_is [] = refl
+first_spot_is (l ∷ ls) = refl
+
+pub spot_between : (spot : Spot) (bytes : List ℕ) → first_line_spot (lines_from spot bytes) ≡ spot
+spot_between spot bytes = first_spot_is (lines_from spot bytes) ∙ spot_of_line AtStart spot bytes
+
+pub spot_inside : (spot : Spot) (bytes : List ℕ) → line_spot (line spot bytes) ≡ spot
+spot_inside spot bytes = spot_of_line Within spot bytes
+
+-- ---- at a join that opens its line
+
+abbrev opening_unit : Spot → List ℕ → TextUnit
+opening_unit place joined = record { spot = place; bytes = joined; means = OpeningJoin }
+
+abbrev opened : Spot → List ℕ → Spot → List ℕ → List Line
+opened place joined spot bytes = before_first_line (opening_unit place joined) (lines_within spot bytes)
+
+opened_is : (place : Spot) (joined : List ℕ) (spot : Spot) (bytes : List ℕ)
+    → inside (opened place joined spot bytes) ≡ Inside (with_units (opening_unit place joined ∷ (line spot bytes).units) (line spot bytes)) (others spot bytes)
+opened_is place joined spot bytes = by_line (lines_within spot bytes) (cut_has_line Within 0 spot bytes)
+  where
+    by_line : (ls : List Line) → HasLine ls → inside (before_first_line (opening_unit place joined) ls) ≡ Inside (with_units (opening_unit place joined ∷ (first_line ls).units) (first_line ls)) (other_lines ls)
+    by_line ls h = rw h.2 refl
+
+pub spot_opening : (place : Spot) (joined : List ℕ) (spot : Spot) (bytes : List ℕ) → line_spot (first_line (opened place joined spot bytes)) ≡ place
+spot_opening place joined spot bytes = by_line (lines_within spot bytes) (cut_has_line Within 0 spot bytes)
+  where
+    by_line : (ls : List Line) → HasLine ls → line_spot (first_line (before_first_line (opening_unit place joined) ls)) ≡ place
+    by_line ls h = rw h.2 refl
+
+pub sign_opening : (want : Sign) (place : Spot) (joined : List ℕ) (spot : Spot) (bytes : List ℕ) → sign_of want (inside (opened place joined spot bytes)) ≡ reply false (inside (opened place joined spot bytes))
+sign_opening want place joined spot bytes = ap (sign_of want) (opened_is place joined spot bytes) ∙ by_want want ∙ ap (λ s. reply false s) (sym (opened_is place joined spot bytes))
+  where
+    by_want : (w : Sign) → sign_of w (Inside (with_units (opening_unit place joined ∷ (line spot bytes).units) (line spot bytes)) (others spot bytes))
+        ≡ reply false (Inside (with_units (opening_unit place joined ∷ (line spot bytes).units) (line spot bytes)) (others spot bytes))
+    by_want sign.Colon = refl
+    by_want sign.Equals = refl
+    by_want sign.Pipe = refl
+    by_want sign.Pipe2 = refl
+    by_want sign.PipeAt = refl
+    by_want sign.LineEnd = refl
+
+pub value_opening : (place : Spot) (joined : List ℕ) (spot : Spot) (bytes : List ℕ) → value_of (inside (opened place joined spot bytes)) ≡ value_at (behind_blanks (line spot bytes)) (others spot bytes)
+value_opening place joined spot bytes = ap value_of (opened_is place joined spot bytes)
+
+-- within a line no join opens it
+opening_is_unsaid : IsUnsaid is_opening_meaning
+opening_is_unsaid = record { ordinary = λ b. refl; escape = λ b. refl; reference = λ n. refl; join = refl; line_end = refl; bad_byte = refl; bad_escape = refl }
+
+abbrev first_opens : List TextUnit → Bool
+first_opens [] = false
+first_opens (u ∷ us) = is_opening_meaning u.means
+
+opens_nothing : (us : List TextUnit) → first_opens us ≡ false → behind_opening us ≡ us
+opens_nothing [] h = refl
+opens_nothing (u ∷ us) h = rw h refl
+
+within_opens : (spot : Spot) (bytes : List ℕ) → first_opens (cut Within 0 spot bytes) ≡ false
+unfolding cut
+within_opens spot [] = refl
+within_opens spot (b ∷ bs) = unit_is_unsaid is_opening_meaning opening_is_unsaid b bs
+
+line_opens : (spot : Spot) (bytes : List ℕ) → behind_opening (line spot bytes).units ≡ (line spot bytes).units
+line_opens spot bytes = opens_nothing (line spot bytes).units (same (line spot bytes).units ∙ first_of_line (λ m s. is_opening_meaning m) false (λ s. refl) (λ s. refl) (cut Within 0 spot bytes) (cut_has_line Within 0 spot bytes) ∙ sym (same (cut Within 0 spot bytes)) ∙ within_opens spot bytes)
+  where
+    same : (vs : List TextUnit) → first_opens vs ≡ of_first (λ m s. is_opening_meaning m) false (λ s. refl) (λ s. refl) vs
+    same [] = refl
+    same (v ∷ vs) = refl
+
+pub value_inside : (spot : Spot) (bytes : List ℕ) → value_of (inside (lines_within spot bytes)) ≡ value_at (behind_blanks (line spot bytes)) (others spot bytes)
+value_inside spot bytes = ap (λ us. value_at (behind_blanks (with_units us (line spot bytes))) (others spot bytes)) (line_opens spot bytes)
+
+-- ---- a value that was read
+
+settled_fault : (old new : State) (expected : Reply WordText) (f : LexFault) (result : Result Word LexFault) → FailsStep expected f → SettlesFault f old new result → AnswersOrWants word_text result old new expected
+settled_fault old new expected (fault.BadByte s) result e h = rw (h.0, e) (refl, h.1)
+settled_fault old new expected (fault.Tab s) result e h = rw (h.0, e) (refl, h.1)
+settled_fault old new expected (fault.BadEscape s) result e h = rw (h.0, e) (refl, h.1)
+settled_fault old new expected fault.OutOfMemory result e h = rw h.0 h.1
+
+pub settled : (old new : State) (expected : Reply WordText) (step : Result (Word × Cursor) LexFault) (result : Result Word LexFault) → value_of old ≡ expected → StepsOrWants word_text expected step → Settles step old new result
+    → AnswersOrWants word_text result old new (value_of old)
+settled old new expected (Ok step) result v e h = rw (h.0, v, e) (refl, h.1)
+settled old new expected (Err f) result v e h = rw v (settled_fault old new expected f result e h)
+
+pub value_between : (spot : Spot) (bytes : List ℕ) (parts : List Part) → parts ≡ [] → value_of (Between (lines_from spot bytes)) ≡ reply (record { spot = spot; parts = map part_text parts }) (Between (lines_from spot bytes))
+value_between spot bytes parts e = ap (λ p. reply (no_word p) (Between (lines_from spot bytes))) (spot_between spot bytes) ∙ ap (λ ps. reply (record { spot = spot; parts = map part_text ps }) (Between (lines_from spot bytes))) (sym e)

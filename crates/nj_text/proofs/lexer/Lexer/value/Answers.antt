@@ -1,0 +1,27 @@
+use Rattle.std.proofs.Common.{◌≡◌, [], map, refl, sym, ap, ◌∙◌}
+use Rattle.nj_text.specs.Words.{part_text}
+use Rattle.nj_text.specs.Calls.{value_of, no_word, reply, Between, behind_blanks, value_at}
+use Rattle.nj_text.specs.Standing.{state_at, lines_from, line_at, lines_after}
+use Rattle.nj_text.proofs.Stands.{value_between, value_opening, value_inside, settled}
+use Rattle.nj_text.proofs.lexer.Lexer.value.Goals as goal
+
+pub returns-in-Between : goal.returns-in-Between
+returns-in-Between c =
+    let cursor = c.self.inside.cursor in
+    let state = sym c.self.view_is ∙ ap (λ st. state_at st cursor.spot cursor.rest.now) c.in-Between.is in
+    let found = ap value_of state ∙ value_between cursor.spot cursor.rest.now c.new-parts.result.items c.new-parts.ensures.items in
+    (ap (λ r. r.answer) found, state ∙ ap (λ r. r.after) (sym found))
+
+pub returns-in-Opening : goal.returns-in-Opening
+returns-in-Opening c =
+    let cursor = c.self.inside.cursor in
+    let state = sym c.self.view_is ∙ ap (λ st. state_at st cursor.spot cursor.rest.now) c.in-Opening.is in
+    let found = ap value_of state ∙ value_opening c.in-Opening.field-0 c.in-Opening.field-1.now cursor.spot cursor.rest.now in
+    settled c.args.self.now c.settle.new.self (value_at (behind_blanks (line_at cursor)) (lines_after cursor)) c.value.result c.settle.result found c.value.ensures c.settle.ensures
+
+pub returns-in-Inside : goal.returns-in-Inside
+returns-in-Inside c =
+    let cursor = c.self.inside.cursor in
+    let state = sym c.self.view_is ∙ ap (λ st. state_at st cursor.spot cursor.rest.now) c.in-Inside.is in
+    let found = ap value_of state ∙ value_inside cursor.spot cursor.rest.now in
+    settled c.args.self.now c.settle-in-Inside.new.self (value_at (behind_blanks (line_at cursor)) (lines_after cursor)) c.value-in-Inside.result c.settle-in-Inside.result found c.value-in-Inside.ensures c.settle-in-Inside.ensures

@@ -1,0 +1,209 @@
+//! The lexer.
+
+ghost use Rattle.std.specs.Prelude.{◌≡◌, List, ℕ};
+ghost use Rattle.std.specs.Option.{option_map};
+ghost use Rattle.nj_text.specs.Words.{word_text};
+ghost use Rattle.nj_text.specs.Calls.{Answers, AnswersOrWants, at_front, start_line_of, ident_of, sign_of, path_word_of, value_of, spot_of, Failed};
+ghost use Rattle.nj_text.specs.Standing.{Settles};
+
+use crate::cursor::Cursor;
+use crate::fault::LexFault;
+use crate::sign::{LineStart, Sign};
+use crate::signs::{SignTaken, take_sign};
+use crate::spot::Spot;
+use crate::stand::Stand;
+use crate::starts::{Begun, begin_line};
+use crate::word::Word;
+use crate::words::{identifier, value, word};
+use std::alloc::Global;
+use std::marker::Model;
+
+/// Reads a text line by line ("Lexical syntax" in the Ninja manual).
+///
+/// Each line is begun by [`Lexer::start_line`] and ended by [`Lexer::sign`] with [`Sign::LineEnd`]. A bad unit is
+/// answered by the call that meets it, and by every call but [`Lexer::spot`] from then on. A call that was refused
+/// memory leaves the lexer where it stood.
+#[derive(Drop)]
+pub struct Lexer<'a> {
+    cursor: Cursor<'a>,
+    stand: Stand<'a>,
+}
+
+impl<'a> Model for Lexer<'a> {
+    ghost use Rattle.nj_text.specs.Calls.{State};
+
+    ghost Value = { State };
+
+    ghost use Rattle.nj_text.specs.Standing.{state_at};
+
+    ghost view = { λ s. state_at s.stand s.cursor.spot s.cursor.rest.now };
+}
+
+impl<'a> Lexer<'a> {
+    /// A lexer before the first line of a text.
+    pub fn new(text: &'a [u8]) -> Lexer<'a>
+        ensures { result ≡ at_front text.now }
+    {
+        Lexer {
+            cursor: Cursor::at_front(text),
+            stand: Stand::Between,
+        }
+    }
+
+    /// Begins the next line that is no comment: a blank line is passed, of an indented one its spaces.
+    /// At the end of the text the answer is [`LineStart::End`], and inside a line [`LineStart::Middle`].
+    ///
+    /// # Errors
+    /// [`LexFault::Tab`] where a tab is the first byte behind the line's leading spaces.
+    pub fn start_line(&mut self) -> Result<LineStart, LexFault>
+        ensures { Answers (λ start. start) result self.new (start_line_of self.old) }
+    {
+        match self.stand {
+            Stand::Failed(fault) => Err(fault),
+            Stand::Opening(_, _) => Ok(LineStart::Middle),
+            Stand::Inside => Ok(LineStart::Middle),
+            Stand::Between => match begin_line(self.cursor) {
+                Begun::As(start, stand, cursor) => {
+                    self.cursor = cursor;
+                    self.stand = stand;
+                    Ok(start)
+                }
+                Begun::Fault(fault) => Err(self.fail(fault)),
+            },
+        }
+    }
+
+    /// Stands at a fault from now on.
+    fn fail(&mut self, fault: LexFault) -> LexFault
+        ensures fault { result ≡ fault }
+        ensures failed { self.new ≡ Failed fault }
+    {
+        self.stand = Stand::Failed(fault);
+        fault
+    }
+
+    /// Passes blanks, and takes the longest identifier; None where none stands there. Between lines nothing is passed.
+    ///
+    /// # Errors
+    /// The fault of a bad unit that stands next.
+    pub fn ident(&mut self) -> Result<Option<&'a [u8]>, LexFault>
+        ensures { Answers (option_map (λ bytes. bytes.now)) result self.new (ident_of self.old) }
+    {
+        match self.stand {
+            Stand::Failed(fault) => Err(fault),
+            Stand::Between => Ok(None),
+            Stand::Opening(_, _) => Ok(None),
+            Stand::Inside => match identifier(self.cursor) {
+                Ok((name, after)) => {
+                    self.cursor = after;
+                    Ok(name)
+                }
+                Err(fault) => Err(self.fail(fault)),
+            },
+        }
+    }
+
+    /// Passes blanks, and takes the wanted sign where it stands there. [`Sign::LineEnd`] ends the line; at the end of
+    /// the text it stands for a line that was begun. Between lines nothing is passed.
+    ///
+    /// # Errors
+    /// The fault of a bad unit that stands next.
+    pub fn sign(&mut self, want: Sign) -> Result<bool, LexFault>
+        ensures { Answers (λ there. there) result self.new (sign_of want self.old) }
+    {
+        match self.stand {
+            Stand::Failed(fault) => Err(fault),
+            Stand::Between => Ok(false),
+            Stand::Opening(_, _) => Ok(false),
+            Stand::Inside => match take_sign(want, self.cursor) {
+                SignTaken::No(after) => {
+                    self.cursor = after;
+                    Ok(false)
+                }
+                SignTaken::InLine(after) => {
+                    self.cursor = after;
+                    Ok(true)
+                }
+                SignTaken::LineEnd(after) => {
+                    self.cursor = after;
+                    self.stand = Stand::Between;
+                    Ok(true)
+                }
+                SignTaken::Fault(fault) => Err(self.fail(fault)),
+            },
+        }
+    }
+
+    /// Passes blanks, and takes a word; None where none begins there. Between lines nothing is passed.
+    ///
+    /// # Errors
+    /// The fault of a bad unit that stands next, or of the first one before the word is closed;
+    /// [`LexFault::OutOfMemory`], which leaves the lexer where it stood.
+    pub fn path_word(&mut self, alloc: Global) -> Result<Option<Word<'a>>, LexFault>
+        ensures { AnswersOrWants (option_map word_text) result self.old self.new (path_word_of self.old) }
+    {
+        match self.stand {
+            Stand::Failed(fault) => Err(fault),
+            Stand::Between => Ok(None),
+            Stand::Opening(_, _) => Ok(None),
+            Stand::Inside => match word(alloc, self.cursor) {
+                Ok((found, after)) => {
+                    self.cursor = after;
+                    Ok(found)
+                }
+                Err(LexFault::OutOfMemory) => Err(LexFault::OutOfMemory),
+                Err(fault) => Err(self.fail(fault)),
+            },
+        }
+    }
+
+    /// Passes blanks, and takes all up to the line's end. Between lines nothing is passed, and the value has no parts.
+    ///
+    /// # Errors
+    /// The fault of the first bad unit of the line; [`LexFault::OutOfMemory`], which leaves the lexer where it stood.
+    pub fn value(&mut self, alloc: Global) -> Result<Word<'a>, LexFault>
+        ensures { AnswersOrWants word_text result self.old self.new (value_of self.old) }
+    {
+        let cursor = self.cursor;
+        match self.stand {
+            Stand::Failed(fault) => Err(fault),
+            Stand::Between => {
+                let spot = cursor.spot;
+                let parts = Vec::new(alloc);
+                Ok(Word { spot, parts })
+            }
+            Stand::Opening(_, _) => self.settle(value(alloc, cursor)),
+            Stand::Inside => self.settle(value(alloc, cursor)),
+        }
+    }
+
+    /// Stands behind a value that was read in the line, or at its fault, or where it stood.
+    fn settle(
+        &mut self,
+        step: Result<(Word<'a>, Cursor<'a>), LexFault>,
+    ) -> Result<Word<'a>, LexFault>
+        ensures { Settles step.entry self.old self.new result }
+    {
+        match step {
+            Ok((found, after)) => {
+                self.cursor = after;
+                self.stand = Stand::Inside;
+                Ok(found)
+            }
+            Err(LexFault::OutOfMemory) => Err(LexFault::OutOfMemory),
+            Err(fault) => Err(self.fail(fault)),
+        }
+    }
+
+    /// The place of the next byte; after a fault, that of the fault.
+    pub fn spot(&self) -> Spot
+        ensures { result ≡ spot_of self.now }
+    {
+        match self.stand {
+            Stand::Between => self.cursor.spot,
+            Stand::Opening(spot, _) => spot,
+            Stand::Inside => self.cursor.spot,
+            Stand::Failed(fault) => fault.spot(),
+        }
+    }
+}

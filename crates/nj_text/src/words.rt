@@ -1,0 +1,64 @@
+//! Identifiers, words and values within a line.
+
+ghost use Rattle.std.specs.Prelude.{◌≡◌};
+ghost use Rattle.std.specs.Option.{option_map};
+ghost use Rattle.nj_text.specs.Words.{word_text};
+ghost use Rattle.nj_text.specs.Calls.{behind_blanks, ident_at, word_at, value_at};
+ghost use Rattle.nj_text.specs.Standing.{Steps, StepsOrWants, line_at, lines_after};
+
+use crate::blanks::skip_blanks;
+use crate::cursor::Cursor;
+use crate::fault::LexFault;
+use crate::parts::{TextKind, begins_word, gather};
+use crate::runs::Run;
+use crate::signs::bad_unit;
+use crate::word::Word;
+use std::alloc::Global;
+
+/// The identifier behind the blanks, if one stands there.
+pub fn identifier(start: Cursor<'_>) -> Result<(Option<&[u8]>, Cursor<'_>), LexFault>
+    ensures { Steps (option_map (λ bytes. bytes.now)) (ident_at (behind_blanks (line_at start.entry)) (lines_after start.entry)) result }
+{
+    let cursor = skip_blanks(start);
+    if let Some(fault) = bad_unit(cursor) {
+        return Err(fault);
+    }
+    let (name, after) = cursor.run(Run::Identifier);
+    if name.is_empty() {
+        return Ok((None, after));
+    }
+    Ok((Some(name), after))
+}
+
+/// The word behind the blanks, if one begins there.
+pub fn word<'a>(
+    alloc: Global,
+    start: Cursor<'a>,
+) -> Result<(Option<Word<'a>>, Cursor<'a>), LexFault>
+    ensures { StepsOrWants (option_map word_text) (word_at (behind_blanks (line_at start.entry)) (lines_after start.entry)) result }
+{
+    let cursor = skip_blanks(start);
+    if let Some(fault) = bad_unit(cursor) {
+        return Err(fault);
+    }
+    if !begins_word(cursor) {
+        return Ok((None, cursor));
+    }
+    let spot = cursor.spot;
+    match gather(alloc, TextKind::Word, cursor) {
+        Ok((parts, after)) => Ok((Some(Word { spot, parts }), after)),
+        Err(fault) => Err(fault),
+    }
+}
+
+/// The value behind the blanks, which goes up to the line's end.
+pub fn value<'a>(alloc: Global, start: Cursor<'a>) -> Result<(Word<'a>, Cursor<'a>), LexFault>
+    ensures { StepsOrWants word_text (value_at (behind_blanks (line_at start.entry)) (lines_after start.entry)) result }
+{
+    let cursor = skip_blanks(start);
+    let spot = cursor.spot;
+    match gather(alloc, TextKind::Value, cursor) {
+        Ok((parts, after)) => Ok((Word { spot, parts }, after)),
+        Err(fault) => Err(fault),
+    }
+}
