@@ -1,17 +1,17 @@
 -- From the units that are left of a text to the line that is left, and the lines behind it.
-use Rattle.std.proofs.Common.{◌≡◌, ℕ, zero, suc, ◌+◌, ◌-◌, ◌≤◌, ◌<◌, Bool, true, false, cond, not, ◌&&◌, eqb, List, [], ◌∷◌, ◌++◌, length, take, drop, Option, Some, None, refl, sym, ap, subst, ◌∙◌, ◌⊎◌, inl, inr, arith}
+use Rattle.std.proofs.Common.{◌≡◌, ℕ, Bool, true, false, cond, eqb, List, [], ◌∷◌, take, drop, Option, Some, None, refl, sym, ap, ◌∙◌, ◌⊎◌, inl, inr}
 use Rattle.std.specs.Prelude.{is_some}
-use Rattle.std.specs.List.{take_while, flat_map}
-use Rattle.std.proofs.lemmas.Bool.{eqb-true, false≢true}
+use Rattle.std.specs.List.{take_while}
+use Rattle.std.proofs.lemmas.Bool.{false≢true}
 use Rattle.nj_text.specs.declared.spot.Spot.{Spot}
 use Rattle.nj_text.specs.declared.fault.LexFault.{LexFault}
 use Rattle.nj_text.specs.declared.fault.LexFault.TheVariants as fault
-use Rattle.nj_text.specs.Bytes.{is_ordinary_byte, is_identifier_byte, begins_with, drop_while}
-use Rattle.nj_text.specs.Units.{Meaning, Ordinary, Escape, Reference, Join, OpeningJoin, Comment, LeadingTab, LineEnd, TextEnd, BadByte, BadEscape, TextUnit, is_ordinary_in, Position, AtStart, Within, unit_at, found_at, position_after, spot_after, cut}
-use Rattle.nj_text.specs.Lines.{Line, ending_of, before_first_line, lines_before, lines_of, with_units, lines_behind, line_spot, spot_of_first}
-use Rattle.nj_text.specs.Scans.{along, on_next_line, units_within, Begins, BeginsBadly}
-use Rattle.nj_text.specs.Words.{is_blank, is_blank_meaning, in_identifier, in_word, in_word_meaning, opens_word, opens_word_meaning, next_fault, fault_of, fault_of_meaning, first_fault, or_else, parts_of, begins_with_byte}
-use Rattle.nj_text.specs.Calls.{State, Between, Inside, is_empty, begins_word}
+use Rattle.nj_text.specs.Bytes.{is_identifier_byte, drop_while}
+use Rattle.nj_text.specs.Units.{Meaning, Ordinary, Escape, Reference, Join, OpeningJoin, Comment, LeadingTab, LineEnd, TextEnd, BadByte, BadEscape, TextUnit, is_ordinary_in, Position, AtStart, found_at, position_after, spot_after, cut}
+use Rattle.nj_text.specs.Lines.{Line, ending_of, before_first_line, lines_before, lines_of, with_units, lines_behind, line_spot}
+use Rattle.nj_text.specs.Scans.{units_within, Begins, BeginsBadly}
+use Rattle.nj_text.specs.Words.{is_blank, is_blank_meaning, in_identifier, in_word, in_word_meaning, opens_word_meaning, next_fault, fault_of, fault_of_meaning, first_fault, or_else, begins_with_byte}
+use Rattle.nj_text.specs.Calls.{Inside, begins_word}
 use Rattle.nj_text.specs.declared.parts.TextKind.TheVariants as kind
 use Rattle.nj_text.specs.Gathering.{in_value_meaning, in_text}
 use Rattle.nj_text.specs.Standing.{first_line, other_lines, inside, lines_from, lines_within, ends_next}

@@ -1,14 +1,14 @@
 -- The cut of a text, unit by unit and run by run.
-use Rattle.std.proofs.Common.{◌≡◌, ℕ, zero, suc, ◌+◌, ◌-◌, ◌≤◌, ◌<◌, Bool, true, false, cond, not, eqb, ◌||◌, List, [], ◌∷◌, ◌++◌, length, take, drop, map, refl, sym, ap, subst, ◌∙◌, append_assoc, arith}
-use Rattle.std.proofs.Math.Numerals.{one-add, add-one}
-use Rattle.std.specs.List.{prefix_len, take_while, flat_map}
+use Rattle.std.proofs.Common.{◌≡◌, ℕ, zero, suc, ◌+◌, ◌≤◌, Bool, true, false, cond, not, eqb, ◌||◌, List, [], ◌∷◌, ◌++◌, length, take, drop, refl, sym, ap, ◌∙◌, append_assoc, arith}
+use Rattle.std.proofs.Math.Numerals.{one-add}
+use Rattle.std.specs.List.{prefix_len, take_while}
 use Rattle.std.proofs.lemmas.List.{take_at, length-append}
 use Rattle.std.proofs.lemmas.Bool.{eqb-true, false≢true}
 use Rattle.nj_text.specs.declared.spot.Spot.{Spot}
-use Rattle.nj_text.specs.Bytes.{is_space, is_line_feed, is_ordinary_byte, is_name_byte, is_identifier_byte, drop_while}
-use Rattle.nj_text.specs.Units.{Meaning, Ordinary, Escape, Reference, Join, OpeningJoin, Comment, LeadingTab, LineEnd, TextEnd, BadByte, BadEscape, TextUnit, is_ordinary_in, Position, AtStart, AfterSpaces, Within, Class, Dollar, LineFeed, CarriageReturn, Nul, Plain, class_of, unit_by, unit_at, found_at, position_after, spot_after, spots_after, cut, Found, NameByte, follows_of, behind_dollar}
+use Rattle.nj_text.specs.Bytes.{is_space, is_line_feed, is_ordinary_byte, is_name_byte, is_identifier_byte}
+use Rattle.nj_text.specs.Units.{Ordinary, Reference, TextUnit, Position, Within, Dollar, LineFeed, CarriageReturn, Nul, Plain, class_of, unit_by, unit_at, position_after, spot_after, spots_after, cut, Found, NameByte, follows_of, behind_dollar}
 use Rattle.nj_text.specs.Scans.{along, on_next_line}
-use Rattle.nj_text.proofs.Lists.{take_while-cons_yes, take_while-cons_no, AllIn, AllIn-take_while, AllIn-weaker, length-take_while, prefix_len-cons_yes, prefix_len-cons_no}
+use Rattle.nj_text.proofs.Lists.{take_while-cons_yes, take_while-cons_no, AllIn, AllIn-take_while, AllIn-weaker, length-take_while}
 
 -- bytes that belong to the unit before are passed
 pub cut-skip : (position : Position) (n : ℕ) (spot : Spot) (bs : List ℕ) → n ≤ length bs → cut position n spot bs ≡ cut position 0 (spots_after (take n bs) spot) (drop n bs)

@@ -1,21 +1,21 @@
 -- Gathering the parts of a word or a value, piece by piece.
-use Rattle.std.proofs.Common.{◌≡◌, ℕ, suc, ◌+◌, ◌≤◌, ◌<◌, Bool, true, false, cond, not, ◌&&◌, ◌||◌, eqb, List, [], ◌∷◌, ◌++◌, length, take, drop, map, Option, Some, None, refl, sym, ap, subst, ◌∙◌, append_assoc, arith}
+use Rattle.std.proofs.Common.{◌≡◌, ℕ, Bool, true, false, cond, not, ◌||◌, eqb, List, [], ◌∷◌, ◌++◌, length, take, Some, None, refl, sym, ap, ◌∙◌, append_assoc}
 use Rattle.std.specs.List.{take_while}
-use Rattle.std.proofs.lemmas.Bool.{eqb-true, false≢true}
+use Rattle.std.proofs.lemmas.Bool.{false≢true}
 use Rattle.std.proofs.lemmas.List.{append-nil}
 use Rattle.nj_text.specs.declared.spot.Spot.{Spot}
 use Rattle.nj_text.specs.declared.fault.LexFault.{LexFault}
 use Rattle.nj_text.specs.declared.fault.LexFault.TheVariants as fault
 use Rattle.nj_text.specs.declared.parts.TextKind.{TextKind}
 use Rattle.nj_text.specs.declared.parts.TextKind.TheVariants as kind
-use Rattle.nj_text.specs.Bytes.{is_ordinary_byte, is_word_byte, is_identifier_byte, begins_with, drop_while}
-use Rattle.nj_text.specs.Units.{Meaning, Ordinary, Escape, Reference, Join, OpeningJoin, Comment, LeadingTab, LineEnd, TextEnd, BadByte, BadEscape, TextUnit, is_ordinary_in, Within, position_after, spot_after, Class, Dollar, LineFeed, CarriageReturn, Nul, Plain, unit_by, class_of, unit_at, behind_dollar, in_braces, named, Follows, Feed, Return, Brace, Itself, NameByte, Nothing, behind_dollar_by, Found, follows_of, cut}
+use Rattle.nj_text.specs.Bytes.{is_ordinary_byte, is_identifier_byte, begins_with, drop_while}
+use Rattle.nj_text.specs.Units.{Meaning, Ordinary, LineEnd, BadByte, BadEscape, TextUnit, is_ordinary_in, Within, position_after, spot_after, Class, Dollar, LineFeed, CarriageReturn, Nul, Plain, unit_by, class_of, unit_at, behind_dollar, named, Follows, Feed, Return, Brace, Itself, NameByte, Nothing, behind_dollar_by, Found, follows_of, cut}
 use Rattle.nj_text.specs.declared.runs.Run.{Run}
 use Rattle.nj_text.specs.Runs.{in_run}
 use Rattle.nj_text.specs.Scans.{along, units_within, Begins, BeginsBadly}
-use Rattle.nj_text.specs.Words.{in_word, in_word_meaning, opens_word_meaning, fault_of_meaning, next_fault, parts_of, PartText, Text, Name, begins_with_ordinary, part_before, longer_run}
-use Rattle.nj_text.specs.Gathering.{run_of, in_value_meaning, in_text, gathered, behind_text, NoneInRun}
-use Rattle.nj_text.proofs.Lists.{AllIn, AllIn-weaker, AllIn-take_while, drop_while-append, take_while-append, take_while-cons_yes, take_while-cons_no, drop_while-cons_no, drop_while-cons_yes}
+use Rattle.nj_text.specs.Words.{fault_of_meaning, next_fault, parts_of, PartText, Text, begins_with_ordinary, longer_run}
+use Rattle.nj_text.specs.Gathering.{run_of, in_text, gathered, behind_text, NoneInRun}
+use Rattle.nj_text.proofs.Lists.{AllIn, AllIn-weaker, AllIn-take_while, drop_while-append, take_while-append, take_while-cons_yes, take_while-cons_no, drop_while-cons_no}
 use Rattle.nj_text.proofs.Cuts.{plain_units, cut-run, unit-ordinary}
 
 -- ---- what ends a text

@@ -9,3 +9,4 @@ pub mod Bridges
 pub mod Steps
 pub mod Stands
 pub mod SignsTaken
+pub mod UnitLaws

@@ -1,7 +1,7 @@
 -- Lists cut at the longest front that passes.
-use Rattle.std.proofs.Common.{◌≡◌, ℕ, zero, suc, ◌+◌, ◌≤◌, Bool, true, false, cond, List, [], ◌∷◌, ◌++◌, length, take, drop, refl, sym, ap, subst, ◌∙◌, arith}
+use Rattle.std.proofs.Common.{◌≡◌, suc, Bool, true, false, cond, List, [], ◌∷◌, ◌++◌, length, drop, refl, ap, ◌∙◌}
 use Rattle.std.proofs.Math.Numerals.{one-add}
-use Rattle.std.specs.List.{prefix_len, take_while, flat_map}
+use Rattle.std.specs.List.{prefix_len, take_while}
 use Rattle.std.proofs.lemmas.List.Sums.{take_while-cons, prefix_len-le-length}
 use Rattle.std.proofs.lemmas.List.{length-take-le}
 use Rattle.nj_text.specs.Bytes.{drop_while}

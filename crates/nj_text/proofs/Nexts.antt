@@ -1,10 +1,10 @@
 -- What stands next in a line, as an equation on the units that are left.
-use Rattle.std.proofs.Common.{◌≡◌, ℕ, zero, suc, ◌+◌, ◌≤◌, ◌<◌, Bool, true, false, cond, not, ◌&&◌, ◌||◌, eqb, List, [], ◌∷◌, ◌++◌, length, take, drop, refl, sym, ap, subst, ◌∙◌, arith, eq-eqb}
+use Rattle.std.proofs.Common.{◌≡◌, ℕ, suc, ◌+◌, ◌≤◌, Bool, true, false, cond, not, ◌&&◌, ◌||◌, eqb, List, [], ◌∷◌, length, take, drop, refl, sym, ap, subst, ◌∙◌, arith, eq-eqb}
 use Rattle.std.proofs.Math.Numerals.{one-add}
 use Rattle.std.proofs.lemmas.Bool.{eqb-true, false≢true}
 use Rattle.nj_text.specs.declared.spot.Spot.{Spot}
 use Rattle.nj_text.specs.Bytes.{is_ordinary_byte, begins_with}
-use Rattle.nj_text.specs.Units.{Meaning, Ordinary, Escape, Reference, Join, LineEnd, TextEnd, BadByte, BadEscape, TextUnit, Found, AtStart, Within, position_after, spot_after, spots_after, behind_dollar, Class, Dollar, LineFeed, CarriageReturn, Nul, Plain, unit_by, unit_at, cut}
+use Rattle.nj_text.specs.Units.{Meaning, Ordinary, Escape, Reference, Join, LineEnd, BadByte, BadEscape, Found, AtStart, Within, position_after, spot_after, spots_after, behind_dollar, Dollar, LineFeed, CarriageReturn, Nul, Plain, unit_by, unit_at, cut}
 use Rattle.nj_text.specs.Scans.{along, on_next_line, line_end_length, units_within, Begins, BeginsBadly}
 use Rattle.nj_text.proofs.Cuts.{cut-skip, cut-ordinary}
 

@@ -1,13 +1,13 @@
 -- Blanks that are passed.
-use Rattle.std.proofs.Common.{◌≡◌, ℕ, suc, ◌+◌, ◌≤◌, ◌<◌, Bool, true, false, cond, eqb, List, [], ◌∷◌, ◌++◌, length, take, drop, refl, sym, ap, subst, ◌∙◌, arith}
+use Rattle.std.proofs.Common.{◌≡◌, ℕ, Bool, true, false, cond, List, [], ◌∷◌, ◌++◌, length, refl, sym, ap, ◌∙◌}
 use Rattle.std.specs.List.{take_while}
-use Rattle.std.proofs.lemmas.Bool.{eqb-true, false≢true}
+use Rattle.std.proofs.lemmas.Bool.{eqb-true}
 use Rattle.nj_text.specs.declared.spot.Spot.{Spot}
 use Rattle.nj_text.specs.Bytes.{is_space, is_ordinary_byte, begins_with, drop_while}
-use Rattle.nj_text.specs.Units.{Meaning, Ordinary, Join, TextUnit, Within, cut}
+use Rattle.nj_text.specs.Units.{Meaning, Join, TextUnit, cut}
 use Rattle.nj_text.specs.Scans.{along, units_within, Begins, BeginsBadly, begins_with_space_byte}
 use Rattle.nj_text.specs.Words.{is_blank, is_blank_meaning}
-use Rattle.nj_text.proofs.Lists.{AllIn, AllIn-weaker, AllIn-take_while, drop_while-append, drop_while-cons_no}
+use Rattle.nj_text.proofs.Lists.{AllIn, AllIn-weaker, AllIn-take_while, drop_while-append}
 use Rattle.nj_text.proofs.Cuts.{plain_units, cut-run}
 
 -- a unit that is no blank stops them

@@ -1,5 +1,5 @@
 -- Signs that stand next in a line.
-use Rattle.std.proofs.Common.{◌≡◌, ℕ, suc, ◌+◌, ◌≤◌, Bool, true, false, cond, not, ◌&&◌, eqb, List, [], ◌∷◌, length, take, drop, Option, Some, None, refl, sym, ap, subst, ◌∙◌, arith}
+use Rattle.std.proofs.Common.{◌≡◌, ℕ, Bool, true, false, cond, not, ◌&&◌, eqb, List, [], ◌∷◌, drop, Option, Some, None, refl, sym, ap, ◌∙◌, arith}
 use Rattle.std.specs.Prelude.{is_some}
 use Rattle.std.proofs.lemmas.Bool.{eqb-true, false≢true}
 use Rattle.nj_text.specs.declared.spot.Spot.{Spot}
@@ -7,12 +7,12 @@ use Rattle.nj_text.specs.declared.fault.LexFault.{LexFault}
 use Rattle.nj_text.specs.declared.sign.Sign.{Sign}
 use Rattle.nj_text.specs.declared.sign.Sign.TheVariants as sign
 use Rattle.nj_text.specs.Bytes.{is_ordinary_byte, begins_with}
-use Rattle.nj_text.specs.Units.{Ordinary, TextUnit, Within, unit_at, is_ordinary_in, position_after, spot_after, cut}
+use Rattle.nj_text.specs.Units.{Ordinary, TextUnit, Within, unit_at, is_ordinary_in, cut}
 use Rattle.nj_text.specs.Lines.{Line, ending_of, lines_of, lines_before, before_first_line, with_units, lines_behind}
 use Rattle.nj_text.specs.Words.{begins_with_byte, next_fault}
 use Rattle.nj_text.specs.Scans.{along, units_within, has_sign, sign_size, sign_length}
-use Rattle.nj_text.specs.Calls.{State, Between, Inside, Reply, reply, failing, unless_fault, is_empty, is_sign, behind_sign, sign_at}
-use Rattle.nj_text.specs.Standing.{first_line, other_lines, inside, lines_from, lines_within, ends_next}
+use Rattle.nj_text.specs.Calls.{State, Between, Inside, Reply, reply, failing, is_empty, is_sign, behind_sign, sign_at}
+use Rattle.nj_text.specs.Standing.{first_line, other_lines, inside, lines_within, ends_next}
 use Rattle.nj_text.proofs.Cuts.{unit-ordinary, cut-ordinary, along-along}
 use Rattle.nj_text.proofs.Gathered.{not_ordinary}
 use Rattle.nj_text.proofs.LineStarts.{cut_has_line, fails_if_no_byte}

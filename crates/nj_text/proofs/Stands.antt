@@ -1,6 +1,5 @@
 -- The states of a lexer, by where it stands.
-use Rattle.std.proofs.Common.{◌≡◌, ℕ, ◌+◌, Bool, true, false, cond, not, ◌&&◌, eqb, List, [], ◌∷◌, length, take, drop, map, Option, Some, None, Result, Ok, Err, refl, sym, ap, subst, ◌∙◌, arith}
-use Rattle.std.specs.Prelude.{is_some}
+use Rattle.std.proofs.Common.{◌≡◌, ℕ, Bool, false, List, [], ◌∷◌, map, Result, Ok, Err, refl, sym, ap, ◌∙◌}
 use Rattle.nj_text.specs.declared.spot.Spot.{Spot}
 use Rattle.nj_text.specs.declared.cursor.Cursor.{Cursor}
 use Rattle.nj_text.specs.declared.fault.LexFault.{LexFault}
@@ -9,10 +8,10 @@ use Rattle.nj_text.specs.declared.sign.Sign.{Sign}
 use Rattle.nj_text.specs.declared.sign.Sign.TheVariants as sign
 use Rattle.nj_text.specs.declared.word.Word.{Word}
 use Rattle.nj_text.specs.declared.word.Part.{Part}
-use Rattle.nj_text.specs.Units.{Meaning, Ordinary, Escape, Reference, Join, OpeningJoin, Comment, LeadingTab, LineEnd, TextEnd, BadByte, BadEscape, TextUnit, AtStart, Within, unit_at, position_after, spot_after, cut}
-use Rattle.nj_text.specs.Lines.{Line, lines_of, before_first_line, with_units, line_spot}
+use Rattle.nj_text.specs.Units.{OpeningJoin, TextUnit, AtStart, Within, cut}
+use Rattle.nj_text.specs.Lines.{Line, before_first_line, with_units, line_spot}
 use Rattle.nj_text.specs.Words.{WordText, word_text, part_text, is_opening_meaning, behind_opening}
-use Rattle.nj_text.specs.Calls.{State, Between, Inside, Failed, Reply, reply, failing, behind_blanks, value_at, value_of, sign_of, first_line_spot, AnswersOrWants, no_word}
+use Rattle.nj_text.specs.Calls.{State, Between, Inside, Reply, reply, behind_blanks, value_at, value_of, sign_of, first_line_spot, AnswersOrWants, no_word}
 use Rattle.nj_text.specs.Standing.{first_line, other_lines, inside, lines_from, lines_within, StepsOrWants, FailsStep, Settles, SettlesFault}
 use Rattle.nj_text.proofs.LineStarts.{cut_has_line, IsUnsaid, unit_is_unsaid}
 use Rattle.nj_text.proofs.Bridges.{spot_of_line, of_first, first_of_line}

@@ -1,5 +1,5 @@
 -- The classes of bytes that the lexical rules speak of, by their ASCII codes.
-use Rattle.std.specs.Prelude.{ℕ, Bool, true, false, ◌&&◌, ◌||◌, not, nat_le, ◌==◌, cond, List, [], ◌∷◌}
+use Rattle.std.specs.Prelude.{ℕ, Bool, false, ◌&&◌, ◌||◌, not, nat_le, ◌==◌, cond, List, [], ◌∷◌}
 
 abbrev pub is_space : ℕ → Bool
 is_space b = b == 32

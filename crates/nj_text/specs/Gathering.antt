@@ -13,7 +13,7 @@ use Rattle.nj_text.specs.declared.parts.Piece.TheVariants as piece
 use Rattle.nj_text.specs.declared.runs.Run.{Run}
 use Rattle.nj_text.specs.declared.runs.Run.TheVariants as run
 use Rattle.nj_text.specs.Bytes.{drop_while}
-use Rattle.nj_text.specs.Units.{Meaning, Ordinary, Escape, Reference, Join, OpeningJoin, Comment, LeadingTab, LineEnd, TextEnd, BadByte, BadEscape, TextUnit}
+use Rattle.nj_text.specs.Units.{Meaning, LeadingTab, LineEnd, TextEnd, BadByte, BadEscape, TextUnit}
 use Rattle.nj_text.specs.Scans.{units_within}
 use Rattle.nj_text.specs.Words.{in_word, next_fault, parts_of, part_text, PartText}
 

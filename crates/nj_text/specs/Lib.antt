@@ -7,3 +7,4 @@ pub mod Runs
 pub mod Scans
 pub mod Gathering
 pub mod Standing
+pub mod Laws

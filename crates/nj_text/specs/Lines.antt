@@ -2,7 +2,7 @@
 use Rattle.std.specs.Prelude.{ℕ, Bool, true, false, if◌then◌else◌, Option, Some, None, List, [], ◌∷◌}
 use Rattle.nj_text.specs.declared.spot.Spot.{Spot}
 use Rattle.nj_text.specs.Bytes.{is_space, drop_while}
-use Rattle.nj_text.specs.Units.{Meaning, Ordinary, Escape, Reference, Join, OpeningJoin, Comment, LeadingTab, LineEnd, TextEnd, BadByte, BadEscape, TextUnit, is_ordinary_in, units}
+use Rattle.nj_text.specs.Units.{Meaning, Comment, LeadingTab, LineEnd, TextEnd, TextUnit, is_ordinary_in, units}
 
 -- a line: its units, the place where it ends, and whether the text ends there too
 pub record Line : Type 0 where

@@ -1,5 +1,5 @@
 -- What the lexer's scans of bytes answer, in the words of the units.
-use Rattle.std.specs.Prelude.{◌≡◌, ℕ, ◌+◌, ◌<◌, Bool, true, false, not, ◌&&◌, if◌then◌else◌, List, [], ◌∷◌, length, take, drop}
+use Rattle.std.specs.Prelude.{◌≡◌, ℕ, ◌+◌, ◌<◌, Bool, true, false, not, ◌&&◌, if◌then◌else◌, List, [], ◌∷◌, take, drop}
 use Rattle.nj_text.specs.declared.spot.Spot.{Spot}
 use Rattle.nj_text.specs.declared.dollar.Dollar.{Dollar}
 use Rattle.nj_text.specs.declared.dollar.Dollar.TheVariants as dollar
@@ -8,7 +8,7 @@ use Rattle.nj_text.specs.declared.next.Next.TheVariants as next
 use Rattle.nj_text.specs.declared.sign.Sign.{Sign}
 use Rattle.nj_text.specs.declared.sign.Sign.TheVariants as sign
 use Rattle.nj_text.specs.Bytes.{begins_with, is_space, is_ordinary_byte}
-use Rattle.nj_text.specs.Units.{Meaning, Ordinary, Escape, Reference, Join, LineEnd, TextEnd, BadByte, BadEscape, TextUnit, Found, AtStart, Within, spots_after, cut}
+use Rattle.nj_text.specs.Units.{Meaning, Ordinary, Escape, Reference, Join, LineEnd, BadByte, BadEscape, TextUnit, Found, AtStart, Within, spots_after, cut}
 
 -- n columns farther on
 abbrev pub along : ℕ → Spot → Spot

@@ -1,5 +1,5 @@
 -- Identifiers, words and values: what the units of a line say.
-use Rattle.std.specs.Prelude.{ℕ, Bool, true, false, ◌&&◌, ◌||◌, not, ◌==◌, if◌then◌else◌, Option, Some, None, List, [], ◌∷◌, map}
+use Rattle.std.specs.Prelude.{ℕ, Bool, true, false, ◌==◌, if◌then◌else◌, Option, Some, None, List, [], ◌∷◌, map}
 use Rattle.nj_text.specs.declared.fault.LexFault.{LexFault}
 use Rattle.nj_text.specs.declared.fault.LexFault.TheVariants as fault
 use Rattle.nj_text.specs.declared.spot.Spot.{Spot}
@@ -7,7 +7,7 @@ use Rattle.nj_text.specs.declared.word.Part.{Part}
 use Rattle.nj_text.specs.declared.word.Part.TheVariants as part
 use Rattle.nj_text.specs.declared.word.Word.{Word}
 use Rattle.nj_text.specs.Bytes.{is_space, is_identifier_byte, is_word_byte}
-use Rattle.nj_text.specs.Units.{Meaning, Ordinary, Escape, Reference, Join, OpeningJoin, Comment, LeadingTab, LineEnd, TextEnd, BadByte, BadEscape, TextUnit, is_ordinary_in}
+use Rattle.nj_text.specs.Units.{Meaning, Ordinary, Escape, Reference, Join, OpeningJoin, LeadingTab, BadByte, BadEscape, TextUnit, is_ordinary_in}
 
 -- ---- tests on units
 

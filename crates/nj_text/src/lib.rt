@@ -7,6 +7,7 @@ mod blanks;
 mod cursor;
 mod dollar;
 mod fault;
+mod laws;
 mod lexer;
 mod next;
 mod parts;
@@ -20,7 +21,11 @@ mod word;
 mod words;
 
 pub use fault::LexFault;
+pub use laws::{lines_are_the_units, units_are_the_text, units_stand_in_place};
 pub use lexer::Lexer;
 pub use sign::{LineStart, Sign};
 pub use spot::Spot;
 pub use word::{Part, Word};
+
+#[cfg(test)]
+mod tests;

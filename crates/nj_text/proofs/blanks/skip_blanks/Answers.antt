@@ -1,8 +1,5 @@
-use Rattle.std.proofs.Common.{◌≡◌, sym, ap, ◌∙◌}
-use Rattle.nj_text.specs.Bytes.{is_space, drop_while}
-use Rattle.nj_text.specs.Scans.{units_within, begins_with_space_byte}
-use Rattle.nj_text.specs.Words.{is_blank}
-use Rattle.nj_text.proofs.Lists.{AllIn-take_while}
+use Rattle.std.proofs.Common.{sym, ap, ◌∙◌}
+use Rattle.nj_text.specs.Scans.{begins_with_space_byte}
 use Rattle.nj_text.proofs.Passed.{blanks_over_run, no_space_behind}
 use Rattle.nj_text.proofs.blanks.skip_blanks.Goals as goal
 

@@ -1,4 +1,4 @@
-use Rattle.std.proofs.Common.{◌≡◌, ℕ, ◌+◌, List, ◌∷◌, length, take, refl, sym, ap, ◌∙◌}
+use Rattle.std.proofs.Common.{length, refl, sym, ◌∙◌}
 use Rattle.nj_text.proofs.Cuts.{feed_lands, return_lands, lands, names_no_feed, name_found}
 use Rattle.nj_text.proofs.dollar.behind_dollar.Goals as goal
 

@@ -1,4 +1,4 @@
-use Rattle.std.proofs.Common.{◌≡◌, ◌+◌, ◌∷◌, ◌++◌, length, ap, ◌∙◌}
+use Rattle.std.proofs.Common.{◌∷◌, ◌++◌, ap, ◌∙◌}
 use Rattle.nj_text.proofs.Cuts.{braces_land, identifiers_no_feed}
 use Rattle.nj_text.proofs.dollar.braced.Goals as goal
 

@@ -1,4 +1,4 @@
-use Rattle.std.proofs.Common.{◌≡◌, ◌∷◌, true, refl, sym, ap, ◌∙◌}
+use Rattle.std.proofs.Common.{sym, ap, ◌∙◌}
 use Rattle.std.proofs.lemmas.Bool.{ne_eqb}
 use Rattle.nj_text.specs.Bytes.{begins_with}
 use Rattle.nj_text.proofs.Nexts.{line_end_next, bad_byte_next, ordinary_next, eqb_self}

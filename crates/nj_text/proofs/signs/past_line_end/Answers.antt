@@ -1,6 +1,6 @@
 use Rattle.std.proofs.Common.{refl}
 use Rattle.nj_text.specs.Units.{BadByte, BadEscape}
-use Rattle.nj_text.proofs.Bridges.{line_ends, no_line_end_badly, line_ends_at_end}
+use Rattle.nj_text.proofs.Bridges.{no_line_end_badly, line_ends_at_end}
 use Rattle.nj_text.proofs.signs.past_line_end.Goals as goal
 
 pub returns-in-BadByte : goal.returns-in-BadByte

@@ -1,4 +1,4 @@
-use Rattle.std.proofs.Common.{refl, sym, ap, ◌∙◌, take, drop}
+use Rattle.std.proofs.Common.{refl, sym, ap, ◌∙◌, drop}
 use Rattle.nj_text.specs.declared.sign.LineStart.TheVariants as start
 use Rattle.nj_text.specs.Units.{Ordinary, Escape, Reference, Join, BadByte, BadEscape}
 use Rattle.nj_text.specs.Scans.{units_within, along, on_next_line}

@@ -1,4 +1,4 @@
-use Rattle.std.proofs.Common.{refl, sym, ap, ◌∙◌}
+use Rattle.std.proofs.Common.{sym, ap, ◌∙◌}
 use Rattle.nj_text.specs.Scans.{begins_with_space_byte}
 use Rattle.nj_text.proofs.Passed.{no_space_behind}
 use Rattle.nj_text.proofs.LineStarts.{begun_behind_spaces}

@@ -1,6 +1,4 @@
 use Rattle.std.proofs.Common.{sym, ◌∙◌}
-use Rattle.std.proofs.lemmas.List.{nil_from_length}
-use Rattle.std.proofs.lemmas.Bool.{eqb-true}
 use Rattle.nj_text.proofs.LineStarts.{comment_opens, over_last_comment, over_comment_read, nil_if_empty, comment_spot}
 use Rattle.nj_text.proofs.starts.past_comment.Goals as goal
 

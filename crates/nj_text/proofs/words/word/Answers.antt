@@ -1,4 +1,4 @@
-use Rattle.std.proofs.Common.{sym, ap, subst, ◌∙◌, map}
+use Rattle.std.proofs.Common.{sym, subst, ◌∙◌, map}
 use Rattle.nj_text.specs.Calls.{word_at}
 use Rattle.nj_text.specs.Standing.{FailsStep}
 use Rattle.nj_text.specs.Words.{part_text}

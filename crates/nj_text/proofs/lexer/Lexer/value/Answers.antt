@@ -1,7 +1,6 @@
-use Rattle.std.proofs.Common.{◌≡◌, [], map, refl, sym, ap, ◌∙◌}
-use Rattle.nj_text.specs.Words.{part_text}
-use Rattle.nj_text.specs.Calls.{value_of, no_word, reply, Between, behind_blanks, value_at}
-use Rattle.nj_text.specs.Standing.{state_at, lines_from, line_at, lines_after}
+use Rattle.std.proofs.Common.{sym, ap, ◌∙◌}
+use Rattle.nj_text.specs.Calls.{value_of, behind_blanks, value_at}
+use Rattle.nj_text.specs.Standing.{state_at, line_at, lines_after}
 use Rattle.nj_text.proofs.Stands.{value_between, value_opening, value_inside, settled}
 use Rattle.nj_text.proofs.lexer.Lexer.value.Goals as goal
 

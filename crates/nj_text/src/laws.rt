@@ -1,0 +1,18 @@
+//! Laws of the cut of a text into units and lines.
+
+ghost use Rattle.nj_text.specs.Laws.{UnitsAreTheText, UnitsStandInPlace, LinesAreTheUnits};
+
+/// The units of a text, one after another, are the text.
+pub fn units_are_the_text()
+    ensures { UnitsAreTheText }
+{}
+
+/// Each unit stands at the line and the column that the bytes before it make.
+pub fn units_stand_in_place()
+    ensures { UnitsStandInPlace }
+{}
+
+/// The lines of a text, each with its end, are its units.
+pub fn lines_are_the_units()
+    ensures { LinesAreTheUnits }
+{}
