@@ -9,12 +9,14 @@ use Rattle.nj_text.specs.declared.sign.Sign.TheVariants as sign
 use Rattle.nj_text.specs.declared.word.Word.{Word}
 use Rattle.nj_text.specs.declared.word.Part.{Part}
 use Rattle.nj_text.specs.Units.{OpeningJoin, TextUnit, AtStart, Within, cut}
-use Rattle.nj_text.specs.Lines.{Line, before_first_line, with_units, line_spot}
-use Rattle.nj_text.specs.Words.{WordText, word_text, part_text, is_opening_meaning, behind_opening}
-use Rattle.nj_text.specs.Calls.{State, Between, Inside, Reply, reply, behind_blanks, value_at, value_of, sign_of, first_line_spot, AnswersOrWants, no_word}
+use Rattle.nj_text.specs.Lines.{Line, lines_of, before_first_line, with_units, line_spot}
+use Rattle.nj_text.specs.Words.{is_blank, WordText, word_text, part_text, is_opening_meaning, behind_opening}
+use Rattle.nj_text.specs.Calls.{State, Between, Inside, Reply, reply, behind_blanks, value_at, value_of, sign_of, first_line_spot, AnswersOrWants, no_word, skip_blanks_of}
+use Rattle.nj_text.specs.Bytes.{drop_while}
+use Rattle.nj_text.specs.Scans.{units_within}
 use Rattle.nj_text.specs.Standing.{first_line, other_lines, inside, lines_from, lines_within, StepsOrWants, FailsStep, Settles, SettlesFault}
 use Rattle.nj_text.proofs.LineStarts.{cut_has_line, IsUnsaid, unit_is_unsaid}
-use Rattle.nj_text.proofs.Bridges.{spot_of_line, of_first, first_of_line}
+use Rattle.nj_text.proofs.Bridges.{spot_of_line, of_first, first_of_line, passed_by, blanks_end}
 use Rattle.nj_text.proofs.Steps.{line, others}
 
 abbrev HasLine : List Line → Type 0
@@ -110,3 +112,8 @@ settled old new expected (Err f) result v e h = rw v (settled_fault old new expe
 
 pub value_between : (spot : Spot) (bytes : List ℕ) (parts : List Part) → parts ≡ [] → value_of (Between (lines_from spot bytes)) ≡ reply (record { spot = spot; parts = map part_text parts }) (Between (lines_from spot bytes))
 value_between spot bytes parts e = ap (λ p. reply (no_word p) (Between (lines_from spot bytes))) (spot_between spot bytes) ∙ ap (λ ps. reply (record { spot = spot; parts = map part_text ps }) (Between (lines_from spot bytes))) (sym e)
+
+-- ---- behind blanks
+
+pub blanks_skipped : (spot there : Spot) (bytes rest : List ℕ) → units_within there rest ≡ drop_while is_blank (units_within spot bytes) → inside (lines_within there rest) ≡ skip_blanks_of (inside (lines_within spot bytes))
+blanks_skipped spot there bytes rest e = ap (λ us. inside (lines_of us)) e ∙ passed_by is_blank blanks_end (units_within spot bytes)

@@ -78,6 +78,10 @@ start_line_of (Failed f) = failing f
 abbrev pub behind_blanks : Line → Line
 behind_blanks l = with_units (drop_while is_blank l.units) l
 
+abbrev pub skip_blanks_of : State → State
+skip_blanks_of (Inside l ls) = Inside (behind_blanks l) ls
+skip_blanks_of s = s
+
 -- the bytes of the units, as they stand
 abbrev pub bytes_of : List TextUnit → List ℕ
 bytes_of us = flat_map (λ u. u.bytes) us

@@ -3,9 +3,10 @@
 ghost use Rattle.std.specs.Prelude.{◌≡◌, List, ℕ};
 ghost use Rattle.std.specs.Option.{option_map};
 ghost use Rattle.nj_text.specs.Words.{word_text};
-ghost use Rattle.nj_text.specs.Calls.{Answers, AnswersOrWants, at_front, start_line_of, ident_of, sign_of, path_word_of, value_of, spot_of, Failed};
+ghost use Rattle.nj_text.specs.Calls.{Answers, AnswersOrWants, at_front, start_line_of, ident_of, sign_of, path_word_of, value_of, spot_of, skip_blanks_of, Failed};
 ghost use Rattle.nj_text.specs.Standing.{Settles};
 
+use crate::blanks::skip_blanks;
 use crate::cursor::Cursor;
 use crate::fault::LexFault;
 use crate::sign::{LineStart, Sign};
@@ -80,6 +81,18 @@ impl<'a> Lexer<'a> {
     {
         self.stand = Stand::Failed(fault);
         fault
+    }
+
+    /// Passes blanks, so that [`Lexer::spot`] gives the place of what stands behind them. Between lines nothing is passed.
+    pub fn skip_blanks(&mut self)
+        ensures { self.new ≡ skip_blanks_of self.old }
+    {
+        match self.stand {
+            Stand::Failed(_) => {}
+            Stand::Between => {}
+            Stand::Opening(_, _) => {}
+            Stand::Inside => self.cursor = skip_blanks(self.cursor),
+        }
     }
 
     /// Passes blanks, and takes the longest identifier; None where none stands there. Between lines nothing is passed.
