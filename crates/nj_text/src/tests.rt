@@ -137,7 +137,7 @@ fn lines_of_a_build_file(rt: HostRuntime) {
 }
 
 #[test]
-fn words_and_identifiers(rt: HostRuntime) {
+fn words_with_escapes(rt: HostRuntime) {
     let alloc = rt.alloc();
     follow(
         &rt,
@@ -156,6 +156,11 @@ fn words_and_identifiers(rt: HostRuntime) {
             END,
         ],
     );
+}
+
+#[test]
+fn joined_words(rt: HostRuntime) {
+    let alloc = rt.alloc();
     follow(
         &rt,
         alloc,
@@ -186,6 +191,11 @@ fn words_and_identifiers(rt: HostRuntime) {
             NO_WORD,
         ],
     );
+}
+
+#[test]
+fn references(rt: HostRuntime) {
+    let alloc = rt.alloc();
     follow(
         &rt,
         alloc,
@@ -201,6 +211,11 @@ fn words_and_identifiers(rt: HostRuntime) {
             word(1, 15, &[Bytes(b"$"), Bytes(b"#"), Bytes(b":")]),
         ],
     );
+}
+
+#[test]
+fn identifiers(rt: HostRuntime) {
+    let alloc = rt.alloc();
     follow(
         &rt,
         alloc,
@@ -317,7 +332,7 @@ fn signs(rt: HostRuntime) {
 }
 
 #[test]
-fn line_starts(rt: HostRuntime) {
+fn no_line_is_begun(rt: HostRuntime) {
     let alloc = rt.alloc();
     follow(
         &rt,
@@ -354,6 +369,11 @@ fn line_starts(rt: HostRuntime) {
             END,
         ],
     );
+}
+
+#[test]
+fn joins_at_a_line_start(rt: HostRuntime) {
+    let alloc = rt.alloc();
     follow(
         &rt,
         alloc,
@@ -396,6 +416,11 @@ fn line_starts(rt: HostRuntime) {
             at(4, 3),
         ],
     );
+}
+
+#[test]
+fn comments(rt: HostRuntime) {
+    let alloc = rt.alloc();
     follow(
         &rt,
         alloc,
@@ -433,6 +458,11 @@ fn line_starts(rt: HostRuntime) {
             word(2, 3, &[Bytes(b"b")]),
         ],
     );
+}
+
+#[test]
+fn last_line_of_spaces(rt: HostRuntime) {
+    let alloc = rt.alloc();
     follow(
         &rt,
         alloc,
@@ -450,7 +480,7 @@ fn line_starts(rt: HostRuntime) {
 }
 
 #[test]
-fn faults(rt: HostRuntime) {
+fn bad_escapes_in_a_value(rt: HostRuntime) {
     let alloc = rt.alloc();
     let fault = LexFault::BadEscape(spot(1, 5));
     follow(
@@ -478,6 +508,11 @@ fn faults(rt: HostRuntime) {
             Step::Stays(fault),
         ],
     );
+}
+
+#[test]
+fn bad_byte_in_a_value(rt: HostRuntime) {
+    let alloc = rt.alloc();
     let fault = LexFault::BadByte(spot(1, 8));
     follow(
         &rt,
@@ -491,6 +526,11 @@ fn faults(rt: HostRuntime) {
             Step::Stays(fault),
         ],
     );
+}
+
+#[test]
+fn tabs(rt: HostRuntime) {
+    let alloc = rt.alloc();
     let fault = LexFault::Tab(spot(2, 1));
     follow(
         &rt,
@@ -518,6 +558,11 @@ fn faults(rt: HostRuntime) {
             Step::Stays(fault),
         ],
     );
+}
+
+#[test]
+fn bad_escape_in_a_word(rt: HostRuntime) {
+    let alloc = rt.alloc();
     let fault = LexFault::BadEscape(spot(2, 4));
     follow(
         &rt,
@@ -531,6 +576,11 @@ fn faults(rt: HostRuntime) {
             Step::Stays(fault),
         ],
     );
+}
+
+#[test]
+fn bad_bytes(rt: HostRuntime) {
+    let alloc = rt.alloc();
     let fault = LexFault::BadByte(spot(1, 9));
     follow(
         &rt,
@@ -556,6 +606,11 @@ fn faults(rt: HostRuntime) {
             Step::Stays(fault),
         ],
     );
+}
+
+#[test]
+fn open_references(rt: HostRuntime) {
+    let alloc = rt.alloc();
     let fault = LexFault::BadEscape(spot(1, 3));
     follow(
         &rt,
