@@ -332,7 +332,7 @@ fn signs(rt: HostRuntime) {
 }
 
 #[test]
-fn no_line_is_begun(rt: HostRuntime) {
+fn line_starts(rt: HostRuntime) {
     let alloc = rt.alloc();
     follow(
         &rt,
@@ -369,11 +369,6 @@ fn no_line_is_begun(rt: HostRuntime) {
             END,
         ],
     );
-}
-
-#[test]
-fn joins_at_a_line_start(rt: HostRuntime) {
-    let alloc = rt.alloc();
     follow(
         &rt,
         alloc,
