@@ -1,13 +1,24 @@
-// A library with one function.
+//! A run of `ninja-explain`: from its words and the files of a build to what it writes.
 #![tactic(auto)]
 
-ghost use Rattle.std.specs.Prelude.{◌≡◌};
-ghost use Rattle.nj_cli.specs.Echo.{echo_of};
+mod commands;
+mod disk;
+mod explain;
+mod fault;
+mod files;
+mod graph;
+mod order;
+mod path;
+mod reading;
+mod run;
+mod sayings;
+mod status;
+mod told;
 
-// The `ensures` clause is the contract: what `echo` returns is `echo_of` of its argument, a definition
-// in `specs/Echo.antt`, which a caller's clause can cite too.
-pub fn echo(x: usize) -> usize
-    ensures { result ≡ echo_of x }
-{
-    x
-}
+pub use disk::DiskFiles;
+pub use nj_scope::{FileSource, FileTable, MemoryFiles, SourceFault};
+pub use nj_tools::{MemorySink, Sink, SinkFault, WriteSink};
+pub use order::order_law;
+pub use run::run_words;
+pub use status::Status;
+pub use told::{refuse_words, tell_out_of_memory};

@@ -1,0 +1,37 @@
+//! Tells the commands that Ninja would run.
+#![tactic(auto)]
+
+use nj_cli::{DiskFiles, Status, WriteSink, refuse_words, run_words, tell_out_of_memory};
+use std::env;
+use std::io;
+use std::io::ErrorKind;
+use std::process::ExitCode;
+
+fn main(rt: HostRuntime) -> ExitCode {
+    ExitCode::from(run(rt).code())
+}
+
+/// Runs the program with its arguments. Without any it reads the main file from standard input.
+fn run(rt: HostRuntime) -> Status {
+    let mut err = WriteSink::new(rt.stderr());
+    let words = match words(rt) {
+        Ok(words) => words,
+        Err(e) if e.kind() == ErrorKind::OutOfMemory => return tell_out_of_memory(&mut err),
+        Err(_) => return refuse_words(&mut err),
+    };
+    let stdin_for = if words.is_empty() {
+        Some("build.ninja")
+    } else {
+        None
+    };
+    let Ok(mut files) = DiskFiles::new(rt, rt.alloc(), stdin_for) else {
+        return tell_out_of_memory(&mut err);
+    };
+    let mut out = WriteSink::new(rt.stdout());
+    run_words(rt.alloc(), &mut files, &words, &mut out, &mut err)
+}
+
+/// The program's arguments, without its name. One that is no text makes it fail.
+fn words(rt: HostRuntime) -> io::Result<Vec<String>> {
+    Ok(env::args(&rt)?.skip(1).collect(rt.alloc())?)
+}

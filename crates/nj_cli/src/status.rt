@@ -1,0 +1,34 @@
+//! How a run ends.
+
+ghost use Rattle.std.specs.Prelude.{◌≡◌};
+ghost use Rattle.nj_cli.specs.Status.{exit_code};
+
+/// How a run ends.
+#[derive(Clone, Copy, Debug, PartialEq, Eq)]
+pub enum Status {
+    /// What was asked for was found and written.
+    Done,
+    /// It was not found, as the error output says.
+    Fault,
+    /// The words ask for nothing that the program does.
+    Usage,
+    /// The run was given up before its end.
+    Stopped,
+    /// The output could not be written.
+    OutputFailed,
+}
+
+impl Status {
+    /// The exit status of the process, from 0 to 4.
+    pub fn code(self) -> u8
+        ensures { result ≡ exit_code self }
+    {
+        match self {
+            Status::Done => 0,
+            Status::Fault => 1,
+            Status::Usage => 2,
+            Status::Stopped => 3,
+            Status::OutputFailed => 4,
+        }
+    }
+}
