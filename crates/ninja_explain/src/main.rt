@@ -2,10 +2,9 @@
 #![tactic(auto)]
 
 use nj_cli::{DiskFiles, Status, WriteSink, refuse_words, run_words, tell_out_of_memory};
-use std::env;
-use std::io;
 use std::io::ErrorKind;
 use std::process::ExitCode;
+use std::{env, io};
 
 fn main(rt: HostRuntime) -> ExitCode {
     ExitCode::from(run(rt).code())
