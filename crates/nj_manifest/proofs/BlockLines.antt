@@ -1,0 +1,274 @@
+-- The lines of a block, as the lexer comes to them.
+use Rattle.std.proofs.Common.{◌≡◌, ℕ, suc, ◌+◌, ◌<◌, ◌≤◌, Bool, true, false, cond, ◌&&◌, Result, Ok, Err, List, [], ◌∷◌, ◌++◌, refl, sym, ap, subst, ◌∙◌, append_assoc, arith}
+use Rattle.std.proofs.lemmas.List.{append-nil}
+use Rattle.std.specs.Result.{IsErr, IsErrAnd}
+use Rattle.nj_text.specs.declared.fault.LexFault.{LexFault}
+use Rattle.nj_text.specs.declared.fault.LexFault.TheVariants as lex
+use Rattle.nj_text.specs.declared.sign.LineStart.{LineStart}
+use Rattle.nj_text.specs.declared.sign.LineStart.TheVariants as start
+use Rattle.nj_text.specs.Bytes.{drop_while}
+use Rattle.nj_text.specs.Units.{TextUnit}
+use Rattle.nj_text.specs.Lines.{Line, with_units, lines_behind, Kind, CommentLine, TabLine, BlankLine, IndentedLine, PlainLine, kind_of, is_space_unit, kind_behind_spaces, begins_with_space}
+use Rattle.nj_text.specs.Calls as calls
+use Rattle.nj_text.specs.Calls.{State, Between, Inside, Failed, Answers, start_line_of, begun, begun_by, is_comment, is_empty, without_comments}
+use Rattle.nj_manifest.specs.declared.block.Keys.{Keys}
+use Rattle.nj_manifest.specs.declared.fault.ParseFault.{ParseFault}
+use Rattle.nj_manifest.specs.declared.fault.ParseFault.TheVariants as fault
+use Rattle.nj_manifest.specs.Faults.{Fault, Bad}
+use Rattle.nj_manifest.specs.Steps.{Step, ◌>>=◌, Fails}
+use Rattle.nj_manifest.specs.Statements.{LineText, line_next, lines_from, Reading, or_last, no_lines, without_spaces, block_by, block}
+use Rattle.nj_manifest.specs.Held.{Stands, ReadsFrom}
+use Rattle.nj_manifest.proofs.Framing.{line-inside}
+
+-- ---- how many lines are left
+
+-- the last line counts only as long as it has units
+abbrev pub line_weight : Line → ℕ
+line_weight l = cond (l.is_last && is_empty l.units) 0 1
+
+abbrev pub lines_weight : List Line → ℕ
+lines_weight [] = 0
+lines_weight (l ∷ ls) = line_weight l + lines_weight ls
+
+abbrev pub lines_left : State → ℕ
+lines_left (Between ls) = lines_weight ls
+lines_left (Inside l ls) = 0
+lines_left (Failed f) = 0
+
+weight-behind : (l : Line) (ls : List Line) → lines_weight (lines_behind l ls) ≡ lines_weight ls
+weight-behind l ls = by_last l.is_last refl
+  where
+    by_last : (t : Bool) → l.is_last ≡ t → lines_weight (cond t (with_units [] l ∷ ls) ls) ≡ lines_weight ls
+    by_last true e = rw e (omega arith)
+    by_last false e = refl
+
+-- ---- the start of a line
+
+-- The lexer stands at the first line of the block that is left.
+abbrev pub BeginsLine : Keys → ℕ → Reading (List LineText) → State → Type 0
+BeginsLine allowed limit whole s =
+    (l : Line) × (ls : List Line) × (s ≡ Inside (without_spaces l) ls) × (whole ≡ block_by allowed IndentedLine l ls (block allowed ls)) × (lines_weight ls < limit)
+
+-- What the start of a line says of the block, and where the lexer stands then. The limit is the weight of the lines
+-- that were left.
+abbrev pub Begins : Keys → (limit : ℕ) → Reading (List LineText) → Result LineStart LexFault → State → Type 0
+Begins allowed limit whole (Ok start.Indented) s = BeginsLine allowed limit whole s
+Begins allowed limit whole (Ok start.Middle) s = ⊥
+Begins allowed limit whole (Ok other) s = (whole ≡ no_lines (lines_from s)) × Stands s
+Begins allowed limit whole (Err f) s = whole ≡ Err (Bad f)
+
+abbrev BeginsAs : Keys → ℕ → Reading (List LineText) → calls.Reply LineStart → Type 0
+BeginsAs allowed limit whole r = Begins allowed limit whole r.answer r.after
+
+behind-last : (l : Line) (ls : List Line) → l.is_last ≡ true → lines_behind l ls ≡ with_units [] l ∷ ls
+behind-last l ls h = ap (λ t. cond t (with_units [] l ∷ ls) ls) h
+
+-- an empty end of the text stays as it is
+same-end : (l : Line) (ls : List Line) → (l.is_last && is_empty l.units) ≡ true → lines_behind l ls ≡ l ∷ ls
+same-end l ls h = by_units l.is_last l.units refl refl h
+  where
+    by_units : (t : Bool) (us : List TextUnit) → l.is_last ≡ t → l.units ≡ us → (t && is_empty us) ≡ true → lines_behind l ls ≡ l ∷ ls
+    by_units true [] e u h = behind-last l ls e ∙ ap (λ (us : List TextUnit). with_units us l ∷ ls) (sym u)
+    by_units true (u ∷ us) e v h = absurd cc
+    by_units false us e u h = absurd cc
+
+blank_is_indented : BlankLine ≡ IndentedLine → ⊥
+blank_is_indented h = absurd cc
+
+-- an indented line has units
+indented-weight : (l : Line) → kind_of l ≡ IndentedLine → line_weight l ≡ 1
+indented-weight l h = by_units l.is_last l.units h
+  where
+    by_units : (t : Bool) (us : List TextUnit) → kind_behind_spaces (drop_while is_space_unit us) (begins_with_space us) ≡ IndentedLine → cond (t && is_empty us) 0 1 ≡ suc 0
+    by_units t [] h = absurd (blank_is_indented h)
+    by_units true (u ∷ us) h = refl
+    by_units false (u ∷ us) h = refl
+
+begun-kind : (allowed : Keys) (limit : ℕ) (k : Kind) (l : Line) (ls : List Line) → kind_of l ≡ k → is_comment k ≡ false → lines_weight (l ∷ ls) ≤ limit
+    → BeginsAs allowed limit (block_by allowed k l ls (block allowed ls)) (begun_by k l ls)
+begun-kind allowed limit CommentLine l ls e h g = absurd cc
+begun-kind allowed limit (TabLine tab) l ls e h g = refl
+begun-kind allowed limit BlankLine l ls e h g = by_end (l.is_last && is_empty l.units) refl
+  where
+    by_end : (t : Bool) → (l.is_last && is_empty l.units) ≡ t → BeginsAs allowed limit (no_lines (lines_behind l ls)) (cond t (calls.reply start.End (Between (l ∷ ls))) (calls.reply start.Blank (Between (lines_behind l ls))))
+    by_end true e = (ap no_lines (same-end l ls e), tt)
+    by_end false e = (refl, tt)
+begun-kind allowed limit IndentedLine l ls e h g = let w = indented-weight l e in (l, ls, refl, refl, omega arith)
+begun-kind allowed limit PlainLine l ls e h g = (refl, e)
+
+-- a comment says nothing
+block-comment : (allowed : Keys) (k : Kind) (l : Line) (ls : List Line) (others : Reading (List LineText)) → is_comment k ≡ true → block_by allowed k l ls others ≡ or_last l (no_lines (lines_behind l (without_comments ls))) others
+block-comment allowed CommentLine l ls others h = refl
+block-comment allowed (TabLine tab) l ls others h = absurd cc
+block-comment allowed BlankLine l ls others h = absurd cc
+block-comment allowed IndentedLine l ls others h = absurd cc
+block-comment allowed PlainLine l ls others h = absurd cc
+
+begun-begins : (allowed : Keys) (limit : ℕ) (ls : List Line) → lines_weight ls ≤ limit → BeginsAs allowed limit (block allowed ls) (begun (without_comments ls))
+unfolding block
+begun-begins allowed limit [] h = (refl, tt)
+begun-begins allowed limit (l ∷ ls) h = by_comment (is_comment (kind_of l)) refl (begun-begins allowed limit ls (omega arith))
+  where
+    by_last : (t : Bool) → l.is_last ≡ t → BeginsAs allowed limit (block allowed ls) (begun (without_comments ls))
+        → BeginsAs allowed limit (cond t (no_lines (cond t (with_units [] l ∷ without_comments ls) (without_comments ls))) (block allowed ls)) (begun (cond t (with_units [] l ∷ without_comments ls) (without_comments ls)))
+    by_last true e rest = rw e (refl, tt)
+    by_last false e rest = rest
+
+    by_comment : (t : Bool) → is_comment (kind_of l) ≡ t → BeginsAs allowed limit (block allowed ls) (begun (without_comments ls))
+        → BeginsAs allowed limit (block_by allowed (kind_of l) l ls (block allowed ls)) (begun (cond t (lines_behind l (without_comments ls)) (l ∷ ls)))
+    by_comment false e rest = begun-kind allowed limit (kind_of l) l ls refl e h
+    by_comment true e rest =
+        subst (λ (whole : Reading (List LineText)). BeginsAs allowed limit whole (begun (lines_behind l (without_comments ls)))) (sym (block-comment allowed (kind_of l) l ls (block allowed ls) e)) (by_last l.is_last refl rest)
+
+-- what the lexer answers at the start of a line
+start-begins : (allowed : Keys) (ls : List Line) (answer : Result LineStart LexFault) (s : State) → Answers (λ start. start) answer s (start_line_of (Between ls)) → Begins allowed (lines_weight ls) (block allowed ls) answer s
+start-begins allowed ls (Ok x) s h =
+    subst (λ a. Begins allowed (lines_weight ls) (block allowed ls) a s) h.0 (subst (Begins allowed (lines_weight ls) (block allowed ls) (begun (without_comments ls)).answer) (sym h.1) (begun-begins allowed (lines_weight ls) ls (omega arith)))
+start-begins allowed ls (Err f) s h =
+    subst (λ a. Begins allowed (lines_weight ls) (block allowed ls) a s) h.0 (subst (Begins allowed (lines_weight ls) (block allowed ls) (begun (without_comments ls)).answer) (sym h.1) (begun-begins allowed (lines_weight ls) ls (omega arith)))
+
+-- behind a line stands the block that follows it
+block-behind : (allowed : Keys) (l : Line) (ls : List Line) → block allowed (lines_behind l ls) ≡ or_last l (no_lines (lines_behind l ls)) (block allowed ls)
+unfolding block
+block-behind allowed l ls = by_last l.is_last refl
+  where
+    by_last : (t : Bool) → l.is_last ≡ t → block allowed (cond t (with_units [] l ∷ ls) ls) ≡ cond t (no_lines (cond t (with_units [] l ∷ ls) ls)) (block allowed ls)
+    by_last true e = rw e refl
+    by_last false e = refl
+
+-- ---- the turns of the loop
+
+-- what is read before is put in front
+abbrev pub in_front : List LineText → Reading (List LineText) → Reading (List LineText)
+in_front front others = others >>= λ o. Ok (front ++ o.0, o.1)
+
+-- What was read in front of what is still to be read is the whole.
+abbrev pub StillReads : Keys → (front : List LineText) → (before now : State) → Type 0
+StillReads allowed front (Between ls) now = (ms : List Line) × (now ≡ Between ms) × (in_front front (block allowed ms) ≡ block allowed ls)
+StillReads allowed front other now = Unit {0}
+
+pub still-begins : (allowed : Keys) (before : State) → StillReads allowed [] before before
+still-begins allowed (Between ls) = (ls, refl, nothing-in_front (block allowed ls))
+  where
+    nothing-in_front : (others : Reading (List LineText)) → in_front [] others ≡ others
+    nothing-in_front (Ok o) = refl
+    nothing-in_front (Err f) = refl
+still-begins allowed (Inside l ls) = tt
+still-begins allowed (Failed f) = tt
+
+-- the start of a line, as it is answered
+abbrev pub Started : LineStart → (before after : State) → Type 0
+Started start before after = Answers {X = LineStart} (λ s. s) (Ok start) after (start_line_of before)
+
+-- An indented line stands behind the start of a line only.
+started-indented : (allowed : Keys) (s middle : State) → Started start.Indented s middle → (ms : List Line) × (s ≡ Between ms) × BeginsLine allowed (lines_weight ms) (block allowed ms) middle
+started-indented allowed (Between ms) middle h = (ms, refl, start-begins allowed ms (Ok start.Indented) middle h)
+started-indented allowed (Inside l ls) middle h = absurd (middle_is_indented h.0)
+  where
+    middle_is_indented : ◌≡◌ {A = Result LineStart LexFault} (Ok start.Middle) (Ok start.Indented) → ⊥
+    middle_is_indented e = absurd cc
+started-indented allowed (Failed f) middle h = absurd (fault_is_start h.0)
+  where
+    fault_is_start : ◌≡◌ {A = Result LineStart LexFault} (Err f) (Ok start.Indented) → ⊥
+    fault_is_start e = absurd cc
+
+-- where a line that was read leaves the lexer
+line-behind : (allowed : Keys) (l : Line) (ls : List Line) (middle : State) (line : LineText) (after : State) → middle ≡ Inside (without_spaces l) ls → line_next allowed middle ≡ Ok (line, after) → after ≡ Between (lines_behind l ls)
+line-behind allowed l ls middle line after i h = line-inside allowed (without_spaces l) ls line after (ap (line_next allowed) (sym i) ∙ h)
+
+-- Behind a line fewer lines are left.
+pub lines_left-line : (allowed : Keys) (s middle : State) (line : LineText) (after : State) → Started start.Indented s middle → line_next allowed middle ≡ Ok (line, after) → lines_left after < lines_left s
+lines_left-line allowed s middle line after h e =
+    let b = started-indented allowed s middle h in
+    let here : lines_left s ≡ lines_weight b.0 = ap lines_left b.1 in
+    let there : lines_left after ≡ lines_weight (lines_behind b.2.0 b.2.1) = ap lines_left (line-behind allowed b.2.0 b.2.1 middle line after b.2.2 e) in
+    let fewer : lines_weight b.2.1 < lines_weight b.0 = b.2.4 in
+    let behind = weight-behind b.2.0 b.2.1 in
+    omega arith
+
+in_front-more : (front : List LineText) (line : LineText) (after : State) (l : Line) (last others : Reading (List LineText)) (x : Step LineText) → x ≡ Ok (line, after)
+    → in_front front (x >>= λ line. (or_last l last others >>= λ more. Ok (line.0 ∷ more.0, more.1))) ≡ in_front (front ++ line ∷ []) (or_last l last others)
+in_front-more front line after l last others x h = rw h (with_more (or_last l last others))
+  where
+    with_more : (more : Reading (List LineText)) → in_front front (more >>= λ more. Ok (line ∷ more.0, more.1)) ≡ in_front (front ++ line ∷ []) more
+    with_more (Err f) = refl
+    with_more (Ok o) = ap (λ (x : List LineText). Ok (x, o.1)) (sym (append_assoc front (line ∷ []) o.0))
+
+-- the block behind a line
+behind-turn : (allowed : Keys) (front : List LineText) (l : Line) (ms : List Line) (middle : State) (line : LineText) (after : State) (left whole : Reading (List LineText)) → middle ≡ Inside (without_spaces l) ms
+    → left ≡ block_by allowed IndentedLine l ms (block allowed ms) → in_front front left ≡ whole → line_next allowed middle ≡ Ok (line, after) → in_front (front ++ line ∷ []) (block allowed (lines_behind l ms)) ≡ whole
+behind-turn allowed front l ms middle line after left whole i b w e =
+    let more = in_front-more front line after l (no_lines (lines_behind l ms)) (block allowed ms) (line_next allowed (Inside (without_spaces l) ms)) (ap (line_next allowed) (sym i) ∙ e) in
+    ap (in_front (front ++ line ∷ [])) (block-behind allowed l ms) ∙ sym more ∙ sym (ap (in_front front) b) ∙ w
+
+pub block-turn : (allowed : Keys) (front : List LineText) (before s middle : State) (line : LineText) (after : State) → StillReads allowed front before s → Started start.Indented s middle → line_next allowed middle ≡ Ok (line, after)
+    → StillReads allowed (front ++ line ∷ []) before after
+block-turn allowed front (Between ls) s middle line after still h e =
+    let b = start-begins allowed still.0 (Ok start.Indented) middle (rw still.1 at h) in
+    (lines_behind b.0 b.1, line-behind allowed b.0 b.1 middle line after b.2 e, behind-turn allowed front b.0 b.1 middle line after (block allowed still.0) (block allowed ls) b.2 b.3 still.2 e)
+block-turn allowed front (Inside l ls) s middle line after still h e = tt
+block-turn allowed front (Failed f) s middle line after still h e = tt
+
+-- a line of another kind ends the block
+ends-block : (allowed : Keys) (limit : ℕ) (whole : Reading (List LineText)) (x : LineStart) (s : State) → (x ≡ start.Indented → ⊥) → Begins allowed limit whole (Ok x) s → (whole ≡ no_lines (lines_from s)) × Stands s
+ends-block allowed limit whole start.Indented s other h = absurd (other refl)
+ends-block allowed limit whole start.Middle s other h = absurd h
+ends-block allowed limit whole start.End s other h = h
+ends-block allowed limit whole start.Blank s other h = h
+ends-block allowed limit whole start.Plain s other h = h
+
+pub block-end : {X : Type 0} (view : X → List LineText) (allowed : Keys) (before s after : State) (x : LineStart) (lines : X) → StillReads allowed (view lines) before s → (x ≡ start.Indented → ⊥) → Started x s after
+    → ReadsFrom view before after (block allowed) (Ok lines)
+block-end view allowed (Between ls) s after x lines still other h =
+    let e = ends-block allowed (lines_weight still.0) (block allowed still.0) x after other (start-begins allowed still.0 (Ok x) after (rw still.1 at h)) in
+    (sym still.2 ∙ ap (in_front (view lines)) e.0 ∙ ap (λ (front : List LineText). Ok (front, lines_from after)) (append-nil (view lines)), e.1)
+block-end view allowed (Inside l ls) s after x lines still other h = tt
+block-end view allowed (Failed f) s after x lines still other h = tt
+
+-- what fails of a step fails of the whole
+fails-so : {A B : Type 0} (f : ParseFault) (x : Result A Fault) (y : Result B Fault) → ((e : Fault) → x ≡ Err e → y ≡ Err e) → Fails f x → Fails f y
+fails-so (fault.Lex lex.OutOfMemory) x y so h = tt
+fails-so (fault.Lex (lex.BadByte spot)) x y so h = so _ h
+fails-so (fault.Lex (lex.Tab spot)) x y so h = so _ h
+fails-so (fault.Lex (lex.BadEscape spot)) x y so h = so _ h
+fails-so (fault.Expected spot want) x y so h = so _ h
+fails-so (fault.UnexpectedIndent spot) x y so h = so _ h
+fails-so (fault.MissingCommand spot) x y so h = so _ h
+fails-so (fault.RspPair spot) x y so h = so _ h
+fails-so (fault.UnknownKey spot key) x y so h = so _ h
+fails-so (fault.MissingDepth spot) x y so h = so _ h
+
+fails-lex : {A : Type 0} (f : LexFault) (x : Result A Fault) → x ≡ Err (Bad f) → Fails (fault.Lex f) x
+fails-lex lex.OutOfMemory x h = tt
+fails-lex (lex.BadByte spot) x h = h
+fails-lex (lex.Tab spot) x h = h
+fails-lex (lex.BadEscape spot) x h = h
+
+-- a whole that fails, as it is answered
+abbrev pub FailsFrom : State → (List Line → Reading (List LineText)) → ParseFault → Type 0
+FailsFrom (Between ls) reading f = Fails f (reading ls)
+FailsFrom other reading f = Unit {0}
+
+pub fails-from : {X : Type 0} (view : X → List LineText) (before after : State) (reading : List Line → Reading (List LineText)) (r : Result X ParseFault) (f : ParseFault) → IsErr r × IsErrAnd r (λ e. e ≡ f) → FailsFrom before reading f
+    → ReadsFrom view before after reading r
+fails-from view before after reading (Ok x) f h so = absurd cc
+fails-from view (Between ls) after reading (Err e) f h so = rw h.1 so
+fails-from view (Inside l ls) after reading (Err e) f h so = tt
+fails-from view (Failed g) after reading (Err e) f h so = tt
+
+pub block-start-fails : (allowed : Keys) (front : List LineText) (before s after : State) (f : LexFault) → StillReads allowed front before s → Answers {X = LineStart} (λ s. s) (Err f) after (start_line_of s) → FailsFrom before (block allowed) (fault.Lex f)
+block-start-fails allowed front (Between ls) s after f still h =
+    let e = start-begins allowed still.0 (Err f) after (rw still.1 at h) in
+    fails-lex f (block allowed ls) (sym still.2 ∙ ap (in_front front) e)
+block-start-fails allowed front (Inside l ls) s after f still h = tt
+block-start-fails allowed front (Failed g) s after f still h = tt
+
+pub block-line-fails : (allowed : Keys) (front : List LineText) (before s middle : State) (f : ParseFault) → StillReads allowed front before s → Started start.Indented s middle → Fails f (line_next allowed middle) → FailsFrom before (block allowed) f
+block-line-fails allowed front (Between ls) s middle f still h fails =
+    let b = start-begins allowed still.0 (Ok start.Indented) middle (rw still.1 at h) in
+    fails-so f (line_next allowed middle) (block allowed ls) (λ e failed. sym still.2 ∙ ap (in_front front) b.3 ∙ failed-line b.0 b.1 e (ap (line_next allowed) (sym b.2) ∙ failed)) fails
+  where
+    failed-line : (l : Line) (ms : List Line) (e : Fault) → line_next allowed (Inside (without_spaces l) ms) ≡ Err e → in_front front (block_by allowed IndentedLine l ms (block allowed ms)) ≡ Err e
+    failed-line l ms e failed = rw failed refl
+block-line-fails allowed front (Inside l ls) s middle f still h fails = tt
+block-line-fails allowed front (Failed g) s middle f still h fails = tt

@@ -1,0 +1,142 @@
+-- Worked rows, computed on the definitions: texts that begin with no statement.
+use Rattle.std.proofs.Common.{◌≡◌, ℕ, Err, List, refl}
+use Rattle.std.specs.Prelude.{codes}
+use Rattle.nj_text.specs.declared.fault.LexFault.TheVariants as lex
+use Rattle.nj_manifest.specs.declared.fault.Wanted.TheVariants as wanted
+use Rattle.nj_manifest.specs.Faults.{Fault, Bad, Expected, UnexpectedIndent, MissingCommand, RspPair, UnknownKey, MissingDepth}
+use Rattle.nj_manifest.proofs.StatementRows.{on_texts, first_of, at}
+
+abbrev refuses : List ℕ → Fault → Type 0
+refuses text fault = first_of text ≡ Err fault
+
+-- ---- bad units
+
+bad_escape : refuses (codes "x = $!") (Bad (lex.BadEscape (at 1 5)))
+unfolding on_texts
+bad_escape = refl
+
+last_dollar : refuses (codes "x = $") (Bad (lex.BadEscape (at 1 5)))
+unfolding on_texts
+last_dollar = refl
+
+tab_in_block : refuses (codes "rule r\n\tcommand = x") (Bad (lex.Tab (at 2 1)))
+unfolding on_texts
+tab_in_block = refl
+
+-- before what is wanted there
+bad_word : refuses (codes "build a$! b") (Bad (lex.BadEscape (at 1 8)))
+unfolding on_texts
+bad_word = refl
+
+-- ---- names
+
+no_name : refuses (codes "= x") (Expected (at 1 1) wanted.Statement)
+unfolding on_texts
+no_name = refl
+
+rule_alone : refuses (codes "rule") (Expected (at 1 5) wanted.RuleName)
+unfolding on_texts
+rule_alone = refl
+
+pool_alone : refuses (codes "pool") (Expected (at 1 5) wanted.PoolName)
+unfolding on_texts
+pool_alone = refl
+
+no_command_name : refuses (codes "build d: ") (Expected (at 1 10) wanted.CommandName)
+unfolding on_texts
+no_command_name = refl
+
+no_variable_name : refuses (codes "rule r\n  = x") (Expected (at 2 3) wanted.VariableName)
+unfolding on_texts
+no_variable_name = refl
+
+-- ---- words
+
+build_alone : refuses (codes "build") (Expected (at 1 6) wanted.Path)
+unfolding on_texts
+build_alone = refl
+
+no_output : refuses (codes "build : r") (Expected (at 1 7) wanted.Path)
+unfolding on_texts
+no_output = refl
+
+-- outputs have no validations
+validation_alone : refuses (codes "build |@b: c") (Expected (at 1 7) wanted.Path)
+unfolding on_texts
+validation_alone = refl
+
+include_alone : refuses (codes "include") (Expected (at 1 8) wanted.Path)
+unfolding on_texts
+include_alone = refl
+
+default_alone : refuses (codes "default") (Expected (at 1 8) wanted.TargetName)
+unfolding on_texts
+default_alone = refl
+
+-- ---- signs
+
+no_colon : refuses (codes "build a") (Expected (at 1 8) wanted.Colon)
+unfolding on_texts
+no_colon = refl
+
+output_validation : refuses (codes "build a |@b: c") (Expected (at 1 9) wanted.Colon)
+unfolding on_texts
+output_validation = refl
+
+no_equals : refuses (codes "x") (Expected (at 1 2) wanted.Equals)
+unfolding on_texts
+no_equals = refl
+
+no_equals_in_block : refuses (codes "rule r\n  command") (Expected (at 2 10) wanted.Equals)
+unfolding on_texts
+no_equals_in_block = refl
+
+-- the sections stand in their order
+turned_sections : refuses (codes "build a: r || b | c") (Expected (at 1 17) wanted.Newline)
+unfolding on_texts
+turned_sections = refl
+
+colon_in_default : refuses (codes "default a : b") (Expected (at 1 11) wanted.Newline)
+unfolding on_texts
+colon_in_default = refl
+
+-- ---- blocks
+
+no_block : refuses (codes "  x = 1") (UnexpectedIndent (at 1 1))
+unfolding on_texts
+no_block = refl
+
+unknown_key : refuses (codes "rule r\n  foo = 1") (UnknownKey (at 2 3) (codes "foo"))
+unfolding on_texts
+unknown_key = refl
+
+joined_key : refuses (codes "rule r\n  $\n  foo = 1") (UnknownKey (at 3 3) (codes "foo"))
+unfolding on_texts
+joined_key = refl
+
+-- the key is looked at before what follows it
+unknown_key_alone : refuses (codes "rule r\n  foo") (UnknownKey (at 2 3) (codes "foo"))
+unfolding on_texts
+unknown_key_alone = refl
+
+no_command : refuses (codes "rule r") (MissingCommand (at 1 1))
+unfolding on_texts
+no_command = refl
+
+-- a blank line ends a block
+command_behind_block : refuses (codes "rule r\n\n  command = x") (MissingCommand (at 1 1))
+unfolding on_texts
+command_behind_block = refl
+
+-- the last line of a key counts
+emptied_command : refuses (codes "rule r\n  command = x\n  command =") (MissingCommand (at 1 1))
+unfolding on_texts
+emptied_command = refl
+
+half_rsp_pair : refuses (codes "rule r\n  command = x\n  rspfile = y") (RspPair (at 1 1))
+unfolding on_texts
+half_rsp_pair = refl
+
+no_depth : refuses (codes "pool p") (MissingDepth (at 1 1))
+unfolding on_texts
+no_depth = refl

@@ -1,0 +1,54 @@
+-- The statement that begins where the lexer stands, by its first line and its block.
+use Rattle.std.proofs.Common.{◌≡◌, Some, option_map, Result, Ok, Err, List, refl, subst, ◌∙◌}
+use Rattle.nj_text.specs.declared.spot.Spot.{Spot}
+use Rattle.nj_text.specs.Lines.{Line, line_spot, lines_behind}
+use Rattle.nj_text.specs.Calls.{State, Between, Inside, Failed, spot_of}
+use Rattle.nj_manifest.specs.declared.fault.ParseFault.{ParseFault}
+use Rattle.nj_manifest.specs.declared.fault.ParseFault.TheVariants as fault
+use Rattle.nj_manifest.specs.declared.statement.Statement.{Statement}
+use Rattle.nj_text.specs.declared.fault.LexFault.TheVariants as lex
+use Rattle.nj_manifest.specs.Faults.{Fault}
+use Rattle.nj_manifest.specs.Steps.{Fails, ◌>>=◌}
+use Rattle.nj_manifest.specs.Statements.{HeadText, lines_from, head_next, with_block, statement_at}
+use Rattle.nj_manifest.specs.Held.{ReadsFrom, ReadsAt, statement_text, placed_text}
+use Rattle.nj_manifest.proofs.Framing.{head-inside}
+
+-- the first line, and then the statement with its block
+at-head : (l : Line) (ls : List Line) (h : HeadText) (after : State) → head_next (Inside l ls) ≡ Ok (h, after)
+    → statement_at l ls ≡ (with_block (line_spot l) h (lines_from after) >>= λ item. Ok (Some (record { spot = line_spot l; item = item.0 }), item.1))
+unfolding statement_at
+at-head l ls h after e = rw e refl
+
+fails-on : {A B : Type 0} (f : ParseFault) (x : Result A Fault) (k : A → Result B Fault) → Fails f x → Fails f (x >>= k)
+fails-on (fault.Lex lex.OutOfMemory) x k h = tt
+fails-on (fault.Lex (lex.BadByte s)) x k h = rw h refl
+fails-on (fault.Lex (lex.Tab s)) x k h = rw h refl
+fails-on (fault.Lex (lex.BadEscape s)) x k h = rw h refl
+fails-on (fault.Expected s w) x k h = rw h refl
+fails-on (fault.UnexpectedIndent s) x k h = rw h refl
+fails-on (fault.MissingCommand s) x k h = rw h refl
+fails-on (fault.RspPair s) x k h = rw h refl
+fails-on (fault.UnknownKey s key) x k h = rw h refl
+fails-on (fault.MissingDepth s) x k h = rw h refl
+
+pub here-ok : (before middle after : State) (h : HeadText) (spot : Spot) (item : Statement) → spot ≡ spot_of before → head_next before ≡ Ok (h, middle)
+    → ReadsFrom statement_text middle after (with_block spot h) (Ok item) → ReadsAt (option_map placed_text) before after statement_at (Ok (Some (record { spot = spot; item = item })))
+here-ok (Between ls) middle after h spot item s e r = tt
+here-ok (Failed f) middle after h spot item s e r = tt
+here-ok (Inside l ls) middle after h spot item s e r =
+    let i = head-inside l ls h middle e in
+    let r' = subst (λ m. ReadsFrom statement_text m after (with_block spot h) (Ok item)) i r in
+    let e' = subst (λ m. head_next (Inside l ls) ≡ Ok (h, m)) i e in
+    let w = subst (λ p. with_block p h (lines_behind l ls) ≡ Ok (statement_text item, lines_from after)) s r'.0 in
+    (at-head l ls h (Between (lines_behind l ls)) e' ∙ rw (w, s) refl, r'.1)
+
+pub here-fails : (before middle after : State) (h : HeadText) (spot : Spot) (f : ParseFault) → spot ≡ spot_of before → head_next before ≡ Ok (h, middle)
+    → ReadsFrom statement_text middle after (with_block spot h) (Err f) → ReadsAt (option_map placed_text) before after statement_at (Err f)
+here-fails (Between ls) middle after h spot f s e r = tt
+here-fails (Failed g) middle after h spot f s e r = tt
+here-fails (Inside l ls) middle after h spot f s e r =
+    let i = head-inside l ls h middle e in
+    let r' = subst (λ m. ReadsFrom statement_text m after (with_block spot h) (Err f)) i r in
+    let e' = subst (λ m. head_next (Inside l ls) ≡ Ok (h, m)) i e in
+    let w = subst (λ p. Fails f (with_block p h (lines_behind l ls))) s r' in
+    rw (at-head l ls h (Between (lines_behind l ls)) e') (fails-on f (with_block (line_spot l) h (lines_behind l ls)) (λ item. Ok (Some (record { spot = line_spot l; item = item.0 }), item.1)) w)

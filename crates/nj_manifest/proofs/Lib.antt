@@ -1,0 +1,10 @@
+pub mod BlockLines
+pub mod CallsTaken
+pub mod FaultRows
+pub mod Framing
+pub mod GivenKeys
+pub mod Heres
+pub mod Nexts
+pub mod Starts
+pub mod StatementRows
+pub mod WordLimits

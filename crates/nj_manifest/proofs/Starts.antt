@@ -1,0 +1,167 @@
+-- The next statement of lines, by what the lexer answers at their start.
+use Rattle.std.proofs.Common.{◌≡◌, ℕ, suc, ◌<◌, ◌≤◌, Bool, true, false, cond, ◌&&◌, Option, Result, Ok, Err, List, [], ◌∷◌, refl, sym, ap, subst, arith}
+use Rattle.nj_text.specs.declared.fault.LexFault.{LexFault}
+use Rattle.nj_text.specs.declared.sign.LineStart.{LineStart}
+use Rattle.nj_text.specs.declared.sign.LineStart.TheVariants as start
+use Rattle.nj_text.specs.declared.spot.Spot.{Spot}
+use Rattle.nj_text.specs.Units.{TextUnit}
+use Rattle.nj_text.specs.Lines.{Line, with_units, lines_behind, Kind, CommentLine, TabLine, BlankLine, IndentedLine, PlainLine, kind_of}
+use Rattle.nj_text.specs.Calls as calls
+use Rattle.nj_text.specs.Calls.{State, Between, Inside, Failed, Answers, start_line_of, begun, begun_by, is_comment, is_empty, without_comments, spot_of}
+use Rattle.nj_manifest.specs.Faults.{Bad, UnexpectedIndent}
+use Rattle.nj_manifest.specs.Statements.{PlacedText, Reading, lines_from, or_last, nothing_more, statement_at, next_by, next_statement}
+use Rattle.nj_manifest.specs.Held.{Stands}
+
+abbrev Next : Type 0
+Next = Reading (Option PlacedText)
+
+abbrev pub front_at : Spot → Spot
+front_at spot = record { line = spot.line; column = 1 }
+
+-- The lexer stands at the first unit of a line with which a statement begins.
+abbrev pub BeginsHere : Next → State → Type 0
+BeginsHere next s = (l : Line) × (ls : List Line) × (s ≡ Inside l ls) × (kind_of l ≡ PlainLine) × (next ≡ statement_at l ls)
+
+-- what the start of a line tells of the next statement
+abbrev pub Begins : Next → Result LineStart LexFault → State → Type 0
+Begins next (Ok start.End) s = (next ≡ nothing_more (lines_from s)) × (ls : List Line) × (s ≡ Between ls)
+Begins next (Ok start.Blank) s = (ls : List Line) × (s ≡ Between ls) × (next ≡ next_statement ls)
+Begins next (Ok start.Indented) s = next ≡ Err (UnexpectedIndent (front_at (spot_of s)))
+Begins next (Ok start.Plain) s = BeginsHere next s
+Begins next (Ok start.Middle) s = BeginsHere next s
+Begins next (Err f) s = next ≡ Err (Bad f)
+
+-- a last line without units is blank, and nothing comes behind it
+next-empty : (l : Line) (ls : List Line) → l.is_last ≡ true → next_statement (with_units [] l ∷ ls) ≡ nothing_more (with_units [] l ∷ ls)
+unfolding next_statement
+next-empty l ls e = rw e refl
+
+no-units : (us : List TextUnit) → is_empty us ≡ true → us ≡ []
+no-units [] h = refl
+no-units (u ∷ us) h = absurd cc
+
+without-units : (l : Line) → is_empty l.units ≡ true → with_units [] l ≡ l
+without-units l h = ap (λ (us : List TextUnit). with_units us l) (sym (no-units l.units h))
+
+abbrev BeginsBlank : Line → List Line → (last empty : Bool) → Type 0
+BeginsBlank l ls last empty =
+    let r = cond (last && empty) (calls.reply start.End (Between (l ∷ ls))) (calls.reply start.Blank (Between (cond last (with_units [] l ∷ ls) ls))) in
+    Begins (cond last (nothing_more (cond last (with_units [] l ∷ ls) ls)) (next_statement ls)) r.answer r.after
+
+begun-blank : (l : Line) (ls : List Line) (last empty : Bool) → l.is_last ≡ last → is_empty l.units ≡ empty → BeginsBlank l ls last empty
+begun-blank l ls false empty e h = (ls, refl, refl)
+begun-blank l ls true true e h = (ap (λ (m : Line). nothing_more (m ∷ ls)) (without-units l h), l ∷ ls, refl)
+begun-blank l ls true false e h = (with_units [] l ∷ ls, refl, sym (next-empty l ls e))
+
+begun-kind : (k : Kind) (l : Line) (ls : List Line) → kind_of l ≡ k → is_comment k ≡ false → Begins (next_by k l ls (next_statement ls)) (begun_by k l ls).answer (begun_by k l ls).after
+begun-kind CommentLine l ls e h = absurd cc
+begun-kind (TabLine tab) l ls e h = refl
+begun-kind BlankLine l ls e h = begun-blank l ls l.is_last (is_empty l.units) refl refl
+begun-kind IndentedLine l ls e h = refl
+begun-kind PlainLine l ls e h = (l, ls, refl, e, refl)
+
+abbrev BeginsAt : Next → List Line → Type 0
+BeginsAt next ls = Begins next (begun ls).answer (begun ls).after
+
+next-comment : (k : Kind) (l : Line) (ls : List Line) (others : Next) → is_comment k ≡ true → next_by k l ls others ≡ or_last l (nothing_more (lines_behind l (without_comments ls))) others
+next-comment CommentLine l ls others h = refl
+next-comment (TabLine tab) l ls others h = absurd cc
+next-comment BlankLine l ls others h = absurd cc
+next-comment IndentedLine l ls others h = absurd cc
+next-comment PlainLine l ls others h = absurd cc
+
+begun-next : (ls : List Line) → BeginsAt (next_statement ls) (without_comments ls)
+unfolding next_statement
+begun-next [] = (refl, [], refl)
+begun-next (l ∷ ls) = by_comment (is_comment (kind_of l)) refl (begun-next ls)
+  where
+    by_last : (t : Bool) → l.is_last ≡ t → BeginsAt (next_statement ls) (without_comments ls)
+        → BeginsAt (cond t (nothing_more (cond t (with_units [] l ∷ without_comments ls) (without_comments ls))) (next_statement ls)) (cond t (with_units [] l ∷ without_comments ls) (without_comments ls))
+    by_last true e rest = rw e (refl, _, refl)
+    by_last false e rest = rest
+
+    by_comment : (t : Bool) → is_comment (kind_of l) ≡ t → BeginsAt (next_statement ls) (without_comments ls) → BeginsAt (next_by (kind_of l) l ls (next_statement ls)) (cond t (lines_behind l (without_comments ls)) (l ∷ ls))
+    by_comment false e rest = begun-kind (kind_of l) l ls refl e
+    by_comment true e rest = rw (next-comment (kind_of l) l ls (next_statement ls) e) (by_last l.is_last refl rest)
+
+-- what the lexer answers at the start of a line
+start-begins : (ls : List Line) (answer : Result LineStart LexFault) (s : State) → Answers (λ start. start) answer s (start_line_of (Between ls)) → Begins (next_statement ls) answer s
+start-begins ls (Ok x) s h = subst (λ a. Begins (next_statement ls) a s) h.0 (subst (Begins (next_statement ls) (begun (without_comments ls)).answer) (sym h.1) (begun-next ls))
+start-begins ls (Err f) s h = subst (λ a. Begins (next_statement ls) a s) h.0 (subst (Begins (next_statement ls) (begun (without_comments ls)).answer) (sym h.1) (begun-next ls))
+
+-- The line that was begun is a plain one.
+middle-begins : (l : Line) (ls : List Line) (answer : Result LineStart LexFault) (s : State) → kind_of l ≡ PlainLine → Answers (λ start. start) answer s (start_line_of (Inside l ls)) → Begins (next_statement (l ∷ ls)) answer s
+unfolding next_statement
+middle-begins l ls (Ok x) s e h =
+    let here : next_by (kind_of l) l ls (next_statement ls) ≡ statement_at l ls = rw e refl in
+    let begun : BeginsHere (next_by (kind_of l) l ls (next_statement ls)) (Inside l ls) = (l, ls, refl, e, here) in
+    subst (λ a. Begins (next_by (kind_of l) l ls (next_statement ls)) a s) h.0 (subst (BeginsHere (next_by (kind_of l) l ls (next_statement ls))) (sym h.1) begun)
+middle-begins l ls (Err f) s e h = absurd cc
+
+pub begins : (before after : State) (answer : Result LineStart LexFault) → Stands before → Answers (λ start. start) answer after (start_line_of before) → Begins (next_statement (lines_from before)) answer after
+begins (Between ls) after answer stands h = start-begins ls answer after h
+begins (Inside l ls) after answer stands h = middle-begins l ls answer after stands h
+begins (Failed f) after answer stands h = absurd stands
+
+-- ---- a measure of the lines that are left
+
+abbrev pub ahead : List Line → ℕ
+ahead [] = 0
+ahead (l ∷ ls) = cond l.is_last (cond (is_empty l.units) 0 1) (suc (ahead ls))
+
+abbrev pub lines_ahead : State → ℕ
+lines_ahead (Between ls) = ahead ls
+lines_ahead (Inside l ls) = 0
+lines_ahead (Failed f) = 0
+
+ahead-behind : (l : Line) (ls : List Line) → (l.is_last && is_empty l.units) ≡ false → ahead (lines_behind l ls) < ahead (l ∷ ls)
+ahead-behind l ls h = by_last l.is_last (is_empty l.units) refl h
+  where
+    by_last : (last empty : Bool) → l.is_last ≡ last → (last && empty) ≡ false → ahead (cond last (with_units [] l ∷ ls) ls) < cond last (cond empty 0 1) (suc (ahead ls))
+    by_last true true e g = absurd cc
+    by_last true false e g = rw e (omega arith)
+    by_last false empty e g = omega arith
+
+ahead-comments : (ls : List Line) → ahead (without_comments ls) ≤ ahead ls
+ahead-comments [] = omega arith
+ahead-comments (l ∷ ls) = by_comment (is_comment (kind_of l)) (ahead-comments ls)
+  where
+    by_last : (last : Bool) → l.is_last ≡ last → ahead (without_comments ls) ≤ ahead ls → ahead (cond last (with_units [] l ∷ without_comments ls) (without_comments ls)) ≤ cond last (cond (is_empty l.units) 0 1) (suc (ahead ls))
+    by_last true e h = rw e (omega arith)
+    by_last false e h = omega arith
+
+    by_comment : (t : Bool) → ahead (without_comments ls) ≤ ahead ls → ahead (cond t (lines_behind l (without_comments ls)) (l ∷ ls)) ≤ ahead (l ∷ ls)
+    by_comment false h = omega arith
+    by_comment true h = by_last l.is_last refl h
+
+-- the lines behind a blank one
+blank-kind : (k : Kind) (l : Line) (ls : List Line) (after : State) → (begun_by k l ls).answer ≡ Ok start.Blank → after ≡ (begun_by k l ls).after → lines_ahead after < ahead (l ∷ ls)
+blank-kind CommentLine l ls after a s = absurd cc
+blank-kind (TabLine tab) l ls after a s = absurd cc
+blank-kind IndentedLine l ls after a s = absurd cc
+blank-kind PlainLine l ls after a s = absurd cc
+blank-kind BlankLine l ls after a s = by_end (l.is_last && is_empty l.units) refl a s
+  where
+    by_end : (t : Bool) → (l.is_last && is_empty l.units) ≡ t → (cond t (calls.reply start.End (Between (l ∷ ls))) (calls.reply start.Blank (Between (lines_behind l ls)))).answer ≡ Ok start.Blank
+        → after ≡ (cond t (calls.reply start.End (Between (l ∷ ls))) (calls.reply start.Blank (Between (lines_behind l ls)))).after → lines_ahead after < ahead (l ∷ ls)
+    by_end true e b g = absurd cc
+    by_end false e b g = rw g (ahead-behind l ls e)
+
+blank-begun : (ls : List Line) (after : State) → (begun ls).answer ≡ Ok start.Blank → after ≡ (begun ls).after → lines_ahead after < ahead ls
+blank-begun [] after a s = absurd cc
+blank-begun (l ∷ ls) after a s = blank-kind (kind_of l) l ls after a s
+
+-- Behind a blank line there are fewer.
+pub blank-falls : (before after : State) → Answers (λ start. start) (Ok start.Blank) after (start_line_of before) → lines_ahead after < lines_ahead before
+blank-falls (Between ls) after h =
+    let within = blank-begun (without_comments ls) after h.0 h.1 in
+    let comments = ahead-comments ls in
+    omega (arith, within, comments)
+blank-falls (Inside l ls) after h = absurd cc
+blank-falls (Failed f) after h = absurd cc
+
+pub begins-as : (before after : State) (got want : LineStart) → got ≡ want → Stands before → Answers (λ start. start) (Ok got) after (start_line_of before) → Begins (next_statement (lines_from before)) (Ok want) after
+begins-as before after got want e stands h = subst (λ x. Begins (next_statement (lines_from before)) (Ok x) after) e (begins before after (Ok got) stands h)
+
+pub blank-falls-as : (before after : State) (got : LineStart) → got ≡ start.Blank → Answers (λ start. start) (Ok got) after (start_line_of before) → lines_ahead after < lines_ahead before
+blank-falls-as before after got e h = blank-falls before after (subst (λ x. Answers (λ start. start) (Ok x) after (start_line_of before)) e h)

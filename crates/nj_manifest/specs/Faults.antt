@@ -1,0 +1,43 @@
+-- Why a text is no list of statements.
+use Rattle.std.specs.Prelude.{ℕ, List, codes}
+use Rattle.nj_text.specs.declared.fault.LexFault.{LexFault}
+use Rattle.nj_text.specs.declared.spot.Spot.{Spot}
+use Rattle.nj_manifest.specs.declared.fault.Wanted.{Wanted}
+use Rattle.nj_manifest.specs.declared.fault.Wanted.TheVariants as wanted
+use Rattle.nj_manifest.specs.declared.fault.ParseFault.{ParseFault}
+use Rattle.nj_manifest.specs.declared.fault.ParseFault.TheVariants as fault
+
+-- a fault with its place and names
+pub data Fault : Type 0 where
+  -- a bad unit
+  Bad : (unit : LexFault) → Fault
+  -- something else stands where this is wanted
+  Expected : (spot : Spot) (wanted : Wanted) → Fault
+  -- an indented line outside of blocks
+  UnexpectedIndent : (spot : Spot) → Fault
+  MissingCommand : (spot : Spot) → Fault
+  RspPair : (spot : Spot) → Fault
+  UnknownKey : (spot : Spot) (key : List ℕ) → Fault
+  MissingDepth : (spot : Spot) → Fault
+
+abbrev pub fault_text : ParseFault → Fault
+fault_text (fault.Lex f) = Bad f
+fault_text (fault.Expected spot wanted) = Expected spot wanted
+fault_text (fault.UnexpectedIndent spot) = UnexpectedIndent spot
+fault_text (fault.MissingCommand spot) = MissingCommand spot
+fault_text (fault.RspPair spot) = RspPair spot
+fault_text (fault.UnknownKey spot key) = UnknownKey spot key.now
+fault_text (fault.MissingDepth spot) = MissingDepth spot
+
+-- the text of what is wanted
+abbrev pub wanted_text : Wanted → List ℕ
+wanted_text wanted.Statement = codes "statement"
+wanted_text wanted.RuleName = codes "rule name"
+wanted_text wanted.PoolName = codes "pool name"
+wanted_text wanted.Path = codes "path"
+wanted_text wanted.Colon = codes "':'"
+wanted_text wanted.CommandName = codes "build command name"
+wanted_text wanted.TargetName = codes "target name"
+wanted_text wanted.VariableName = codes "variable name"
+wanted_text wanted.Equals = codes "'='"
+wanted_text wanted.Newline = codes "newline"

@@ -1,0 +1,4 @@
+pub mod Faults
+pub mod Held
+pub mod Statements
+pub mod Steps

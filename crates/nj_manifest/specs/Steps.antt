@@ -1,0 +1,108 @@
+-- Reading on within a line, call by call of the lexer.
+use Rattle.std.specs.Prelude.{◌≡◌, ℕ, zero, suc, Bool, true, false, Option, Some, None, Result, Ok, Err, List, [], ◌∷◌, length}
+use Rattle.nj_text.specs.declared.fault.LexFault.{LexFault}
+use Rattle.nj_text.specs.declared.fault.LexFault.TheVariants as lex
+use Rattle.nj_text.specs.declared.sign.Sign.{Sign}
+use Rattle.nj_text.specs.declared.spot.Spot.{Spot}
+use Rattle.nj_text.specs.Words.{WordText}
+use Rattle.nj_text.specs.Calls.{State, Between, Inside, Failed, Reply, skip_blanks_of, ident_of, sign_of, path_word_of, spot_of}
+use Rattle.nj_manifest.specs.declared.fault.Wanted.{Wanted}
+use Rattle.nj_manifest.specs.declared.fault.ParseFault.{ParseFault}
+use Rattle.nj_manifest.specs.declared.fault.ParseFault.TheVariants as fault
+use Rattle.nj_manifest.specs.declared.steps.Name.{Name}
+use Rattle.nj_manifest.specs.Faults.{Fault, Bad, Expected, fault_text}
+
+-- what is read, and the lexer behind it; or the fault at which no statement goes on
+abbrev pub Step : Type 0 → Type 0
+Step A = Result (A × State) Fault
+
+infixl 10 ◌>>=◌
+abbrev pub ◌>>=◌ : {A B : Type 0} → Result A Fault → (A → Result B Fault) → Result B Fault
+(Ok x) >>= f = f x
+(Err e) >>= f = Err e
+
+abbrev pub answered : {A : Type 0} → Result A LexFault → State → Step A
+answered (Ok x) after = Ok (x, after)
+answered (Err f) after = Err (Bad f)
+
+-- a call of the lexer
+abbrev pub called : {A : Type 0} → Reply A → Step A
+called r = answered r.answer r.after
+
+-- a name and the place of its first byte
+pub record NameText : Type 0 where
+  pub spot : Spot
+  pub name : List ℕ
+
+abbrev pub named : Wanted → Spot → Option (List ℕ) → State → Step NameText
+named wanted spot (Some name) after = Ok (record { spot = spot; name = name }, after)
+named wanted spot None after = Err (Expected spot wanted)
+
+-- an identifier, which is wanted under this name
+unfoldable pub name_next : Wanted → State → Step NameText
+name_next wanted s = do
+  name ← called (ident_of (skip_blanks_of s))
+  named wanted (spot_of (skip_blanks_of s)) name.0 name.1
+
+abbrev pub if_there : Wanted → Bool → State → Result State Fault
+if_there wanted true after = Ok after
+if_there wanted false after = Err (Expected (spot_of after) wanted)
+
+-- the lexer behind a sign that has to stand there
+unfoldable pub behind : Sign → Wanted → State → Result State Fault
+behind want wanted s = do
+  there ← called (sign_of want s)
+  if_there wanted there.0 there.1
+
+-- a word before those that follow it; none ends them
+abbrev pub words_from : Option WordText → State → Step (List WordText) → Step (List WordText)
+words_from None after others = Ok ([], after)
+words_from (Some word) after others = do
+  more ← others
+  Ok (word ∷ more.0, more.1)
+
+-- the words from here on, where the limit is above their number
+unfoldable pub words_within : (limit : ℕ) → State → Step (List WordText)
+words_within zero s = Ok ([], s)
+words_within (suc limit) s = do
+  word ← called (path_word_of s)
+  words_from word.0 word.1 (words_within limit word.1)
+
+-- Each word has a unit at least.
+abbrev pub units_left : State → ℕ
+units_left (Between ls) = 0
+units_left (Inside l ls) = length l.units
+units_left (Failed f) = 0
+
+-- the words from here on, up to what is none
+unfoldable pub words_next : State → Step (List WordText)
+words_next s = words_within (suc (units_left s)) s
+
+abbrev pub words_if : Bool → State → Step (List WordText)
+words_if true after = words_next after
+words_if false after = Ok ([], after)
+
+-- the words of a section that begins with this sign, and none where the sign is not there
+unfoldable pub section_next : Sign → State → Step (List WordText)
+section_next want s = do
+  there ← called (sign_of want s)
+  words_if there.0 there.1
+
+-- ---- what a function of the program gives
+
+abbrev pub Fails : {Y : Type 0} → ParseFault → Result Y Fault → Type 0
+Fails (fault.Lex lex.OutOfMemory) expected = Unit {0}
+Fails f expected = expected ≡ Err (fault_text f)
+
+-- It reads what is expected, seen by view, and leaves the lexer there; or answers the fault; or wants memory.
+abbrev pub Reads : {X Y : Type 0} → (X → Y) → Result X ParseFault → (after : State) → Step Y → Type 0
+Reads view (Ok x) after expected = expected ≡ Ok (view x, after)
+Reads view (Err f) after expected = Fails f expected
+
+-- the same of what only leads on
+abbrev pub LeadsTo : Result (Unit {0}) ParseFault → (after : State) → Result State Fault → Type 0
+LeadsTo (Ok done) after expected = expected ≡ Ok after
+LeadsTo (Err f) after expected = Fails f expected
+
+abbrev pub name_text : Name → NameText
+name_text n = record { spot = n.spot; name = n.name.now }

@@ -1,0 +1,144 @@
+//! The lines of a block.
+
+ghost use Rattle.std.specs.Prelude.{◌≡◌, map};
+ghost use Rattle.nj_text.specs.Words.{word_text};
+ghost use Rattle.nj_manifest.specs.Steps.{Reads};
+ghost use Rattle.nj_manifest.specs.Statements.{allows, equals_value, line_next, block, names, gives, whole_rule, whole_pool};
+ghost use Rattle.nj_manifest.specs.Held.{line_text, lines_text, ReadsFrom, Wholes};
+
+use crate::fault::{ParseFault, Wanted};
+use crate::statement::Line;
+use crate::steps::{behind, name_next};
+use nj_text::{Lexer, LineStart, Sign, Spot, Word};
+use std::alloc::Global;
+
+/// Which keys the lines of a block may have.
+#[derive(Clone, Copy, Debug, PartialEq, Eq)]
+pub enum Keys {
+    /// The eleven keys of a rule.
+    OfRule,
+    /// `depth`
+    OfPool,
+    /// Every identifier.
+    All,
+}
+
+/// Whether a line may have this key.
+fn allows(allowed: Keys, key: &[u8]) -> bool
+    ensures { result ≡ allows allowed key.now }
+{
+    match allowed {
+        Keys::OfRule => is_rule_key(key),
+        Keys::OfPool => key == b"depth".as_slice(),
+        Keys::All => true,
+    }
+}
+
+/// Whether it is one of the eleven keys of a rule.
+fn is_rule_key(key: &[u8]) -> bool
+    ensures { result ≡ allows Keys.OfRule key.now }
+{
+    key == b"command".as_slice()
+        || key == b"depfile".as_slice()
+        || key == b"deps".as_slice()
+        || key == b"msvc_deps_prefix".as_slice()
+        || key == b"description".as_slice()
+        || key == b"dyndep".as_slice()
+        || key == b"generator".as_slice()
+        || key == b"pool".as_slice()
+        || key == b"restat".as_slice()
+        || key == b"rspfile".as_slice()
+        || key == b"rspfile_content".as_slice()
+}
+
+/// `= VALUE`, to the end of the line.
+#[tactic(auto, unfolding(crate::specs::Statements::equals_value))]
+pub fn equals_value<'a>(alloc: Global, lexer: &mut Lexer<'a>) -> Result<Word<'a>, ParseFault<'a>>
+    ensures { Reads word_text result lexer.new (equals_value lexer.old) }
+{
+    behind(lexer, Sign::Equals, Wanted::Equals)?;
+    let value = lexer.value(alloc)?;
+    behind(lexer, Sign::LineEnd, Wanted::Newline)?;
+    Ok(value)
+}
+
+/// A line of a block, behind its leading spaces.
+#[tactic(auto, unfolding(crate::specs::Statements::line_next))]
+fn line_next<'a>(
+    alloc: Global,
+    lexer: &mut Lexer<'a>,
+    allowed: Keys,
+) -> Result<Line<'a>, ParseFault<'a>>
+    ensures { Reads line_text result lexer.new (line_next allowed lexer.old) }
+{
+    let key = name_next(lexer, Wanted::VariableName)?;
+    if !allows(allowed, key.name) {
+        return Err(ParseFault::UnknownKey(key.spot, key.name));
+    }
+    let value = equals_value(alloc, lexer)?;
+    Ok(Line {
+        spot: key.spot,
+        name: key.name,
+        value,
+    })
+}
+
+/// The lines of a block, from the start of a line on.
+pub fn block<'a>(
+    alloc: Global,
+    lexer: &mut Lexer<'a>,
+    allowed: Keys,
+) -> Result<Vec<Line<'a>>, ParseFault<'a>>
+    ensures { ReadsFrom (λ lines. lines_text lines.items) lexer.old lexer.new (block allowed) result }
+{
+    let mut lines = Vec::new(alloc);
+    'lines: while let LineStart::Indented = lexer.start_line()? {
+        lines.push(line_next(alloc, lexer, allowed)?)?;
+    }
+    Ok(lines)
+}
+
+/// Whether the last line of this key has a value with a part at least.
+fn gives(lines: &[Line], key: &[u8]) -> bool
+    ensures { result ≡ gives key.now (lines_text lines.now) }
+{
+    let mut given = false;
+    'lines: for line in lines {
+        if line.name == key {
+            given = !line.value.parts.as_slice().is_empty();
+        }
+    }
+    given
+}
+
+/// Whether a line has this key.
+fn names(lines: &[Line], key: &[u8]) -> bool
+    ensures { result ≡ names key.now (lines_text lines.now) }
+{
+    lines.iter().any(|line| line.name == key)
+}
+
+/// The lines of a rule: it needs its command, and of the two keys of a response file both or none.
+#[tactic(auto, unfolding(crate::specs::Statements::whole_rule))]
+pub fn whole_rule<'a>(spot: Spot, lines: &[Line<'a>]) -> Result<(), ParseFault<'a>>
+    ensures { Wholes (lines_text lines.now) (whole_rule spot (lines_text lines.now)) result }
+{
+    if gives(lines, b"rspfile") != gives(lines, b"rspfile_content") {
+        return Err(ParseFault::RspPair(spot));
+    }
+    if !gives(lines, b"command") {
+        return Err(ParseFault::MissingCommand(spot));
+    }
+    Ok(())
+}
+
+/// The lines of a pool: it needs its depth.
+#[tactic(auto, unfolding(crate::specs::Statements::whole_pool))]
+pub fn whole_pool<'a>(spot: Spot, lines: &[Line<'a>]) -> Result<(), ParseFault<'a>>
+    ensures { Wholes (lines_text lines.now) (whole_pool spot (lines_text lines.now)) result }
+{
+    if !names(lines, b"depth") {
+        return Err(ParseFault::MissingDepth(spot));
+    }
+    Ok(())
+}

@@ -1,0 +1,98 @@
+//! Why a text is no list of statements.
+
+ghost use Rattle.std.specs.Prelude.{◌≡◌};
+ghost use Rattle.nj_manifest.specs.Faults.{wanted_text};
+ghost use Rattle.nj_text.specs.declared.fault.LexFault.TheVariants.{OutOfMemory};
+ghost use Rattle.nj_manifest.specs.declared.fault.ParseFault.TheVariants.{Lex};
+
+use nj_text::{LexFault, Spot};
+use std::alloc::{AllocError, AllocFailed};
+
+/// What would have to stand at a place, in the words of the fault's text.
+#[derive(Clone, Copy, Debug, PartialEq, Eq)]
+pub enum Wanted {
+    /// A statement's first identifier, at a line's start.
+    Statement,
+    /// The name behind `rule`.
+    RuleName,
+    /// The name behind `pool`.
+    PoolName,
+    /// An output behind `build`, or the file behind `include` or `subninja`.
+    Path,
+    /// The `:` behind the outputs.
+    Colon,
+    /// The rule's name behind the `:`.
+    CommandName,
+    /// A target behind `default`.
+    TargetName,
+    /// The identifier of a block line.
+    VariableName,
+    /// The `=` behind the identifier of a binding or a block line.
+    Equals,
+    /// The end of the line.
+    Newline,
+}
+
+impl Wanted {
+    /// The fixed text of what is wanted.
+    pub fn text(self) -> &'static str
+        ensures { result.now ≡ wanted_text self }
+    {
+        match self {
+            Wanted::Statement => "statement",
+            Wanted::RuleName => "rule name",
+            Wanted::PoolName => "pool name",
+            Wanted::Path => "path",
+            Wanted::Colon => "':'",
+            Wanted::CommandName => "build command name",
+            Wanted::TargetName => "target name",
+            Wanted::VariableName => "variable name",
+            Wanted::Equals => "'='",
+            Wanted::Newline => "newline",
+        }
+    }
+}
+
+/// Why a text could not be read on as statements. Places are of the unit at which no statement goes on, unless another
+/// is named.
+#[derive(Clone, Copy, Debug, PartialEq, Eq)]
+pub enum ParseFault<'a> {
+    /// A bad unit, or want of memory.
+    Lex(LexFault),
+    /// Something else stands where this is wanted.
+    Expected(Spot, Wanted),
+    /// An indented line that belongs to no block; the place is column 1 of that line.
+    UnexpectedIndent(Spot),
+    /// A rule without `command`; the place is that of the statement.
+    MissingCommand(Spot),
+    /// A rule with only one of `rspfile` and `rspfile_content`; the place is that of the statement.
+    RspPair(Spot),
+    /// A key that the block may not have, at its place.
+    UnknownKey(Spot, &'a [u8]),
+    /// A pool without `depth`; the place is that of the statement.
+    MissingDepth(Spot),
+}
+
+impl From<LexFault> for ParseFault<'_> {
+    ghost from_gives = { λ f e. e ≡ Lex f };
+
+    fn from(fault: LexFault) -> Self {
+        ParseFault::Lex(fault)
+    }
+}
+
+impl From<AllocError> for ParseFault<'_> {
+    ghost from_gives = { λ _ e. e ≡ Lex OutOfMemory };
+
+    fn from(_e: AllocError) -> Self {
+        ParseFault::Lex(LexFault::OutOfMemory)
+    }
+}
+
+impl<T: Drop> From<AllocFailed<T>> for ParseFault<'_> {
+    ghost from_gives = { λ _ e. e ≡ Lex OutOfMemory };
+
+    fn from(_e: AllocFailed<T>) -> Self {
+        ParseFault::Lex(LexFault::OutOfMemory)
+    }
+}

@@ -1,0 +1,20 @@
+//! The statements of a Ninja file: rules, pools, build statements, defaults, includes and bindings.
+//!
+//! A [`Parser`] reads a text from its front, one statement with its block at a time, and copies none of it.
+#![tactic(auto)]
+
+mod block;
+mod fault;
+mod heads;
+mod next;
+mod parser;
+mod statement;
+mod steps;
+
+pub use fault::{ParseFault, Wanted};
+pub use nj_text::{LexFault, Part, Spot, Word};
+pub use parser::Parser;
+pub use statement::{Line, Placed, Statement};
+
+#[cfg(test)]
+mod tests;

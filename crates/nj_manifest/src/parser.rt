@@ -1,0 +1,65 @@
+//! A parser of a Ninja file.
+
+ghost use Rattle.std.specs.Prelude.{◌≡◌, true};
+ghost use Rattle.nj_manifest.specs.Statements.{Lines};
+ghost use Rattle.nj_manifest.specs.Held.{stands_unless, IsNext};
+ghost use Rattle.nj_text.specs.Lines.{text_lines};
+
+use crate::fault::ParseFault;
+use crate::next::next_statement;
+use crate::statement::{Placed, Statement};
+use nj_text::Lexer;
+use std::alloc::Global;
+use std::marker::Model;
+
+/// Reads the statements of a Ninja file, one after the other ("Ninja file reference" in the Ninja manual).
+///
+/// It holds the text's slice and no part of it twice; a statement holds slices of the text.
+#[derive(Drop)]
+pub struct Parser<'a> {
+    lexer: Lexer<'a>,
+    refused: Option<ParseFault<'a>>,
+    ghost stands: { stands_unless refused lexer ≡ true },
+}
+
+impl<'a> Model for Parser<'a> {
+    ghost use Rattle.nj_manifest.specs.Statements.{Left};
+
+    ghost Value = { Left };
+
+    ghost use Rattle.nj_manifest.specs.Held.{left_of};
+
+    ghost view = { λ parser. left_of parser.refused parser.lexer };
+}
+
+impl<'a> Parser<'a> {
+    /// A parser at the front of the text.
+    pub fn new(text: &'a [u8]) -> Parser<'a>
+        ensures { result ≡ Lines (text_lines text.now) }
+    {
+        Parser {
+            lexer: Lexer::new(text),
+            refused: None,
+        }
+    }
+
+    /// The next statement with its block, at the place of its first byte; none at the end of the text. A fault is
+    /// answered again by every later call, and so is want of memory.
+    pub fn next_statement(
+        &mut self,
+        alloc: Global,
+    ) -> Result<Option<Placed<Statement<'a>>>, ParseFault<'a>>
+        ensures { IsNext self.old self.new result }
+    {
+        if let Some(fault) = self.refused {
+            return Err(fault);
+        }
+        match next_statement(alloc, &mut self.lexer) {
+            Ok(found) => Ok(found),
+            Err(fault) => {
+                self.refused = Some(fault);
+                Err(fault)
+            }
+        }
+    }
+}

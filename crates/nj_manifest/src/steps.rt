@@ -1,0 +1,66 @@
+//! Reading on within a line.
+
+ghost use Rattle.std.specs.Prelude.{◌≡◌, map};
+ghost use Rattle.nj_text.specs.Words.{word_text};
+ghost use Rattle.nj_manifest.specs.Steps.{Reads, LeadsTo, name_text, name_next, behind, words_next, section_next};
+
+use crate::fault::{ParseFault, Wanted};
+use nj_text::{Lexer, Sign, Spot, Word};
+use std::alloc::Global;
+
+/// A name and the place of its first byte.
+#[derive(Clone, Copy)]
+pub struct Name<'a> {
+    pub spot: Spot,
+    pub name: &'a [u8],
+}
+
+/// An identifier.
+#[tactic(auto, unfolding(crate::specs::Steps::name_next))]
+pub fn name_next<'a>(lexer: &mut Lexer<'a>, wanted: Wanted) -> Result<Name<'a>, ParseFault<'a>>
+    ensures { Reads name_text result lexer.new (name_next wanted lexer.old) }
+{
+    lexer.skip_blanks();
+    let spot = lexer.spot();
+    match lexer.ident()? {
+        Some(name) => Ok(Name { spot, name }),
+        None => Err(ParseFault::Expected(spot, wanted)),
+    }
+}
+
+/// Passes a sign that has to stand there.
+#[tactic(auto, unfolding(crate::specs::Steps::behind))]
+pub fn behind<'a>(lexer: &mut Lexer<'a>, want: Sign, wanted: Wanted) -> Result<(), ParseFault<'a>>
+    ensures { LeadsTo result lexer.new (behind want wanted lexer.old) }
+{
+    if lexer.sign(want)? {
+        return Ok(());
+    }
+    Err(ParseFault::Expected(lexer.spot(), wanted))
+}
+
+/// The words from here on, up to what is none.
+pub fn words_next<'a>(alloc: Global, lexer: &mut Lexer<'a>) -> Result<Vec<Word<'a>>, ParseFault<'a>>
+    ensures { Reads (λ words. map word_text words.items) result lexer.new (words_next lexer.old) }
+{
+    let mut words = Vec::new(alloc);
+    'words: while let Some(word) = lexer.path_word(alloc)? {
+        words.push(word)?;
+    }
+    Ok(words)
+}
+
+/// The words of a section that begins with this sign, and none where the sign is not there.
+#[tactic(auto, unfolding(crate::specs::Steps::section_next))]
+pub fn section_next<'a>(
+    alloc: Global,
+    lexer: &mut Lexer<'a>,
+    want: Sign,
+) -> Result<Vec<Word<'a>>, ParseFault<'a>>
+    ensures { Reads (λ words. map word_text words.items) result lexer.new (section_next want lexer.old) }
+{
+    if lexer.sign(want)? {
+        return words_next(alloc, lexer);
+    }
+    Ok(Vec::new(alloc))
+}
