@@ -1,6 +1,6 @@
 //! The files of the working folder.
 
-ghost use Rattle.std.specs.Prelude.{◌≡◌, ◌+◌, ◌<◌, ◌≤◌, option_copied, vec_len, length, take, drop, IfOk, OnOk};
+ghost use Rattle.std.specs.Prelude.{◌≡◌, ◌+◌, ◌<◌, ◌≤◌, ◌↔◌, Some, option_copied, vec_len, length, take, drop, IfOk, OnOk, IsTrue};
 ghost use Rattle.std.specs.Io.{StartsWith, appended_bytes};
 ghost use Rattle.std.specs.Io.KnownBytes.{Consumes, IsAtEnd};
 
@@ -67,7 +67,10 @@ impl<R: Files + Input + Drop> DiskFiles<R> {
         }
     }
 
-    fn is_input(&self, path: &str) -> bool {
+    // Whether it is the name that stands for standard input.
+    fn is_input(&self, path: &str) -> bool
+        ensures { IsTrue result ↔ (self.now.input_name ≡ Some path.now) }
+    {
         match &self.input_name {
             Some(name) => name.as_str() == path,
             None => false,

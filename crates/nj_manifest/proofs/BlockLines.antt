@@ -128,7 +128,7 @@ start-begins allowed ls (Err f) s h =
     subst (λ a. Begins allowed (lines_weight ls) (block allowed ls) a s) h.0 (subst (Begins allowed (lines_weight ls) (block allowed ls) (begun (without_comments ls)).answer) (sym h.1) (begun-begins allowed (lines_weight ls) ls (omega arith)))
 
 -- behind a line stands the block that follows it
-block-behind : (allowed : Keys) (l : Line) (ls : List Line) → block allowed (lines_behind l ls) ≡ or_last l (no_lines (lines_behind l ls)) (block allowed ls)
+pub block-behind : (allowed : Keys) (l : Line) (ls : List Line) → block allowed (lines_behind l ls) ≡ or_last l (no_lines (lines_behind l ls)) (block allowed ls)
 unfolding block
 block-behind allowed l ls = by_last l.is_last refl
   where

@@ -22,11 +22,11 @@ use Rattle.nj_manifest.specs.Statements.{LineText, allows, if_allowed, equals_va
 -- ---- steps
 
 -- A reading of two steps makes both.
-bind-ok : {A B : Type 0} (r : Result A Fault) (k : A → Result B Fault) (y : B) → (r >>= k) ≡ Ok y → (x : A) × (r ≡ Ok x) × (k x ≡ Ok y)
+pub bind-ok : {A B : Type 0} (r : Result A Fault) (k : A → Result B Fault) (y : B) → (r >>= k) ≡ Ok y → (x : A) × (r ≡ Ok x) × (k x ≡ Ok y)
 bind-ok (Ok x) k y h = (x, refl, h)
 bind-ok (Err e) k y h = absurd cc
 
-called-fault : {A : Type 0} (f : Option LexFault) (r : Reply A) (y : A × State) → called (calls.unless_fault f r) ≡ Ok y → called r ≡ Ok y
+pub called-fault : {A : Type 0} (f : Option LexFault) (r : Reply A) (y : A × State) → called (calls.unless_fault f r) ≡ Ok y → called r ≡ Ok y
 called-fault None r y h = h
 called-fault (Some f) r y h = absurd cc
 
@@ -40,10 +40,10 @@ On l ls s = (us : List TextUnit) × (s ≡ Inside (with_units us l) ls)
 abbrev Ended : Line → List Line → State → Type 0
 Ended l ls s = s ≡ Between (lines_behind l ls)
 
-after-is : {A : Type 0} (x : A) (s : State) (y : A × State) → ◌≡◌ {A = Step A} (Ok (x, s)) (Ok y) → s ≡ y.1
+pub after-is : {A : Type 0} (x : A) (s : State) (y : A × State) → ◌≡◌ {A = Step A} (Ok (x, s)) (Ok y) → s ≡ y.1
 after-is x s y h = cc
 
-value-is : {A : Type 0} (x : A) (s : State) (y : A × State) → ◌≡◌ {A = Step A} (Ok (x, s)) (Ok y) → x ≡ y.0
+pub value-is : {A : Type 0} (x : A) (s : State) (y : A × State) → ◌≡◌ {A = Step A} (Ok (x, s)) (Ok y) → x ≡ y.0
 value-is x s y h = cc
 
 named-after : (want : Wanted) (spot : Spot) (x : Option (List ℕ)) (s : State) (y : NameText × State) → named want spot x s ≡ Ok y → s ≡ y.1

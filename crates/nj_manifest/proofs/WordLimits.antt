@@ -18,7 +18,7 @@ drop_while_shortens p (x ∷ xs) = by_test (p x) (drop_while_shortens p xs)
     by_test true h = omega arith
     by_test false h = omega arith
 
-opening_is_within : (m : Meaning) → opens_word_meaning m ≡ true → in_word_meaning m ≡ true
+pub opening_is_within : (m : Meaning) → opens_word_meaning m ≡ true → in_word_meaning m ≡ true
 opening_is_within Join h = refl
 opening_is_within (Ordinary b) h = h
 opening_is_within (Escape b) h = h

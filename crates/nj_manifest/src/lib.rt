@@ -6,12 +6,14 @@
 mod block;
 mod fault;
 mod heads;
+mod laws;
 mod next;
 mod parser;
 mod statement;
 mod steps;
 
 pub use fault::{ParseFault, Wanted};
+pub use laws::{faults_are_leftmost, statements_are_the_forms};
 pub use nj_text::{LexFault, Part, Spot, Word};
 pub use parser::Parser;
 pub use statement::{Line, Placed, Statement};

@@ -1,3 +1,10 @@
+pub mod LateLemmas
 pub mod MemoryLemmas
 pub mod ReadingLemmas
 pub mod TableLemmas
+pub mod RuleLemmas
+pub mod ScopeLemmas
+pub mod ScopeWalk
+pub mod ValueLaws
+pub mod ValueRows
+pub mod FollowLemmas

@@ -1,4 +1,11 @@
+pub mod Follows
 pub mod Readings
 pub mod Faults
+pub mod Late
 pub mod Memory
+pub mod Pools
+pub mod ReadingList
+pub mod Rules
+pub mod Scopes
+pub mod ScopesHeld
 pub mod Table

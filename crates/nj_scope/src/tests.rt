@@ -1,4 +1,9 @@
+ghost use Rattle.std.specs.Prelude.{◌≡◌, ◌<◌, length};
+
 use super::*;
+use nj_manifest::Line;
+use nj_text::{Lexer, Part, Word};
+use std::alloc::Global;
 use std::test::*;
 
 /// Two files, one of them empty.
@@ -90,5 +95,146 @@ fn a_failed_reading_is_not_kept(rt: HostRuntime) -> Result<(), Fail> {
 fn faults_have_a_text(rt: HostRuntime) -> Result<(), Fail> {
     let text = format!(in rt.alloc(); "{}; {}", SourceFault::Io, SourceFault::OutOfMemory)?;
     assert_eq!(rt; text.as_str(), "the file could not be read; out of memory");
+    Ok(())
+}
+
+/// The text as a value, not yet expanded.
+fn word(alloc: Global, text: &[u8]) -> Result<Word<'_>, Fail> {
+    let mut lexer = Lexer::new(text);
+    lexer.start_line().ok().ok_or("a line begins")?;
+    let word = lexer.value(alloc).ok().ok_or("it is read")?;
+    Ok(word)
+}
+
+/// Binds the name to what the text says in this scope.
+fn bind(
+    alloc: Global,
+    scopes: &mut Scopes,
+    scope: usize,
+    name: &[u8],
+    text: &[u8],
+) -> Result<(), Fail>
+    requires { scope < length scopes.old }
+    ensures { length scopes.new ≡ length scopes.old }
+{
+    let word = word(alloc, text)?;
+    let value = scopes.expand(alloc, scope, &word)?;
+    scopes.bind(scope, name, value)?;
+    Ok(())
+}
+
+#[test]
+fn values_expand_at_once(rt: HostRuntime) -> Result<(), Fail> {
+    let alloc = rt.alloc();
+    let mut scopes = Scopes::new(alloc)?;
+    bind(alloc, &mut scopes, 0, b"x", b"1")?;
+    bind(alloc, &mut scopes, 0, b"y", b"a$x${unknown}$$b$ ")?;
+    bind(alloc, &mut scopes, 0, b"x", b"2")?;
+    bind(alloc, &mut scopes, 0, b"z", b"$y$x")?;
+    assert_eq!(rt; scopes.value(0, b"x"), b"2".as_slice());
+    assert_eq!(rt; scopes.value(0, b"y"), b"a1$b ".as_slice());
+    assert_eq!(rt; scopes.value(0, b"z"), b"a1$b 2".as_slice());
+    assert_eq!(rt; scopes.value(0, b"unknown"), b"".as_slice());
+    Ok(())
+}
+
+#[test]
+fn a_child_shadows_and_changes_nothing(rt: HostRuntime) -> Result<(), Fail> {
+    let alloc = rt.alloc();
+    let mut scopes = Scopes::new(alloc)?;
+    bind(alloc, &mut scopes, 0, b"x", b"p")?;
+    bind(alloc, &mut scopes, 0, b"y", b"1")?;
+    let child = scopes.open(0)?;
+    bind(alloc, &mut scopes, child, b"x", b"c$x")?;
+    let other = scopes.open(0)?;
+    let grandchild = scopes.open(child)?;
+    bind(alloc, &mut scopes, 0, b"y", b"2")?;
+    assert_eq!(rt; scopes.count(), 4);
+    assert_eq!(rt; scopes.value(0, b"x"), b"p".as_slice());
+    assert_eq!(rt; scopes.value(child, b"x"), b"cp".as_slice());
+    assert_eq!(rt; scopes.value(other, b"x"), b"p".as_slice());
+    assert_eq!(rt; scopes.value(grandchild, b"x"), b"cp".as_slice());
+    assert_eq!(rt; scopes.value(grandchild, b"y"), b"2".as_slice());
+    Ok(())
+}
+
+#[test]
+fn the_nearest_rule_is_in_force(rt: HostRuntime) -> Result<(), Fail> {
+    let mut scopes = Scopes::new(rt.alloc())?;
+    assert_eq!(rt; scopes.rule(0, b"cc"), None);
+    assert!(rt; scopes.declare(0, b"cc", 0)?);
+    assert!(rt; !scopes.declare(0, b"cc", 1)?);
+    let child = scopes.open(0)?;
+    assert_eq!(rt; scopes.rule(child, b"cc"), Some(0));
+    assert!(rt; scopes.declare(child, b"cc", 2)?);
+    assert!(rt; scopes.declare(child, b"ld", 3)?);
+    assert_eq!(rt; scopes.rule(child, b"cc"), Some(2));
+    assert_eq!(rt; scopes.rule(0, b"cc"), Some(0));
+    assert_eq!(rt; scopes.rule(0, b"ld"), None);
+    Ok(())
+}
+
+/// A line of a block.
+fn line<'a>(alloc: Global, name: &'a [u8], text: &'a [u8]) -> Result<Line<'a>, Fail> {
+    let value = word(alloc, text)?;
+    Ok(Line {
+        spot: value.spot,
+        name,
+        value,
+    })
+}
+
+#[test]
+fn a_rule_keeps_what_was_written(rt: HostRuntime) -> Result<(), Fail> {
+    let alloc = rt.alloc();
+    let lines = [
+        line(alloc, b"description", b"x")?,
+        line(alloc, b"command", b"cc $in$\n   ${a.b}$$")?,
+        line(alloc, b"description", b"CC $out")?,
+    ];
+    let rule = Rule::new(alloc, b"cc", &lines)?;
+    assert_eq!(rt; rule.name(), b"cc".as_slice());
+    let command = rule.value(b"command").ok_or("it is given")?;
+    assert_eq!(rt; command.len(), 4);
+    assert_eq!(rt; command.part(0), Part::Bytes(b"cc "));
+    assert_eq!(rt; command.part(1), Part::Name(b"in"));
+    assert_eq!(rt; command.part(2), Part::Name(b"a.b"));
+    assert_eq!(rt; command.part(3), Part::Bytes(b"$"));
+    let description = rule.value(b"description").ok_or("it is given")?;
+    assert_eq!(rt; description.len(), 2);
+    assert_eq!(rt; description.part(1), Part::Name(b"out"));
+    assert!(rt; rule.value(b"depfile").is_none());
+    Ok(())
+}
+
+#[test]
+fn a_pool_is_declared_once(rt: HostRuntime) -> Result<(), Fail> {
+    let mut pools = Pools::new(rt.alloc());
+    assert!(rt; pools.has(b"console"));
+    assert!(rt; !pools.has(b"link"));
+    assert!(rt; pools.declare(b"link")?);
+    assert!(rt; pools.has(b"link"));
+    assert!(rt; !pools.declare(b"link")?);
+    assert!(rt; !pools.declare(b"console")?);
+    Ok(())
+}
+
+#[test]
+fn what_is_declared_follows_the_statements(rt: HostRuntime) -> Result<(), Fail> {
+    let alloc = rt.alloc();
+    let mut declared = Declared::new(alloc)?;
+    declared.bind(alloc, 0, b"x", &word(alloc, b"1")?)?;
+    declared.bind(alloc, 0, b"y", &word(alloc, b"$x$x")?)?;
+    declared.bind(alloc, 0, b"x", &word(alloc, b"2")?)?;
+    let said = declared.expand(alloc, 0, &word(alloc, b"$y$unknown.")?)?;
+    assert_eq!(rt; said.as_slice(), b"11.".as_slice());
+    assert!(rt; !declared.declare_rule(alloc, 0, b"phony", &[])?);
+    assert!(rt; declared.declare_rule(alloc, 0, b"cc", &[])?);
+    assert!(rt; !declared.declare_rule(alloc, 0, b"cc", &[])?);
+    let child = declared.open(0)?;
+    assert_eq!(rt; child, 1);
+    assert!(rt; declared.declare_rule(alloc, child, b"cc", &[])?);
+    assert!(rt; declared.declare_pool(b"link")?);
+    assert!(rt; !declared.declare_pool(b"link")?);
     Ok(())
 }

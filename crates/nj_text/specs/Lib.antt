@@ -2,6 +2,7 @@ pub mod Bytes
 pub mod Units
 pub mod Lines
 pub mod Words
+pub mod Numbers
 pub mod Calls
 pub mod Runs
 pub mod Scans

@@ -42,6 +42,7 @@ fn dollar_unit(bytes: &[u8]) -> Next<'_>
 }
 
 /// The next unit of a line.
+#[inline(always)]
 pub fn next_unit(bytes: &[u8]) -> Next<'_>
     ensures unit { NextIs result bytes.now }
     ensures within { next_length result ≤ length bytes.now }

@@ -631,3 +631,49 @@ fn open_references(rt: HostRuntime) {
         ],
     );
 }
+
+#[test]
+fn numbers_at_the_front(rt: HostRuntime) {
+    let rows: [(&[u8], Option<u64>); 14] = [
+        (b"451", Some(451)),
+        (b"2x", Some(2)),
+        (b"007", Some(7)),
+        (b"0", Some(0)),
+        (b"12 34", Some(12)),
+        (b"9:", Some(9)),
+        (b"", None),
+        (b"-1", None),
+        (b"+1", None),
+        (b" 1", None),
+        (b"/1", None),
+        (b"18446744073709551615", Some(u64::MAX)),
+        (b"18446744073709551616", Some(u64::MAX)),
+        (b"100000000000000000000000000007", Some(u64::MAX)),
+    ];
+    for (index, (text, want)) in rows.iter().enumerate() {
+        assert_eq!(rt; leading_number(text), *want, "row {index}");
+    }
+}
+
+#[test]
+fn versions(rt: HostRuntime) {
+    let rows: [(&[u8], (u64, u64)); 14] = [
+        (b"1.8.2", (1, 8)),
+        (b"1.11", (1, 11)),
+        (b"1", (1, 0)),
+        (b"1.", (1, 0)),
+        (b".5", (0, 5)),
+        (b"1..5", (1, 0)),
+        (b"x.5", (0, 5)),
+        (b"1rc.5git", (1, 5)),
+        (b" 1.5", (0, 5)),
+        (b"1. 5", (1, 0)),
+        (b"01.011", (1, 11)),
+        (b"", (0, 0)),
+        (b"1.18446744073709551616", (1, u64::MAX)),
+        (b"18446744073709551616.1", (u64::MAX, 1)),
+    ];
+    for (index, (text, want)) in rows.iter().enumerate() {
+        assert_eq!(rt; version_of(text), *want, "row {index}");
+    }
+}

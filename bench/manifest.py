@@ -1,0 +1,124 @@
+#!/usr/bin/env python3
+"""Writes a large Ninja file to standard output, in the form that CMake writes: manifest.py N has N build statements.
+
+The same N gives the same bytes. Each target is 20 statements: one for the order, 18 compilations, and a link.
+"""
+
+import sys
+
+HEAD = """\
+# A generated file of the form that CMake writes.
+# Do not edit.
+
+ninja_required_version = 1.5
+CONFIGURATION = Release
+root = /work/project
+sdk = C$:/tools/sdk
+
+pool link_pool
+  depth = 4
+
+rule CXX_COMPILER
+  depfile = $DEP_FILE
+  deps = gcc
+  command = /usr/bin/c++ $DEFINES $INCLUDES $FLAGS -MD -MT $out $
+      -MF $DEP_FILE -o $out -c $in
+  description = Building CXX object $out
+
+rule CXX_LIBRARY_LINKER
+  command = $PRE_LINK && /usr/bin/ar qc $TARGET_FILE $LINK_FLAGS $in && $POST_BUILD
+  description = Linking CXX static library $TARGET_FILE
+  pool = link_pool
+  restat = 1
+
+rule CUSTOM_COMMAND
+  command = $COMMAND
+  description = $DESC
+
+"""
+
+PER_TARGET = 20
+ROOT = "/work/project"
+INCLUDES = f"-I{ROOT}/modules/common/include -I{ROOT}/build/include -isystem /opt/sdk/include"
+REFERRING = "-I$root/modules/common/include $\n      -I${root}/build/include -isystem $sdk/include"
+
+
+def source_name(number):
+    """Of each target one source has a space in its name, and one a colon."""
+    return {7: "with$ space_7.cpp", 12: "with$:colon_12.cpp"}.get(number, f"file_{number}.cpp")
+
+
+def source(target, number):
+    return f"{ROOT}/modules/target_{target}/src/{source_name(number)}"
+
+
+def object_dir(target):
+    return f"modules/target_{target}/CMakeFiles/target_{target}.dir"
+
+
+def object_file(target, number):
+    return f"{object_dir(target)}/src/{source_name(number)}.o"
+
+
+def order(target):
+    before = f" || cmake_order_target_{target - 1}" if target else ""
+    return f"""\
+#############################################
+# Order-only phony target for target_{target}
+
+build cmake_order_target_{target}: phony{before}
+
+"""
+
+
+def compilation(target, number):
+    """A compilation. Of each target one has references and a join in its block."""
+    path = object_file(target, number)
+    include = REFERRING if number == 5 else INCLUDES
+    return f"""\
+build {path}: CXX_COMPILER {source(target, number)} | {ROOT}/modules/target_{target}/config.h || cmake_order_target_{target}
+  DEFINES = -DTARGET_{target}_EXPORTS -DVERSION=\\"1.{number}\\" -D_GNU_SOURCE
+  DEP_FILE = {path}.d
+  FLAGS = -O3 -DNDEBUG -std=gnu++17 -fPIC -fvisibility=hidden -Wall -Wextra -Wno-unused-parameter -Wwrite-strings
+  INCLUDES = -I{ROOT}/modules/target_{target}/include {include}
+  OBJECT_DIR = {object_dir(target)}
+  OBJECT_FILE_DIR = {object_dir(target)}/src
+
+"""
+
+
+def link(target):
+    objects = " $\n    ".join(object_file(target, number) for number in range(1, PER_TARGET - 1))
+    needed = f"lib/libtarget_{target - 1}.a " if target else ""
+    return f"""\
+#############################################
+# Link the static library lib/libtarget_{target}.a
+
+build lib/libtarget_{target}.a | lib/libtarget_{target}.stamp: CXX_LIBRARY_LINKER {objects} | {needed}|| cmake_order_target_{target}
+  LINK_FLAGS = -Wl,--as-needed
+  OBJECT_DIR = {object_dir(target)}
+  POST_BUILD = :
+  PRE_LINK = :
+  TARGET_FILE = lib/libtarget_{target}.a
+
+"""
+
+
+def statement(index):
+    target, number = divmod(index, PER_TARGET)
+    if number == 0:
+        return order(target)
+    if number == PER_TARGET - 1:
+        return link(target)
+    return compilation(target, number)
+
+
+def write_manifest(count, out):
+    out.write(HEAD)
+    for index in range(count):
+        out.write(statement(index))
+    out.write("default cmake_order_target_0\n")
+
+
+if __name__ == "__main__":
+    write_manifest(int(sys.argv[1]), sys.stdout)

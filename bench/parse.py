@@ -1,0 +1,101 @@
+#!/usr/bin/env python3
+"""Measures how fast a program parses large Ninja files: parse.py PROGRAM [--sizes N,M]
+
+PROGRAM reads a Ninja file on standard input, as crates/parse_bench does. In one run, on the same files, it stands beside
+`wc -l`, which only counts line feeds, and `ninja -t rules`, which reads the file and lists its rules. Each is run three
+times in turn, and the best times count: by the clock, and of the processor. The files are made in a temporary folder.
+"""
+
+import argparse
+import os
+import shutil
+import subprocess
+import tempfile
+import time
+
+from manifest import write_manifest
+
+ROUNDS = 3
+MB = 1_000_000
+
+
+class Run:
+    """A run of a program with the file as standard input."""
+
+    def __init__(self, words, path):
+        with open(path, "rb") as file:
+            start = time.perf_counter()
+            process = subprocess.Popen(words, stdin=file, stdout=subprocess.PIPE)
+            self.output = process.stdout.read()
+            _, status, usage = os.wait4(process.pid, 0)
+            self.seconds = time.perf_counter() - start
+        process.returncode = os.waitstatus_to_exitcode(status)
+        if process.returncode != 0:
+            raise SystemExit(f"{words[0]} ended with status {process.returncode}")
+        self.processor_seconds = usage.ru_utime + usage.ru_stime
+        self.memory = usage.ru_maxrss * 1024
+
+
+def make(folder, count):
+    path = os.path.join(folder, f"{count}.ninja")
+    with open(path, "w") as file:
+        write_manifest(count, file)
+    return path
+
+
+def measure(programs, path):
+    """The runs of each program, taken in turn."""
+    runs = {name: [] for name in programs}
+    for _ in range(ROUNDS):
+        for name, words in programs.items():
+            runs[name].append(Run(words, path))
+    return runs
+
+
+def best(runs):
+    """The least time by the clock, the least of the processor, and the greatest memory."""
+    return min(run.seconds for run in runs), min(run.processor_seconds for run in runs), max(run.memory for run in runs)
+
+
+def check_count(program, path, count):
+    if f"builds {count}\n".encode() not in Run([program], path).output:
+        raise SystemExit(f"{program} did not count {count} build statements")
+
+
+def report(count, size, figures):
+    print(f"{count} build statements, {size / MB:.1f} MB")
+    for name, (seconds, processor, memory) in figures.items():
+        print(f"  {name:<15} {seconds:7.3f} s {size / MB / seconds:6.0f} MB/s | processor {processor:7.3f} s {size / MB / processor:6.0f} MB/s | memory {memory / MB:7.1f} MB, {memory / size:.2f} of the file")
+    seconds, processor, memory = figures["program"]
+    print(f"  memory of the program beside the file: {(memory - size) / MB:.1f} MB")
+    if "ninja -t rules" in figures:
+        ninja = figures["ninja -t rules"]
+        print(f"  program / ninja: {seconds / ninja[0]:.2f} of the time, {processor / ninja[1]:.2f} of the processor time")
+
+
+def main():
+    parser = argparse.ArgumentParser()
+    parser.add_argument("program")
+    parser.add_argument("--sizes", default="100000,1000000")
+    words = parser.parse_args()
+    program = os.path.abspath(words.program)
+    print(f"load before: {os.getloadavg()[0]:.2f} on {os.cpu_count()} processors")
+    times = []
+    with tempfile.TemporaryDirectory() as folder:
+        for count in map(int, words.sizes.split(",")):
+            path = make(folder, count)
+            programs = {"program": [program], "wc -l": ["wc", "-l"]}
+            if shutil.which("ninja"):
+                programs["ninja -t rules"] = ["ninja", "-f", path, "-t", "rules"]
+            check_count(program, path, count)
+            figures = {name: best(runs) for name, runs in measure(programs, path).items()}
+            report(count, os.path.getsize(path), figures)
+            times.append((count, figures["program"]))
+            os.remove(path)
+    for (few, short), (many, long) in zip(times, times[1:]):
+        print(f"program, {many} / {few} statements: {long[0] / short[0]:.1f} of the time, {long[1] / short[1]:.1f} of the processor time")
+    print(f"load after: {os.getloadavg()[0]:.2f}")
+
+
+if __name__ == "__main__":
+    main()

@@ -1,0 +1,425 @@
+-- The first lines of statements: what is read of them, and the forms of the grammar.
+use Rattle.std.proofs.Common.{◌≡◌, ℕ, Bool, true, false, cond, ◌&&◌, ◌||◌, Option, Some, None, Result, Ok, List, refl, sym, ap, subst, ◌∙◌, codes}
+use Rattle.std.specs.List.{list_any}
+use Rattle.std.specs.Str.{bytes_eq}
+use Rattle.std.proofs.lemmas.Bool.{or_from}
+use Rattle.std.proofs.lemmas.Slice.Eq.{bytes_eq-Decides}
+use Rattle.nj_text.specs.declared.sign.Sign.{Sign}
+use Rattle.nj_text.specs.declared.sign.Sign.TheVariants as sign
+use Rattle.nj_text.specs.Units.{TextUnit}
+use Rattle.nj_text.specs.Lines.{Line, lines_behind}
+use Rattle.nj_text.specs.Words.{WordText, next_fault}
+use Rattle.nj_text.specs.Calls.{State, Between, Inside, is_empty, begins_word, is_sign, path_word_of}
+use Rattle.nj_manifest.specs.declared.fault.Wanted.{Wanted}
+use Rattle.nj_manifest.specs.declared.fault.Wanted.TheVariants as wanted
+use Rattle.nj_manifest.specs.Faults.{Fault}
+use Rattle.nj_manifest.specs.Steps.{Step, ◌>>=◌, called, NameText, name_next, behind, words_next, section_next}
+use Rattle.nj_manifest.specs.Statements.{OutputsText, InputsText, HeadText, Alone, RuleHead, PoolHead, BuildHead, BindingText, DefaultText, IncludeText, SubninjaText, equals_value, name_alone, unless_none, outputs_next, inputs_next, build_next, targets_next, path_there, file_next, as_head, head_behind, head_next}
+use Rattle.nj_manifest.specs.Grammar.{AreBlanks, IdentifierForm, KeywordForm, keywords, WordForm, WordsForm, SignForm, SectionForm, left_out, there, BuildForm, NamedForm, FileForm, HeadForm}
+use Rattle.nj_manifest.proofs.Framing.{bind-ok, after-is, value-is}
+use Rattle.nj_manifest.proofs.FormsGaps.{skip}
+use Rattle.nj_manifest.proofs.FormsTokens.{within, name-form, name-read, Stops, end_stops, colon_stops, pipe_stops, pipe2_stops, pipe_at_stops, behind_skips, behind-form, behind-read, end-form, end-read}
+use Rattle.nj_manifest.proofs.FormsWords.{fault_behind_blanks, word-form, word-read, words-form, words-read, section_skips, section-form, section-read}
+use Rattle.nj_manifest.proofs.FormsValues.{equals_value-form, equals_value-read}
+
+-- a step that gives a value ends there
+pub gives-it : {A : Type 0} (x : A) (s : State) (y : A) (t : State) → ◌≡◌ {A = Step A} (Ok (x, s)) (Ok (y, t)) → (x ≡ y) × (s ≡ t)
+gives-it x s y t h = (value-is x s (y, t) h, after-is x s (y, t) h)
+
+-- where a step leads
+leads_to : (one s t : State) → one ≡ s → one ≡ t → s ≡ t
+leads_to one s t e f = sym e ∙ f
+
+-- the end of the line behind blanks that are passed already
+end_behind-form : (miss : Wanted) (l : Line) (ls : List Line) (us : List TextUnit) (s : State) → behind sign.LineEnd miss (within l ls (skip us)) ≡ Ok s → AreBlanks us × (s ≡ Between (lines_behind l ls))
+end_behind-form miss l ls us s h = end-form miss l ls us s (sym (behind_skips sign.LineEnd miss l ls us) ∙ h)
+
+end_behind-read : (miss : Wanted) (l : Line) (ls : List Line) (us : List TextUnit) → AreBlanks us → behind sign.LineEnd miss (within l ls (skip us)) ≡ Ok (Between (lines_behind l ls))
+end_behind-read miss l ls us h = behind_skips sign.LineEnd miss l ls us ∙ end-read miss l ls us h
+
+-- ---- a name alone
+
+name_alone-form : (want : Wanted) (l : Line) (ls : List Line) (us : List TextUnit) (name : NameText) (s : State) → name_alone want (within l ls us) ≡ Ok (name, s) → (rest : List TextUnit) × IdentifierForm us name rest × AreBlanks rest × (s ≡ Between (lines_behind l ls))
+unfolding name_alone
+name_alone-form want l ls us name s h =
+    let read = bind-ok (name_next want (within l ls us)) _ (name, s) h in
+    let end = bind-ok (behind sign.LineEnd wanted.Newline read.0.1) (λ end. Ok (read.0.0, end)) (name, s) read.2 in
+    let it = name-form want l ls us read.0 read.1 in
+    let same = gives-it read.0.0 end.0 name s end.2 in
+    let ended = end-form wanted.Newline l ls it.0 end.0 (ap (behind sign.LineEnd wanted.Newline) (sym it.2) ∙ end.1) in
+    (it.0, subst (λ (n : NameText). IdentifierForm us n it.0) same.0 it.1, ended.0, sym same.1 ∙ ended.1)
+
+name_alone-read : (want : Wanted) (l : Line) (ls : List Line) (us rest : List TextUnit) (name : NameText) → IdentifierForm us name rest → AreBlanks rest → name_alone want (within l ls us) ≡ Ok (name, Between (lines_behind l ls))
+unfolding name_alone
+name_alone-read want l ls us rest name f e = rw (name-read want l ls us rest name f, end-read wanted.Newline l ls rest e) refl
+
+-- ---- paths
+
+unless_none-ok : {A : Type 0} (t : Bool) (want : Wanted) (s : State) (others : Result A Fault) (y : A) → unless_none t want s others ≡ Ok y → (t ≡ false) × (others ≡ Ok y)
+unless_none-ok true want s others y h = absurd cc
+unless_none-ok false want s others y h = (refl, h)
+
+targets-form : (l : Line) (ls : List Line) (us : List TextUnit) (words : List WordText) (s : State) → targets_next (within l ls us) ≡ Ok (words, s)
+    → (rest : List TextUnit) × WordsForm us words rest × (is_empty words ≡ false) × AreBlanks rest × (s ≡ Between (lines_behind l ls))
+unfolding targets_next
+targets-form l ls us words s h =
+    let read = bind-ok (words_next (within l ls us)) _ (words, s) h in
+    let end = bind-ok (unless_none (is_empty read.0.0) wanted.TargetName read.0.1 (behind sign.LineEnd wanted.Newline read.0.1)) (λ end. Ok (read.0.0, end)) (words, s) read.2 in
+    let some = unless_none-ok (is_empty read.0.0) wanted.TargetName read.0.1 (behind sign.LineEnd wanted.Newline read.0.1) end.0 end.1 in
+    let it = words-form l ls read.0.0 us read.0.1 read.1 in
+    let same = gives-it read.0.0 end.0 words s end.2 in
+    let ended = end_behind-form wanted.Newline l ls it.0 end.0 (ap (behind sign.LineEnd wanted.Newline) (sym it.2) ∙ some.1) in
+    (it.0, subst (λ (ws : List WordText). WordsForm us ws it.0) same.0 it.1, ap is_empty (sym same.0) ∙ some.0, ended.0, sym same.1 ∙ ended.1)
+
+targets-read : (l : Line) (ls : List Line) (us rest : List TextUnit) (words : List WordText) → WordsForm us words rest → is_empty words ≡ false → AreBlanks rest → targets_next (within l ls us) ≡ Ok (words, Between (lines_behind l ls))
+unfolding targets_next
+targets-read l ls us rest words f some e =
+    let stops = end_stops rest e in
+    rw (words-read l ls f stops.no_fault stops.no_word, some, end_behind-read wanted.Newline l ls rest e) refl
+
+-- the end of the line behind a file
+abbrev file_end : WordText × State → Step WordText
+file_end word = behind sign.LineEnd wanted.Newline word.1 >>= λ end. Ok (word.0, end)
+
+file-form : (l : Line) (ls : List Line) (us : List TextUnit) (word : WordText) (s : State) → file_next (within l ls us) ≡ Ok (word, s) → (rest : List TextUnit) × WordForm us word rest × AreBlanks rest × (s ≡ Between (lines_behind l ls))
+unfolding file_next
+file-form l ls us word s h =
+    let found = bind-ok (called (path_word_of (within l ls us))) _ (word, s) h in
+    by_found found.0.0 found.0.1 found.1 found.2
+  where
+    by_found : (found : Option WordText) (after : State) → called (path_word_of (within l ls us)) ≡ Ok (found, after)
+        → (path_there found after >>= file_end) ≡ Ok (word, s)
+        → (rest : List TextUnit) × WordForm us word rest × AreBlanks rest × (s ≡ Between (lines_behind l ls))
+    by_found None after e g = absurd cc
+    by_found (Some w) after e g =
+        let end = bind-ok (behind sign.LineEnd wanted.Newline after) (λ end. Ok (w, end)) (word, s) g in
+        let it = word-form l ls us w after e in
+        let same = gives-it w end.0 word s end.2 in
+        let ended = end-form wanted.Newline l ls it.0 end.0 (ap (behind sign.LineEnd wanted.Newline) (sym it.2) ∙ end.1) in
+        (it.0, subst (λ (v : WordText). WordForm us v it.0) same.0 it.1, ended.0, sym same.1 ∙ ended.1)
+
+file-read : (l : Line) (ls : List Line) (us rest : List TextUnit) (word : WordText) → WordForm us word rest → AreBlanks rest → file_next (within l ls us) ≡ Ok (word, Between (lines_behind l ls))
+unfolding file_next
+file-read l ls us rest word f e =
+    rw (word-read l ls us rest word f (fault_behind_blanks rest (end_stops rest e).no_fault), end-read wanted.Newline l ls rest e) refl
+
+-- ---- the parts of a build statement
+
+-- what is next before a section
+at_validations : {us rest : List TextUnit} {words : List WordText} → SectionForm sign.PipeAt us words rest → Stops rest false false false → (at : Bool) × Stops us false false at
+at_validations left_out stops = (false, stops)
+at_validations {us} (there {behind = behind} s ws) stops = (true, pipe_at_stops us behind s)
+
+at_order_only : {us rest : List TextUnit} {words : List WordText} {at : Bool} → SectionForm sign.Pipe2 us words rest → Stops rest false false at → (two at : Bool) × Stops us false two at
+at_order_only {at = at} left_out stops = (false, at, stops)
+at_order_only {us} (there {behind = behind} s ws) stops = (true, false, pipe2_stops us behind s)
+
+at_implicit : {us rest : List TextUnit} {words : List WordText} {two at : Bool} → SectionForm sign.Pipe us words rest → Stops rest false two at → (one two at : Bool) × Stops us one two at
+at_implicit {two = two} {at = at} left_out stops = (false, two, at, stops)
+at_implicit {us} (there {behind = behind} s ws) stops = (true, false, false, pipe_stops us behind s)
+
+pipe_is_no_end : sign.Pipe ≡ sign.LineEnd → ⊥
+pipe_is_no_end e = absurd cc
+
+pipe2_is_no_end : sign.Pipe2 ≡ sign.LineEnd → ⊥
+pipe2_is_no_end e = absurd cc
+
+pipe_at_is_no_end : sign.PipeAt ≡ sign.LineEnd → ⊥
+pipe_at_is_no_end e = absurd cc
+
+colon_is_no_end : sign.Colon ≡ sign.LineEnd → ⊥
+colon_is_no_end e = absurd cc
+
+-- a section behind blanks that are passed already
+section_behind-form : (want : Sign) (l : Line) (ls : List Line) (us : List TextUnit) (s s' : State) (words : List WordText) → (want ≡ sign.LineEnd → ⊥) → s ≡ within l ls (skip us) → section_next want s ≡ Ok (words, s')
+    → (rest : List TextUnit) × SectionForm want us words rest × (s' ≡ within l ls (skip rest))
+section_behind-form want l ls us s s' words n e h = section-form want l ls us words s' n (sym (section_skips want l ls us) ∙ sym (ap (section_next want) e) ∙ h)
+
+section_behind-read : (want : Sign) (l : Line) (ls : List Line) {us rest : List TextUnit} {words : List WordText} → (want ≡ sign.LineEnd → ⊥) → SectionForm want us words rest
+    → next_fault (skip rest) ≡ None → begins_word (skip rest) ≡ false → is_sign want (skip rest) ≡ false → section_next want (within l ls (skip us)) ≡ Ok (words, within l ls (skip rest))
+section_behind-read want l ls {us = us} n f a b c = section_skips want l ls us ∙ section-read want l ls n f a b c
+
+-- `OUTPUTS | IMPLICIT-OUTPUTS`
+record OutputsForm (us : List TextUnit) (outputs : OutputsText) (rest : List TextUnit) : Type 0 where
+  pub behind_explicit : List TextUnit
+  pub explicit : WordsForm us outputs.explicit behind_explicit
+  pub implicit : SectionForm sign.Pipe behind_explicit outputs.implicit rest
+  pub some : (is_empty outputs.explicit && is_empty outputs.implicit) ≡ false
+
+outputs-form : (l : Line) (ls : List Line) (us : List TextUnit) (outputs : OutputsText) (s : State) → outputs_next (within l ls us) ≡ Ok (outputs, s) → (rest : List TextUnit) × OutputsForm us outputs rest × (s ≡ within l ls (skip rest))
+unfolding outputs_next
+outputs-form l ls us outputs s h =
+    let explicit = bind-ok (words_next (within l ls us)) _ (outputs, s) h in
+    let implicit = bind-ok (section_next sign.Pipe explicit.0.1) _ (outputs, s) explicit.2 in
+    let some = unless_none-ok (is_empty explicit.0.0 && is_empty implicit.0.0) wanted.Path implicit.0.1 _ (outputs, s) implicit.2 in
+    let same = gives-it (record { explicit = explicit.0.0; implicit = implicit.0.0 }) implicit.0.1 outputs s some.1 in
+    let one = words-form l ls explicit.0.0 us explicit.0.1 explicit.1 in
+    let two = section_behind-form sign.Pipe l ls one.0 explicit.0.1 implicit.0.1 implicit.0.0 pipe_is_no_end one.2 implicit.1 in
+    (two.0, subst (λ (o : OutputsText). OutputsForm us o two.0) same.0 (record { behind_explicit = one.0; explicit = one.1; implicit = two.1; some = some.0 }), leads_to implicit.0.1 s (within l ls (skip two.0)) same.1 two.2)
+
+outputs-read : (l : Line) (ls : List Line) (us rest : List TextUnit) (outputs : OutputsText) → OutputsForm us outputs rest → Stops rest false false false → outputs_next (within l ls us) ≡ Ok (outputs, within l ls (skip rest))
+unfolding outputs_next
+outputs-read l ls us rest outputs f stops =
+    let at = at_implicit f.implicit stops in
+    rw (words-read l ls f.explicit at.3.no_fault at.3.no_word, section_behind-read sign.Pipe l ls pipe_is_no_end f.implicit stops.no_fault stops.no_word stops.is_pipe, f.some) refl
+
+-- `INPUTS | IMPLICIT || ORDER-ONLY |@ VALIDATIONS`
+record InputsForm (us : List TextUnit) (inputs : InputsText) (rest : List TextUnit) : Type 0 where
+  pub behind_explicit : List TextUnit
+  pub behind_implicit : List TextUnit
+  pub behind_order_only : List TextUnit
+  pub explicit : WordsForm us inputs.explicit behind_explicit
+  pub implicit : SectionForm sign.Pipe behind_explicit inputs.implicit behind_implicit
+  pub order_only : SectionForm sign.Pipe2 behind_implicit inputs.order_only behind_order_only
+  pub validations : SectionForm sign.PipeAt behind_order_only inputs.validations rest
+
+inputs-form : (l : Line) (ls : List Line) (us : List TextUnit) (inputs : InputsText) (s : State) → inputs_next (within l ls us) ≡ Ok (inputs, s) → (rest : List TextUnit) × InputsForm us inputs rest × (s ≡ within l ls (skip rest))
+unfolding inputs_next
+inputs-form l ls us inputs s h =
+    let explicit = bind-ok (words_next (within l ls us)) _ (inputs, s) h in
+    let implicit = bind-ok (section_next sign.Pipe explicit.0.1) _ (inputs, s) explicit.2 in
+    let order_only = bind-ok (section_next sign.Pipe2 implicit.0.1) _ (inputs, s) implicit.2 in
+    let validations = bind-ok (section_next sign.PipeAt order_only.0.1) _ (inputs, s) order_only.2 in
+    let same = gives-it (record { explicit = explicit.0.0; implicit = implicit.0.0; order_only = order_only.0.0; validations = validations.0.0 }) validations.0.1 inputs s validations.2 in
+    let one = words-form l ls explicit.0.0 us explicit.0.1 explicit.1 in
+    let two = section_behind-form sign.Pipe l ls one.0 explicit.0.1 implicit.0.1 implicit.0.0 pipe_is_no_end one.2 implicit.1 in
+    let three = section_behind-form sign.Pipe2 l ls two.0 implicit.0.1 order_only.0.1 order_only.0.0 pipe2_is_no_end two.2 order_only.1 in
+    let four = section_behind-form sign.PipeAt l ls three.0 order_only.0.1 validations.0.1 validations.0.0 pipe_at_is_no_end three.2 validations.1 in
+    let form : InputsForm us (record { explicit = explicit.0.0; implicit = implicit.0.0; order_only = order_only.0.0; validations = validations.0.0 }) four.0 =
+    record { behind_explicit = one.0; behind_implicit = two.0; behind_order_only = three.0; explicit = one.1; implicit = two.1; order_only = three.1; validations = four.1 } in
+    (four.0, subst (λ (i : InputsText). InputsForm us i four.0) same.0 form, leads_to validations.0.1 s (within l ls (skip four.0)) same.1 four.2)
+
+inputs-read : (l : Line) (ls : List Line) (us rest : List TextUnit) (inputs : InputsText) → InputsForm us inputs rest → Stops rest false false false → inputs_next (within l ls us) ≡ Ok (inputs, within l ls (skip rest))
+unfolding inputs_next
+inputs-read l ls us rest inputs f stops =
+    let three = at_validations f.validations stops in
+    let two = at_order_only f.order_only three.1 in
+    let one = at_implicit f.implicit two.2 in
+    rw (
+      words-read l ls f.explicit one.3.no_fault one.3.no_word,
+      section_behind-read sign.Pipe l ls pipe_is_no_end f.implicit two.2.no_fault two.2.no_word two.2.is_pipe,
+      section_behind-read sign.Pipe2 l ls pipe2_is_no_end f.order_only three.1.no_fault three.1.no_word three.1.is_pipe2,
+      section_behind-read sign.PipeAt l ls pipe_at_is_no_end f.validations stops.no_fault stops.no_word stops.is_pipe_at,
+    ) refl
+
+-- ---- `build`
+
+-- behind the keyword: `OUTPUTS: RULE INPUTS`
+record PartsForm (us : List TextUnit) (outputs : OutputsText) (rule : NameText) (inputs : InputsText) : Type 0 where
+  pub behind_outputs : List TextUnit
+  pub behind_colon : List TextUnit
+  pub behind_rule : List TextUnit
+  pub behind_inputs : List TextUnit
+  pub of_outputs : OutputsForm us outputs behind_outputs
+  pub colon : SignForm sign.Colon behind_outputs behind_colon
+  pub of_rule : IdentifierForm behind_colon rule behind_rule
+  pub of_inputs : InputsForm behind_rule inputs behind_inputs
+  pub end : AreBlanks behind_inputs
+
+-- what is read of a build statement
+abbrev PartsRead : Line → List Line → List TextUnit → HeadText → State → Type 0
+PartsRead l ls us head s = (outputs : OutputsText) × (rule : NameText) × (inputs : InputsText) × PartsForm us outputs rule inputs × (head ≡ BuildHead outputs rule inputs) × (s ≡ Between (lines_behind l ls))
+
+-- each step of it, where the lexer stands as the step before left it
+colon_behind-form : (l : Line) (ls : List Line) (us : List TextUnit) (s s' : State) → s ≡ within l ls (skip us) → behind sign.Colon wanted.Colon s ≡ Ok s' → (rest : List TextUnit) × SignForm sign.Colon us rest × (s' ≡ within l ls rest)
+colon_behind-form l ls us s s' e h = behind-form sign.Colon wanted.Colon l ls us s' colon_is_no_end (sym (behind_skips sign.Colon wanted.Colon l ls us) ∙ sym (ap (behind sign.Colon wanted.Colon) e) ∙ h)
+
+name_at-form : (want : Wanted) (l : Line) (ls : List Line) (us : List TextUnit) (s : State) (y : NameText × State) → s ≡ within l ls us → name_next want s ≡ Ok y → (rest : List TextUnit) × IdentifierForm us y.0 rest × (y.1 ≡ within l ls rest)
+name_at-form want l ls us s y e h = name-form want l ls us y (ap (name_next want) (sym e) ∙ h)
+
+inputs_at-form : (l : Line) (ls : List Line) (us : List TextUnit) (s s' : State) (inputs : InputsText) → s ≡ within l ls us → inputs_next s ≡ Ok (inputs, s') → (rest : List TextUnit) × InputsForm us inputs rest × (s' ≡ within l ls (skip rest))
+inputs_at-form l ls us s s' inputs e h = inputs-form l ls us inputs s' (ap inputs_next (sym e) ∙ h)
+
+end_behind_at-form : (l : Line) (ls : List Line) (us : List TextUnit) (s s' : State) → s ≡ within l ls (skip us) → behind sign.LineEnd wanted.Newline s ≡ Ok s' → AreBlanks us × (s' ≡ Between (lines_behind l ls))
+end_behind_at-form l ls us s s' e h = end_behind-form wanted.Newline l ls us s' (ap (behind sign.LineEnd wanted.Newline) (sym e) ∙ h)
+
+build-form : (l : Line) (ls : List Line) (us : List TextUnit) (head : HeadText) (s : State) → build_next (within l ls us) ≡ Ok (head, s) → PartsRead l ls us head s
+unfolding build_next
+build-form l ls us head s h =
+    let outputs = bind-ok (outputs_next (within l ls us)) _ (head, s) h in
+    let colon = bind-ok (behind sign.Colon wanted.Colon outputs.0.1) _ (head, s) outputs.2 in
+    let rule = bind-ok (name_next wanted.CommandName colon.0) _ (head, s) colon.2 in
+    let inputs = bind-ok (inputs_next rule.0.1) _ (head, s) rule.2 in
+    let end = bind-ok (behind sign.LineEnd wanted.Newline inputs.0.1) (λ end. Ok (BuildHead outputs.0.0 rule.0.0 inputs.0.0, end)) (head, s) inputs.2 in
+    let one = outputs-form l ls us outputs.0.0 outputs.0.1 outputs.1 in
+    let two = colon_behind-form l ls one.0 outputs.0.1 colon.0 one.2 colon.1 in
+    let three = name_at-form wanted.CommandName l ls two.0 colon.0 rule.0 two.2 rule.1 in
+    let four = inputs_at-form l ls three.0 rule.0.1 inputs.0.1 inputs.0.0 three.2 inputs.1 in
+    let five = end_behind_at-form l ls four.0 inputs.0.1 end.0 four.2 end.1 in
+    let same = gives-it (BuildHead outputs.0.0 rule.0.0 inputs.0.0) end.0 head s end.2 in (
+      outputs.0.0,
+      rule.0.0,
+      inputs.0.0,
+      record { behind_outputs = one.0; behind_colon = two.0; behind_rule = three.0; behind_inputs = four.0; of_outputs = one.1; colon = two.1; of_rule = three.1; of_inputs = four.1; end = five.0 },
+      sym same.0,
+      leads_to end.0 s (Between (lines_behind l ls)) same.1 five.1,
+    )
+
+build-read : (l : Line) (ls : List Line) (us : List TextUnit) (outputs : OutputsText) (rule : NameText) (inputs : InputsText) → PartsForm us outputs rule inputs → build_next (within l ls us) ≡ Ok (BuildHead outputs rule inputs, Between (lines_behind l ls))
+unfolding build_next
+build-read l ls us outputs rule inputs f =
+    rw (
+      outputs-read l ls us f.behind_outputs outputs f.of_outputs (colon_stops f.behind_outputs f.behind_colon f.colon),
+      behind_skips sign.Colon wanted.Colon l ls f.behind_outputs,
+      behind-read sign.Colon wanted.Colon l ls f.behind_outputs f.behind_colon colon_is_no_end f.colon,
+      name-read wanted.CommandName l ls f.behind_colon f.behind_rule rule f.of_rule,
+      inputs-read l ls f.behind_rule f.behind_inputs inputs f.of_inputs (end_stops f.behind_inputs f.end),
+      end_behind-read wanted.Newline l ls f.behind_inputs f.end,
+    ) refl
+
+-- ---- words of the language
+
+pub same_bytes : (xs ys : List ℕ) → bytes_eq xs ys ≡ true → xs ≡ ys
+same_bytes xs ys h = (bytes_eq-Decides xs ys).0 h
+
+keyword_of : (word : List ℕ) (us rest : List TextUnit) (name : NameText) → IdentifierForm us name rest → bytes_eq name.name word ≡ true → KeywordForm word us rest
+keyword_of word us rest name f h =
+    record { spot = name.spot; here = subst (λ (bs : List ℕ). IdentifierForm us (record { spot = name.spot; name = bs }) rest) (same_bytes name.name word h) f }
+
+-- where no test passes, the last is taken
+none_of : {A : Type 0} (b r p d i u : Bool) (x1 x2 x3 x4 x5 x6 x7 : A) → (b || (r || (p || (d || (i || (u || false)))))) ≡ false → cond b x1 (cond r x2 (cond p x3 (cond d x4 (cond i x5 (cond u x6 x7))))) ≡ x7
+none_of true r p d i u x1 x2 x3 x4 x5 x6 x7 h = absurd cc
+none_of false true p d i u x1 x2 x3 x4 x5 x6 x7 h = absurd cc
+none_of false false true d i u x1 x2 x3 x4 x5 x6 x7 h = absurd cc
+none_of false false false true i u x1 x2 x3 x4 x5 x6 x7 h = absurd cc
+none_of false false false false true u x1 x2 x3 x4 x5 x6 x7 h = absurd cc
+none_of false false false false false true x1 x2 x3 x4 x5 x6 x7 h = absurd cc
+none_of false false false false false false x1 x2 x3 x4 x5 x6 x7 h = refl
+
+-- what is read where the word is no keyword
+no_keyword : (word : List ℕ) (s : State) → list_any (bytes_eq word) keywords ≡ false → head_behind word s ≡ as_head (λ value. Alone (BindingText word value)) (equals_value s)
+unfolding head_behind
+no_keyword word s h =
+    none_of (bytes_eq word (codes "build")) (bytes_eq word (codes "rule")) (bytes_eq word (codes "pool")) (bytes_eq word (codes "default")) (bytes_eq word (codes "include")) (bytes_eq word (codes "subninja"))
+    (build_next s) (as_head RuleHead (name_alone wanted.RuleName s)) (as_head PoolHead (name_alone wanted.PoolName s)) (as_head (λ words. Alone (DefaultText words)) (targets_next s))
+    (as_head (λ word. Alone (IncludeText word)) (file_next s)) (as_head (λ word. Alone (SubninjaText word)) (file_next s)) (as_head (λ value. Alone (BindingText word value)) (equals_value s)) h
+
+-- ---- first lines
+
+build_parts : {us : List TextUnit} {outputs : OutputsText} {name : NameText} {inputs : InputsText} → (f : BuildForm us outputs name inputs) → PartsForm f.behind_build outputs name inputs
+build_parts f =
+    record {
+      behind_outputs = f.behind_outputs;
+      behind_colon = f.behind_colon;
+      behind_rule = f.behind_rule;
+      behind_inputs = f.behind_validations;
+      of_outputs = record { behind_explicit = f.behind_explicit; explicit = f.explicit_outputs; implicit = f.implicit_outputs; some = f.some_output };
+      colon = f.colon;
+      of_rule = f.of_rule;
+      of_inputs = record { behind_explicit = f.behind_inputs; behind_implicit = f.behind_implicit; behind_order_only = f.behind_order_only; explicit = f.explicit_inputs; implicit = f.implicit_inputs; order_only = f.order_only_inputs; validations = f.validations };
+      end = f.end;
+    }
+
+whole_build : (us rest : List TextUnit) (outputs : OutputsText) (name : NameText) (inputs : InputsText) → KeywordForm (codes "build") us rest → PartsForm rest outputs name inputs → BuildForm us outputs name inputs
+whole_build us rest outputs name inputs k f =
+    record {
+      behind_build = rest;
+      behind_explicit = f.of_outputs.behind_explicit;
+      behind_outputs = f.behind_outputs;
+      behind_colon = f.behind_colon;
+      behind_rule = f.behind_rule;
+      behind_inputs = f.of_inputs.behind_explicit;
+      behind_implicit = f.of_inputs.behind_implicit;
+      behind_order_only = f.of_inputs.behind_order_only;
+      behind_validations = f.behind_inputs;
+      keyword = k;
+      explicit_outputs = f.of_outputs.explicit;
+      implicit_outputs = f.of_outputs.implicit;
+      some_output = f.of_outputs.some;
+      colon = f.colon;
+      of_rule = f.of_rule;
+      explicit_inputs = f.of_inputs.explicit;
+      implicit_inputs = f.of_inputs.implicit;
+      order_only_inputs = f.of_inputs.order_only;
+      validations = f.of_inputs.validations;
+      end = f.end;
+    }
+
+-- A first line that is there is read.
+pub head-read : (l : Line) (ls : List Line) (head : HeadText) → HeadForm l head → head_next (Inside l ls) ≡ Ok (head, Between (lines_behind l ls))
+unfolding head_next head_behind
+head-read l ls head (HeadForm.binding {name = name} {value = value} f n) =
+    rw (name-read wanted.Statement l ls l.units f.behind_name name f.of_name, no_keyword name.name (within l ls f.behind_name) n, equals_value-read l ls f.behind_name f.behind_sign value f.equals f.of_value) refl
+head-read l ls head (HeadForm.rule {name = name} f) =
+    rw (name-read wanted.Statement l ls l.units f.behind_keyword _ f.keyword.here, name_alone-read wanted.RuleName l ls f.behind_keyword f.behind_name name f.of_name f.end) refl
+head-read l ls head (HeadForm.pool {name = name} f) =
+    rw (name-read wanted.Statement l ls l.units f.behind_keyword _ f.keyword.here, name_alone-read wanted.PoolName l ls f.behind_keyword f.behind_name name f.of_name f.end) refl
+head-read l ls head (HeadForm.build {outputs = outputs} {name = name} {inputs = inputs} f) =
+    rw (name-read wanted.Statement l ls l.units f.behind_build _ f.keyword.here) (build-read l ls f.behind_build outputs name inputs (build_parts f))
+head-read l ls head (HeadForm.default {targets = targets} f) =
+    rw (name-read wanted.Statement l ls l.units f.behind_keyword _ f.keyword.here, targets-read l ls f.behind_keyword f.behind_targets targets f.of_targets f.some_target f.end) refl
+head-read l ls head (HeadForm.include {file = file} f) =
+    rw (name-read wanted.Statement l ls l.units f.behind_keyword _ f.keyword.here, file-read l ls f.behind_keyword f.behind_file file f.of_file f.end) refl
+head-read l ls head (HeadForm.subninja {file = file} f) =
+    rw (name-read wanted.Statement l ls l.units f.behind_keyword _ f.keyword.here, file-read l ls f.behind_keyword f.behind_file file f.of_file f.end) refl
+
+-- a first line that is read to the end of the line
+abbrev HeadIs : Line → List Line → HeadText → State → Type 0
+HeadIs l ls head s = HeadForm l head × (s ≡ Between (lines_behind l ls))
+
+as_head-parts : {A : Type 0} (make : A → HeadText) (step : Step A) (head : HeadText) (s : State) → as_head make step ≡ Ok (head, s) → (x : A) × (step ≡ Ok (x, s)) × (make x ≡ head)
+as_head-parts make step head s h =
+    let b = bind-ok step (λ x. Ok (make x.0, x.1)) (head, s) h in
+    let same = gives-it (make b.0.0) b.0.1 head s b.2 in
+    (b.0.0, b.1 ∙ ap (λ (t : State). Ok (b.0.0, t)) same.1, same.0)
+
+head-is : (l : Line) (ls : List Line) (one head : HeadText) (s : State) → one ≡ head → HeadForm l one → s ≡ Between (lines_behind l ls) → HeadIs l ls head s
+head-is l ls one head s e f g = (subst (HeadForm l) e f, g)
+
+named_is : (word : List ℕ) (l : Line) (ls : List Line) (want : Wanted) (make : NameText → HeadText) (us : List TextUnit) (head : HeadText) (s : State) → KeywordForm word l.units us → ((name : NameText) → NamedForm word l.units name → HeadForm l (make name))
+    → as_head make (name_alone want (within l ls us)) ≡ Ok (head, s) → HeadIs l ls head s
+named_is word l ls want make us head s k form h =
+    let x = as_head-parts make (name_alone want (within l ls us)) head s h in
+    let it = name_alone-form want l ls us x.0 s x.1 in
+    head-is l ls (make x.0) head s x.2 (form x.0 (record { behind_keyword = us; behind_name = it.0; keyword = k; of_name = it.1; end = it.2 })) it.3
+
+file_is : (word : List ℕ) (l : Line) (ls : List Line) (make : WordText → HeadText) (us : List TextUnit) (head : HeadText) (s : State) → KeywordForm word l.units us → ((file : WordText) → FileForm word l.units file → HeadForm l (make file))
+    → as_head make (file_next (within l ls us)) ≡ Ok (head, s) → HeadIs l ls head s
+file_is word l ls make us head s k form h =
+    let x = as_head-parts make (file_next (within l ls us)) head s h in
+    let it = file-form l ls us x.0 s x.1 in
+    head-is l ls (make x.0) head s x.2 (form x.0 (record { behind_keyword = us; behind_file = it.0; keyword = k; of_file = it.1; end = it.2 })) it.3
+
+targets_are : (l : Line) (ls : List Line) (us : List TextUnit) (head : HeadText) (s : State) → KeywordForm (codes "default") l.units us → as_head (λ words. Alone (DefaultText words)) (targets_next (within l ls us)) ≡ Ok (head, s) → HeadIs l ls head s
+targets_are l ls us head s k h =
+    let x = as_head-parts (λ words. Alone (DefaultText words)) (targets_next (within l ls us)) head s h in
+    let it = targets-form l ls us x.0 s x.1 in
+    head-is l ls (Alone (DefaultText x.0)) head s x.2 (HeadForm.default (record { behind_keyword = us; behind_targets = it.0; keyword = k; of_targets = it.1; some_target = it.2; end = it.3 })) it.4
+
+build_is : (l : Line) (ls : List Line) (us : List TextUnit) (head : HeadText) (s : State) → KeywordForm (codes "build") l.units us → build_next (within l ls us) ≡ Ok (head, s) → HeadIs l ls head s
+build_is l ls us head s k h =
+    let it = build-form l ls us head s h in
+    head-is l ls (BuildHead it.0 it.1 it.2) head s (sym it.4) (HeadForm.build (whole_build l.units us it.0 it.1 it.2 k it.3)) it.5
+
+binding_is : (l : Line) (ls : List Line) (us : List TextUnit) (name : NameText) (head : HeadText) (s : State) → IdentifierForm l.units name us → list_any (bytes_eq name.name) keywords ≡ false
+    → as_head (λ value. Alone (BindingText name.name value)) (equals_value (within l ls us)) ≡ Ok (head, s) → HeadIs l ls head s
+binding_is l ls us name head s f n h =
+    let x = as_head-parts (λ value. Alone (BindingText name.name value)) (equals_value (within l ls us)) head s h in
+    let it = equals_value-form l ls us x.0 s x.1 in
+    head-is l ls (Alone (BindingText name.name x.0)) head s x.2 (HeadForm.binding {name = name} (record { behind_name = us; behind_sign = it.0; of_name = f; equals = it.1; of_value = it.2 }) n) it.3
+
+behind_word : (l : Line) (ls : List Line) (us : List TextUnit) (name : NameText) (head : HeadText) (s : State) → IdentifierForm l.units name us → head_behind name.name (within l ls us) ≡ Ok (head, s) → HeadIs l ls head s
+unfolding head_behind
+behind_word l ls us name head s f h =
+    by_word (bytes_eq name.name (codes "build")) (bytes_eq name.name (codes "rule")) (bytes_eq name.name (codes "pool")) (bytes_eq name.name (codes "default")) (bytes_eq name.name (codes "include")) (bytes_eq name.name (codes "subninja"))
+    refl refl refl refl refl refl h
+  where
+    by_word : (b r p d i u : Bool) → bytes_eq name.name (codes "build") ≡ b → bytes_eq name.name (codes "rule") ≡ r → bytes_eq name.name (codes "pool") ≡ p → bytes_eq name.name (codes "default") ≡ d → bytes_eq name.name (codes "include") ≡ i → bytes_eq name.name (codes "subninja") ≡ u
+        → cond b (build_next (within l ls us)) (cond r (as_head RuleHead (name_alone wanted.RuleName (within l ls us))) (cond p (as_head PoolHead (name_alone wanted.PoolName (within l ls us))) (cond d (as_head (λ words. Alone (DefaultText words)) (targets_next (within l ls us)))
+        (cond i (as_head (λ word. Alone (IncludeText word)) (file_next (within l ls us))) (cond u (as_head (λ word. Alone (SubninjaText word)) (file_next (within l ls us))) (as_head (λ value. Alone (BindingText name.name value)) (equals_value (within l ls us)))))))) ≡ Ok (head, s)
+        → HeadIs l ls head s
+    by_word true r p d i u eb er ep ed ei eu g = build_is l ls us head s (keyword_of (codes "build") l.units us name f eb) g
+    by_word false true p d i u eb er ep ed ei eu g = named_is (codes "rule") l ls wanted.RuleName RuleHead us head s (keyword_of (codes "rule") l.units us name f er) (λ n k. HeadForm.rule k) g
+    by_word false false true d i u eb er ep ed ei eu g = named_is (codes "pool") l ls wanted.PoolName PoolHead us head s (keyword_of (codes "pool") l.units us name f ep) (λ n k. HeadForm.pool k) g
+    by_word false false false true i u eb er ep ed ei eu g = targets_are l ls us head s (keyword_of (codes "default") l.units us name f ed) g
+    by_word false false false false true u eb er ep ed ei eu g = file_is (codes "include") l ls (λ word. Alone (IncludeText word)) us head s (keyword_of (codes "include") l.units us name f ei) (λ n k. HeadForm.include k) g
+    by_word false false false false false true eb er ep ed ei eu g = file_is (codes "subninja") l ls (λ word. Alone (SubninjaText word)) us head s (keyword_of (codes "subninja") l.units us name f eu) (λ n k. HeadForm.subninja k) g
+    by_word false false false false false false eb er ep ed ei eu g = binding_is l ls us name head s f (or_from _ _ eb (or_from _ _ er (or_from _ _ ep (or_from _ _ ed (or_from _ _ ei (or_from _ _ eu refl)))))) g
+
+-- A first line that is read is one, read to its end.
+pub head-form : (l : Line) (ls : List Line) (head : HeadText) (s : State) → head_next (Inside l ls) ≡ Ok (head, s) → HeadForm l head × (s ≡ Between (lines_behind l ls))
+unfolding head_next
+head-form l ls head s h =
+    let word = bind-ok (name_next wanted.Statement (Inside l ls)) _ (head, s) h in
+    let it = name-form wanted.Statement l ls l.units word.0 word.1 in
+    behind_word l ls it.0 word.0.0 head s it.1 (ap (head_behind word.0.0.name) (sym it.2) ∙ word.2)

@@ -1,0 +1,118 @@
+-- Values and bindings: what is read to the end of a line, and the forms of the grammar.
+use Rattle.std.proofs.Common.{◌≡◌, Bool, true, false, cond, Option, Some, None, Ok, List, [], ◌∷◌, ◌++◌, refl, sym, ap, subst, ◌∙◌, append_assoc}
+use Rattle.std.proofs.lemmas.Bool.{false≢true}
+use Rattle.nj_text.specs.declared.fault.LexFault.{LexFault}
+use Rattle.nj_text.specs.declared.sign.Sign.TheVariants as sign
+use Rattle.nj_text.specs.declared.spot.Spot.{Spot}
+use Rattle.nj_text.specs.Units.{TextUnit}
+use Rattle.nj_text.specs.Lines.{Line, spot_of_first, lines_behind}
+use Rattle.nj_text.specs.Words.{WordText, is_opening_meaning, behind_opening, first_fault, parts_of}
+use Rattle.nj_text.specs.Calls as calls
+use Rattle.nj_text.specs.Calls.{State, Between, value_of}
+use Rattle.nj_manifest.specs.declared.fault.Wanted.TheVariants as wanted
+use Rattle.nj_manifest.specs.Steps.{Step, called, behind}
+use Rattle.nj_manifest.specs.Statements.{equals_value}
+use Rattle.nj_manifest.specs.Grammar.{begins, is_opening, SignForm, ValueForm}
+use Rattle.nj_manifest.proofs.Framing.{bind-ok, after-is, value-is}
+use Rattle.nj_manifest.proofs.FormsGaps.{skip, skip_gap, skip_stops, gap_of, gap_passes, gap_cut}
+use Rattle.nj_manifest.proofs.FormsTokens.{within, behind-form, behind-read, end-form, end-read}
+
+-- whether a unit is a join that opens its line
+abbrev opens_line : TextUnit → Bool
+opens_line u = is_opening_meaning u.means
+
+-- the join that opens the line, if one does
+pub record Opening (us opening others : List TextUnit) : Type 0 where
+  pub cut : us ≡ opening ++ others
+  pub opens : is_opening opening ≡ true
+  pub longest : opening ≡ [] → begins opens_line us ≡ false
+
+opening_here : (us : List TextUnit) → (opening : List TextUnit) × Opening us opening (behind_opening us)
+opening_here [] = ([], record { cut = refl; opens = refl; longest = λ e. refl })
+opening_here (u ∷ us) = by_test (opens_line u) refl
+  where
+    by_test : (t : Bool) → opens_line u ≡ t → (opening : List TextUnit) × Opening (u ∷ us) opening (cond t us (u ∷ us))
+    by_test true e = (u ∷ [], record { cut = refl; opens = e; longest = λ g. absurd (some_is_none g) })
+      where
+        some_is_none : u ∷ [] ≡ [] → ⊥
+        some_is_none g = absurd cc
+    by_test false e = ([], record { cut = refl; opens = refl; longest = λ g. e })
+
+no_opening : (us : List TextUnit) → begins opens_line us ≡ false → behind_opening us ≡ us
+no_opening [] h = refl
+no_opening (u ∷ us) h = rw h refl
+
+opening_passed : (us opening others : List TextUnit) → Opening us opening others → behind_opening us ≡ others
+opening_passed us [] others o = no_opening us (o.longest refl) ∙ o.cut
+opening_passed us (u ∷ []) others o = ap behind_opening o.cut ∙ passed o.opens
+  where
+    passed : is_opening (u ∷ []) ≡ true → behind_opening (u ∷ others) ≡ others
+    passed h = rw h refl
+opening_passed us (u ∷ v ∷ ws) others o = absurd (false≢true o.opens)
+
+-- ---- values
+
+-- what a call gives, of its parts
+abbrev value_by : Line → List Line → Option LexFault → List TextUnit → Step WordText
+value_by l ls f us = called (calls.unless_fault f (calls.reply (record { spot = spot_of_first us l.end; parts = parts_of us }) (within l ls [])))
+
+value_by-read : (l : Line) (ls : List Line) (f : Option LexFault) (us : List TextUnit) (value : WordText) (s : State) → value_by l ls f us ≡ Ok (value, s) → (f ≡ None) × (value ≡ record { spot = spot_of_first us l.end; parts = parts_of us }) × (s ≡ within l ls [])
+value_by-read l ls (Some f) us value s h = absurd cc
+value_by-read l ls None us value s h = (refl, sym (value-is (record { spot = spot_of_first us l.end; parts = parts_of us }) (within l ls []) (value, s) h), sym (after-is (record { spot = spot_of_first us l.end; parts = parts_of us }) (within l ls []) (value, s) h))
+
+-- A value that is read is one.
+pub value-form : (l : Line) (ls : List Line) (us : List TextUnit) (value : WordText) (s : State) → called (value_of (within l ls us)) ≡ Ok (value, s) → ValueForm us l.end value × (s ≡ within l ls [])
+value-form l ls us value s h =
+    let vs = behind_opening us in
+    let opening = opening_here us in
+    let read = value_by-read l ls (first_fault (skip vs)) (skip vs) value s h in (
+      record {
+        opening = opening.0;
+        gap = gap_of vs;
+        run = skip vs;
+        cut = opening.1.cut ∙ ap (λ (us : List TextUnit). opening.0 ++ us) (gap_cut vs) ∙ sym (append_assoc opening.0 (gap_of vs) (skip vs));
+        opens = opening.1.opens;
+        longest_opening = opening.1.longest;
+        blanks = gap_passes vs;
+        longest = skip_stops vs;
+        good = read.0;
+        place = ap (λ (w : WordText). w.spot) read.1;
+        parts = ap (λ (w : WordText). w.parts) read.1;
+      },
+      read.2,
+    )
+
+same_value : (value : WordText) (spot : Spot) (run : List TextUnit) → value.spot ≡ spot → value.parts ≡ parts_of run → record { spot = spot; parts = parts_of run } ≡ value
+same_value value spot run s p = rw (← s, ← p) refl
+
+-- A value that is there is read.
+pub value-read : (l : Line) (ls : List Line) (us : List TextUnit) (value : WordText) → ValueForm us l.end value → called (value_of (within l ls us)) ≡ Ok (value, within l ls [])
+value-read l ls us value f =
+    let behind = opening_passed us f.opening (f.gap ++ f.run) (record { cut = f.cut ∙ append_assoc f.opening f.gap f.run; opens = f.opens; longest = f.longest_opening }) in
+    let next = skip_gap (behind_opening us) f.gap f.run behind f.blanks f.longest in
+    ap (λ (vs : List TextUnit). value_by l ls (first_fault vs) vs) next
+    ∙ ap (λ (g : Option LexFault). value_by l ls g f.run) f.good
+    ∙ ap (λ (w : WordText). Ok (w, within l ls [])) (same_value value (spot_of_first f.run l.end) f.run f.place f.parts)
+
+-- ---- `= VALUE`
+
+equals_ends : sign.Equals ≡ sign.LineEnd → ⊥
+equals_ends e = absurd cc
+
+pub equals_value-form : (l : Line) (ls : List Line) (us : List TextUnit) (value : WordText) (s : State) → equals_value (within l ls us) ≡ Ok (value, s)
+    → (rest : List TextUnit) × SignForm sign.Equals us rest × ValueForm rest l.end value × (s ≡ Between (lines_behind l ls))
+unfolding equals_value
+equals_value-form l ls us value s h =
+    let equals = bind-ok (behind sign.Equals wanted.Equals (within l ls us)) _ (value, s) h in
+    let read = bind-ok (called (value_of equals.0)) _ (value, s) equals.2 in
+    let end = bind-ok (behind sign.LineEnd wanted.Newline read.0.1) (λ end. Ok (read.0.0, end)) (value, s) read.2 in
+    let it = behind-form sign.Equals wanted.Equals l ls us equals.0 equals_ends equals.1 in
+    let same = value-is read.0.0 end.0 (value, s) end.2 in
+    let there = value-form l ls it.0 read.0.0 read.0.1 (ap (λ (t : State). called (value_of t)) (sym it.2) ∙ read.1) in
+    let ended = end-form wanted.Newline l ls [] end.0 (ap (behind sign.LineEnd wanted.Newline) (sym there.1) ∙ end.1) in
+    (it.0, it.1, subst (λ (v : WordText). ValueForm it.0 l.end v) same there.0, sym (after-is read.0.0 end.0 (value, s) end.2) ∙ ended.1)
+
+pub equals_value-read : (l : Line) (ls : List Line) (us rest : List TextUnit) (value : WordText) → SignForm sign.Equals us rest → ValueForm rest l.end value → equals_value (within l ls us) ≡ Ok (value, Between (lines_behind l ls))
+unfolding equals_value
+equals_value-read l ls us rest value e f =
+    rw (behind-read sign.Equals wanted.Equals l ls us rest equals_ends e, value-read l ls rest value f, end-read wanted.Newline l ls [] refl) refl

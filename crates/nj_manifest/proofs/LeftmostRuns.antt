@@ -1,0 +1,94 @@
+-- Units cut at the longest front that passes a test, and blanks above all.
+use Rattle.std.proofs.Common.{◌≡◌, ℕ, Bool, true, false, cond, eqb, List, [], ◌∷◌, ◌++◌, refl, sym, ap, ◌∙◌}
+use Rattle.std.specs.List.{take_while}
+use Rattle.std.proofs.lemmas.Bool.{eqb-true, false≢true}
+use Rattle.nj_text.specs.Bytes.{drop_while}
+use Rattle.nj_text.specs.Units.{Meaning, Ordinary, Escape, Reference, Join, OpeningJoin, Comment, LeadingTab, LineEnd, TextEnd, BadByte, BadEscape, TextUnit, is_ordinary_in}
+use Rattle.nj_text.specs.Words.{is_blank}
+use Rattle.nj_text.proofs.Lists.{AllIn, AllIn-take_while, take_while-cons_yes, take_while-cons_no, drop_while-append}
+
+-- whether there is a first unit that passes
+abbrev pub begins : (TextUnit → Bool) → List TextUnit → Bool
+begins p [] = false
+begins p (u ∷ us) = p u
+
+-- the front and what is behind it
+pub both_parts : (p : TextUnit → Bool) (us : List TextUnit) → us ≡ take_while p us ++ drop_while p us
+both_parts p [] = refl
+both_parts p (u ∷ us) = by_test (p u) refl (both_parts p us)
+  where
+    by_test : (t : Bool) → p u ≡ t → us ≡ take_while p us ++ drop_while p us → u ∷ us ≡ take_while p (u ∷ us) ++ cond t (drop_while p us) (u ∷ us)
+    by_test true e rest = rw (take_while-cons_yes p u us e) (ap (λ (vs : List TextUnit). u ∷ vs) rest)
+    by_test false e rest = rw (take_while-cons_no p u us e) refl
+
+pub behind_stops : (p : TextUnit → Bool) (us : List TextUnit) → begins p (drop_while p us) ≡ false
+behind_stops p [] = refl
+behind_stops p (u ∷ us) = by_test (p u) refl (behind_stops p us)
+  where
+    by_test : (t : Bool) → p u ≡ t → begins p (drop_while p us) ≡ false → begins p (cond t (drop_while p us) (u ∷ us)) ≡ false
+    by_test true e rest = rest
+    by_test false e rest = e
+
+pub none_passed : (p : TextUnit → Bool) (us : List TextUnit) → begins p us ≡ false → drop_while p us ≡ us
+none_passed p [] h = refl
+none_passed p (u ∷ us) h = rw h refl
+
+pub none_taken : (p : TextUnit → Bool) (us : List TextUnit) → begins p us ≡ false → take_while p us ≡ []
+none_taken p [] h = refl
+none_taken p (u ∷ us) h = take_while-cons_no p u us h
+
+-- a run that is as long as can be
+pub run_passed : (p : TextUnit → Bool) (run us : List TextUnit) → AllIn p run → begins p us ≡ false → drop_while p (run ++ us) ≡ us
+run_passed p run us h n = drop_while-append p run us h ∙ none_passed p us n
+
+pub run_taken : (p : TextUnit → Bool) (run us : List TextUnit) → AllIn p run → begins p us ≡ false → take_while p (run ++ us) ≡ run
+run_taken p [] us h n = none_taken p us n
+run_taken p (u ∷ run) us h n = take_while-cons_yes p u (run ++ us) h.0 ∙ ap (λ (vs : List TextUnit). u ∷ vs) (run_taken p run us h.1 n)
+
+-- ---- blanks
+
+-- what is behind the blanks
+abbrev pub skip : List TextUnit → List TextUnit
+skip us = drop_while is_blank us
+
+abbrev pub gap_of : List TextUnit → List TextUnit
+gap_of us = take_while is_blank us
+
+pub skip_stops : (us : List TextUnit) → begins is_blank (skip us) ≡ false
+skip_stops us = behind_stops is_blank us
+
+pub skip_again : (us : List TextUnit) → skip (skip us) ≡ skip us
+skip_again us = none_passed is_blank (skip us) (skip_stops us)
+
+pub gap_passes : (us : List TextUnit) → AllIn is_blank (gap_of us)
+gap_passes us = AllIn-take_while is_blank us
+
+pub gap_cut : (us : List TextUnit) → us ≡ gap_of us ++ skip us
+gap_cut us = both_parts is_blank us
+
+pub skip_gap : (gap us : List TextUnit) → AllIn is_blank gap → skip (gap ++ us) ≡ skip us
+skip_gap gap us h = drop_while-append is_blank gap us h
+
+-- ---- tests on what a unit says
+
+-- an ordinary byte that passes one test and so not another
+pub no_other : (p : ℕ → Bool) (test : Meaning → Bool) → ((b : ℕ) → p b ≡ true → test (Ordinary b) ≡ false) → (m : Meaning) → is_ordinary_in p m ≡ true → test m ≡ false
+no_other p test f (Ordinary b) h = f b h
+no_other p test f (Escape x) h = absurd (false≢true h)
+no_other p test f (Reference x) h = absurd (false≢true h)
+no_other p test f Join h = absurd (false≢true h)
+no_other p test f OpeningJoin h = absurd (false≢true h)
+no_other p test f Comment h = absurd (false≢true h)
+no_other p test f LeadingTab h = absurd (false≢true h)
+no_other p test f LineEnd h = absurd (false≢true h)
+no_other p test f TextEnd h = absurd (false≢true h)
+no_other p test f BadByte h = absurd (false≢true h)
+no_other p test f BadEscape h = absurd (false≢true h)
+
+-- what passes is not this byte, which does not pass
+pub not_byte : (p : ℕ → Bool) (n : ℕ) → p n ≡ false → (b : ℕ) → p b ≡ true → eqb b n ≡ false
+not_byte p n e b h = by_test (eqb b n) refl
+  where
+    by_test : (t : Bool) → eqb b n ≡ t → t ≡ false
+    by_test true g = absurd (false≢true (sym e ∙ (ap p (sym (eqb-true b n g)) ∙ h)))
+    by_test false g = refl

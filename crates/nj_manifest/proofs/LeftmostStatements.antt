@@ -1,0 +1,224 @@
+-- The first fault of the next statement of some lines.
+use Rattle.std.proofs.Common.{◌≡◌, Bool, true, false, cond, inl, inr, Option, Some, Result, Ok, Err, is_ok, List, [], ◌∷◌, ◌++◌, map, refl, sym, ap, subst, ◌∙◌, codes}
+use Rattle.nj_text.specs.declared.fault.LexFault.TheVariants as lex
+use Rattle.nj_text.specs.declared.spot.Spot.{Spot}
+use Rattle.nj_text.specs.Units.{TextUnit}
+use Rattle.nj_text.specs.Lines.{Line, line_spot, with_units, lines_behind, Kind, CommentLine, TabLine, BlankLine, IndentedLine, PlainLine, kind_of, is_space_unit}
+use Rattle.nj_text.specs.Calls.{State, Between, Inside, without_comments}
+use Rattle.nj_text.proofs.Lists.{AllIn}
+use Rattle.nj_manifest.specs.declared.block.Keys.{Keys}
+use Rattle.nj_manifest.specs.Faults.{Fault, Bad, UnexpectedIndent}
+use Rattle.nj_manifest.specs.Steps.{Step, ◌>>=◌, name_next, behind}
+use Rattle.nj_manifest.specs.Statements.{LineText, PlacedText, StatementText, Alone, HeadText, Reading, lines_from, head_behind, head_next, equals_value, block, with_block, statement_at, nothing_more, front_of, next_by, next_statement}
+use Rattle.nj_manifest.specs.Leftmost.{goes_on, element, written, is_syntax, NamesThePlaceOf, StandsLeftmost}
+use Rattle.nj_manifest.proofs.BlockLines.{in_front}
+use Rattle.nj_manifest.proofs.LeftmostFronts.{element-front}
+use Rattle.nj_manifest.proofs.LeftmostSteps.{no_result, at, text, Fits, Said, begin, Stuck, Outcome, stuck, through}
+use Rattle.nj_manifest.proofs.LeftmostHeads.{starts, head_turn}
+use Rattle.nj_manifest.proofs.LeftmostBlocks.{BlockStuck, block_stuck, blank_block}
+use Rattle.nj_manifest.proofs.LeftmostEnds.{keys_of, closing, closing_plain, closed, none_with_block, fault_of_block}
+use Rattle.nj_manifest.proofs.LeftmostKinds.{kind_units, spaces_of, behind_spaces, spaces_cut, spaces_pass, kind_spaced, kind_replaced, plain_same, identifier_plain, tab_place}
+
+-- ---- a line with which a statement begins
+
+abbrev Plain : Said HeadText
+Plain x e ms r = (kind_units x ≡ PlainLine) × (head_next (at x e ms) ≡ r)
+
+head_outcome : (l : Line) → kind_of l ≡ PlainLine → Outcome Plain l.units l
+head_outcome l h = head_turn l l.units (begin Plain head_next starts l.units by_fit)
+  where
+    by_fit : (x : List TextUnit) (e : Line) (ms : List Line) → Fits starts l.units x → Plain x e ms (head_next (at x e ms))
+    by_fit x e ms (inl f) = (identifier_plain x f, refl)
+    by_fit x e ms (inr f) = (plain_same l.units x h f, refl)
+
+-- the statement behind its first line
+abbrev placed_then : Spot → HeadText × State → Reading (Option PlacedText)
+placed_then spot head = with_block spot head.0 (lines_from head.1) >>= λ item. Ok (Some (record { spot = spot; item = item.0 }), item.1)
+
+plain_next : (l : Line) (ms : List Line) → kind_of l ≡ PlainLine → next_statement (l ∷ ms) ≡ (head_next (Inside l ms) >>= placed_then (line_spot l))
+unfolding next_statement statement_at
+plain_next l ms h = ap (λ (k : Kind). next_by k l ms (next_statement ms)) h
+
+plain_bad : (l : Line) (ms : List Line) (f : Fault) → kind_of l ≡ PlainLine → head_next (Inside l ms) ≡ Err f → next_statement (l ∷ ms) ≡ Err f
+plain_bad l ms f h r = plain_next l ms h ∙ ap (λ (y : Step HeadText). y >>= placed_then (line_spot l)) r
+
+plain_read : (l : Line) (ms : List Line) (v : HeadText) (s : State) → kind_of l ≡ PlainLine → head_next (Inside l ms) ≡ Ok (v, s) → next_statement (l ∷ ms) ≡ placed_then (line_spot l) (v, s)
+plain_read l ms v s h r = plain_next l ms h ∙ ap (λ (y : Step HeadText). y >>= placed_then (line_spot l)) r
+
+placed_some : (spot : Spot) (r : Reading StatementText) (item : StatementText) (rest : List Line) → r ≡ Ok (item, rest) → ◌≡◌ {A = Reading (Option PlacedText)} (r >>= λ item. Ok (Some (record { spot = spot; item = item.0 }), item.1)) (Ok (Some (record { spot = spot; item = item }), rest))
+placed_some spot r item rest h = rw h refl
+
+placed_none : (spot : Spot) (r : Reading StatementText) → is_ok r ≡ false → is_ok (◌>>=◌ {B = Option PlacedText × List Line} r (λ item. Ok (Some (record { spot = spot; item = item.0 }), item.1))) ≡ false
+placed_none spot (Ok x) h = absurd cc
+placed_none spot (Err f) h = refl
+
+errs : {A : Type 0} {x y : Fault} → ◌≡◌ {A = Result A Fault} (Err x) (Err y) → x ≡ y
+errs e = cc
+
+placed_fault : (spot : Spot) (r : Reading StatementText) (f : Fault) → ◌≡◌ {A = Reading (Option PlacedText)} (r >>= λ item. Ok (Some (record { spot = spot; item = item.0 }), item.1)) (Err f) → r ≡ Err f
+placed_fault spot (Ok x) f h = absurd cc
+placed_fault spot (Err g) f h = ap Err (errs h)
+
+-- some statement, where some reading ends so
+abbrev SomeOf : List Line → Type 0
+SomeOf ls = (placed : PlacedText) × (rest : List Line) × (next_statement ls ≡ Ok (Some placed, rest))
+
+some_closed : (l : Line) (ms : List Line) (v : HeadText) (s : State) (read : List LineText) → kind_of l ≡ PlainLine → head_next (Inside l ms) ≡ Ok (v, s)
+    → block (keys_of v) (lines_from s) ≡ in_front read (block (keys_of v) (map written (closing v))) → SomeOf (l ∷ ms)
+some_closed l ms v s read h r b =
+    let c = closed (line_spot l) v (lines_from s) read b in
+    (record { spot = line_spot l; item = c.0 }, c.1, plain_read l ms v s h r ∙ placed_some (line_spot l) (with_block (line_spot l) v (lines_from s)) c.0 c.1 c.2)
+
+nothing-in_front : {A : Type 0} (r : Reading (List A)) → (r >>= λ o. Ok ([] ++ o.0, o.1)) ≡ r
+nothing-in_front (Ok o) = refl
+nothing-in_front (Err f) = refl
+
+-- the fault is in the first line
+stuck_first : (l : Line) (ls : List Line) (fault : Fault) → Stuck Plain l.units l fault → StandsLeftmost (l ∷ ls) fault
+stuck_first l ls fault s =
+    let lines = map written (closing s.value) in
+    let r = s.some lines in
+    let c = some_closed (with_units (s.begun ++ text s.bytes) (written [])) lines s.value (Between lines) [] r.0 r.1 (sym (nothing-in_front (block (keys_of s.value) lines))) in
+    record {
+      before = [];
+      begun = s.begun;
+      line = with_units s.left l;
+      others = ls;
+      cut = ap (λ (y : List TextUnit). with_units y l ∷ ls) s.cut;
+      place = s.place;
+      some = record { bytes = s.bytes; lines = closing s.value; plain_bytes = s.plain; plain_lines = closing_plain s.value; placed = c.0; rest = c.1; reads = c.2 };
+      none = λ m ms same.
+          let n = s.none m.units m ms same in
+          no_result _ n.0 (plain_bad (with_units (s.begun ++ m.units) m) ms n.0 n.1.0 n.1.1);
+    }
+
+-- the lines behind one that is not the last
+behind_more : (l : Line) (ms : List Line) → l.is_last ≡ false → lines_behind l ms ≡ ms
+behind_more l ms h = ap (λ (t : Bool). cond t (with_units [] l ∷ ms) ms) h
+
+-- the fault is in the block
+stuck_in_block : (l : Line) (ls : List Line) (fault : Fault) (v : HeadText) → kind_of l ≡ PlainLine → l.is_last ≡ false → ((ms : List Line) → head_next (Inside l ms) ≡ Ok (v, Between (lines_behind l ms))) → ((item : StatementText) → v ≡ Alone item → ⊥)
+    → BlockStuck (keys_of v) ls fault → StandsLeftmost (l ∷ ls) fault
+stuck_in_block l ls fault v k last reads all s =
+    let lines = map written (closing v) in
+    let xs = goes_on s.before s.begun (written s.bytes) lines in
+    let b : block (keys_of v) (lines_behind l xs) ≡ in_front s.read (block (keys_of v) lines) = ap (block (keys_of v)) (behind_more l xs last) ∙ s.some lines in
+    let c = some_closed l xs v (Between (lines_behind l xs)) s.read k (reads xs) b in
+    record {
+      before = l ∷ s.before;
+      begun = s.begun;
+      line = s.line;
+      others = s.others;
+      cut = ap (λ (y : List Line). l ∷ y) s.cut;
+      place = s.place;
+      some = record { bytes = s.bytes; lines = closing v; plain_bytes = s.plain; plain_lines = closing_plain v; placed = c.0; rest = c.1; reads = c.2 };
+      none = λ m ms same.
+          let ys = goes_on s.before s.begun m ms in
+          let n : is_ok (block (keys_of v) (lines_behind l ys)) ≡ false = ap (λ (y : List Line). is_ok (block (keys_of v) y)) (behind_more l ys last) ∙ s.none m ms same in
+          ap is_ok (plain_read l ys v (Between (lines_behind l ys)) k (reads ys)) ∙ placed_none (line_spot l) (with_block (line_spot l) v (lines_behind l ys)) (none_with_block (line_spot l) v (lines_behind l ys) all n);
+    }
+
+no_block_fault : (allowed : Keys) (l : Line) (ls : List Line) (f : Fault) → block allowed (with_units [] l ∷ ls) ≡ Err f → ⊥
+no_block_fault allowed l ls f h = apart (sym (blank_block allowed (with_units [] l) ls refl) ∙ h)
+  where
+    apart : {A : Type 0} {x : A} → ◌≡◌ {A = Result A Fault} (Ok x) (Err f) → ⊥
+    apart e = absurd cc
+
+same_fault : {A : Type 0} (r : Result A Fault) (f g : Fault) → r ≡ Err f → r ≡ Err g → g ≡ f
+same_fault r f g h i = errs (sym i ∙ h)
+
+as_fault : (ls : List Line) (f g : Fault) → g ≡ f → StandsLeftmost ls g → StandsLeftmost ls f
+as_fault ls f g e s = subst (λ (h : Fault). StandsLeftmost ls h) e s
+
+plain_leftmost : (l : Line) (ls : List Line) (fault : Fault) → kind_of l ≡ PlainLine → next_statement (l ∷ ls) ≡ Err fault → is_syntax fault ≡ true → StandsLeftmost (l ∷ ls) fault
+plain_leftmost l ls fault k h syntax = by_head (head_outcome l k)
+  where
+    by_last : (v : HeadText) (t : Bool) → l.is_last ≡ t → ((ms : List Line) → head_next (Inside l ms) ≡ Ok (v, Between (lines_behind l ms))) → ((item : StatementText) → v ≡ Alone item → ⊥) → block (keys_of v) (cond t (with_units [] l ∷ ls) ls) ≡ Err fault → StandsLeftmost (l ∷ ls) fault
+    by_last v true last reads all b = absurd (no_block_fault (keys_of v) l ls fault b)
+    by_last v false last reads all b = stuck_in_block l ls fault v k last reads all (block_stuck (keys_of v) ls fault b)
+
+    by_head : Outcome Plain l.units l → StandsLeftmost (l ∷ ls) fault
+    by_head (stuck f s) = as_fault (l ∷ ls) fault f (same_fault (next_statement (l ∷ ls)) fault f h (plain_bad l ls f k (s.fails ls).1)) (stuck_first l ls f s)
+    by_head (through v so) =
+        let failed = placed_fault (line_spot l) (with_block (line_spot l) v (lines_behind l ls)) fault (sym (plain_read l ls v (Between (lines_behind l ls)) k (so ls).1) ∙ h) in
+        let b = fault_of_block (line_spot l) v (lines_behind l ls) fault failed syntax in
+        by_last v l.is_last refl (λ ms. (so ms).1) b.0 b.1
+
+-- ---- lines before a statement
+
+by_kind_next : (l : Line) (ms : List Line) (k : Kind) → kind_of l ≡ k → next_statement (l ∷ ms) ≡ next_by k l ms (next_statement ms)
+unfolding next_statement
+by_kind_next l ms k h = ap (λ (k : Kind). next_by k l ms (next_statement ms)) h
+
+one_statement : SomeOf (written (codes "a=b") ∷ [])
+unfolding next_statement statement_at head_next name_next head_behind equals_value behind
+one_statement = (_, _, refl)
+
+-- spaces alone, before a statement
+blank_then : (sp : List TextUnit) → AllIn is_space_unit sp → SomeOf (with_units (sp ++ text []) (written []) ∷ written (codes "a=b") ∷ [])
+blank_then sp a = (one_statement.0, one_statement.1, by_kind_next (with_units (sp ++ []) (written [])) (written (codes "a=b") ∷ []) BlankLine (kind_spaced sp [] a refl) ∙ one_statement.2)
+
+-- The fault is that of the line's kind, whatever is behind its first unit.
+of_kind : (l : Line) (ls : List Line) (fault : Fault) → NamesThePlaceOf fault (with_units (behind_spaces l.units) l)
+    → ((m : Line) (ms : List Line) → element m.units ≡ element (behind_spaces l.units) → is_ok (next_statement (with_units (spaces_of l.units ++ m.units) m ∷ ms)) ≡ false) → StandsLeftmost (l ∷ ls) fault
+of_kind l ls fault place none =
+    let c = blank_then (spaces_of l.units) (spaces_pass l.units) in
+    record {
+      before = [];
+      begun = spaces_of l.units;
+      line = with_units (behind_spaces l.units) l;
+      others = ls;
+      cut = ap (λ (y : List TextUnit). with_units y l ∷ ls) (spaces_cut l.units);
+      place = place;
+      some = record { bytes = []; lines = codes "a=b" ∷ []; plain_bytes = refl; plain_lines = refl; placed = c.0; rest = c.1; reads = c.2 };
+      none = none;
+    }
+
+tab_leftmost : (l : Line) (ls : List Line) (tab : Spot) → kind_of l ≡ TabLine tab → StandsLeftmost (l ∷ ls) (Bad (lex.Tab tab))
+tab_leftmost l ls tab k =
+    of_kind l ls (Bad (lex.Tab tab)) (tab_place l.units tab l.end k)
+    (λ m ms same. no_result _ _ (by_kind_next (with_units (spaces_of l.units ++ m.units) m) ms (TabLine tab) (kind_replaced l.units m.units (element-front m.units (behind_spaces l.units) same) ∙ k)))
+
+indented_leftmost : (l : Line) (ls : List Line) → kind_of l ≡ IndentedLine → StandsLeftmost (l ∷ ls) (UnexpectedIndent (front_of l))
+indented_leftmost l ls k =
+    of_kind l ls (UnexpectedIndent (front_of l)) refl
+    (λ m ms same. no_result _ _ (by_kind_next (with_units (spaces_of l.units ++ m.units) m) ms IndentedLine (kind_replaced l.units m.units (element-front m.units (behind_spaces l.units) same) ∙ k)))
+
+-- behind a line that says nothing, and is not the last
+leftmost_behind : (l : Line) (ls : List Line) (fault : Fault) → ((ms : List Line) → next_statement (l ∷ ms) ≡ next_statement ms) → StandsLeftmost ls fault → StandsLeftmost (l ∷ ls) fault
+leftmost_behind l ls fault same r = record {
+  before = l ∷ r.before;
+  begun = r.begun;
+  line = r.line;
+  others = r.others;
+  cut = ap (λ (y : List Line). l ∷ y) r.cut;
+  place = r.place;
+  some = record { bytes = r.some.bytes; lines = r.some.lines; plain_bytes = r.some.plain_bytes; plain_lines = r.some.plain_lines; placed = r.some.placed; rest = r.some.rest; reads = same (goes_on r.before r.begun (written r.some.bytes) (map written r.some.lines)) ∙ r.some.reads };
+  none = λ m ms e. ap is_ok (same (goes_on r.before r.begun m ms)) ∙ r.none m ms e;
+}
+
+not_last : (t : Bool) (rest : List Line) (others : Reading (Option PlacedText)) (f : Fault) → cond t (nothing_more rest) others ≡ Err f → (t ≡ false) × (others ≡ Err f)
+not_last true rest others f h = absurd cc
+not_last false rest others f h = (refl, h)
+
+nothing_no_fault : (rest : List Line) (f : Fault) → nothing_more rest ≡ Err f → ⊥
+nothing_no_fault rest f h = absurd cc
+
+no_lines_next : next_statement [] ≡ nothing_more []
+unfolding next_statement
+no_lines_next = refl
+
+pub leftmost : (ls : List Line) (fault : Fault) → next_statement ls ≡ Err fault → is_syntax fault ≡ true → StandsLeftmost ls fault
+leftmost [] fault h syntax = absurd (nothing_no_fault [] fault (sym no_lines_next ∙ h))
+leftmost (l ∷ ls) fault h syntax = by_kind (kind_of l) refl (λ e. leftmost ls fault e syntax)
+  where
+    by_kind : (k : Kind) → kind_of l ≡ k → (next_statement ls ≡ Err fault → StandsLeftmost ls fault) → StandsLeftmost (l ∷ ls) fault
+    by_kind CommentLine k rest =
+        let last = not_last l.is_last (lines_behind l (without_comments ls)) (next_statement ls) fault (sym (by_kind_next l ls CommentLine k) ∙ h) in
+        leftmost_behind l ls fault (λ ms. by_kind_next l ms CommentLine k ∙ ap (λ (t : Bool). cond t (nothing_more (lines_behind l (without_comments ms))) (next_statement ms)) last.0) (rest last.1)
+    by_kind (TabLine tab) k rest = as_fault (l ∷ ls) fault (Bad (lex.Tab tab)) (same_fault (next_statement (l ∷ ls)) fault (Bad (lex.Tab tab)) h (by_kind_next l ls (TabLine tab) k)) (tab_leftmost l ls tab k)
+    by_kind IndentedLine k rest = as_fault (l ∷ ls) fault (UnexpectedIndent (front_of l)) (same_fault (next_statement (l ∷ ls)) fault (UnexpectedIndent (front_of l)) h (by_kind_next l ls IndentedLine k)) (indented_leftmost l ls k)
+    by_kind BlankLine k rest =
+        let last = not_last l.is_last (lines_behind l ls) (next_statement ls) fault (sym (by_kind_next l ls BlankLine k) ∙ h) in
+        leftmost_behind l ls fault (λ ms. by_kind_next l ms BlankLine k ∙ ap (λ (t : Bool). cond t (nothing_more (lines_behind l ms)) (next_statement ms)) last.0) (rest last.1)
+    by_kind PlainLine k rest = plain_leftmost l ls fault k h syntax

@@ -1,0 +1,232 @@
+-- Reading on along a line: where a reading passes, where it fails, and what both say of a whole line.
+use Rattle.std.proofs.Common.{◌≡◌, ℕ, Bool, true, false, ◌||◌, ◌==◌, eqb, Option, Some, None, Result, Ok, Err, is_ok, ◌⊎◌, inl, inr, List, [], ◌∷◌, ◌++◌, map, refl, sym, ap, subst, ◌∙◌, append_assoc}
+use Rattle.std.proofs.lemmas.Bool.{eqb-true}
+use Rattle.nj_text.specs.declared.fault.LexFault.{LexFault}
+use Rattle.nj_text.specs.declared.fault.LexFault.TheVariants as lex
+use Rattle.nj_text.specs.declared.spot.Spot.{Spot}
+use Rattle.nj_text.specs.Bytes.{is_space}
+use Rattle.nj_text.specs.Units.{Meaning, Ordinary, LeadingTab, BadByte, BadEscape, TextUnit, is_ordinary_in}
+use Rattle.nj_text.specs.Lines.{Line, with_units, lines_behind, spot_of_first}
+use Rattle.nj_text.specs.Words.{is_blank, is_blank_meaning, begins_with_byte, fault_of_meaning, next_fault}
+use Rattle.nj_text.specs.Calls.{State, Between, Inside, fault_spot}
+use Rattle.nj_text.proofs.Lists.{AllIn}
+use Rattle.nj_manifest.specs.Faults.{Fault}
+use Rattle.nj_manifest.specs.Steps.{Step, ◌>>=◌}
+use Rattle.nj_manifest.specs.Leftmost.{element, written_unit, written, are_plain, NamesThePlaceOf}
+use Rattle.nj_manifest.proofs.LeftmostRuns.{begins, no_other, not_byte, gap_of, skip, gap_passes, gap_cut}
+use Rattle.nj_manifest.proofs.LeftmostFronts.{front, front-append, front-alone, element-front}
+
+-- the lexer within a line, before these units
+abbrev pub at : List TextUnit → Line → List Line → State
+at us e ms = Inside (with_units us e) ms
+
+-- the units of bytes that stand for themselves
+abbrev pub text : List ℕ → List TextUnit
+text bytes = map written_unit bytes
+
+-- ---- what may be written behind a front
+
+-- nothing, or an ordinary byte that passes
+abbrev pub opens : (ℕ → Bool) → List TextUnit → Bool
+opens t [] = true
+opens t (u ∷ us) = is_ordinary_in t u.means
+
+abbrev pub is_colon : ℕ → Bool
+is_colon b = b == 58
+
+abbrev pub is_space_or_colon : ℕ → Bool
+is_space_or_colon b = b == 32 || b == 58
+
+abbrev pub is_separator : ℕ → Bool
+is_separator b = b == 32 || b == 58 || b == 61
+
+-- behind words; behind a word; behind a name
+abbrev pub after_words : List TextUnit → Bool
+after_words us = opens is_colon us
+
+abbrev pub after_word : List TextUnit → Bool
+after_word us = opens is_space_or_colon us
+
+abbrev pub after_name : List TextUnit → Bool
+after_name us = opens is_separator us
+
+abbrev pub anything : List TextUnit → Bool
+anything us = true
+
+pub colon_is : (Q : ℕ → Type 0) → Q 58 → (b : ℕ) → is_colon b ≡ true → Q b
+colon_is Q q b h = subst Q (sym (eqb-true b 58 h)) q
+
+pub space_or_colon_is : (Q : ℕ → Type 0) → Q 32 → Q 58 → (b : ℕ) → is_space_or_colon b ≡ true → Q b
+space_or_colon_is Q p q b h = by_test (eqb b 32) refl h
+  where
+    by_test : (t : Bool) → eqb b 32 ≡ t → (t || eqb b 58) ≡ true → Q b
+    by_test true e g = subst Q (sym (eqb-true b 32 e)) p
+    by_test false e g = subst Q (sym (eqb-true b 58 g)) q
+
+pub separator_is : (Q : ℕ → Type 0) → Q 32 → Q 58 → Q 61 → (b : ℕ) → is_separator b ≡ true → Q b
+separator_is Q p q r b h = by_test (eqb b 32) (eqb b 58) refl refl h
+  where
+    by_test : (s t : Bool) → eqb b 32 ≡ s → eqb b 58 ≡ t → (s || t || eqb b 61) ≡ true → Q b
+    by_test true t e f g = subst Q (sym (eqb-true b 32 e)) p
+    by_test false true e f g = subst Q (sym (eqb-true b 58 f)) q
+    by_test false false e f g = subst Q (sym (eqb-true b 61 g)) r
+
+pub opens-none : (t : ℕ → Bool) (test : Meaning → Bool) → ((b : ℕ) → t b ≡ true → test (Ordinary b) ≡ false) → (us : List TextUnit) → opens t us ≡ true → begins (λ u. test u.means) us ≡ false
+opens-none t test f [] h = refl
+opens-none t test f (u ∷ us) h = no_other t test f u.means h
+
+ordinary-more : (t t' : ℕ → Bool) → ((b : ℕ) → t b ≡ true → t' b ≡ true) → (m : Meaning) → is_ordinary_in t m ≡ true → is_ordinary_in t' m ≡ true
+ordinary-more t t' f (Ordinary b) h = f b h
+ordinary-more t t' f m h = absurd cc
+
+pub opens-more : (t t' : ℕ → Bool) → ((b : ℕ) → t b ≡ true → t' b ≡ true) → (us : List TextUnit) → opens t us ≡ true → opens t' us ≡ true
+opens-more t t' f [] h = refl
+opens-more t t' f (u ∷ us) h = ordinary-more t t' f u.means h
+
+pub ordinary_no_fault : (t : ℕ → Bool) (m : Meaning) (spot : Spot) → is_ordinary_in t m ≡ true → fault_of_meaning m spot ≡ None
+ordinary_no_fault t (Ordinary b) spot h = refl
+ordinary_no_fault t m spot h = absurd cc
+
+pub opens-no_fault : (t : ℕ → Bool) (us : List TextUnit) → opens t us ≡ true → next_fault us ≡ None
+opens-no_fault t [] h = refl
+opens-no_fault t (u ∷ us) h = ordinary_no_fault t u.means u.spot h
+
+-- ---- units that stand here in place of others
+
+-- a text that may be written, or units that are seen as those that stand here
+abbrev pub Fits : (List TextUnit → Bool) → List TextUnit → List TextUnit → Type 0
+Fits t us x = (t x ≡ true) ⊎ (front x ≡ front us)
+
+-- what a text and the units here have in common
+pub by_fits : {t : List TextUnit → Bool} (us x : List TextUnit) (p : List TextUnit → Bool) → ((y : List TextUnit) → t y ≡ true → p y ≡ false) → ((y : List TextUnit) → front y ≡ front us → p y ≡ p us) → p us ≡ false → Fits t us x → p x ≡ false
+by_fits us x p f g h (inl e) = f x e
+by_fits us x p f g h (inr e) = g x e ∙ h
+
+pub fits-alone : (t : List TextUnit → Bool) (us : List TextUnit) (u : TextUnit) (used left x : List TextUnit) → begins_with_byte 124 (u ∷ []) ≡ false → us ≡ (u ∷ used) ++ left → Fits t us ((u ∷ used) ++ x)
+fits-alone t us u used left x h e = inr (front-alone u (used ++ x) h ∙ (sym (front-alone u (used ++ left) h) ∙ ap front (sym e)))
+
+pub blank_no_pipe : (m : Meaning) → is_blank_meaning m ≡ true → is_ordinary_in (λ c. eqb c 124) m ≡ false
+blank_no_pipe (Ordinary b) h = not_byte is_space 124 refl b h
+blank_no_pipe m h = refl
+
+fits-blanks : (t : List TextUnit → Bool) (us gap left x : List TextUnit) → AllIn is_blank gap → us ≡ gap ++ left → t x ≡ true → Fits t us (gap ++ x)
+fits-blanks t us [] left x h e g = inl g
+fits-blanks t us (u ∷ gap) left x h e g = fits-alone t us u gap left x (blank_no_pipe u.means h.0) e
+
+pub fits-gap : (t : List TextUnit → Bool) (us x : List TextUnit) → t x ≡ true → Fits t us (gap_of us ++ x)
+fits-gap t us x g = fits-blanks t us (gap_of us) (skip us) x (gap_passes us) (gap_cut us) g
+
+-- ---- one reading
+
+-- It passes some units and stands behind them, whatever follows that fits.
+pub record Passes {A : Type 0} (f : State → Step A) (t t' : List TextUnit → Bool) (us : List TextUnit) : Type 0 where
+  pub used : List TextUnit
+  pub left : List TextUnit
+  pub value : A
+  pub cut : us ≡ used ++ left
+  pub goes : (x : List TextUnit) (e : Line) (ms : List Line) → Fits t' left x → f (at (used ++ x) e ms) ≡ Ok (value, at x e ms)
+  pub settled : (x : List TextUnit) → Fits t' left x → Fits t us (used ++ x)
+
+-- It fails behind some units, and so with each rest that begins with the same element.
+pub record FailsAt {A : Type 0} (f : State → Step A) (us : List TextUnit) (e : Line) (fault : Fault) (used left : List TextUnit) : Type 0 where
+  pub cut : us ≡ used ++ left
+  pub place : NamesThePlaceOf fault (with_units left e)
+  pub fails : (ms : List Line) → f (at us e ms) ≡ Err fault
+  pub none : (x : List TextUnit) (d : Line) (ms : List Line) → element x ≡ element left → is_ok (f (at (used ++ x) d ms)) ≡ false
+
+-- the place of the first of the units, if that is a bad one
+pub fault-place : (us : List TextUnit) (end : Spot) (f : LexFault) → next_fault us ≡ Some f → fault_spot f ≡ spot_of_first us end
+fault-place [] end f h = absurd cc
+fault-place (u ∷ us) end f h = by_meaning u.means h
+  where
+    same : (g : LexFault) → ◌≡◌ {A = Option LexFault} (Some g) (Some f) → g ≡ f
+    same g e = cc
+
+    by_meaning : (m : Meaning) → fault_of_meaning m u.spot ≡ Some f → fault_spot f ≡ u.spot
+    by_meaning BadByte h = ap fault_spot (sym (same (lex.BadByte u.spot) h))
+    by_meaning BadEscape h = ap fault_spot (sym (same (lex.BadEscape u.spot) h))
+    by_meaning LeadingTab h = ap fault_spot (sym (same (lex.Tab u.spot) h))
+    by_meaning m h = absurd cc
+
+-- ---- a whole line
+
+-- what is said of a line's reading: its units, its end, the lines behind it, and the reading
+abbrev pub Said : Type 0 → Type 1
+Said B = List TextUnit → Line → List Line → Step B → Type 0
+
+-- The reading of the whole goes on from here as k says.
+pub record Along {B : Type 0} (P : Said B) (whole : List TextUnit) (k : State → Step B) (t : List TextUnit → Bool) (us : List TextUnit) : Type 0 where
+  pub begun : List TextUnit
+  pub cut : whole ≡ begun ++ us
+  pub goes : (x : List TextUnit) (e : Line) (ms : List Line) → Fits t us x → P (begun ++ x) e ms (k (at x e ms))
+
+-- The reading of the whole fails where no element like this one helps, and some text does.
+pub record Stuck {B : Type 0} (P : Said B) (whole : List TextUnit) (e : Line) (fault : Fault) : Type 0 where
+  pub begun : List TextUnit
+  pub left : List TextUnit
+  pub cut : whole ≡ begun ++ left
+  pub place : NamesThePlaceOf fault (with_units left e)
+  pub fails : (ms : List Line) → P whole e ms (Err fault)
+  pub none : (x : List TextUnit) (d : Line) (ms : List Line) → element x ≡ element left → (f : Fault) × P (begun ++ x) d ms (Err f)
+  pub bytes : List ℕ
+  pub plain : are_plain bytes ≡ true
+  pub value : B
+  pub some : (ms : List Line) → P (begun ++ text bytes) (written []) ms (Ok (value, Between ms))
+
+pub data Outcome {B : Type 0} (P : Said B) (whole : List TextUnit) (e : Line) : Type 0 where
+  stuck : (fault : Fault) (here : Stuck P whole e fault) → Outcome P whole e
+  through : (value : B) (so : (ms : List Line) → P whole e ms (Ok (value, Between (lines_behind e ms)))) → Outcome P whole e
+
+pub begin : {B : Type 0} (P : Said B) (k : State → Step B) (t : List TextUnit → Bool) (us : List TextUnit) → ((x : List TextUnit) (e : Line) (ms : List Line) → Fits t us x → P x e ms (k (at x e ms))) → Along P us k t us
+begin P k t us h = record { begun = []; cut = refl; goes = h }
+
+pub pass : {A B : Type 0} {P : Said B} {whole : List TextUnit} {t t' : List TextUnit → Bool} {us : List TextUnit} (k : State → Step B) (f : State → Step A) (g : A × State → Step B) → ((s : State) → k s ≡ (f s >>= g)) → Along P whole k t us
+    → (p : Passes f t t' us) → Along P whole (λ s. g (p.value, s)) t' p.left
+pass {P = P} {whole = whole} {us = us} k f g so a p = record {
+  begun = a.begun ++ p.used;
+  cut = a.cut ∙ (ap (λ (x : List TextUnit). a.begun ++ x) p.cut ∙ sym (append_assoc a.begun p.used p.left));
+  goes = λ x e ms fit.
+      let on = so (at (p.used ++ x) e ms) ∙ ap (λ r. r >>= g) (p.goes x e ms fit) in
+      subst (λ (y : List TextUnit). P y e ms (g (p.value, at x e ms))) (sym (append_assoc a.begun p.used x)) (subst (P (a.begun ++ (p.used ++ x)) e ms) on (a.goes (p.used ++ x) e ms (p.settled x fit)));
+}
+
+pub no_result : {A : Type 0} (r : Result A Fault) (f : Fault) → r ≡ Err f → is_ok r ≡ false
+no_result r f h = rw h refl
+
+pub no_bind : {A B : Type 0} (r : Result A Fault) (g : A → Result B Fault) → is_ok r ≡ false → is_ok (r >>= g) ≡ false
+no_bind (Ok x) g h = absurd cc
+no_bind (Err f) g h = refl
+
+pub its_fault : {A : Type 0} (r : Result A Fault) → is_ok r ≡ false → (f : Fault) × (r ≡ Err f)
+its_fault (Ok x) h = absurd cc
+its_fault (Err f) h = (f, refl)
+
+pub stick : {A B : Type 0} {P : Said B} {whole : List TextUnit} {t : List TextUnit → Bool} {us : List TextUnit} {e : Line} {fault : Fault} {used left : List TextUnit} (k : State → Step B) (f : State → Step A) (g : A × State → Step B)
+    → ((s : State) → k s ≡ (f s >>= g)) → Along P whole k t us → FailsAt f us e fault used left → (bytes : List ℕ) → are_plain bytes ≡ true → (value : B) → Fits t us (used ++ text bytes)
+    → ((ms : List Line) → k (at (used ++ text bytes) (written []) ms) ≡ Ok (value, Between ms)) → Stuck P whole e fault
+stick {P = P} {whole = whole} {us = us} {e = e} {fault = fault} {used = used} {left = left} k f g so a n bytes plain value fit some = record {
+  begun = a.begun ++ used;
+  left = left;
+  cut = a.cut ∙ (ap (λ (x : List TextUnit). a.begun ++ x) n.cut ∙ sym (append_assoc a.begun used left));
+  place = n.place;
+  fails = λ ms.
+      let failed = so (at us e ms) ∙ ap (λ r. r >>= g) (n.fails ms) in
+      subst (λ (y : List TextUnit). P y e ms (Err fault)) (sym a.cut) (subst (P (a.begun ++ us) e ms) failed (a.goes us e ms (inr refl)));
+  none = λ x d ms same.
+      let failed = no_bind (f (at (used ++ x) d ms)) g (n.none x d ms same) in
+      let which = its_fault (f (at (used ++ x) d ms) >>= g) failed in
+      let seen = front-append used x left (element-front x left same) ∙ ap front (sym n.cut) in
+      (which.0, subst (λ (y : List TextUnit). P y d ms (Err which.0)) (sym (append_assoc a.begun used x)) (subst (P (a.begun ++ (used ++ x)) d ms) (so (at (used ++ x) d ms) ∙ which.1) (a.goes (used ++ x) d ms (inr seen))));
+  bytes = bytes;
+  plain = plain;
+  value = value;
+  some = λ ms. subst (λ (y : List TextUnit). P y (written []) ms (Ok (value, Between ms))) (sym (append_assoc a.begun used (text bytes))) (subst (P (a.begun ++ (used ++ text bytes)) (written []) ms) (some ms) (a.goes (used ++ text bytes) (written []) ms fit));
+}
+
+-- what is read to the end of the line
+pub arrive : {B : Type 0} {P : Said B} {whole : List TextUnit} {t : List TextUnit → Bool} {us : List TextUnit} (e : Line) (k : State → Step B) (value : B) → Along P whole k t us → ((ms : List Line) → k (at us e ms) ≡ Ok (value, Between (lines_behind e ms))) → Outcome P whole e
+arrive {P = P} {us = us} e k value a so = through value (λ ms. subst (λ (y : List TextUnit). P y e ms (Ok (value, Between (lines_behind e ms)))) (sym a.cut) (subst (P (a.begun ++ us) e ms) (so ms) (a.goes us e ms (inr refl))))
+
+pub bind-bind : {A B C : Type 0} (r : Result A Fault) (f : A → Result B Fault) (g : B → Result C Fault) → ((r >>= f) >>= g) ≡ (r >>= λ x. f x >>= g)
+bind-bind (Ok x) f g = refl
+bind-bind (Err e) f g = refl

@@ -1,0 +1,164 @@
+-- Values along a line: `= VALUE` to its end, or the first bad unit in it.
+use Rattle.std.proofs.Common.{◌≡◌, Bool, true, false, cond, Option, Some, None, Result, Ok, Err, inl, List, [], ◌∷◌, ◌++◌, refl, sym, ap, ◌∙◌}
+use Rattle.nj_text.specs.declared.fault.LexFault.{LexFault}
+use Rattle.nj_text.specs.declared.sign.Sign.TheVariants as sign
+use Rattle.nj_text.specs.declared.spot.Spot.{Spot}
+use Rattle.nj_text.specs.Units.{Meaning, Ordinary, Join, OpeningJoin, TextUnit}
+use Rattle.nj_text.specs.Lines.{Line, lines_behind, spot_of_first}
+use Rattle.nj_text.specs.Words.{is_blank, is_blank_meaning, is_opening_meaning, behind_opening, fault_of, fault_of_meaning, next_fault, or_else, first_fault, parts_of, WordText}
+use Rattle.nj_text.specs.Calls.{State, Between, reply, unless_fault, value_of}
+use Rattle.nj_manifest.specs.declared.fault.Wanted.TheVariants as wanted
+use Rattle.nj_manifest.specs.Faults.{Fault, Bad}
+use Rattle.nj_manifest.specs.Steps.{Step, ◌>>=◌, called, behind}
+use Rattle.nj_manifest.specs.Statements.{equals_value}
+use Rattle.nj_manifest.specs.Leftmost.{written}
+use Rattle.nj_manifest.proofs.LeftmostRuns.{skip}
+use Rattle.nj_manifest.proofs.LeftmostFronts.{fault-same, element-front}
+use Rattle.nj_manifest.proofs.LeftmostSteps.{no_result, at, text, anything, after_name, FailsAt, fault-place, Said, Along, Outcome, stuck, stick, arrive}
+use Rattle.nj_manifest.proofs.LeftmostSigns.{sign_step, led_on, ending, equals_single}
+use Rattle.nj_manifest.proofs.LeftmostTurns.{ReadTo, sign_turn}
+
+-- ---- the first bad unit
+
+blank_no_fault : (m : Meaning) (spot : Spot) → is_blank_meaning m ≡ true → fault_of_meaning m spot ≡ None
+blank_no_fault (Ordinary b) spot h = refl
+blank_no_fault Join spot h = refl
+blank_no_fault m spot h = absurd cc
+
+opening_no_fault : (m : Meaning) (spot : Spot) → is_opening_meaning m ≡ true → fault_of_meaning m spot ≡ None
+opening_no_fault OpeningJoin spot h = refl
+opening_no_fault m spot h = absurd cc
+
+first_of_sound : (u : TextUnit) (us : List TextUnit) → fault_of u ≡ None → first_fault us ≡ first_fault (u ∷ us)
+first_of_sound u us h = sym (ap (λ (f : Option LexFault). or_else f (first_fault us)) h)
+
+first_behind_blanks : (us : List TextUnit) → first_fault (skip us) ≡ first_fault us
+first_behind_blanks [] = refl
+first_behind_blanks (u ∷ us) = by_test (is_blank u) refl (first_behind_blanks us)
+  where
+    by_test : (t : Bool) → is_blank u ≡ t → first_fault (skip us) ≡ first_fault us → first_fault (cond t (skip us) (u ∷ us)) ≡ first_fault (u ∷ us)
+    by_test true e rest = rest ∙ first_of_sound u us (blank_no_fault u.means u.spot e)
+    by_test false e rest = refl
+
+first_behind_opening : (us : List TextUnit) → first_fault (behind_opening us) ≡ first_fault us
+first_behind_opening [] = refl
+first_behind_opening (u ∷ us) = by_test (is_opening_meaning u.means) refl
+  where
+    by_test : (t : Bool) → is_opening_meaning u.means ≡ t → first_fault (cond t us (u ∷ us)) ≡ first_fault (u ∷ us)
+    by_test true e = first_of_sound u us (opening_no_fault u.means u.spot e)
+    by_test false e = refl
+
+first_behind_sound : (used x : List TextUnit) → first_fault used ≡ None → first_fault (used ++ x) ≡ first_fault x
+first_behind_sound [] x h = refl
+first_behind_sound (u ∷ used) x h = by_unit (fault_of u) refl h (first_behind_sound used x)
+  where
+    by_unit : (f : Option LexFault) → fault_of u ≡ f → or_else f (first_fault used) ≡ None → (first_fault used ≡ None → first_fault (used ++ x) ≡ first_fault x) → or_else f (first_fault (used ++ x)) ≡ first_fault x
+    by_unit None e g rest = rest g
+    by_unit (Some bad) e g rest = absurd cc
+
+first_is_next : (x : List TextUnit) (bad : LexFault) → next_fault x ≡ Some bad → first_fault x ≡ Some bad
+first_is_next [] bad h = absurd cc
+first_is_next (u ∷ x) bad h = ap (λ (f : Option LexFault). or_else f (first_fault x)) h
+
+-- the units before the first bad one
+record Sound (us : List TextUnit) (bad : LexFault) : Type 0 where
+  used : List TextUnit
+  left : List TextUnit
+  cut : us ≡ used ++ left
+  sound : first_fault used ≡ None
+  next : next_fault left ≡ Some bad
+
+before_bad : (us : List TextUnit) (bad : LexFault) → first_fault us ≡ Some bad → Sound us bad
+before_bad [] bad h = absurd cc
+before_bad (u ∷ us) bad h = by_unit (fault_of u) refl h (before_bad us bad)
+  where
+    by_unit : (f : Option LexFault) → fault_of u ≡ f → or_else f (first_fault us) ≡ Some bad → (first_fault us ≡ Some bad → Sound us bad) → Sound (u ∷ us) bad
+    by_unit (Some other) e g rest = record { used = []; left = u ∷ us; cut = refl; sound = refl; next = e ∙ g }
+    by_unit None e g rest =
+        let r = rest g in
+        record { used = u ∷ r.used; left = r.left; cut = ap (λ (y : List TextUnit). u ∷ y) r.cut; sound = sym (first_of_sound u r.used e) ∙ r.sound; next = r.next }
+
+-- ---- the value
+
+abbrev value_call : State → Step WordText
+value_call s = called (value_of s)
+
+-- where a value begins
+abbrev value_units : List TextUnit → List TextUnit
+value_units us = skip (behind_opening us)
+
+abbrev value_text : List TextUnit → Line → WordText
+value_text us e = record { spot = spot_of_first (value_units us) e.end; parts = parts_of (value_units us) }
+
+value_by : (f : Option LexFault) (w : WordText) (s : State) → f ≡ None → called (unless_fault f (reply w s)) ≡ Ok (w, s)
+value_by f w s h = rw h refl
+
+value_bad_by : (f : Option LexFault) (w : WordText) (s : State) (bad : LexFault) → f ≡ Some bad → called (unless_fault f (reply w s)) ≡ Err (Bad bad)
+value_bad_by f w s bad h = rw h refl
+
+first_of_value : (us : List TextUnit) → first_fault (value_units us) ≡ first_fault us
+first_of_value us = first_behind_blanks (behind_opening us) ∙ first_behind_opening us
+
+value_ok : (us : List TextUnit) (e : Line) (ms : List Line) → first_fault us ≡ None → value_call (at us e ms) ≡ Ok (value_text us e, at [] e ms)
+value_ok us e ms h = value_by _ (value_text us e) (at [] e ms) (first_of_value us ∙ h)
+
+value_bad : (us : List TextUnit) (e : Line) (ms : List Line) (bad : LexFault) → first_fault us ≡ Some bad → value_call (at us e ms) ≡ Err (Bad bad)
+value_bad us e ms bad h = value_bad_by _ (value_text us e) (at [] e ms) bad (first_of_value us ∙ h)
+
+bad_value : (us : List TextUnit) (e : Line) (bad : LexFault) → (s : Sound us bad) → FailsAt value_call us e (Bad bad) s.used s.left
+bad_value us e bad s = record {
+  cut = s.cut;
+  place = fault-place s.left e.end bad s.next;
+  fails = λ ms. value_bad us e ms bad (ap first_fault s.cut ∙ (first_behind_sound s.used s.left s.sound ∙ first_is_next s.left bad s.next));
+  none = λ x d ms same.
+      no_result _ _ (value_bad (s.used ++ x) d ms bad (first_behind_sound s.used x s.sound ∙ first_is_next x bad (fault-same x s.left (element-front x s.left same) ∙ s.next)));
+}
+
+-- the value, and then the end of the line
+abbrev valued : {B : Type 0} → (WordText → B) → WordText × State → Step B
+valued view v = ending (view v.0) (behind sign.LineEnd wanted.Newline v.1)
+
+value_ended : {B : Type 0} (view : WordText → B) (us : List TextUnit) (e : Line) (ms : List Line) → first_fault us ≡ None → (value_call (at us e ms) >>= valued view) ≡ Ok (view (value_text us e), Between (lines_behind e ms))
+unfolding behind
+value_ended view us e ms h = ap (λ r. r >>= valued view) (value_ok us e ms h)
+
+value_is : {B : Type 0} (view : WordText → B) (w : WordText) (r : Result State Fault) → ◌≡◌ {A = Step B} (ending w r >>= λ v. Ok (view v.0, v.1)) (ending (view w) r)
+value_is view w (Ok end) = refl
+value_is view w (Err f) = refl
+
+valued_is : {B : Type 0} (view : WordText → B) (r : Step WordText) → ◌≡◌ {A = Step B} ((r >>= λ value. ending value.0 (behind sign.LineEnd wanted.Newline value.1)) >>= λ v. Ok (view v.0, v.1)) (r >>= valued view)
+valued_is view (Ok v) = value_is view v.0 (behind sign.LineEnd wanted.Newline v.1)
+valued_is view (Err f) = refl
+
+led_is : {B : Type 0} (view : WordText → B) (r : Result State Fault)
+    → ◌≡◌ {A = Step B} ((r >>= λ equals. value_call equals >>= λ value. ending value.0 (behind sign.LineEnd wanted.Newline value.1)) >>= λ v. Ok (view v.0, v.1)) (led_on r >>= λ c. value_call c.1 >>= valued view)
+led_is view (Ok equals) = valued_is view (value_call equals)
+led_is view (Err f) = refl
+
+-- `= VALUE`, in steps
+abbrev equals_then : {B : Type 0} → (WordText → B) → Bool × State → Step B
+equals_then view c = value_call c.1 >>= valued view
+
+equals_is : {B : Type 0} (view : WordText → B) (s : State) → ◌≡◌ {A = Step B} (◌>>=◌ {B = B × State} (equals_value s) (λ v. Ok (view v.0, v.1))) (sign_step sign.Equals wanted.Equals s >>= equals_then view)
+unfolding equals_value
+equals_is view s = led_is view (behind sign.Equals wanted.Equals s)
+
+read_x : {B : Type 0} (view : WordText → B) → ReadTo (λ ms. sign_step sign.Equals wanted.Equals (at (text (61 ∷ 120 ∷ [])) (written []) ms) >>= equals_then view)
+unfolding behind
+read_x view = (view (value_text (text (120 ∷ [])) (written [])), λ ms. refl)
+
+-- A line that ends with a value.
+pub value_turn : {B : Type 0} {P : Said B} {whole us : List TextUnit} (e : Line) (view : WordText → B) (k : State → Step B) → ((s : State) → k s ≡ ◌>>=◌ {B = B × State} (equals_value s) (λ v. Ok (view v.0, v.1))) → Along P whole k after_name us → Outcome P whole e
+value_turn {B = B} {P = P} {whole = whole} e view k so a =
+    sign_turn e sign.Equals wanted.Equals anything equals_single k (equals_then view) (λ s. so s ∙ equals_is view s) a (61 ∷ 120 ∷ []) refl refl (read_x view) (λ p b. at_value p.left b)
+  where
+    at_value : (left : List TextUnit) → Along P whole (λ s. value_call s >>= valued view) anything left → Outcome P whole e
+    at_value left b = by_fault (first_fault left) refl
+      where
+        by_fault : (f : Option LexFault) → first_fault left ≡ f → Outcome P whole e
+        by_fault None h = arrive e (λ s. value_call s >>= valued view) (view (value_text left e)) b (λ ms. value_ended view left e ms h)
+        by_fault (Some bad) h =
+            let s = before_bad left bad h in
+            let sound = first_behind_sound s.used [] s.sound in
+            stuck (Bad bad) (stick (λ s. value_call s >>= valued view) value_call (valued view) (λ s. refl) b (bad_value left e bad s) [] refl (view (value_text (s.used ++ []) (written []))) (inl refl)
+            (λ ms. value_ended view (s.used ++ []) (written []) ms sound))

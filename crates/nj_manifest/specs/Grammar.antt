@@ -1,0 +1,233 @@
+-- The forms of the manual: which lines are a statement. A line's units are cut into parts, and each part is tested by
+-- itself; nothing here says how one reads on from a place, or what is refused.
+use Rattle.std.specs.Prelude.{◌≡◌, ℕ, Bool, true, false, ◌&&◌, not, Option, Some, None, List, [], ◌∷◌, ◌++◌, map, codes, ◌↔◌}
+use Rattle.std.specs.List.{list_all, list_any}
+use Rattle.std.specs.Str.{bytes_eq}
+use Rattle.nj_text.specs.declared.sign.Sign.{Sign}
+use Rattle.nj_text.specs.declared.sign.Sign.TheVariants as sign
+use Rattle.nj_text.specs.declared.spot.Spot.{Spot}
+use Rattle.nj_text.specs.Units.{Ordinary, TextUnit}
+use Rattle.nj_text.specs.Lines.{Line, line_spot, lines_behind, spot_of_first, CommentLine, BlankLine, IndentedLine, PlainLine, kind_of}
+use Rattle.nj_text.specs.Words.{WordText, is_blank, is_opening_meaning, in_identifier, opens_word, in_word, first_fault, parts_of, begins_with_byte}
+use Rattle.nj_text.specs.Calls.{bytes_of, is_empty, without_comments}
+use Rattle.nj_manifest.specs.declared.block.Keys.{Keys}
+use Rattle.nj_manifest.specs.declared.block.Keys.TheVariants as keys
+use Rattle.nj_manifest.specs.Steps.{NameText}
+use Rattle.nj_manifest.specs.Statements.{LineText, allows, OutputsText, InputsText, StatementText, BindingText, RuleText, PoolText, BuildText, DefaultText, IncludeText, SubninjaText, PlacedText, HeadText, Alone, RuleHead, PoolHead, BuildHead}
+
+-- ---- parts of a line
+
+-- whether the units begin with such a one
+abbrev pub begins : (TextUnit → Bool) → List TextUnit → Bool
+begins p [] = false
+begins p (u ∷ us) = p u
+
+-- units that are blanks, all of them
+abbrev pub AreBlanks : List TextUnit → Type 0
+AreBlanks us = list_all is_blank us ≡ true
+
+-- Units that are blanks, an identifier, and the rest. The identifier has a byte at least, and is as long as can be.
+pub record IdentifierForm (us : List TextUnit) (name : NameText) (rest : List TextUnit) : Type 0 where
+  pub gap : List TextUnit
+  pub first : TextUnit
+  pub others : List TextUnit
+  pub cut : us ≡ gap ++ first ∷ others ++ rest
+  pub blanks : AreBlanks gap
+  pub of_name : list_all in_identifier (first ∷ others) ≡ true
+  pub longest : begins in_identifier rest ≡ false
+  pub place : name.spot ≡ first.spot
+  pub bytes : name.name ≡ bytes_of (first ∷ others)
+  pub some_byte : is_empty name.name ≡ false
+
+-- blanks, this word of the language, and the rest
+pub record KeywordForm (word : List ℕ) (us : List TextUnit) (rest : List TextUnit) : Type 0 where
+  pub spot : Spot
+  pub here : IdentifierForm us (record { spot = spot; name = word }) rest
+
+-- the words of the language, with which no binding begins
+abbrev pub keywords : List (List ℕ)
+keywords = codes "build" ∷ codes "rule" ∷ codes "pool" ∷ codes "default" ∷ codes "include" ∷ codes "subninja" ∷ []
+
+-- Blanks, a path, and the rest. The path is as long as can be.
+pub record WordForm (us : List TextUnit) (word : WordText) (rest : List TextUnit) : Type 0 where
+  pub gap : List TextUnit
+  pub first : TextUnit
+  pub others : List TextUnit
+  pub cut : us ≡ gap ++ first ∷ others ++ rest
+  pub blanks : AreBlanks gap
+  pub opens : opens_word first ≡ true
+  pub of_word : list_all in_word (first ∷ others) ≡ true
+  pub longest : begins in_word rest ≡ false
+  pub place : word.spot ≡ first.spot
+  pub parts : word.parts ≡ parts_of (first ∷ others)
+
+-- paths, none or some, and the rest
+pub data WordsForm : (us : List TextUnit) → List WordText → (rest : List TextUnit) → Type 0 where
+  none : {us : List TextUnit} → WordsForm us [] us
+  more : {us behind rest : List TextUnit} {word : WordText} {words : List WordText} → WordForm us word behind → WordsForm behind words rest → WordsForm us (word ∷ words) rest
+
+-- the bytes of a sign; the end of a line has none
+abbrev pub sign_bytes : Sign → List ℕ
+sign_bytes sign.Colon = codes ":"
+sign_bytes sign.Equals = codes "="
+sign_bytes sign.Pipe = codes "|"
+sign_bytes sign.Pipe2 = codes "||"
+sign_bytes sign.PipeAt = codes "|@"
+sign_bytes sign.LineEnd = []
+
+-- `|` is a sign of its own where neither `||` nor `|@` begins with it
+abbrev pub is_longest : Sign → (rest : List TextUnit) → Bool
+is_longest sign.Pipe rest = not (begins_with_byte 124 rest) && not (begins_with_byte 64 rest)
+is_longest want rest = true
+
+-- blanks, a sign, and the rest
+pub record SignForm (want : Sign) (us : List TextUnit) (rest : List TextUnit) : Type 0 where
+  pub gap : List TextUnit
+  pub run : List TextUnit
+  pub cut : us ≡ gap ++ run ++ rest
+  pub blanks : AreBlanks gap
+  pub of_sign : map (λ u. u.means) run ≡ map Ordinary (sign_bytes want)
+  pub longest : is_longest want rest ≡ true
+
+-- a section that may be left out: its sign and its paths
+pub data SectionForm (want : Sign) : (us : List TextUnit) → List WordText → (rest : List TextUnit) → Type 0 where
+  left_out : {us : List TextUnit} → SectionForm want us [] us
+  there : {us behind rest : List TextUnit} {words : List WordText} → SignForm want us behind → WordsForm behind words rest → SectionForm want us words rest
+
+-- a join that opens its line, or nothing (no such join stands behind a sign of the same line in a text)
+abbrev pub is_opening : List TextUnit → Bool
+is_opening [] = true
+is_opening (u ∷ []) = is_opening_meaning u.means
+is_opening (u ∷ v ∷ us) = false
+
+-- Blanks, and behind them all the others, among which there is no bad unit. A value without units is placed where its
+-- line ends.
+pub record ValueForm (us : List TextUnit) (end : Spot) (value : WordText) : Type 0 where
+  pub opening : List TextUnit
+  pub gap : List TextUnit
+  pub run : List TextUnit
+  pub cut : us ≡ opening ++ gap ++ run
+  pub opens : is_opening opening ≡ true
+  pub longest_opening : opening ≡ [] → begins (λ u. is_opening_meaning u.means) us ≡ false
+  pub blanks : AreBlanks gap
+  pub longest : begins is_blank run ≡ false
+  pub good : first_fault run ≡ None
+  pub place : value.spot ≡ spot_of_first run end
+  pub parts : value.parts ≡ parts_of run
+
+-- ---- first lines
+
+-- `build OUTPUTS | IMPLICIT-OUTPUTS: RULE INPUTS | IMPLICIT || ORDER-ONLY |@ VALIDATIONS`, with an output at least
+pub record BuildForm (us : List TextUnit) (outputs : OutputsText) (rule : NameText) (inputs : InputsText) : Type 0 where
+  pub behind_build : List TextUnit
+  pub behind_explicit : List TextUnit
+  pub behind_outputs : List TextUnit
+  pub behind_colon : List TextUnit
+  pub behind_rule : List TextUnit
+  pub behind_inputs : List TextUnit
+  pub behind_implicit : List TextUnit
+  pub behind_order_only : List TextUnit
+  pub behind_validations : List TextUnit
+  pub keyword : KeywordForm (codes "build") us behind_build
+  pub explicit_outputs : WordsForm behind_build outputs.explicit behind_explicit
+  pub implicit_outputs : SectionForm sign.Pipe behind_explicit outputs.implicit behind_outputs
+  pub some_output : (is_empty outputs.explicit && is_empty outputs.implicit) ≡ false
+  pub colon : SignForm sign.Colon behind_outputs behind_colon
+  pub of_rule : IdentifierForm behind_colon rule behind_rule
+  pub explicit_inputs : WordsForm behind_rule inputs.explicit behind_inputs
+  pub implicit_inputs : SectionForm sign.Pipe behind_inputs inputs.implicit behind_implicit
+  pub order_only_inputs : SectionForm sign.Pipe2 behind_implicit inputs.order_only behind_order_only
+  pub validations : SectionForm sign.PipeAt behind_order_only inputs.validations behind_validations
+  pub end : AreBlanks behind_validations
+
+-- `NAME = VALUE`
+pub record BindingForm (us : List TextUnit) (end : Spot) (name : NameText) (value : WordText) : Type 0 where
+  pub behind_name : List TextUnit
+  pub behind_sign : List TextUnit
+  pub of_name : IdentifierForm us name behind_name
+  pub equals : SignForm sign.Equals behind_name behind_sign
+  pub of_value : ValueForm behind_sign end value
+
+-- this keyword and a name
+pub record NamedForm (word : List ℕ) (us : List TextUnit) (name : NameText) : Type 0 where
+  pub behind_keyword : List TextUnit
+  pub behind_name : List TextUnit
+  pub keyword : KeywordForm word us behind_keyword
+  pub of_name : IdentifierForm behind_keyword name behind_name
+  pub end : AreBlanks behind_name
+
+-- this keyword and a path
+pub record FileForm (word : List ℕ) (us : List TextUnit) (file : WordText) : Type 0 where
+  pub behind_keyword : List TextUnit
+  pub behind_file : List TextUnit
+  pub keyword : KeywordForm word us behind_keyword
+  pub of_file : WordForm behind_keyword file behind_file
+  pub end : AreBlanks behind_file
+
+-- `default` and paths, one at least
+pub record DefaultForm (us : List TextUnit) (targets : List WordText) : Type 0 where
+  pub behind_keyword : List TextUnit
+  pub behind_targets : List TextUnit
+  pub keyword : KeywordForm (codes "default") us behind_keyword
+  pub of_targets : WordsForm behind_keyword targets behind_targets
+  pub some_target : is_empty targets ≡ false
+  pub end : AreBlanks behind_targets
+
+-- the first line of a statement, by the manual's cases
+pub data HeadForm (l : Line) : HeadText → Type 0 where
+  binding : {name : NameText} {value : WordText} → BindingForm l.units l.end name value → list_any (bytes_eq name.name) keywords ≡ false → HeadForm l (Alone (BindingText name.name value))
+  rule : {name : NameText} → NamedForm (codes "rule") l.units name → HeadForm l (RuleHead name)
+  pool : {name : NameText} → NamedForm (codes "pool") l.units name → HeadForm l (PoolHead name)
+  build : {outputs : OutputsText} {name : NameText} {inputs : InputsText} → BuildForm l.units outputs name inputs → HeadForm l (BuildHead outputs name inputs)
+  default : {targets : List WordText} → DefaultForm l.units targets → HeadForm l (Alone (DefaultText targets))
+  include : {file : WordText} → FileForm (codes "include") l.units file → HeadForm l (Alone (IncludeText file))
+  subninja : {file : WordText} → FileForm (codes "subninja") l.units file → HeadForm l (Alone (SubninjaText file))
+
+-- ---- blocks
+
+-- `NAME = VALUE`, indented, with a name that may stand in the block
+pub record BlockLineForm (allowed : Keys) (l : Line) (line : LineText) : Type 0 where
+  pub indented : kind_of l ≡ IndentedLine
+  pub binding : BindingForm l.units l.end (record { spot = line.spot; name = line.name }) line.value
+  pub key : allows allowed line.name ≡ true
+
+-- The lines of a block, and the lines behind it. Comments stand among them. The block ends before a line that is not
+-- indented; where that is a blank one, behind it.
+pub data BlockForm (allowed : Keys) : List Line → List LineText → (rest : List Line) → Type 0 where
+  line : {l : Line} {ls rest : List Line} {first : LineText} {others : List LineText} → BlockLineForm allowed l first → BlockForm allowed (lines_behind l ls) others rest → BlockForm allowed (l ∷ ls) (first ∷ others) rest
+  comment : {l : Line} {ls rest : List Line} {lines : List LineText} → kind_of l ≡ CommentLine → l.is_last ≡ false → BlockForm allowed ls lines rest → BlockForm allowed (l ∷ ls) lines rest
+  -- (behind the last line of a text stand no others)
+  last_comment : {l : Line} {ls : List Line} → kind_of l ≡ CommentLine → l.is_last ≡ true → BlockForm allowed (l ∷ ls) [] (lines_behind l (without_comments ls))
+  blank : {l : Line} {ls : List Line} → kind_of l ≡ BlankLine → BlockForm allowed (l ∷ ls) [] (lines_behind l ls)
+  plain : {l : Line} {ls : List Line} → kind_of l ≡ PlainLine → BlockForm allowed (l ∷ ls) [] (l ∷ ls)
+  nothing : BlockForm allowed [] [] []
+
+-- the last line of this key, and its value has a part
+pub record Gives (key : List ℕ) (lines : List LineText) : Type 0 where
+  pub before : List LineText
+  pub line : LineText
+  pub after : List LineText
+  pub cut : lines ≡ before ++ line ∷ after
+  pub of_key : line.name ≡ key
+  pub is_last : list_any (λ l. bytes_eq l.name key) after ≡ false
+  pub some_part : is_empty line.value.parts ≡ false
+
+-- ---- statements
+
+-- a first line's statement, with the block that the lines behind it begin with
+pub data StatementForm : HeadText → List Line → StatementText → (rest : List Line) → Type 0 where
+  alone : {item : StatementText} {ls : List Line} → StatementForm (Alone item) ls item ls
+  -- a rule gives its command, and of the two keys of a response file both or none
+  rule : {name : NameText} {ls rest : List Line} {lines : List LineText} → BlockForm keys.OfRule ls lines rest → Gives (codes "command") lines → (Gives (codes "rspfile") lines ↔ Gives (codes "rspfile_content") lines) → StatementForm (RuleHead name) ls (RuleText name lines) rest
+  -- a pool names its depth
+  pool : {name : NameText} {ls rest : List Line} {lines : List LineText} → BlockForm keys.OfPool ls lines rest → list_any (λ l. bytes_eq l.name (codes "depth")) lines ≡ true → StatementForm (PoolHead name) ls (PoolText name lines) rest
+  build : {outputs : OutputsText} {name : NameText} {inputs : InputsText} {ls rest : List Line} {lines : List LineText} → BlockForm keys.All ls lines rest → StatementForm (BuildHead outputs name inputs) ls (BuildText outputs name inputs lines) rest
+
+-- The next statement of some lines, and the lines behind it; or none. Comments and blank lines are passed.
+pub data NextForm : List Line → Option PlacedText → (rest : List Line) → Type 0 where
+  statement : {l : Line} {ls rest : List Line} {head : HeadText} {item : StatementText} → kind_of l ≡ PlainLine → HeadForm l head → StatementForm head (lines_behind l ls) item rest → NextForm (l ∷ ls) (Some (record { spot = line_spot l; item = item })) rest
+  blank : {l : Line} {ls rest : List Line} {found : Option PlacedText} → kind_of l ≡ BlankLine → l.is_last ≡ false → NextForm ls found rest → NextForm (l ∷ ls) found rest
+  comment : {l : Line} {ls rest : List Line} {found : Option PlacedText} → kind_of l ≡ CommentLine → l.is_last ≡ false → NextForm ls found rest → NextForm (l ∷ ls) found rest
+  last_blank : {l : Line} {ls : List Line} → kind_of l ≡ BlankLine → l.is_last ≡ true → NextForm (l ∷ ls) None (lines_behind l ls)
+  last_comment : {l : Line} {ls : List Line} → kind_of l ≡ CommentLine → l.is_last ≡ true → NextForm (l ∷ ls) None (lines_behind l (without_comments ls))
+  nothing : NextForm [] None []

@@ -1,0 +1,52 @@
+-- What names stand for, by the statements that were read.
+use Rattle.std.proofs.Common.{◌≡◌, ℕ, Bool, true, false, ◌&&◌, ◌==◌, if◌then◌else◌, List, [], ◌∷◌, ◌++◌, Some, None, unwrap_or, bytes_eq, refl, ap, ◌∙◌}
+use Rattle.std.proofs.lemmas.Slice.Eq.{bytes_eq-Decides}
+use Rattle.std.proofs.lemmas.Bool.{eq-eqb}
+use Rattle.nj_manifest.specs.Statements.{StatementText, BindingText, RuleText, PoolText, BuildText, DefaultText, IncludeText, SubninjaText}
+use Rattle.nj_scope.specs.Scopes.{or_else, value_in, nearest, expanded}
+use Rattle.nj_scope.specs.ReadingList.{Entry, scope_of, binds, binds_in, bounds, binds_name, NoneBinds, LastBindingCounts, OthersAreInherited, OthersKeepTheirs}
+
+-- a statement that does not bind the name
+not_binding : (value : List ℕ → List ℕ) (item : StatementText) (name : List ℕ) → binds_name item name ≡ false → binds value item name ≡ None
+not_binding value (BindingText bound word) name h = ap (λ b. if b then Some (expanded value word.parts) else None) h
+not_binding value (RuleText n lines) name h = refl
+not_binding value (PoolText n lines) name h = refl
+not_binding value (BuildText outputs rule inputs lines) name h = refl
+not_binding value (DefaultText words) name h = refl
+not_binding value (IncludeText word) name h = refl
+not_binding value (SubninjaText word) name h = refl
+
+none_here : (e : Entry) (number : ℕ) (name : List ℕ) (value : List ℕ → List ℕ) → (number == e.number && binds_name e.item name) ≡ false → binds_in number e value name ≡ None
+none_here e number name value h = by (number == e.number) h
+  where
+    by : (b : Bool) → (b && binds_name e.item name) ≡ false → (if b then binds value e.item name else None) ≡ None
+    by true h = not_binding value e.item name h
+    by false h = refl
+
+-- statements that do not bind the name change nothing of it
+passed : (behind before : List Entry) (number : ℕ) (name : List ℕ) → NoneBinds behind number name → bounds (behind ++ before) number name ≡ bounds before number name
+unfolding bounds
+passed [] before number name none = refl
+passed (e ∷ behind) before number name none =
+    ap (λ o. or_else o (bounds (behind ++ before) number name)) (none_here e number name (value_in (bounds (behind ++ before)) (scope_of e)) none.0) ∙ passed behind before number name none.1
+
+pub last_counts : LastBindingCounts
+unfolding bounds
+last_counts behind before number around name parts spot none =
+    ap (λ o. unwrap_or (or_else o (nearest (λ s. bounds (behind ++ record { number = number; around = around; item = BindingText name (record { spot = spot; parts = parts }) } ∷ before) s name) around)) [])
+    (passed behind (record { number = number; around = around; item = BindingText name (record { spot = spot; parts = parts }) } ∷ before) number name none
+    ∙ ap (λ b. or_else (if b then (if bytes_eq name name then Some (expanded (value_in (bounds before) (number ∷ around)) parts) else None) else None) (bounds before number name)) (eq-eqb number number refl)
+    ∙ ap (λ b. or_else (if b then Some (expanded (value_in (bounds before) (number ∷ around)) parts) else None) (bounds before number name)) ((bytes_eq-Decides name name).1 refl))
+
+unbound : (entries : List Entry) (number : ℕ) (name : List ℕ) → NoneBinds entries number name → bounds entries number name ≡ None
+unfolding bounds
+unbound [] number name none = refl
+unbound (e ∷ before) number name none =
+    ap (λ o. or_else o (bounds before number name)) (none_here e number name (value_in (bounds before) (scope_of e)) none.0) ∙ unbound before number name none.1
+
+pub inherited : OthersAreInherited
+inherited entries number around name none = ap (λ o. unwrap_or (or_else o (nearest (λ s. bounds entries s name) around)) []) (unbound entries number name none)
+
+pub kept : OthersKeepTheirs
+unfolding bounds
+kept e before number name apart = ap (λ b. or_else (if b then binds (value_in (bounds before) (scope_of e)) e.item name else None) (bounds before number name)) apart

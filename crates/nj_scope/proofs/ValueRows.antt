@@ -1,0 +1,71 @@
+-- Small lists of statements, worked out on the definitions.
+use Rattle.std.proofs.Common.{◌≡◌, ℕ, List, [], ◌∷◌, Some, None, true, refl}
+use Rattle.std.specs.Prelude.{codes, reverse}
+use Rattle.nj_text.specs.Units.{first_spot}
+use Rattle.nj_text.specs.Words.{PartText, Text, Name, WordText}
+use Rattle.nj_manifest.specs.Statements.{BindingText, RuleText, PoolText, SubninjaText}
+use Rattle.nj_scope.specs.ReadingList.{Entry, bounds, value_after, rules, pools, scopes_opened, files_opened}
+use Rattle.nj_scope.specs.Pools.{is_pool}
+
+abbrev main : List ℕ
+main = 0 ∷ []
+
+abbrev child : List ℕ
+child = 1 ∷ 0 ∷ []
+
+-- a word, whose place says nothing here
+abbrev word : List PartText → WordText
+word parts = record { spot = first_spot; parts = parts }
+
+-- x = 1, y = a$x, x = 2: a value expands at once
+abbrev at_once : List Entry
+at_once =
+    reverse
+    (record { number = 0; around = []; item = BindingText (codes "x") (word (Text (codes "1") ∷ [])) }
+    ∷ record { number = 0; around = []; item = BindingText (codes "y") (word (Text (codes "a") ∷ Name (codes "x") ∷ [])) }
+    ∷ record { number = 0; around = []; item = BindingText (codes "x") (word (Text (codes "2") ∷ [])) } ∷ [])
+
+early : value_after at_once main (codes "y") ≡ codes "a1"
+unfolding bounds
+early = refl
+
+late : value_after at_once main (codes "x") ≡ codes "2"
+unfolding bounds
+late = refl
+
+unknown : value_after at_once main (codes "z") ≡ []
+unfolding bounds
+unknown = refl
+
+-- x = p, subninja s, and there x = c$x: the child shadows, and its parent stays
+abbrev shadowed : List Entry
+shadowed =
+    reverse
+    (record { number = 0; around = []; item = BindingText (codes "x") (word (Text (codes "p") ∷ [])) }
+    ∷ record { number = 0; around = []; item = SubninjaText (word (Text (codes "s") ∷ [])) }
+    ∷ record { number = 1; around = 0 ∷ []; item = BindingText (codes "x") (word (Text (codes "c") ∷ Name (codes "x") ∷ [])) }
+    ∷ record { number = 1; around = 0 ∷ []; item = RuleText (record { spot = first_spot; name = codes "r" }) [] }
+    ∷ record { number = 1; around = 0 ∷ []; item = PoolText (record { spot = first_spot; name = codes "p" }) [] } ∷ [])
+
+in_child : value_after shadowed child (codes "x") ≡ codes "cp"
+unfolding bounds
+in_child = refl
+
+in_parent : value_after shadowed main (codes "x") ≡ codes "p"
+unfolding bounds
+in_parent = refl
+
+opened : scopes_opened shadowed ≡ 2
+opened = refl
+
+files : files_opened shadowed ≡ 2
+files = refl
+
+rule_of_child : rules shadowed 1 (codes "r") ≡ Some 0
+rule_of_child = refl
+
+rule_of_parent : rules shadowed 0 (codes "r") ≡ None
+rule_of_parent = refl
+
+pool_of_all : is_pool (pools shadowed) (codes "p") ≡ true
+pool_of_all = refl

@@ -1,0 +1,25 @@
+use Rattle.std.proofs.Common.{◌≡◌, List, [], ◌∷◌, ◌++◌, ◌&&◌, ◌==◌, if◌then◌else◌, Some, map, length, bytes_eq, ap, ◌∙◌, subst, sym, refl, arith}
+use Rattle.nj_manifest.specs.Held.{line_text, lines_text}
+use Rattle.nj_manifest.specs.declared.statement.Line.{Line}
+use Rattle.nj_scope.specs.ScopesHeld.{rule_at}
+use Rattle.nj_scope.specs.Rules.{line_kept}
+use Rattle.nj_scope.specs.Follows.{Follows}
+use Rattle.nj_scope.proofs.FollowLemmas.{follows-rule}
+use Rattle.nj_scope.proofs.declared.Declared.declare_rule.Goals as goal
+use Rattle.std.proofs.lemmas.Grind.{common_steps}
+
+kept-twice : (lines : List Line) → map (λ l. line_kept (line_text l)) lines ≡ map line_kept (lines_text lines)
+kept-twice [] = refl
+kept-twice (l ∷ lines) = ap (λ ls. line_kept (line_text l) ∷ ls) (kept-twice lines)
+
+pub returns-in_ok-push-clause-follows : goal.returns-in_ok-push-clause-follows
+returns-in_ok-push-clause-follows c = λ entries around spot follows new.
+    follows-rule (record { scopes = c.self.inside.scopes; rules = c.self.inside.rules.items; pools = c.self.inside.pools }) (record { scopes = c.declare.new.self; rules = c.push.new.self.items; pools = c.self.inside.pools })
+    entries c.args.scope around (record { spot = spot; name = c.args.name.now }) (lines_text c.args.lines.now) (subst (λ held. Follows held entries) (sym c.self.view_is) follows)
+    (λ n x.
+    c.in_ok-is_new.ensures.declared n x
+    ∙ ap (λ b. if b && (n == c.args.scope && bytes_eq x c.args.name.now) then Some c.len-number.result else rule_at c.self.inside.scopes n x) new
+    ∙ ap (λ k. if n == c.args.scope && bytes_eq x c.args.name.now then Some k else rule_at c.self.inside.scopes n x) (let e : c.len-number.result ≡ length c.self.inside.rules.items = grind (arith, common_steps) in e)) c.declare.ensures.bound c.declare.ensures.count
+    (c.in_ok-push.ensures.items
+    ∙ ap (λ name. c.self.inside.rules.items ++ record { name = name; lines = c.in_ok-rule.rule.lines } ∷ []) c.in_ok-rule.ensures.name
+    ∙ ap (λ lines. c.self.inside.rules.items ++ record { name = c.args.name.now; lines = lines } ∷ []) (c.in_ok-rule.ensures.lines ∙ kept-twice c.args.lines.now)) refl

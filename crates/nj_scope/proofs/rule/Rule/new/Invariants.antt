@@ -1,0 +1,7 @@
+use Rattle.std.proofs.Common.{◌≡◌, take, map}
+use Rattle.nj_scope.specs.Rules.{line_held, line_kept}
+use Rattle.nj_manifest.specs.Held.{line_text}
+use Rattle.nj_scope.proofs.rule.Rule.new.Given as goal
+
+abbrev pub invariant-lines : goal.invariant-lines
+invariant-lines l = map line_held l.kept.items ≡ map (λ line. line_kept (line_text line)) (take l.line-index l.lines)

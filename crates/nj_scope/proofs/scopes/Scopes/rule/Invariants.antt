@@ -1,0 +1,9 @@
+use Rattle.nj_scope.specs.ScopesHeld.{rule_at}
+use Rattle.nj_scope.proofs.ScopeWalk.{StillLooks, scopes_left}
+use Rattle.nj_scope.proofs.scopes.Scopes.rule.Given as goal
+
+abbrev pub invariant-scopes : goal.invariant-scopes
+invariant-scopes l = StillLooks (λ s. rule_at l.self s l.name) l.self l.scope l.next
+
+abbrev pub decreases-scopes : goal.decreases-scopes
+decreases-scopes l = scopes_left l.next

@@ -1,0 +1,9 @@
+use Rattle.nj_scope.specs.ScopesHeld.{bound_at}
+use Rattle.nj_scope.proofs.ScopeWalk.{StillLooks, scopes_left}
+use Rattle.nj_scope.proofs.scopes.Scopes.value.Given as goal
+
+abbrev pub invariant-scopes : goal.invariant-scopes
+invariant-scopes l = StillLooks (λ s. bound_at l.self s l.name) l.self l.scope l.next
+
+abbrev pub decreases-scopes : goal.decreases-scopes
+decreases-scopes l = scopes_left l.next

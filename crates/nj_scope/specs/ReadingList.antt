@@ -1,0 +1,120 @@
+-- The statements of a run in reading order, and what names, rules and pools stand for before one of them.
+use Rattle.std.specs.Prelude.{◌≡◌, ℕ, ◌+◌, Bool, false, ◌&&◌, ◌==◌, Option, Some, None, List, [], ◌∷◌, ◌++◌, map, length, bytes_eq, codes, is_some, ◌||◌, if◌then◌else◌}
+use Rattle.nj_text.specs.declared.spot.Spot.{Spot}
+use Rattle.nj_text.specs.Words.{PartText}
+use Rattle.nj_scope.specs.Rules as kept
+use Rattle.nj_scope.specs.Rules.{line_kept}
+use Rattle.nj_manifest.specs.Statements.{StatementText, BindingText, RuleText, PoolText, IncludeText, SubninjaText}
+use Rattle.nj_scope.specs.Scopes.{or_else, Bounds, value_in, expanded}
+
+-- A statement that was read, in a scope. The scope is its number and those around it, the nearest first.
+pub record Entry : Type 0 where
+  pub number : ℕ
+  pub around : List ℕ
+  pub item : StatementText
+
+abbrev pub scope_of : Entry → List ℕ
+scope_of e = e.number ∷ e.around
+
+-- ---- values
+
+-- what a statement binds to a name, where its own value is expanded so
+abbrev pub binds : (value : List ℕ → List ℕ) → StatementText → (name : List ℕ) → Option (List ℕ)
+binds value (BindingText bound word) name = if bytes_eq name bound then Some (expanded value word.parts) else None
+binds value item name = None
+
+-- what a statement binds in a scope
+abbrev pub binds_in : (number : ℕ) → Entry → (value : List ℕ → List ℕ) → (name : List ℕ) → Option (List ℕ)
+binds_in number e value name = if number == e.number then binds value e.item name else None
+
+-- What each scope binds after some statements, of which the last read stands first. A value is expanded where it is read: by
+-- what the statements before it bind.
+unfoldable pub bounds : List Entry → Bounds
+bounds [] number name = None
+bounds (e ∷ before) number name = or_else (binds_in number e (value_in (bounds before) (scope_of e)) name) (bounds before number name)
+
+-- the value of a name in a scope, after these statements
+abbrev pub value_after : List Entry → (scope name : List ℕ) → List ℕ
+value_after entries scope name = value_in (bounds entries) scope name
+
+-- ---- rules
+
+-- the rules in the order in which they were declared, which is that of their numbers
+abbrev pub with_rule : StatementText → List kept.RuleText → List kept.RuleText
+with_rule (RuleText name lines) before = before ++ record { name = name.name; lines = map line_kept lines } ∷ []
+with_rule item before = before
+
+abbrev pub rule_texts : List Entry → List kept.RuleText
+rule_texts [] = []
+rule_texts (e ∷ before) = with_rule e.item (rule_texts before)
+
+abbrev pub declares : StatementText → (name : List ℕ) → Bool
+declares (RuleText declared lines) name = bytes_eq name declared.name
+declares item name = false
+
+-- the number of the rule that a scope itself declares under a name
+abbrev pub rules : List Entry → (number : ℕ) → (name : List ℕ) → Option ℕ
+rules [] number name = None
+rules (e ∷ before) number name = or_else (if number == e.number && declares e.item name then Some (length (rule_texts before)) else None) (rules before number name)
+
+-- whether a name is taken, where its own scope has this rule of the name; `phony` is always there
+abbrev pub is_declared : Option ℕ → (name : List ℕ) → Bool
+is_declared own name = bytes_eq name (codes "phony") || is_some own
+
+-- ---- pools
+
+abbrev pub with_pool : StatementText → List (List ℕ) → List (List ℕ)
+with_pool (PoolText name lines) before = before ++ name.name ∷ []
+with_pool item before = before
+
+-- the pools in the order in which they were declared
+abbrev pub pools : List Entry → List (List ℕ)
+pools [] = []
+pools (e ∷ before) = with_pool e.item (pools before)
+
+-- ---- scopes and openings
+
+abbrev pub opens_scope : StatementText → ℕ
+opens_scope (SubninjaText word) = 1
+opens_scope item = 0
+
+abbrev pub opens_file : StatementText → ℕ
+opens_file (IncludeText word) = 1
+opens_file (SubninjaText word) = 1
+opens_file item = 0
+
+-- how many scopes there are, the main file's among them
+abbrev pub scopes_opened : List Entry → ℕ
+scopes_opened [] = 1
+scopes_opened (e ∷ before) = scopes_opened before + opens_scope e.item
+
+-- how many files were opened, the main file and repeated ones among them
+abbrev pub files_opened : List Entry → ℕ
+files_opened [] = 1
+files_opened (e ∷ before) = files_opened before + opens_file e.item
+
+-- ---- a law, in the manual's words
+
+-- no statement of the list binds the name in the scope of this number itself
+abbrev pub binds_name : StatementText → (name : List ℕ) → Bool
+binds_name (BindingText bound word) name = bytes_eq name bound
+binds_name item name = false
+
+abbrev pub NoneBinds : List Entry → (number : ℕ) → (name : List ℕ) → Type 0
+NoneBinds [] number name = Unit {0}
+NoneBinds (e ∷ others) number name = ((number == e.number && binds_name e.item name) ≡ false) × NoneBinds others number name
+
+-- The value of a name in a scope that binds it itself is that of its last binding there, expanded by what was bound before.
+abbrev pub LastBindingCounts : Type 0
+LastBindingCounts = (behind before : List Entry) (number : ℕ) (around name : List ℕ) (parts : List PartText) (spot : Spot)
+    → NoneBinds behind number name
+    → value_after (behind ++ record { number = number; around = around; item = BindingText name (record { spot = spot; parts = parts }) } ∷ before) (number ∷ around) name
+    ≡ expanded (value_after before (number ∷ around)) parts
+
+-- In a scope that does not bind it, a name has the value that it has in the scopes around.
+abbrev pub OthersAreInherited : Type 0
+OthersAreInherited = (entries : List Entry) (number : ℕ) (around name : List ℕ) → NoneBinds entries number name → value_after entries (number ∷ around) name ≡ value_after entries around name
+
+-- What a scope binds changes the values of no other scope's own names.
+abbrev pub OthersKeepTheirs : Type 0
+OthersKeepTheirs = (e : Entry) (before : List Entry) (number : ℕ) (name : List ℕ) → (number == e.number) ≡ false → bounds (e ∷ before) number name ≡ bounds before number name

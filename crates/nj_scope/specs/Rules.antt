@@ -1,0 +1,25 @@
+-- Rules as they were declared.
+use Rattle.std.specs.Prelude.{ℕ, Option, List, find, reverse, option_map, bytes_eq}
+use Rattle.nj_text.specs.Words.{PartText}
+use Rattle.nj_manifest.specs.Statements.{LineText}
+use Rattle.nj_scope.specs.declared.rule.RuleLine.{RuleLine}
+
+-- a line of a rule's block, without its place
+pub record RuleLineText : Type 0 where
+  pub key : List ℕ
+  pub value : List PartText
+
+pub record RuleText : Type 0 where
+  pub name : List ℕ
+  pub lines : List RuleLineText
+
+abbrev pub line_held : RuleLine → RuleLineText
+line_held l = record { key = l.key.items; value = l.value }
+
+-- the line as the manifest has it
+abbrev pub line_kept : LineText → RuleLineText
+line_kept l = record { key = l.name; value = l.value.parts }
+
+-- the value that the last line of this key gives
+abbrev pub given : List RuleLineText → (key : List ℕ) → Option (List PartText)
+given lines key = option_map (λ l. l.value) (find (λ l. bytes_eq key l.key) (reverse lines))

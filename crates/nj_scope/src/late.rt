@@ -1,0 +1,107 @@
+//! Values that are expanded later.
+
+ghost use Rattle.std.specs.Prelude.{◌≡◌, ℕ, ◌<◌, List, [], ◌∷◌, ◌++◌, Some, length, slice_get, IfOk, OnOk, OnErr};
+ghost use Rattle.nj_text.specs.Words.{part_text, word_text};
+ghost use Rattle.nj_scope.specs.Late.{text_or_name};
+
+use nj_text::{Part, Word};
+use std::alloc::{AllocError, Global};
+use std::marker::Model;
+
+// A part of a late value: the bytes of its text from start to end, as they stand or as a name.
+#[derive(Clone, Copy)]
+struct LatePart {
+    start: usize,
+    end: usize,
+    is_name: bool,
+}
+
+/// A value that is expanded when it is used, as those of a rule's block are: its bytes and names in order, held apart
+/// from the file in which they stood.
+#[derive(Drop)]
+pub struct LateValue {
+    text: Vec<u8>,
+    parts: Vec<LatePart>,
+}
+
+impl Model for LateValue {
+    ghost use Rattle.std.specs.Prelude.{List};
+    ghost use Rattle.nj_text.specs.Words.{PartText};
+    ghost use Rattle.nj_scope.specs.Late.{late_parts, AreWithin};
+
+    ghost Value = { List PartText };
+
+    ghost view = { λ v. late_parts v.text.items v.parts.items };
+
+    ghost invariant = { λ v. AreWithin v.text.items v.parts.items };
+}
+
+impl LateValue {
+    /// The parts of the word.
+    pub fn from_word(alloc: Global, word: &Word<'_>) -> Result<LateValue, AllocError>
+        ensures { IfOk result (λ v. v ≡ (word_text word.now).parts) }
+    {
+        let mut value = LateValue::new(alloc);
+        'parts: for part in word.parts.iter() {
+            value.push(part)?;
+        }
+        Ok(value)
+    }
+
+    /// The number of parts.
+    pub fn len(&self) -> usize
+        ensures { result ≡ length self.now }
+    {
+        self.parts.len()
+    }
+
+    /// The part at this index.
+    pub fn part(&self, index: usize) -> Part<'_>
+        requires { index < length self.now }
+        ensures { slice_get self.now index ≡ Some (part_text result) }
+    {
+        let part = self.parts[index];
+        let bytes = &self.text[part.start..part.end];
+        if part.is_name {
+            Part::Name(bytes)
+        } else {
+            Part::Bytes(bytes)
+        }
+    }
+
+    // A value without parts.
+    fn new(alloc: Global) -> LateValue
+        ensures { result ≡ [] }
+    {
+        LateValue {
+            text: Vec::new(alloc),
+            parts: Vec::new(alloc),
+        }
+    }
+
+    // One part more.
+    fn push(&mut self, part: &Part<'_>) -> Result<(), AllocError>
+        ensures pushed { OnOk result (self.new ≡ self.old ++ part_text part.now ∷ []) }
+        ensures refused { OnErr result (self.new ≡ self.old) }
+    {
+        match part {
+            Part::Bytes(bytes) => self.push_bytes(bytes, false),
+            Part::Name(name) => self.push_bytes(name, true),
+        }
+    }
+
+    fn push_bytes(&mut self, bytes: &[u8], is_name: bool) -> Result<(), AllocError>
+        ensures pushed { OnOk result (self.new ≡ self.old ++ text_or_name is_name bytes.now ∷ []) }
+        ensures refused { OnErr result (self.new ≡ self.old) }
+    {
+        let start = self.text.len();
+        self.text.extend_from_slice(bytes)?;
+        let end = self.text.len();
+        self.parts.push(LatePart {
+            start,
+            end,
+            is_name,
+        })?;
+        Ok(())
+    }
+}

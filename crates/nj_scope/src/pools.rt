@@ -1,0 +1,57 @@
+//! Pools.
+
+ghost use Rattle.std.specs.Prelude.{◌≡◌, ℕ, List, [], ◌∷◌, ◌++◌, not, IfOk, OnOk, OnErr, if◌then◌else◌};
+ghost use Rattle.nj_scope.specs.Pools.{is_pool};
+
+use indexmap::IndexSet;
+use std::alloc::{AllocError, Global};
+use std::marker::Model;
+
+/// The pools that were declared, by name; `console` is always there ("Pools" in the Ninja manual). They belong to no
+/// scope: a name is declared once in a run.
+#[derive(Drop)]
+pub struct Pools {
+    alloc: Global,
+    names: IndexSet<Vec<u8>>,
+}
+
+impl Model for Pools {
+    ghost use Rattle.std.specs.Prelude.{ℕ, List, map};
+
+    ghost Value = { List (List ℕ) };
+
+    ghost view = { λ p. map (λ k. k.items) p.names.keys };
+}
+
+impl Pools {
+    /// None is declared but `console`. It takes no memory.
+    pub fn new(alloc: Global) -> Pools
+        ensures { result ≡ [] }
+    {
+        Pools {
+            alloc,
+            names: IndexSet::new(alloc),
+        }
+    }
+
+    /// Whether there is a pool of this name.
+    pub fn has(&self, name: &[u8]) -> bool
+        ensures { result ≡ is_pool self.now name.now }
+    {
+        name == b"console".as_slice() || self.names.contains(name)
+    }
+
+    /// Declares a pool. Gives `false`, and changes nothing, where there is one of the name.
+    pub fn declare(&mut self, name: &[u8]) -> Result<bool, AllocError>
+        ensures is_new { IfOk result (λ is_new. is_new ≡ not (is_pool self.old name.now)) }
+        ensures declared { IfOk result (λ is_new. self.new ≡ (if is_new then self.old ++ name.now ∷ [] else self.old)) }
+        ensures refused { OnErr result (self.new ≡ self.old) }
+    {
+        if self.has(name) {
+            return Ok(false);
+        }
+        let name = Vec::from_slice(self.alloc, name)?;
+        self.names.insert(name)?;
+        Ok(true)
+    }
+}

@@ -1,0 +1,199 @@
+//! The scopes of variables and rules.
+
+ghost use Rattle.std.specs.Prelude.{◌≡◌, ℕ, ◌+◌, ◌<◌, ◌&&◌, ◌==◌, List, Option, Some, None, length, option_copied, is_none, IfSome, IfOk, OnOk, OnErr, if◌then◌else◌, bytes_eq};
+ghost use Rattle.nj_scope.specs.Scopes.{IsScope, nearest, value_in, expanded};
+ghost use Rattle.nj_scope.specs.ScopesHeld.{parent_at, bound_at, rule_at};
+ghost use Rattle.nj_text.specs.Words.{word_text};
+
+use indexmap::IndexMap;
+use nj_text::{Part, Word};
+use std::alloc::{AllocError, Global};
+use std::marker::Model;
+
+// One scope: the number of the scope around it, and what it binds and declares itself.
+#[derive(Drop)]
+struct Scope {
+    parent: Option<usize>,
+    values: IndexMap<Vec<u8>, Vec<u8>>,
+    rules: IndexMap<Vec<u8>, usize>,
+}
+
+/// The variables and rules of a run, by scope. The main file's scope has the number 0; each `subninja` opens one more,
+/// which sees what the scopes around it bind and declare, and may shadow it ("Evaluation and scoping" in the Ninja manual).
+#[derive(Drop)]
+pub struct Scopes {
+    alloc: Global,
+    scopes: Vec<Scope>,
+}
+
+impl Model for Scopes {
+    ghost use Rattle.std.specs.Prelude.{List, map};
+    ghost use Rattle.nj_scope.specs.ScopesHeld.{ScopeText, scope_text, ParentsAreEarlier};
+
+    ghost Value = { List ScopeText };
+
+    ghost view = { λ s. map scope_text s.scopes.items };
+
+    ghost invariant = { λ s. ParentsAreEarlier (map scope_text s.scopes.items) };
+}
+
+impl Scopes {
+    /// The main file's scope, in which nothing is bound or declared yet.
+    pub fn new(alloc: Global) -> Result<Scopes, AllocError>
+        ensures count { IfOk result (λ s. length s ≡ 1) }
+        ensures outermost { IfOk result (λ s. parent_at s 0 ≡ None) }
+        ensures nothing { IfOk result (λ s. (n : ℕ) (name : List ℕ) → bound_at s n name ≡ None) }
+        ensures no_rule { IfOk result (λ s. (n : ℕ) (name : List ℕ) → rule_at s n name ≡ None) }
+    {
+        let mut scopes = Vec::with_capacity(alloc, 1)?;
+        scopes.push(Scope {
+            parent: None,
+            values: IndexMap::new(alloc),
+            rules: IndexMap::new(alloc),
+        })?;
+        Ok(Scopes { alloc, scopes })
+    }
+
+    /// The number of scopes.
+    pub fn count(&self) -> usize
+        ensures { result ≡ length self.now }
+    {
+        self.scopes.len()
+    }
+
+    /// Opens a scope within another. Gives its number, which is the next one.
+    pub fn open(&mut self, parent: usize) -> Result<usize, AllocError>
+        requires { parent < length self.old }
+        ensures number { IfOk result (λ n. n ≡ length self.old) }
+        ensures count { OnOk result (length self.new ≡ length self.old + 1) }
+        ensures within { OnOk result (parent_at self.new (length self.old) ≡ Some parent) }
+        ensures others { (n : ℕ) → n < length self.old → parent_at self.new n ≡ parent_at self.old n }
+        ensures bound { (n : ℕ) (name : List ℕ) → bound_at self.new n name ≡ bound_at self.old n name }
+        ensures rules { (n : ℕ) (name : List ℕ) → rule_at self.new n name ≡ rule_at self.old n name }
+        ensures refused { OnErr result (self.new ≡ self.old) }
+    {
+        let number = self.scopes.len();
+        self.scopes.push(Scope {
+            parent: Some(parent),
+            values: IndexMap::new(self.alloc),
+            rules: IndexMap::new(self.alloc),
+        })?;
+        Ok(number)
+    }
+
+    /// Binds the name in this scope. What it was bound to there before counts no more.
+    pub fn bind(&mut self, scope: usize, name: &[u8], value: Vec<u8>) -> Result<(), AllocError>
+        requires { scope < length self.old }
+        ensures bound { OnOk result ((n : ℕ) (x : List ℕ) → bound_at self.new n x
+            ≡ (if n == scope && bytes_eq x name.now then Some value.items else bound_at self.old n x)) }
+        ensures refused { OnErr result ((n : ℕ) (x : List ℕ) → bound_at self.new n x ≡ bound_at self.old n x) }
+        ensures rules { (n : ℕ) (x : List ℕ) → rule_at self.new n x ≡ rule_at self.old n x }
+        ensures parents { (n : ℕ) → parent_at self.new n ≡ parent_at self.old n }
+        ensures count { length self.new ≡ length self.old }
+    {
+        let key = Vec::from_slice(self.alloc, name)?;
+        self.scopes[scope].values.insert(key, value)?;
+        Ok(())
+    }
+
+    /// Declares the rule of this number under the name in this scope. Gives `false`, and changes nothing, where the scope
+    /// declares one of the name already.
+    pub fn declare(&mut self, scope: usize, name: &[u8], rule: usize) -> Result<bool, AllocError>
+        requires { scope < length self.old }
+        ensures is_new { IfOk result (λ is_new. is_new ≡ is_none (rule_at self.old scope name.now)) }
+        ensures declared { IfOk result (λ is_new. (n : ℕ) (x : List ℕ) → rule_at self.new n x
+            ≡ (if is_new && (n == scope && bytes_eq x name.now) then Some rule else rule_at self.old n x)) }
+        ensures refused { OnErr result ((n : ℕ) (x : List ℕ) → rule_at self.new n x ≡ rule_at self.old n x) }
+        ensures bound { (n : ℕ) (x : List ℕ) → bound_at self.new n x ≡ bound_at self.old n x }
+        ensures parents { (n : ℕ) → parent_at self.new n ≡ parent_at self.old n }
+        ensures count { length self.new ≡ length self.old }
+    {
+        if self.own_rule(scope, name).is_some() {
+            return Ok(false);
+        }
+        let key = Vec::from_slice(self.alloc, name)?;
+        self.scopes[scope].rules.insert(key, rule)?;
+        Ok(true)
+    }
+
+    /// The number of the rule that is in force under the name in this scope: its own, else that of the nearest scope around
+    /// it that declares one.
+    pub fn rule(&self, scope: usize, name: &[u8]) -> Option<usize>
+        requires { scope < length self.now }
+        ensures { (around : List ℕ) → IsScope (parent_at self.now) scope around → result ≡ nearest (λ s. rule_at self.now s name.now) around }
+    {
+        let mut next = Some(scope);
+        'scopes: while let Some(number) = next {
+            if let Some(rule) = self.own_rule(number, name) {
+                return Some(rule);
+            }
+            next = self.parent(number);
+        }
+        None
+    }
+
+    /// The value of the name in this scope: its own, else that of the nearest scope around it that binds the name.
+    /// An unknown name is empty.
+    pub fn value(&self, scope: usize, name: &[u8]) -> &[u8]
+        requires { scope < length self.now }
+        ensures { (around : List ℕ) → IsScope (parent_at self.now) scope around → result.now ≡ value_in (bound_at self.now) around name.now }
+    {
+        let mut next = Some(scope);
+        'scopes: while let Some(number) = next {
+            if let Some(value) = self.own(number, name) {
+                return value;
+            }
+            next = self.parent(number);
+        }
+        &[]
+    }
+
+    // The value that this scope itself binds to the name.
+    fn own(&self, scope: usize, name: &[u8]) -> Option<&[u8]>
+        requires { scope < length self.now }
+        ensures { option_copied result ≡ bound_at self.now scope name.now }
+    {
+        match self.scopes[scope].values.get(name) {
+            Some(value) => Some(value.as_slice()),
+            None => None,
+        }
+    }
+
+    // The number of the rule that this scope itself declares under the name.
+    fn own_rule(&self, scope: usize, name: &[u8]) -> Option<usize>
+        requires { scope < length self.now }
+        ensures { result ≡ rule_at self.now scope name.now }
+    {
+        self.scopes[scope].rules.get(name).copied()
+    }
+
+    // The scope around this one.
+    fn parent(&self, scope: usize) -> Option<usize>
+        requires { scope < length self.now }
+        ensures parent { result ≡ parent_at self.now scope }
+        ensures earlier { IfSome result (λ p. p < scope) }
+    {
+        self.scopes[scope].parent
+    }
+
+    /// What the word says in this scope: its bytes, and the values of the names in it.
+    pub fn expand(
+        &self,
+        alloc: Global,
+        scope: usize,
+        word: &Word<'_>,
+    ) -> Result<Vec<u8>, AllocError>
+        requires { scope < length self.now }
+        ensures { (around : List ℕ) → IsScope (parent_at self.now) scope around
+            → IfOk result (λ v. v.items ≡ expanded (value_in (bound_at self.now) around) (word_text word.now).parts) }
+    {
+        let mut text = Vec::new(alloc);
+        'parts: for part in word.parts.iter() {
+            match part {
+                Part::Bytes(bytes) => text.extend_from_slice(bytes)?,
+                Part::Name(name) => text.extend_from_slice(self.value(scope, name))?,
+            }
+        }
+        Ok(text)
+    }
+}

@@ -1,0 +1,107 @@
+-- The number that is read digit by digit.
+use Rattle.std.proofs.Common.{◌≡◌, ℕ, suc, ◌+◌, ◌-◌, ◌*◌, ◌^◌, ◌<◌, ◌≤◌, min, Bool, true, false, not, ◌==◌, Option, Some, List, [], ◌∷◌, ◌++◌, length, take, drop, get_or, refl, sym, subst, ap, ◌∙◌, arith, length-append}
+use Rattle.std.specs.Prelude.{unwrap_or}
+use Rattle.std.specs.List.{take_while}
+use Rattle.std.proofs.Math.Nat.{pow-suc}
+use Rattle.std.proofs.Math.Numerals.{suc-eq-add-one}
+use Rattle.std.proofs.Math.Seq.{drop-cons}
+use Rattle.std.proofs.lemmas.List.{take_more, take-append-drop, take_all, append-nil}
+use Rattle.std.proofs.lemmas.Bool.Decides.{nat_tests}
+use Rattle.nj_text.specs.Bytes.{is_digit}
+use Rattle.nj_text.specs.Numbers.{value_of_digits, greatest, number_of, leading_number_of, is_dot, before_dot, behind_dot}
+use Rattle.nj_text.proofs.Lists.{AllIn, take_while-append, take_while-cons_yes, take_while-cons_no, drop_while-cons_yes, drop_while-cons_no}
+
+weigh : (c n v d : ℕ) → c * 10 ^ (n + 1) + (v * 10 + d) ≡ (c * 10 ^ n + v) * 10 + d
+weigh c n v d =
+    let tenfold : 10 ^ (n + 1) ≡ 10 ^ n * 10 = ap (λ k. 10 ^ k) (sym (suc-eq-add-one n)) ∙ pow-suc 10 n in
+    rw tenfold (by_power (10 ^ n))
+  where
+    by_power : (p : ℕ) → c * (p * 10) + (v * 10 + d) ≡ (c * p + v) * 10 + d
+    by_power p = grind arith
+
+-- a digit behind: ten times the number, and the digit
+value_of_digits-push : (ds : List ℕ) (d : ℕ) → value_of_digits (ds ++ d ∷ []) ≡ value_of_digits ds * 10 + (d - 48)
+unfolding value_of_digits
+value_of_digits-push [] d = grind arith
+value_of_digits-push (c ∷ ds) d = rw (length-append ds (d ∷ []), value_of_digits-push ds d) (weigh (c - 48) (length ds) (value_of_digits ds) (d - 48))
+
+-- a number that was held at the greatest stays there
+held : (n d g : ℕ) → min (min n g * 10 + d) g ≡ min (n * 10 + d) g
+held n d g = omega arith
+
+pub number_of-push : (ds : List ℕ) (d : ℕ) → number_of (ds ++ d ∷ []) ≡ Some (min (unwrap_or (number_of ds) 0 * 10 + (d - 48)) greatest)
+unfolding value_of_digits
+number_of-push [] d = ap (λ n. Some (min n greatest)) (value_of_digits-push [] d)
+number_of-push (c ∷ ds) d = ap (λ n. Some (min n greatest)) (value_of_digits-push (c ∷ ds) d) ∙ ap Some (sym (held (value_of_digits (c ∷ ds)) (d - 48) greatest))
+
+-- ---- the loop over the digits
+
+-- so far each byte is a digit, and this is their number
+abbrev pub IsRead : List ℕ → ℕ → Option ℕ → Type 0
+IsRead text i number = AllIn is_digit (take i text) × (number ≡ number_of (take i text))
+
+AllIn-push : (p : ℕ → Bool) (xs : List ℕ) (x : ℕ) → AllIn p xs → p x ≡ true → AllIn p (xs ++ x ∷ [])
+AllIn-push p [] x all e = (e, tt)
+AllIn-push p (y ∷ xs) x all e = (all.0, AllIn-push p xs x all.1 e)
+
+take_while-all : (p : ℕ → Bool) (xs : List ℕ) → AllIn p xs → take_while p xs ≡ xs
+take_while-all p [] all = refl
+take_while-all p (x ∷ xs) all = take_while-cons_yes p x xs all.0 ∙ ap (λ ys. x ∷ ys) (take_while-all p xs all.1)
+
+-- a digit is read
+pub read-digit : (text : List ℕ) (i : ℕ) (before : Option ℕ) (after : ℕ) → i < length text → IsRead text i before → is_digit (get_or text i 0) ≡ true
+    → after ≡ min (unwrap_or before 0 * 10 + (get_or text i 0 - 48)) greatest → IsRead text (i + 1) (Some after)
+read-digit text i before after h read e a =
+    let more : take (i + 1) text ≡ take i text ++ get_or text i 0 ∷ [] = take_more text i 0 h in
+    let all = AllIn-push is_digit (take i text) (get_or text i 0) read.0 e in
+    let number = ap Some a ∙ ap (λ (n : Option ℕ). Some (min (unwrap_or n 0 * 10 + (get_or text i 0 - 48)) greatest)) read.1 ∙ sym (number_of-push (take i text) (get_or text i 0)) in
+    rw more (all, number)
+
+-- a byte that is no digit ends the number
+pub read-other : (text : List ℕ) (i : ℕ) (number : Option ℕ) → i < length text → IsRead text i number → is_digit (get_or text i 0) ≡ false → number ≡ leading_number_of text
+read-other text i number h read e =
+    let cut : text ≡ take i text ++ get_or text i 0 ∷ drop (suc i) text = sym (take-append-drop i text) ∙ ap (λ ys. take i text ++ ys) (drop-cons text i 0 h) in
+    let front = take_while-append is_digit (take i text) (get_or text i 0 ∷ drop (suc i) text) read.0 in
+    let digits : take_while is_digit text ≡ take i text = ap (take_while is_digit) cut ∙ front ∙ ap (λ ys. take i text ++ ys) (take_while-cons_no is_digit (get_or text i 0) (drop (suc i) text) e) ∙ append-nil (take i text) in
+    read.1 ∙ ap number_of (sym digits)
+
+-- the text is digits alone
+pub read-all : (text : List ℕ) (i : ℕ) (number : Option ℕ) → length text ≤ i → IsRead text i number → number ≡ leading_number_of text
+read-all text i number h read =
+    let whole : take i text ≡ text = take_all i text h in
+    read.1 ∙ ap number_of (whole ∙ sym (take_while-all is_digit text (subst (AllIn is_digit) whole read.0)))
+
+-- ---- the first `.`
+
+-- a byte that is no `.` stands before it
+pub behind_dot-other : (b : ℕ) (text : List ℕ) → (b == 46) ≡ false → behind_dot (b ∷ text) ≡ behind_dot text
+behind_dot-other b text e = ap (drop 1) (drop_while-cons_yes (λ b. not (is_dot b)) b text (ap not e))
+
+pub behind_dot-dot : (b : ℕ) (text : List ℕ) → (b == 46) ≡ true → behind_dot (b ∷ text) ≡ text
+behind_dot-dot b text e = ap (drop 1) (drop_while-cons_no (λ b. not (is_dot b)) b text (ap not e))
+
+-- a `.` is no digit
+no_dot : (b : ℕ) → is_digit b ≡ true → not (is_dot b) ≡ true
+no_dot b e = by_test (is_dot b) refl
+  where
+    by_test : (t : Bool) → is_dot b ≡ t → not t ≡ true
+    by_test true dot = absurd (grind (arith, nat_tests, dot, e))
+    by_test false dot = refl
+
+-- the digits in front stand before the first `.`
+digits_before_dot : (text : List ℕ) → take_while is_digit (before_dot text) ≡ take_while is_digit text
+digits_before_dot [] = refl
+digits_before_dot (b ∷ text) = by_digit (is_digit b) refl (digits_before_dot text)
+  where
+    by_dot : (t : Bool) → not (is_dot b) ≡ t → is_digit b ≡ false → take_while is_digit (before_dot (b ∷ text)) ≡ []
+    by_dot true other e = ap (take_while is_digit) (take_while-cons_yes (λ b. not (is_dot b)) b text other) ∙ take_while-cons_no is_digit b (before_dot text) e
+    by_dot false dot e = ap (take_while is_digit) (take_while-cons_no (λ b. not (is_dot b)) b text dot)
+
+    by_digit : (t : Bool) → is_digit b ≡ t → take_while is_digit (before_dot text) ≡ take_while is_digit text → take_while is_digit (before_dot (b ∷ text)) ≡ take_while is_digit (b ∷ text)
+    by_digit true e rest =
+        ap (take_while is_digit) (take_while-cons_yes (λ b. not (is_dot b)) b text (no_dot b e)) ∙ take_while-cons_yes is_digit b (before_dot text) e
+        ∙ ap (λ ds. b ∷ ds) rest ∙ sym (take_while-cons_yes is_digit b text e)
+    by_digit false e rest = by_dot (not (is_dot b)) refl e ∙ sym (take_while-cons_no is_digit b text e)
+
+pub leading_number-before_dot : (text : List ℕ) → leading_number_of (before_dot text) ≡ leading_number_of text
+leading_number-before_dot text = ap number_of (digits_before_dot text)
