@@ -1,11 +1,16 @@
 -- Lemmas on values that are expanded later.
-use Rattle.std.proofs.Common.{◌≡◌, ℕ, ◌-◌, ◌≤◌, Bool, List, [], ◌∷◌, ◌++◌, length, take, drop, refl, sym, ap, subst, ◌∙◌, arith}
+use Rattle.std.proofs.Common.{◌≡◌, ℕ, ◌+◌, ◌-◌, ◌≤◌, Bool, List, [], ◌∷◌, ◌++◌, length, take, drop, slice_get, Some, add-one, refl, sym, ap, subst, ◌∙◌, arith}
 use Rattle.std.specs.List.{slice_range}
 use Rattle.std.proofs.lemmas.List.{map_push, length-append, length-drop, drop-append-le, take-append-le}
 use Rattle.std.proofs.Math.Nat.{add-sub_cancel_left, le_trans, le_refl, le-add_right}
 use Rattle.std.proofs.Math.Seq.{drop-append_seam, take-length}
+use Rattle.std.proofs.Math.Seq.{take-suc}
+use Rattle.std.proofs.lemmas.Grind.{flat_map-append}
+use Rattle.std.proofs.lemmas.List.{append-nil}
+use Rattle.std.proofs.lemmas.Option.{slice_get_within, get_or_from_slice_get}
+use Rattle.nj_text.specs.Words.{PartText}
 use Rattle.nj_scope.specs.declared.late.LatePart.{LatePart}
-use Rattle.nj_scope.specs.Late.{text_or_name, late_part, late_parts, AreWithin}
+use Rattle.nj_scope.specs.Late.{text_or_name, late_part, late_parts, AreWithin, part_written, parts_written}
 
 sub_smaller : (n m s : ℕ) → n ≤ m → n - s ≤ m - s
 sub_smaller n m s h = omega arith
@@ -61,3 +66,11 @@ parts-counted text longer bytes is_name ps qs start end within is from to pushed
     ap (late_parts longer) (pushed ∙ ap (λ s. ps ++ record { start = s; end = end; is_name = is_name } ∷ []) from ∙ ap (λ e. ps ++ record { start = length text; end = e; is_name = is_name } ∷ []) (to ∙ ap length is))
     ∙ ap (λ t. late_parts t (ps ++ part_behind text bytes is_name ∷ [])) is
     ∙ parts-pushed text bytes is_name ps within
+
+-- ---- a part written
+
+pub written-turn : (parts : List PartText) (i : ℕ) (p : PartText) (before after : List ℕ) → slice_get parts i ≡ Some p → before ≡ parts_written (take i parts) → after ≡ before ++ part_written p → after ≡ parts_written (take (i + 1) parts)
+written-turn parts i p before after here is more =
+    more ∙ ap (λ bytes. bytes ++ part_written p) is
+    ∙ sym (ap parts_written (ap (λ n. take n parts) (add-one i) ∙ take-suc parts i p (slice_get_within parts i p here) ∙ ap (λ q. take i parts ++ q ∷ []) (get_or_from_slice_get parts i p p here))
+    ∙ flat_map-append part_written (take i parts) (p ∷ []) ∙ ap (λ bytes. parts_written (take i parts) ++ bytes) (append-nil (part_written p)))

@@ -1,4 +1,5 @@
 pub mod LateLemmas
+pub mod LimitRows
 pub mod MemoryLemmas
 pub mod ReadingLemmas
 pub mod TableLemmas

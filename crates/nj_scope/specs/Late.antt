@@ -1,6 +1,6 @@
 -- Values that are kept as they were written, to be expanded when they are used.
-use Rattle.std.specs.Prelude.{ℕ, ◌≤◌, Bool, true, false, List, map, length, slice_range}
-use Rattle.std.specs.List.{AllByRecursion}
+use Rattle.std.specs.Prelude.{ℕ, ◌≤◌, Bool, true, false, List, map, length, slice_range, codes, ◌++◌}
+use Rattle.std.specs.List.{AllByRecursion, flat_map}
 use Rattle.nj_text.specs.Words.{PartText, Text, Name}
 use Rattle.nj_scope.specs.declared.late.LatePart.{LatePart}
 
@@ -18,3 +18,14 @@ late_parts text ps = map (late_part text) ps
 -- the parts lie within the text
 abbrev pub AreWithin : List ℕ → List LatePart → Type 0
 AreWithin text ps = AllByRecursion (λ p. (p.start ≤ p.end) × (p.end ≤ length text)) ps
+
+-- ---- a value as a text
+
+-- a part as it could stand in a file: a name in braces
+abbrev pub part_written : PartText → List ℕ
+part_written (Text bytes) = bytes
+part_written (Name name) = codes "${" ++ name ++ codes "}"
+
+-- an escape is written as the byte that it stands for
+abbrev pub parts_written : List PartText → List ℕ
+parts_written parts = flat_map part_written parts

@@ -2,6 +2,7 @@ pub mod Follows
 pub mod Readings
 pub mod Faults
 pub mod Late
+pub mod Limits
 pub mod Memory
 pub mod Pools
 pub mod ReadingList

@@ -2,7 +2,7 @@
 
 ghost use Rattle.std.specs.Prelude.{◌≡◌, ℕ, ◌<◌, List, [], ◌∷◌, ◌++◌, Some, length, slice_get, IfOk, OnOk, OnErr};
 ghost use Rattle.nj_text.specs.Words.{part_text, word_text};
-ghost use Rattle.nj_scope.specs.Late.{text_or_name};
+ghost use Rattle.nj_scope.specs.Late.{text_or_name, part_written, parts_written};
 
 use nj_text::{Part, Word};
 use std::alloc::{AllocError, Global};
@@ -69,6 +69,17 @@ impl LateValue {
         }
     }
 
+    /// The value as a text, not expanded: a name stands in `${` and `}`, and an escape is the byte that it stands for.
+    pub fn written(&self, alloc: Global) -> Result<Vec<u8>, AllocError>
+        ensures { IfOk result (λ text. text.items ≡ parts_written self.now) }
+    {
+        let mut text = Vec::with_capacity(alloc, self.text.len())?;
+        'parts: for index in 0..self.len() {
+            put_written(&mut text, self.part(index))?;
+        }
+        Ok(text)
+    }
+
     // A value without parts.
     fn new(alloc: Global) -> LateValue
         ensures { result ≡ [] }
@@ -103,5 +114,19 @@ impl LateValue {
             is_name,
         })?;
         Ok(())
+    }
+}
+
+// Puts a part behind the text, as it could stand in a file.
+fn put_written(text: &mut Vec<u8>, part: Part<'_>) -> Result<(), AllocError>
+    ensures { OnOk result (text.new.items ≡ text.old.items ++ part_written (part_text part.entry)) }
+{
+    match part {
+        Part::Bytes(bytes) => text.extend_from_slice(bytes),
+        Part::Name(name) => {
+            text.extend_from_slice(b"${")?;
+            text.extend_from_slice(name)?;
+            text.extend_from_slice(b"}")
+        }
     }
 }

@@ -4,6 +4,7 @@
 mod declared;
 mod late;
 mod laws;
+mod limits;
 mod memory;
 mod pools;
 mod rule;
@@ -14,6 +15,7 @@ mod table;
 pub use declared::Declared;
 pub use late::LateValue;
 pub use laws::values_by_reading_order;
+pub use limits::{is_depth, is_newer};
 pub use memory::MemoryFiles;
 pub use pools::Pools;
 pub use rule::Rule;

@@ -203,6 +203,14 @@ fn a_rule_keeps_what_was_written(rt: HostRuntime) -> Result<(), Fail> {
     let description = rule.value(b"description").ok_or("it is given")?;
     assert_eq!(rt; description.len(), 2);
     assert_eq!(rt; description.part(1), Part::Name(b"out"));
+    assert_eq!(rt;
+        description.written(alloc)?.as_slice(),
+        b"CC ${out}".as_slice()
+    );
+    assert_eq!(rt;
+        command.written(alloc)?.as_slice(),
+        b"cc ${in}${a.b}$".as_slice()
+    );
     assert!(rt; rule.value(b"depfile").is_none());
     Ok(())
 }
@@ -237,4 +245,19 @@ fn what_is_declared_follows_the_statements(rt: HostRuntime) -> Result<(), Fail> 
     assert!(rt; declared.declare_pool(b"link")?);
     assert!(rt; !declared.declare_pool(b"link")?);
     Ok(())
+}
+
+#[test]
+fn depths_and_versions_have_limits(rt: HostRuntime) {
+    assert!(rt; is_depth(b"2147483647"));
+    assert!(rt; !is_depth(b"2147483648"));
+    assert!(rt; is_depth(b"2x"));
+    assert!(rt; is_depth(b"0"));
+    assert!(rt; !is_depth(b"-1"));
+    assert!(rt; !is_depth(b""));
+    assert!(rt; is_newer(b"1.12"));
+    assert!(rt; is_newer(b"2"));
+    assert!(rt; !is_newer(b"1.11"));
+    assert!(rt; !is_newer(b"1.8.2"));
+    assert!(rt; !is_newer(b"0.99"));
 }
