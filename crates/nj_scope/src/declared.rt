@@ -79,7 +79,7 @@ impl Declared {
         ensures is_new { IfOk result (λ is_new. is_new ≡ not (is_declared (rule_at self.old.scopes scope name.now) name.now)) }
         ensures follows { (entries : List Entry) (around : List ℕ) (spot : Spot) → Follows self.old entries
             → IfOk result (λ is_new. is_new ≡ true → Follows self.new (record { number = scope; around = around; item = RuleText (record { spot = spot; name = name.now }) (lines_text lines.now) } ∷ entries)) }
-        ensures same { IfOk result (λ is_new. is_new ≡ false → self.new.rules ≡ self.old.rules) }
+        ensures kept { (entries : List Entry) → Follows self.old entries → IfOk result (λ is_new. is_new ≡ false → Follows self.new entries) }
         ensures parents { (n : ℕ) → parent_at self.new.scopes n ≡ parent_at self.old.scopes n }
         ensures count { length self.new.scopes ≡ length self.old.scopes }
     {
