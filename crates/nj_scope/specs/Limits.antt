@@ -14,7 +14,7 @@ within_depth (Some n) = nat_le n greatest_depth
 abbrev pub is_depth : List ℕ → Bool
 is_depth text = within_depth (leading_number_of text)
 
--- the version of Ninja whose files are read: 1.11
+-- whether a version is newer than the one whose files are read, 1.11
 abbrev pub is_newer_pair : ℕ × ℕ → Bool
 is_newer_pair (major, minor) = nat_lt 1 major || (major == 1 && nat_lt 11 minor)
 
