@@ -9,31 +9,12 @@ times in turn, and the best times count: by the clock, and of the processor. The
 import argparse
 import os
 import shutil
-import subprocess
 import tempfile
-import time
 
 from manifest import write_manifest
+from runs import MB, Run, best, measure
 
 ROUNDS = 3
-MB = 1_000_000
-
-
-class Run:
-    """A run of a program with the file as standard input."""
-
-    def __init__(self, words, path):
-        with open(path, "rb") as file:
-            start = time.perf_counter()
-            process = subprocess.Popen(words, stdin=file, stdout=subprocess.PIPE)
-            self.output = process.stdout.read()
-            _, status, usage = os.wait4(process.pid, 0)
-            self.seconds = time.perf_counter() - start
-        process.returncode = os.waitstatus_to_exitcode(status)
-        if process.returncode != 0:
-            raise SystemExit(f"{words[0]} ended with status {process.returncode}")
-        self.processor_seconds = usage.ru_utime + usage.ru_stime
-        self.memory = usage.ru_maxrss * 1024
 
 
 def make(folder, count):
@@ -43,22 +24,8 @@ def make(folder, count):
     return path
 
 
-def measure(programs, path):
-    """The runs of each program, taken in turn."""
-    runs = {name: [] for name in programs}
-    for _ in range(ROUNDS):
-        for name, words in programs.items():
-            runs[name].append(Run(words, path))
-    return runs
-
-
-def best(runs):
-    """The least time by the clock, the least of the processor, and the greatest memory."""
-    return min(run.seconds for run in runs), min(run.processor_seconds for run in runs), max(run.memory for run in runs)
-
-
 def check_count(program, path, count):
-    if f"builds {count}\n".encode() not in Run([program], path).output:
+    if f"builds {count}\n".encode() not in Run([program], stdin=path).output:
         raise SystemExit(f"{program} did not count {count} build statements")
 
 
@@ -88,7 +55,7 @@ def main():
             if shutil.which("ninja"):
                 programs["ninja -t rules"] = ["ninja", "-f", path, "-t", "rules"]
             check_count(program, path, count)
-            figures = {name: best(runs) for name, runs in measure(programs, path).items()}
+            figures = {name: best(runs) for name, runs in measure(programs, ROUNDS, stdin=path).items()}
             report(count, os.path.getsize(path), figures)
             times.append((count, figures["program"]))
             os.remove(path)

@@ -17,7 +17,7 @@ const MOST_BYTES: usize = 1_073_741_824;
 /// The greatest number of reads that are made of a file: one for each byte, and one at the end.
 const MOST_READS: u32 = 1_073_741_825;
 
-const PIECE: usize = 65_536;
+const PIECE: usize = 16_384;
 
 /// The files of the working folder. One name may stand for standard input.
 #[derive(Drop)]

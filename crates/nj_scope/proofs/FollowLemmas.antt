@@ -84,7 +84,7 @@ bounds-kept e entries nothing n x = by (n == e.number)
     by true = ap (λ o. or_else o (bounds entries n x)) (nothing (value_in (bounds entries) (e.number ∷ e.around)) x)
     by false = refl
 
-rules-kept : (e : Entry) (entries : List Entry) → ((x : List ℕ) → declares e.item x ≡ false) → (n : ℕ) (x : List ℕ) → rules (e ∷ entries) n x ≡ rules entries n x
+pub rules-kept : (e : Entry) (entries : List Entry) → ((x : List ℕ) → declares e.item x ≡ false) → (n : ℕ) (x : List ℕ) → rules (e ∷ entries) n x ≡ rules entries n x
 rules-kept e entries nothing n x = by (n == e.number) (declares e.item x) (nothing x)
   where
     by : (a b : Bool) → b ≡ false → or_else (if a && b then Some (length (rule_texts entries)) else None) (rules entries n x) ≡ rules entries n x
@@ -97,14 +97,14 @@ rules-kept e entries nothing n x = by (n == e.number) (declares e.item x) (nothi
 module _ (held after : DeclaredText) (entries : List Entry) (number : ℕ) (around : List ℕ) (name : NameText) (lines : List LineText) (follows : Follows held entries) where
   pub follows-rule : ((n : ℕ) (x : List ℕ) → rule_at after.scopes n x ≡ (if n == number && bytes_eq x name.name then Some (length held.rules) else rule_at held.scopes n x))
       → ((n : ℕ) (x : List ℕ) → bound_at after.scopes n x ≡ bound_at held.scopes n x) → length after.scopes ≡ length held.scopes
-      → after.rules ≡ held.rules ++ record { name = name.name; lines = map line_kept lines } ∷ [] → after.pools ≡ held.pools
+      → after.rules ≡ held.rules ++ record { scope = number; name = name.name; lines = map line_kept lines } ∷ [] → after.pools ≡ held.pools
       → Follows after (record { number = number; around = around; item = RuleText name lines } ∷ entries)
   follows-rule declared bound count one_more same_pools = record {
     bound = λ n x. bound n x ∙ follows.bound n x ∙ sym (bounds-kept (record { number = number; around = around; item = RuleText name lines }) entries (λ value y. refl) n x);
     declared = λ n x. declared n x ∙ ap (λ o. if n == number && bytes_eq x name.name then Some (length held.rules) else o) (follows.declared n x)
         ∙ ap (λ r. if n == number && bytes_eq x name.name then Some (length r) else rules entries n x) follows.rules ∙ by n x (n == number && bytes_eq x name.name);
     scopes = count ∙ follows.scopes ∙ sym (add-zero (scopes_opened entries));
-    rules = one_more ∙ ap (λ r. r ++ record { name = name.name; lines = map line_kept lines } ∷ []) follows.rules;
+    rules = one_more ∙ ap (λ r. r ++ record { scope = number; name = name.name; lines = map line_kept lines } ∷ []) follows.rules;
     pools = same_pools ∙ follows.pools;
   }
     where

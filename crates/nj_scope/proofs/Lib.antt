@@ -9,3 +9,4 @@ pub mod ScopeWalk
 pub mod ValueLaws
 pub mod ValueRows
 pub mod FollowLemmas
+pub mod RuleNames

@@ -4,8 +4,9 @@ use Rattle.std.specs.Prelude.{codes, reverse}
 use Rattle.nj_text.specs.Units.{first_spot}
 use Rattle.nj_text.specs.Words.{PartText, Text, Name, WordText}
 use Rattle.nj_manifest.specs.Statements.{BindingText, RuleText, PoolText, SubninjaText}
-use Rattle.nj_scope.specs.ReadingList.{Entry, bounds, value_after, rules, pools, scopes_opened, files_opened}
+use Rattle.nj_scope.specs.ReadingList.{Entry, bounds, value_after, rules, rule_texts, pools, scopes_opened, files_opened}
 use Rattle.nj_scope.specs.Pools.{is_pool}
+use Rattle.nj_scope.specs.Rules.{rule_names}
 
 abbrev main : List ℕ
 main = 0 ∷ []
@@ -66,6 +67,15 @@ rule_of_child = refl
 
 rule_of_parent : rules shadowed 0 (codes "r") ≡ None
 rule_of_parent = refl
+
+all_rules : rule_texts shadowed ≡ record { scope = 1; name = codes "r"; lines = [] } ∷ []
+all_rules = refl
+
+names_of_child : rule_names (rule_texts shadowed) 1 ≡ codes "phony" ∷ codes "r" ∷ []
+names_of_child = refl
+
+names_of_parent : rule_names (rule_texts shadowed) 0 ≡ codes "phony" ∷ []
+names_of_parent = refl
 
 pool_of_all : is_pool (pools shadowed) (codes "p") ≡ true
 pool_of_all = refl

@@ -40,13 +40,13 @@ value_after entries scope name = value_in (bounds entries) scope name
 -- ---- rules
 
 -- the rules in the order in which they were declared, which is that of their numbers
-abbrev pub with_rule : StatementText → List kept.RuleText → List kept.RuleText
-with_rule (RuleText name lines) before = before ++ record { name = name.name; lines = map line_kept lines } ∷ []
-with_rule item before = before
+abbrev pub with_rule : (number : ℕ) → StatementText → List kept.RuleText → List kept.RuleText
+with_rule number (RuleText name lines) before = before ++ record { scope = number; name = name.name; lines = map line_kept lines } ∷ []
+with_rule number item before = before
 
 abbrev pub rule_texts : List Entry → List kept.RuleText
 rule_texts [] = []
-rule_texts (e ∷ before) = with_rule e.item (rule_texts before)
+rule_texts (e ∷ before) = with_rule e.number e.item (rule_texts before)
 
 abbrev pub declares : StatementText → (name : List ℕ) → Bool
 declares (RuleText declared lines) name = bytes_eq name declared.name
@@ -60,6 +60,16 @@ rules (e ∷ before) number name = or_else (if number == e.number && declares e.
 -- whether a name is taken, where its own scope has this rule of the name; `phony` is always there
 abbrev pub is_declared : Option ℕ → (name : List ℕ) → Bool
 is_declared own name = bytes_eq name (codes "phony") || is_some own
+
+-- A rule is new where its scope declares none of its name yet; one called `phony` never is.
+abbrev pub RuleIsNew : List Entry → (number : ℕ) → StatementText → Type 0
+RuleIsNew before number (RuleText name lines) = is_declared (rules before number name.name) name.name ≡ false
+RuleIsNew before number item = Unit {0}
+
+-- each rule was new as it was declared
+abbrev pub EachRuleIsNew : List Entry → Type 0
+EachRuleIsNew [] = Unit {0}
+EachRuleIsNew (e ∷ before) = RuleIsNew before e.number e.item × EachRuleIsNew before
 
 -- ---- pools
 

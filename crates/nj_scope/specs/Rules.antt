@@ -1,5 +1,6 @@
 -- Rules as they were declared.
-use Rattle.std.specs.Prelude.{ℕ, Option, List, find, reverse, option_map, bytes_eq}
+use Rattle.std.specs.Prelude.{ℕ, ◌==◌, Option, List, ◌∷◌, map, find, reverse, option_map, codes, bytes_eq}
+use Rattle.std.specs.List.{filter}
 use Rattle.nj_text.specs.Words.{PartText}
 use Rattle.nj_manifest.specs.Statements.{LineText}
 use Rattle.nj_scope.specs.declared.rule.RuleLine.{RuleLine}
@@ -9,7 +10,9 @@ pub record RuleLineText : Type 0 where
   pub key : List ℕ
   pub value : List PartText
 
+-- a rule: the number of the scope that declares it, its name, and its lines
 pub record RuleText : Type 0 where
+  pub scope : ℕ
   pub name : List ℕ
   pub lines : List RuleLineText
 
@@ -19,6 +22,14 @@ line_held l = record { key = l.key.items; value = l.value }
 -- the line as the manifest has it
 abbrev pub line_kept : LineText → RuleLineText
 line_kept l = record { key = l.name; value = l.value.parts }
+
+-- the rules that a scope itself declares
+abbrev pub rules_in : List RuleText → (scope : ℕ) → List RuleText
+rules_in rules scope = filter (λ r. scope == r.scope) rules
+
+-- their names; `phony` is always there
+abbrev pub rule_names : List RuleText → (scope : ℕ) → List (List ℕ)
+rule_names rules scope = codes "phony" ∷ map (λ r. r.name) (rules_in rules scope)
 
 -- the value that the last line of this key gives
 abbrev pub given : List RuleLineText → (key : List ℕ) → Option (List PartText)

@@ -62,7 +62,8 @@ impl Declared {
         ensures parents { (n : ℕ) → parent_at self.new.scopes n ≡ parent_at self.old.scopes n }
         ensures count { length self.new.scopes ≡ length self.old.scopes }
     {
-        let value = self.scopes.expand(alloc, scope, value)?;
+        let mut value = self.scopes.expand(alloc, scope, value)?;
+        value.shrink_to_fit();
         self.scopes.bind(scope, name, value)
     }
 
@@ -89,7 +90,7 @@ impl Declared {
         let number = self.rules.len();
         let is_new = self.scopes.declare(scope, name, number)?;
         if is_new {
-            let rule = Rule::new(alloc, name, lines)?;
+            let rule = Rule::new(alloc, scope, name, lines)?;
             self.rules.push(rule)?;
         }
         Ok(is_new)
@@ -103,6 +104,14 @@ impl Declared {
         ensures scopes { self.new.scopes ≡ self.old.scopes }
     {
         self.pools.declare(name)
+    }
+
+    /// The rules in the order of their numbers, which is that in which they were declared.
+    pub fn into_rules(self) -> Vec<Rule>
+        ensures { result.items ≡ self.rules }
+    {
+        let Declared { rules, .. } = self;
+        rules
     }
 
     /// Opens a scope for a `subninja` in this one. Gives its number.

@@ -16,9 +16,11 @@ struct RuleLine {
     value: LateValue,
 }
 
-/// A rule: its name, and the lines of its block, which are expanded when an edge uses them ("Rules" in the Ninja manual).
+/// A rule: the number of the scope that declares it, its name, and the lines of its block, which are expanded when an edge
+/// uses them ("Rules" in the Ninja manual).
 #[derive(Drop)]
 pub struct Rule {
+    scope: usize,
     name: Vec<u8>,
     lines: Vec<RuleLine>,
 }
@@ -29,12 +31,18 @@ impl Model for Rule {
 
     ghost Value = { RuleText };
 
-    ghost view = { λ r. record { name = r.name.items; lines = map {B = RuleLineText} line_held r.lines.items } };
+    ghost view = { λ r. record { scope = r.scope; name = r.name.items; lines = map {B = RuleLineText} line_held r.lines.items } };
 }
 
 impl Rule {
-    /// A rule of this name, with these lines.
-    pub fn new(alloc: Global, name: &[u8], lines: &[Line<'_>]) -> Result<Rule, AllocError>
+    /// A rule of this name, with these lines, which the scope of this number declares.
+    pub fn new(
+        alloc: Global,
+        scope: usize,
+        name: &[u8],
+        lines: &[Line<'_>],
+    ) -> Result<Rule, AllocError>
+        ensures scope { IfOk result (λ r. r.scope ≡ scope) }
         ensures name { IfOk result (λ r. r.name ≡ name.now) }
         ensures lines { IfOk result (λ r. r.lines ≡ map (λ l. line_kept (line_text l)) lines.now) }
     {
@@ -46,7 +54,18 @@ impl Rule {
                 value: LateValue::from_word(alloc, &line.value)?,
             })?;
         }
-        Ok(Rule { name, lines: kept })
+        Ok(Rule {
+            scope,
+            name,
+            lines: kept,
+        })
+    }
+
+    /// The number of the scope that declares it.
+    pub fn scope(&self) -> usize
+        ensures { result ≡ self.now.scope }
+    {
+        self.scope
     }
 
     /// Its name.

@@ -147,7 +147,10 @@ fn shared_answer(answer: Option<Vec<u8>>) -> Result<Option<RcSlice<u8>>, AllocEr
     ensures { IfOk result (λ shared. option_map rc_slice_items shared ≡ answer_bytes answer) }
 {
     match answer {
-        Some(bytes) => Ok(Some(RcSlice::from_vec(bytes)?)),
+        Some(mut bytes) => {
+            bytes.shrink_to_fit();
+            Ok(Some(RcSlice::from_vec(bytes)?))
+        }
         None => Ok(None),
     }
 }

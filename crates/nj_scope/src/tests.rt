@@ -170,7 +170,8 @@ fn a_rule_keeps_what_was_written(rt: HostRuntime) -> Result<(), Fail> {
         name: b"command",
         value,
     };
-    let rule = Rule::new(alloc, b"cc", &[line])?;
+    let rule = Rule::new(alloc, 2, b"cc", &[line])?;
+    assert_eq!(rt; rule.scope(), 2);
     assert_eq!(rt; rule.name(), b"cc".as_slice());
     assert!(rt; rule.value(b"depfile").is_none());
     let command = rule.value(b"command").ok_or("it is given")?;
@@ -205,6 +206,20 @@ fn what_is_declared_follows_the_statements(rt: HostRuntime) -> Result<(), Fail> 
     assert!(rt; !declared.declare_rule(alloc, 0, b"phony", &[])?);
     assert!(rt; declared.declare_pool(b"link")?);
     assert_eq!(rt; declared.open(0)?, 1);
+    Ok(())
+}
+
+#[test]
+fn rules_are_handed_out_in_order(rt: HostRuntime) -> Result<(), Fail> {
+    let alloc = rt.alloc();
+    let mut declared = Declared::new(alloc)?;
+    let child = declared.open(0)?;
+    assert!(rt; declared.declare_rule(alloc, child, b"cc", &[])?);
+    assert!(rt; declared.declare_rule(alloc, 0, b"cc", &[])?);
+    let rules = declared.into_rules();
+    assert_eq!(rt; rules.len(), 2);
+    assert_eq!(rt; rules[0].scope(), 1);
+    assert_eq!(rt; rules[1].scope(), 0);
     Ok(())
 }
 

@@ -21,5 +21,6 @@ returns-in_ok-push-clause-follows c = λ entries around spot follows new.
     ∙ ap (λ b. if b && (n == c.args.scope && bytes_eq x c.args.name.now) then Some c.len-number.result else rule_at c.self.inside.scopes n x) new
     ∙ ap (λ k. if n == c.args.scope && bytes_eq x c.args.name.now then Some k else rule_at c.self.inside.scopes n x) (let e : c.len-number.result ≡ length c.self.inside.rules.items = grind (arith, common_steps) in e)) c.declare.ensures.bound c.declare.ensures.count
     (c.in_ok-push.ensures.items
-    ∙ ap (λ name. c.self.inside.rules.items ++ record { name = name; lines = c.in_ok-rule.rule.lines } ∷ []) c.in_ok-rule.ensures.name
-    ∙ ap (λ lines. c.self.inside.rules.items ++ record { name = c.args.name.now; lines = lines } ∷ []) (c.in_ok-rule.ensures.lines ∙ kept-twice c.args.lines.now)) refl
+    ∙ ap (λ scope. c.self.inside.rules.items ++ record { scope = scope; name = c.in_ok-rule.rule.name; lines = c.in_ok-rule.rule.lines } ∷ []) c.in_ok-rule.ensures.scope
+    ∙ ap (λ name. c.self.inside.rules.items ++ record { scope = c.args.scope; name = name; lines = c.in_ok-rule.rule.lines } ∷ []) c.in_ok-rule.ensures.name
+    ∙ ap (λ lines. c.self.inside.rules.items ++ record { scope = c.args.scope; name = c.args.name.now; lines = lines } ∷ []) (c.in_ok-rule.ensures.lines ∙ kept-twice c.args.lines.now)) refl

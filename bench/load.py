@@ -1,0 +1,81 @@
+#!/usr/bin/env python3
+"""Measures how a program's time and memory to load Ninja files grow: load.py PROGRAM [--files N,M] [--bindings N,M]
+
+PROGRAM loads build.ninja of the folder that it runs in, as crates/load_bench does. It loads trees of files and single files,
+as bindings.py writes them, each size beside half of it. In one run, on the same files, it stands beside `ninja -t rules`,
+which loads them and lists the rules. Each is run five times in turn, and the best times count: by the clock, and of the
+processor; of memory the most. The files are made in a temporary folder.
+"""
+
+import argparse
+import os
+import shutil
+import tempfile
+
+from bindings import FLAGS, write_far, write_near, write_tree
+from runs import MB, Run, best, measure
+
+ROUNDS = 5
+
+
+def check_files(program, folder, files):
+    if Run([program], folder=folder).output != f"files {files}\n".encode():
+        raise SystemExit(f"{program} did not read {files} files")
+
+
+def figures_of(program, folder):
+    programs = {"program": [program]}
+    if shutil.which("ninja"):
+        programs["ninja -t rules"] = ["ninja", "-t", "rules"]
+    return {name: best(runs) for name, runs in measure(programs, ROUNDS, folder=folder).items()}
+
+
+def ratio(now, before, place):
+    """How many times the figure of the size before; nothing where there is none."""
+    return f"x{now[place] / before[place]:4.2f}" if before else "     "
+
+
+def report(count, size, figures, before):
+    for name, now in figures.items():
+        seconds, processor, memory = now
+        first = before.get(name)
+        print(
+            f"{count:>8} {size / MB:6.1f} MB  {name:<15} {seconds:7.3f} s {ratio(now, first, 0)} | "
+            f"processor {processor:7.3f} s {ratio(now, first, 1)} | memory {memory / MB:7.1f} MB {ratio(now, first, 2)}, {memory / size:5.2f} of the bytes"
+        )
+
+
+def series(program, title, write, counts, flags, files_of):
+    """Loads what `write` makes of each size, with these flags in the bindings; `files_of` tells how many files that are."""
+    print(title)
+    before = {}
+    for count in counts:
+        with tempfile.TemporaryDirectory() as folder:
+            size = write(folder, count, flags)
+            check_files(program, folder, files_of(count))
+            figures = figures_of(program, folder)
+        report(count, size, figures, before)
+        before = figures
+
+
+def numbers(text):
+    return [int(word) for word in text.split(",")]
+
+
+def main():
+    parser = argparse.ArgumentParser()
+    parser.add_argument("program")
+    parser.add_argument("--files", type=numbers, default="1000,2000,4000")
+    parser.add_argument("--bindings", type=numbers, default="100000,200000,400000")
+    words = parser.parse_args()
+    program = os.path.abspath(words.program)
+    print(f"load before: {os.getloadavg()[0]:.2f} on {os.cpu_count()} processors")
+    for flags, length in ((FLAGS, "long"), ("", "short")):
+        series(program, f"files of 100 {length} bindings", write_tree, words.files, flags, lambda count: count + 1)
+        series(program, f"{length} bindings of one file that refer to near ones", write_near, words.bindings, flags, lambda count: 1)
+        series(program, f"{length} bindings of one file that refer to any before them", write_far, words.bindings, flags, lambda count: 1)
+    print(f"load after: {os.getloadavg()[0]:.2f}")
+
+
+if __name__ == "__main__":
+    main()

@@ -1,0 +1,44 @@
+"""Runs of programs that are measured: by the clock, by processor time, and by memory."""
+
+import os
+import shutil
+import subprocess
+import tempfile
+import time
+
+MB = 1_000_000
+
+# A program that Python starts begins with Python's memory, and that counts for its peak. One that `time` starts does not.
+TIME = shutil.which("time")
+
+
+class Run:
+    """A run of a program in a folder, with a file as standard input; without one it has none."""
+
+    def __init__(self, words, stdin=os.devnull, folder=None):
+        with open(stdin, "rb") as file, tempfile.NamedTemporaryFile("r") as told:
+            counting = [TIME, "-f", "%M", "-o", told.name] if TIME else []
+            start = time.perf_counter()
+            process = subprocess.Popen([*counting, *words], stdin=file, stdout=subprocess.PIPE, cwd=folder)
+            self.output = process.stdout.read()
+            _, status, usage = os.wait4(process.pid, 0)
+            self.seconds = time.perf_counter() - start
+            process.returncode = os.waitstatus_to_exitcode(status)
+            if process.returncode != 0:
+                raise SystemExit(f"{words[0]} ended with status {process.returncode}")
+            self.processor_seconds = usage.ru_utime + usage.ru_stime
+            self.memory = 1024 * int(told.read() if TIME else usage.ru_maxrss)
+
+
+def measure(programs, rounds, stdin=os.devnull, folder=None):
+    """The runs of each program, taken in turn."""
+    runs = {name: [] for name in programs}
+    for _ in range(rounds):
+        for name, words in programs.items():
+            runs[name].append(Run(words, stdin, folder))
+    return runs
+
+
+def best(runs):
+    """The least time by the clock, the least of the processor, and the greatest memory."""
+    return min(run.seconds for run in runs), min(run.processor_seconds for run in runs), max(run.memory for run in runs)

@@ -1,0 +1,48 @@
+-- Worked rows, computed on the definitions: the lines that tell of faults.
+use Rattle.std.proofs.Common.{◌≡◌, ℕ, refl}
+use Rattle.std.specs.Prelude.{codes}
+use Rattle.std.specs.Fmt.{digits}
+use Rattle.nj_manifest.specs.declared.fault.Wanted.TheVariants as wanted
+use Rattle.nj_graph.specs.Faults.{CauseText, Expected, UnknownKey, InvalidDepth, DuplicateRule, NewerVersion, CannotFind, TooManyOpened, CannotRead, FaultText, fault_at, no_memory}
+use Rattle.nj_graph.specs.FaultLines.{fault_line}
+
+-- at a place of the file `build.ninja`
+abbrev at : (line column : ℕ) → CauseText → FaultText
+at line column cause = fault_at (codes "build.ninja") (record { line = line; column = column }) cause
+
+wanted_row : fault_line (at 1 2 (Expected wanted.Equals)) ≡ codes "build.ninja:1:2: expected '='"
+unfolding digits
+wanted_row = refl
+
+key_row : fault_line (at 3 3 (UnknownKey (codes "depth"))) ≡ codes "build.ninja:3:3: unexpected variable 'depth'"
+unfolding digits
+key_row = refl
+
+depth_row : fault_line (at 2 3 InvalidDepth) ≡ codes "build.ninja:2:3: invalid pool depth"
+unfolding digits
+depth_row = refl
+
+rule_row : fault_line (at 1 6 (DuplicateRule (codes "phony"))) ≡ codes "build.ninja:1:6: duplicate rule 'phony'"
+unfolding digits
+rule_row = refl
+
+version_row : fault_line (at 1 1 (NewerVersion (codes "1.12"))) ≡ codes "build.ninja:1:1: ninja_required_version 1.12 is newer than 1.11"
+unfolding digits
+version_row = refl
+
+find_row : fault_line (at 2 9 (CannotFind (codes "s"))) ≡ codes "build.ninja:2:9: cannot find 's'"
+unfolding digits
+find_row = refl
+
+read_row : fault_line (at 1 1 (CannotRead (codes "build.ninja"))) ≡ codes "build.ninja:1:1: cannot read 'build.ninja'"
+unfolding digits
+read_row = refl
+
+-- numbers are decimal, from their first digit that is not 0
+place_row : fault_line (at 65536 10 TooManyOpened) ≡ codes "build.ninja:65536:10: more than 65536 files opened"
+unfolding digits
+place_row = refl
+
+-- no place
+memory_row : fault_line no_memory ≡ codes "ninja-explain: out of memory"
+memory_row = refl

@@ -1,0 +1,33 @@
+-- When a statement has no fault of its own.
+use Rattle.std.proofs.Common.{◌≡◌, ℕ, suc, Bool, true, false, not, ◌==◌, Some, None, List, [], ◌∷◌, length, String, string_bytes, refl, sym, ap, subst, ◌∙◌, IsUtf8, arith}
+use Rattle.std.proofs.lemmas.Grind.{common_steps}
+use Rattle.std.proofs.lemmas.Str.{IsUtf8-string_bytes, IsUtf8-from_is_utf8, is_utf8-from_IsUtf8}
+use Rattle.std.specs.Str.{is_utf8}
+use Rattle.nj_text.specs.declared.spot.Spot.{Spot}
+use Rattle.nj_text.specs.Calls.{is_empty}
+use Rattle.nj_graph.specs.Faults.{EmptyPath, PathNotText, fault_at}
+use Rattle.nj_graph.specs.Reading.{Site, fault_if, or_then, path_fault}
+
+pub empty-by_length : (bytes : List ℕ) (b : Bool) → b ≡ (length bytes == 0) → is_empty bytes ≡ b
+empty-by_length [] b h = sym h
+empty-by_length (x ∷ xs) b h = sym (h ∙ never (length xs))
+  where
+    never : (n : ℕ) → (suc n == 0) ≡ false
+    never n = grind (arith, common_steps)
+
+pub path-empty : (site : Site) (spot : Spot) (path : List ℕ) → is_empty path ≡ true → path_fault site spot path ≡ Some (fault_at site.file spot EmptyPath)
+path-empty site spot path h = ap (λ b. or_then (fault_if b (fault_at site.file spot EmptyPath)) (fault_if (not (is_utf8 path)) (fault_at site.file spot PathNotText))) h
+
+pub path-utf8 : (site : Site) (spot : Spot) (path : List ℕ) → is_empty path ≡ false → path_fault site spot path ≡ fault_if (not (is_utf8 path)) (fault_at site.file spot PathNotText)
+path-utf8 site spot path h = ap (λ b. or_then (fault_if b (fault_at site.file spot EmptyPath)) (fault_if (not (is_utf8 path)) (fault_at site.file spot PathNotText))) h
+
+pub path-whole : {Z : Type 0} (site : Site) (spot : Spot) (path : List ℕ) (s : String Z) → is_empty path ≡ false → string_bytes s ≡ path → path_fault site spot path ≡ None
+path-whole site spot path s h e =
+    path-utf8 site spot path h ∙ ap (λ b. fault_if (not b) (fault_at site.file spot PathNotText)) (is_utf8-from_IsUtf8 path (subst IsUtf8 e (IsUtf8-string_bytes s)))
+
+pub path-bad : (site : Site) (spot : Spot) (path : List ℕ) → is_empty path ≡ false → (IsUtf8 path → ⊥) → path_fault site spot path ≡ Some (fault_at site.file spot PathNotText)
+path-bad site spot path h bad = path-utf8 site spot path h ∙ ap (λ b. fault_if (not b) (fault_at site.file spot PathNotText)) (by (is_utf8 path) refl)
+  where
+    by : (b : Bool) → is_utf8 path ≡ b → b ≡ false
+    by true e = absurd (bad (IsUtf8-from_is_utf8 path e))
+    by false e = refl

@@ -1,0 +1,70 @@
+-- Small graphs, worked out on the definitions.
+use Rattle.std.proofs.Common.{◌≡◌, ℕ, List, [], ◌∷◌, map, true, false, refl}
+use Rattle.std.specs.Prelude.{codes}
+use Rattle.nj_text.specs.Words.{PartText, Text, Name}
+use Rattle.nj_scope.specs.Rules.{RuleText, RuleLineText}
+use Rattle.nj_graph.specs.Graph.{GraphText, insert_by, sorted_by, main_rules_of, main_rule_at, phony_rule, has_description, description_text}
+
+abbrev line : (key : List ℕ) → List PartText → RuleLineText
+line key value = record { key = key; value = value }
+
+-- rule cc, with two descriptions, of which the last one counts: an escape is its byte
+abbrev cc_rule : RuleText
+cc_rule = record {
+  scope = 0;
+  name = codes "cc";
+  lines =
+      line (codes "description") (Text (codes "early") ∷ [])
+      ∷ line (codes "command") (Text (codes "c") ∷ [])
+      ∷ line (codes "description") (Text (codes "CC ") ∷ Name (codes "out") ∷ Text (codes "$") ∷ Text (codes " done") ∷ []) ∷ [];
+}
+
+-- rule quiet, with `description =`
+abbrev quiet_rule : RuleText
+quiet_rule = record { scope = 0; name = codes "quiet"; lines = line (codes "description") [] ∷ [] }
+
+-- a rule without lines
+abbrev bare : (scope : ℕ) → (name : List ℕ) → RuleText
+bare scope name = record { scope = scope; name = name; lines = [] }
+
+-- ---- which are listed, and in which order
+
+abbrev names : List RuleText → List (List ℕ)
+names rules = map (λ r. r.name) (main_rules_of rules)
+
+none_declared : names [] ≡ codes "phony" ∷ []
+unfolding main_rules_of sorted_by insert_by
+none_declared = refl
+
+by_bytes : names (bare 0 (codes "ld") ∷ bare 0 (codes "cc2") ∷ bare 0 (codes "Zip") ∷ bare 0 (codes "cc") ∷ bare 0 (codes "z") ∷ []) ≡ codes "Zip" ∷ codes "cc" ∷ codes "cc2" ∷ codes "ld" ∷ codes "phony" ∷ codes "z" ∷ []
+unfolding main_rules_of sorted_by insert_by
+by_bytes = refl
+
+not_of_a_child : names (bare 1 (codes "cc") ∷ bare 0 (codes "ld") ∷ bare 2 (codes "ar") ∷ []) ≡ codes "ld" ∷ codes "phony" ∷ []
+unfolding main_rules_of sorted_by insert_by
+not_of_a_child = refl
+
+-- ---- descriptions
+
+abbrev graph : GraphText
+graph = record { rules = quiet_rule ∷ cc_rule ∷ [] }
+
+first_is_cc : main_rule_at graph 0 ≡ cc_rule
+unfolding main_rules_of sorted_by insert_by
+first_is_cc = refl
+
+second_is_phony : main_rule_at graph 1 ≡ phony_rule
+unfolding main_rules_of sorted_by insert_by
+second_is_phony = refl
+
+as_written : description_text cc_rule ≡ codes "CC ${out}$ done"
+as_written = refl
+
+empty_counts : has_description quiet_rule ≡ true
+empty_counts = refl
+
+empty_text : description_text quiet_rule ≡ []
+empty_text = refl
+
+phony_has_none : has_description phony_rule ≡ false
+phony_has_none = refl

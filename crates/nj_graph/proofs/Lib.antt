@@ -1,0 +1,17 @@
+pub mod Comes
+pub mod FaultLineRows
+pub mod Faultless
+pub mod GraphRows
+pub mod Holding
+pub mod ListedLemmas
+pub mod MainFiles
+pub mod NameLemmas
+pub mod Naming
+pub mod Openings
+pub mod OtherFiles
+pub mod ReadingLaws
+pub mod ReadingRows
+pub mod SaidLemmas
+pub mod SortLemmas
+pub mod Tables
+pub mod Turns

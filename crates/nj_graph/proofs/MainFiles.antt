@@ -1,0 +1,129 @@
+-- The main file of a run.
+use Rattle.std.proofs.Common.{◌≡◌, ℕ, true, false, ◌||◌, cond, inl, inr, is_some, Option, Some, None, Result, Ok, Err, List, [], ◌∷◌, ◌++◌, refl, sym, ap, subst, ◌∙◌, arith, append-nil, true≢false}
+use Rattle.std.specs.Prelude.{◌⊎◌}
+use Rattle.std.proofs.lemmas.Slice.Eq.{bytes_eq-Decides}
+use Rattle.nj_scope.specs.Readings.{Reading, EachPathOnce, reading_of, is_read}
+use Rattle.nj_scope.specs.Follows.{Follows}
+use Rattle.nj_scope.specs.Scopes.{outermost}
+use Rattle.nj_graph.specs.declared.fault.GraphFault.{GraphFault}
+use Rattle.nj_graph.specs.declared.reader.Reader.{Reader}
+use Rattle.nj_graph.specs.Faults.{PlaceText, CannotFind, fault_text, no_memory}
+use Rattle.nj_graph.specs.Reading.{Refused, Lacking, ReadingText, opened_in, text_read, answer_read, most_within, main_site, main_read, with_new, paths_come_to}
+use Rattle.nj_graph.specs.Runs.{SourceText, Saying, paths, Extends, Prefix}
+use Rattle.nj_graph.specs.Steps.{IsNew, Holds, Stands, ReadsAll, Finds, FindsNone, CannotTell, HasNoMemory, ReadsText, Reads, StopsAt}
+use Rattle.nj_graph.proofs.Comes.{main-comes}
+use Rattle.nj_graph.proofs.Tables.{extends-trans, reading-kept, read-extends, reads-all-then, read-nothing}
+use Rattle.nj_graph.proofs.Turns.{stops-behind}
+
+abbrev pub front_of : (main : List ℕ) → PlaceText
+front_of main = record { file = main; spot = record { line = 1; column = 1 } }
+
+abbrev main_reading : (main : List ℕ) → List Reading → ReadingText
+main_reading main all = main_read all main
+
+-- a path is in the list of itself
+itself : (path : List ℕ) → with_new (path ∷ []) path ≡ path ∷ []
+itself path = ap (λ b. cond (b || false) (path ∷ []) (path ∷ [] ++ path ∷ [])) ((bytes_eq-Decides path path).1 refl)
+
+-- ---- the main file is not there
+
+module _ (main : List ℕ) (said : Saying) (before after : SourceText) (fault : GraphFault) where
+  -- there was no memory before the first reading
+  pub main-nothing : after.readings ≡ before.readings → fault_text fault ≡ no_memory → StopsAt main said before after [] (main_reading main) fault
+  main-nothing same none = record {
+    files = [];
+    reads = read-nothing said before after [] tt same;
+    stops = inl (record { answered = none; came_to = λ all ext. (paths_come_to main (main_read all main), refl) });
+  }
+
+  main-memory : HasNoMemory said before after [] main fault → StopsAt main said before after [] (main_reading main) fault
+  main-memory h = record { files = h.files; reads = h.reads; stops = inl (record { answered = h.answered; came_to = λ all ext. by all h.came_to }) }
+    where
+      by : (all : List Reading) → (paths h.files ≡ []) ⊎ ((paths h.files ≡ main ∷ []) × (is_read h.files main ≡ true)) → Prefix (paths h.files) (paths_come_to main (main_read all main))
+      by all (inl none) = subst (λ ps. Prefix ps (paths_come_to main (main_read all main))) (sym none) (paths_come_to main (main_read all main), refl)
+      by all (inr (one, there)) = subst (λ ps. Prefix ps (paths_come_to main (main_read all main))) (sym one) (main-comes main all)
+
+  main-unread : CannotTell said before after [] (front_of main) main fault → StopsAt main said before after [] (main_reading main) fault
+  unfolding main_read
+  main-unread h = record {
+    files = [];
+    reads = h.reads;
+    stops = inr (record {
+      entries = [];
+      end = Lacking main (front_of main);
+      answered = (h.answered, h.failed);
+      read = λ all ext lacks. ap (λ r. answer_read (opened_in all most_within) (main_site main) (front_of main) [] [] r) (none (reading_of all main) lacks);
+      came_to = itself main;
+    });
+  }
+    where
+      none : (r : Option Reading) → is_some r ≡ false → r ≡ None
+      none None e = refl
+      none (Some r) e = absurd (true≢false e)
+
+  main-none : FindsNone said before after [] (front_of main) main fault → StopsAt main said before after [] (main_reading main) fault
+  unfolding main_read
+  main-none h = record {
+    files = h.files;
+    reads = h.reads;
+    stops = inr (record {
+      entries = [];
+      end = Refused (record { place = Some (front_of main); cause = CannotFind main });
+      answered = h.answered;
+      read = λ all ext lacks. ap (λ r. answer_read (opened_in all most_within) (main_site main) (front_of main) [] [] r) (reading-kept main (record { path = main; bytes = None }) all h.files ext h.found);
+      came_to = itself main ∙ sym h.came_to;
+    });
+  }
+
+  pub main-fault : (old : List Reading) → old ≡ [] → HasNoMemory said before after old main fault ⊎ (CannotTell said before after old (front_of main) main fault ⊎ FindsNone said before after old (front_of main) main fault)
+      → StopsAt main said before after old (main_reading main) fault
+  main-fault old is h = subst (λ fs. StopsAt main said before after fs (main_reading main) fault) (sym is) (by (subst (λ fs. HasNoMemory said before after fs main fault ⊎ (CannotTell said before after fs (front_of main) main fault ⊎ FindsNone said before after fs (front_of main) main fault)) is h))
+    where
+      by : HasNoMemory said before after [] main fault ⊎ (CannotTell said before after [] (front_of main) main fault ⊎ FindsNone said before after [] (front_of main) main fault) → StopsAt main said before after [] (main_reading main) fault
+      by (inl m) = main-memory m
+      by (inr (inl m)) = main-unread m
+      by (inr (inr m)) = main-none m
+
+-- ---- the main file is there
+
+-- its scope
+pub main-stands : (held : Reader) → IsNew held → Stands held.declared.scopes 0 []
+main-stands held new = record { within = outermost new.outermost; there = (rw new.follows.scopes (omega arith), tt) }
+
+module _ (main : List ℕ) (said said2 : Saying) (before mid after : SourceText) (old opened held : Reader) (text : List ℕ) (new : IsNew old) (found : Finds said before mid old.files opened.files main text) (same : (p : List ℕ) → said2 p ≡ said p) where
+  is-text : (all : List Reading) → Extends all found.files → main_read all main ≡ text_read (opened_in all most_within) (main_site main) text []
+  unfolding main_read
+  is-text all ext = ap (λ r. answer_read (opened_in all most_within) (main_site main) (front_of main) [] [] r) (reading-kept main (record { path = main; bytes = Some text }) all found.files ext found.found)
+
+  pub main-holds : opened.declared ≡ old.declared → opened.opened ≡ old.opened → Holds main opened []
+  main-holds declared count = record {
+    follows = subst (λ d. Follows d []) (sym declared) new.follows;
+    opened = count ∙ new.opened;
+    paths_are = ap paths found.reads.held_is ∙ found.came_to ∙ ap (λ fs. with_new (paths fs) main) new.files;
+    once = subst EachPathOnce (sym found.reads.held_is) found.reads.reads.once;
+  }
+
+  pub main-reads : (result : Result (Unit {0}) GraphFault) → Reads main said2 mid after opened held (λ all. text_read (opened_in all most_within) (main_site main) text []) result → Reads main said before after old held (main_reading main) result
+  main-reads (Ok done) r = record {
+    files = r.files;
+    reads = reads-all-then said said2 before mid after old.files found.files r.files opened.files held.files found.reads there same;
+    entries = r.entries;
+    holds = r.holds;
+    read = λ all ext. is-text all (extends-trans all r.files found.files ext (read-extends said2 mid after found.files r.files there.reads)) ∙ r.read all ext;
+  }
+    where
+      there : ReadsAll said2 mid after found.files r.files held.files
+      there = subst (λ fs. ReadsAll said2 mid after fs r.files held.files) found.reads.held_is r.reads
+  main-reads (Err fault) s =
+      stops-behind main said said2 before mid after old.files found.files opened.files (λ all. text_read (opened_in all most_within) (main_site main) text []) (main_reading main) found.reads same (record {
+        comes = λ all ext front h. subst (λ r. Prefix front (paths_come_to main r)) (sym (is-text all ext)) h;
+        ends = λ all ext es end stops h. is-text all ext ∙ h;
+      }) fault s
+
+-- there was no memory for the graph of what was read
+pub reads-memory : (main : List ℕ) (said : Saying) (before after : SourceText) (old held : Reader) (fault : GraphFault) → ReadsText main said before after old held (main_reading main) → fault_text fault ≡ no_memory → StopsAt main said before after old.files (main_reading main) fault
+reads-memory main said before after old held fault r none = record {
+  files = r.files;
+  reads = r.reads.reads;
+  stops = inl (record { answered = none; came_to = λ all ext. ([], ap (paths_come_to main) (r.read all ext) ∙ sym r.holds.paths_are ∙ ap paths r.reads.held_is ∙ sym (append-nil (paths r.files))) });
+}

@@ -1,0 +1,176 @@
+-- What is read of a statement, where it has a fault of its own, and where it names a file.
+use Rattle.std.proofs.Common.{◌≡◌, ℕ, suc, ◌+◌, ◌<◌, ◌≤◌, Result, Ok, Err, IsErr, length, arith, Bool, true, false, true≢false, inl, inr, Option, Some, None, option_map, List, [], ◌∷◌, refl, sym, ap, subst, ◌∙◌, add-one}
+use Rattle.std.specs.List.{AllByRecursion}
+use Rattle.std.specs.Result.{IsErrAnd}
+use Rattle.nj_text.specs.declared.spot.Spot.{Spot}
+use Rattle.nj_text.specs.declared.fault.LexFault.TheVariants as lex
+use Rattle.nj_manifest.specs.Faults as text
+use Rattle.nj_manifest.specs.Statements.{StatementText, BindingText, RuleText, PoolText, BuildText, DefaultText, IncludeText, SubninjaText, LineText, PlacedText}
+use Rattle.nj_scope.specs.Readings.{Reading, EachPathOnce}
+use Rattle.nj_scope.specs.Scopes.{IsScope, outermost, child}
+use Rattle.nj_scope.specs.ScopesHeld.{ScopeText, parent_at}
+use Rattle.nj_scope.specs.Follows.{Follows}
+use Rattle.nj_scope.specs.ReadingList.{Entry, files_opened, opens_file}
+use Rattle.nj_graph.specs.declared.fault.GraphFault.{GraphFault}
+use Rattle.nj_graph.specs.declared.reader.Reader.{Reader}
+use Rattle.nj_graph.specs.Faults.{PlaceText, CauseText, FaultText, fault_text, fault_at, fault_in, no_memory}
+use Rattle.nj_graph.specs.Reading.{Site, entry_at, fault_if, or_then, depth_fault, own_fault, Whole, Refused, ReadingText, Opens, item_read, unless_fault, statement_read, opened_in, text_read, path_named, with_new, with_named, paths_read, path_at_fault, paths_come_to}
+use Rattle.nj_graph.specs.Runs.{SourceText, Saying, paths, Prefix, Stops}
+use Rattle.nj_graph.specs.Steps.{Holds, Grows, Stands, IsFault, ReadsOne, StopsAt, OpensText, OpensFile}
+use Rattle.nj_graph.proofs.Comes.{item-comes, statements-come}
+use Rattle.nj_graph.proofs.Tables.{read-nothing}
+
+-- ---- a fault that is handed on
+
+pub handed : {X E : Type 0} (f : E) (r : Result X E) → IsErr r × IsErrAnd r (λ e. e ≡ f) → r ≡ Err f
+handed f (Ok x) (no_fault, is) = absurd (true≢false (sym no_fault))
+handed f (Err e) (no_fault, is) = ap (λ x. Err x) is
+
+pub handed-as : {X E : Type 0} (P : E → Type 0) (r : Result X E) → IsErr r × IsErrAnd r P → (e : E) × (r ≡ Err e) × P e
+handed-as P (Ok x) (no_fault, is) = absurd (true≢false (sym no_fault))
+handed-as P (Err e) (no_fault, is) = (e, refl, is)
+
+-- ---- scopes that stay
+
+scope-kept : (parent later : ℕ → Option ℕ) (count : ℕ) → ((n : ℕ) → n < count → later n ≡ parent n) → (s : ℕ) (scope : List ℕ) → IsScope parent s scope → AllByRecursion (λ n. n < count) scope → IsScope later s scope
+scope-kept parent later count same s scope (outermost h) there = outermost (same s there.0 ∙ h)
+scope-kept parent later count same s scope (child h inner) there = child (same s there.0 ∙ h) (scope-kept parent later count same _ _ inner there.1)
+
+still-there : (before after : ℕ) → before ≤ after → (ns : List ℕ) → AllByRecursion (λ n. n < before) ns → AllByRecursion (λ n. n < after) ns
+still-there before after more [] there = tt
+still-there before after more (n ∷ ns) there = (omega (arith, more, there.0), still-there before after more ns there.1)
+
+pub stands-grown : (before after : List ScopeText) (number : ℕ) (around : List ℕ) → Grows before after → Stands before number around → Stands after number around
+stands-grown before after number around grows stands = record {
+  within = scope-kept (parent_at before) (parent_at after) (length before) grows.parents number (number ∷ around) stands.within stands.there;
+  there = still-there (length before) (length after) grows.count (number ∷ around) stands.there;
+}
+
+-- ---- no fault of a statement by itself names a path
+
+abbrev NamesNone : Option FaultText → Type 0
+NamesNone found = (fault : FaultText) → found ≡ Some fault → path_at_fault fault.cause ≡ []
+
+some-is : {A : Type 0} (x y : A) → Some x ≡ Some y → x ≡ y
+some-is x y h = cc
+
+if-names : (b : Bool) (file : List ℕ) (spot : Spot) (cause : CauseText) → path_at_fault cause ≡ [] → NamesNone (fault_if b (fault_at file spot cause))
+if-names true file spot cause none fault h = ap (λ f. path_at_fault f.cause) (sym (some-is _ fault h)) ∙ none
+if-names false file spot cause none fault h = absurd cc
+
+or-names : (first others : Option FaultText) → NamesNone first → NamesNone others → NamesNone (or_then first others)
+or-names (Some first) others one more = one
+or-names None others one more = more
+
+depth-names : (site : Site) (found : Option LineText) (cause : CauseText) → path_at_fault cause ≡ [] → NamesNone (option_map (λ l. fault_at site.file l.spot cause) found)
+depth-names site (Some l) cause none fault h = ap (λ f. path_at_fault f.cause) (sym (some-is _ fault h)) ∙ none
+depth-names site None cause none fault h = absurd cc
+
+own-names : (site : Site) (before : List Entry) (spot : Spot) (item : StatementText) → NamesNone (own_fault site before spot item)
+own-names site before spot (BindingText name value) = if-names _ site.file spot _ refl
+own-names site before spot (RuleText name lines) = if-names _ site.file name.spot _ refl
+own-names site before spot (PoolText name lines) = or-names _ (depth_fault site before lines) (if-names _ site.file name.spot _ refl) (depth-names site _ _ refl)
+own-names site before spot (BuildText outputs rule inputs lines) = λ fault h. ap (λ f. path_at_fault f.cause) (sym (some-is _ fault h))
+own-names site before spot (DefaultText words) = λ fault h. ap (λ f. path_at_fault f.cause) (sym (some-is _ fault h))
+own-names site before spot (IncludeText word) = or-names _ _ (if-names _ site.file word.spot _ refl) (if-names _ site.file word.spot _ refl)
+own-names site before spot (SubninjaText word) = or-names _ _ (if-names _ site.file word.spot _ refl) (if-names _ site.file word.spot _ refl)
+
+pub syntax-names : (file : List ℕ) (fault : text.Fault) → path_at_fault (fault_in file fault).cause ≡ []
+syntax-names file (text.Bad (lex.BadByte spot)) = refl
+syntax-names file (text.Bad (lex.Tab spot)) = refl
+syntax-names file (text.Bad (lex.BadEscape spot)) = refl
+syntax-names file (text.Bad lex.OutOfMemory) = refl
+syntax-names file (text.Expected spot wanted) = refl
+syntax-names file (text.UnexpectedIndent spot) = refl
+syntax-names file (text.MissingCommand spot) = refl
+syntax-names file (text.RspPair spot) = refl
+syntax-names file (text.UnknownKey spot key) = refl
+syntax-names file (text.MissingDepth spot) = refl
+
+-- ---- a run that stops
+
+pub stops-same : (main : List ℕ) (said : Saying) (before after : SourceText) (old : List Reading) (first second : List Reading → ReadingText) (fault : GraphFault)
+    → ((all : List Reading) → second all ≡ first all) → StopsAt main said before after old first fault → StopsAt main said before after old second fault
+stops-same main said before after old first second fault same s = record { files = s.files; reads = s.reads; stops = by s.stops }
+  where
+    by : Stops main before after s.files first fault → Stops main before after s.files second fault
+    by (inl m) = inl (record { answered = m.answered; came_to = λ all e. subst (λ r. Prefix (paths s.files) (paths_come_to main r)) (sym (same all)) (m.came_to all e) })
+    by (inr e) = inr (record { entries = e.entries; end = e.end; answered = e.answered; read = λ all ext lacks. same all ∙ e.read all ext lacks; came_to = e.came_to })
+
+module _ (main : List ℕ) (said : Saying) (before after : SourceText) (old : Reader) (entries : List Entry) (holds : Holds main old entries) (same : after.readings ≡ before.readings) where
+  -- there was no memory, and nothing more was read
+  pub stops-memory : (reading : List Reading → ReadingText) (fault : GraphFault) → ((all : List Reading) → Prefix (paths_read main entries) (paths_come_to main (reading all))) → fault_text fault ≡ no_memory
+      → StopsAt main said before after old.files reading fault
+  stops-memory reading fault comes none = record {
+    files = old.files;
+    reads = read-nothing said before after old.files holds.once same;
+    stops = inl (record { answered = none; came_to = λ all e. subst (λ ps. Prefix ps (paths_come_to main (reading all))) (sym holds.paths_are) (comes all) });
+  }
+
+  -- a fault before which nothing more was read
+  pub stops-refused : (reading : List Reading → ReadingText) (fault : GraphFault) (expected : FaultText) → ((all : List Reading) → reading all ≡ record { entries = entries; end = Refused expected }) → path_at_fault expected.cause ≡ [] → fault_text fault ≡ expected
+      → StopsAt main said before after old.files reading fault
+  stops-refused reading fault expected is none told = record {
+    files = old.files;
+    reads = read-nothing said before after old.files holds.once same;
+    stops = inr (record { entries = entries; end = Refused expected; answered = told; read = λ all e lacks. is all; came_to = ap (with_named (paths_read main entries)) none ∙ sym holds.paths_are });
+  }
+
+  -- a fault of a statement by itself
+  pub stops-own : (left : ℕ) (site : Site) (s : PlacedText) (expected : Option FaultText) (fault : GraphFault) → own_fault site entries s.spot s.item ≡ expected → IsFault expected fault
+      → StopsAt main said before after old.files (λ all. statement_read (opened_in all left) site entries s) fault
+  stops-own left site s expected fault is (inl none) = stops-memory (λ all. statement_read (opened_in all left) site entries s) fault (λ all. item-comes main all left site entries s) none
+  stops-own left site s expected fault is (inr told) =
+      stops-refused (λ all. statement_read (opened_in all left) site entries s) fault (fault_text fault) (λ all. ap (λ f. unless_fault f (opened_in all left) site entries s.item) (is ∙ told))
+      (own-names site entries s.spot s.item (fault_text fault) (is ∙ told)) refl
+
+-- ---- a file that is named
+
+module _ (main : List ℕ) (said : Saying) (before after : SourceText) (old mid held : Reader) (left : ℕ) (place : PlaceText) (path : List ℕ) (entries : List Entry) (text : List ℕ) where
+  pub opens-file : (site : Site) (s : PlacedText) (inner : Site) → Holds main old entries → OpensText main said before after old mid left place path entries text → held.files ≡ mid.files → held.opened ≡ suc old.opened
+      → Follows held.declared (entry_at site s.item ∷ entries) → opens_file s.item ≡ 1 → inner.file ≡ path → path_named (entry_at site s.item) entries s.item ≡ path ∷ []
+      → ((opens : Opens) → statement_read opens site entries s ≡ opens inner place (entry_at site s.item) entries)
+      → OpensFile main said before after old held left inner text (entry_at site s.item) entries (λ all. statement_read (opened_in all left) site entries s)
+  opens-file site s inner holds o files opened follows one is names read = record {
+    files = o.files;
+    reads = record { reads = o.reads.reads; held_is = files ∙ o.reads.held_is; no_failure = o.reads.no_failure };
+    holds = record {
+      follows = follows;
+      opened = opened ∙ ap suc holds.opened ∙ sym (add-one (files_opened entries)) ∙ ap (λ n. files_opened entries + n) (sym one);
+      paths_are = ap paths (files ∙ o.reads.held_is) ∙ o.came_to ∙ ap (λ ps. with_new ps path) holds.paths_are ∙ ap (with_named (paths_read main entries)) (sym names);
+      once = subst EachPathOnce (sym (files ∙ o.reads.held_is)) o.reads.reads.once;
+    };
+    within = o.within;
+    left_is = o.left_is;
+    read = λ all e. read (opened_in all left) ∙ o.read inner (entry_at site s.item) all is e;
+  }
+
+  -- there was no memory for the scope of a file that is open
+  pub stops-open : (site : Site) (s : PlacedText) (inner : Site) (fault : GraphFault) → Holds main old entries → OpensText main said before after old mid left place path entries text
+      → inner.file ≡ path → path_named (entry_at site s.item) entries s.item ≡ path ∷ []
+      → ((opens : Opens) → statement_read opens site entries s ≡ opens inner place (entry_at site s.item) entries)
+      → fault_text fault ≡ no_memory
+      → StopsAt main said before after old.files (λ all. statement_read (opened_in all left) site entries s) fault
+  stops-open site s inner fault holds o is names read none = record {
+    files = o.files;
+    reads = o.reads.reads;
+    stops = inl (record { answered = none; came_to = λ all e. subst (λ r. Prefix (paths o.files) (paths_come_to main r)) (sym (read (opened_in all left) ∙ o.read inner (entry_at site s.item) all is e)) (comes all) });
+  }
+    where
+      listed : paths_read main (entry_at site s.item ∷ entries) ≡ paths o.files
+      listed = ap (with_named (paths_read main entries)) names ∙ ap (λ ps. with_new ps path) (sym holds.paths_are) ∙ sym o.came_to
+
+      comes : (all : List Reading) → Prefix (paths o.files) (paths_come_to main (text_read (opened_in all o.within) inner text (entry_at site s.item ∷ entries)))
+      comes all = subst (λ ps. Prefix ps (paths_come_to main (text_read (opened_in all o.within) inner text (entry_at site s.item ∷ entries)))) listed (statements-come main all o.within inner _ _ (entry_at site s.item ∷ entries))
+
+-- ---- a statement that names none
+
+pub reads-one : (main : List ℕ) (said : Saying) (told : SourceText) (old held : Reader) (site : Site) (entries : List Entry) (s : PlacedText)
+    → Holds main old entries → Holds main held (entry_at site s.item ∷ entries) → own_fault site entries s.spot s.item ≡ None → held.files ≡ old.files
+    → ((opens : Opens) → item_read opens site entries s.item ≡ record { entries = entry_at site s.item ∷ entries; end = Whole })
+    → ReadsOne main said told told old held site entries s
+reads-one main said told old held site entries s holds after none files reads = record {
+  reads = record { reads = read-nothing said told told old.files holds.once refl; held_is = files; no_failure = refl };
+  holds = after;
+  read = λ opens. ap (λ f. unless_fault f opens site entries s.item) none ∙ reads opens;
+}

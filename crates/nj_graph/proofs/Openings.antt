@@ -1,0 +1,170 @@
+-- A path that a statement names, and how its file is opened.
+use Rattle.std.proofs.Common.{inl, inr, ◌≡◌, ◌⊎◌, ℕ, zero, suc, ◌<◌, ◌≤◌, true, false, Option, Some, None, is_some, Result, Ok, Err, List, [], ◌∷◌, refl, sym, ap, subst, ◌∙◌, true≢false}
+use Rattle.std.specs.Result.{IsErrAnd}
+use Rattle.std.specs.declared.rc.RcSlice.{RcSlice}
+use Rattle.std.proofs.lemmas.Bool.{lt-ltb, le-ltb}
+use Rattle.nj_scope.specs.Readings.{Reading, EachPathOnce, reading_of, is_read}
+use Rattle.nj_scope.specs.ReadingList.{Entry, files_opened}
+use Rattle.nj_graph.specs.declared.fault.GraphFault.{GraphFault}
+use Rattle.nj_graph.specs.declared.reader.Reader.{Reader}
+use Rattle.nj_graph.specs.Faults.{PlaceText, CauseText, CannotFind, TooManyOpen, TooManyOpened, fault_text, no_memory}
+use Rattle.nj_graph.specs.Reading.{Site, Refused, Lacking, most_opened, stopped, answer_read, if_room, opened_in, path_named, with_new, with_named, paths_read, path_at_fault, paths_come_to}
+use Rattle.nj_graph.specs.Runs.{SourceText, Saying, paths, Prefix}
+use Rattle.nj_graph.specs.Steps.{Finds, FindsNone, CannotTell, HasNoMemory, StopsAt, OpensText, OpensPath}
+use Rattle.nj_graph.proofs.Tables.{reading-kept, with_new-other, read-nothing}
+use Rattle.nj_graph.proofs.Comes.{opened-comes, opened-names}
+
+absent : {X : Type 0} (o : Option X) → is_some o ≡ false → o ≡ None
+absent None h = refl
+absent (Some x) h = absurd (true≢false h)
+
+-- ---- what is read of a file
+
+module _ (all : List Reading) (inner : Site) (place : PlaceText) (e : Entry) (entries : List Entry) where
+  opened-closed : opened_in all zero inner place e entries ≡ stopped entries place TooManyOpen
+  unfolding opened_in
+  opened-closed = refl
+
+  module _ (within : ℕ) where
+    opened-full : most_opened ≤ files_opened entries → opened_in all (suc within) inner place e entries ≡ stopped entries place TooManyOpened
+    unfolding opened_in
+    opened-full h = ap (λ room. if_room room (opened_in all within) all inner place e entries) (le-ltb (files_opened entries) most_opened h)
+
+    opened-answered : (answer : Option Reading) → files_opened entries < most_opened → reading_of all inner.file ≡ answer → opened_in all (suc within) inner place e entries ≡ answer_read (opened_in all within) inner place (e ∷ entries) entries answer
+    unfolding opened_in
+    opened-answered answer h is =
+        ap (λ room. if_room room (opened_in all within) all inner place e entries) (lt-ltb (files_opened entries) most_opened h)
+        ∙ ap (answer_read (opened_in all within) inner place (e ∷ entries) entries) is
+
+-- ---- how a run stops there
+
+module _ (main : List ℕ) (said : Saying) (before after : SourceText) (old : List Reading) (place : PlaceText) (path : List ℕ) (entries : List Entry) where
+  -- the run stops, where the file is that of the path and the statement names it
+  abbrev pub StopsHere : (left : ℕ) → GraphFault → Type 0
+  StopsHere left f = (inner : Site) (e : Entry) → inner.file ≡ path → path_named e entries e.item ≡ path ∷ [] → StopsAt main said before after old (λ all. opened_in all left inner place e entries) f
+
+  module _ (paths_are : paths old ≡ paths_read main entries) where
+    comes : (files : List Reading) → paths files ≡ paths old → (all : List Reading) (left : ℕ) (inner : Site) (e : Entry) → Prefix (paths files) (paths_come_to main (opened_in all left inner place e entries))
+    comes files same all left inner e =
+        subst (λ front. Prefix front (paths_come_to main (opened_in all left inner place e entries))) (sym (same ∙ paths_are)) (opened-comes main all left inner place e entries)
+
+    names : (files : List Reading) → paths files ≡ with_new (paths old) path → (all : List Reading) (within : ℕ) (inner : Site) (e : Entry) → inner.file ≡ path → path_named e entries e.item ≡ path ∷ [] → files_opened entries < most_opened
+        → Prefix (paths files) (paths_come_to main (opened_in all (suc within) inner place e entries))
+    names files came_to all within inner e same named room =
+        subst (λ front. Prefix front (paths_come_to main (opened_in all (suc within) inner place e entries)))
+        (ap (with_new (paths_read main entries)) same ∙ ap (λ before. with_new before path) (sym paths_are) ∙ sym came_to)
+        (opened-names main all within inner place e entries (named ∙ ap (λ p. p ∷ []) (sym same)) (lt-ltb (files_opened entries) most_opened room))
+
+    -- there is no memory for the answer
+    pub stops-lacking : (left : ℕ) → EachPathOnce old → after.readings ≡ before.readings → (f : GraphFault) → fault_text f ≡ no_memory → StopsHere left f
+    stops-lacking left once not_told f answered inner e same named = record {
+      files = old;
+      reads = read-nothing said before after old once not_told;
+      stops = inl (record { answered = answered; came_to = λ all is. comes old refl all left inner e });
+    }
+
+    -- no more files may be open, or opened
+    stops-refused : (left : ℕ) (cause : CauseText) → ((before : List (List ℕ)) → with_named before (path_at_fault cause) ≡ before)
+        → ((all : List Reading) (inner : Site) (e : Entry) → opened_in all left inner place e entries ≡ stopped entries place cause)
+        → EachPathOnce old → after.readings ≡ before.readings → (f : GraphFault) → fault_text f ≡ record { place = Some place; cause = cause } → StopsHere left f
+    stops-refused left cause none read once not_told f answered inner e same named = record {
+      files = old;
+      reads = read-nothing said before after old once not_told;
+      stops = inr (record {
+        entries = entries;
+        end = Refused (record { place = Some place; cause = cause });
+        answered = answered;
+        read = λ all is lacking. read all inner e;
+        came_to = none (paths_read main entries) ∙ sym paths_are;
+      });
+    }
+
+    pub stops-closed : (left : ℕ) → left ≡ 0 → EachPathOnce old → after.readings ≡ before.readings → (f : GraphFault) → fault_text f ≡ record { place = Some place; cause = TooManyOpen } → StopsHere left f
+    stops-closed left closed =
+        stops-refused left TooManyOpen (λ before. refl) (λ all inner e. ap (λ n. opened_in all n inner place e entries) closed ∙ opened-closed all inner place e entries)
+
+    module _ (left within : ℕ) (left_is : left ≡ suc within) where
+      at_left : (all : List Reading) (inner : Site) (e : Entry) → opened_in all left inner place e entries ≡ opened_in all (suc within) inner place e entries
+      at_left all inner e = ap (λ n. opened_in all n inner place e entries) left_is
+
+      pub stops-full : most_opened ≤ files_opened entries → EachPathOnce old → after.readings ≡ before.readings → (f : GraphFault) → fault_text f ≡ record { place = Some place; cause = TooManyOpened } → StopsHere left f
+      stops-full full = stops-refused left TooManyOpened (λ before. refl) (λ all inner e. at_left all inner e ∙ opened-full all inner place e entries within full)
+
+      module _ (room : files_opened entries < most_opened) where
+        -- there was no memory to find the file
+        stops-no_memory : (f : GraphFault) → HasNoMemory said before after old path f → StopsHere left f
+        stops-no_memory f lacks inner e same named = record {
+          files = lacks.files;
+          reads = lacks.reads;
+          stops = inl (record { answered = lacks.answered; came_to = λ all is. by_paths all lacks.came_to });
+        }
+          where
+            by_paths : (all : List Reading) → (paths lacks.files ≡ paths old) ⊎ ((paths lacks.files ≡ with_new (paths old) path) × (is_read lacks.files path ≡ true)) → Prefix (paths lacks.files) (paths_come_to main (opened_in all left inner place e entries))
+            by_paths all (inl old_paths) = comes lacks.files old_paths all left inner e
+            by_paths all (inr new) = subst (λ n. Prefix (paths lacks.files) (paths_come_to main (opened_in all n inner place e entries))) (sym left_is) (names lacks.files new.0 all within inner e same named room)
+
+        -- the source failed
+        stops-cannot_tell : (f : GraphFault) → CannotTell said before after old place path f → StopsHere left f
+        stops-cannot_tell f failed inner e same named = record {
+          files = old;
+          reads = failed.reads;
+          stops = inr (record {
+            entries = entries;
+            end = Lacking path place;
+            answered = (failed.answered, failed.failed);
+            read = λ all is lacking.
+                at_left all inner e
+                ∙ opened-answered all inner place e entries within None room (ap (reading_of all) same ∙ absent (reading_of all path) lacking)
+                ∙ ap (λ p. record { entries = entries; end = Lacking p place }) same;
+            came_to = ap (λ before. with_new before path) (sym paths_are) ∙ with_new-other path old failed.lacking;
+          });
+        }
+
+        -- no file is there
+        stops-none : (f : GraphFault) → FindsNone said before after old place path f → StopsHere left f
+        stops-none f none inner e same named = record {
+          files = none.files;
+          reads = none.reads;
+          stops = inr (record {
+            entries = entries;
+            end = Refused (record { place = Some place; cause = CannotFind path });
+            answered = none.answered;
+            read = λ all is lacking.
+                at_left all inner e
+                ∙ opened-answered all inner place e entries within _ room (ap (reading_of all) same ∙ reading-kept path _ all none.files is none.found)
+                ∙ ap (λ p. stopped entries place (CannotFind p)) same;
+            came_to = ap (λ before. with_new before path) (sym paths_are) ∙ sym none.came_to;
+          });
+        }
+
+        pub stops-unfound : (f : GraphFault) → HasNoMemory said before after old path f ⊎ (CannotTell said before after old place path f ⊎ FindsNone said before after old place path f) → StopsHere left f
+        stops-unfound f (inl lacks) = stops-no_memory f lacks
+        stops-unfound f (inr (inl failed)) = stops-cannot_tell f failed
+        stops-unfound f (inr (inr none)) = stops-none f none
+
+-- ---- a file that is open
+
+pub opens-text : (main : List ℕ) (said : Saying) (before after : SourceText) (old held : Reader) (left within : ℕ) (place : PlaceText) (path : List ℕ) (entries : List Entry) (text : List ℕ) → left ≡ suc within → files_opened entries < most_opened
+    → Finds said before after old.files held.files path text → OpensText main said before after old held left place path entries text
+opens-text main said before after old held left within place path entries text left_is room found = record {
+  files = found.files;
+  reads = found.reads;
+  came_to = found.came_to;
+  within = within;
+  left_is = left_is;
+  read = λ inner e all same is.
+      ap (λ n. opened_in all n inner place e entries) left_is
+      ∙ opened-answered all inner place e entries within _ room (ap (reading_of all) same ∙ reading-kept path _ all found.files is found.found);
+}
+
+-- what is answered where the run stops
+module _ {Z : Type 0} (main : List ℕ) (said : Saying) (before after : SourceText) (old held : Reader) (left : ℕ) (place : PlaceText) (path : List ℕ) (entries : List Entry) where
+  pub opens-fault : (result : Result (RcSlice ℕ Z) GraphFault) (P : GraphFault → Type 0)
+      → IsErrAnd result P → ((f : GraphFault) → P f → StopsHere main said before after old.files place path entries left f) → OpensPath main said before after old held left place path entries result
+  opens-fault (Ok text) P h stops = absurd h
+  opens-fault (Err f) P h stops = stops f h
+
+  pub opens-same_fault : (result : Result (RcSlice ℕ Z) GraphFault) (fault : GraphFault)
+      → IsErrAnd result (λ f. f ≡ fault) → StopsHere main said before after old.files place path entries left fault → OpensPath main said before after old held left place path entries result
+  opens-same_fault result fault h stops =
+      opens-fault result (λ f. f ≡ fault) h (λ f same. subst (λ x. StopsHere main said before after old.files place path entries left x) (sym same) stops)

@@ -1,0 +1,88 @@
+-- Files to which a reading does not come count for nothing.
+use Rattle.std.proofs.Common.{◌≡◌, ℕ, zero, suc, Bool, true, false, nat_lt, Option, Some, None, is_some, List, [], ◌∷◌, refl, sym, ap, subst, ◌∙◌, true≢false}
+use Rattle.nj_manifest.specs.Faults.{Fault}
+use Rattle.nj_manifest.specs.Statements.{StatementText, BindingText, RuleText, PoolText, BuildText, DefaultText, IncludeText, SubninjaText, PlacedText}
+use Rattle.nj_scope.specs.Readings as table
+use Rattle.nj_scope.specs.Readings.{reading_of, is_read}
+use Rattle.nj_scope.specs.ReadingList.{Entry, files_opened}
+use Rattle.nj_graph.specs.Faults.{PlaceText, FaultText}
+use Rattle.nj_graph.specs.Statements.{said}
+use Rattle.nj_graph.specs.Reading.{Site, own_fault, End, Whole, Refused, Lacking, ReadingText, and_then, Opens, item_read, unless_fault, statement_read, statements_read, found_read, answer_read, if_room, most_opened, most_within, opened_in, main_site, main_read}
+use Rattle.nj_graph.specs.Runs.{Extends, IsLacking}
+use Rattle.nj_graph.specs.Laws.{OthersAreNotRead}
+use Rattle.nj_graph.proofs.Tables.{reading-kept}
+
+-- both readings are the same, where that by fewer files lacks nothing that the others have
+abbrev SameReading : (all : List table.Reading) → ReadingText → ReadingText → Type 0
+SameReading all few more = IsLacking few.end all → more ≡ few
+
+abbrev SameOpens : (all : List table.Reading) → Opens → Opens → Type 0
+SameOpens all few more = (site : Site) (place : PlaceText) (e : Entry) (before : List Entry) → SameReading all (few site place e before) (more site place e before)
+
+and_then-same : (all : List table.Reading) (few more : ReadingText) (k l : List Entry → ReadingText) → SameReading all few more → ((entries : List Entry) → SameReading all (k entries) (l entries)) → SameReading all (and_then few k) (and_then more l)
+and_then-same all few more k l first others lacks = by few.end refl
+  where
+    by : (end : End) → few.end ≡ end → and_then more l ≡ and_then few k
+    by Whole is =
+        let whole : few ≡ record { entries = few.entries; end = Whole } = ap (λ e. record { entries = few.entries; end = e }) is in
+        let same = first (subst (λ e. IsLacking e all) (sym is) tt) in
+        ap (λ r. and_then r l) (same ∙ whole) ∙ others few.entries (subst (λ r. IsLacking (and_then r k).end all) whole lacks) ∙ ap (λ r. and_then r k) (sym whole)
+    by (Refused fault) is =
+        let refused : few ≡ record { entries = few.entries; end = Refused fault } = ap (λ e. record { entries = few.entries; end = e }) is in
+        ap (λ r. and_then r l) (first (subst (λ e. IsLacking e all) (sym is) tt) ∙ refused) ∙ ap (λ r. and_then r k) (sym refused)
+    by (Lacking path place) is =
+        let lacking : few ≡ record { entries = few.entries; end = Lacking path place } = ap (λ e. record { entries = few.entries; end = e }) is in
+        ap (λ r. and_then r l) (first (subst (λ e. IsLacking e all) (sym is) (subst (λ r. IsLacking (and_then r k).end all) lacking lacks)) ∙ lacking) ∙ ap (λ r. and_then r k) (sym lacking)
+
+item-same : (all : List table.Reading) (few more : Opens) → SameOpens all few more → (site : Site) (before : List Entry) (item : StatementText) → SameReading all (item_read few site before item) (item_read more site before item)
+item-same all few more same site before (BindingText name value) = λ lacks. refl
+item-same all few more same site before (RuleText name lines) = λ lacks. refl
+item-same all few more same site before (PoolText name lines) = λ lacks. refl
+item-same all few more same site before (BuildText outputs rule inputs lines) = λ lacks. refl
+item-same all few more same site before (DefaultText words) = λ lacks. refl
+item-same all few more same site before (IncludeText word) = same _ _ _ before
+item-same all few more same site before (SubninjaText word) = same _ _ _ before
+
+statement-same : (all : List table.Reading) (few more : Opens) → SameOpens all few more → (site : Site) (before : List Entry) (s : PlacedText) → SameReading all (statement_read few site before s) (statement_read more site before s)
+statement-same all few more same site before s = by (own_fault site before s.spot s.item)
+  where
+    by : (f : Option FaultText) → SameReading all (unless_fault f few site before s.item) (unless_fault f more site before s.item)
+    by (Some fault) = λ lacks. refl
+    by None = item-same all few more same site before s.item
+
+statements-same : (all : List table.Reading) (few more : Opens) → SameOpens all few more → (site : Site) (statements : List PlacedText) (fault : Option Fault) (before : List Entry) → SameReading all (statements_read few site statements fault before) (statements_read more site statements fault before)
+unfolding statements_read
+statements-same all few more same site [] fault before = λ lacks. refl
+statements-same all few more same site (s ∷ others) fault before =
+    and_then-same all (statement_read few site before s) (statement_read more site before s) (λ entries. statements_read few site others fault entries) (λ entries. statements_read more site others fault entries)
+    (statement-same all few more same site before s) (statements-same all few more same site others fault)
+
+answer-same : (files all : List table.Reading) (few more : Opens) → Extends all files → SameOpens all few more → (site : Site) (place : PlaceText) (entries before : List Entry)
+    → SameReading all (answer_read few site place entries before (reading_of files site.file)) (answer_read more site place entries before (reading_of all site.file))
+answer-same files all few more extends same site place entries before = by (reading_of files site.file) refl
+  where
+    none : (r : Option table.Reading) → is_some r ≡ false → r ≡ None
+    none None e = refl
+    none (Some r) e = absurd (true≢false e)
+
+    found : (text : Option (List ℕ)) → SameReading all (found_read few site place entries before text) (found_read more site place entries before text)
+    found None = λ lacks. refl
+    found (Some text) = statements-same all few more same site (said text).statements (said text).fault entries
+
+    by : (r : Option table.Reading) → reading_of files site.file ≡ r → SameReading all (answer_read few site place entries before r) (answer_read more site place entries before (reading_of all site.file))
+    by None is = λ lacks. ap (λ r. answer_read more site place entries before r) (none (reading_of all site.file) lacks)
+    by (Some r) is = λ lacks. ap (λ r. answer_read more site place entries before r) (reading-kept site.file r all files extends is) ∙ found r.bytes lacks
+
+opened-same : (files all : List table.Reading) → Extends all files → (left : ℕ) → SameOpens all (opened_in files left) (opened_in all left)
+unfolding opened_in
+opened-same files all extends zero = λ site place e before lacks. refl
+opened-same files all extends (suc left) = λ site place e before. by site place e before (nat_lt (files_opened before) most_opened) (opened-same files all extends left)
+  where
+    by : (site : Site) (place : PlaceText) (e : Entry) (before : List Entry) (room : Bool) → SameOpens all (opened_in files left) (opened_in all left)
+        → SameReading all (if_room room (opened_in files left) files site place e before) (if_room room (opened_in all left) all site place e before)
+    by site place e before false same = λ lacks. refl
+    by site place e before true same = answer-same files all (opened_in files left) (opened_in all left) extends same site place (e ∷ before) before
+
+pub others_are_not_read : OthersAreNotRead
+unfolding main_read
+others_are_not_read files all main extends = answer-same files all (opened_in files most_within) (opened_in all most_within) extends (opened-same files all extends most_within) (main_site main) _ [] []

@@ -1,0 +1,9 @@
+pub mod FaultLines
+pub mod Faults
+pub mod Graph
+pub mod Laws
+pub mod Loads
+pub mod Reading
+pub mod Runs
+pub mod Statements
+pub mod Steps

@@ -1,0 +1,19 @@
+//! The graph of a run's build statements, from the files that it reads.
+#![tactic(auto)]
+
+mod fault;
+mod fault_line;
+mod graph;
+mod laws;
+mod loading;
+mod reader;
+
+pub use fault::{Cause, GraphFault, Place};
+pub use graph::{Graph, rules_by_name};
+pub use laws::statements_up_to_the_first_fault;
+pub use loading::{Loaded, load};
+pub use nj_manifest::{Spot, Wanted};
+pub use nj_scope::{FileSource, FileTable, MemoryFiles, SourceFault};
+
+#[cfg(test)]
+mod tests;
