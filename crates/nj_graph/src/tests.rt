@@ -155,6 +155,10 @@ fn tells_newer_versions(rt: HostRuntime) -> Result<(), Fail> {
             (b"ninja_required_version = 1.8.2", "accepted"),
             (b"ninja_required_version = 1.11", "accepted"),
             (
+                b"ninja_required_version = 1.2$ninja_required_version",
+                "accepted",
+            ),
+            (
                 b"v = 1\nninja_required_version = $v.12.3",
                 "build.ninja:2:1: ninja_required_version 1.12.3 is newer than 1.11",
             ),
