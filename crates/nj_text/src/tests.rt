@@ -81,6 +81,10 @@ fn at(line: usize, column: usize) -> Step<'static> {
     Step::Spot(spot(line, column))
 }
 
+fn starts<'a>(start: LineStart) -> Step<'a> {
+    Step::Start(Ok(start))
+}
+
 fn ident(name: &[u8]) -> Step<'_> {
     Step::Ident(Ok(Some(name)))
 }
@@ -332,7 +336,7 @@ fn signs(rt: HostRuntime) {
 }
 
 #[test]
-fn line_starts(rt: HostRuntime) {
+fn empty_text(rt: HostRuntime) {
     let alloc = rt.alloc();
     follow(
         &rt,
@@ -343,12 +347,17 @@ fn line_starts(rt: HostRuntime) {
             lacks(Sign::LineEnd),
             NO_WORD,
             value(1, 1, &[]),
-            END,
+            starts(LineStart::End),
             at(1, 1),
             lacks(Sign::LineEnd),
-            END,
+            starts(LineStart::End),
         ],
     );
+}
+
+#[test]
+fn line_starts(rt: HostRuntime) {
+    let alloc = rt.alloc();
     follow(
         &rt,
         alloc,
