@@ -6,6 +6,7 @@ pub mod TableLemmas
 pub mod RuleLemmas
 pub mod ScopeLemmas
 pub mod ScopeWalk
+pub mod SourceLemmas
 pub mod ValueLaws
 pub mod ValueRows
 pub mod FollowLemmas

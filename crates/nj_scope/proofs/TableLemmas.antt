@@ -1,5 +1,5 @@
 -- Lemmas on what a table of files keeps.
-use Rattle.std.proofs.Common.{◌≡◌, ℕ, Bool, true, false, cond, List, [], ◌∷◌, ◌++◌, map, Option, Some, None, is_some, option_map, option_and_then, bytes_eq, String, string_bytes, string_eq, refl, sym, ap, ◌∙◌, true≢false}
+use Rattle.std.proofs.Common.{◌≡◌, ℕ, Bool, true, false, cond, List, [], ◌∷◌, ◌++◌, map, Option, Some, None, is_some, option_map, bytes_eq, String, string_bytes, string_eq, refl, sym, ap, ◌∙◌, true≢false}
 use Rattle.std.specs.Rc.{rc_slice_items}
 use Rattle.std.specs.declared.rc.RcSlice.{RcSlice}
 use Rattle.std.specs.List.{AllByRecursion, IsDistinct}
@@ -7,7 +7,7 @@ use Rattle.std.specs.Map.{lookup, keys_of}
 use Rattle.std.proofs.lemmas.List.{map_push}
 use Rattle.indexmap.specs.IndexMap.{IndexMap, insert_entry}
 use Rattle.indexmap.proofs.CallerLemmas.{insert_entry-new}
-use Rattle.nj_scope.specs.Readings.{reading_of, is_read, bytes_in, EachPathOnce}
+use Rattle.nj_scope.specs.Readings.{reading_of, is_read, EachPathOnce}
 use Rattle.nj_scope.specs.Table.{kept_reading}
 
 absent : {X : Type 0} (o : Option X) → is_some o ≡ false → o ≡ None
@@ -24,12 +24,14 @@ module _ {Y Z : Type 0} where
       by true rest = refl
       by false rest = rest
 
-  -- and their bytes
-  pub bytes_in-kept : (path : List ℕ) (es : List (String Y × Option (RcSlice ℕ Z))) → bytes_in (map kept_reading es) path ≡ option_and_then (option_map rc_slice_items) (lookup (λ k. bytes_eq path (string_bytes k)) es)
-  bytes_in-kept path [] = refl
-  bytes_in-kept path (e ∷ es) = by (bytes_eq path (string_bytes e.0)) (bytes_in-kept path es)
+  -- and what was found there
+  pub reading_of-kept : (path : List ℕ) (es : List (String Y × Option (RcSlice ℕ Z)))
+      → option_map (option_map rc_slice_items) (lookup (λ k. bytes_eq path (string_bytes k)) es) ≡ option_map (λ r. r.bytes) (reading_of (map kept_reading es) path)
+  reading_of-kept path [] = refl
+  reading_of-kept path (e ∷ es) = by (bytes_eq path (string_bytes e.0)) (reading_of-kept path es)
     where
-      by : (b : Bool) → bytes_in (map kept_reading es) path ≡ option_and_then (option_map rc_slice_items) (lookup (λ k. bytes_eq path (string_bytes k)) es) → option_and_then (λ r. r.bytes) (cond b (Some (kept_reading e)) (reading_of (map kept_reading es) path)) ≡ option_and_then (option_map rc_slice_items) (cond b (Some e.1) (lookup (λ k. bytes_eq path (string_bytes k)) es))
+      by : (b : Bool) → option_map (option_map rc_slice_items) (lookup (λ k. bytes_eq path (string_bytes k)) es) ≡ option_map (λ r. r.bytes) (reading_of (map kept_reading es) path)
+          → option_map (option_map rc_slice_items) (cond b (Some e.1) (lookup (λ k. bytes_eq path (string_bytes k)) es)) ≡ option_map (λ r. r.bytes) (cond b (Some (kept_reading e)) (reading_of (map kept_reading es) path))
       by true rest = refl
       by false rest = rest
 

@@ -4,9 +4,11 @@ pub mod Faults
 pub mod Late
 pub mod Limits
 pub mod Memory
+pub mod Opening
 pub mod Pools
 pub mod ReadingList
 pub mod Rules
 pub mod Scopes
 pub mod ScopesHeld
+pub mod Sources
 pub mod Table

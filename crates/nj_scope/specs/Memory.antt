@@ -1,6 +1,7 @@
 -- What a source of files in memory holds.
-use Rattle.std.specs.Prelude.{ℕ, List, reverse, Option, option_map, find, bytes_eq}
+use Rattle.std.specs.Prelude.{ℕ, List, reverse, Option, Some, option_map, find, bytes_eq}
 use Rattle.nj_scope.specs.Readings.{Reading}
+use Rattle.nj_scope.specs.Sources.{SourceState}
 
 -- a file that was added
 pub record Added : Type 0 where
@@ -18,3 +19,7 @@ pub record Memory : Type 0 where
 -- the bytes that were added last under the name
 abbrev pub bytes_added : List Added → List ℕ → Option (List ℕ)
 bytes_added added name = option_map (λ a. a.bytes) (find (λ a. bytes_eq name a.name) (reverse added))
+
+-- it tells each reading, and says what it would answer
+abbrev pub memory_state : Memory → SourceState
+memory_state m = record { readings = Some m.told; failures = m.failed; files = λ path. Some (bytes_added m.added path) }

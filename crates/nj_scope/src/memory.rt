@@ -1,8 +1,8 @@
 //! Files in memory, in the place of those of a disk.
 
-ghost use Rattle.std.specs.Prelude.{◌≡◌, ℕ, ◌+◌, ◌-◌, ◌^◌, ◌<◌, ◌≤◌, ◌↔◌, List, [], ◌∷◌, ◌++◌, Some, None, min, find, reverse, string_bytes, option_copied, if◌then◌else◌, bytes_eq, IfOk, OnOk, OnErr, IsErrOf};
+ghost use Rattle.std.specs.Prelude.{◌≡◌, ℕ, ◌+◌, ◌-◌, ◌^◌, ◌≤◌, ◌↔◌, List, [], ◌∷◌, ◌++◌, Some, None, min, find, reverse, string_bytes, option_copied, if◌then◌else◌, bytes_eq, IfOk, OnOk, OnErr, IsErrOf};
 ghost use Rattle.nj_scope.specs.Memory.{bytes_added};
-ghost use Rattle.nj_scope.specs.Readings.{Reading, with_reading, answer_bytes, AgreesWith};
+ghost use Rattle.nj_scope.specs.Sources.{answer_bytes};
 
 use crate::source::{FileSource, SourceFault};
 use std::alloc::{AllocError, Global};
@@ -84,11 +84,9 @@ impl MemoryFiles {
 }
 
 impl FileSource for MemoryFiles {
-    ghost readings = { λ m. Some m.told };
+    ghost use Rattle.nj_scope.specs.Memory.{memory_state};
 
-    ghost failures = { λ m. m.failed };
-
-    ghost files = { λ m path. Some (bytes_added m.added path) };
+    ghost state = { λ m. memory_state m };
 
     fn read(&mut self, alloc: Global, path: &str) -> Result<Option<Vec<u8>>, SourceFault>
         // It fails by `Io` where it is due, and there alone.

@@ -1,7 +1,6 @@
 //! Where the bytes of files come from.
 
-ghost use Rattle.std.specs.Prelude.{◌≡◌, ℕ, ◌^◌, ◌-◌, ◌<◌, ◌≤◌, List, Option, IfOk, OnOk, OnErr, IsErrOf};
-ghost use Rattle.nj_scope.specs.Readings.{Reading, with_reading, answer_bytes, AgreesWith};
+ghost use Rattle.std.specs.Prelude.{◌≡◌};
 ghost use Rattle.nj_scope.specs.declared.source.SourceFault.TheVariants.{OutOfMemory};
 
 use std::alloc::{AllocError, AllocFailed, Global};
@@ -49,34 +48,19 @@ impl<T: Drop> From<AllocFailed<T>> for SourceFault {
     }
 }
 
-/// What gives the bytes of a file by its path: the files of a disk, or files in memory.
+/// Where the bytes of a file come from, by its path: the files of a disk, or files in memory.
 pub trait FileSource {
-    // The readings so far, of a source that tells them.
-    ghost readings: { Self → Option (List Reading) };
+    ghost use Rattle.nj_scope.specs.Sources.{SourceState, ReadsPath};
 
-    // How often a reading has failed. The count is held in 64 bits, and stays at the greatest of them.
-    ghost failures: { Self → ℕ };
-
-    // What it would answer for a path, where it says so: the bytes, or `None` where no file is there.
-    ghost files: { Self → List ℕ → Option (Option (List ℕ)) };
+    // What can be told of the source.
+    ghost state: { Self → SourceState };
 
     /// The bytes of the file at `path`, or `None` if no file is there.
     ///
     /// # Errors
     ///
-    /// `Io` if the file could not be read, and `OutOfMemory`. The next call may answer.
+    /// `Io` if the file could not be read, and `OutOfMemory`. The source can be asked again after
+    /// either.
     fn read(&mut self, alloc: Global, path: &str) -> Result<Option<Vec<u8>>, SourceFault>
-        // An answer is one more reading, and a refusal is none.
-        ensures answer_is_told { IfOk result (λ answer. readings self.new ≡ with_reading (readings self.old) path.now (answer_bytes answer)) }
-        ensures refusal_is_not_told { OnErr result (readings self.new ≡ readings self.old) }
-
-        // It answers what it said, and goes on saying that.
-        ensures answer_as_said { IfOk result (λ answer. AgreesWith (files self.old path.now) (answer_bytes answer)) }
-        ensures says_the_same { (p : List ℕ) → files self.new p ≡ files self.old p }
-
-        // Each `Io` is counted, and nothing else is.
-        ensures io_counts { IsErrOf result SourceFault.Io → failures self.old < 2 ^ 64 - 1 → failures self.old < failures self.new }
-        ensures answer_does_not_count { OnOk result (failures self.new ≡ failures self.old) }
-        ensures out_of_memory_does_not_count { IsErrOf result SourceFault.OutOfMemory → failures self.new ≡ failures self.old }
-        ensures never_falls { failures self.old ≤ failures self.new };
+        ensures { ReadsPath (state self.old) (state self.new) path.now result };
 }

@@ -1,8 +1,9 @@
 //! The files that a run has read.
 
-ghost use Rattle.std.specs.Prelude.{◌≡◌, ◌⊎◌, ℕ, ◌-◌, ◌^◌, ◌<◌, ◌≤◌, List, [], ◌∷◌, ◌++◌, Option, true, false, length, string_bytes, option_copied, option_map, IfOk, OnOk, OnErr, IsOk, IsErrOf};
-ghost use Rattle.std.specs.Rc.{rc_slice_items};
-ghost use Rattle.nj_scope.specs.Readings.{Reading, EachPathOnce, is_read, bytes_in, answer_bytes, with_reading, AgreesWith, TellsAtMostOneMore};
+ghost use Rattle.std.specs.Prelude.{◌≡◌, List, [], ◌∷◌, ◌++◌, true, false, length, string_bytes, option_copied, option_map, IfOk, OnOk, OnErr};
+ghost use Rattle.nj_scope.specs.Opening.{OpensFile, shared_bytes};
+ghost use Rattle.nj_scope.specs.Readings.{EachPathOnce, reading_of, is_read, bytes_in};
+ghost use Rattle.nj_scope.specs.Sources.{answer_bytes};
 
 use crate::source::{FileSource, SourceFault};
 use indexmap::IndexMap;
@@ -59,72 +60,61 @@ impl FileTable {
         ensures { option_copied result ≡ bytes_in self.now path.now }
     {
         match self.kept(path) {
-            Some(bytes) => Some(bytes.as_slice()),
-            None => None,
+            Some(Some(bytes)) => Some(bytes.as_slice()),
+            _ => None,
         }
     }
 
-    /// The same bytes, held by the caller too.
-    pub fn shared(&self, path: &str) -> Result<Option<RcSlice<u8>>, AllocError>
-        ensures { IfOk result (λ bytes. option_map rc_slice_items bytes ≡ bytes_in self.now path.now) }
-    {
-        match self.kept(path) {
-            Some(bytes) => Ok(Some(bytes.clone()?)),
-            None => Ok(None),
-        }
-    }
-
-    /// Reads the file at the path, unless the table has it. That no file is there is kept too.
+    /// The bytes of the file at the path, shared with the table; `None` if no file is there. The
+    /// source is asked once for each path; that no file is there is kept too.
     ///
     /// # Errors
     ///
-    /// Those of the source, and `OutOfMemory` where the table cannot grow; it is then as it was.
-    pub fn read_in<S: FileSource>(
+    /// Those of the source, and `OutOfMemory` where the table cannot grow. The table is then as it
+    /// was, though the source may have read the file.
+    pub fn open<S: FileSource>(
         &mut self,
         alloc: Global,
         source: &mut S,
         path: &str,
-    ) -> Result<(), SourceFault>
-        // A path that was read is not read again.
-        ensures known { is_read self.old path.now ≡ true → IsOk result }
-        ensures known_stays { is_read self.old path.now ≡ true → self.new ≡ self.old }
+    ) -> Result<Option<RcSlice<u8>>, SourceFault>
+        ensures opens { OpensFile (S.state source.old) (S.state source.new) self.old self.new
+            path.now result }
         ensures known_is_not_asked { is_read self.old path.now ≡ true → source.new ≡ source.old }
-
-        // Another path is read once, and what was found is kept.
-        ensures is_read_then { OnOk result (is_read self.new path.now ≡ true) }
-        ensures kept { is_read self.old path.now ≡ false → OnOk result (self.new ≡ self.old ++ record { path = path.now; bytes = bytes_in self.new path.now } ∷ []) }
-        ensures told { is_read self.old path.now ≡ false → OnOk result (S.readings source.new ≡ with_reading (S.readings source.old) path.now (bytes_in self.new path.now)) }
-        ensures as_said { is_read self.old path.now ≡ false → OnOk result (AgreesWith (S.files source.old path.now) (bytes_in self.new path.now)) }
-
-        // A refusal leaves the table as it was. The table can lack the memory for what was read already.
-        ensures refused { OnErr result (self.new ≡ self.old) }
-        ensures io_is_not_told { IsErrOf result SourceFault.Io → S.readings source.new ≡ S.readings source.old }
-        ensures out_of_memory_is_told_at_most_once { IsErrOf result SourceFault.OutOfMemory → TellsAtMostOneMore (S.readings source.old) (S.readings source.new) path.now (S.files source.old path.now) }
-
-        // Each `Io` is counted by the source, and nothing else is.
-        ensures io_counts { IsErrOf result SourceFault.Io → S.failures source.old < 2 ^ 64 - 1 → S.failures source.old < S.failures source.new }
-        ensures ok_does_not_count { OnOk result (S.failures source.new ≡ S.failures source.old) }
-        ensures out_of_memory_does_not_count { IsErrOf result SourceFault.OutOfMemory → S.failures source.new ≡ S.failures source.old }
-        ensures never_falls { S.failures source.old ≤ S.failures source.new }
-
-        ensures says_the_same { (p : List ℕ) → S.files source.new p ≡ S.files source.old p }
         ensures each_path_once { EachPathOnce self.new }
     {
-        if self.has(path) {
-            return Ok(());
+        if let Some(bytes) = self.kept(path) {
+            return Ok(another_handle(bytes)?);
         }
+        self.read_in(alloc, source, path)
+    }
+
+    // Reads a path that was not read, and keeps what was found.
+    fn read_in<S: FileSource>(
+        &mut self,
+        alloc: Global,
+        source: &mut S,
+        path: &str,
+    ) -> Result<Option<RcSlice<u8>>, SourceFault>
+        requires new { is_read self.old path.now ≡ false }
+        requires each_path_once { EachPathOnce self.old }
+        ensures opens { OpensFile (S.state source.old) (S.state source.new) self.old self.new
+            path.now result }
+        ensures each_path_once { EachPathOnce self.new }
+    {
         let key = String::from_str(alloc, path)?;
         let answer = source.read(alloc, path)?;
-        self.keep(key, shared_answer(answer)?)?;
-        Ok(())
+        let bytes = shared_answer(answer)?;
+        let shared = another_handle(&bytes)?;
+        self.keep(key, bytes)?;
+        Ok(shared)
     }
 
     // Keeps what was found at a path that was not read.
     fn keep(&mut self, path: String, bytes: Option<RcSlice<u8>>) -> Result<(), AllocError>
         requires { is_read self.old (string_bytes path) ≡ false }
-        ensures kept { OnOk result (self.new ≡ self.old ++ record { path = string_bytes path; bytes = option_map rc_slice_items bytes } ∷ []) }
-        ensures is_read_then { OnOk result (is_read self.new (string_bytes path) ≡ true) }
-        ensures found { OnOk result (bytes_in self.new (string_bytes path) ≡ option_map rc_slice_items bytes) }
+        ensures kept { OnOk result (self.new
+            ≡ self.old ++ record { path = string_bytes path; bytes = shared_bytes bytes } ∷ []) }
         ensures refused { OnErr result (self.new ≡ self.old) }
         ensures each_path_once { EachPathOnce self.new }
     {
@@ -132,25 +122,33 @@ impl FileTable {
         Ok(())
     }
 
-    // The bytes that are kept of the path.
-    fn kept(&self, path: &str) -> Option<&RcSlice<u8>>
-        ensures { option_map rc_slice_items (option_copied result) ≡ bytes_in self.now path.now }
+    // What was found at the path, if it was read.
+    fn kept(&self, path: &str) -> Option<&Option<RcSlice<u8>>>
+        ensures found { option_map shared_bytes (option_copied result)
+            ≡ option_map (λ r. r.bytes) (reading_of self.now path.now) }
+        ensures each_path_once { EachPathOnce self.now }
     {
-        match self.files.get(path) {
-            Some(bytes) => bytes.as_ref(),
-            None => None,
-        }
+        self.files.get(path)
     }
 }
 
 fn shared_answer(answer: Option<Vec<u8>>) -> Result<Option<RcSlice<u8>>, AllocError>
-    ensures { IfOk result (λ shared. option_map rc_slice_items shared ≡ answer_bytes answer) }
+    ensures { IfOk result (λ shared. shared_bytes shared ≡ answer_bytes answer) }
 {
     match answer {
         Some(mut bytes) => {
             bytes.shrink_to_fit();
             Ok(Some(RcSlice::from_vec(bytes)?))
         }
+        None => Ok(None),
+    }
+}
+
+fn another_handle(bytes: &Option<RcSlice<u8>>) -> Result<Option<RcSlice<u8>>, AllocError>
+    ensures { IfOk result (λ handle. shared_bytes handle ≡ shared_bytes bytes.now) }
+{
+    match bytes {
+        Some(bytes) => Ok(Some(bytes.clone()?)),
         None => Ok(None),
     }
 }

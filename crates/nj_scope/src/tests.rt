@@ -55,14 +55,22 @@ fn a_table_keeps_what_was_read_first(rt: HostRuntime) -> Result<(), Fail> {
     assert!(rt; !table.has("build.ninja"));
     assert!(rt; table.get("build.ninja").is_none());
 
-    assert!(rt; table.read_in(rt.alloc(), &mut files, "build.ninja").is_ok());
-    assert!(rt; table.read_in(rt.alloc(), &mut files, "missing").is_ok());
-    let held = table.shared("build.ninja")?.ok_or("it was read")?;
+    assert!(rt;
+        matches!(
+            table.open(rt.alloc(), &mut files, "build.ninja"),
+            Ok(Some(_))
+        )
+    );
+    assert!(rt; matches!(table.open(rt.alloc(), &mut files, "missing"), Ok(None)));
     files.add("build.ninja", b"rule ld")?;
     files.add("missing", b"")?;
-    assert!(rt; table.read_in(rt.alloc(), &mut files, "build.ninja").is_ok());
-    assert!(rt; table.read_in(rt.alloc(), &mut files, "missing").is_ok());
-    assert!(rt; table.read_in(rt.alloc(), &mut files, "empty").is_ok());
+    let held = table
+        .open(rt.alloc(), &mut files, "build.ninja")
+        .ok()
+        .ok_or("it was read")?
+        .ok_or("it was there")?;
+    assert!(rt; matches!(table.open(rt.alloc(), &mut files, "missing"), Ok(None)));
+    assert!(rt; matches!(table.open(rt.alloc(), &mut files, "empty"), Ok(Some(_))));
 
     assert_eq!(rt; table.count(), 3);
     assert_eq!(rt; table.get("build.ninja"), Some(b"rule cc".as_slice()));
@@ -70,7 +78,6 @@ fn a_table_keeps_what_was_read_first(rt: HostRuntime) -> Result<(), Fail> {
     assert_eq!(rt; table.get("empty"), Some(b"".as_slice()));
     assert!(rt; table.has("missing"));
     assert!(rt; table.get("missing").is_none());
-    assert!(rt; table.shared("missing")?.is_none());
     Ok(())
 }
 
@@ -79,14 +86,10 @@ fn a_failed_reading_is_not_kept(rt: HostRuntime) -> Result<(), Fail> {
     let mut files = two_files(&rt)?;
     let mut table = FileTable::new(rt.alloc());
     files.fail_at(1);
-    assert!(rt;
-        matches!(
-            table.read_in(rt.alloc(), &mut files, "empty"),
-            Err(SourceFault::Io)
-        )
-    );
+    let failed = table.open(rt.alloc(), &mut files, "empty");
+    assert!(rt; matches!(failed, Err(SourceFault::Io)));
     assert!(rt; !table.has("empty"));
-    assert!(rt; table.read_in(rt.alloc(), &mut files, "empty").is_ok());
+    assert!(rt; matches!(table.open(rt.alloc(), &mut files, "empty"), Ok(Some(_))));
     assert_eq!(rt; table.get("empty"), Some(b"".as_slice()));
     Ok(())
 }

@@ -1,0 +1,42 @@
+-- What can be told of a source of files, and what a reading does to it.
+use Rattle.std.specs.Prelude.{◌≡◌, ℕ, ◌-◌, ◌^◌, ◌<◌, ◌≤◌, Option, option_map, List, [], ◌∷◌, ◌++◌, IfSome, Result, Ok, Err}
+use Rattle.std.specs.Global.{Vec}
+use Rattle.std.specs.List.{AllByRecursion}
+use Rattle.nj_scope.specs.Readings.{Reading}
+use Rattle.nj_scope.specs.declared.source.SourceFault.{SourceFault}
+use Rattle.nj_scope.specs.declared.source.SourceFault.TheVariants.{Io, OutOfMemory}
+
+-- what can be told of a source
+pub record SourceState : Type 0 where
+  -- the readings so far, of a source that tells them
+  pub readings : Option (List Reading)
+  -- how often a reading has failed
+  pub failures : ℕ
+  -- what it would answer for each path, where it says so: the bytes, or `None` if no file is there
+  pub files : List ℕ → Option (Option (List ℕ))
+
+-- a reading found what the source said it would find, where it said so
+abbrev pub IsAsSaid : SourceState → Reading → Type 0
+IsAsSaid source r = IfSome (source.files r.path) (λ said. r.bytes ≡ said)
+
+-- These were read of the source: it tells just that, it found what it said, and it goes on saying the same of its files.
+pub record HasRead (before after : SourceState) (readings : List Reading) : Type 0 where
+  pub told : after.readings ≡ option_map (λ rs. rs ++ readings) before.readings
+  pub as_said : AllByRecursion (IsAsSaid before) readings
+  pub files : (path : List ℕ) → after.files path ≡ before.files path
+
+-- A count of failures rose, unless it was at its greatest, where it stays. It never falls.
+pub record Rises (before after : ℕ) : Type 0 where
+  pub above : before < 2 ^ 64 - 1 → before < after
+  pub never_falls : before ≤ after
+
+-- the bytes of an answer
+abbrev pub answer_bytes : Option (Vec ℕ) → Option (List ℕ)
+answer_bytes answer = option_map (λ v. v.items) answer
+
+-- What a call of `read` does: an answer is one more reading, and a refusal is none. Each `Io` is counted, and nothing else is.
+abbrev pub ReadsPath : (before after : SourceState) → (path : List ℕ) → Result (Option (Vec ℕ)) SourceFault → Type 0
+ReadsPath before after path (Ok answer) =
+    HasRead before after (record { path = path; bytes = answer_bytes answer } ∷ []) × (after.failures ≡ before.failures)
+ReadsPath before after path (Err Io) = HasRead before after [] × Rises before.failures after.failures
+ReadsPath before after path (Err OutOfMemory) = HasRead before after [] × (after.failures ≡ before.failures)
