@@ -1,3 +1,4 @@
+pub mod InForce
 pub mod LateLemmas
 pub mod LimitRows
 pub mod MemoryLemmas
@@ -9,5 +10,5 @@ pub mod ScopeWalk
 pub mod SourceLemmas
 pub mod ValueLaws
 pub mod ValueRows
-pub mod FollowLemmas
+pub mod DeclarationLemmas
 pub mod RuleNames

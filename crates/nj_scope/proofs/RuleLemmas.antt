@@ -30,7 +30,7 @@ pub key-pushed : (keys after : List (Vec ℕ)) (k : Vec ℕ) → list_any (λ q.
 key-pushed keys after k absent is =
     ap (map (λ q. q.items)) (is ∙ ap (λ b. if b then keys else keys ++ k ∷ []) absent) ∙ map_push (λ q. q.items) keys k
 
-or_false : (a b : Bool) → (a || b) ≡ false → b ≡ false
+pub or_false : (a b : Bool) → (a || b) ≡ false → b ≡ false
 or_false true b h = absurd (true≢false h)
 or_false false b h = h
 

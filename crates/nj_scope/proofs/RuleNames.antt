@@ -1,5 +1,5 @@
 -- The names of a scope's rules, where each rule was new as it was declared.
-use Rattle.std.proofs.Common.{◌≡◌, ℕ, Bool, true, false, cond, ◌&&◌, ◌||◌, ◌==◌, if◌then◌else◌, List, [], ◌∷◌, ◌++◌, map, length, Option, Some, None, is_some, bytes_eq, codes, refl, sym, ap, subst, ◌∙◌, eqb-true}
+use Rattle.std.proofs.Common.{◌≡◌, ℕ, Bool, true, false, cond, ◌&&◌, ◌||◌, ◌==◌, if◌then◌else◌, List, [], ◌∷◌, ◌++◌, map, length, Option, Some, None, is_some, bytes_eq, refl, sym, ap, subst, ◌∙◌, eqb-true}
 use Rattle.std.specs.List.{filter, list_any, IsDistinct}
 use Rattle.std.proofs.lemmas.Cmp.{nat_list_eq_equiv}
 use Rattle.std.proofs.lemmas.List.{map-append, append-nil}
@@ -8,10 +8,11 @@ use Rattle.std.proofs.lemmas.List.Folds.{list_any-append}
 use Rattle.std.proofs.lemmas.Map.Keys.{IsDistinct-push}
 use Rattle.nj_manifest.specs.Statements.{StatementText, BindingText, RuleText, PoolText, BuildText, DefaultText, IncludeText, SubninjaText}
 use Rattle.nj_scope.specs.Rules as kept
-use Rattle.nj_scope.specs.Rules.{rule_names, line_kept}
+use Rattle.nj_scope.specs.Rules.{rule_names, line_kept, phony, phony_rule}
 use Rattle.nj_scope.specs.Scopes.{or_else}
 use Rattle.nj_scope.specs.ReadingList.{Entry, with_rule, rule_texts, declares, rules, is_declared, RuleIsNew, EachRuleIsNew}
-use Rattle.nj_scope.proofs.FollowLemmas.{rules-kept}
+use Rattle.nj_scope.proofs.DeclarationLemmas.{rules-kept}
+use Rattle.nj_scope.proofs.RuleLemmas.{or_false}
 
 -- the names of one rule, where it is of the scope
 abbrev one_name : (own : Bool) → (name : List ℕ) → List (List ℕ)
@@ -21,15 +22,23 @@ one_name false name = []
 -- the names, with those of one rule more
 names-push : (before : List kept.RuleText) (r : kept.RuleText) (scope : ℕ) → rule_names (before ++ r ∷ []) scope ≡ rule_names before scope ++ one_name (scope == r.scope) r.name
 names-push before r scope =
-    ap (λ rs. codes "phony" ∷ map (λ x. x.name) rs) (filter-append (λ x. scope == x.scope) before (r ∷ []))
-    ∙ ap (λ names. codes "phony" ∷ names) (map-append (λ x. x.name) (filter (λ x. scope == x.scope) before) (filter (λ x. scope == x.scope) (r ∷ [])))
+    ap (λ rs. map (λ x. x.name) rs) (filter-append (λ x. scope == x.scope) before (r ∷ []))
+    ∙ map-append (λ x. x.name) (filter (λ x. scope == x.scope) before) (filter (λ x. scope == x.scope) (r ∷ []))
     ∙ by (scope == r.scope)
   where
-    by : (own : Bool) → codes "phony" ∷ (map (λ x. x.name) (filter (λ x. scope == x.scope) before) ++ map (λ x. x.name) (cond own (r ∷ []) [])) ≡ rule_names before scope ++ one_name own r.name
+    by : (own : Bool) → map (λ x. x.name) (filter (λ x. scope == x.scope) before) ++ map (λ x. x.name) (cond own (r ∷ []) []) ≡ rule_names before scope ++ one_name own r.name
     by true = refl
     by false = refl
 
 -- ---- which names are taken
+
+-- whether a rule of the scope has the name, or it is `phony`
+abbrev names_have : List kept.RuleText → (number : ℕ) → (name : List ℕ) → Bool
+names_have rules number name = bytes_eq name phony || list_any (bytes_eq name) (rule_names rules number)
+
+or_among : (a b d : Bool) → ((a || b) || d) ≡ (a || (b || d))
+or_among true b d = refl
+or_among false b d = refl
 
 any_one : (name other : List ℕ) (own : Bool) → list_any (bytes_eq name) (one_name own other) ≡ (own && bytes_eq name other)
 any_one name other true = by (bytes_eq name other)
@@ -46,30 +55,39 @@ taken-push false true k (Some x) = refl
 taken-push false false k None = refl
 taken-push false false k (Some x) = refl
 
-module _ (before : List Entry) (e : Entry) (number : ℕ) (name : List ℕ) (rest : is_declared (rules before number name) name ≡ list_any (bytes_eq name) (rule_names (rule_texts before) number)) where
-  no_rule : ((x : List ℕ) → declares e.item x ≡ false) → is_declared (rules (e ∷ before) number name) name ≡ list_any (bytes_eq name) (rule_names (rule_texts before) number)
+module _ (before : List Entry) (e : Entry) (number : ℕ) (name : List ℕ) (rest : is_declared (rules before number name) name ≡ names_have (rule_texts before) number name) where
+  no_rule : ((x : List ℕ) → declares e.item x ≡ false) → is_declared (rules (e ∷ before) number name) name ≡ names_have (rule_texts before) number name
   no_rule nothing = ap (λ o. is_declared o name) (rules-kept e before nothing number name) ∙ rest
 
-listed-more : (before : List Entry) (number e_number : ℕ) (around : List ℕ) (item : StatementText) (name : List ℕ)
-    → is_declared (rules before number name) name ≡ list_any (bytes_eq name) (rule_names (rule_texts before) number)
-    → is_declared (rules (record { number = e_number; around = around; item = item } ∷ before) number name) name ≡ list_any (bytes_eq name) (rule_names (with_rule e_number item (rule_texts before)) number)
-listed-more before number m around (RuleText declared lines) name rest =
-    taken-push (bytes_eq name (codes "phony")) (number == m && bytes_eq name declared.name) (length (rule_texts before)) (rules before number name)
-    ∙ ap (λ b. b || (number == m && bytes_eq name declared.name)) rest
-    ∙ ap (λ b. list_any (bytes_eq name) (rule_names (rule_texts before) number) || b) (sym (any_one name declared.name (number == m)))
-    ∙ sym (list_any-append (bytes_eq name) (rule_names (rule_texts before) number) (one_name (number == m) declared.name))
-    ∙ ap (list_any (bytes_eq name)) (sym (names-push (rule_texts before) (record { scope = m; name = declared.name; lines = map line_kept lines }) number))
-listed-more before number m around (BindingText bound word) name rest = no_rule before (record { number = m; around = around; item = BindingText bound word }) number name rest (λ x. refl)
-listed-more before number m around (PoolText declared lines) name rest = no_rule before (record { number = m; around = around; item = PoolText declared lines }) number name rest (λ x. refl)
-listed-more before number m around (BuildText outputs rule inputs lines) name rest = no_rule before (record { number = m; around = around; item = BuildText outputs rule inputs lines }) number name rest (λ x. refl)
-listed-more before number m around (DefaultText words) name rest = no_rule before (record { number = m; around = around; item = DefaultText words }) number name rest (λ x. refl)
-listed-more before number m around (IncludeText word) name rest = no_rule before (record { number = m; around = around; item = IncludeText word }) number name rest (λ x. refl)
-listed-more before number m around (SubninjaText word) name rest = no_rule before (record { number = m; around = around; item = SubninjaText word }) number name rest (λ x. refl)
+listed-more : (before : List Entry) (number : ℕ) (e : Entry) (item : StatementText) (name : List ℕ)
+    → is_declared (rules before number name) name ≡ names_have (rule_texts before) number name
+    → is_declared (rules (record e { item = item } ∷ before) number name) name ≡ names_have (with_rule e.number item (rule_texts before)) number name
+listed-more before number e (RuleText declared lines) name rest =
+    taken-push (bytes_eq name phony) (number == e.number && bytes_eq name declared.name) (length (rule_texts before)) (rules before number name)
+    ∙ ap (λ b. b || (number == e.number && bytes_eq name declared.name)) rest
+    ∙ ap (λ b. (bytes_eq name phony || list_any (bytes_eq name) (rule_names (rule_texts before) number)) || b) (sym (any_one name declared.name (number == e.number)))
+    ∙ or_among (bytes_eq name phony) (list_any (bytes_eq name) (rule_names (rule_texts before) number)) (list_any (bytes_eq name) (one_name (number == e.number) declared.name))
+    ∙ ap (λ b. bytes_eq name phony || b) (sym (list_any-append (bytes_eq name) (rule_names (rule_texts before) number) (one_name (number == e.number) declared.name)))
+    ∙ ap (λ names. bytes_eq name phony || list_any (bytes_eq name) names) (sym (names-push (rule_texts before) (record { scope = e.number; name = declared.name; lines = map line_kept lines }) number))
+listed-more before number e (BindingText bound word) name rest = no_rule before (record e { item = BindingText bound word }) number name rest (λ x. refl)
+listed-more before number e (PoolText declared lines) name rest = no_rule before (record e { item = PoolText declared lines }) number name rest (λ x. refl)
+listed-more before number e (BuildText outputs rule inputs lines) name rest = no_rule before (record e { item = BuildText outputs rule inputs lines }) number name rest (λ x. refl)
+listed-more before number e (DefaultText words) name rest = no_rule before (record e { item = DefaultText words }) number name rest (λ x. refl)
+listed-more before number e (IncludeText word) name rest = no_rule before (record e { item = IncludeText word }) number name rest (λ x. refl)
+listed-more before number e (SubninjaText word) name rest = no_rule before (record e { item = SubninjaText word }) number name rest (λ x. refl)
 
 -- a name is taken in a scope where it is one of its names
-pub is_declared-listed : (entries : List Entry) (number : ℕ) (name : List ℕ) → is_declared (rules entries number name) name ≡ list_any (bytes_eq name) (rule_names (rule_texts entries) number)
-is_declared-listed [] number name = refl
-is_declared-listed (e ∷ before) number name = listed-more before number e.number e.around e.item name (is_declared-listed before number name)
+pub is_declared-listed : (entries : List Entry) (number : ℕ) (name : List ℕ) → is_declared (rules entries number name) name ≡ names_have (rule_texts entries) number name
+is_declared-listed [] number name = by (number == 0)
+  where
+    has : (b : Bool) → (b || false) ≡ (b || (b || false))
+    has true = refl
+    has false = refl
+
+    by : (own : Bool) → (bytes_eq name phony || false) ≡ (bytes_eq name phony || list_any (bytes_eq name) (map (λ r. r.name) (cond own (phony_rule ∷ []) [])))
+    by true = has (bytes_eq name phony)
+    by false = refl
+is_declared-listed (e ∷ before) number name = listed-more before number e e.item name (is_declared-listed before number name)
 
 -- ---- the names differ
 
@@ -85,7 +103,8 @@ distinct-more before r number new distinct = subst (IsDistinct bytes_eq) (sym (n
 distinct-with : (before : List Entry) (number m : ℕ) (item : StatementText) → RuleIsNew before m item → IsDistinct bytes_eq (rule_names (rule_texts before) number) → IsDistinct bytes_eq (rule_names (with_rule m item (rule_texts before)) number)
 distinct-with before number m (RuleText declared lines) is_new rest =
     distinct-more (rule_texts before) (record { scope = m; name = declared.name; lines = map line_kept lines }) number
-    (λ same. sym (is_declared-listed before number declared.name) ∙ ap (λ n. is_declared (rules before n declared.name) declared.name) same ∙ is_new) rest
+    (λ same. or_false (bytes_eq declared.name phony) (list_any (bytes_eq declared.name) (rule_names (rule_texts before) number))
+    (sym (is_declared-listed before number declared.name) ∙ ap (λ n. is_declared (rules before n declared.name) declared.name) same ∙ is_new)) rest
 distinct-with before number m (BindingText bound word) is_new rest = rest
 distinct-with before number m (PoolText declared lines) is_new rest = rest
 distinct-with before number m (BuildText outputs rule inputs lines) is_new rest = rest
@@ -96,5 +115,9 @@ distinct-with before number m (SubninjaText word) is_new rest = rest
 -- Where each rule was new, no two rules of a scope have one name, and none is called `phony`.
 pub names-distinct : (entries : List Entry) → EachRuleIsNew entries → (number : ℕ) → IsDistinct bytes_eq (rule_names (rule_texts entries) number)
 unfolding IsDistinct
-names-distinct [] new number = (tt, tt)
+names-distinct [] new number = by (number == 0)
+  where
+    by : (own : Bool) → IsDistinct bytes_eq (map (λ r. r.name) (cond own (phony_rule ∷ []) []))
+    by true = (tt, tt)
+    by false = tt
 names-distinct (e ∷ before) new number = distinct-with before number e.number e.item new.0 (names-distinct before new.1 number)

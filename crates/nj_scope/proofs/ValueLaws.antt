@@ -1,10 +1,10 @@
 -- What names stand for, by the statements that were read.
-use Rattle.std.proofs.Common.{◌≡◌, ℕ, Bool, true, false, ◌&&◌, ◌==◌, if◌then◌else◌, List, [], ◌∷◌, ◌++◌, Some, None, unwrap_or, bytes_eq, refl, ap, ◌∙◌}
+use Rattle.std.proofs.Common.{◌≡◌, ℕ, Bool, true, false, ◌&&◌, ◌==◌, if◌then◌else◌, List, [], ◌∷◌, ◌++◌, Some, None, unwrap_or, bytes_eq, refl, sym, ap, subst, ◌∙◌}
 use Rattle.std.proofs.lemmas.Slice.Eq.{bytes_eq-Decides}
 use Rattle.std.proofs.lemmas.Bool.{eq-eqb}
 use Rattle.nj_manifest.specs.Statements.{StatementText, BindingText, RuleText, PoolText, BuildText, DefaultText, IncludeText, SubninjaText}
 use Rattle.nj_scope.specs.Scopes.{or_else, value_in, nearest, expanded}
-use Rattle.nj_scope.specs.ReadingList.{Entry, scope_of, binds, binds_in, bounds, binds_name, NoneBinds, LastBindingCounts, OthersAreInherited, OthersKeepTheirs}
+use Rattle.nj_scope.specs.ReadingList.{Entry, scope_of, binds, binds_in, bounds, binds_name, value_after, NoneBinds, LastBindingCounts, OthersAreInherited, OthersKeepTheirs}
 
 -- a statement that does not bind the name
 not_binding : (value : List ℕ → List ℕ) (item : StatementText) (name : List ℕ) → binds_name item name ≡ false → binds value item name ≡ None
@@ -24,19 +24,19 @@ none_here e number name value h = by (number == e.number) h
     by false h = refl
 
 -- statements that do not bind the name change nothing of it
-passed : (behind before : List Entry) (number : ℕ) (name : List ℕ) → NoneBinds behind number name → bounds (behind ++ before) number name ≡ bounds before number name
+passed : (after before : List Entry) (number : ℕ) (name : List ℕ) → NoneBinds after number name → bounds (after ++ before) number name ≡ bounds before number name
 unfolding bounds
 passed [] before number name none = refl
-passed (e ∷ behind) before number name none =
-    ap (λ o. or_else o (bounds (behind ++ before) number name)) (none_here e number name (value_in (bounds (behind ++ before)) (scope_of e)) none.0) ∙ passed behind before number name none.1
+passed (e ∷ after) before number name none =
+    ap (λ o. or_else o (bounds (after ++ before) number name)) (none_here e number name (value_in (bounds (after ++ before)) (scope_of e)) none.0) ∙ passed after before number name none.1
 
 pub last_counts : LastBindingCounts
 unfolding bounds
-last_counts behind before number around name parts spot none =
-    ap (λ o. unwrap_or (or_else o (nearest (λ s. bounds (behind ++ record { number = number; around = around; item = BindingText name (record { spot = spot; parts = parts }) } ∷ before) s name) around)) [])
-    (passed behind (record { number = number; around = around; item = BindingText name (record { spot = spot; parts = parts }) } ∷ before) number name none
-    ∙ ap (λ b. or_else (if b then (if bytes_eq name name then Some (expanded (value_in (bounds before) (number ∷ around)) parts) else None) else None) (bounds before number name)) (eq-eqb number number refl)
-    ∙ ap (λ b. or_else (if b then Some (expanded (value_in (bounds before) (number ∷ around)) parts) else None) (bounds before number name)) ((bytes_eq-Decides name name).1 refl))
+last_counts after before e name word is none = subst (λ item. value_after (after ++ record e { item = item } ∷ before) (scope_of e) name ≡ expanded (value_after before (scope_of e)) word.parts) (sym is) (
+    ap (λ o. unwrap_or (or_else o (nearest (λ s. bounds (after ++ record e { item = BindingText name word } ∷ before) s name) e.around)) [])
+    (passed after (record e { item = BindingText name word } ∷ before) e.number name none
+    ∙ ap (λ b. or_else (if b then (if bytes_eq name name then Some (expanded (value_in (bounds before) (scope_of e)) word.parts) else None) else None) (bounds before e.number name)) (eq-eqb e.number e.number refl)
+    ∙ ap (λ b. or_else (if b then Some (expanded (value_in (bounds before) (scope_of e)) word.parts) else None) (bounds before e.number name)) ((bytes_eq-Decides name name).1 refl)))
 
 unbound : (entries : List Entry) (number : ℕ) (name : List ℕ) → NoneBinds entries number name → bounds entries number name ≡ None
 unfolding bounds

@@ -3,10 +3,10 @@ use Rattle.std.proofs.Common.{◌≡◌, ℕ, List, [], ◌∷◌, Some, None, t
 use Rattle.std.specs.Prelude.{codes, reverse}
 use Rattle.nj_text.specs.Units.{first_spot}
 use Rattle.nj_text.specs.Words.{PartText, Text, Name, WordText}
-use Rattle.nj_manifest.specs.Statements.{BindingText, RuleText, PoolText, SubninjaText}
-use Rattle.nj_scope.specs.ReadingList.{Entry, bounds, value_after, rules, rule_texts, pools, scopes_opened, files_opened}
+use Rattle.nj_manifest.specs.Statements.{BindingText, RuleText, PoolText, DefaultText, SubninjaText}
+use Rattle.nj_scope.specs.ReadingList.{Entry, bounds, value_after, rules, rule_in_force, rule_text_in_force, rule_texts, pools, scopes_opened, files_opened}
 use Rattle.nj_scope.specs.Pools.{is_pool}
-use Rattle.nj_scope.specs.Rules.{rule_names}
+use Rattle.nj_scope.specs.Rules.{phony_rule, rule_names}
 
 abbrev main : List ℕ
 main = 0 ∷ []
@@ -18,13 +18,20 @@ child = 1 ∷ 0 ∷ []
 abbrev word : List PartText → WordText
 word parts = record { spot = first_spot; parts = parts }
 
+-- where the statements stand; their spots say nothing here
+abbrev at_main : Entry
+at_main = record { file = codes "build.ninja"; spot = first_spot; depth = 0; number = 0; around = []; item = DefaultText [] }
+
+abbrev at_child : Entry
+at_child = record { file = codes "s"; spot = first_spot; depth = 1; number = 1; around = 0 ∷ []; item = DefaultText [] }
+
 -- x = 1, y = a$x, x = 2: a value expands at once
 abbrev at_once : List Entry
 at_once =
     reverse
-    (record { number = 0; around = []; item = BindingText (codes "x") (word (Text (codes "1") ∷ [])) }
-    ∷ record { number = 0; around = []; item = BindingText (codes "y") (word (Text (codes "a") ∷ Name (codes "x") ∷ [])) }
-    ∷ record { number = 0; around = []; item = BindingText (codes "x") (word (Text (codes "2") ∷ [])) } ∷ [])
+    (record at_main { item = BindingText (codes "x") (word (Text (codes "1") ∷ [])) }
+    ∷ record at_main { item = BindingText (codes "y") (word (Text (codes "a") ∷ Name (codes "x") ∷ [])) }
+    ∷ record at_main { item = BindingText (codes "x") (word (Text (codes "2") ∷ [])) } ∷ [])
 
 early : value_after at_once main (codes "y") ≡ codes "a1"
 unfolding bounds
@@ -42,11 +49,11 @@ unknown = refl
 abbrev shadowed : List Entry
 shadowed =
     reverse
-    (record { number = 0; around = []; item = BindingText (codes "x") (word (Text (codes "p") ∷ [])) }
-    ∷ record { number = 0; around = []; item = SubninjaText (word (Text (codes "s") ∷ [])) }
-    ∷ record { number = 1; around = 0 ∷ []; item = BindingText (codes "x") (word (Text (codes "c") ∷ Name (codes "x") ∷ [])) }
-    ∷ record { number = 1; around = 0 ∷ []; item = RuleText (record { spot = first_spot; name = codes "r" }) [] }
-    ∷ record { number = 1; around = 0 ∷ []; item = PoolText (record { spot = first_spot; name = codes "p" }) [] } ∷ [])
+    (record at_main { item = BindingText (codes "x") (word (Text (codes "p") ∷ [])) }
+    ∷ record at_main { item = SubninjaText (word (Text (codes "s") ∷ [])) }
+    ∷ record at_child { item = BindingText (codes "x") (word (Text (codes "c") ∷ Name (codes "x") ∷ [])) }
+    ∷ record at_child { item = RuleText (record { spot = first_spot; name = codes "r" }) [] }
+    ∷ record at_child { item = PoolText (record { spot = first_spot; name = codes "p" }) [] } ∷ [])
 
 in_child : value_after shadowed child (codes "x") ≡ codes "cp"
 unfolding bounds
@@ -62,16 +69,25 @@ opened = refl
 files : files_opened shadowed ≡ 2
 files = refl
 
-rule_of_child : rules shadowed 1 (codes "r") ≡ Some 0
+rule_of_child : rules shadowed 1 (codes "r") ≡ Some 1
 rule_of_child = refl
 
 rule_of_parent : rules shadowed 0 (codes "r") ≡ None
 rule_of_parent = refl
 
-all_rules : rule_texts shadowed ≡ record { scope = 1; name = codes "r"; lines = [] } ∷ []
+in_force_in_child : rule_in_force shadowed child (codes "r") ≡ Some 1
+in_force_in_child = refl
+
+in_force_in_parent : rule_in_force shadowed main (codes "r") ≡ None
+in_force_in_parent = refl
+
+phony_in_child : rule_text_in_force shadowed child (codes "phony") ≡ Some phony_rule
+phony_in_child = refl
+
+all_rules : rule_texts shadowed ≡ phony_rule ∷ record { scope = 1; name = codes "r"; lines = [] } ∷ []
 all_rules = refl
 
-names_of_child : rule_names (rule_texts shadowed) 1 ≡ codes "phony" ∷ codes "r" ∷ []
+names_of_child : rule_names (rule_texts shadowed) 1 ≡ codes "r" ∷ []
 names_of_child = refl
 
 names_of_parent : rule_names (rule_texts shadowed) 0 ≡ codes "phony" ∷ []

@@ -1,4 +1,4 @@
-pub mod Follows
+pub mod Declarations
 pub mod Readings
 pub mod Faults
 pub mod Late

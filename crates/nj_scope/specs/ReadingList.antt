@@ -1,18 +1,51 @@
 -- The statements of a run in reading order, and what names, rules and pools stand for before one of them.
-use Rattle.std.specs.Prelude.{◌≡◌, ℕ, ◌+◌, Bool, false, ◌&&◌, ◌==◌, Option, Some, None, List, [], ◌∷◌, ◌++◌, map, length, bytes_eq, codes, is_some, ◌||◌, if◌then◌else◌}
+use Rattle.std.specs.Prelude.{
+  ◌≡◌,
+  ◌⊎◌,
+  ℕ,
+  ◌+◌,
+  Bool,
+  false,
+  ◌&&◌,
+  ◌==◌,
+  Option,
+  Some,
+  None,
+  option_and_then,
+  List,
+  [],
+  ◌∷◌,
+  ◌++◌,
+  map,
+  length,
+  slice_get,
+  bytes_eq,
+  is_some,
+  ◌||◌,
+  if◌then◌else◌,
+}
+use Rattle.std.specs.List.{Contains}
 use Rattle.nj_text.specs.declared.spot.Spot.{Spot}
-use Rattle.nj_text.specs.Words.{PartText}
+use Rattle.nj_text.specs.Words.{WordText}
 use Rattle.nj_scope.specs.Rules as kept
-use Rattle.nj_scope.specs.Rules.{line_kept}
+use Rattle.nj_scope.specs.Rules.{line_kept, phony, phony_rule}
 use Rattle.nj_manifest.specs.Statements.{StatementText, BindingText, RuleText, PoolText, IncludeText, SubninjaText}
-use Rattle.nj_scope.specs.Scopes.{or_else, Bounds, value_in, expanded}
+use Rattle.nj_scope.specs.Scopes.{or_else, nearest, Bounds, value_in, expanded}
 
--- A statement that was read, in a scope. The scope is its number and those around it, the nearest first.
+-- A statement that was read: where it stands, and what it says.
 pub record Entry : Type 0 where
+  -- the file, by the name under which it was opened
+  pub file : List ℕ
+  -- the place of its first byte in the file
+  pub spot : Spot
+  -- how many files are open around that file; around the main file there is none
+  pub depth : ℕ
+  -- the number of its scope, and those of the scopes around it, the nearest first
   pub number : ℕ
   pub around : List ℕ
   pub item : StatementText
 
+-- its scope, with those around it
 abbrev pub scope_of : Entry → List ℕ
 scope_of e = e.number ∷ e.around
 
@@ -39,13 +72,13 @@ value_after entries scope name = value_in (bounds entries) scope name
 
 -- ---- rules
 
--- the rules in the order in which they were declared, which is that of their numbers
+-- the rules in the order of their numbers: `phony`, and then those that were declared, in their order
 abbrev pub with_rule : (number : ℕ) → StatementText → List kept.RuleText → List kept.RuleText
 with_rule number (RuleText name lines) before = before ++ record { scope = number; name = name.name; lines = map line_kept lines } ∷ []
 with_rule number item before = before
 
 abbrev pub rule_texts : List Entry → List kept.RuleText
-rule_texts [] = []
+rule_texts [] = phony_rule ∷ []
 rule_texts (e ∷ before) = with_rule e.number e.item (rule_texts before)
 
 abbrev pub declares : StatementText → (name : List ℕ) → Bool
@@ -55,11 +88,21 @@ declares item name = false
 -- the number of the rule that a scope itself declares under a name
 abbrev pub rules : List Entry → (number : ℕ) → (name : List ℕ) → Option ℕ
 rules [] number name = None
-rules (e ∷ before) number name = or_else (if number == e.number && declares e.item name then Some (length (rule_texts before)) else None) (rules before number name)
+rules (e ∷ before) number name =
+    or_else (if number == e.number && declares e.item name then Some (length (rule_texts before)) else None) (rules before number name)
 
 -- whether a name is taken, where its own scope has this rule of the name; `phony` is always there
 abbrev pub is_declared : Option ℕ → (name : List ℕ) → Bool
-is_declared own name = bytes_eq name (codes "phony") || is_some own
+is_declared own name = bytes_eq name phony || is_some own
+
+-- The number of the rule that is in force under a name in a scope, after these statements: of `phony` 0, of another name that
+-- of the nearest scope which declares a rule under it.
+abbrev pub rule_in_force : List Entry → (scope name : List ℕ) → Option ℕ
+rule_in_force entries scope name = if bytes_eq name phony then Some 0 else nearest (λ s. rules entries s name) scope
+
+-- the rule itself
+abbrev pub rule_text_in_force : List Entry → (scope name : List ℕ) → Option kept.RuleText
+rule_text_in_force entries scope name = option_and_then (slice_get (rule_texts entries)) (rule_in_force entries scope name)
 
 -- A rule is new where its scope declares none of its name yet; one called `phony` never is.
 abbrev pub RuleIsNew : List Entry → (number : ℕ) → StatementText → Type 0
@@ -116,15 +159,22 @@ NoneBinds (e ∷ others) number name = ((number == e.number && binds_name e.item
 
 -- The value of a name in a scope that binds it itself is that of its last binding there, expanded by what was bound before.
 abbrev pub LastBindingCounts : Type 0
-LastBindingCounts = (behind before : List Entry) (number : ℕ) (around name : List ℕ) (parts : List PartText) (spot : Spot)
-    → NoneBinds behind number name
-    → value_after (behind ++ record { number = number; around = around; item = BindingText name (record { spot = spot; parts = parts }) } ∷ before) (number ∷ around) name
-    ≡ expanded (value_after before (number ∷ around)) parts
+LastBindingCounts = (after before : List Entry) (e : Entry) (name : List ℕ) (word : WordText)
+    → e.item ≡ BindingText name word → NoneBinds after e.number name
+    → value_after (after ++ e ∷ before) (scope_of e) name ≡ expanded (value_after before (scope_of e)) word.parts
 
 -- In a scope that does not bind it, a name has the value that it has in the scopes around.
 abbrev pub OthersAreInherited : Type 0
-OthersAreInherited = (entries : List Entry) (number : ℕ) (around name : List ℕ) → NoneBinds entries number name → value_after entries (number ∷ around) name ≡ value_after entries around name
+OthersAreInherited = (entries : List Entry) (number : ℕ) (around name : List ℕ) → NoneBinds entries number name
+    → value_after entries (number ∷ around) name ≡ value_after entries around name
 
 -- What a scope binds changes the values of no other scope's own names.
 abbrev pub OthersKeepTheirs : Type 0
-OthersKeepTheirs = (e : Entry) (before : List Entry) (number : ℕ) (name : List ℕ) → (number == e.number) ≡ false → bounds (e ∷ before) number name ≡ bounds before number name
+OthersKeepTheirs = (e : Entry) (before : List Entry) (number : ℕ) (name : List ℕ) → (number == e.number) ≡ false
+    → bounds (e ∷ before) number name ≡ bounds before number name
+
+-- A rule that is in force under a name has that name, and one of the scopes declares it; `phony` belongs to the main file's.
+abbrev pub InForceIsDeclared : Type 0
+InForceIsDeclared = (entries : List Entry) (scope name : List ℕ) (number : ℕ) → rule_in_force entries scope name ≡ Some number
+    → (rule : kept.RuleText) × (slice_get (rule_texts entries) number ≡ Some rule) × (rule.name ≡ name)
+    × ((rule ≡ phony_rule) ⊎ Contains scope rule.scope)

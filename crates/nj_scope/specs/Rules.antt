@@ -1,5 +1,5 @@
 -- Rules as they were declared.
-use Rattle.std.specs.Prelude.{ℕ, ◌==◌, Option, List, ◌∷◌, map, find, reverse, option_map, codes, bytes_eq}
+use Rattle.std.specs.Prelude.{ℕ, ◌==◌, Option, List, [], map, find, reverse, option_map, codes, bytes_eq}
 use Rattle.std.specs.List.{filter}
 use Rattle.nj_text.specs.Words.{PartText}
 use Rattle.nj_manifest.specs.Statements.{LineText}
@@ -23,13 +23,20 @@ line_held l = record { key = l.key.items; value = l.value }
 abbrev pub line_kept : LineText → RuleLineText
 line_kept l = record { key = l.name; value = l.value.parts }
 
--- the rules that a scope itself declares
+-- the rule `phony`, which is always there; it has no lines
+abbrev pub phony : List ℕ
+phony = codes "phony"
+
+abbrev pub phony_rule : RuleText
+phony_rule = record { scope = 0; name = phony; lines = [] }
+
+-- the rules of a scope itself; `phony` is of the main file's
 abbrev pub rules_in : List RuleText → (scope : ℕ) → List RuleText
 rules_in rules scope = filter (λ r. scope == r.scope) rules
 
--- their names; `phony` is always there
+-- their names
 abbrev pub rule_names : List RuleText → (scope : ℕ) → List (List ℕ)
-rule_names rules scope = codes "phony" ∷ map (λ r. r.name) (rules_in rules scope)
+rule_names rules scope = map (λ r. r.name) (rules_in rules scope)
 
 -- the value that the last line of this key gives
 abbrev pub given : List RuleLineText → (key : List ℕ) → Option (List PartText)

@@ -10,7 +10,7 @@ use std::marker::Model;
 /// The pools that were declared, by name; `console` is always there ("Pools" in the Ninja manual). They belong to no
 /// scope: a name is declared once in a run.
 #[derive(Drop)]
-pub struct Pools {
+pub(crate) struct Pools {
     alloc: Global,
     names: IndexSet<Vec<u8>>,
 }

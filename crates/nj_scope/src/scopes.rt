@@ -21,7 +21,7 @@ struct Scope {
 /// The variables and rules of a run, by scope. The main file's scope has the number 0; each `subninja` opens one more,
 /// which sees what the scopes around it bind and declare, and may shadow it ("Evaluation and scoping" in the Ninja manual).
 #[derive(Drop)]
-pub struct Scopes {
+pub(crate) struct Scopes {
     alloc: Global,
     scopes: Vec<Scope>,
 }
@@ -52,13 +52,6 @@ impl Scopes {
             rules: IndexMap::new(alloc),
         })?;
         Ok(Scopes { alloc, scopes })
-    }
-
-    /// The number of scopes.
-    pub fn count(&self) -> usize
-        ensures { result ≡ length self.now }
-    {
-        self.scopes.len()
     }
 
     /// Opens a scope within another. Gives its number, which is the next one.
@@ -96,24 +89,21 @@ impl Scopes {
         Ok(())
     }
 
-    /// Declares the rule of this number under the name in this scope. Gives `false`, and changes nothing, where the scope
-    /// declares one of the name already.
-    pub fn declare(&mut self, scope: usize, name: &[u8], rule: usize) -> Result<bool, AllocError>
-        requires { scope < length self.old }
-        ensures is_new { IfOk result (λ is_new. is_new ≡ is_none (rule_at self.old scope name.now)) }
-        ensures declared { IfOk result (λ is_new. (n : ℕ) (x : List ℕ) → rule_at self.new n x
-            ≡ (if is_new && (n == scope && bytes_eq x name.now) then Some rule else rule_at self.old n x)) }
-        ensures refused { OnErr result ((n : ℕ) (x : List ℕ) → rule_at self.new n x ≡ rule_at self.old n x) }
+    /// Declares the rule of this number under a name for which this scope declares none yet.
+    pub fn declare(&mut self, scope: usize, name: &[u8], rule: usize) -> Result<(), AllocError>
+        requires scope { scope < length self.old }
+        requires new { rule_at self.old scope name.now ≡ None }
+        ensures declared { OnOk result ((n : ℕ) (x : List ℕ) → rule_at self.new n x
+            ≡ (if n == scope && bytes_eq x name.now then Some rule else rule_at self.old n x)) }
+        ensures refused { OnErr result ((n : ℕ) (x : List ℕ)
+            → rule_at self.new n x ≡ rule_at self.old n x) }
         ensures bound { (n : ℕ) (x : List ℕ) → bound_at self.new n x ≡ bound_at self.old n x }
         ensures parents { (n : ℕ) → parent_at self.new n ≡ parent_at self.old n }
         ensures count { length self.new ≡ length self.old }
     {
-        if self.own_rule(scope, name).is_some() {
-            return Ok(false);
-        }
         let key = Vec::from_slice(self.alloc, name)?;
         self.scopes[scope].rules.insert(key, rule)?;
-        Ok(true)
+        Ok(())
     }
 
     /// The number of the rule that is in force under the name in this scope: its own, else that of the nearest scope around
@@ -159,8 +149,8 @@ impl Scopes {
         }
     }
 
-    // The number of the rule that this scope itself declares under the name.
-    fn own_rule(&self, scope: usize, name: &[u8]) -> Option<usize>
+    /// The number of the rule that this scope itself declares under the name.
+    pub fn own_rule(&self, scope: usize, name: &[u8]) -> Option<usize>
         requires { scope < length self.now }
         ensures { result ≡ rule_at self.now scope name.now }
     {

@@ -109,58 +109,68 @@ fn word(alloc: Global, text: &[u8]) -> Result<Word<'_>, Fail> {
     Ok(word)
 }
 
-/// Binds the name to what the text says in this scope.
-fn bind(
+/// What the text says in this scope.
+fn expanded(
     alloc: Global,
-    scopes: &mut Scopes,
+    declared: &Declarations,
     scope: usize,
-    name: &[u8],
     text: &[u8],
-) -> Result<(), Fail>
-    requires { scope < length scopes.old }
-    ensures { length scopes.new ≡ length scopes.old }
+) -> Result<Vec<u8>, Fail>
+    requires { scope < length declared.now.scopes }
 {
-    let word = word(alloc, text)?;
-    let value = scopes.expand(alloc, scope, &word)?;
-    scopes.bind(scope, name, value)?;
-    Ok(())
+    Ok(declared.expand(alloc, scope, &word(alloc, text)?)?)
 }
 
 #[test]
 fn values_expand_at_once(rt: HostRuntime) -> Result<(), Fail> {
     let alloc = rt.alloc();
-    let mut scopes = Scopes::new(alloc)?;
-    bind(alloc, &mut scopes, 0, b"x", b"1")?;
-    bind(alloc, &mut scopes, 0, b"y", b"a$x${unknown}$$b$ ")?;
-    bind(alloc, &mut scopes, 0, b"x", b"2")?;
-    assert_eq!(rt; scopes.value(0, b"x"), b"2".as_slice());
-    assert_eq!(rt; scopes.value(0, b"y"), b"a1$b ".as_slice());
+    let mut declared = Declarations::new(alloc)?;
+    declared.bind(alloc, 0, b"x", &word(alloc, b"1")?)?;
+    declared.bind(alloc, 0, b"y", &word(alloc, b"a$x${unknown}$$b$ ")?)?;
+    declared.bind(alloc, 0, b"x", &word(alloc, b"2")?)?;
+    let said = expanded(alloc, &declared, 0, b"$x,$y")?;
+    assert_eq!(rt; said.as_slice(), b"2,a1$b ".as_slice());
     Ok(())
 }
 
 #[test]
 fn a_child_shadows_and_changes_nothing(rt: HostRuntime) -> Result<(), Fail> {
     let alloc = rt.alloc();
-    let mut scopes = Scopes::new(alloc)?;
-    bind(alloc, &mut scopes, 0, b"x", b"p")?;
-    let child = scopes.open(0)?;
-    bind(alloc, &mut scopes, child, b"x", b"c$x")?;
-    assert_eq!(rt; scopes.count(), 2);
-    assert_eq!(rt; scopes.value(0, b"x"), b"p".as_slice());
-    assert_eq!(rt; scopes.value(child, b"x"), b"cp".as_slice());
+    let mut declared = Declarations::new(alloc)?;
+    declared.bind(alloc, 0, b"x", &word(alloc, b"p")?)?;
+    let child = declared.open(0)?;
+    assert_eq!(rt; child, 1);
+    declared.bind(alloc, child, b"x", &word(alloc, b"c$x")?)?;
+    assert_eq!(rt;
+        expanded(alloc, &declared, 0, b"$x")?.as_slice(),
+        b"p".as_slice()
+    );
+    assert_eq!(rt;
+        expanded(alloc, &declared, child, b"$x")?.as_slice(),
+        b"cp".as_slice()
+    );
     Ok(())
 }
 
 #[test]
 fn the_nearest_rule_is_in_force(rt: HostRuntime) -> Result<(), Fail> {
-    let mut scopes = Scopes::new(rt.alloc())?;
-    assert!(rt; scopes.declare(0, b"cc", 0)?);
-    assert!(rt; !scopes.declare(0, b"cc", 1)?);
-    let child = scopes.open(0)?;
-    assert_eq!(rt; scopes.rule(child, b"cc"), Some(0));
-    assert!(rt; scopes.declare(child, b"cc", 2)?);
-    assert_eq!(rt; scopes.rule(child, b"cc"), Some(2));
-    assert_eq!(rt; scopes.rule(0, b"cc"), Some(0));
+    let alloc = rt.alloc();
+    let mut declared = Declarations::new(alloc)?;
+    let child = declared.open(0)?;
+    assert!(rt; declared.declare_rule(alloc, 0, b"cc", &[])?);
+    assert_eq!(rt; declared.rule(child, b"cc"), Some(1));
+    assert!(rt; declared.declare_rule(alloc, child, b"cc", &[])?);
+    assert!(rt; !declared.declare_rule(alloc, child, b"cc", &[])?);
+    assert!(rt; !declared.declare_rule(alloc, child, b"phony", &[])?);
+    assert_eq!(rt; declared.rule(child, b"cc"), Some(2));
+    assert_eq!(rt; declared.rule(0, b"cc"), Some(1));
+    assert_eq!(rt; declared.rule(child, b"phony"), Some(0));
+    assert_eq!(rt; declared.rule(0, b"ld"), None);
+    let rules = declared.rules();
+    assert_eq!(rt; rules.len(), 3);
+    assert_eq!(rt; rules[0].name(), b"phony".as_slice());
+    assert_eq!(rt; rules[1].scope(), 0);
+    assert_eq!(rt; rules[2].scope(), 1);
     Ok(())
 }
 
@@ -189,40 +199,10 @@ fn a_rule_keeps_what_was_written(rt: HostRuntime) -> Result<(), Fail> {
 
 #[test]
 fn a_pool_is_declared_once(rt: HostRuntime) -> Result<(), Fail> {
-    let mut pools = Pools::new(rt.alloc());
-    assert!(rt; pools.has(b"console"));
-    assert!(rt; !pools.has(b"link"));
-    assert!(rt; pools.declare(b"link")?);
-    assert!(rt; pools.has(b"link"));
-    assert!(rt; !pools.declare(b"link")?);
-    assert!(rt; !pools.declare(b"console")?);
-    Ok(())
-}
-
-#[test]
-fn what_is_declared_follows_the_statements(rt: HostRuntime) -> Result<(), Fail> {
-    let alloc = rt.alloc();
-    let mut declared = Declared::new(alloc)?;
-    declared.bind(alloc, 0, b"x", &word(alloc, b"1")?)?;
-    let said = declared.expand(alloc, 0, &word(alloc, b"$x.")?)?;
-    assert_eq!(rt; said.as_slice(), b"1.".as_slice());
-    assert!(rt; !declared.declare_rule(alloc, 0, b"phony", &[])?);
+    let mut declared = Declarations::new(rt.alloc())?;
     assert!(rt; declared.declare_pool(b"link")?);
-    assert_eq!(rt; declared.open(0)?, 1);
-    Ok(())
-}
-
-#[test]
-fn rules_are_handed_out_in_order(rt: HostRuntime) -> Result<(), Fail> {
-    let alloc = rt.alloc();
-    let mut declared = Declared::new(alloc)?;
-    let child = declared.open(0)?;
-    assert!(rt; declared.declare_rule(alloc, child, b"cc", &[])?);
-    assert!(rt; declared.declare_rule(alloc, 0, b"cc", &[])?);
-    let rules = declared.into_rules();
-    assert_eq!(rt; rules.len(), 2);
-    assert_eq!(rt; rules[0].scope(), 1);
-    assert_eq!(rt; rules[1].scope(), 0);
+    assert!(rt; !declared.declare_pool(b"link")?);
+    assert!(rt; !declared.declare_pool(b"console")?);
     Ok(())
 }
 

@@ -1,0 +1,190 @@
+-- What is held after one statement more.
+use Rattle.std.proofs.Common.{◌≡◌, ℕ, ◌+◌, Bool, true, false, ◌&&◌, ◌==◌, if◌then◌else◌, List, [], ◌∷◌, ◌++◌, map, length, Option, Some, None, unwrap_or, bytes_eq, Result, Ok, Err, OnOk, OnErr, IfOk, refl, sym, ap, ◌∙◌, add-zero, true≢false}
+use Rattle.nj_text.specs.Words.{PartText, Text, Name, WordText}
+use Rattle.nj_manifest.specs.Steps.{NameText}
+use Rattle.nj_manifest.specs.Statements.{LineText, OutputsText, InputsText, StatementText, BindingText, RuleText, PoolText, BuildText, DefaultText, IncludeText, SubninjaText}
+use Rattle.nj_scope.specs.Rules.{line_kept, phony_rule}
+use Rattle.nj_scope.specs.Scopes.{or_else, nearest, Bounds, value_in, expanded}
+use Rattle.nj_scope.specs.ScopesHeld.{bound_at, rule_at}
+use Rattle.nj_scope.specs.Declarations.{DeclarationsText, DeclaredBy, TakesIn}
+use Rattle.nj_scope.specs.ReadingList.{Entry, scope_of, binds, declares, bounds, rules, with_rule, rule_texts, with_pool, pools, opens_scope, scopes_opened, value_after}
+
+pub at_ok : {X Y P Q : Type 0} (r : Result X Y) → OnOk r P → (P → Q) → OnOk r Q
+at_ok (Ok x) h then_so = then_so h
+at_ok (Err e) h then_so = tt
+
+pub at_err : {X Y P Q : Type 0} (r : Result X Y) → OnErr r P → (P → Q) → OnErr r Q
+at_err (Ok x) h then_so = tt
+at_err (Err e) h then_so = then_so h
+
+pub if_ok : {X Y : Type 0} {P Q : X → Type 0} (r : Result X Y) → IfOk r P → ((x : X) → P x → Q x) → IfOk r Q
+if_ok (Ok x) h then_so = then_so x h
+if_ok (Err e) h then_so = tt
+
+-- ---- the same values from the same bindings
+
+nearest-same : {X : Type 0} (f g : ℕ → Option X) → ((n : ℕ) → f n ≡ g n) → (scope : List ℕ) → nearest f scope ≡ nearest g scope
+nearest-same f g same [] = refl
+nearest-same f g same (s ∷ around) = ap (λ o. or_else o (nearest f around)) (same s) ∙ ap (or_else (g s)) (nearest-same f g same around)
+
+value-same : (f g : Bounds) → ((n : ℕ) (name : List ℕ) → f n name ≡ g n name) → (scope name : List ℕ) → value_in f scope name ≡ value_in g scope name
+value-same f g same scope name = ap (λ o. unwrap_or o []) (nearest-same (λ s. f s name) (λ s. g s name) (λ s. same s name) scope)
+
+expanded-same : (f g : List ℕ → List ℕ) → ((name : List ℕ) → f name ≡ g name) → (parts : List PartText) → expanded f parts ≡ expanded g parts
+expanded-same f g same [] = refl
+expanded-same f g same (Text bytes ∷ parts) = ap (λ more. bytes ++ more) (expanded-same f g same parts)
+expanded-same f g same (Name name ∷ parts) = ap (λ v. v ++ expanded f parts) (same name) ∙ ap (λ more. g name ++ more) (expanded-same f g same parts)
+
+-- ---- a binding
+
+module _ (held after : DeclarationsText) (entries : List Entry) (e : Entry) (name value : List ℕ) (word : WordText) (follows : DeclaredBy held entries) where
+  abbrev pub binding : Entry
+  binding = record e { item = BindingText name word }
+
+  -- the value is the one of the list
+  listed : value ≡ expanded (value_in (bound_at held.scopes) (scope_of e)) word.parts → value ≡ expanded (value_after entries (scope_of e)) word.parts
+  listed is = is ∙ expanded-same (value_in (bound_at held.scopes) (scope_of e)) (value_after entries (scope_of e)) (value-same (bound_at held.scopes) (bounds entries) follows.bound (scope_of e)) word.parts
+
+  bound-after : value ≡ expanded (value_in (bound_at held.scopes) (scope_of e)) word.parts
+      → ((n : ℕ) (x : List ℕ) → bound_at after.scopes n x ≡ (if n == e.number && bytes_eq x name then Some value else bound_at held.scopes n x))
+      → (n : ℕ) (x : List ℕ) → bound_at after.scopes n x ≡ bounds (binding ∷ entries) n x
+  unfolding bounds
+  bound-after is bound n x =
+      bound n x ∙ ap (λ o. if n == e.number && bytes_eq x name then Some value else o) (follows.bound n x) ∙ ap (λ v. if n == e.number && bytes_eq x name then Some v else bounds entries n x) (listed is)
+      ∙ by (n == e.number) (bytes_eq x name)
+    where
+      by : (a b : Bool) → (if a && b then Some (expanded (value_after entries (scope_of e)) word.parts) else bounds entries n x) ≡ or_else (if a then (if b then Some (expanded (value_after entries (scope_of e)) word.parts) else None) else None) (bounds entries n x)
+      by true true = refl
+      by true false = refl
+      by false b = refl
+
+  declared-after : ((n : ℕ) (x : List ℕ) → rule_at after.scopes n x ≡ rule_at held.scopes n x) → (n : ℕ) (x : List ℕ) → rule_at after.scopes n x ≡ rules (binding ∷ entries) n x
+  declared-after same n x = same n x ∙ follows.declared n x ∙ by (n == e.number)
+    where
+      by : (a : Bool) → rules entries n x ≡ or_else (if a && false then Some (length (rule_texts entries)) else None) (rules entries n x)
+      by true = refl
+      by false = refl
+
+  pub with-binding : value ≡ expanded (value_in (bound_at held.scopes) (scope_of e)) word.parts
+      → ((n : ℕ) (x : List ℕ) → bound_at after.scopes n x ≡ (if n == e.number && bytes_eq x name then Some value else bound_at held.scopes n x))
+      → ((n : ℕ) (x : List ℕ) → rule_at after.scopes n x ≡ rule_at held.scopes n x) → length after.scopes ≡ length held.scopes → after.rules ≡ held.rules → after.pools ≡ held.pools
+      → DeclaredBy after (binding ∷ entries)
+  with-binding is bound declared count same_rules same_pools = record {
+    bound = bound-after is bound;
+    declared = declared-after declared;
+    scopes = count ∙ follows.scopes ∙ sym (add-zero (scopes_opened entries));
+    rules = same_rules ∙ follows.rules;
+    pools = same_pools ∙ follows.pools;
+  }
+
+-- ---- statements that bind nothing
+
+-- of a statement that is no binding and no rule the scopes' own names stay
+bounds-kept : (e : Entry) (entries : List Entry) → ((value : List ℕ → List ℕ) (x : List ℕ) → binds value e.item x ≡ None) → (n : ℕ) (x : List ℕ) → bounds (e ∷ entries) n x ≡ bounds entries n x
+unfolding bounds
+bounds-kept e entries nothing n x = by (n == e.number)
+  where
+    by : (a : Bool) → or_else (if a then binds (value_in (bounds entries) (scope_of e)) e.item x else None) (bounds entries n x) ≡ bounds entries n x
+    by true = ap (λ o. or_else o (bounds entries n x)) (nothing (value_in (bounds entries) (scope_of e)) x)
+    by false = refl
+
+pub rules-kept : (e : Entry) (entries : List Entry) → ((x : List ℕ) → declares e.item x ≡ false) → (n : ℕ) (x : List ℕ) → rules (e ∷ entries) n x ≡ rules entries n x
+rules-kept e entries nothing n x = by (n == e.number) (declares e.item x) (nothing x)
+  where
+    by : (a b : Bool) → b ≡ false → or_else (if a && b then Some (length (rule_texts entries)) else None) (rules entries n x) ≡ rules entries n x
+    by true true h = absurd (true≢false h)
+    by true false h = refl
+    by false b h = refl
+
+-- ---- a rule
+
+module _ (held after : DeclarationsText) (entries : List Entry) (e : Entry) (name : NameText) (lines : List LineText) (follows : DeclaredBy held entries) where
+  pub with-rule : ((n : ℕ) (x : List ℕ) → rule_at after.scopes n x ≡ (if n == e.number && bytes_eq x name.name then Some (length held.rules) else rule_at held.scopes n x))
+      → ((n : ℕ) (x : List ℕ) → bound_at after.scopes n x ≡ bound_at held.scopes n x) → length after.scopes ≡ length held.scopes
+      → after.rules ≡ held.rules ++ record { scope = e.number; name = name.name; lines = map line_kept lines } ∷ [] → after.pools ≡ held.pools
+      → DeclaredBy after (record e { item = RuleText name lines } ∷ entries)
+  with-rule declared bound count one_more same_pools = record {
+    bound = λ n x. bound n x ∙ follows.bound n x ∙ sym (bounds-kept (record e { item = RuleText name lines }) entries (λ value y. refl) n x);
+    declared = λ n x. declared n x ∙ ap (λ o. if n == e.number && bytes_eq x name.name then Some (length held.rules) else o) (follows.declared n x)
+        ∙ ap (λ r. if n == e.number && bytes_eq x name.name then Some (length r) else rules entries n x) follows.rules ∙ by n x (n == e.number && bytes_eq x name.name);
+    scopes = count ∙ follows.scopes ∙ sym (add-zero (scopes_opened entries));
+    rules = one_more ∙ ap (λ r. r ++ record { scope = e.number; name = name.name; lines = map line_kept lines } ∷ []) follows.rules;
+    pools = same_pools ∙ follows.pools;
+  }
+    where
+      by : (n : ℕ) (x : List ℕ) (a : Bool) → (if a then Some (length (rule_texts entries)) else rules entries n x) ≡ or_else (if a then Some (length (rule_texts entries)) else None) (rules entries n x)
+      by n x true = refl
+      by n x false = refl
+
+-- ---- a pool
+
+module _ (held after : DeclarationsText) (entries : List Entry) (e : Entry) (name : NameText) (lines : List LineText) (follows : DeclaredBy held entries) where
+  pub with-pool : after.scopes ≡ held.scopes → after.rules ≡ held.rules → after.pools ≡ held.pools ++ name.name ∷ []
+      → DeclaredBy after (record e { item = PoolText name lines } ∷ entries)
+  with-pool same_scopes same_rules one_more = record {
+    bound = λ n x. ap (λ ss. bound_at ss n x) same_scopes ∙ follows.bound n x ∙ sym (bounds-kept (record e { item = PoolText name lines }) entries (λ value y. refl) n x);
+    declared = λ n x. ap (λ ss. rule_at ss n x) same_scopes ∙ follows.declared n x ∙ sym (rules-kept (record e { item = PoolText name lines }) entries (λ y. refl) n x);
+    scopes = ap length same_scopes ∙ follows.scopes ∙ sym (add-zero (scopes_opened entries));
+    rules = same_rules ∙ follows.rules;
+    pools = one_more ∙ ap (λ ps. ps ++ name.name ∷ []) follows.pools;
+  }
+
+-- ---- a scope
+
+module _ (held after : DeclarationsText) (entries : List Entry) (e : Entry) (word : WordText) (follows : DeclaredBy held entries) where
+  pub with-subninja : ((n : ℕ) (x : List ℕ) → bound_at after.scopes n x ≡ bound_at held.scopes n x) → ((n : ℕ) (x : List ℕ) → rule_at after.scopes n x ≡ rule_at held.scopes n x)
+      → length after.scopes ≡ length held.scopes + 1 → after.rules ≡ held.rules → after.pools ≡ held.pools
+      → DeclaredBy after (record e { item = SubninjaText word } ∷ entries)
+  with-subninja bound declared count same_rules same_pools = record {
+    bound = λ n x. bound n x ∙ follows.bound n x ∙ sym (bounds-kept (record e { item = SubninjaText word }) entries (λ value y. refl) n x);
+    declared = λ n x. declared n x ∙ follows.declared n x ∙ sym (rules-kept (record e { item = SubninjaText word }) entries (λ y. refl) n x);
+    scopes = count ∙ ap (λ n. n + 1) follows.scopes;
+    rules = same_rules ∙ follows.rules;
+    pools = same_pools ∙ follows.pools;
+  }
+
+-- ---- statements that declare nothing
+
+abbrev with_item : Entry → StatementText → Entry
+with_item e item = record e { item = item }
+
+nothing-more : (held : DeclarationsText) (entries : List Entry) (e : Entry) (item : StatementText) → ((value : List ℕ → List ℕ) (x : List ℕ) → binds value item x ≡ None) → ((x : List ℕ) → declares item x ≡ false)
+    → opens_scope item ≡ 0 → with_rule e.number item (rule_texts entries) ≡ rule_texts entries → with_pool item (pools entries) ≡ pools entries
+    → DeclaredBy held entries → DeclaredBy held (record e { item = item } ∷ entries)
+nothing-more held entries e item no_value no_rule no_scope same_rules same_pools by = record {
+  bound = λ n x. by.bound n x ∙ sym (bounds-kept (with_item e item) entries no_value n x);
+  declared = λ n x. by.declared n x ∙ sym (rules-kept (with_item e item) entries no_rule n x);
+  scopes = by.scopes ∙ sym (add-zero (scopes_opened entries)) ∙ ap (λ k. scopes_opened entries + k) (sym no_scope);
+  rules = by.rules ∙ sym same_rules;
+  pools = by.pools ∙ sym same_pools;
+}
+
+module _ (held : DeclarationsText) (number : ℕ) (around : List ℕ) where
+  pub takes-include : (word : WordText) → TakesIn held held number around (IncludeText word)
+  takes-include word entries file spot depth by =
+      nothing-more held entries (record { file = file; spot = spot; depth = depth; number = number; around = around; item = IncludeText word }) (IncludeText word) (λ value x. refl) (λ x. refl) refl refl refl by
+
+  pub takes-build : (outputs : OutputsText) (rule : NameText) (inputs : InputsText) (lines : List LineText) → TakesIn held held number around (BuildText outputs rule inputs lines)
+  takes-build outputs rule inputs lines entries file spot depth by =
+      nothing-more held entries (record { file = file; spot = spot; depth = depth; number = number; around = around; item = BuildText outputs rule inputs lines }) (BuildText outputs rule inputs lines) (λ value x. refl) (λ x. refl) refl refl refl by
+
+  pub takes-default : (words : List WordText) → TakesIn held held number around (DefaultText words)
+  takes-default words entries file spot depth by =
+      nothing-more held entries (record { file = file; spot = spot; depth = depth; number = number; around = around; item = DefaultText words }) (DefaultText words) (λ value x. refl) (λ x. refl) refl refl refl by
+
+-- ---- look-ups
+
+pub value-listed : (held : DeclarationsText) (entries : List Entry) → DeclaredBy held entries → (scope : List ℕ) (parts : List PartText)
+    → expanded (value_in (bound_at held.scopes) scope) parts ≡ expanded (value_after entries scope) parts
+value-listed held entries follows scope parts =
+    expanded-same (value_in (bound_at held.scopes) scope) (value_after entries scope) (value-same (bound_at held.scopes) (bounds entries) follows.bound scope) parts
+
+pub rule-listed : (held : DeclarationsText) (entries : List Entry) → DeclaredBy held entries → (scope name : List ℕ)
+    → nearest (λ s. rule_at held.scopes s name) scope ≡ nearest (λ s. rules entries s name) scope
+rule-listed held entries follows scope name = nearest-same (λ s. rule_at held.scopes s name) (λ s. rules entries s name) (λ s. follows.declared s name) scope
+
+-- ---- at the front
+
+pub declared_by-nothing : (held : DeclarationsText) → ((n : ℕ) (x : List ℕ) → bound_at held.scopes n x ≡ None) → ((n : ℕ) (x : List ℕ) → rule_at held.scopes n x ≡ None) → length held.scopes ≡ 1 → held.rules ≡ phony_rule ∷ [] → held.pools ≡ [] → DeclaredBy held []
+unfolding bounds
+declared_by-nothing held nothing no_rule count no_rules no_pools = record { bound = nothing; declared = no_rule; scopes = count; rules = no_rules; pools = no_pools }

@@ -1,0 +1,37 @@
+-- What is held of the statements that were read: that the scopes, rules and pools are those that the statements declare.
+use Rattle.std.specs.Prelude.{◌≡◌, ℕ, List, length, ◌∷◌}
+use Rattle.nj_text.specs.declared.spot.Spot.{Spot}
+use Rattle.nj_manifest.specs.Statements.{StatementText}
+use Rattle.nj_scope.specs.ScopesHeld.{ScopeText, parent_at, bound_at, rule_at}
+use Rattle.nj_scope.specs.Rules.{RuleText}
+use Rattle.nj_scope.specs.ReadingList as list
+
+-- the scopes, the rules in the order of their numbers, and the pools
+pub record DeclarationsText : Type 0 where
+  pub scopes : List ScopeText
+  pub rules : List RuleText
+  pub pools : List (List ℕ)
+
+-- What is held is what these statements declare, of which the last read stands first: each scope binds what they bind there,
+-- and declares the rules that they declare there; there are as many scopes, and the same rules and pools.
+pub record DeclaredBy (held : DeclarationsText) (entries : List list.Entry) : Type 0 where
+  pub bound : (number : ℕ) (name : List ℕ) → bound_at held.scopes number name ≡ list.bounds entries number name
+  pub declared : (number : ℕ) (name : List ℕ) → rule_at held.scopes number name ≡ list.rules entries number name
+  pub scopes : length held.scopes ≡ list.scopes_opened entries
+  pub rules : held.rules ≡ list.rule_texts entries
+  pub pools : held.pools ≡ list.pools entries
+
+-- One statement more is held: it stands in the scope of this number, within those around it, wherever in the files.
+abbrev pub TakesIn : (old new : DeclarationsText) → (number : ℕ) → (around : List ℕ) → StatementText → Type 0
+TakesIn old new number around item =
+    (entries : List list.Entry) (file : List ℕ) (spot : Spot) (depth : ℕ) → DeclaredBy old entries
+    → DeclaredBy new (record { file = file; spot = spot; depth = depth; number = number; around = around; item = item } ∷ entries)
+
+-- What was held before is held still.
+abbrev pub Keeps : (old new : DeclarationsText) → Type 0
+Keeps old new = (entries : List list.Entry) → DeclaredBy old entries → DeclaredBy new entries
+
+-- There are the same scopes, each within the same one.
+pub record SameScopes (old new : DeclarationsText) : Type 0 where
+  pub count : length new.scopes ≡ length old.scopes
+  pub parents : (n : ℕ) → parent_at new.scopes n ≡ parent_at old.scopes n

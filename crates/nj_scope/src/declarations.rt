@@ -1,0 +1,185 @@
+//! What the statements of a run declare.
+
+ghost use Rattle.std.specs.Prelude.{◌≡◌, ℕ, ◌+◌, ◌<◌, List, [], ◌∷◌, Some, None, true, false, length, not, IfOk, OnOk, OnErr, IfSome};
+ghost use Rattle.nj_text.specs.declared.spot.Spot.{Spot};
+ghost use Rattle.nj_text.specs.Words.{WordText, word_text};
+ghost use Rattle.nj_manifest.specs.Held.{lines_text};
+ghost use Rattle.nj_manifest.specs.Statements.{LineText, BindingText, RuleText, PoolText, SubninjaText};
+ghost use Rattle.nj_scope.specs.Scopes.{IsScope, expanded};
+ghost use Rattle.nj_scope.specs.ScopesHeld.{parent_at, rule_at};
+ghost use Rattle.nj_scope.specs.Pools.{is_pool};
+ghost use Rattle.nj_scope.specs.Declarations.{DeclaredBy, TakesIn, Keeps, SameScopes};
+ghost use Rattle.nj_scope.specs.ReadingList.{Entry, value_after, is_declared, rule_in_force};
+
+use crate::pools::Pools;
+use crate::rule::Rule;
+use crate::scopes::Scopes;
+use nj_manifest::Line;
+use nj_text::Word;
+use std::alloc::{AllocError, Global};
+use std::marker::Model;
+
+// The number of the main file's scope.
+const MAIN_SCOPE: usize = 0;
+
+// The number of the rule `phony`.
+const PHONY: usize = 0;
+
+/// The scopes, rules and pools of a run, as the statements that were read so far declare them.
+#[derive(Drop)]
+pub struct Declarations {
+    scopes: Scopes,
+    rules: Vec<Rule>,
+    pools: Pools,
+}
+
+impl Model for Declarations {
+    ghost use Rattle.nj_scope.specs.Declarations.{DeclarationsText};
+
+    ghost Value = { DeclarationsText };
+
+    ghost view = { λ d. record { scopes = d.scopes; rules = d.rules.items; pools = d.pools } };
+}
+
+impl Declarations {
+    /// Before any statement: there is the main file's scope, 0, the rule `phony`, 0, and the pool
+    /// `console`.
+    pub fn new(alloc: Global) -> Result<Declarations, AllocError>
+        ensures nothing { IfOk result (λ d. DeclaredBy d []) }
+        ensures outermost { IfOk result (λ d. parent_at d.scopes 0 ≡ None) }
+    {
+        let scopes = Scopes::new(alloc)?;
+        let phony = Rule::new(alloc, MAIN_SCOPE, b"phony", &[])?;
+        let mut rules = Vec::new(alloc);
+        rules.push(phony)?;
+        Ok(Declarations {
+            scopes,
+            rules,
+            pools: Pools::new(alloc),
+        })
+    }
+
+    /// Reads a binding in this scope: its value is expanded at once ("Variables" in the Ninja
+    /// manual).
+    pub fn bind(
+        &mut self,
+        alloc: Global,
+        scope: usize,
+        name: &[u8],
+        value: &Word<'_>,
+    ) -> Result<(), AllocError>
+        requires { scope < length self.old.scopes }
+        ensures bound { (around : List ℕ) → IsScope (parent_at self.old.scopes) scope (scope ∷ around)
+            → OnOk result (TakesIn self.old self.new scope around
+            (BindingText name.now (word_text value.now))) }
+        ensures refused { OnErr result (Keeps self.old self.new) }
+        ensures scopes { SameScopes self.old self.new }
+    {
+        let mut value = self.scopes.expand(alloc, scope, value)?;
+        value.shrink_to_fit();
+        self.scopes.bind(scope, name, value)
+    }
+
+    /// Declares a rule in this scope. Returns `false`, and changes nothing, if the scope has a rule
+    /// of the name already, and for `phony`, which is always there ("Rules" in the Ninja manual).
+    pub fn declare_rule(
+        &mut self,
+        alloc: Global,
+        scope: usize,
+        name: &[u8],
+        lines: &[Line<'_>],
+    ) -> Result<bool, AllocError>
+        requires { scope < length self.old.scopes }
+        ensures is_new { IfOk result (λ is_new.
+            is_new ≡ not (is_declared (rule_at self.old.scopes scope name.now) name.now)) }
+        ensures declared { (around : List ℕ) (spot : Spot) → IfOk result (λ is_new. is_new ≡ true
+            → TakesIn self.old self.new scope around
+            (RuleText (record { spot = spot; name = name.now }) (lines_text lines.now))) }
+        ensures kept { IfOk result (λ is_new. is_new ≡ false → self.new ≡ self.old) }
+        ensures refused { OnErr result (Keeps self.old self.new) }
+        ensures scopes { SameScopes self.old self.new }
+    {
+        if name == b"phony".as_slice() || self.scopes.own_rule(scope, name).is_some() {
+            return Ok(false);
+        }
+        let number = self.rules.len();
+        self.rules.push(Rule::new(alloc, scope, name, lines)?)?;
+        if let Err(fault) = self.scopes.declare(scope, name, number) {
+            self.rules.pop();
+            return Err(fault);
+        }
+        Ok(true)
+    }
+
+    /// Declares a pool. Returns `false`, and changes nothing, if there is a pool of the name already
+    /// ("Pools" in the Ninja manual).
+    pub fn declare_pool(&mut self, name: &[u8]) -> Result<bool, AllocError>
+        ensures is_new { IfOk result (λ is_new. is_new ≡ not (is_pool self.old.pools name.now)) }
+        ensures declared { (number : ℕ) (around : List ℕ) (spot : Spot) (lines : List LineText)
+            → IfOk result (λ is_new. is_new ≡ true
+            → TakesIn self.old self.new number around
+            (PoolText (record { spot = spot; name = name.now }) lines)) }
+        ensures kept { IfOk result (λ is_new. is_new ≡ false → self.new ≡ self.old) }
+        ensures refused { OnErr result (self.new ≡ self.old) }
+        ensures scopes { SameScopes self.old self.new }
+    {
+        self.pools.declare(name)
+    }
+
+    /// Opens a scope for a `subninja` in this one. Returns its number, which is the next one.
+    pub fn open(&mut self, parent: usize) -> Result<usize, AllocError>
+        requires { parent < length self.old.scopes }
+        ensures number { IfOk result (λ n. n ≡ length self.old.scopes) }
+        ensures within { OnOk result (parent_at self.new.scopes (length self.old.scopes) ≡ Some parent) }
+        ensures others { (n : ℕ) → n < length self.old.scopes
+            → parent_at self.new.scopes n ≡ parent_at self.old.scopes n }
+        ensures count { OnOk result (length self.new.scopes ≡ length self.old.scopes + 1) }
+        ensures opened { (around : List ℕ) (word : WordText)
+            → OnOk result (TakesIn self.old self.new parent around (SubninjaText word)) }
+        ensures refused { OnErr result (self.new ≡ self.old) }
+    {
+        self.scopes.open(parent)
+    }
+
+    /// What the word says in this scope, by what is bound so far.
+    pub fn expand(
+        &self,
+        alloc: Global,
+        scope: usize,
+        word: &Word<'_>,
+    ) -> Result<Vec<u8>, AllocError>
+        requires { scope < length self.now.scopes }
+        ensures { (entries : List Entry) (around : List ℕ) → DeclaredBy self.now entries
+            → IsScope (parent_at self.now.scopes) scope (scope ∷ around)
+            → IfOk result (λ v. v.items
+            ≡ expanded (value_after entries (scope ∷ around)) (word_text word.now).parts) }
+    {
+        self.scopes.expand(alloc, scope, word)
+    }
+
+    /// The number of the rule that is in force under the name in this scope: its own, else that of
+    /// the nearest scope around it that declares one. `phony` is always there. `None` if there is
+    /// none.
+    pub fn rule(&self, scope: usize, name: &[u8]) -> Option<usize>
+        requires { scope < length self.now.scopes }
+        ensures in_force { (entries : List Entry) (around : List ℕ) → DeclaredBy self.now entries
+            → IsScope (parent_at self.now.scopes) scope (scope ∷ around)
+            → result ≡ rule_in_force entries (scope ∷ around) name.now }
+        ensures within { (entries : List Entry) (around : List ℕ) → DeclaredBy self.now entries
+            → IsScope (parent_at self.now.scopes) scope (scope ∷ around)
+            → IfSome result (λ n. n < length self.now.rules) }
+    {
+        if name == b"phony".as_slice() {
+            return Some(PHONY);
+        }
+        self.scopes.rule(scope, name)
+    }
+
+    /// The rules in the order of their numbers: `phony`, and then those that were declared, in
+    /// their order.
+    pub fn rules(&self) -> &[Rule]
+        ensures { result.now ≡ self.now.rules }
+    {
+        self.rules.as_slice()
+    }
+}
