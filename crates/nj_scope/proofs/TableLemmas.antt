@@ -1,5 +1,6 @@
 -- Lemmas on what a table of files keeps.
-use Rattle.std.proofs.Common.{◌≡◌, ℕ, Bool, true, false, cond, List, [], ◌∷◌, ◌++◌, map, Option, Some, None, is_some, option_map, bytes_eq, String, string_bytes, string_eq, refl, sym, ap, ◌∙◌, true≢false}
+use Rattle.std.proofs.Common.{◌≡◌, ℕ, Bool, true, false, cond, List, [], ◌∷◌, ◌++◌, map, Option, Some, None, is_some, option_map, bytes_eq, refl, sym, ap, ◌∙◌, true≢false}
+use Rattle.std.specs.Global.{Vec}
 use Rattle.std.specs.Rc.{rc_slice_items}
 use Rattle.std.specs.declared.rc.RcSlice.{RcSlice}
 use Rattle.std.specs.List.{AllByRecursion, IsDistinct}
@@ -10,48 +11,51 @@ use Rattle.indexmap.proofs.CallerLemmas.{insert_entry-new}
 use Rattle.nj_scope.specs.Readings.{reading_of, is_read, EachPathOnce}
 use Rattle.nj_scope.specs.Table.{kept_reading}
 
+abbrev pub same_name : Vec ℕ → Vec ℕ → Bool
+same_name x y = bytes_eq x.items y.items
+
 absent : {X : Type 0} (o : Option X) → is_some o ≡ false → o ≡ None
 absent None h = refl
 absent (Some x) h = absurd (true≢false h)
 
-module _ {Y Z : Type 0} where
+module _ {Z : Type 0} where
   -- the map has the paths that were read
-  pub is_read-kept : (path : List ℕ) (es : List (String Y × Option (RcSlice ℕ Z))) → is_read (map kept_reading es) path ≡ is_some (lookup (λ k. bytes_eq path (string_bytes k)) es)
+  pub is_read-kept : (path : List ℕ) (es : List (Vec ℕ × Option (RcSlice ℕ Z))) → is_read (map kept_reading es) path ≡ is_some (lookup (λ k. bytes_eq path k.items) es)
   is_read-kept path [] = refl
-  is_read-kept path (e ∷ es) = by (bytes_eq path (string_bytes e.0)) (is_read-kept path es)
+  is_read-kept path (e ∷ es) = by (bytes_eq path e.0.items) (is_read-kept path es)
     where
-      by : (b : Bool) → is_read (map kept_reading es) path ≡ is_some (lookup (λ k. bytes_eq path (string_bytes k)) es) → is_some (cond b (Some (kept_reading e)) (reading_of (map kept_reading es) path)) ≡ is_some (cond b (Some e.1) (lookup (λ k. bytes_eq path (string_bytes k)) es))
+      by : (b : Bool) → is_read (map kept_reading es) path ≡ is_some (lookup (λ k. bytes_eq path k.items) es) → is_some (cond b (Some (kept_reading e)) (reading_of (map kept_reading es) path)) ≡ is_some (cond b (Some e.1) (lookup (λ k. bytes_eq path k.items) es))
       by true rest = refl
       by false rest = rest
 
   -- and what was found there
-  pub reading_of-kept : (path : List ℕ) (es : List (String Y × Option (RcSlice ℕ Z)))
-      → option_map (option_map rc_slice_items) (lookup (λ k. bytes_eq path (string_bytes k)) es) ≡ option_map (λ r. r.bytes) (reading_of (map kept_reading es) path)
+  pub reading_of-kept : (path : List ℕ) (es : List (Vec ℕ × Option (RcSlice ℕ Z)))
+      → option_map (option_map rc_slice_items) (lookup (λ k. bytes_eq path k.items) es) ≡ option_map (λ r. r.bytes) (reading_of (map kept_reading es) path)
   reading_of-kept path [] = refl
-  reading_of-kept path (e ∷ es) = by (bytes_eq path (string_bytes e.0)) (reading_of-kept path es)
+  reading_of-kept path (e ∷ es) = by (bytes_eq path e.0.items) (reading_of-kept path es)
     where
-      by : (b : Bool) → option_map (option_map rc_slice_items) (lookup (λ k. bytes_eq path (string_bytes k)) es) ≡ option_map (λ r. r.bytes) (reading_of (map kept_reading es) path)
-          → option_map (option_map rc_slice_items) (cond b (Some e.1) (lookup (λ k. bytes_eq path (string_bytes k)) es)) ≡ option_map (λ r. r.bytes) (cond b (Some (kept_reading e)) (reading_of (map kept_reading es) path))
+      by : (b : Bool) → option_map (option_map rc_slice_items) (lookup (λ k. bytes_eq path k.items) es) ≡ option_map (λ r. r.bytes) (reading_of (map kept_reading es) path)
+          → option_map (option_map rc_slice_items) (cond b (Some e.1) (lookup (λ k. bytes_eq path k.items) es)) ≡ option_map (λ r. r.bytes) (cond b (Some (kept_reading e)) (reading_of (map kept_reading es) path))
       by true rest = refl
       by false rest = rest
 
   -- a path that is none of the keys was not read
-  not_read : (k : String Y) (es : List (String Y × Option (RcSlice ℕ Z))) → AllByRecursion (λ y. string_eq k y ≡ false) (keys_of es) → is_read (map kept_reading es) (string_bytes k) ≡ false
+  not_read : (k : Vec ℕ) (es : List (Vec ℕ × Option (RcSlice ℕ Z))) → AllByRecursion (λ y. same_name k y ≡ false) (keys_of es) → is_read (map kept_reading es) k.items ≡ false
   not_read k [] h = refl
-  not_read k (e ∷ es) h = by (string_eq k e.0) h.0 (not_read k es h.1)
+  not_read k (e ∷ es) h = by (same_name k e.0) h.0 (not_read k es h.1)
     where
-      by : (b : Bool) → b ≡ false → is_read (map kept_reading es) (string_bytes k) ≡ false → is_some (cond b (Some (kept_reading e)) (reading_of (map kept_reading es) (string_bytes k))) ≡ false
+      by : (b : Bool) → b ≡ false → is_read (map kept_reading es) k.items ≡ false → is_some (cond b (Some (kept_reading e)) (reading_of (map kept_reading es) k.items)) ≡ false
       by true p rest = absurd (true≢false p)
       by false p rest = rest
 
   -- the keys differ, so no path was read twice
-  pub EachPathOnce-kept : (es : List (String Y × Option (RcSlice ℕ Z))) → IsDistinct string_eq (keys_of es) → EachPathOnce (map kept_reading es)
+  pub EachPathOnce-kept : (es : List (Vec ℕ × Option (RcSlice ℕ Z))) → IsDistinct same_name (keys_of es) → EachPathOnce (map kept_reading es)
   unfolding IsDistinct
   EachPathOnce-kept [] h = tt
   EachPathOnce-kept (e ∷ es) h = (not_read e.0 es h.0, EachPathOnce-kept es h.1)
 
   -- a path that was not read is kept as the last reading
-  pub kept-insert_entry : {S : Type 0} (m : IndexMap (String Y) (Option (RcSlice ℕ Z)) S) (k : String Y) (v : Option (RcSlice ℕ Z)) → is_read (map kept_reading m.entries) (string_bytes k) ≡ false
-      → map kept_reading (insert_entry string_eq m.entries k v) ≡ map kept_reading m.entries ++ kept_reading (k, v) ∷ []
+  pub kept-insert_entry : {S : Type 0} (m : IndexMap (Vec ℕ) (Option (RcSlice ℕ Z)) S) (k : Vec ℕ) (v : Option (RcSlice ℕ Z)) → is_read (map kept_reading m.entries) k.items ≡ false
+      → map kept_reading (insert_entry same_name m.entries k v) ≡ map kept_reading m.entries ++ kept_reading (k, v) ∷ []
   kept-insert_entry m k v h =
-      ap (map kept_reading) (insert_entry-new string_eq m k v (absent (lookup (string_eq k) m.entries) (sym (is_read-kept (string_bytes k) m.entries) ∙ h))) ∙ map_push kept_reading m.entries (k, v)
+      ap (map kept_reading) (insert_entry-new same_name m k v (absent (lookup (same_name k) m.entries) (sym (is_read-kept k.items m.entries) ∙ h))) ∙ map_push kept_reading m.entries (k, v)

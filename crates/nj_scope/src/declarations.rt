@@ -11,6 +11,7 @@ ghost use Rattle.nj_scope.specs.Pools.{is_pool};
 ghost use Rattle.nj_scope.specs.Declarations.{DeclaredBy, TakesIn, Keeps, SameScopes};
 ghost use Rattle.nj_scope.specs.ReadingList.{Entry, value_after, is_declared, rule_in_force};
 
+use crate::hash_keys::HashKeys;
 use crate::pools::Pools;
 use crate::rule::Rule;
 use crate::scopes::Scopes;
@@ -43,19 +44,19 @@ impl Model for Declarations {
 
 impl Declarations {
     /// Before any statement: there is the main file's scope, 0, the rule `phony`, 0, and the pool
-    /// `console`.
-    pub fn new(alloc: Global) -> Result<Declarations, AllocError>
+    /// `console`. Names are hashed by these keys.
+    pub fn new(alloc: Global, keys: HashKeys) -> Result<Declarations, AllocError>
         ensures nothing { IfOk result (λ d. DeclaredBy d []) }
         ensures outermost { IfOk result (λ d. parent_at d.scopes 0 ≡ None) }
     {
-        let scopes = Scopes::new(alloc)?;
+        let scopes = Scopes::new(alloc, keys)?;
         let phony = Rule::new(alloc, MAIN_SCOPE, b"phony", &[])?;
         let mut rules = Vec::new(alloc);
         rules.push(phony)?;
         Ok(Declarations {
             scopes,
             rules,
-            pools: Pools::new(alloc),
+            pools: Pools::new(alloc, keys),
         })
     }
 

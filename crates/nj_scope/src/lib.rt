@@ -2,6 +2,7 @@
 #![tactic(auto)]
 
 mod declarations;
+mod hash_keys;
 mod late;
 mod laws;
 mod limits;
@@ -13,6 +14,7 @@ mod source;
 mod table;
 
 pub use declarations::Declarations;
+pub use hash_keys::HashKeys;
 pub use late::LateValue;
 pub use laws::{rules_in_force, values_by_reading_order};
 pub use limits::{is_depth, is_newer};

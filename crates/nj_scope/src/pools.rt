@@ -3,6 +3,7 @@
 ghost use Rattle.std.specs.Prelude.{◌≡◌, ℕ, List, [], ◌∷◌, ◌++◌, not, IfOk, OnOk, OnErr, if◌then◌else◌};
 ghost use Rattle.nj_scope.specs.Pools.{is_pool};
 
+use crate::hash_keys::HashKeys;
 use indexmap::IndexSet;
 use std::alloc::{AllocError, Global};
 use std::marker::Model;
@@ -12,7 +13,7 @@ use std::marker::Model;
 #[derive(Drop)]
 pub(crate) struct Pools {
     alloc: Global,
-    names: IndexSet<Vec<u8>>,
+    names: IndexSet<Vec<u8>, HashKeys>,
 }
 
 impl Model for Pools {
@@ -25,12 +26,12 @@ impl Model for Pools {
 
 impl Pools {
     /// None is declared but `console`. It takes no memory.
-    pub fn new(alloc: Global) -> Pools
+    pub fn new(alloc: Global, keys: HashKeys) -> Pools
         ensures { result ≡ [] }
     {
         Pools {
             alloc,
-            names: IndexSet::new(alloc),
+            names: IndexSet::with_hasher(alloc, keys),
         }
     }
 

@@ -5,6 +5,7 @@ ghost use Rattle.nj_scope.specs.Scopes.{IsScope, nearest, value_in, expanded};
 ghost use Rattle.nj_scope.specs.ScopesHeld.{parent_at, bound_at, rule_at};
 ghost use Rattle.nj_text.specs.Words.{word_text};
 
+use crate::hash_keys::HashKeys;
 use indexmap::IndexMap;
 use nj_text::{Part, Word};
 use std::alloc::{AllocError, Global};
@@ -14,8 +15,8 @@ use std::marker::Model;
 #[derive(Drop)]
 struct Scope {
     parent: Option<usize>,
-    values: IndexMap<Vec<u8>, Vec<u8>>,
-    rules: IndexMap<Vec<u8>, usize>,
+    values: IndexMap<Vec<u8>, Vec<u8>, HashKeys>,
+    rules: IndexMap<Vec<u8>, usize, HashKeys>,
 }
 
 /// The variables and rules of a run, by scope. The main file's scope has the number 0; each `subninja` opens one more,
@@ -23,6 +24,7 @@ struct Scope {
 #[derive(Drop)]
 pub(crate) struct Scopes {
     alloc: Global,
+    keys: HashKeys,
     scopes: Vec<Scope>,
 }
 
@@ -39,7 +41,7 @@ impl Model for Scopes {
 
 impl Scopes {
     /// The main file's scope, in which nothing is bound or declared yet.
-    pub fn new(alloc: Global) -> Result<Scopes, AllocError>
+    pub fn new(alloc: Global, keys: HashKeys) -> Result<Scopes, AllocError>
         ensures count { IfOk result (λ s. length s ≡ 1) }
         ensures outermost { IfOk result (λ s. parent_at s 0 ≡ None) }
         ensures nothing { IfOk result (λ s. (n : ℕ) (name : List ℕ) → bound_at s n name ≡ None) }
@@ -48,10 +50,14 @@ impl Scopes {
         let mut scopes = Vec::with_capacity(alloc, 1)?;
         scopes.push(Scope {
             parent: None,
-            values: IndexMap::new(alloc),
-            rules: IndexMap::new(alloc),
+            values: IndexMap::with_hasher(alloc, keys),
+            rules: IndexMap::with_hasher(alloc, keys),
         })?;
-        Ok(Scopes { alloc, scopes })
+        Ok(Scopes {
+            alloc,
+            keys,
+            scopes,
+        })
     }
 
     /// Opens a scope within another. Gives its number, which is the next one.
@@ -68,8 +74,8 @@ impl Scopes {
         let number = self.scopes.len();
         self.scopes.push(Scope {
             parent: Some(parent),
-            values: IndexMap::new(self.alloc),
-            rules: IndexMap::new(self.alloc),
+            values: IndexMap::with_hasher(self.alloc, self.keys),
+            rules: IndexMap::with_hasher(self.alloc, self.keys),
         })?;
         Ok(number)
     }

@@ -3,6 +3,7 @@
 ghost use Rattle.std.specs.Prelude.{◌≡◌};
 ghost use Rattle.nj_scope.specs.declared.source.SourceFault.TheVariants.{OutOfMemory};
 
+use crate::hash_keys::HashKeys;
 use std::alloc::{AllocError, AllocFailed, Global};
 use std::error::Error;
 use std::fmt;
@@ -63,4 +64,10 @@ pub trait FileSource {
     /// either.
     fn read(&mut self, alloc: Global, path: &str) -> Result<Option<Vec<u8>>, SourceFault>
         ensures { ReadsPath (state self.old) (state self.new) path.now result };
+
+    /// The keys for maps of names that stand in its files. A source of files that strangers may
+    /// have written draws them; no answer depends on them, only how long it takes.
+    fn hash_keys(&self) -> HashKeys {
+        HashKeys::default()
+    }
 }

@@ -5,6 +5,7 @@ ghost use Rattle.nj_scope.specs.Opening.{OpensFile, shared_bytes};
 ghost use Rattle.nj_scope.specs.Readings.{EachPathOnce, reading_of, is_read, bytes_in};
 ghost use Rattle.nj_scope.specs.Sources.{answer_bytes};
 
+use crate::hash_keys::HashKeys;
 use crate::source::{FileSource, SourceFault};
 use indexmap::IndexMap;
 use std::alloc::{AllocError, Global};
@@ -14,7 +15,7 @@ use std::rc::RcSlice;
 /// The files of a run: each path is read once, and its bytes are shared by all that read them.
 #[derive(Drop)]
 pub struct FileTable {
-    files: IndexMap<String, Option<RcSlice<u8>>>,
+    files: IndexMap<Vec<u8>, Option<RcSlice<u8>>, HashKeys>,
 }
 
 impl Model for FileTable {
@@ -30,12 +31,12 @@ impl Model for FileTable {
 }
 
 impl FileTable {
-    /// A table of no file. It takes no memory.
-    pub fn new(alloc: Global) -> FileTable
+    /// A table of no file, whose paths are hashed by these keys. It takes no memory.
+    pub fn new(alloc: Global, keys: HashKeys) -> FileTable
         ensures { result ≡ [] }
     {
         FileTable {
-            files: IndexMap::new(alloc),
+            files: IndexMap::with_hasher(alloc, keys),
         }
     }
 
@@ -52,7 +53,7 @@ impl FileTable {
         ensures read { result ≡ is_read self.now path.now }
         ensures each_path_once { EachPathOnce self.now }
     {
-        self.files.contains_key(path)
+        self.files.contains_key(path.as_bytes())
     }
 
     /// The bytes of the file at the path; `None` if it was not read, or no file was there.
@@ -102,7 +103,7 @@ impl FileTable {
             path.now result }
         ensures each_path_once { EachPathOnce self.new }
     {
-        let key = String::from_str(alloc, path)?;
+        let key = Vec::from_slice(alloc, path.as_bytes())?;
         let answer = source.read(alloc, path)?;
         let bytes = shared_answer(answer)?;
         let shared = another_handle(&bytes)?;
@@ -111,10 +112,10 @@ impl FileTable {
     }
 
     // Keeps what was found at a path that was not read.
-    fn keep(&mut self, path: String, bytes: Option<RcSlice<u8>>) -> Result<(), AllocError>
-        requires { is_read self.old (string_bytes path) ≡ false }
+    fn keep(&mut self, path: Vec<u8>, bytes: Option<RcSlice<u8>>) -> Result<(), AllocError>
+        requires { is_read self.old path.items ≡ false }
         ensures kept { OnOk result (self.new
-            ≡ self.old ++ record { path = string_bytes path; bytes = shared_bytes bytes } ∷ []) }
+            ≡ self.old ++ record { path = path.items; bytes = shared_bytes bytes } ∷ []) }
         ensures refused { OnErr result (self.new ≡ self.old) }
         ensures each_path_once { EachPathOnce self.new }
     {
@@ -128,7 +129,7 @@ impl FileTable {
             ≡ option_map (λ r. r.bytes) (reading_of self.now path.now) }
         ensures each_path_once { EachPathOnce self.now }
     {
-        self.files.get(path)
+        self.files.get(path.as_bytes())
     }
 }
 

@@ -50,7 +50,7 @@ fn the_second_reading_fails_alone(rt: HostRuntime) -> Result<(), Fail> {
 #[test]
 fn a_table_keeps_what_was_read_first(rt: HostRuntime) -> Result<(), Fail> {
     let mut files = two_files(&rt)?;
-    let mut table = FileTable::new(rt.alloc());
+    let mut table = FileTable::new(rt.alloc(), files.hash_keys());
     assert_eq!(rt; table.count(), 0);
     assert!(rt; !table.has("build.ninja"));
     assert!(rt; table.get("build.ninja").is_none());
@@ -84,7 +84,7 @@ fn a_table_keeps_what_was_read_first(rt: HostRuntime) -> Result<(), Fail> {
 #[test]
 fn a_failed_reading_is_not_kept(rt: HostRuntime) -> Result<(), Fail> {
     let mut files = two_files(&rt)?;
-    let mut table = FileTable::new(rt.alloc());
+    let mut table = FileTable::new(rt.alloc(), files.hash_keys());
     files.fail_at(1);
     let failed = table.open(rt.alloc(), &mut files, "empty");
     assert!(rt; matches!(failed, Err(SourceFault::Io)));
@@ -124,7 +124,7 @@ fn expanded(
 #[test]
 fn values_expand_at_once(rt: HostRuntime) -> Result<(), Fail> {
     let alloc = rt.alloc();
-    let mut declared = Declarations::new(alloc)?;
+    let mut declared = Declarations::new(alloc, HashKeys::default())?;
     declared.bind(alloc, 0, b"x", &word(alloc, b"1")?)?;
     declared.bind(alloc, 0, b"y", &word(alloc, b"a$x${unknown}$$b$ ")?)?;
     declared.bind(alloc, 0, b"x", &word(alloc, b"2")?)?;
@@ -136,7 +136,7 @@ fn values_expand_at_once(rt: HostRuntime) -> Result<(), Fail> {
 #[test]
 fn a_child_shadows_and_changes_nothing(rt: HostRuntime) -> Result<(), Fail> {
     let alloc = rt.alloc();
-    let mut declared = Declarations::new(alloc)?;
+    let mut declared = Declarations::new(alloc, HashKeys::default())?;
     declared.bind(alloc, 0, b"x", &word(alloc, b"p")?)?;
     let child = declared.open(0)?;
     assert_eq!(rt; child, 1);
@@ -155,7 +155,7 @@ fn a_child_shadows_and_changes_nothing(rt: HostRuntime) -> Result<(), Fail> {
 #[test]
 fn the_nearest_rule_is_in_force(rt: HostRuntime) -> Result<(), Fail> {
     let alloc = rt.alloc();
-    let mut declared = Declarations::new(alloc)?;
+    let mut declared = Declarations::new(alloc, HashKeys::default())?;
     let child = declared.open(0)?;
     assert!(rt; declared.declare_rule(alloc, 0, b"cc", &[])?);
     assert_eq!(rt; declared.rule(child, b"cc"), Some(1));
@@ -199,7 +199,7 @@ fn a_rule_keeps_what_was_written(rt: HostRuntime) -> Result<(), Fail> {
 
 #[test]
 fn a_pool_is_declared_once(rt: HostRuntime) -> Result<(), Fail> {
-    let mut declared = Declarations::new(rt.alloc())?;
+    let mut declared = Declarations::new(rt.alloc(), HashKeys::new(7))?;
     assert!(rt; declared.declare_pool(b"link")?);
     assert!(rt; !declared.declare_pool(b"link")?);
     assert!(rt; !declared.declare_pool(b"console")?);

@@ -4,7 +4,7 @@ use Rattle.nj_scope.proofs.ScopeLemmas.{opened, parent_at-number, parent_at-othe
 use Rattle.nj_scope.proofs.scopes.Scopes.open.Goals as goal
 
 held : (c : goal.In_ok-push) → map scope_text c.push.new.self.items ≡ opened (map scope_text c.self.inside.scopes.items) c.args.parent
-held c = pushed-text c.self.inside.scopes.items c.push.new.self.items c.args.parent (record { parent = Some c.args.parent; values = c.new.result; rules = c.new-2.result }) refl c.new.ensures.empty c.new-2.ensures.empty c.in_ok-push.ensures.items
+held c = pushed-text c.self.inside.scopes.items c.push.new.self.items c.args.parent (record { parent = Some c.args.parent; values = c.with_hasher.result; rules = c.with_hasher-2.result }) refl c.with_hasher.ensures.empty c.with_hasher-2.ensures.empty c.in_ok-push.ensures.items
 
 -- the same of the value that the contract names
 after : (c : goal.In_ok-push) → map scope_text c.push.new.self.items ≡ opened c.args.self.now c.args.parent
