@@ -8,6 +8,9 @@ use nj_text::{Part, Word};
 use std::alloc::{AllocError, Global};
 use std::marker::Model;
 
+/// The number of bytes of `${` and `}`.
+const NAME_SIGNS: usize = 3;
+
 // A part of a late value: the bytes of its text from start to end, as they stand or as a name.
 #[derive(Clone, Copy)]
 struct LatePart {
@@ -41,7 +44,10 @@ impl LateValue {
     pub fn from_word(alloc: Global, word: &Word<'_>) -> Result<LateValue, AllocError>
         ensures { IfOk result (λ v. v ≡ (word_text word.now).parts) }
     {
-        let mut value = LateValue::new(alloc);
+        let mut value = LateValue {
+            text: Vec::with_capacity(alloc, written_len(word))?,
+            parts: Vec::with_capacity(alloc, word.parts.len())?,
+        };
         'parts: for part in word.parts.iter() {
             value.push(part)?;
         }
@@ -73,21 +79,12 @@ impl LateValue {
     pub fn written(&self, alloc: Global) -> Result<Vec<u8>, AllocError>
         ensures { IfOk result (λ text. text.items ≡ parts_written self.now) }
     {
-        let mut text = Vec::with_capacity(alloc, self.text.len())?;
+        let signs = self.parts.len().saturating_mul(NAME_SIGNS);
+        let mut text = Vec::with_capacity(alloc, self.text.len().saturating_add(signs))?;
         'parts: for index in 0..self.len() {
-            put_written(&mut text, self.part(index))?;
+            append_written(&mut text, self.part(index))?;
         }
         Ok(text)
-    }
-
-    // A value without parts.
-    fn new(alloc: Global) -> LateValue
-        ensures { result ≡ [] }
-    {
-        LateValue {
-            text: Vec::new(alloc),
-            parts: Vec::new(alloc),
-        }
     }
 
     // One part more.
@@ -117,8 +114,18 @@ impl LateValue {
     }
 }
 
-// Puts a part behind the text, as it could stand in a file.
-fn put_written(text: &mut Vec<u8>, part: Part<'_>) -> Result<(), AllocError>
+/// The number of bytes of the word's parts, a reference counted as long as its name.
+pub(crate) fn written_len(word: &Word<'_>) -> usize {
+    let mut len: usize = 0;
+    'parts: for part in word.parts.iter() {
+        let (Part::Bytes(bytes) | Part::Name(bytes)) = part;
+        len = len.saturating_add(bytes.len());
+    }
+    len
+}
+
+// Appends a part to the text, as it could stand in a file.
+fn append_written(text: &mut Vec<u8>, part: Part<'_>) -> Result<(), AllocError>
     ensures { OnOk result (text.new.items ≡ text.old.items ++ part_written (part_text part.entry)) }
 {
     match part {

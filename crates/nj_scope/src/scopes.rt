@@ -6,6 +6,7 @@ ghost use Rattle.nj_scope.specs.ScopesHeld.{parent_at, bound_at, rule_at};
 ghost use Rattle.nj_text.specs.Words.{word_text};
 
 use crate::hash_keys::HashKeys;
+use crate::late::written_len;
 use indexmap::IndexMap;
 use nj_text::{Part, Word};
 use std::alloc::{AllocError, Global};
@@ -183,7 +184,7 @@ impl Scopes {
         ensures { (around : List ℕ) → IsScope (parent_at self.now) scope around
             → IfOk result (λ v. v.items ≡ expanded (value_in (bound_at self.now) around) (word_text word.now).parts) }
     {
-        let mut text = Vec::new(alloc);
+        let mut text = Vec::with_capacity(alloc, written_len(word))?;
         'parts: for part in word.parts.iter() {
             match part {
                 Part::Bytes(bytes) => text.extend_from_slice(bytes)?,
