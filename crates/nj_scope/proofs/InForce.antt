@@ -12,7 +12,8 @@ use Rattle.nj_scope.specs.Rules.{line_kept, phony, phony_rule}
 use Rattle.nj_scope.specs.Scopes.{or_else, nearest}
 use Rattle.nj_scope.specs.ScopesHeld.{rule_at}
 use Rattle.nj_scope.specs.Declarations.{DeclarationsText, DeclaredBy}
-use Rattle.nj_scope.specs.ReadingList.{Entry, with_rule, rule_texts, rules, InForceIsDeclared}
+use Rattle.nj_scope.specs.Laws.{InForceIsDeclared}
+use Rattle.nj_scope.specs.ReadingList.{Entry, with_rule, rule_texts, rules}
 use Rattle.nj_scope.proofs.DeclarationLemmas.{rules-kept, rule-listed}
 
 some_same : {X : Type 0} {x y : X} → Some x ≡ Some y → x ≡ y

@@ -6,7 +6,8 @@ use Rattle.std.proofs.lemmas.List.{map_push}
 use Rattle.indexmap.specs.IndexSet.{insert_key}
 use Rattle.nj_scope.specs.declared.rule.RuleLine.{RuleLine}
 use Rattle.nj_scope.specs.Pools.{is_pool}
-use Rattle.nj_scope.specs.Rules.{line_held, given}
+use Rattle.nj_scope.specs.Rules.{given}
+use Rattle.nj_scope.specs.RulesHeld.{line_held}
 use Rattle.nj_scope.proofs.MemoryLemmas.{find-reverse-map}
 
 value_of_line : (o : Option RuleLine) → option_map (λ l. l.value) (option_map line_held o) ≡ option_map (λ l. l.value) o

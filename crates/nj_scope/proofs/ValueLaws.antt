@@ -4,7 +4,8 @@ use Rattle.std.proofs.lemmas.Slice.Eq.{bytes_eq-Decides}
 use Rattle.std.proofs.lemmas.Bool.{eq-eqb}
 use Rattle.nj_manifest.specs.Statements.{StatementText, BindingText, RuleText, PoolText, BuildText, DefaultText, IncludeText, SubninjaText}
 use Rattle.nj_scope.specs.Scopes.{or_else, value_in, nearest, expanded}
-use Rattle.nj_scope.specs.ReadingList.{Entry, scope_of, binds, binds_in, bounds, binds_name, value_after, NoneBinds, LastBindingCounts, OthersAreInherited, OthersKeepTheirs}
+use Rattle.nj_scope.specs.Laws.{binds_name, NoneBinds, LastBindingCounts, OthersAreInherited, OthersKeepTheirs}
+use Rattle.nj_scope.specs.ReadingList.{Entry, scope_of, binds, binds_in, bounds, value_after}
 
 -- a statement that does not bind the name
 not_binding : (value : List ℕ → List ℕ) (item : StatementText) (name : List ℕ) → binds_name item name ≡ false → binds value item name ≡ None

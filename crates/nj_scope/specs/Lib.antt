@@ -1,14 +1,19 @@
-pub mod Declarations
-pub mod Readings
+-- what must be believed
 pub mod Faults
 pub mod Late
+pub mod Laws
 pub mod Limits
 pub mod Memory
 pub mod Opening
 pub mod Pools
 pub mod ReadingList
+pub mod Readings
 pub mod Rules
 pub mod Scopes
-pub mod ScopesHeld
 pub mod Sources
-pub mod Table
+-- how what the code holds is that
+pub mod Declarations
+pub mod LateHeld
+pub mod RulesHeld
+pub mod ScopesHeld
+pub mod TableHeld

@@ -3,7 +3,6 @@ use Rattle.std.specs.Prelude.{ℕ, ◌==◌, Option, List, [], map, find, revers
 use Rattle.std.specs.List.{filter}
 use Rattle.nj_text.specs.Words.{PartText}
 use Rattle.nj_manifest.specs.Statements.{LineText}
-use Rattle.nj_scope.specs.declared.rule.RuleLine.{RuleLine}
 
 -- a line of a rule's block, without its place
 pub record RuleLineText : Type 0 where
@@ -15,9 +14,6 @@ pub record RuleText : Type 0 where
   pub scope : ℕ
   pub name : List ℕ
   pub lines : List RuleLineText
-
-abbrev pub line_held : RuleLine → RuleLineText
-line_held l = record { key = l.key.items; value = l.value }
 
 -- the line as the manifest has it
 abbrev pub line_kept : LineText → RuleLineText

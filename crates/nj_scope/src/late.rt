@@ -2,7 +2,8 @@
 
 ghost use Rattle.std.specs.Prelude.{◌≡◌, ℕ, ◌<◌, List, [], ◌∷◌, ◌++◌, Some, length, slice_get, IfOk, OnOk, OnErr};
 ghost use Rattle.nj_text.specs.Words.{part_text, word_text};
-ghost use Rattle.nj_scope.specs.Late.{text_or_name, part_written, parts_written};
+ghost use Rattle.nj_scope.specs.Late.{part_written, parts_written};
+ghost use Rattle.nj_scope.specs.LateHeld.{text_or_name};
 
 use nj_text::{Part, Word};
 use std::alloc::{AllocError, Global};
@@ -30,7 +31,7 @@ pub struct LateValue {
 impl Model for LateValue {
     ghost use Rattle.std.specs.Prelude.{List};
     ghost use Rattle.nj_text.specs.Words.{PartText};
-    ghost use Rattle.nj_scope.specs.Late.{late_parts, AreWithin};
+    ghost use Rattle.nj_scope.specs.LateHeld.{late_parts, AreWithin};
 
     ghost Value = { List PartText };
 

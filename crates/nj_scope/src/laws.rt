@@ -1,6 +1,6 @@
 //! Laws of what names stand for. A law is a theorem, stated as a function with an empty body.
 
-ghost use Rattle.nj_scope.specs.ReadingList.{LastBindingCounts, OthersAreInherited, OthersKeepTheirs, InForceIsDeclared};
+ghost use Rattle.nj_scope.specs.Laws.{LastBindingCounts, OthersAreInherited, OthersKeepTheirs, InForceIsDeclared};
 
 /// The value of a name, by the statements that were read: the last binding of its own scope counts,
 /// with the values that names had before it; without one the scopes around count; and no scope

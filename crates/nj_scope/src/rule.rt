@@ -1,7 +1,8 @@
 //! Rules.
 
 ghost use Rattle.std.specs.Prelude.{◌≡◌, ℕ, List, map, option_copied, option_map, find, reverse, bytes_eq, IfOk};
-ghost use Rattle.nj_scope.specs.Rules.{line_held, line_kept, given};
+ghost use Rattle.nj_scope.specs.Rules.{line_kept, given};
+ghost use Rattle.nj_scope.specs.RulesHeld.{line_held};
 ghost use Rattle.nj_manifest.specs.Held.{line_text};
 
 use crate::late::LateValue;
@@ -27,7 +28,8 @@ pub struct Rule {
 
 impl Model for Rule {
     ghost use Rattle.std.specs.Prelude.{map};
-    ghost use Rattle.nj_scope.specs.Rules.{RuleText, RuleLineText, line_held};
+    ghost use Rattle.nj_scope.specs.Rules.{RuleText, RuleLineText};
+    ghost use Rattle.nj_scope.specs.RulesHeld.{line_held};
 
     ghost Value = { RuleText };
 
