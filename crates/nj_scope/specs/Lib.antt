@@ -14,6 +14,7 @@ pub mod Sources
 -- how what the code holds is that
 pub mod Declarations
 pub mod LateHeld
+pub mod MemoryHeld
 pub mod RulesHeld
 pub mod ScopesHeld
 pub mod TableHeld

@@ -8,18 +8,18 @@ pub record Added : Type 0 where
   pub name : List ℕ
   pub bytes : List ℕ
 
--- the files in the order in which they were added, what was read of them, how often a reading failed, and how many readings it is
--- until the one that fails; 0: none fails
+-- the files in the order in which they were added, what was read of them, how often a reading failed, and which of the next
+-- readings will fail, the first being 1; 0: none
 pub record Memory : Type 0 where
   pub added : List Added
-  pub told : List Reading
-  pub failed : ℕ
+  pub readings : List Reading
+  pub failures : ℕ
   pub due : ℕ
 
 -- the bytes that were added last under the name
 abbrev pub bytes_added : List Added → List ℕ → Option (List ℕ)
 bytes_added added name = option_map (λ a. a.bytes) (find (λ a. bytes_eq name a.name) (reverse added))
 
--- it tells each reading, and says what it would answer
+-- it tells all readings, and says what it would answer
 abbrev pub memory_state : Memory → SourceState
-memory_state m = record { readings = Some m.told; failures = m.failed; files = λ path. Some (bytes_added m.added path) }
+memory_state m = record { readings = Some m.readings; failures = m.failures; files = λ path. Some (bytes_added m.added path) }

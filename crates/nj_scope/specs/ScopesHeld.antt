@@ -11,7 +11,11 @@ pub record ScopeText : Type 0 where
   pub rules : List (List ℕ × ℕ)
 
 abbrev pub scope_text : Scope → ScopeText
-scope_text s = record { parent = s.parent; values = map (λ e. (e.0.items, e.1.items)) s.values.entries; rules = map (λ e. (e.0.items, e.1)) s.rules.entries }
+scope_text s = record {
+  parent = s.parent;
+  values = map (λ e. (e.0.items, e.1.items)) s.values.entries;
+  rules = map (λ e. (e.0.items, e.1)) s.rules.entries;
+}
 
 -- something of the scope of this number
 abbrev pub at_scope : {X : Type 0} → (ScopeText → Option X) → List ScopeText → ℕ → Option X

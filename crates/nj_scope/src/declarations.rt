@@ -70,7 +70,8 @@ impl Declarations {
         value: &Word<'_>,
     ) -> Result<(), AllocError>
         requires { scope < length self.old.scopes }
-        ensures bound { (around : List ℕ) → IsScope (parent_at self.old.scopes) scope (scope ∷ around)
+        ensures bound { (around : List ℕ)
+            → IsScope (parent_at self.old.scopes) scope (scope ∷ around)
             → OnOk result (TakesIn self.old self.new scope around
             (BindingText name.now (word_text value.now))) }
         ensures refused { OnErr result (Keeps self.old self.new) }
@@ -112,8 +113,8 @@ impl Declarations {
         Ok(true)
     }
 
-    /// Declares a pool. Returns `false`, and changes nothing, if there is a pool of the name already
-    /// ("Pools" in the Ninja manual).
+    /// Declares a pool. Returns `false`, and changes nothing, if there is a pool of the name
+    /// already ("Pools" in the Ninja manual).
     pub fn declare_pool(&mut self, name: &[u8]) -> Result<bool, AllocError>
         ensures is_new { IfOk result (λ is_new. is_new ≡ not (is_pool self.old.pools name.now)) }
         ensures declared { (number : ℕ) (around : List ℕ) (spot : Spot) (lines : List LineText)
@@ -131,7 +132,8 @@ impl Declarations {
     pub fn open(&mut self, parent: usize) -> Result<usize, AllocError>
         requires { parent < length self.old.scopes }
         ensures number { IfOk result (λ n. n ≡ length self.old.scopes) }
-        ensures within { OnOk result (parent_at self.new.scopes (length self.old.scopes) ≡ Some parent) }
+        ensures within { OnOk result
+            (parent_at self.new.scopes (length self.old.scopes) ≡ Some parent) }
         ensures others { (n : ℕ) → n < length self.old.scopes
             → parent_at self.new.scopes n ≡ parent_at self.old.scopes n }
         ensures count { OnOk result (length self.new.scopes ≡ length self.old.scopes + 1) }

@@ -3,12 +3,15 @@
 use std::hash::{BuildHasher, FoldHasher, Hasher};
 
 /// The keys by which the names of a run are hashed. Names come from strangers, and whoever knows
-/// how they are hashed can choose names that all collide, so that each look-up looks at all of them.
+/// how names are hashed can choose ones that all collide, so that each look-up goes through all.
 ///
-/// Every hash starts from a number that the drawn key makes, and takes in a name byte by byte: each
-/// is joined to the number, which is multiplied to 128 bits, whose halves are joined. So which names
-/// collide depends on all 64 bits of the number. A stranger does not know it, and learns nothing of
-/// it from a run that prints no hash and keeps the order of names.
+/// Every hash starts from a number that is made of the drawn one, and takes in a name byte by byte:
+/// each step multiplies the number, joined with the byte, to 128 bits, and joins their halves. So
+/// which names collide depends on all 64 bits of the number. A stranger does not know it, and
+/// learns nothing about it from a run, whose output depends on no hash.
+///
+/// Keys of maps are bytes, not `String`s: those are hashed in blocks of 16 bytes, of which the
+/// second half is a factor that a stranger may choose.
 #[derive(Clone, Copy)]
 pub struct HashKeys {
     start: FoldHasher,

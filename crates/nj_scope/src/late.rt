@@ -12,7 +12,7 @@ use std::marker::Model;
 /// The number of bytes of `${` and `}`.
 const NAME_SIGNS: usize = 3;
 
-// A part of a late value: the bytes of its text from start to end, as they stand or as a name.
+// A part of a late value: the bytes of its text from `start` to `end`, as they are or as a name.
 #[derive(Clone, Copy)]
 struct LatePart {
     start: usize,
@@ -20,8 +20,8 @@ struct LatePart {
     is_name: bool,
 }
 
-/// A value that is expanded when it is used, as those of a rule's block are: its bytes and names in order, held apart
-/// from the file in which they stood.
+/// A value that is expanded when it is used, as those of a rule's block are: its bytes and names in
+/// order, kept apart from the file in which they stand.
 #[derive(Drop)]
 pub struct LateValue {
     text: Vec<u8>,
@@ -76,7 +76,8 @@ impl LateValue {
         }
     }
 
-    /// The value as a text, not expanded: a name stands in `${` and `}`, and an escape is the byte that it stands for.
+    /// The value as a text, not expanded: a name is written in `${` and `}`, and an escape as the
+    /// byte that it stands for.
     pub fn written(&self, alloc: Global) -> Result<Vec<u8>, AllocError>
         ensures { IfOk result (λ text. text.items ≡ parts_written self.now) }
     {
@@ -88,7 +89,7 @@ impl LateValue {
         Ok(text)
     }
 
-    // One part more.
+    // Appends a part.
     fn push(&mut self, part: &Part<'_>) -> Result<(), AllocError>
         ensures pushed { OnOk result (self.new ≡ self.old ++ part_text part.now ∷ []) }
         ensures refused { OnErr result (self.new ≡ self.old) }

@@ -8,8 +8,9 @@ use nj_text::{leading_number, version_of};
 /// The version of Ninja whose files are read.
 const VERSION: (u64, u64) = (1, 11);
 
-/// Whether an expanded text is the depth of a pool: it begins with a digit, and the number of its first digits is at most
-/// 2147483647. What follows the digits is passed over ("Pools" in the Ninja manual).
+/// Whether an expanded text is the depth of a pool: it begins with a digit, and the number that its
+/// first digits make is at most 2147483647. What follows the digits does not count ("Pools" in the
+/// Ninja manual).
 pub fn is_depth(text: &[u8]) -> bool
     ensures { result ≡ is_depth text.now }
 {
@@ -19,8 +20,8 @@ pub fn is_depth(text: &[u8]) -> bool
     }
 }
 
-/// Whether a file that requires this version of Ninja is for a newer one than 1.11, by major and minor number ("Version
-/// requirements" in the Ninja manual).
+/// Whether a file that requires this version of Ninja is for a newer one than 1.11, by major and
+/// minor number ("Version requirements" in the Ninja manual).
 pub fn is_newer(text: &[u8]) -> bool
     ensures { result ≡ is_newer text.now }
 {

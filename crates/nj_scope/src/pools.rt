@@ -8,8 +8,8 @@ use indexmap::IndexSet;
 use std::alloc::{AllocError, Global};
 use std::marker::Model;
 
-/// The pools that were declared, by name; `console` is always there ("Pools" in the Ninja manual). They belong to no
-/// scope: a name is declared once in a run.
+/// The pools that were declared, by name; `console` is always there ("Pools" in the Ninja manual).
+/// They belong to no scope: a name is declared once in a run.
 #[derive(Drop)]
 pub(crate) struct Pools {
     alloc: Global,
@@ -25,7 +25,7 @@ impl Model for Pools {
 }
 
 impl Pools {
-    /// None is declared but `console`. It takes no memory.
+    /// Only `console`. It takes no memory.
     pub fn new(alloc: Global, keys: HashKeys) -> Pools
         ensures { result ≡ [] }
     {
@@ -42,10 +42,11 @@ impl Pools {
         name == b"console".as_slice() || self.names.contains(name)
     }
 
-    /// Declares a pool. Gives `false`, and changes nothing, where there is one of the name.
+    /// Declares a pool. Returns `false`, and changes nothing, if there is one of the name already.
     pub fn declare(&mut self, name: &[u8]) -> Result<bool, AllocError>
         ensures is_new { IfOk result (λ is_new. is_new ≡ not (is_pool self.old name.now)) }
-        ensures declared { IfOk result (λ is_new. self.new ≡ (if is_new then self.old ++ name.now ∷ [] else self.old)) }
+        ensures declared { IfOk result (λ is_new.
+            self.new ≡ (if is_new then self.old ++ name.now ∷ [] else self.old)) }
         ensures refused { OnErr result (self.new ≡ self.old) }
     {
         if self.has(name) {

@@ -10,15 +10,15 @@ use nj_manifest::Line;
 use std::alloc::{AllocError, Global};
 use std::marker::Model;
 
-// A line of a rule's block, held apart from its file.
+// A line of a rule's block, kept apart from its file.
 #[derive(Drop)]
 struct RuleLine {
     key: Vec<u8>,
     value: LateValue,
 }
 
-/// A rule: the number of the scope that declares it, its name, and the lines of its block, which are expanded when an edge
-/// uses them ("Rules" in the Ninja manual).
+/// A rule: the number of the scope that declares it, its name, and the lines of its block, which
+/// are expanded when an edge uses them ("Rules" in the Ninja manual).
 #[derive(Drop)]
 pub struct Rule {
     scope: usize,
@@ -33,7 +33,11 @@ impl Model for Rule {
 
     ghost Value = { RuleText };
 
-    ghost view = { λ r. record { scope = r.scope; name = r.name.items; lines = map {B = RuleLineText} line_held r.lines.items } };
+    ghost view = { λ r. record {
+      scope = r.scope;
+      name = r.name.items;
+      lines = map {B = RuleLineText} line_held r.lines.items;
+    } };
 }
 
 impl Rule {
@@ -77,7 +81,8 @@ impl Rule {
         self.name.as_slice()
     }
 
-    /// The value of a key: that of the last line which has it, since the last one counts. `None` where no line does.
+    /// The value of a key: that of the last line which has the key, since the last one counts.
+    /// `None` if there is none.
     pub fn value(&self, key: &[u8]) -> Option<&LateValue>
         ensures { option_copied result ≡ given self.now.lines key.now }
     {

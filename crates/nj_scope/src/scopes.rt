@@ -20,8 +20,9 @@ struct Scope {
     rules: IndexMap<Vec<u8>, usize, HashKeys>,
 }
 
-/// The variables and rules of a run, by scope. The main file's scope has the number 0; each `subninja` opens one more,
-/// which sees what the scopes around it bind and declare, and may shadow it ("Evaluation and scoping" in the Ninja manual).
+/// The variables and rules of a run, by scope. The main file's scope has the number 0; each
+/// `subninja` opens one more, which sees what the scopes around it bind and declare, and may shadow
+/// it ("Evaluation and scoping" in the Ninja manual).
 #[derive(Drop)]
 pub(crate) struct Scopes {
     alloc: Global,
@@ -61,15 +62,16 @@ impl Scopes {
         })
     }
 
-    /// Opens a scope within another. Gives its number, which is the next one.
+    /// Opens a scope within another. Returns its number, which is the next one.
     pub fn open(&mut self, parent: usize) -> Result<usize, AllocError>
         requires { parent < length self.old }
         ensures number { IfOk result (λ n. n ≡ length self.old) }
         ensures count { OnOk result (length self.new ≡ length self.old + 1) }
         ensures within { OnOk result (parent_at self.new (length self.old) ≡ Some parent) }
-        ensures others { (n : ℕ) → n < length self.old → parent_at self.new n ≡ parent_at self.old n }
-        ensures bound { (n : ℕ) (name : List ℕ) → bound_at self.new n name ≡ bound_at self.old n name }
-        ensures rules { (n : ℕ) (name : List ℕ) → rule_at self.new n name ≡ rule_at self.old n name }
+        ensures others { (n : ℕ) → n < length self.old
+            → parent_at self.new n ≡ parent_at self.old n }
+        ensures bound { (n : ℕ) (x : List ℕ) → bound_at self.new n x ≡ bound_at self.old n x }
+        ensures rules { (n : ℕ) (x : List ℕ) → rule_at self.new n x ≡ rule_at self.old n x }
         ensures refused { OnErr result (self.new ≡ self.old) }
     {
         let number = self.scopes.len();
@@ -81,12 +83,14 @@ impl Scopes {
         Ok(number)
     }
 
-    /// Binds the name in this scope. What it was bound to there before counts no more.
+    /// Binds the name in this scope, in place of what it was bound to there before.
     pub fn bind(&mut self, scope: usize, name: &[u8], value: Vec<u8>) -> Result<(), AllocError>
         requires { scope < length self.old }
         ensures bound { OnOk result ((n : ℕ) (x : List ℕ) → bound_at self.new n x
-            ≡ (if n == scope && bytes_eq x name.now then Some value.items else bound_at self.old n x)) }
-        ensures refused { OnErr result ((n : ℕ) (x : List ℕ) → bound_at self.new n x ≡ bound_at self.old n x) }
+            ≡ (if n == scope && bytes_eq x name.now
+            then Some value.items else bound_at self.old n x)) }
+        ensures refused { OnErr result ((n : ℕ) (x : List ℕ)
+            → bound_at self.new n x ≡ bound_at self.old n x) }
         ensures rules { (n : ℕ) (x : List ℕ) → rule_at self.new n x ≡ rule_at self.old n x }
         ensures parents { (n : ℕ) → parent_at self.new n ≡ parent_at self.old n }
         ensures count { length self.new ≡ length self.old }
@@ -113,11 +117,12 @@ impl Scopes {
         Ok(())
     }
 
-    /// The number of the rule that is in force under the name in this scope: its own, else that of the nearest scope around
-    /// it that declares one.
+    /// The number of the rule that this scope declares under the name, else that of the nearest
+    /// scope around it that declares one.
     pub fn rule(&self, scope: usize, name: &[u8]) -> Option<usize>
         requires { scope < length self.now }
-        ensures { (around : List ℕ) → IsScope (parent_at self.now) scope around → result ≡ nearest (λ s. rule_at self.now s name.now) around }
+        ensures { (around : List ℕ) → IsScope (parent_at self.now) scope around
+            → result ≡ nearest (λ s. rule_at self.now s name.now) around }
     {
         let mut next = Some(scope);
         'scopes: while let Some(number) = next {
@@ -129,11 +134,12 @@ impl Scopes {
         None
     }
 
-    /// The value of the name in this scope: its own, else that of the nearest scope around it that binds the name.
-    /// An unknown name is empty.
+    /// The value of the name in this scope: its own, else that of the nearest scope around it that
+    /// binds the name. An unknown name is empty.
     pub fn value(&self, scope: usize, name: &[u8]) -> &[u8]
         requires { scope < length self.now }
-        ensures { (around : List ℕ) → IsScope (parent_at self.now) scope around → result.now ≡ value_in (bound_at self.now) around name.now }
+        ensures { (around : List ℕ) → IsScope (parent_at self.now) scope around
+            → result.now ≡ value_in (bound_at self.now) around name.now }
     {
         let mut next = Some(scope);
         'scopes: while let Some(number) = next {
@@ -182,7 +188,8 @@ impl Scopes {
     ) -> Result<Vec<u8>, AllocError>
         requires { scope < length self.now }
         ensures { (around : List ℕ) → IsScope (parent_at self.now) scope around
-            → IfOk result (λ v. v.items ≡ expanded (value_in (bound_at self.now) around) (word_text word.now).parts) }
+            → IfOk result (λ v. v.items
+            ≡ expanded (value_in (bound_at self.now) around) (word_text word.now).parts) }
     {
         let mut text = Vec::with_capacity(alloc, written_len(word))?;
         'parts: for part in word.parts.iter() {
