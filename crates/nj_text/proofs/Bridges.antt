@@ -4,8 +4,8 @@ use Rattle.std.specs.Prelude.{is_some}
 use Rattle.std.specs.List.{take_while}
 use Rattle.std.proofs.lemmas.Bool.{false≢true}
 use Rattle.nj_text.specs.declared.spot.Spot.{Spot}
-use Rattle.nj_text.specs.declared.fault.LexFault.{LexFault}
-use Rattle.nj_text.specs.declared.fault.LexFault.TheVariants as fault
+use Rattle.nj_text.specs.declared.fault.UnitFault.{UnitFault}
+use Rattle.nj_text.specs.declared.fault.UnitFault.TheVariants as fault
 use Rattle.nj_text.specs.Bytes.{is_identifier_byte, drop_while}
 use Rattle.nj_text.specs.Units.{Meaning, Ordinary, Escape, Reference, Join, OpeningJoin, Comment, LeadingTab, LineEnd, TextEnd, BadByte, BadEscape, TextUnit, is_ordinary_in, Position, AtStart, found_at, position_after, spot_after, cut}
 use Rattle.nj_text.specs.Lines.{Line, ending_of, before_first_line, lines_before, lines_of, with_units, lines_behind, line_spot}
@@ -20,7 +20,7 @@ use Rattle.nj_text.proofs.Lists.{drop_while-cons_yes, drop_while-cons_no, take_w
 
 -- ---- what begins
 
-pub fault_badly : (spot : Spot) (bs : List ℕ) (m : Meaning) (f : LexFault) → BeginsBadly spot bs m → fault_of_meaning m spot ≡ Some f → Some f ≡ next_fault (units_within spot bs)
+pub fault_badly : (spot : Spot) (bs : List ℕ) (m : Meaning) (f : UnitFault) → BeginsBadly spot bs m → fault_of_meaning m spot ≡ Some f → Some f ≡ next_fault (units_within spot bs)
 fault_badly spot bs m f b e = rw b.2 (sym e)
 
 pub fault_at_end : (spot : Spot) (bs : List ℕ) → bs ≡ [] → None ≡ next_fault (units_within spot bs)
@@ -199,7 +199,7 @@ pub record IsValue (us : List TextUnit) : Type 0 where
   pub all : next_fault (drop_while (in_text kind.Value) us) ≡ None → (first_line (lines_of us)).units ≡ take_while (in_text kind.Value) us
   pub rest : next_fault (drop_while (in_text kind.Value) us) ≡ None → inside (lines_of (drop_while (in_text kind.Value) us)) ≡ Inside (with_units [] (first_line (lines_of us))) (other_lines (lines_of us))
 
-value_or_bad : (m : Meaning) (spot : Spot) → ending_of m ≡ None → ((in_value_meaning m ≡ true) × (fault_of_meaning m spot ≡ None)) ⊎ ((in_value_meaning m ≡ false) × ((f : LexFault) × (fault_of_meaning m spot ≡ Some f)))
+value_or_bad : (m : Meaning) (spot : Spot) → ending_of m ≡ None → ((in_value_meaning m ≡ true) × (fault_of_meaning m spot ≡ None)) ⊎ ((in_value_meaning m ≡ false) × ((f : UnitFault) × (fault_of_meaning m spot ≡ Some f)))
 value_or_bad (Ordinary c) spot e = inl (refl, refl)
 value_or_bad (Escape c) spot e = inl (refl, refl)
 value_or_bad (Reference n) spot e = inl (refl, refl)
@@ -215,7 +215,7 @@ value_or_bad BadEscape spot e = inr (refl, (fault.BadEscape spot, refl))
 abbrev of_value : TextUnit → Bool
 of_value u = in_text kind.Value u
 
-absurd_fault : (f : LexFault) → Some f ≡ None → ⊥
+absurd_fault : (f : UnitFault) → Some f ≡ None → ⊥
 absurd_fault f e = absurd cc
 
 -- behind a unit of the value
@@ -234,7 +234,7 @@ value_goes_on u us l ls e n t f rest =
     ends_same n e = rw (n, e) refl
 
 -- at a bad unit
-value_fails : (u : TextUnit) (us : List TextUnit) (l : Line) (ls : List Line) (f : LexFault) → lines_of us ≡ l ∷ ls → ending_of u.means ≡ None → of_value u ≡ false → fault_of u ≡ Some f → IsValue (u ∷ us)
+value_fails : (u : TextUnit) (us : List TextUnit) (l : Line) (ls : List Line) (f : UnitFault) → lines_of us ≡ l ∷ ls → ending_of u.means ≡ None → of_value u ≡ false → fault_of u ≡ Some f → IsValue (u ∷ us)
 value_fails u us l ls f e n t k =
     let first : first_line (lines_of (u ∷ us)) ≡ record { units = u ∷ l.units; end = l.end; is_last = l.is_last } = rw (n, e) refl in
     let d = drop_while-cons_no of_value u us t in
@@ -262,7 +262,7 @@ pub value_of_line : (us : List TextUnit) → HasLine (lines_of us) → IsValue u
 value_of_line [] h = absurd (nil_has_no_line h)
 value_of_line (u ∷ us) h = by_end (ending_of u.means) refl (value_of_line us) h
   where
-    by_case : (has : HasLine (lines_of us)) → ending_of u.means ≡ None → IsValue us → ((of_value u ≡ true) × (fault_of u ≡ None)) ⊎ ((of_value u ≡ false) × ((f : LexFault) × (fault_of u ≡ Some f))) → IsValue (u ∷ us)
+    by_case : (has : HasLine (lines_of us)) → ending_of u.means ≡ None → IsValue us → ((of_value u ≡ true) × (fault_of u ≡ None)) ⊎ ((of_value u ≡ false) × ((f : UnitFault) × (fault_of u ≡ Some f))) → IsValue (u ∷ us)
     by_case has e rest (inl p) = value_goes_on u us has.0 has.1 has.2 e p.0 p.1 rest
     by_case has e rest (inr p) = value_fails u us has.0 has.1 p.1.0 has.2 e p.0 p.1.1
 

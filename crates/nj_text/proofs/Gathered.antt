@@ -4,8 +4,8 @@ use Rattle.std.specs.List.{take_while}
 use Rattle.std.proofs.lemmas.Bool.{false≢true}
 use Rattle.std.proofs.lemmas.List.{append-nil}
 use Rattle.nj_text.specs.declared.spot.Spot.{Spot}
-use Rattle.nj_text.specs.declared.fault.LexFault.{LexFault}
-use Rattle.nj_text.specs.declared.fault.LexFault.TheVariants as fault
+use Rattle.nj_text.specs.declared.fault.UnitFault.{UnitFault}
+use Rattle.nj_text.specs.declared.fault.UnitFault.TheVariants as fault
 use Rattle.nj_text.specs.declared.parts.TextKind.{TextKind}
 use Rattle.nj_text.specs.declared.parts.TextKind.TheVariants as kind
 use Rattle.nj_text.specs.Bytes.{is_ordinary_byte, is_identifier_byte, begins_with, drop_while}
@@ -28,7 +28,7 @@ pub ends_by : (k : TextKind) (spot : Spot) (bytes : List ℕ) (m : Meaning) (n :
     → (gathered k (units_within spot bytes) ≡ []) × (behind_text k (units_within spot bytes) ≡ units_within spot bytes)
 ends_by k spot bytes m n behind e h = rw e (text_ends k (record { spot = spot; bytes = take n bytes; means = m }) behind h)
 
-pub bad_at : (k : TextKind) (spot : Spot) (bytes : List ℕ) (m : Meaning) (n : ℕ) (behind : List TextUnit) (f : LexFault) → Begins spot bytes m n behind → in_text k (record { spot = spot; bytes = take n bytes; means = m }) ≡ false → fault_of_meaning m spot ≡ Some f
+pub bad_at : (k : TextKind) (spot : Spot) (bytes : List ℕ) (m : Meaning) (n : ℕ) (behind : List TextUnit) (f : UnitFault) → Begins spot bytes m n behind → in_text k (record { spot = spot; bytes = take n bytes; means = m }) ≡ false → fault_of_meaning m spot ≡ Some f
     → next_fault (behind_text k (units_within spot bytes)) ≡ Some f
 bad_at k spot bytes m n behind f e h g = ap next_fault (ends_by k spot bytes m n behind e h).1 ∙ ap next_fault e ∙ g
 

@@ -6,7 +6,7 @@ use Rattle.std.proofs.lemmas.List.Sums.{prefix_len-le-length}
 use Rattle.std.proofs.lemmas.Bool.{eqb-true, false≢true, true≢false}
 use Rattle.nj_text.specs.declared.spot.Spot.{Spot}
 use Rattle.nj_text.specs.declared.sign.LineStart.TheVariants as start
-use Rattle.nj_text.specs.declared.fault.LexFault.TheVariants as fault
+use Rattle.nj_text.specs.declared.fault.UnitFault.TheVariants as fault
 use Rattle.nj_text.specs.Bytes.{is_space, is_line_feed, is_ordinary_byte, is_name_byte, is_identifier_byte, begins_with, drop_while}
 use Rattle.nj_text.specs.Units.{Meaning, Ordinary, Escape, Reference, Join, OpeningJoin, Comment, LeadingTab, LineEnd, TextEnd, BadByte, BadEscape, TextUnit, is_ordinary_in, Position, AtStart, AfterSpaces, Within, Follows, Feed, Return, Brace, Itself, NameByte, Nothing, follows_of, behind_dollar_by, behind_dollar, named, Found, Class, Dollar, LineFeed, CarriageReturn, Nul, Plain, class_of, unit_by, unit_at, found_at, opening, opens_comment, position_after, spot_after, spots_after, cut}
 use Rattle.nj_text.specs.Lines.{Line, ending_of, before_first_line, lines_before, lines_of, with_units, Kind, IndentedLine, PlainLine, is_space_unit, text_kind, kind_with, kind_behind_spaces, begins_with_space, kind_of}

@@ -1,8 +1,8 @@
 -- Worked rows, computed on the definitions.
 use Rattle.std.proofs.Common.{◌≡◌, ℕ, Bool, true, false, Option, Some, None, Result, Ok, Err, List, [], ◌∷◌, refl, map}
 use Rattle.std.specs.Prelude.{codes}
-use Rattle.nj_text.specs.declared.fault.LexFault.{LexFault}
-use Rattle.nj_text.specs.declared.fault.LexFault.TheVariants.{BadByte as bad_byte, BadEscape as bad_escape, Tab}
+use Rattle.nj_text.specs.declared.fault.UnitFault.{UnitFault}
+use Rattle.nj_text.specs.declared.fault.UnitFault.TheVariants.{BadByte as bad_byte, BadEscape as bad_escape, Tab}
 use Rattle.nj_text.specs.declared.sign.Sign.{Sign}
 use Rattle.nj_text.specs.declared.sign.Sign.TheVariants.{Colon, Equals, Pipe, Pipe2, PipeAt, LineEnd as line_end}
 use Rattle.nj_text.specs.declared.sign.LineStart.{LineStart}
@@ -145,13 +145,13 @@ data Answer : Type 0 where
   Word : Spot → List PartText → Answer
   NoWord : Answer
   Stands : Spot → Answer
-  Fault : LexFault → Answer
+  Fault : UnitFault → Answer
 
 -- a call: its answer, and where it leaves the lexer
 abbrev Call : Type 0
 Call = State → Answer × State
 
-abbrev answered : {A : Type 0} → (A → Answer) → Result A LexFault → Answer
+abbrev answered : {A : Type 0} → (A → Answer) → Result A UnitFault → Answer
 answered show (Ok x) = show x
 answered show (Err f) = Fault f
 

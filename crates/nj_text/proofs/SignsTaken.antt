@@ -3,7 +3,7 @@ use Rattle.std.proofs.Common.{◌≡◌, ℕ, Bool, true, false, cond, not, ◌&
 use Rattle.std.specs.Prelude.{is_some}
 use Rattle.std.proofs.lemmas.Bool.{eqb-true, false≢true}
 use Rattle.nj_text.specs.declared.spot.Spot.{Spot}
-use Rattle.nj_text.specs.declared.fault.LexFault.{LexFault}
+use Rattle.nj_text.specs.declared.fault.UnitFault.{UnitFault}
 use Rattle.nj_text.specs.declared.sign.Sign.{Sign}
 use Rattle.nj_text.specs.declared.sign.Sign.TheVariants as sign
 use Rattle.nj_text.specs.Bytes.{is_ordinary_byte, begins_with}
@@ -22,7 +22,7 @@ use Rattle.nj_text.proofs.Steps.{line, others, fails_here, goes_on_here}
 abbrev sign_or_none : Sign → Spot → List ℕ → Bool → Reply Bool
 sign_or_none want spot bytes t = cond t (reply true (behind_sign want (line spot bytes) (others spot bytes))) (reply false (Inside (line spot bytes) (others spot bytes)))
 
-pub sign_fails : (want : Sign) (spot : Spot) (bytes : List ℕ) (f : LexFault) → Some f ≡ next_fault (units_within spot bytes) → sign_at want (line spot bytes) (others spot bytes) ≡ failing f
+pub sign_fails : (want : Sign) (spot : Spot) (bytes : List ℕ) (f : UnitFault) → Some f ≡ next_fault (units_within spot bytes) → sign_at want (line spot bytes) (others spot bytes) ≡ failing f
 sign_fails want spot bytes f e = fails_here spot bytes f (sign_or_none want spot bytes (is_sign want (line spot bytes).units)) e
 
 sign_by : (want : Sign) (spot : Spot) (bytes : List ℕ) (t : Bool) → None ≡ next_fault (units_within spot bytes) → is_sign want (line spot bytes).units ≡ t → sign_at want (line spot bytes) (others spot bytes) ≡ sign_or_none want spot bytes t

@@ -1,9 +1,9 @@
 -- The states of a lexer, by where it stands.
-use Rattle.std.proofs.Common.{◌≡◌, ℕ, Bool, false, List, [], ◌∷◌, map, Result, Ok, Err, refl, sym, ap, ◌∙◌}
+use Rattle.std.proofs.Common.{◌≡◌, ℕ, Bool, true, false, List, [], ◌∷◌, map, Result, Ok, Err, refl, sym, ap, ◌∙◌}
 use Rattle.nj_text.specs.declared.spot.Spot.{Spot}
 use Rattle.nj_text.specs.declared.cursor.Cursor.{Cursor}
 use Rattle.nj_text.specs.declared.fault.LexFault.{LexFault}
-use Rattle.nj_text.specs.declared.fault.LexFault.TheVariants as fault
+use Rattle.nj_text.specs.declared.fault.LexFault.TheVariants as lex
 use Rattle.nj_text.specs.declared.sign.Sign.{Sign}
 use Rattle.nj_text.specs.declared.sign.Sign.TheVariants as sign
 use Rattle.nj_text.specs.declared.word.Word.{Word}
@@ -11,10 +11,10 @@ use Rattle.nj_text.specs.declared.word.Part.{Part}
 use Rattle.nj_text.specs.Units.{OpeningJoin, TextUnit, AtStart, Within, cut}
 use Rattle.nj_text.specs.Lines.{Line, lines_of, before_first_line, with_units, line_spot}
 use Rattle.nj_text.specs.Words.{is_blank, WordText, word_text, part_text, is_opening_meaning, behind_opening}
-use Rattle.nj_text.specs.Calls.{State, Between, Inside, Reply, reply, behind_blanks, value_at, value_of, sign_of, first_line_spot, AnswersOrWants, no_word, skip_blanks_of}
+use Rattle.nj_text.specs.Calls.{State, Between, Inside, Reply, reply, behind_blanks, value_at, value_of, sign_of, first_line_spot, AnswersOrLacksMemory, no_word, skip_blanks_of, is_inside}
 use Rattle.nj_text.specs.Bytes.{drop_while}
 use Rattle.nj_text.specs.Scans.{units_within}
-use Rattle.nj_text.specs.Standing.{first_line, other_lines, inside, lines_from, lines_within, StepsOrWants, FailsStep, Settles, SettlesFault}
+use Rattle.nj_text.specs.Standing.{first_line, other_lines, inside, lines_from, lines_within, StepsOrLacksMemory, FailsStep, Settles, SettlesFault}
 use Rattle.nj_text.proofs.LineStarts.{cut_has_line, IsUnsaid, unit_is_unsaid}
 use Rattle.nj_text.proofs.Bridges.{spot_of_line, of_first, first_of_line, passed_by, blanks_end}
 use Rattle.nj_text.proofs.Steps.{line, others}
@@ -99,16 +99,14 @@ value_inside spot bytes = ap (λ us. value_at (behind_blanks (with_units us (lin
 
 -- ---- a value that was read
 
-settled_fault : (old new : State) (expected : Reply WordText) (f : LexFault) (result : Result Word LexFault) → FailsStep expected f → SettlesFault f old new result → AnswersOrWants word_text result old new expected
-settled_fault old new expected (fault.BadByte s) result e h = rw (h.0, e) (refl, h.1)
-settled_fault old new expected (fault.Tab s) result e h = rw (h.0, e) (refl, h.1)
-settled_fault old new expected (fault.BadEscape s) result e h = rw (h.0, e) (refl, h.1)
-settled_fault old new expected fault.OutOfMemory result e h = rw h.0 h.1
+settled_fault : (old new : State) (expected : Reply WordText) (f : LexFault) (result : Result Word LexFault) → is_inside old ≡ true → FailsStep expected f → SettlesFault f old new result → AnswersOrLacksMemory word_text result old new expected
+settled_fault old new expected (lex.Unit f) result i e h = rw (h.0, e) (refl, h.1)
+settled_fault old new expected lex.OutOfMemory result i e h = rw h.0 (i, h.1)
 
-pub settled : (old new : State) (expected : Reply WordText) (step : Result (Word × Cursor) LexFault) (result : Result Word LexFault) → value_of old ≡ expected → StepsOrWants word_text expected step → Settles step old new result
-    → AnswersOrWants word_text result old new (value_of old)
-settled old new expected (Ok step) result v e h = rw (h.0, v, e) (refl, h.1)
-settled old new expected (Err f) result v e h = rw v (settled_fault old new expected f result e h)
+pub settled : (old new : State) (expected : Reply WordText) (step : Result (Word × Cursor) LexFault) (result : Result Word LexFault) → is_inside old ≡ true → value_of old ≡ expected → StepsOrLacksMemory word_text expected step → Settles step old new result
+    → AnswersOrLacksMemory word_text result old new (value_of old)
+settled old new expected (Ok step) result i v e h = rw (h.0, v, e) (refl, h.1)
+settled old new expected (Err f) result i v e h = rw v (settled_fault old new expected f result i e h)
 
 pub value_between : (spot : Spot) (bytes : List ℕ) (parts : List Part) → parts ≡ [] → value_of (Between (lines_from spot bytes)) ≡ reply (record { spot = spot; parts = map part_text parts }) (Between (lines_from spot bytes))
 value_between spot bytes parts e = ap (λ p. reply (no_word p) (Between (lines_from spot bytes))) (spot_between spot bytes) ∙ ap (λ ps. reply (record { spot = spot; parts = map part_text ps }) (Between (lines_from spot bytes))) (sym e)

@@ -4,8 +4,9 @@ use Rattle.std.specs.List.{take_while}
 use Rattle.std.proofs.lemmas.Bool.{eqb-true, false≢true, true≢false}
 use Rattle.std.proofs.lemmas.List.{append-nil, nil_from_length}
 use Rattle.nj_text.specs.declared.spot.Spot.{Spot}
+use Rattle.nj_text.specs.declared.fault.UnitFault.{UnitFault}
 use Rattle.nj_text.specs.declared.fault.LexFault.{LexFault}
-use Rattle.nj_text.specs.declared.fault.LexFault.TheVariants as fault
+use Rattle.nj_text.specs.declared.fault.LexFault.TheVariants as lex
 use Rattle.nj_text.specs.declared.parts.TextKind.TheVariants as kind
 use Rattle.nj_text.specs.Bytes.{is_ordinary_byte, is_identifier_byte, drop_while}
 use Rattle.nj_text.specs.Units.{Meaning, Within, unit_at, position_after, spot_after, is_ordinary_in, cut}
@@ -49,7 +50,7 @@ fault_here : (spot : Spot) (bytes : List ℕ) → next_fault (line spot bytes).u
 fault_here spot bytes = next_fault_of_line (units_within spot bytes) (cut_has_line Within 0 spot bytes)
 
 -- a bad unit that stands next is the answer
-pub fails_here : {A : Type 0} (spot : Spot) (bytes : List ℕ) (f : LexFault) (expected : Reply A) → Some f ≡ next_fault (units_within spot bytes) → unless_fault (next_fault (line spot bytes).units) expected ≡ failing f
+pub fails_here : {A : Type 0} (spot : Spot) (bytes : List ℕ) (f : UnitFault) (expected : Reply A) → Some f ≡ next_fault (units_within spot bytes) → unless_fault (next_fault (line spot bytes).units) expected ≡ failing f
 fails_here spot bytes f expected e = ap (λ o. unless_fault o expected) (fault_here spot bytes ∙ sym e)
 
 pub goes_on_here : {A : Type 0} (spot : Spot) (bytes : List ℕ) (expected : Reply A) → None ≡ next_fault (units_within spot bytes) → unless_fault (next_fault (line spot bytes).units) expected ≡ expected
@@ -145,7 +146,7 @@ pub no_word_here : (spot : Spot) (bytes : List ℕ) → None ≡ next_fault (uni
 no_word_here spot bytes f b =
     goes_on_here spot bytes (word_or_none spot bytes (begins_word (line spot bytes).units)) f ∙ ap (word_or_none spot bytes) (begins_here spot bytes ∙ b)
 
-pub word_fails_here : (spot : Spot) (bytes : List ℕ) (f : LexFault) → None ≡ next_fault (units_within spot bytes) → begins_word (units_within spot bytes) ≡ true → next_fault (behind_text kind.Word (units_within spot bytes)) ≡ Some f
+pub word_fails_here : (spot : Spot) (bytes : List ℕ) (f : UnitFault) → None ≡ next_fault (units_within spot bytes) → begins_word (units_within spot bytes) ≡ true → next_fault (behind_text kind.Word (units_within spot bytes)) ≡ Some f
     → word_at (line spot bytes) (others spot bytes) ≡ failing f
 word_fails_here spot bytes f n b e =
     goes_on_here spot bytes (word_or_none spot bytes (begins_word (line spot bytes).units)) n ∙ ap (word_or_none spot bytes) (begins_here spot bytes ∙ b)
@@ -167,7 +168,7 @@ word_is_here spot bytes parts there rest n b e p r =
 
 -- ---- values
 
-pub value_fails_here : (spot : Spot) (bytes : List ℕ) (f : LexFault) → next_fault (behind_text kind.Value (units_within spot bytes)) ≡ Some f → value_at (line spot bytes) (others spot bytes) ≡ failing f
+pub value_fails_here : (spot : Spot) (bytes : List ℕ) (f : UnitFault) → next_fault (behind_text kind.Value (units_within spot bytes)) ≡ Some f → value_at (line spot bytes) (others spot bytes) ≡ failing f
 value_fails_here spot bytes f e =
     let v = value_of_line (units_within spot bytes) (cut_has_line Within 0 spot bytes) in
     ap (λ o. unless_fault o (reply (record { spot = line_spot (line spot bytes); parts = parts_of (line spot bytes).units }) (Inside (with_units [] (line spot bytes)) (others spot bytes)))) (v.fault ∙ e)
@@ -195,29 +196,18 @@ pub begins_at_end : (spot : Spot) (bytes : List ℕ) → bytes ≡ [] → false 
 unfolding cut
 begins_at_end spot bytes e = rw e refl
 
-pub identifier_fails : (spot : Spot) (bytes : List ℕ) (f : LexFault) → Some f ≡ next_fault (units_within spot bytes) → ident_at (line spot bytes) (others spot bytes) ≡ failing f
+pub identifier_fails : (spot : Spot) (bytes : List ℕ) (f : UnitFault) → Some f ≡ next_fault (units_within spot bytes) → ident_at (line spot bytes) (others spot bytes) ≡ failing f
 identifier_fails spot bytes f e =
     fails_here spot bytes f (reply (some_bytes (bytes_of (take_while in_identifier (line spot bytes).units))) (Inside (with_units (drop_while in_identifier (line spot bytes).units) (line spot bytes)) (others spot bytes))) e
 
-pub word_fails_at_once : (spot : Spot) (bytes : List ℕ) (f : LexFault) → Some f ≡ next_fault (units_within spot bytes) → word_at (line spot bytes) (others spot bytes) ≡ failing f
+pub word_fails_at_once : (spot : Spot) (bytes : List ℕ) (f : UnitFault) → Some f ≡ next_fault (units_within spot bytes) → word_at (line spot bytes) (others spot bytes) ≡ failing f
 word_fails_at_once spot bytes f e = fails_here spot bytes f (word_or_none spot bytes (begins_word (line spot bytes).units)) e
 
-pub word_fails_or_wants : (spot : Spot) (bytes : List ℕ) (f : LexFault) → None ≡ next_fault (units_within spot bytes) → begins_word (units_within spot bytes) ≡ true → FailsText f (next_fault (behind_text kind.Word (units_within spot bytes)))
+pub word_fails_or_lacks : (spot : Spot) (bytes : List ℕ) (f : LexFault) → None ≡ next_fault (units_within spot bytes) → begins_word (units_within spot bytes) ≡ true → FailsText f (next_fault (behind_text kind.Word (units_within spot bytes)))
     → FailsStep (word_at (line spot bytes) (others spot bytes)) f
-word_fails_or_wants spot bytes (fault.BadByte s) n b e = word_fails_here spot bytes (fault.BadByte s) n b e
-word_fails_or_wants spot bytes (fault.Tab s) n b e = word_fails_here spot bytes (fault.Tab s) n b e
-word_fails_or_wants spot bytes (fault.BadEscape s) n b e = word_fails_here spot bytes (fault.BadEscape s) n b e
-word_fails_or_wants spot bytes fault.OutOfMemory n b e = tt
+word_fails_or_lacks spot bytes (lex.Unit f) n b e = word_fails_here spot bytes f n b e
+word_fails_or_lacks spot bytes lex.OutOfMemory n b e = tt
 
-pub value_fails_or_wants : (spot : Spot) (bytes : List ℕ) (f : LexFault) → FailsText f (next_fault (behind_text kind.Value (units_within spot bytes))) → FailsStep (value_at (line spot bytes) (others spot bytes)) f
-value_fails_or_wants spot bytes (fault.BadByte s) e = value_fails_here spot bytes (fault.BadByte s) e
-value_fails_or_wants spot bytes (fault.Tab s) e = value_fails_here spot bytes (fault.Tab s) e
-value_fails_or_wants spot bytes (fault.BadEscape s) e = value_fails_here spot bytes (fault.BadEscape s) e
-value_fails_or_wants spot bytes fault.OutOfMemory e = tt
-
--- a bad unit that stands next is no want of memory
-pub word_fails_first : (spot : Spot) (bytes : List ℕ) (f : LexFault) → Some f ≡ next_fault (units_within spot bytes) → FailsStep (word_at (line spot bytes) (others spot bytes)) f
-word_fails_first spot bytes (fault.BadByte s) e = word_fails_at_once spot bytes (fault.BadByte s) e
-word_fails_first spot bytes (fault.Tab s) e = word_fails_at_once spot bytes (fault.Tab s) e
-word_fails_first spot bytes (fault.BadEscape s) e = word_fails_at_once spot bytes (fault.BadEscape s) e
-word_fails_first spot bytes fault.OutOfMemory e = tt
+pub value_fails_or_lacks : (spot : Spot) (bytes : List ℕ) (f : LexFault) → FailsText f (next_fault (behind_text kind.Value (units_within spot bytes))) → FailsStep (value_at (line spot bytes) (others spot bytes)) f
+value_fails_or_lacks spot bytes (lex.Unit f) e = value_fails_here spot bytes f e
+value_fails_or_lacks spot bytes lex.OutOfMemory e = tt

@@ -1,8 +1,10 @@
 -- What each call of the lexer answers, and where it leaves the lexer.
 use Rattle.std.specs.Prelude.{◌≡◌, ℕ, Bool, true, false, ◌&&◌, not, if◌then◌else◌, Option, Some, None, Result, Ok, Err, List, [], ◌∷◌, drop}
 use Rattle.std.specs.List.{take_while, flat_map}
+use Rattle.nj_text.specs.declared.fault.UnitFault.{UnitFault}
+use Rattle.nj_text.specs.declared.fault.UnitFault.TheVariants as fault
 use Rattle.nj_text.specs.declared.fault.LexFault.{LexFault}
-use Rattle.nj_text.specs.declared.fault.LexFault.TheVariants as fault
+use Rattle.nj_text.specs.declared.fault.LexFault.TheVariants as lex
 use Rattle.nj_text.specs.declared.sign.Sign.{Sign}
 use Rattle.nj_text.specs.declared.sign.Sign.TheVariants as sign
 use Rattle.nj_text.specs.declared.sign.LineStart.{LineStart}
@@ -18,21 +20,21 @@ use Rattle.nj_text.specs.Words.{is_blank, behind_opening, in_identifier, opens_w
 pub data State : Type 0 where
   Between : (lines : List Line) → State
   Inside : (line : Line) (lines : List Line) → State
-  Failed : (fault : LexFault) → State
+  Failed : (fault : UnitFault) → State
 
 -- what a call answers, and where it leaves the lexer
 pub record Reply (A : Type 0) : Type 0 where
-  pub answer : Result A LexFault
+  pub answer : Result A UnitFault
   pub after : State
 
 abbrev pub reply : {A : Type 0} → A → State → Reply A
 reply x after = record { answer = Ok x; after = after }
 
-abbrev pub failing : {A : Type 0} → LexFault → Reply A
+abbrev pub failing : {A : Type 0} → UnitFault → Reply A
 failing f = record { answer = Err f; after = Failed f }
 
 -- a fault comes first
-abbrev pub unless_fault : {A : Type 0} → Option LexFault → Reply A → Reply A
+abbrev pub unless_fault : {A : Type 0} → Option UnitFault → Reply A → Reply A
 unless_fault None r = r
 unless_fault (Some f) r = failing f
 
@@ -159,11 +161,10 @@ abbrev pub first_line_spot : List Line → Spot
 first_line_spot [] = first_spot
 first_line_spot (l ∷ ls) = line_spot l
 
-abbrev pub fault_spot : LexFault → Spot
+abbrev pub fault_spot : UnitFault → Spot
 fault_spot (fault.BadByte spot) = spot
 fault_spot (fault.Tab spot) = spot
 fault_spot (fault.BadEscape spot) = spot
-fault_spot fault.OutOfMemory = first_spot
 
 abbrev pub spot_of : State → Spot
 spot_of (Between ls) = first_line_spot ls
@@ -177,16 +178,26 @@ value_of (Failed f) = failing f
 
 -- ---- what a call of the program does
 
+-- an answer as the program's calls hand it out: out of memory is none of these
+abbrev pub handed_out : {A : Type 0} → Result A UnitFault → Result A LexFault
+handed_out (Ok x) = Ok x
+handed_out (Err f) = Err (lex.Unit f)
+
 -- It answers as the definition says, and leaves the lexer where the definition does.
-abbrev pub Answers : {X Y : Type 0} → (X → Y) → Result X LexFault → State → Reply Y → Type 0
+abbrev pub Answers : {X Y : Type 0} → (X → Y) → Result X LexFault → (after : State) → Reply Y → Type 0
 Answers view (Ok x) after expected = (expected.answer ≡ Ok (view x)) × (after ≡ expected.after)
-Answers view (Err f) after expected = (expected.answer ≡ Err f) × (after ≡ expected.after)
+Answers view (Err f) after expected = (handed_out expected.answer ≡ Err f) × (after ≡ expected.after)
 
-abbrev pub FailsOrWants : {Y : Type 0} → LexFault → (before after : State) → Reply Y → Type 0
-FailsOrWants fault.OutOfMemory before after expected = after ≡ before
-FailsOrWants f before after expected = (expected.answer ≡ Err f) × (after ≡ expected.after)
+abbrev pub is_inside : State → Bool
+is_inside (Inside l ls) = true
+is_inside s = false
 
--- The same of a call that takes memory: where memory is refused the lexer stands where it stood.
-abbrev pub AnswersOrWants : {X Y : Type 0} → (X → Y) → Result X LexFault → (before after : State) → Reply Y → Type 0
-AnswersOrWants view (Ok x) before after expected = (expected.answer ≡ Ok (view x)) × (after ≡ expected.after)
-AnswersOrWants view (Err f) before after expected = FailsOrWants f before after expected
+abbrev pub FailsOrLacksMemory : {Y : Type 0} → LexFault → (before after : State) → Reply Y → Type 0
+FailsOrLacksMemory lex.OutOfMemory before after expected = (is_inside before ≡ true) × (after ≡ before)
+FailsOrLacksMemory (lex.Unit f) before after expected = (expected.answer ≡ Err f) × (after ≡ expected.after)
+
+-- The same of a call that takes memory inside a line: out of memory leaves the lexer where it stood. Between lines and
+-- after a fault no memory is taken.
+abbrev pub AnswersOrLacksMemory : {X Y : Type 0} → (X → Y) → Result X LexFault → (before after : State) → Reply Y → Type 0
+AnswersOrLacksMemory view (Ok x) before after expected = (expected.answer ≡ Ok (view x)) × (after ≡ expected.after)
+AnswersOrLacksMemory view (Err f) before after expected = FailsOrLacksMemory f before after expected

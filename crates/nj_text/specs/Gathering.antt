@@ -2,8 +2,9 @@
 use Rattle.std.specs.Prelude.{◌≡◌, ℕ, ◌<◌, Bool, true, false, Option, Some, None, Result, Ok, Err, List, [], ◌∷◌, length, map}
 use Rattle.std.specs.List.{take_while}
 use Rattle.std.specs.Global.{Vec}
+use Rattle.nj_text.specs.declared.fault.UnitFault.{UnitFault}
 use Rattle.nj_text.specs.declared.fault.LexFault.{LexFault}
-use Rattle.nj_text.specs.declared.fault.LexFault.TheVariants as fault
+use Rattle.nj_text.specs.declared.fault.LexFault.TheVariants as lex
 use Rattle.nj_text.specs.declared.cursor.Cursor.{Cursor}
 use Rattle.nj_text.specs.declared.word.Part.{Part}
 use Rattle.nj_text.specs.declared.parts.TextKind.{TextKind}
@@ -62,10 +63,10 @@ abbrev pub NoneInRun : (ℕ → Bool) → List ℕ → Type 0
 NoneInRun p [] = Unit {0}
 NoneInRun p (b ∷ bs) = p b ≡ false
 
--- a whole text, unless memory is refused
-abbrev pub FailsText : LexFault → Option LexFault → Type 0
-FailsText fault.OutOfMemory next = Unit {0}
-FailsText f next = next ≡ Some f
+-- a whole text, or its fault; out of memory says nothing of it
+abbrev pub FailsText : LexFault → Option UnitFault → Type 0
+FailsText lex.OutOfMemory next = Unit {0}
+FailsText (lex.Unit f) next = next ≡ Some f
 
 abbrev pub Gathers : TextKind → List TextUnit → Result (Vec Part × Cursor) LexFault → Type 0
 Gathers kind us (Ok r) = (map part_text r.0.items ≡ gathered kind us) × (units_at r.1 ≡ behind_text kind us) × (next_fault (behind_text kind us) ≡ None)

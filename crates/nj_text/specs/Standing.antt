@@ -3,8 +3,9 @@ use Rattle.std.specs.Prelude.{◌≡◌, ℕ, Bool, true, false, Option, Some, N
 use Rattle.std.specs.List.{AllByRecursion}
 use Rattle.nj_text.specs.declared.spot.Spot.{Spot}
 use Rattle.nj_text.specs.declared.cursor.Cursor.{Cursor}
+use Rattle.nj_text.specs.declared.fault.UnitFault.{UnitFault}
 use Rattle.nj_text.specs.declared.fault.LexFault.{LexFault}
-use Rattle.nj_text.specs.declared.fault.LexFault.TheVariants as fault
+use Rattle.nj_text.specs.declared.fault.LexFault.TheVariants as lex
 use Rattle.nj_text.specs.declared.signs.SignTaken.{SignTaken}
 use Rattle.nj_text.specs.declared.signs.SignTaken.TheVariants as taken
 use Rattle.nj_text.specs.declared.word.Word.{Word}
@@ -74,18 +75,18 @@ EndsLine c (Some after) =
     × (lines_behind (first_line (lines_within c.spot c.rest.now)) (other_lines (lines_within c.spot c.rest.now)) ≡ lines_from after.spot after.rest.now)
 
 -- what a call within a line answers, and where it leaves the lexer
-abbrev pub Steps : {X Y : Type 0} → (X → Y) → Reply Y → Result (X × Cursor) LexFault → Type 0
+abbrev pub Steps : {X Y : Type 0} → (X → Y) → Reply Y → Result (X × Cursor) UnitFault → Type 0
 Steps view expected (Ok step) = expected ≡ reply (view step.0) (inside (lines_within step.1.spot step.1.rest.now))
 Steps view expected (Err f) = expected ≡ failing f
 
 -- the same of a call that takes memory
 abbrev pub FailsStep : {Y : Type 0} → Reply Y → LexFault → Type 0
-FailsStep expected fault.OutOfMemory = Unit {0}
-FailsStep expected f = expected ≡ failing f
+FailsStep expected lex.OutOfMemory = Unit {0}
+FailsStep expected (lex.Unit f) = expected ≡ failing f
 
-abbrev pub StepsOrWants : {X Y : Type 0} → (X → Y) → Reply Y → Result (X × Cursor) LexFault → Type 0
-StepsOrWants view expected (Ok step) = expected ≡ reply (view step.0) (inside (lines_within step.1.spot step.1.rest.now))
-StepsOrWants view expected (Err f) = FailsStep expected f
+abbrev pub StepsOrLacksMemory : {X Y : Type 0} → (X → Y) → Reply Y → Result (X × Cursor) LexFault → Type 0
+StepsOrLacksMemory view expected (Ok step) = expected ≡ reply (view step.0) (inside (lines_within step.1.spot step.1.rest.now))
+StepsOrLacksMemory view expected (Err f) = FailsStep expected f
 
 -- the line that stands at a cursor, and the lines behind it
 abbrev pub line_at : Cursor → Line
@@ -103,8 +104,8 @@ SignIs expected (taken.Fault f) = expected ≡ failing f
 
 -- what became of a value that was read in a line
 abbrev pub SettlesFault : LexFault → (old new : State) → Result Word LexFault → Type 0
-SettlesFault fault.OutOfMemory old new result = (result ≡ Err fault.OutOfMemory) × (new ≡ old)
-SettlesFault f old new result = (result ≡ Err f) × (new ≡ Failed f)
+SettlesFault lex.OutOfMemory old new result = (result ≡ Err lex.OutOfMemory) × (new ≡ old)
+SettlesFault (lex.Unit f) old new result = (result ≡ Err (lex.Unit f)) × (new ≡ Failed f)
 
 abbrev pub Settles : Result (Word × Cursor) LexFault → (old new : State) → Result Word LexFault → Type 0
 Settles (Ok step) old new result = (result ≡ Ok step.0) × (new ≡ inside (lines_within step.1.spot step.1.rest.now))

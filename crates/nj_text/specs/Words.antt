@@ -1,7 +1,7 @@
 -- Identifiers, words and values: what the units of a line say.
 use Rattle.std.specs.Prelude.{ℕ, Bool, true, false, ◌==◌, if◌then◌else◌, Option, Some, None, List, [], ◌∷◌, map}
-use Rattle.nj_text.specs.declared.fault.LexFault.{LexFault}
-use Rattle.nj_text.specs.declared.fault.LexFault.TheVariants as fault
+use Rattle.nj_text.specs.declared.fault.UnitFault.{UnitFault}
+use Rattle.nj_text.specs.declared.fault.UnitFault.TheVariants as fault
 use Rattle.nj_text.specs.declared.spot.Spot.{Spot}
 use Rattle.nj_text.specs.declared.word.Part.{Part}
 use Rattle.nj_text.specs.declared.word.Part.TheVariants as part
@@ -56,26 +56,26 @@ begins_with_byte b (u ∷ us) = is_ordinary_in (λ c. c == b) u.means
 
 -- ---- bad units
 
-abbrev pub fault_of_meaning : Meaning → Spot → Option LexFault
+abbrev pub fault_of_meaning : Meaning → Spot → Option UnitFault
 fault_of_meaning BadByte spot = Some (fault.BadByte spot)
 fault_of_meaning BadEscape spot = Some (fault.BadEscape spot)
 fault_of_meaning LeadingTab spot = Some (fault.Tab spot)
 fault_of_meaning m spot = None
 
-abbrev pub fault_of : TextUnit → Option LexFault
+abbrev pub fault_of : TextUnit → Option UnitFault
 fault_of u = fault_of_meaning u.means u.spot
 
 -- the fault of the first of the units, where it is a bad one
-abbrev pub next_fault : List TextUnit → Option LexFault
+abbrev pub next_fault : List TextUnit → Option UnitFault
 next_fault [] = None
 next_fault (u ∷ us) = fault_of u
 
-abbrev pub or_else : Option LexFault → Option LexFault → Option LexFault
+abbrev pub or_else : Option UnitFault → Option UnitFault → Option UnitFault
 or_else None other = other
 or_else (Some f) other = Some f
 
 -- the fault of the first bad unit among them
-abbrev pub first_fault : List TextUnit → Option LexFault
+abbrev pub first_fault : List TextUnit → Option UnitFault
 first_fault [] = None
 first_fault (u ∷ us) = or_else (fault_of u) (first_fault us)
 

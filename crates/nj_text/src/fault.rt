@@ -1,36 +1,50 @@
 //! Why a text could not be read on.
 
 ghost use Rattle.std.specs.Prelude.{◌≡◌};
-ghost use Rattle.nj_text.specs.declared.fault.LexFault.TheVariants.{OutOfMemory};
+ghost use Rattle.nj_text.specs.declared.fault.LexFault.TheVariants.{Unit as BadUnit, OutOfMemory};
 ghost use Rattle.nj_text.specs.Calls.{fault_spot};
 
 use crate::spot::Spot;
 use std::alloc::{AllocError, AllocFailed};
 
-/// Why a text could not be read on.
+/// A unit that no line goes on after, with the place of its first byte.
 #[derive(Clone, Copy, Debug, PartialEq, Eq)]
-pub enum LexFault {
+pub enum UnitFault {
     /// A NUL, or a carriage return that no line feed follows, outside comments.
     BadByte(Spot),
     /// A tab as the first byte after a line's leading spaces.
     Tab(Spot),
     /// A `$` that begins neither a join, nor an escape, nor a reference.
     BadEscape(Spot),
-    /// Memory was refused.
-    OutOfMemory,
 }
 
-impl LexFault {
-    /// The place of the fault; want of memory has the first place.
+impl UnitFault {
+    /// The place of the unit's first byte.
     pub fn spot(self) -> Spot
         ensures { result ≡ fault_spot self }
     {
         match self {
-            LexFault::BadByte(spot) => spot,
-            LexFault::Tab(spot) => spot,
-            LexFault::BadEscape(spot) => spot,
-            LexFault::OutOfMemory => Spot { line: 1, column: 1 },
+            UnitFault::BadByte(spot) => spot,
+            UnitFault::Tab(spot) => spot,
+            UnitFault::BadEscape(spot) => spot,
         }
+    }
+}
+
+/// Why a text could not be read on.
+#[derive(Clone, Copy, Debug, PartialEq, Eq)]
+pub enum LexFault {
+    /// A bad unit of the text.
+    Unit(UnitFault),
+    /// Out of memory, which has no place in the text.
+    OutOfMemory,
+}
+
+impl From<UnitFault> for LexFault {
+    ghost from_gives = { λ f e. e ≡ BadUnit f };
+
+    fn from(fault: UnitFault) -> LexFault {
+        LexFault::Unit(fault)
     }
 }
 

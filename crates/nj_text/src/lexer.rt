@@ -3,12 +3,13 @@
 ghost use Rattle.std.specs.Prelude.{◌≡◌, List, ℕ};
 ghost use Rattle.std.specs.Option.{option_map};
 ghost use Rattle.nj_text.specs.Words.{word_text};
-ghost use Rattle.nj_text.specs.Calls.{Answers, AnswersOrWants, at_front, start_line_of, ident_of, sign_of, path_word_of, value_of, spot_of, skip_blanks_of, Failed};
+ghost use Rattle.nj_text.specs.Calls.{Answers, AnswersOrLacksMemory, at_front, start_line_of, ident_of, sign_of, path_word_of, value_of, spot_of, skip_blanks_of, Failed};
 ghost use Rattle.nj_text.specs.Standing.{Settles};
+ghost use Rattle.nj_text.specs.declared.fault.LexFault.TheVariants.{Unit as BadUnit};
 
 use crate::blanks::skip_blanks;
 use crate::cursor::Cursor;
-use crate::fault::LexFault;
+use crate::fault::{LexFault, UnitFault};
 use crate::sign::{LineStart, Sign};
 use crate::signs::{SignTaken, take_sign};
 use crate::spot::Spot;
@@ -22,8 +23,8 @@ use std::marker::Model;
 /// Reads a text line by line ("Lexical syntax" in the Ninja manual).
 ///
 /// Each line is begun by [`Lexer::start_line`] and ended by [`Lexer::sign`] with [`Sign::LineEnd`]. A bad unit is
-/// answered by the call that meets it, and by every call but [`Lexer::spot`] from then on. A call that was refused
-/// memory leaves the lexer where it stood.
+/// answered by the call that meets it, and by every call but [`Lexer::spot`] from then on. A call that answers out of
+/// memory leaves the lexer where it stood; only [`Lexer::path_word`] and [`Lexer::value`] do, inside a line.
 #[derive(Drop)]
 pub struct Lexer<'a> {
     cursor: Cursor<'a>,
@@ -55,12 +56,12 @@ impl<'a> Lexer<'a> {
     /// At the end of the text the answer is [`LineStart::End`], and inside a line [`LineStart::Middle`].
     ///
     /// # Errors
-    /// [`LexFault::Tab`] where a tab is the first byte behind the line's leading spaces.
+    /// [`UnitFault::Tab`] where a tab is the first byte behind the line's leading spaces.
     pub fn start_line(&mut self) -> Result<LineStart, LexFault>
         ensures { Answers (λ start. start) result self.new (start_line_of self.old) }
     {
         match self.stand {
-            Stand::Failed(fault) => Err(fault),
+            Stand::Failed(fault) => Err(LexFault::Unit(fault)),
             Stand::Opening(_, _) => Ok(LineStart::Middle),
             Stand::Inside => Ok(LineStart::Middle),
             Stand::Between => match begin_line(self.cursor) {
@@ -75,12 +76,12 @@ impl<'a> Lexer<'a> {
     }
 
     /// Stands at a fault from now on.
-    fn fail(&mut self, fault: LexFault) -> LexFault
-        ensures fault { result ≡ fault }
+    fn fail(&mut self, fault: UnitFault) -> LexFault
+        ensures fault { result ≡ BadUnit fault }
         ensures failed { self.new ≡ Failed fault }
     {
         self.stand = Stand::Failed(fault);
-        fault
+        LexFault::Unit(fault)
     }
 
     /// Passes blanks, so that [`Lexer::spot`] gives the place of what stands behind them. Between lines nothing is passed.
@@ -103,7 +104,7 @@ impl<'a> Lexer<'a> {
         ensures { Answers (option_map (λ bytes. bytes.now)) result self.new (ident_of self.old) }
     {
         match self.stand {
-            Stand::Failed(fault) => Err(fault),
+            Stand::Failed(fault) => Err(LexFault::Unit(fault)),
             Stand::Between => Ok(None),
             Stand::Opening(_, _) => Ok(None),
             Stand::Inside => match identifier(self.cursor) {
@@ -125,7 +126,7 @@ impl<'a> Lexer<'a> {
         ensures { Answers (λ there. there) result self.new (sign_of want self.old) }
     {
         match self.stand {
-            Stand::Failed(fault) => Err(fault),
+            Stand::Failed(fault) => Err(LexFault::Unit(fault)),
             Stand::Between => Ok(false),
             Stand::Opening(_, _) => Ok(false),
             Stand::Inside => match take_sign(want, self.cursor) {
@@ -153,19 +154,20 @@ impl<'a> Lexer<'a> {
     /// The fault of a bad unit that stands next, or of the first one before the word is closed;
     /// [`LexFault::OutOfMemory`], which leaves the lexer where it stood.
     pub fn path_word(&mut self, alloc: Global) -> Result<Option<Word<'a>>, LexFault>
-        ensures { AnswersOrWants (option_map word_text) result self.old self.new (path_word_of self.old) }
+        ensures { AnswersOrLacksMemory (option_map word_text) result self.old self.new (path_word_of self.old) }
     {
+        let start = self.cursor;
         match self.stand {
-            Stand::Failed(fault) => Err(fault),
+            Stand::Failed(fault) => Err(LexFault::Unit(fault)),
             Stand::Between => Ok(None),
             Stand::Opening(_, _) => Ok(None),
-            Stand::Inside => match word(alloc, self.cursor) {
+            Stand::Inside => match word(alloc, start) {
                 Ok((found, after)) => {
                     self.cursor = after;
                     Ok(found)
                 }
                 Err(LexFault::OutOfMemory) => Err(LexFault::OutOfMemory),
-                Err(fault) => Err(self.fail(fault)),
+                Err(LexFault::Unit(fault)) => Err(self.fail(fault)),
             },
         }
     }
@@ -175,11 +177,11 @@ impl<'a> Lexer<'a> {
     /// # Errors
     /// The fault of the first bad unit of the line; [`LexFault::OutOfMemory`], which leaves the lexer where it stood.
     pub fn value(&mut self, alloc: Global) -> Result<Word<'a>, LexFault>
-        ensures { AnswersOrWants word_text result self.old self.new (value_of self.old) }
+        ensures { AnswersOrLacksMemory word_text result self.old self.new (value_of self.old) }
     {
         let cursor = self.cursor;
         match self.stand {
-            Stand::Failed(fault) => Err(fault),
+            Stand::Failed(fault) => Err(LexFault::Unit(fault)),
             Stand::Between => {
                 let spot = cursor.spot;
                 let parts = Vec::new(alloc);
@@ -204,7 +206,7 @@ impl<'a> Lexer<'a> {
                 Ok(found)
             }
             Err(LexFault::OutOfMemory) => Err(LexFault::OutOfMemory),
-            Err(fault) => Err(self.fail(fault)),
+            Err(LexFault::Unit(fault)) => Err(self.fail(fault)),
         }
     }
 

@@ -7,7 +7,7 @@ ghost use Rattle.nj_text.specs.Calls.{begins_word};
 ghost use Rattle.nj_text.specs.Gathering.{run_of, Gathers, PieceIs, NoneInRun, IsShorter};
 
 use crate::cursor::Cursor;
-use crate::fault::LexFault;
+use crate::fault::{LexFault, UnitFault};
 use crate::next::{Next, next_unit};
 use crate::runs::{Run, is_in};
 use crate::word::Part;
@@ -32,7 +32,7 @@ pub enum Piece<'a> {
     /// Nothing that belongs to it.
     End,
     /// A unit at which no text goes on.
-    Bad(LexFault),
+    Bad(UnitFault),
 }
 
 impl TextKind {
@@ -56,8 +56,8 @@ fn special_piece(kind: TextKind, cursor: Cursor<'_>) -> Piece<'_>
         Next::Join(length, spaces) => Piece::Join(cursor.on_next_line(length - spaces, spaces)),
         Next::Escape(byte) => Piece::Part(Part::Bytes(byte), cursor.along(2)),
         Next::Reference(name, length) => Piece::Part(Part::Name(name), cursor.along(length)),
-        Next::BadByte => Piece::Bad(LexFault::BadByte(cursor.spot)),
-        Next::BadEscape => Piece::Bad(LexFault::BadEscape(cursor.spot)),
+        Next::BadByte => Piece::Bad(UnitFault::BadByte(cursor.spot)),
+        Next::BadEscape => Piece::Bad(UnitFault::BadEscape(cursor.spot)),
         Next::End => Piece::End,
         Next::Ordinary(_) => Piece::End,
         Next::LineEnd(_) => Piece::End,
@@ -94,7 +94,7 @@ pub fn gather<'a>(
             }
             Piece::Join(after) => cursor = after,
             Piece::End => return Ok((parts, cursor)),
-            Piece::Bad(fault) => return Err(fault),
+            Piece::Bad(fault) => return Err(LexFault::Unit(fault)),
         }
     }
 }

@@ -10,18 +10,18 @@ ghost use Rattle.nj_text.specs.Standing.{EndsLine, SignIs, line_at, lines_after}
 
 use crate::blanks::skip_blanks;
 use crate::cursor::Cursor;
-use crate::fault::LexFault;
+use crate::fault::UnitFault;
 use crate::next::{Next, next_unit};
 use crate::runs::first_byte;
 use crate::sign::Sign;
 
 /// The fault of the unit that stands next, where it is a bad one.
-pub fn bad_unit(cursor: Cursor<'_>) -> Option<LexFault>
+pub fn bad_unit(cursor: Cursor<'_>) -> Option<UnitFault>
     ensures { result ≡ next_fault (units_within cursor.entry.spot cursor.entry.rest.now) }
 {
     match next_unit(cursor.rest) {
-        Next::BadByte => Some(LexFault::BadByte(cursor.spot)),
-        Next::BadEscape => Some(LexFault::BadEscape(cursor.spot)),
+        Next::BadByte => Some(UnitFault::BadByte(cursor.spot)),
+        Next::BadEscape => Some(UnitFault::BadEscape(cursor.spot)),
         Next::End => None,
         Next::Ordinary(_) => None,
         Next::Join(_, _) => None,
@@ -87,7 +87,7 @@ pub enum SignTaken<'a> {
     /// It ended the line, and the next one begins here.
     LineEnd(Cursor<'a>),
     /// A bad unit stands behind the blanks.
-    Fault(LexFault),
+    Fault(UnitFault),
 }
 
 /// Takes the line end that stands next, if one does.

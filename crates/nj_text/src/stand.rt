@@ -1,6 +1,6 @@
 //! Where a lexer stands.
 
-use crate::fault::LexFault;
+use crate::fault::UnitFault;
 use crate::spot::Spot;
 
 /// Where a lexer stands.
@@ -13,5 +13,5 @@ pub enum Stand<'a> {
     /// In a line.
     Inside,
     /// At a fault, for good.
-    Failed(LexFault),
+    Failed(UnitFault),
 }

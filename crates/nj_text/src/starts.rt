@@ -7,7 +7,7 @@ ghost use Rattle.nj_text.specs.Calls.{without_comments};
 ghost use Rattle.nj_text.specs.Standing.{lines_at, BegunIs, BegunBehindSpaces};
 
 use crate::cursor::Cursor;
-use crate::fault::LexFault;
+use crate::fault::UnitFault;
 use crate::next::{Next, next_unit};
 use crate::runs::{Run, first_byte};
 use crate::sign::LineStart;
@@ -19,7 +19,7 @@ pub enum Begun<'a> {
     /// In this way, which leads here.
     As(LineStart, Stand<'a>, Cursor<'a>),
     /// With a fault.
-    Fault(LexFault),
+    Fault(UnitFault),
 }
 
 /// Behind the comment that stands next, and its line end; None where none does.
@@ -58,7 +58,7 @@ fn begin_at_once(cursor: Cursor<'_>) -> Begun<'_>
         }
         Next::Ordinary(byte) => {
             if byte == b'\t' {
-                return Begun::Fault(LexFault::Tab(cursor.spot));
+                return Begun::Fault(UnitFault::Tab(cursor.spot));
             }
             Begun::As(LineStart::Plain, Stand::Inside, cursor)
         }
@@ -82,7 +82,7 @@ fn begin_behind_spaces(cursor: Cursor<'_>) -> Begun<'_>
         }
         Next::Ordinary(byte) => {
             if byte == b'\t' {
-                return Begun::Fault(LexFault::Tab(cursor.spot));
+                return Begun::Fault(UnitFault::Tab(cursor.spot));
             }
             Begun::As(LineStart::Indented, Stand::Inside, cursor)
         }

@@ -16,17 +16,18 @@ enum Step<'a> {
     Value(Result<Text<'a>, LexFault>),
     Spot(Spot),
     /// Each call answers this, over and over.
-    Stays(LexFault),
+    Stays(UnitFault),
 }
 
-fn stays(rt: &impl Abort, alloc: Global, lexer: &mut Lexer<'_>, fault: LexFault) {
+fn stays(rt: &impl Abort, alloc: Global, lexer: &mut Lexer<'_>, unit: UnitFault) {
+    let fault = LexFault::Unit(unit);
     for _ in 0..2 {
         assert_eq!(rt; lexer.start_line(), Err(fault));
         assert_eq!(rt; lexer.ident(), Err(fault));
         assert_eq!(rt; lexer.sign(Sign::LineEnd), Err(fault));
         assert_eq!(rt; lexer.path_word(alloc).err(), Some(fault));
         assert_eq!(rt; lexer.value(alloc).err(), Some(fault));
-        assert_eq!(rt; lexer.spot(), fault.spot());
+        assert_eq!(rt; lexer.spot(), unit.spot());
     }
 }
 
@@ -486,7 +487,7 @@ fn last_line_of_spaces(rt: HostRuntime) {
 #[test]
 fn bad_escapes_in_a_value(rt: HostRuntime) {
     let alloc = rt.alloc();
-    let fault = LexFault::BadEscape(spot(1, 5));
+    let fault = UnitFault::BadEscape(spot(1, 5));
     follow(
         &rt,
         alloc,
@@ -495,11 +496,11 @@ fn bad_escapes_in_a_value(rt: HostRuntime) {
             PLAIN,
             ident(b"x"),
             takes(Sign::Equals),
-            Step::Value(Err(fault)),
+            Step::Value(Err(LexFault::Unit(fault))),
             Step::Stays(fault),
         ],
     );
-    let fault = LexFault::BadEscape(spot(1, 5));
+    let fault = UnitFault::BadEscape(spot(1, 5));
     follow(
         &rt,
         alloc,
@@ -508,7 +509,7 @@ fn bad_escapes_in_a_value(rt: HostRuntime) {
             PLAIN,
             ident(b"x"),
             takes(Sign::Equals),
-            Step::Value(Err(fault)),
+            Step::Value(Err(LexFault::Unit(fault))),
             Step::Stays(fault),
         ],
     );
@@ -517,7 +518,7 @@ fn bad_escapes_in_a_value(rt: HostRuntime) {
 #[test]
 fn bad_byte_in_a_value(rt: HostRuntime) {
     let alloc = rt.alloc();
-    let fault = LexFault::BadByte(spot(1, 8));
+    let fault = UnitFault::BadByte(spot(1, 8));
     follow(
         &rt,
         alloc,
@@ -526,7 +527,7 @@ fn bad_byte_in_a_value(rt: HostRuntime) {
             PLAIN,
             ident(b"x"),
             takes(Sign::Equals),
-            Step::Value(Err(fault)),
+            Step::Value(Err(LexFault::Unit(fault))),
             Step::Stays(fault),
         ],
     );
@@ -535,7 +536,7 @@ fn bad_byte_in_a_value(rt: HostRuntime) {
 #[test]
 fn tabs(rt: HostRuntime) {
     let alloc = rt.alloc();
-    let fault = LexFault::Tab(spot(2, 1));
+    let fault = UnitFault::Tab(spot(2, 1));
     follow(
         &rt,
         alloc,
@@ -545,11 +546,11 @@ fn tabs(rt: HostRuntime) {
             ident(b"rule"),
             ident(b"r"),
             takes(Sign::LineEnd),
-            Step::Start(Err(fault)),
+            Step::Start(Err(LexFault::Unit(fault))),
             Step::Stays(fault),
         ],
     );
-    let fault = LexFault::Tab(spot(2, 3));
+    let fault = UnitFault::Tab(spot(2, 3));
     follow(
         &rt,
         alloc,
@@ -558,7 +559,7 @@ fn tabs(rt: HostRuntime) {
             PLAIN,
             ident(b"r"),
             takes(Sign::LineEnd),
-            Step::Start(Err(fault)),
+            Step::Start(Err(LexFault::Unit(fault))),
             Step::Stays(fault),
         ],
     );
@@ -567,7 +568,7 @@ fn tabs(rt: HostRuntime) {
 #[test]
 fn bad_escape_in_a_word(rt: HostRuntime) {
     let alloc = rt.alloc();
-    let fault = LexFault::BadEscape(spot(2, 4));
+    let fault = UnitFault::BadEscape(spot(2, 4));
     follow(
         &rt,
         alloc,
@@ -576,7 +577,7 @@ fn bad_escape_in_a_word(rt: HostRuntime) {
             PLAIN,
             ident(b"build"),
             word(1, 7, &[Bytes(b"o")]),
-            Step::Word(Err(fault)),
+            Step::Word(Err(LexFault::Unit(fault))),
             Step::Stays(fault),
         ],
     );
@@ -585,7 +586,7 @@ fn bad_escape_in_a_word(rt: HostRuntime) {
 #[test]
 fn bad_bytes(rt: HostRuntime) {
     let alloc = rt.alloc();
-    let fault = LexFault::BadByte(spot(1, 9));
+    let fault = UnitFault::BadByte(spot(1, 9));
     follow(
         &rt,
         alloc,
@@ -594,11 +595,11 @@ fn bad_bytes(rt: HostRuntime) {
             PLAIN,
             ident(b"build"),
             word(1, 7, &[Bytes(b"o")]),
-            Step::Word(Err(fault)),
+            Step::Word(Err(LexFault::Unit(fault))),
             Step::Stays(fault),
         ],
     );
-    let fault = LexFault::BadByte(spot(1, 3));
+    let fault = UnitFault::BadByte(spot(1, 3));
     follow(
         &rt,
         alloc,
@@ -606,7 +607,7 @@ fn bad_bytes(rt: HostRuntime) {
         &[
             PLAIN,
             ident(b"x"),
-            Step::Ident(Err(fault)),
+            Step::Ident(Err(LexFault::Unit(fault))),
             Step::Stays(fault),
         ],
     );
@@ -615,7 +616,7 @@ fn bad_bytes(rt: HostRuntime) {
 #[test]
 fn open_references(rt: HostRuntime) {
     let alloc = rt.alloc();
-    let fault = LexFault::BadEscape(spot(1, 3));
+    let fault = UnitFault::BadEscape(spot(1, 3));
     follow(
         &rt,
         alloc,
@@ -623,11 +624,11 @@ fn open_references(rt: HostRuntime) {
         &[
             PLAIN,
             ident(b"x"),
-            Step::Sign(Sign::Colon, Err(fault)),
+            Step::Sign(Sign::Colon, Err(LexFault::Unit(fault))),
             Step::Stays(fault),
         ],
     );
-    let fault = LexFault::BadEscape(spot(1, 2));
+    let fault = UnitFault::BadEscape(spot(1, 2));
     follow(
         &rt,
         alloc,
@@ -635,7 +636,7 @@ fn open_references(rt: HostRuntime) {
         &[
             PLAIN,
             ident(b"x"),
-            Step::Sign(Sign::LineEnd, Err(fault)),
+            Step::Sign(Sign::LineEnd, Err(LexFault::Unit(fault))),
             Step::Stays(fault),
         ],
     );

@@ -4,11 +4,11 @@ ghost use Rattle.std.specs.Prelude.{◌≡◌};
 ghost use Rattle.std.specs.Option.{option_map};
 ghost use Rattle.nj_text.specs.Words.{word_text};
 ghost use Rattle.nj_text.specs.Calls.{behind_blanks, ident_at, word_at, value_at};
-ghost use Rattle.nj_text.specs.Standing.{Steps, StepsOrWants, line_at, lines_after};
+ghost use Rattle.nj_text.specs.Standing.{Steps, StepsOrLacksMemory, line_at, lines_after};
 
 use crate::blanks::skip_blanks;
 use crate::cursor::Cursor;
-use crate::fault::LexFault;
+use crate::fault::{LexFault, UnitFault};
 use crate::parts::{TextKind, begins_word, gather};
 use crate::runs::Run;
 use crate::signs::bad_unit;
@@ -16,7 +16,7 @@ use crate::word::Word;
 use std::alloc::Global;
 
 /// The identifier behind the blanks, if one stands there.
-pub fn identifier(start: Cursor<'_>) -> Result<(Option<&[u8]>, Cursor<'_>), LexFault>
+pub fn identifier(start: Cursor<'_>) -> Result<(Option<&[u8]>, Cursor<'_>), UnitFault>
     ensures { Steps (option_map (λ bytes. bytes.now)) (ident_at (behind_blanks (line_at start.entry)) (lines_after start.entry)) result }
 {
     let cursor = skip_blanks(start);
@@ -35,11 +35,11 @@ pub fn word<'a>(
     alloc: Global,
     start: Cursor<'a>,
 ) -> Result<(Option<Word<'a>>, Cursor<'a>), LexFault>
-    ensures { StepsOrWants (option_map word_text) (word_at (behind_blanks (line_at start.entry)) (lines_after start.entry)) result }
+    ensures { StepsOrLacksMemory (option_map word_text) (word_at (behind_blanks (line_at start.entry)) (lines_after start.entry)) result }
 {
     let cursor = skip_blanks(start);
     if let Some(fault) = bad_unit(cursor) {
-        return Err(fault);
+        return Err(LexFault::Unit(fault));
     }
     if !begins_word(cursor) {
         return Ok((None, cursor));
@@ -53,7 +53,7 @@ pub fn word<'a>(
 
 /// The value behind the blanks, which goes up to the line's end.
 pub fn value<'a>(alloc: Global, start: Cursor<'a>) -> Result<(Word<'a>, Cursor<'a>), LexFault>
-    ensures { StepsOrWants word_text (value_at (behind_blanks (line_at start.entry)) (lines_after start.entry)) result }
+    ensures { StepsOrLacksMemory word_text (value_at (behind_blanks (line_at start.entry)) (lines_after start.entry)) result }
 {
     let cursor = skip_blanks(start);
     let spot = cursor.spot;

@@ -1,5 +1,5 @@
 use Rattle.std.proofs.Common.{refl}
-use Rattle.nj_text.specs.declared.fault.LexFault.TheVariants as fault
+use Rattle.nj_text.specs.declared.fault.UnitFault.TheVariants as fault
 use Rattle.nj_text.specs.Units.{BadByte, BadEscape}
 use Rattle.nj_text.proofs.Bridges.{fault_badly, fault_at_end}
 use Rattle.nj_text.proofs.signs.bad_unit.Goals as goal

@@ -2,7 +2,7 @@ use Rattle.std.proofs.Common.{sym, subst, ◌∙◌, map}
 use Rattle.nj_text.specs.Calls.{value_at}
 use Rattle.nj_text.specs.Standing.{FailsStep}
 use Rattle.nj_text.specs.Words.{part_text}
-use Rattle.nj_text.proofs.Steps.{at_cursor, value_is_here, value_fails_or_wants}
+use Rattle.nj_text.proofs.Steps.{at_cursor, value_is_here, value_fails_or_lacks}
 use Rattle.nj_text.proofs.words.value.Goals as goal
 
 pub returns-in-Ok : goal.returns-in-Ok
@@ -18,4 +18,4 @@ returns-in-Err c =
     let start = c.args.start in
     let here = c.skip_blanks-cursor.result in
     subst (λ r. FailsStep r c.in-Err.fault) (sym (at_cursor value_at start.spot here.spot start.rest.now here.rest.now c.skip_blanks-cursor.ensures))
-    (value_fails_or_wants here.spot here.rest.now c.in-Err.fault c.in-Err.ensures)
+    (value_fails_or_lacks here.spot here.rest.now c.in-Err.fault c.in-Err.ensures)

@@ -2,15 +2,14 @@ use Rattle.std.proofs.Common.{sym, subst, ◌∙◌, map}
 use Rattle.nj_text.specs.Calls.{word_at}
 use Rattle.nj_text.specs.Standing.{FailsStep}
 use Rattle.nj_text.specs.Words.{part_text}
-use Rattle.nj_text.proofs.Steps.{at_cursor, word_fails_first, no_word_here, word_is_here, word_fails_or_wants}
+use Rattle.nj_text.proofs.Steps.{at_cursor, word_fails_at_once, no_word_here, word_is_here, word_fails_or_lacks}
 use Rattle.nj_text.proofs.words.word.Goals as goal
 
 pub returns-in-Some : goal.returns-in-Some
 returns-in-Some c =
     let start = c.args.start in
     let here = c.skip_blanks-cursor.result in
-    subst (λ r. FailsStep r c.in-Some.fault) (sym (at_cursor word_at start.spot here.spot start.rest.now here.rest.now c.skip_blanks-cursor.ensures))
-    (word_fails_first here.spot here.rest.now c.in-Some.fault c.in-Some.ensures)
+    at_cursor word_at start.spot here.spot start.rest.now here.rest.now c.skip_blanks-cursor.ensures ∙ word_fails_at_once here.spot here.rest.now c.in-Some.fault c.in-Some.ensures
 
 pub returns-then-not-begins_word : goal.returns-then-not-begins_word
 returns-then-not-begins_word c =
@@ -32,4 +31,4 @@ returns-in-Err c =
     let start = c.args.start in
     let here = c.skip_blanks-cursor.result in
     subst (λ r. FailsStep r c.in-Err.fault) (sym (at_cursor word_at start.spot here.spot start.rest.now here.rest.now c.skip_blanks-cursor.ensures))
-    (word_fails_or_wants here.spot here.rest.now c.in-Err.fault c.in_default.ensures (sym c.begins_word.ensures ∙ c.if-not-begins_word.false) c.in-Err.ensures)
+    (word_fails_or_lacks here.spot here.rest.now c.in-Err.fault c.in_default.ensures (sym c.begins_word.ensures ∙ c.if-not-begins_word.false) c.in-Err.ensures)
