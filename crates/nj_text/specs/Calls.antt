@@ -178,26 +178,25 @@ value_of (Failed f) = failing f
 
 -- ---- what a call of the program does
 
--- an answer as the program's calls hand it out: out of memory is none of these
-abbrev pub handed_out : {A : Type 0} → Result A UnitFault → Result A LexFault
-handed_out (Ok x) = Ok x
-handed_out (Err f) = Err (lex.Unit f)
+-- It fails with the fault of the definition, and leaves the lexer where the definition does; never out of memory.
+abbrev pub Fails : {Y : Type 0} → LexFault → (after : State) → Reply Y → Type 0
+Fails (lex.Unit f) after expected = (expected.answer ≡ Err f) × (after ≡ expected.after)
+Fails lex.OutOfMemory after expected = ⊥
 
 -- It answers as the definition says, and leaves the lexer where the definition does.
 abbrev pub Answers : {X Y : Type 0} → (X → Y) → Result X LexFault → (after : State) → Reply Y → Type 0
 Answers view (Ok x) after expected = (expected.answer ≡ Ok (view x)) × (after ≡ expected.after)
-Answers view (Err f) after expected = (handed_out expected.answer ≡ Err f) × (after ≡ expected.after)
+Answers view (Err f) after expected = Fails f after expected
 
 abbrev pub is_inside : State → Bool
 is_inside (Inside l ls) = true
 is_inside s = false
 
 abbrev pub FailsOrLacksMemory : {Y : Type 0} → LexFault → (before after : State) → Reply Y → Type 0
-FailsOrLacksMemory lex.OutOfMemory before after expected = (is_inside before ≡ true) × (after ≡ before)
 FailsOrLacksMemory (lex.Unit f) before after expected = (expected.answer ≡ Err f) × (after ≡ expected.after)
+FailsOrLacksMemory lex.OutOfMemory before after expected = (is_inside before ≡ true) × (after ≡ before)
 
--- The same of a call that takes memory inside a line: out of memory leaves the lexer where it stood. Between lines and
--- after a fault no memory is taken.
+-- The same of a call that takes memory, which it does inside a line only: out of memory leaves the lexer where it stood.
 abbrev pub AnswersOrLacksMemory : {X Y : Type 0} → (X → Y) → Result X LexFault → (before after : State) → Reply Y → Type 0
 AnswersOrLacksMemory view (Ok x) before after expected = (expected.answer ≡ Ok (view x)) × (after ≡ expected.after)
 AnswersOrLacksMemory view (Err f) before after expected = FailsOrLacksMemory f before after expected
