@@ -2,6 +2,7 @@
 use Rattle.std.proofs.Common.{◌≡◌, ℕ, suc, ◌+◌, ◌<◌, ◌≤◌, Bool, true, false, cond, ◌&&◌, Result, Ok, Err, List, [], ◌∷◌, ◌++◌, refl, sym, ap, subst, ◌∙◌, append_assoc, arith}
 use Rattle.std.proofs.lemmas.List.{append-nil}
 use Rattle.std.specs.Result.{IsErr, IsErrAnd}
+use Rattle.nj_text.specs.declared.fault.UnitFault.{UnitFault}
 use Rattle.nj_text.specs.declared.fault.LexFault.{LexFault}
 use Rattle.nj_text.specs.declared.fault.LexFault.TheVariants as lex
 use Rattle.nj_text.specs.declared.sign.LineStart.{LineStart}
@@ -51,7 +52,7 @@ BeginsLine allowed limit whole s =
 
 -- What the start of a line says of the block, and where the lexer stands then. The limit is the weight of the lines
 -- that were left.
-abbrev pub Begins : Keys → (limit : ℕ) → Reading (List LineText) → Result LineStart LexFault → State → Type 0
+abbrev pub Begins : Keys → (limit : ℕ) → Reading (List LineText) → Result LineStart UnitFault → State → Type 0
 Begins allowed limit whole (Ok start.Indented) s = BeginsLine allowed limit whole s
 Begins allowed limit whole (Ok start.Middle) s = ⊥
 Begins allowed limit whole (Ok other) s = (whole ≡ no_lines (lines_from s)) × Stands s
@@ -121,10 +122,8 @@ begun-begins allowed limit (l ∷ ls) h = by_comment (is_comment (kind_of l)) re
         subst (λ (whole : Reading (List LineText)). BeginsAs allowed limit whole (begun (lines_behind l (without_comments ls)))) (sym (block-comment allowed (kind_of l) l ls (block allowed ls) e)) (by_last l.is_last refl rest)
 
 -- what the lexer answers at the start of a line
-start-begins : (allowed : Keys) (ls : List Line) (answer : Result LineStart LexFault) (s : State) → Answers (λ start. start) answer s (start_line_of (Between ls)) → Begins allowed (lines_weight ls) (block allowed ls) answer s
-start-begins allowed ls (Ok x) s h =
-    subst (λ a. Begins allowed (lines_weight ls) (block allowed ls) a s) h.0 (subst (Begins allowed (lines_weight ls) (block allowed ls) (begun (without_comments ls)).answer) (sym h.1) (begun-begins allowed (lines_weight ls) ls (omega arith)))
-start-begins allowed ls (Err f) s h =
+start-begins : (allowed : Keys) (ls : List Line) (answer : Result LineStart UnitFault) (s : State) → ((start_line_of (Between ls)).answer ≡ answer) × (s ≡ (start_line_of (Between ls)).after) → Begins allowed (lines_weight ls) (block allowed ls) answer s
+start-begins allowed ls answer s h =
     subst (λ a. Begins allowed (lines_weight ls) (block allowed ls) a s) h.0 (subst (Begins allowed (lines_weight ls) (block allowed ls) (begun (without_comments ls)).answer) (sym h.1) (begun-begins allowed (lines_weight ls) ls (omega arith)))
 
 -- behind a line stands the block that follows it
@@ -165,11 +164,11 @@ started-indented : (allowed : Keys) (s middle : State) → Started start.Indente
 started-indented allowed (Between ms) middle h = (ms, refl, start-begins allowed ms (Ok start.Indented) middle h)
 started-indented allowed (Inside l ls) middle h = absurd (middle_is_indented h.0)
   where
-    middle_is_indented : ◌≡◌ {A = Result LineStart LexFault} (Ok start.Middle) (Ok start.Indented) → ⊥
+    middle_is_indented : ◌≡◌ {A = Result LineStart UnitFault} (Ok start.Middle) (Ok start.Indented) → ⊥
     middle_is_indented e = absurd cc
 started-indented allowed (Failed f) middle h = absurd (fault_is_start h.0)
   where
-    fault_is_start : ◌≡◌ {A = Result LineStart LexFault} (Err f) (Ok start.Indented) → ⊥
+    fault_is_start : ◌≡◌ {A = Result LineStart UnitFault} (Err f) (Ok start.Indented) → ⊥
     fault_is_start e = absurd cc
 
 -- where a line that was read leaves the lexer
@@ -228,21 +227,13 @@ block-end view allowed (Failed f) s after x lines still other h = tt
 -- what fails of a step fails of the whole
 fails-so : {A B : Type 0} (f : ParseFault) (x : Result A Fault) (y : Result B Fault) → ((e : Fault) → x ≡ Err e → y ≡ Err e) → Fails f x → Fails f y
 fails-so (fault.Lex lex.OutOfMemory) x y so h = tt
-fails-so (fault.Lex (lex.BadByte spot)) x y so h = so _ h
-fails-so (fault.Lex (lex.Tab spot)) x y so h = so _ h
-fails-so (fault.Lex (lex.BadEscape spot)) x y so h = so _ h
+fails-so (fault.Lex (lex.Unit f)) x y so h = so _ h
 fails-so (fault.Expected spot want) x y so h = so _ h
 fails-so (fault.UnexpectedIndent spot) x y so h = so _ h
 fails-so (fault.MissingCommand spot) x y so h = so _ h
 fails-so (fault.RspPair spot) x y so h = so _ h
 fails-so (fault.UnknownKey spot key) x y so h = so _ h
 fails-so (fault.MissingDepth spot) x y so h = so _ h
-
-fails-lex : {A : Type 0} (f : LexFault) (x : Result A Fault) → x ≡ Err (Bad f) → Fails (fault.Lex f) x
-fails-lex lex.OutOfMemory x h = tt
-fails-lex (lex.BadByte spot) x h = h
-fails-lex (lex.Tab spot) x h = h
-fails-lex (lex.BadEscape spot) x h = h
 
 -- a whole that fails, as it is answered
 abbrev pub FailsFrom : State → (List Line → Reading (List LineText)) → ParseFault → Type 0
@@ -257,9 +248,10 @@ fails-from view (Inside l ls) after reading (Err e) f h so = tt
 fails-from view (Failed g) after reading (Err e) f h so = tt
 
 pub block-start-fails : (allowed : Keys) (front : List LineText) (before s after : State) (f : LexFault) → StillReads allowed front before s → Answers {X = LineStart} (λ s. s) (Err f) after (start_line_of s) → FailsFrom before (block allowed) (fault.Lex f)
-block-start-fails allowed front (Between ls) s after f still h =
+block-start-fails allowed front (Between ls) s after lex.OutOfMemory still h = tt
+block-start-fails allowed front (Between ls) s after (lex.Unit f) still h =
     let e = start-begins allowed still.0 (Err f) after (rw still.1 at h) in
-    fails-lex f (block allowed ls) (sym still.2 ∙ ap (in_front front) e)
+    sym still.2 ∙ ap (in_front front) e
 block-start-fails allowed front (Inside l ls) s after f still h = tt
 block-start-fails allowed front (Failed g) s after f still h = tt
 

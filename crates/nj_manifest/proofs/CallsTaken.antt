@@ -1,9 +1,10 @@
 -- What a call of the lexer gave, as a step.
 use Rattle.std.proofs.Common.{◌≡◌, Result, Ok, Err, refl, ap}
 use Rattle.std.specs.Result.{IsErr, IsErrAnd}
+use Rattle.nj_text.specs.declared.fault.UnitFault.{UnitFault}
 use Rattle.nj_text.specs.declared.fault.LexFault.{LexFault}
 use Rattle.nj_text.specs.declared.fault.LexFault.TheVariants as lex
-use Rattle.nj_text.specs.Calls.{State, Reply, FailsOrWants}
+use Rattle.nj_text.specs.Calls.{State, Reply, FailsOrLacksMemory}
 use Rattle.nj_manifest.specs.declared.fault.ParseFault.{ParseFault}
 use Rattle.nj_manifest.specs.declared.fault.ParseFault.TheVariants as fault
 use Rattle.nj_manifest.specs.Faults.{Fault, Bad, fault_text}
@@ -12,15 +13,13 @@ use Rattle.nj_manifest.specs.Steps.{Step, called, Fails, Reads}
 pub gave : {Y : Type 0} (y : Y) (after : State) (r : Reply Y) → (r.answer ≡ Ok y) × (after ≡ r.after) → called r ≡ Ok (y, after)
 gave y after r h = rw h.0 (rw h.1 refl)
 
-failed-so : {Y : Type 0} (f : LexFault) (r : Reply Y) → r.answer ≡ Err f → called r ≡ Err (Bad f)
+failed-so : {Y : Type 0} (f : UnitFault) (r : Reply Y) → r.answer ≡ Err f → called r ≡ Err (Bad f)
 failed-so f r h = rw h refl
 
 -- a step that fails with a fault of the lexer
-pub fails-by : {X Y : Type 0} (f : LexFault) (before after : State) (r : Reply X) (whole : Result Y Fault) → FailsOrWants f before after r → (called r ≡ Err (Bad f) → whole ≡ Err (Bad f)) → Fails (fault.Lex f) whole
+pub fails-by : {X Y : Type 0} (f : LexFault) (before after : State) (r : Reply X) (whole : Result Y Fault) → FailsOrLacksMemory f before after r → ((unit : UnitFault) → called r ≡ Err (Bad unit) → whole ≡ Err (Bad unit)) → Fails (fault.Lex f) whole
 fails-by lex.OutOfMemory before after r whole h so = tt
-fails-by (lex.BadByte s) before after r whole h so = so (failed-so (lex.BadByte s) r h.0)
-fails-by (lex.Tab s) before after r whole h so = so (failed-so (lex.Tab s) r h.0)
-fails-by (lex.BadEscape s) before after r whole h so = so (failed-so (lex.BadEscape s) r h.0)
+fails-by (lex.Unit unit) before after r whole h so = so unit (failed-so unit r h.0)
 
 -- what `?` hands on
 pub handed-on : {X Y : Type 0} (view : X → Y) (f : LexFault) (r : Result X ParseFault) (after : State) (whole : Step Y) → IsErr r × IsErrAnd r (λ e. e ≡ fault.Lex f) → Fails (fault.Lex f) whole → Reads view r after whole
@@ -30,9 +29,7 @@ handed-on view f (Err e) after whole h so = rw h.1 so
 -- what a function answers with this fault
 pub fails-so : {Y : Type 0} (f : ParseFault) (whole : Result Y Fault) → whole ≡ Err (fault_text f) → Fails f whole
 fails-so (fault.Lex lex.OutOfMemory) whole h = tt
-fails-so (fault.Lex (lex.BadByte s)) whole h = h
-fails-so (fault.Lex (lex.Tab s)) whole h = h
-fails-so (fault.Lex (lex.BadEscape s)) whole h = h
+fails-so (fault.Lex (lex.Unit f)) whole h = h
 fails-so (fault.Expected s w) whole h = h
 fails-so (fault.UnexpectedIndent s) whole h = h
 fails-so (fault.MissingCommand s) whole h = h

@@ -1,7 +1,7 @@
 -- Worked rows, computed on the definitions: texts that begin with no statement.
 use Rattle.std.proofs.Common.{◌≡◌, ℕ, Err, List, refl}
 use Rattle.std.specs.Prelude.{codes}
-use Rattle.nj_text.specs.declared.fault.LexFault.TheVariants as lex
+use Rattle.nj_text.specs.declared.fault.UnitFault.TheVariants as lex
 use Rattle.nj_manifest.specs.declared.fault.Wanted.TheVariants as wanted
 use Rattle.nj_manifest.specs.Faults.{Fault, Bad, Expected, UnexpectedIndent, MissingCommand, RspPair, UnknownKey, MissingDepth}
 use Rattle.nj_manifest.proofs.StatementRows.{on_texts, first_of, at}

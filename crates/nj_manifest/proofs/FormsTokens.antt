@@ -2,7 +2,7 @@
 use Rattle.std.proofs.Common.{◌≡◌, ℕ, Bool, true, false, cond, ◌&&◌, not, eqb, Option, Some, None, Ok, List, [], ◌∷◌, ◌++◌, map, ◌⊎◌, inl, inr, refl, sym, ap, ◌∙◌, append_assoc}
 use Rattle.std.specs.List.{list_all, take_while}
 use Rattle.std.proofs.lemmas.Bool.{and_parts, and_right, not-true, eqb-true, false≢true}
-use Rattle.nj_text.specs.declared.fault.LexFault.{LexFault}
+use Rattle.nj_text.specs.declared.fault.UnitFault.{UnitFault}
 use Rattle.nj_text.specs.declared.sign.Sign.{Sign}
 use Rattle.nj_text.specs.declared.sign.Sign.TheVariants as sign
 use Rattle.nj_text.specs.declared.spot.Spot.{Spot}
@@ -79,7 +79,7 @@ identifier_no_blank u h = ordinary_no_blank is_identifier_byte refl u.means h
 -- ---- names
 
 -- what is read of a run of units that may be none
-abbrev name_of : Wanted → Option LexFault → Spot → (run : List TextUnit) → State → Step NameText
+abbrev name_of : Wanted → Option UnitFault → Spot → (run : List TextUnit) → State → Step NameText
 name_of want f spot run s = called (calls.unless_fault f (calls.reply (some_bytes (bytes_of run)) s)) >>= λ n. named want spot n.0 n.1
 
 -- the same behind the blanks
@@ -105,7 +105,7 @@ bytes-some [] h = absurd cc
 bytes-some (b ∷ bs) h = refl
 
 -- a run that was read
-name_of-read : (want : Wanted) (f : Option LexFault) (spot : Spot) (run : List TextUnit) (s : State) (y : NameText × State) → name_of want f spot run s ≡ Ok y
+name_of-read : (want : Wanted) (f : Option UnitFault) (spot : Spot) (run : List TextUnit) (s : State) (y : NameText × State) → name_of want f spot run s ≡ Ok y
     → (is_empty (bytes_of run) ≡ false) × (y.0 ≡ record { spot = spot; name = bytes_of run }) × (s ≡ y.1)
 name_of-read want (Some f) spot run s y h = absurd cc
 name_of-read want None spot run s y h = some-bytes want spot (bytes_of run) s y h
@@ -138,10 +138,10 @@ name-form want l ls us y h =
 same_name : (name : NameText) (spot : Spot) (bs : List ℕ) → name.spot ≡ spot → name.name ≡ bs → record { spot = spot; name = bs } ≡ name
 same_name name spot bs s b = rw (← s, ← b) refl
 
-name_of-gives : (want : Wanted) (f : Option LexFault) (run taken : List TextUnit) (spot : Spot) (s t : State) (name : NameText) → f ≡ None → taken ≡ run → s ≡ t → name.spot ≡ spot → name.name ≡ bytes_of run → is_empty name.name ≡ false
+name_of-gives : (want : Wanted) (f : Option UnitFault) (run taken : List TextUnit) (spot : Spot) (s t : State) (name : NameText) → f ≡ None → taken ≡ run → s ≡ t → name.spot ≡ spot → name.name ≡ bytes_of run → is_empty name.name ≡ false
     → name_of want f spot taken s ≡ Ok (name, t)
 name_of-gives want f run taken spot s t name e r h p b some =
-    ap (λ (f : Option LexFault). name_of want f spot taken s) e
+    ap (λ (f : Option UnitFault). name_of want f spot taken s) e
     ∙ ap (λ (run : List TextUnit). name_of want None spot run s) r
     ∙ ap (λ (o : Option (List ℕ)). named want spot o s) (bytes-some (bytes_of run) (ap is_empty (sym b) ∙ some))
     ∙ ap (λ (n : NameText). Ok (n, s)) (same_name name spot (bytes_of run) p b)
@@ -289,7 +289,7 @@ sign-left_out want l ls us s h = by_case (sign-cases want l ls us (false, s) h)
     by_case (inl there) = absurd (false≢true there.1)
     by_case (inr not_there) = not_there.2
 
-sign_at-gives : (want : Sign) (l : Line) (ls : List Line) (us : List TextUnit) (f : Option LexFault) (t : Bool) → f ≡ None → is_sign want us ≡ t
+sign_at-gives : (want : Sign) (l : Line) (ls : List Line) (us : List TextUnit) (f : Option UnitFault) (t : Bool) → f ≡ None → is_sign want us ≡ t
     → called (calls.unless_fault f (cond (is_sign want us) (calls.reply true (behind_it want l ls us)) (calls.reply false (within l ls us)))) ≡ called (cond t (calls.reply true (behind_it want l ls us)) (calls.reply false (within l ls us)))
 sign_at-gives want l ls us f t e h = rw (e, h) refl
 

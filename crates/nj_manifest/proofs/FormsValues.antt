@@ -1,7 +1,7 @@
 -- Values and bindings: what is read to the end of a line, and the forms of the grammar.
 use Rattle.std.proofs.Common.{◌≡◌, Bool, true, false, cond, Option, Some, None, Ok, List, [], ◌∷◌, ◌++◌, refl, sym, ap, subst, ◌∙◌, append_assoc}
 use Rattle.std.proofs.lemmas.Bool.{false≢true}
-use Rattle.nj_text.specs.declared.fault.LexFault.{LexFault}
+use Rattle.nj_text.specs.declared.fault.UnitFault.{UnitFault}
 use Rattle.nj_text.specs.declared.sign.Sign.TheVariants as sign
 use Rattle.nj_text.specs.declared.spot.Spot.{Spot}
 use Rattle.nj_text.specs.Units.{TextUnit}
@@ -53,10 +53,10 @@ opening_passed us (u ∷ v ∷ ws) others o = absurd (false≢true o.opens)
 -- ---- values
 
 -- what a call gives, of its parts
-abbrev value_by : Line → List Line → Option LexFault → List TextUnit → Step WordText
+abbrev value_by : Line → List Line → Option UnitFault → List TextUnit → Step WordText
 value_by l ls f us = called (calls.unless_fault f (calls.reply (record { spot = spot_of_first us l.end; parts = parts_of us }) (within l ls [])))
 
-value_by-read : (l : Line) (ls : List Line) (f : Option LexFault) (us : List TextUnit) (value : WordText) (s : State) → value_by l ls f us ≡ Ok (value, s) → (f ≡ None) × (value ≡ record { spot = spot_of_first us l.end; parts = parts_of us }) × (s ≡ within l ls [])
+value_by-read : (l : Line) (ls : List Line) (f : Option UnitFault) (us : List TextUnit) (value : WordText) (s : State) → value_by l ls f us ≡ Ok (value, s) → (f ≡ None) × (value ≡ record { spot = spot_of_first us l.end; parts = parts_of us }) × (s ≡ within l ls [])
 value_by-read l ls (Some f) us value s h = absurd cc
 value_by-read l ls None us value s h = (refl, sym (value-is (record { spot = spot_of_first us l.end; parts = parts_of us }) (within l ls []) (value, s) h), sym (after-is (record { spot = spot_of_first us l.end; parts = parts_of us }) (within l ls []) (value, s) h))
 
@@ -91,7 +91,7 @@ value-read l ls us value f =
     let behind = opening_passed us f.opening (f.gap ++ f.run) (record { cut = f.cut ∙ append_assoc f.opening f.gap f.run; opens = f.opens; longest = f.longest_opening }) in
     let next = skip_gap (behind_opening us) f.gap f.run behind f.blanks f.longest in
     ap (λ (vs : List TextUnit). value_by l ls (first_fault vs) vs) next
-    ∙ ap (λ (g : Option LexFault). value_by l ls g f.run) f.good
+    ∙ ap (λ (g : Option UnitFault). value_by l ls g f.run) f.good
     ∙ ap (λ (w : WordText). Ok (w, within l ls [])) (same_value value (spot_of_first f.run l.end) f.run f.place f.parts)
 
 -- ---- `= VALUE`

@@ -1,7 +1,7 @@
 -- Words and sections: what is read within a line, and the forms of the grammar.
 use Rattle.std.proofs.Common.{◌≡◌, Bool, true, false, cond, Option, Some, None, Ok, Err, List, [], ◌∷◌, ◌++◌, refl, sym, ap, subst, ◌∙◌, append_assoc}
 use Rattle.std.specs.List.{list_all, take_while}
-use Rattle.nj_text.specs.declared.fault.LexFault.{LexFault}
+use Rattle.nj_text.specs.declared.fault.UnitFault.{UnitFault}
 use Rattle.nj_text.specs.declared.sign.Sign.{Sign}
 use Rattle.nj_text.specs.declared.sign.Sign.TheVariants as sign
 use Rattle.nj_text.specs.declared.spot.Spot.{Spot}
@@ -49,7 +49,7 @@ fault_behind_blanks (u ∷ us) h = by_test (is_blank u) refl h
 -- ---- one word
 
 -- what a call gives, of its parts
-abbrev word_by : Line → List Line → (here behind : Option LexFault) → (opens : Bool) → (us run rest : List TextUnit) → Step (Option WordText)
+abbrev word_by : Line → List Line → (here behind : Option UnitFault) → (opens : Bool) → (us run rest : List TextUnit) → Step (Option WordText)
 word_by l ls f g t us run rest =
     called (calls.unless_fault f (cond t (calls.unless_fault g (calls.reply (Some (record { spot = spot_of_first us l.end; parts = parts_of run })) (within l ls rest))) (calls.reply None (within l ls us))))
 
@@ -57,7 +57,7 @@ abbrev WordRead : Line → List Line → List TextUnit → Option WordText → S
 WordRead l ls us None s = (begins_word us ≡ false) × (s ≡ within l ls us)
 WordRead l ls us (Some word) s = (begins_word us ≡ true) × (word ≡ record { spot = spot_of_first us l.end; parts = parts_of (take_while in_word us) }) × (s ≡ within l ls (drop_while in_word us))
 
-word_by-read : (l : Line) (ls : List Line) (f g : Option LexFault) (t : Bool) (us : List TextUnit) (found : Option WordText) (s : State) → begins_word us ≡ t → word_by l ls f g t us (take_while in_word us) (drop_while in_word us) ≡ Ok (found, s) → WordRead l ls us found s
+word_by-read : (l : Line) (ls : List Line) (f g : Option UnitFault) (t : Bool) (us : List TextUnit) (found : Option WordText) (s : State) → begins_word us ≡ t → word_by l ls f g t us (take_while in_word us) (drop_while in_word us) ≡ Ok (found, s) → WordRead l ls us found s
 word_by-read l ls (Some f) g t us found s b h = absurd cc
 word_by-read l ls None g false us None s b h = (b, sym (after-is _ _ (None, s) h))
 word_by-read l ls None g false us (Some word) s b h = absurd (none_is_none (value-is None (within l ls us) (Some word, s) h))
@@ -116,11 +116,11 @@ word_without_fault {us} {rest} f = ap next_fault (word_next f) ∙ opens_without
 same_word : (word : WordText) (spot : Spot) (run : List TextUnit) → word.spot ≡ spot → word.parts ≡ parts_of run → record { spot = spot; parts = parts_of run } ≡ word
 same_word word spot run s p = rw (← s, ← p) refl
 
-word_by-gives : (l : Line) (ls : List Line) (f g : Option LexFault) (t : Bool) (us taken left run rest : List TextUnit) (word : WordText) → f ≡ None → t ≡ true → taken ≡ run → left ≡ rest → g ≡ None → word.spot ≡ spot_of_first us l.end → word.parts ≡ parts_of run
+word_by-gives : (l : Line) (ls : List Line) (f g : Option UnitFault) (t : Bool) (us taken left run rest : List TextUnit) (word : WordText) → f ≡ None → t ≡ true → taken ≡ run → left ≡ rest → g ≡ None → word.spot ≡ spot_of_first us l.end → word.parts ≡ parts_of run
     → word_by l ls f g t us taken left ≡ Ok (Some word, within l ls rest)
 word_by-gives l ls f g t us taken left run rest word a b c d e p q =
-    ap (λ (f : Option LexFault). word_by l ls f g t us taken left) a
-    ∙ ap (λ (g : Option LexFault). word_by l ls None g t us taken left) e
+    ap (λ (f : Option UnitFault). word_by l ls f g t us taken left) a
+    ∙ ap (λ (g : Option UnitFault). word_by l ls None g t us taken left) e
     ∙ ap (λ (t : Bool). word_by l ls None None t us taken left) b
     ∙ ap (λ (taken : List TextUnit). word_by l ls None None true us taken left) c
     ∙ ap (λ (left : List TextUnit). word_by l ls None None true us run left) d
@@ -138,7 +138,7 @@ word-read l ls us rest word f n =
 
 pub no_word-read : (l : Line) (ls : List Line) (us : List TextUnit) → next_fault (skip us) ≡ None → begins_word (skip us) ≡ false → called (path_word_of (within l ls us)) ≡ Ok (None, within l ls (skip us))
 no_word-read l ls us n b =
-    ap (λ (f : Option LexFault). word_by l ls f (next_fault (drop_while in_word (skip us))) (begins_word (skip us)) (skip us) (take_while in_word (skip us)) (drop_while in_word (skip us))) n
+    ap (λ (f : Option UnitFault). word_by l ls f (next_fault (drop_while in_word (skip us))) (begins_word (skip us)) (skip us) (take_while in_word (skip us)) (drop_while in_word (skip us))) n
     ∙ ap (λ (t : Bool). word_by l ls None (next_fault (drop_while in_word (skip us))) t (skip us) (take_while in_word (skip us)) (drop_while in_word (skip us))) b
 
 -- ---- words

@@ -2,7 +2,7 @@
 use Rattle.std.proofs.Common.{◌≡◌, ℕ, zero, suc, Bool, true, false, cond, ◌&&◌, Option, Some, None, Result, Ok, Err, List, [], refl, sym, ap, subst, ◌∙◌, codes}
 use Rattle.std.proofs.lemmas.Bool.{false≢true}
 use Rattle.std.specs.Str.{bytes_eq}
-use Rattle.nj_text.specs.declared.fault.LexFault.{LexFault}
+use Rattle.nj_text.specs.declared.fault.UnitFault.{UnitFault}
 use Rattle.nj_text.specs.declared.sign.Sign.{Sign}
 use Rattle.nj_text.specs.declared.sign.Sign.TheVariants as sign
 use Rattle.nj_text.specs.declared.spot.Spot.{Spot}
@@ -26,7 +26,7 @@ pub bind-ok : {A B : Type 0} (r : Result A Fault) (k : A → Result B Fault) (y 
 bind-ok (Ok x) k y h = (x, refl, h)
 bind-ok (Err e) k y h = absurd cc
 
-pub called-fault : {A : Type 0} (f : Option LexFault) (r : Reply A) (y : A × State) → called (calls.unless_fault f r) ≡ Ok y → called r ≡ Ok y
+pub called-fault : {A : Type 0} (f : Option UnitFault) (r : Reply A) (y : A × State) → called (calls.unless_fault f r) ≡ Ok y → called r ≡ Ok y
 called-fault None r y h = h
 called-fault (Some f) r y h = absurd cc
 

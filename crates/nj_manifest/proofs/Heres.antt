@@ -21,9 +21,7 @@ at-head l ls h after e = rw e refl
 
 fails-on : {A B : Type 0} (f : ParseFault) (x : Result A Fault) (k : A → Result B Fault) → Fails f x → Fails f (x >>= k)
 fails-on (fault.Lex lex.OutOfMemory) x k h = tt
-fails-on (fault.Lex (lex.BadByte s)) x k h = rw h refl
-fails-on (fault.Lex (lex.Tab s)) x k h = rw h refl
-fails-on (fault.Lex (lex.BadEscape s)) x k h = rw h refl
+fails-on (fault.Lex (lex.Unit f)) x k h = rw h refl
 fails-on (fault.Expected s w) x k h = rw h refl
 fails-on (fault.UnexpectedIndent s) x k h = rw h refl
 fails-on (fault.MissingCommand s) x k h = rw h refl

@@ -1,7 +1,7 @@
 -- The one word behind `include` or `subninja`.
 use Rattle.std.proofs.Common.{◌≡◌, ℕ, Bool, true, false, Option, Some, None, Ok, Err, inl, inr, List, [], ◌∷◌, ◌++◌, refl, sym, ap, ◌∙◌, append_assoc}
 use Rattle.std.specs.List.{take_while}
-use Rattle.nj_text.specs.declared.fault.LexFault.{LexFault}
+use Rattle.nj_text.specs.declared.fault.UnitFault.{UnitFault}
 use Rattle.nj_text.specs.Bytes.{drop_while}
 use Rattle.nj_text.specs.Units.{TextUnit}
 use Rattle.nj_text.specs.Lines.{Line, spot_of_first}
@@ -61,7 +61,7 @@ first_stuck us e fault n = record {
   reads = λ d ms. found_some _ word_x (at [] d ms) (one_more_reads (gap_of us) [] d ms (gap_passes us) refl);
 }
 
-bad_first : (us : List TextUnit) (e : Line) (bad : LexFault) → next_fault (skip us) ≡ Some bad → FailsAt file_word us e (Bad bad) (gap_of us) (skip us)
+bad_first : (us : List TextUnit) (e : Line) (bad : UnitFault) → next_fault (skip us) ≡ Some bad → FailsAt file_word us e (Bad bad) (gap_of us) (skip us)
 bad_first us e bad f = record {
   cut = gap_cut us;
   place = fault-place (skip us) e.end bad f;
@@ -80,7 +80,7 @@ none_first us e h = record {
 }
 
 module _ (us : List TextUnit) (u : TextUnit) (run rest : List TextUnit) (e : Line) (o : opens_word u ≡ true) (a : AllIn in_word (u ∷ run)) (c : us ≡ (gap_of us ++ u ∷ run) ++ rest) where
-  bad_behind : (bad : LexFault) → next_fault rest ≡ Some bad → FileStuck us e (Bad bad)
+  bad_behind : (bad : UnitFault) → next_fault rest ≡ Some bad → FileStuck us e (Bad bad)
   bad_behind bad f = record {
     used = gap_of us ++ u ∷ run;
     left = rest;
@@ -114,7 +114,7 @@ module _ (us : List TextUnit) (u : TextUnit) (run rest : List TextUnit) (e : Lin
 pub file_seen : (us : List TextUnit) (e : Line) → FileSeen us e
 file_seen us e = by_fault (next_fault (skip us)) refl
   where
-    by_end : (u : TextUnit) (run rest : List TextUnit) → opens_word u ≡ true → AllIn in_word (u ∷ run) → begins in_word rest ≡ false → us ≡ (gap_of us ++ u ∷ run) ++ rest → (f : Option LexFault) → next_fault rest ≡ f → FileSeen us e
+    by_end : (u : TextUnit) (run rest : List TextUnit) → opens_word u ≡ true → AllIn in_word (u ∷ run) → begins in_word rest ≡ false → us ≡ (gap_of us ++ u ∷ run) ++ rest → (f : Option UnitFault) → next_fault rest ≡ f → FileSeen us e
     by_end u run rest o a n c (Some bad) f = ends_here (Bad bad) (bad_behind us u run rest e o a c bad f)
     by_end u run rest o a n c None f = reads_on (file_passes us u run rest e o a c (both_so _ _ (so_not _ n) (is-sound _ f)))
 
@@ -139,6 +139,6 @@ file_seen us e = by_fault (next_fault (skip us)) refl
     by_word false w f = ends_here _ (first_stuck us e _ (none_first us e (settled_so (skip us) (skip_stops us) w f)))
     by_word true w f = by_run (take_while in_word (skip us)) (AllIn-take_while in_word (skip us)) (skip us) refl w refl
 
-    by_fault : (f : Option LexFault) → next_fault (skip us) ≡ f → FileSeen us e
+    by_fault : (f : Option UnitFault) → next_fault (skip us) ≡ f → FileSeen us e
     by_fault (Some bad) f = ends_here (Bad bad) (first_stuck us e (Bad bad) (bad_first us e bad f))
     by_fault None f = by_word (begins opens_word (skip us)) refl f

@@ -1,7 +1,7 @@
 -- Names along a line: where one is read, and where there is none.
 use Rattle.std.proofs.Common.{◌≡◌, ℕ, Bool, true, false, Option, Some, None, Ok, Err, List, [], ◌∷◌, ◌++◌, refl, sym, ap, ◌∙◌, append_assoc}
 use Rattle.std.specs.List.{take_while}
-use Rattle.nj_text.specs.declared.fault.LexFault.{LexFault}
+use Rattle.nj_text.specs.declared.fault.UnitFault.{UnitFault}
 use Rattle.nj_text.specs.declared.spot.Spot.{Spot}
 use Rattle.nj_text.specs.Bytes.{drop_while, is_identifier_byte}
 use Rattle.nj_text.specs.Units.{TextUnit, is_ordinary_in}
@@ -26,7 +26,7 @@ identifier_no_fault u h = ordinary_no_fault is_identifier_byte u.means u.spot h
 -- ---- what is read behind the blanks
 
 -- by the fault there, the identifier, its place, and what is behind it
-abbrev named_by : Wanted → Option LexFault → List TextUnit → Spot → State → Step NameText
+abbrev named_by : Wanted → Option UnitFault → List TextUnit → Spot → State → Step NameText
 named_by want f run spot s = called (unless_fault f (reply (some_bytes (bytes_of run)) s)) >>= λ n. named want spot n.0 n.1
 
 abbrev name_here : Wanted → List TextUnit → Line → List Line → Step NameText
@@ -44,13 +44,13 @@ name_behind want gap x e ms h n = name_is_here want (gap ++ x) e ms ∙ ap (λ (
 pub name_skips : (want : Wanted) (gap x : List TextUnit) (e : Line) (ms : List Line) → AllIn is_blank gap → name_next want (at (gap ++ x) e ms) ≡ name_next want (at x e ms)
 name_skips want gap x e ms h = name_is_here want (gap ++ x) e ms ∙ (ap (λ (y : List TextUnit). name_here want y e ms) (skip_gap gap x h) ∙ sym (name_is_here want x e ms))
 
-named_ok : (want : Wanted) (f : Option LexFault) (run run' : List TextUnit) (spot spot' : Spot) (s s' : State) (b : ℕ) (bs : List ℕ) → f ≡ None → run ≡ run' → spot ≡ spot' → s ≡ s' → bytes_of run' ≡ b ∷ bs → named_by want f run spot s ≡ Ok (record { spot = spot'; name = b ∷ bs }, s')
+named_ok : (want : Wanted) (f : Option UnitFault) (run run' : List TextUnit) (spot spot' : Spot) (s s' : State) (b : ℕ) (bs : List ℕ) → f ≡ None → run ≡ run' → spot ≡ spot' → s ≡ s' → bytes_of run' ≡ b ∷ bs → named_by want f run spot s ≡ Ok (record { spot = spot'; name = b ∷ bs }, s')
 named_ok want f run run' spot spot' s s' b bs e r p h g = rw (e, r, p, h, g) refl
 
-named_bad : (want : Wanted) (f : Option LexFault) (bad : LexFault) (run : List TextUnit) (spot : Spot) (s : State) → f ≡ Some bad → named_by want f run spot s ≡ Err (Bad bad)
+named_bad : (want : Wanted) (f : Option UnitFault) (bad : UnitFault) (run : List TextUnit) (spot : Spot) (s : State) → f ≡ Some bad → named_by want f run spot s ≡ Err (Bad bad)
 named_bad want f bad run spot s e = rw e refl
 
-named_none : (want : Wanted) (f : Option LexFault) (run : List TextUnit) (spot : Spot) (s : State) → f ≡ None → bytes_of run ≡ [] → named_by want f run spot s ≡ Err (Expected spot want)
+named_none : (want : Wanted) (f : Option UnitFault) (run : List TextUnit) (spot : Spot) (s : State) → f ≡ None → bytes_of run ≡ [] → named_by want f run spot s ≡ Err (Expected spot want)
 named_none want f run spot s e g = rw (e, g) refl
 
 -- the name that a run of units makes
@@ -150,7 +150,7 @@ name_seen want t us e = by_fault (next_fault (skip us)) refl
           ∙ named_none want (next_fault x) (take_while in_identifier x) (spot_of_first x d.end) (at (drop_while in_identifier x) d ms) (sees ∙ f) (ap bytes_of (same_run x (skip us) same ∙ r) ∙ h));
     })
 
-    by_fault : (f : Option LexFault) → next_fault (skip us) ≡ f → NameSeen want t us e
+    by_fault : (f : Option UnitFault) → next_fault (skip us) ≡ f → NameSeen want t us e
     by_fault None f = by_run (take_while in_identifier (skip us)) refl f (AllIn-take_while in_identifier (skip us)) (bytes_of (take_while in_identifier (skip us))) refl
     by_fault (Some bad) f = missing (Bad bad) (record {
       cut = gap_cut us;

@@ -1,6 +1,6 @@
 -- The sections of a build statement: what begins with `|`, `||` or `|@`.
 use Rattle.std.proofs.Common.{◌≡◌, ℕ, Bool, true, false, cond, ◌&&◌, not, eqb, Option, None, Ok, is_ok, inl, inr, List, [], ◌∷◌, ◌++◌, refl, sym, ap, ◌∙◌, append_assoc}
-use Rattle.nj_text.specs.declared.fault.LexFault.{LexFault}
+use Rattle.nj_text.specs.declared.fault.UnitFault.{UnitFault}
 use Rattle.nj_text.specs.declared.sign.Sign.{Sign}
 use Rattle.nj_text.specs.declared.sign.Sign.TheVariants as sign
 use Rattle.nj_text.specs.Units.{Ordinary, TextUnit, is_ordinary_in}
@@ -41,17 +41,17 @@ no_and t s h = rw h refl
 
 -- ---- a sign before a section
 
-abbrev section_by : Option LexFault → Bool → (on other : State) → Step (List WordText)
+abbrev section_by : Option UnitFault → Bool → (on other : State) → Step (List WordText)
 section_by f t on other = called (unless_fault f (cond t (reply true on) (reply false other))) >>= λ so. words_if so.0 so.1
 
 section_is : (want : Sign) (us : List TextUnit) (e : Line) (ms : List Line) → settled us ≡ true → section_next want (at us e ms) ≡ section_by (next_fault us) (is_sign want us) (behind_sign want (with_units us e) ms) (at us e ms)
 unfolding section_next
 section_is want us e ms h = ap (λ (y : List TextUnit). section_by (next_fault y) (is_sign want y) (behind_sign want (with_units y e) ms) (at y e ms)) (none_passed is_blank us (settled_blank us h))
 
-section_there : (f : Option LexFault) (t : Bool) (on other : State) → f ≡ None → t ≡ true → section_by f t on other ≡ words_next on
+section_there : (f : Option UnitFault) (t : Bool) (on other : State) → f ≡ None → t ≡ true → section_by f t on other ≡ words_next on
 section_there f t on other h g = rw (h, g) refl
 
-section_absent : (f : Option LexFault) (t : Bool) (on other : State) → f ≡ None → t ≡ false → section_by f t on other ≡ Ok ([], other)
+section_absent : (f : Option UnitFault) (t : Bool) (on other : State) → f ≡ None → t ≡ false → section_by f t on other ≡ Ok ([], other)
 section_absent f t on other h g = rw (h, g) refl
 
 pub section_none : (want : Sign) (us : List TextUnit) (e : Line) (ms : List Line) → settled us ≡ true → is_sign want us ≡ false → section_next want (at us e ms) ≡ Ok ([], at us e ms)

@@ -1,6 +1,6 @@
 -- Signs along a line, and its end.
 use Rattle.std.proofs.Common.{◌≡◌, ℕ, Bool, true, false, cond, eqb, Option, Some, None, Result, Ok, Err, is_ok, List, [], ◌∷◌, ◌++◌, refl, sym, ap, ◌∙◌, append_assoc}
-use Rattle.nj_text.specs.declared.fault.LexFault.{LexFault}
+use Rattle.nj_text.specs.declared.fault.UnitFault.{UnitFault}
 use Rattle.nj_text.specs.declared.sign.Sign.{Sign}
 use Rattle.nj_text.specs.declared.sign.Sign.TheVariants as sign
 use Rattle.nj_text.specs.Units.{TextUnit, is_ordinary_in}
@@ -30,7 +30,7 @@ abbrev pub ending : {B : Type 0} → B → Result State Fault → Step B
 ending value r = r >>= λ end. Ok (value, end)
 
 -- by the fault there, whether the sign is there, and where the lexer stands then
-abbrev sign_by : Wanted → Option LexFault → Bool → (there other : State) → Result State Fault
+abbrev sign_by : Wanted → Option UnitFault → Bool → (there other : State) → Result State Fault
 sign_by miss f t there other = called (unless_fault f (cond t (reply true there) (reply false other))) >>= λ t. if_there miss t.0 t.1
 
 abbrev sign_here : Sign → Wanted → List TextUnit → Line → List Line → Result State Fault
@@ -47,13 +47,13 @@ sign_behind want miss gap x e ms h n = behind_is_here want miss (gap ++ x) e ms 
 pub sign_skips : (want : Sign) (miss : Wanted) (gap x : List TextUnit) (e : Line) (ms : List Line) → AllIn is_blank gap → behind want miss (at (gap ++ x) e ms) ≡ behind want miss (at x e ms)
 sign_skips want miss gap x e ms h = behind_is_here want miss (gap ++ x) e ms ∙ (ap (λ (y : List TextUnit). sign_here want miss y e ms) (skip_gap gap x h) ∙ sym (behind_is_here want miss x e ms))
 
-sign_ok : (miss : Wanted) (f : Option LexFault) (t : Bool) (there there' other : State) → f ≡ None → t ≡ true → there ≡ there' → sign_by miss f t there other ≡ Ok there'
+sign_ok : (miss : Wanted) (f : Option UnitFault) (t : Bool) (there there' other : State) → f ≡ None → t ≡ true → there ≡ there' → sign_by miss f t there other ≡ Ok there'
 sign_ok miss f t there there' other e g h = rw (e, g, h) refl
 
-sign_bad : (miss : Wanted) (f : Option LexFault) (bad : LexFault) (t : Bool) (there other : State) → f ≡ Some bad → sign_by miss f t there other ≡ Err (Bad bad)
+sign_bad : (miss : Wanted) (f : Option UnitFault) (bad : UnitFault) (t : Bool) (there other : State) → f ≡ Some bad → sign_by miss f t there other ≡ Err (Bad bad)
 sign_bad miss f bad t there other e = rw e refl
 
-sign_none : (miss : Wanted) (f : Option LexFault) (t : Bool) (there : State) (us : List TextUnit) (e : Line) (ms : List Line) → f ≡ None → t ≡ false → sign_by miss f t there (at us e ms) ≡ Err (Expected (spot_of_first us e.end) miss)
+sign_none : (miss : Wanted) (f : Option UnitFault) (t : Bool) (there : State) (us : List TextUnit) (e : Line) (ms : List Line) → f ≡ None → t ≡ false → sign_by miss f t there (at us e ms) ≡ Err (Expected (spot_of_first us e.end) miss)
 sign_none miss f t there us e ms h g = rw (h, g) refl
 
 step_ok : (r : Result State Fault) (s : State) → r ≡ Ok s → led_on r ≡ Ok (true, s)
@@ -70,7 +70,7 @@ step_none r f h = rw h refl
 there_too : (us x : List TextUnit) → element x ≡ element (skip us) → skip x ≡ x
 there_too us x h = none_passed is_blank x (no_blank_there us x h)
 
-pub bad_before_sign : (want : Sign) (miss : Wanted) (us : List TextUnit) (e : Line) (bad : LexFault) → next_fault (skip us) ≡ Some bad → FailsAt (sign_step want miss) us e (Bad bad) (gap_of us) (skip us)
+pub bad_before_sign : (want : Sign) (miss : Wanted) (us : List TextUnit) (e : Line) (bad : UnitFault) → next_fault (skip us) ≡ Some bad → FailsAt (sign_step want miss) us e (Bad bad) (gap_of us) (skip us)
 bad_before_sign want miss us e bad f = record {
   cut = gap_cut us;
   place = fault-place (skip us) e.end bad f;
@@ -149,7 +149,7 @@ sign_seen want miss t t' us e s = by_fault (next_fault (skip us)) refl
     by_sign true h f = by_units (skip us) refl h
     by_sign false h f = missing (Expected (spot_of_first (skip us) e.end) miss) (no_sign_there want miss us e f h)
 
-    by_fault : (f : Option LexFault) → next_fault (skip us) ≡ f → SignSeen want miss t t' us e
+    by_fault : (f : Option UnitFault) → next_fault (skip us) ≡ f → SignSeen want miss t t' us e
     by_fault None f = by_sign (is_sign want (skip us)) refl f
     by_fault (Some bad) f = missing (Bad bad) (bad_before_sign want miss us e bad f)
 
@@ -183,6 +183,6 @@ finish {B = B} {P = P} {whole = whole} {t = t} {us = us} k value e so a empty = 
     by_units [] r f = arrive e k value a (λ ms. so (at us e ms) ∙ ended _ _ value (end_here wanted.Newline us e ms r))
     by_units (u ∷ left) r f = stick_here (Expected (spot_of_first (skip us) e.end) wanted.Newline) (no_sign_there sign.LineEnd wanted.Newline us e f (ap is_empty r))
 
-    by_fault : (f : Option LexFault) → next_fault (skip us) ≡ f → Outcome P whole e
+    by_fault : (f : Option UnitFault) → next_fault (skip us) ≡ f → Outcome P whole e
     by_fault None f = by_units (skip us) refl f
     by_fault (Some bad) f = stick_here (Bad bad) (bad_before_sign sign.LineEnd wanted.Newline us e bad f)

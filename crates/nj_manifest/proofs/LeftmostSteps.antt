@@ -1,8 +1,8 @@
 -- Reading on along a line: where a reading passes, where it fails, and what both say of a whole line.
 use Rattle.std.proofs.Common.{◌≡◌, ℕ, Bool, true, false, ◌||◌, ◌==◌, eqb, Option, Some, None, Result, Ok, Err, is_ok, ◌⊎◌, inl, inr, List, [], ◌∷◌, ◌++◌, map, refl, sym, ap, subst, ◌∙◌, append_assoc}
 use Rattle.std.proofs.lemmas.Bool.{eqb-true}
-use Rattle.nj_text.specs.declared.fault.LexFault.{LexFault}
-use Rattle.nj_text.specs.declared.fault.LexFault.TheVariants as lex
+use Rattle.nj_text.specs.declared.fault.UnitFault.{UnitFault}
+use Rattle.nj_text.specs.declared.fault.UnitFault.TheVariants as lex
 use Rattle.nj_text.specs.declared.spot.Spot.{Spot}
 use Rattle.nj_text.specs.Bytes.{is_space}
 use Rattle.nj_text.specs.Units.{Meaning, Ordinary, LeadingTab, BadByte, BadEscape, TextUnit, is_ordinary_in}
@@ -135,11 +135,11 @@ pub record FailsAt {A : Type 0} (f : State → Step A) (us : List TextUnit) (e :
   pub none : (x : List TextUnit) (d : Line) (ms : List Line) → element x ≡ element left → is_ok (f (at (used ++ x) d ms)) ≡ false
 
 -- the place of the first of the units, if that is a bad one
-pub fault-place : (us : List TextUnit) (end : Spot) (f : LexFault) → next_fault us ≡ Some f → fault_spot f ≡ spot_of_first us end
+pub fault-place : (us : List TextUnit) (end : Spot) (f : UnitFault) → next_fault us ≡ Some f → fault_spot f ≡ spot_of_first us end
 fault-place [] end f h = absurd cc
 fault-place (u ∷ us) end f h = by_meaning u.means h
   where
-    same : (g : LexFault) → ◌≡◌ {A = Option LexFault} (Some g) (Some f) → g ≡ f
+    same : (g : UnitFault) → ◌≡◌ {A = Option UnitFault} (Some g) (Some f) → g ≡ f
     same g e = cc
 
     by_meaning : (m : Meaning) → fault_of_meaning m u.spot ≡ Some f → fault_spot f ≡ u.spot

@@ -1,6 +1,6 @@
 -- Values along a line: `= VALUE` to its end, or the first bad unit in it.
 use Rattle.std.proofs.Common.{◌≡◌, Bool, true, false, cond, Option, Some, None, Result, Ok, Err, inl, List, [], ◌∷◌, ◌++◌, refl, sym, ap, ◌∙◌}
-use Rattle.nj_text.specs.declared.fault.LexFault.{LexFault}
+use Rattle.nj_text.specs.declared.fault.UnitFault.{UnitFault}
 use Rattle.nj_text.specs.declared.sign.Sign.TheVariants as sign
 use Rattle.nj_text.specs.declared.spot.Spot.{Spot}
 use Rattle.nj_text.specs.Units.{Meaning, Ordinary, Join, OpeningJoin, TextUnit}
@@ -30,7 +30,7 @@ opening_no_fault OpeningJoin spot h = refl
 opening_no_fault m spot h = absurd cc
 
 first_of_sound : (u : TextUnit) (us : List TextUnit) → fault_of u ≡ None → first_fault us ≡ first_fault (u ∷ us)
-first_of_sound u us h = sym (ap (λ (f : Option LexFault). or_else f (first_fault us)) h)
+first_of_sound u us h = sym (ap (λ (f : Option UnitFault). or_else f (first_fault us)) h)
 
 first_behind_blanks : (us : List TextUnit) → first_fault (skip us) ≡ first_fault us
 first_behind_blanks [] = refl
@@ -52,27 +52,27 @@ first_behind_sound : (used x : List TextUnit) → first_fault used ≡ None → 
 first_behind_sound [] x h = refl
 first_behind_sound (u ∷ used) x h = by_unit (fault_of u) refl h (first_behind_sound used x)
   where
-    by_unit : (f : Option LexFault) → fault_of u ≡ f → or_else f (first_fault used) ≡ None → (first_fault used ≡ None → first_fault (used ++ x) ≡ first_fault x) → or_else f (first_fault (used ++ x)) ≡ first_fault x
+    by_unit : (f : Option UnitFault) → fault_of u ≡ f → or_else f (first_fault used) ≡ None → (first_fault used ≡ None → first_fault (used ++ x) ≡ first_fault x) → or_else f (first_fault (used ++ x)) ≡ first_fault x
     by_unit None e g rest = rest g
     by_unit (Some bad) e g rest = absurd cc
 
-first_is_next : (x : List TextUnit) (bad : LexFault) → next_fault x ≡ Some bad → first_fault x ≡ Some bad
+first_is_next : (x : List TextUnit) (bad : UnitFault) → next_fault x ≡ Some bad → first_fault x ≡ Some bad
 first_is_next [] bad h = absurd cc
-first_is_next (u ∷ x) bad h = ap (λ (f : Option LexFault). or_else f (first_fault x)) h
+first_is_next (u ∷ x) bad h = ap (λ (f : Option UnitFault). or_else f (first_fault x)) h
 
 -- the units before the first bad one
-record Sound (us : List TextUnit) (bad : LexFault) : Type 0 where
+record Sound (us : List TextUnit) (bad : UnitFault) : Type 0 where
   used : List TextUnit
   left : List TextUnit
   cut : us ≡ used ++ left
   sound : first_fault used ≡ None
   next : next_fault left ≡ Some bad
 
-before_bad : (us : List TextUnit) (bad : LexFault) → first_fault us ≡ Some bad → Sound us bad
+before_bad : (us : List TextUnit) (bad : UnitFault) → first_fault us ≡ Some bad → Sound us bad
 before_bad [] bad h = absurd cc
 before_bad (u ∷ us) bad h = by_unit (fault_of u) refl h (before_bad us bad)
   where
-    by_unit : (f : Option LexFault) → fault_of u ≡ f → or_else f (first_fault us) ≡ Some bad → (first_fault us ≡ Some bad → Sound us bad) → Sound (u ∷ us) bad
+    by_unit : (f : Option UnitFault) → fault_of u ≡ f → or_else f (first_fault us) ≡ Some bad → (first_fault us ≡ Some bad → Sound us bad) → Sound (u ∷ us) bad
     by_unit (Some other) e g rest = record { used = []; left = u ∷ us; cut = refl; sound = refl; next = e ∙ g }
     by_unit None e g rest =
         let r = rest g in
@@ -90,10 +90,10 @@ value_units us = skip (behind_opening us)
 abbrev value_text : List TextUnit → Line → WordText
 value_text us e = record { spot = spot_of_first (value_units us) e.end; parts = parts_of (value_units us) }
 
-value_by : (f : Option LexFault) (w : WordText) (s : State) → f ≡ None → called (unless_fault f (reply w s)) ≡ Ok (w, s)
+value_by : (f : Option UnitFault) (w : WordText) (s : State) → f ≡ None → called (unless_fault f (reply w s)) ≡ Ok (w, s)
 value_by f w s h = rw h refl
 
-value_bad_by : (f : Option LexFault) (w : WordText) (s : State) (bad : LexFault) → f ≡ Some bad → called (unless_fault f (reply w s)) ≡ Err (Bad bad)
+value_bad_by : (f : Option UnitFault) (w : WordText) (s : State) (bad : UnitFault) → f ≡ Some bad → called (unless_fault f (reply w s)) ≡ Err (Bad bad)
 value_bad_by f w s bad h = rw h refl
 
 first_of_value : (us : List TextUnit) → first_fault (value_units us) ≡ first_fault us
@@ -102,10 +102,10 @@ first_of_value us = first_behind_blanks (behind_opening us) ∙ first_behind_ope
 value_ok : (us : List TextUnit) (e : Line) (ms : List Line) → first_fault us ≡ None → value_call (at us e ms) ≡ Ok (value_text us e, at [] e ms)
 value_ok us e ms h = value_by _ (value_text us e) (at [] e ms) (first_of_value us ∙ h)
 
-value_bad : (us : List TextUnit) (e : Line) (ms : List Line) (bad : LexFault) → first_fault us ≡ Some bad → value_call (at us e ms) ≡ Err (Bad bad)
+value_bad : (us : List TextUnit) (e : Line) (ms : List Line) (bad : UnitFault) → first_fault us ≡ Some bad → value_call (at us e ms) ≡ Err (Bad bad)
 value_bad us e ms bad h = value_bad_by _ (value_text us e) (at [] e ms) bad (first_of_value us ∙ h)
 
-bad_value : (us : List TextUnit) (e : Line) (bad : LexFault) → (s : Sound us bad) → FailsAt value_call us e (Bad bad) s.used s.left
+bad_value : (us : List TextUnit) (e : Line) (bad : UnitFault) → (s : Sound us bad) → FailsAt value_call us e (Bad bad) s.used s.left
 bad_value us e bad s = record {
   cut = s.cut;
   place = fault-place s.left e.end bad s.next;
@@ -155,7 +155,7 @@ value_turn {B = B} {P = P} {whole = whole} e view k so a =
     at_value : (left : List TextUnit) → Along P whole (λ s. value_call s >>= valued view) anything left → Outcome P whole e
     at_value left b = by_fault (first_fault left) refl
       where
-        by_fault : (f : Option LexFault) → first_fault left ≡ f → Outcome P whole e
+        by_fault : (f : Option UnitFault) → first_fault left ≡ f → Outcome P whole e
         by_fault None h = arrive e (λ s. value_call s >>= valued view) (view (value_text left e)) b (λ ms. value_ended view left e ms h)
         by_fault (Some bad) h =
             let s = before_bad left bad h in

@@ -2,7 +2,7 @@
 use Rattle.std.proofs.Common.{◌≡◌, ℕ, zero, suc, ◌<◌, Bool, true, false, cond, ◌&&◌, not, eqb, Option, Some, None, Ok, Err, is_ok, inl, inr, List, [], ◌∷◌, ◌++◌, length, refl, sym, ap, ◌∙◌, append_assoc, length-append, arith}
 use Rattle.std.specs.List.{take_while}
 use Rattle.std.proofs.lemmas.Bool.{and_parts}
-use Rattle.nj_text.specs.declared.fault.LexFault.{LexFault}
+use Rattle.nj_text.specs.declared.fault.UnitFault.{UnitFault}
 use Rattle.nj_text.specs.declared.spot.Spot.{Spot}
 use Rattle.nj_text.specs.Bytes.{drop_while, is_word_byte}
 use Rattle.nj_text.specs.Units.{Meaning, Ordinary, Escape, Reference, Join, LeadingTab, BadByte, BadEscape, TextUnit, is_ordinary_in}
@@ -21,7 +21,7 @@ use Rattle.nj_manifest.proofs.LeftmostNames.{no_blank_there}
 
 -- ---- tests on the units that follow
 
-abbrev pub is_sound : Option LexFault → Bool
+abbrev pub is_sound : Option UnitFault → Bool
 is_sound None = true
 is_sound (Some bad) = false
 
@@ -40,11 +40,11 @@ not_so false h = refl
 pub so_not : (t : Bool) → t ≡ false → not t ≡ true
 so_not t h = rw h refl
 
-sound-is : (f : Option LexFault) → is_sound f ≡ true → f ≡ None
+sound-is : (f : Option UnitFault) → is_sound f ≡ true → f ≡ None
 sound-is None h = refl
 sound-is (Some bad) h = absurd cc
 
-pub is-sound : (f : Option LexFault) → f ≡ None → is_sound f ≡ true
+pub is-sound : (f : Option UnitFault) → f ≡ None → is_sound f ≡ true
 is-sound f h = rw h refl
 
 pub both_so : (s t : Bool) → s ≡ true → t ≡ true → (s && t) ≡ true
@@ -69,13 +69,13 @@ ends_fault : (us : List TextUnit) → ends_word us ≡ true → next_fault us �
 ends_fault us h = sound-is _ (and_parts _ _ h).1
 
 pub ends_same : (x y : List TextUnit) → front x ≡ front y → ends_word x ≡ ends_word y
-ends_same x y h = ap (λ (t : Bool). not t && is_sound (next_fault x)) (begins-same in_word x y h) ∙ ap (λ (f : Option LexFault). not (begins in_word y) && is_sound f) (fault-same x y h)
+ends_same x y h = ap (λ (t : Bool). not t && is_sound (next_fault x)) (begins-same in_word x y h) ∙ ap (λ (f : Option UnitFault). not (begins in_word y) && is_sound f) (fault-same x y h)
 
 pub settled_same : (x y : List TextUnit) → front x ≡ front y → settled x ≡ settled y
 settled_same x y h =
     ap (λ (t : Bool). not t && (not (begins opens_word x) && is_sound (next_fault x))) (begins-same is_blank x y h)
     ∙ (ap (λ (t : Bool). not (begins is_blank y) && (not t && is_sound (next_fault x))) (begins-same opens_word x y h)
-    ∙ ap (λ (f : Option LexFault). not (begins is_blank y) && (not (begins opens_word y) && is_sound f)) (fault-same x y h))
+    ∙ ap (λ (f : Option UnitFault). not (begins is_blank y) && (not (begins opens_word y) && is_sound f)) (fault-same x y h))
 
 neither_in : (m : Meaning) → is_blank_meaning m ≡ false → opens_word_meaning m ≡ false → in_word_meaning m ≡ false
 neither_in Join h g = absurd cc
@@ -103,14 +103,14 @@ opening_no_pipe (Ordinary b) h = not_byte is_word_byte 124 refl b h
 opening_no_pipe m h = refl
 
 -- a bad unit is in no word
-bad_no_word : (m : Meaning) (spot : Spot) (bad : LexFault) → fault_of_meaning m spot ≡ Some bad → in_word_meaning m ≡ false
+bad_no_word : (m : Meaning) (spot : Spot) (bad : UnitFault) → fault_of_meaning m spot ≡ Some bad → in_word_meaning m ≡ false
 bad_no_word (Ordinary b) spot bad h = absurd cc
 bad_no_word (Escape b) spot bad h = absurd cc
 bad_no_word (Reference n) spot bad h = absurd cc
 bad_no_word Join spot bad h = absurd cc
 bad_no_word m spot bad h = refl
 
-pub bad_ends : (us : List TextUnit) (bad : LexFault) → next_fault us ≡ Some bad → begins in_word us ≡ false
+pub bad_ends : (us : List TextUnit) (bad : UnitFault) → next_fault us ≡ Some bad → begins in_word us ≡ false
 bad_ends [] bad h = absurd cc
 bad_ends (u ∷ us) bad h = bad_no_word u.means u.spot bad h
 
@@ -124,7 +124,7 @@ abbrev pub word_call : State → Step (Option WordText)
 word_call s = called (path_word_of s)
 
 -- by the fault there, whether a word begins there, the fault behind it, and the word
-abbrev word_by : Option LexFault → Bool → Option LexFault → WordText → (there other : State) → Step (Option WordText)
+abbrev word_by : Option UnitFault → Bool → Option UnitFault → WordText → (there other : State) → Step (Option WordText)
 word_by f t g w there other = called (unless_fault f (cond t (unless_fault g (reply (Some w) there)) (reply None other)))
 
 abbrev word_here : List TextUnit → Line → List Line → Step (Option WordText)
@@ -140,16 +140,16 @@ word_at_units us x e ms h = ap (λ (y : List TextUnit). word_here y e ms) h
 abbrev pub word_of : TextUnit → List TextUnit → WordText
 word_of u run = record { spot = u.spot; parts = parts_of (u ∷ run) }
 
-word_ok : (f : Option LexFault) (t : Bool) (g : Option LexFault) (w w' : WordText) (there there' other : State) → f ≡ None → t ≡ true → g ≡ None → w ≡ w' → there ≡ there' → word_by f t g w there other ≡ Ok (Some w', there')
+word_ok : (f : Option UnitFault) (t : Bool) (g : Option UnitFault) (w w' : WordText) (there there' other : State) → f ≡ None → t ≡ true → g ≡ None → w ≡ w' → there ≡ there' → word_by f t g w there other ≡ Ok (Some w', there')
 word_ok f t g w w' there there' other h i j k l = rw (h, i, j, k, l) refl
 
-word_none : (f : Option LexFault) (t : Bool) (g : Option LexFault) (w : WordText) (there other : State) → f ≡ None → t ≡ false → word_by f t g w there other ≡ Ok (None, other)
+word_none : (f : Option UnitFault) (t : Bool) (g : Option UnitFault) (w : WordText) (there other : State) → f ≡ None → t ≡ false → word_by f t g w there other ≡ Ok (None, other)
 word_none f t g w there other h i = rw (h, i) refl
 
-word_bad : (f : Option LexFault) (t : Bool) (g : Option LexFault) (w : WordText) (there other : State) (bad : LexFault) → f ≡ Some bad → word_by f t g w there other ≡ Err (Bad bad)
+word_bad : (f : Option UnitFault) (t : Bool) (g : Option UnitFault) (w : WordText) (there other : State) (bad : UnitFault) → f ≡ Some bad → word_by f t g w there other ≡ Err (Bad bad)
 word_bad f t g w there other bad h = rw h refl
 
-word_bad_behind : (f : Option LexFault) (t : Bool) (g : Option LexFault) (w : WordText) (there other : State) (bad : LexFault) → f ≡ None → t ≡ true → g ≡ Some bad → word_by f t g w there other ≡ Err (Bad bad)
+word_bad_behind : (f : Option UnitFault) (t : Bool) (g : Option UnitFault) (w : WordText) (there other : State) (bad : UnitFault) → f ≡ None → t ≡ true → g ≡ Some bad → word_by f t g w there other ≡ Err (Bad bad)
 word_bad_behind f t g w there other bad h i j = rw (h, i, j) refl
 
 run_reads : (u : TextUnit) (run x : List TextUnit) (e : Line) (ms : List Line) → opens_word u ≡ true → AllIn in_word (u ∷ run) → ends_word x ≡ true → word_here ((u ∷ run) ++ x) e ms ≡ Ok (Some (word_of u run), at x e ms)
@@ -158,7 +158,7 @@ run_reads u run x e ms o a h =
     let taken : take_while in_word ((u ∷ run) ++ x) ≡ u ∷ run = run_taken in_word (u ∷ run) x a (ends_in x h) in
     word_ok _ _ _ _ (word_of u run) _ (at x e ms) _ (opening_no_fault u.means u.spot o) o (ap next_fault rest ∙ ends_fault x h) (ap (λ (y : List TextUnit). record { spot = u.spot; parts = parts_of y }) taken) (ap (λ (y : List TextUnit). at y e ms) rest)
 
-run_fails : (u : TextUnit) (run x : List TextUnit) (e : Line) (ms : List Line) (bad : LexFault) → opens_word u ≡ true → AllIn in_word (u ∷ run) → next_fault x ≡ Some bad → word_here ((u ∷ run) ++ x) e ms ≡ Err (Bad bad)
+run_fails : (u : TextUnit) (run x : List TextUnit) (e : Line) (ms : List Line) (bad : UnitFault) → opens_word u ≡ true → AllIn in_word (u ∷ run) → next_fault x ≡ Some bad → word_here ((u ∷ run) ++ x) e ms ≡ Err (Bad bad)
 run_fails u run x e ms bad o a h =
     let rest : drop_while in_word ((u ∷ run) ++ x) ≡ x = run_passed in_word (u ∷ run) x a (bad_ends x bad h) in
     word_bad_behind _ _ _ _ _ _ bad (opening_no_fault u.means u.spot o) o (ap next_fault rest ∙ h)
@@ -166,7 +166,7 @@ run_fails u run x e ms bad o a h =
 none_reads : (x : List TextUnit) (e : Line) (ms : List Line) → settled x ≡ true → word_here x e ms ≡ Ok (None, at x e ms)
 none_reads x e ms h = word_none _ _ _ _ _ _ (settled_fault x h) (begins_word-is x ∙ settled_word x h)
 
-bad_reads : (x : List TextUnit) (e : Line) (ms : List Line) (bad : LexFault) → next_fault x ≡ Some bad → word_here x e ms ≡ Err (Bad bad)
+bad_reads : (x : List TextUnit) (e : Line) (ms : List Line) (bad : UnitFault) → next_fault x ≡ Some bad → word_here x e ms ≡ Err (Bad bad)
 bad_reads x e ms bad h = word_bad _ _ _ _ _ _ bad h
 
 -- a unit of a word is no blank
@@ -182,7 +182,7 @@ word_reads gap u run x e ms g o a h =
     ∙ (word_at_units (gap ++ ((u ∷ run) ++ x)) ((u ∷ run) ++ x) e ms (skip_gap gap ((u ∷ run) ++ x) g ∙ none_passed is_blank ((u ∷ run) ++ x) (word_no_blank u.means o))
     ∙ run_reads u run x e ms o a h)
 
-pub word_fails : (gap : List TextUnit) (u : TextUnit) (run x : List TextUnit) (e : Line) (ms : List Line) (bad : LexFault) → AllIn is_blank gap → opens_word u ≡ true → AllIn in_word (u ∷ run) → next_fault x ≡ Some bad
+pub word_fails : (gap : List TextUnit) (u : TextUnit) (run x : List TextUnit) (e : Line) (ms : List Line) (bad : UnitFault) → AllIn is_blank gap → opens_word u ≡ true → AllIn in_word (u ∷ run) → next_fault x ≡ Some bad
     → word_call (at ((gap ++ u ∷ run) ++ x) e ms) ≡ Err (Bad bad)
 word_fails gap u run x e ms bad g o a h =
     ap (λ (y : List TextUnit). word_call (at y e ms)) (append_assoc gap (u ∷ run) x)
@@ -192,7 +192,7 @@ word_fails gap u run x e ms bad g o a h =
 pub no_word_reads : (gap x : List TextUnit) (e : Line) (ms : List Line) → AllIn is_blank gap → settled x ≡ true → word_call (at (gap ++ x) e ms) ≡ Ok (None, at x e ms)
 no_word_reads gap x e ms g h = word_at_units (gap ++ x) x e ms (skip_gap gap x g ∙ none_passed is_blank x (settled_blank x h)) ∙ none_reads x e ms h
 
-pub bad_word_reads : (gap x : List TextUnit) (e : Line) (ms : List Line) (bad : LexFault) → AllIn is_blank gap → begins is_blank x ≡ false → next_fault x ≡ Some bad → word_call (at (gap ++ x) e ms) ≡ Err (Bad bad)
+pub bad_word_reads : (gap x : List TextUnit) (e : Line) (ms : List Line) (bad : UnitFault) → AllIn is_blank gap → begins is_blank x ≡ false → next_fault x ≡ Some bad → word_call (at (gap ++ x) e ms) ≡ Err (Bad bad)
 bad_word_reads gap x e ms bad g n h = word_at_units (gap ++ x) x e ms (skip_gap gap x g ∙ none_passed is_blank x n) ∙ bad_reads x e ms bad h
 
 -- ` x`, written behind blanks
@@ -244,7 +244,7 @@ gap_run us = record {
 }
 
 -- a fault before the next word
-bad_first : (us : List TextUnit) (e : Line) (bad : LexFault) → next_fault (skip us) ≡ Some bad → WordsSeen us e
+bad_first : (us : List TextUnit) (e : Line) (bad : UnitFault) → next_fault (skip us) ≡ Some bad → WordsSeen us e
 unfolding gap_run
 bad_first us e bad f = broken (Bad bad) (gap_run us) (record {
   cut = gap_cut us;
@@ -288,7 +288,7 @@ module _ (us gap : List TextUnit) (u : TextUnit) (run rest : List TextUnit) (e :
   word_before y d ms h = words_next-more (at ((gap ++ u ∷ run) ++ y) d ms) (word_of u run) (at y d ms) (word_reads gap u run y d ms g o a h)
 
   -- a fault right behind the word
-  broken_behind : (bad : LexFault) → next_fault rest ≡ Some bad → WordsSeen us e
+  broken_behind : (bad : UnitFault) → next_fault rest ≡ Some bad → WordsSeen us e
   broken_behind bad f = broken (Bad bad) (record {
     used = gap ++ u ∷ run;
     left = rest;
@@ -362,7 +362,7 @@ words_seen_in : (limit : ℕ) (us : List TextUnit) (e : Line) → length us < li
 words_seen_in zero us e h = absurd (omega arith)
 words_seen_in (suc limit) us e h = by_fault (next_fault (skip us)) refl (λ rest shorter. words_seen_in limit rest e shorter)
   where
-    by_end : (u : TextUnit) (run rest : List TextUnit) → opens_word u ≡ true → AllIn in_word (u ∷ run) → begins in_word rest ≡ false → us ≡ (gap_of us ++ u ∷ run) ++ rest → (f : Option LexFault) → next_fault rest ≡ f
+    by_end : (u : TextUnit) (run rest : List TextUnit) → opens_word u ≡ true → AllIn in_word (u ∷ run) → begins in_word rest ≡ false → us ≡ (gap_of us ++ u ∷ run) ++ rest → (f : Option UnitFault) → next_fault rest ≡ f
         → ((rest : List TextUnit) → length rest < limit → WordsSeen rest e) → WordsSeen us e
     by_end u run rest o a n c (Some bad) f more = broken_behind us (gap_of us) u run rest e (gap_passes us) o a c bad f
     by_end u run rest o a n c None f more =
@@ -390,7 +390,7 @@ words_seen_in (suc limit) us e h = by_fault (next_fault (skip us)) refl (λ rest
     by_word false w f more = no_first us e (settled_so (skip us) (skip_stops us) w f)
     by_word true w f more = by_run (take_while in_word (skip us)) (AllIn-take_while in_word (skip us)) (skip us) refl w refl more
 
-    by_fault : (f : Option LexFault) → next_fault (skip us) ≡ f → ((rest : List TextUnit) → length rest < limit → WordsSeen rest e) → WordsSeen us e
+    by_fault : (f : Option UnitFault) → next_fault (skip us) ≡ f → ((rest : List TextUnit) → length rest < limit → WordsSeen rest e) → WordsSeen us e
     by_fault (Some bad) f more = bad_first us e bad f
     by_fault None f more = by_word (begins opens_word (skip us)) refl f more
 

@@ -1,14 +1,18 @@
 -- The next statement of lines, by what the lexer answers at their start.
 use Rattle.std.proofs.Common.{◌≡◌, ℕ, suc, ◌<◌, ◌≤◌, Bool, true, false, cond, ◌&&◌, Option, Result, Ok, Err, List, [], ◌∷◌, refl, sym, ap, subst, arith}
+use Rattle.nj_text.specs.declared.fault.UnitFault.{UnitFault}
 use Rattle.nj_text.specs.declared.fault.LexFault.{LexFault}
+use Rattle.nj_text.specs.declared.fault.LexFault.TheVariants as lex
 use Rattle.nj_text.specs.declared.sign.LineStart.{LineStart}
 use Rattle.nj_text.specs.declared.sign.LineStart.TheVariants as start
 use Rattle.nj_text.specs.declared.spot.Spot.{Spot}
 use Rattle.nj_text.specs.Units.{TextUnit}
 use Rattle.nj_text.specs.Lines.{Line, with_units, lines_behind, Kind, CommentLine, TabLine, BlankLine, IndentedLine, PlainLine, kind_of}
 use Rattle.nj_text.specs.Calls as calls
-use Rattle.nj_text.specs.Calls.{State, Between, Inside, Failed, Answers, start_line_of, begun, begun_by, is_comment, is_empty, without_comments, spot_of}
+use Rattle.nj_text.specs.Calls.{State, Reply, Between, Inside, Failed, Answers, start_line_of, begun, begun_by, is_comment, is_empty, without_comments, spot_of}
+use Rattle.nj_manifest.specs.declared.fault.ParseFault.TheVariants as fault
 use Rattle.nj_manifest.specs.Faults.{Bad, UnexpectedIndent}
+use Rattle.nj_manifest.specs.Steps.{Fails}
 use Rattle.nj_manifest.specs.Statements.{PlacedText, Reading, lines_from, or_last, nothing_more, statement_at, next_by, next_statement}
 use Rattle.nj_manifest.specs.Held.{Stands}
 
@@ -23,7 +27,7 @@ abbrev pub BeginsHere : Next → State → Type 0
 BeginsHere next s = (l : Line) × (ls : List Line) × (s ≡ Inside l ls) × (kind_of l ≡ PlainLine) × (next ≡ statement_at l ls)
 
 -- what the start of a line tells of the next statement
-abbrev pub Begins : Next → Result LineStart LexFault → State → Type 0
+abbrev pub Begins : Next → Result LineStart UnitFault → State → Type 0
 Begins next (Ok start.End) s = (next ≡ nothing_more (lines_from s)) × (ls : List Line) × (s ≡ Between ls)
 Begins next (Ok start.Blank) s = (ls : List Line) × (s ≡ Between ls) × (next ≡ next_statement ls)
 Begins next (Ok start.Indented) s = next ≡ Err (UnexpectedIndent (front_at (spot_of s)))
@@ -85,12 +89,14 @@ begun-next (l ∷ ls) = by_comment (is_comment (kind_of l)) refl (begun-next ls)
     by_comment true e rest = rw (next-comment (kind_of l) l ls (next_statement ls) e) (by_last l.is_last refl rest)
 
 -- what the lexer answers at the start of a line
-start-begins : (ls : List Line) (answer : Result LineStart LexFault) (s : State) → Answers (λ start. start) answer s (start_line_of (Between ls)) → Begins (next_statement ls) answer s
-start-begins ls (Ok x) s h = subst (λ a. Begins (next_statement ls) a s) h.0 (subst (Begins (next_statement ls) (begun (without_comments ls)).answer) (sym h.1) (begun-next ls))
-start-begins ls (Err f) s h = subst (λ a. Begins (next_statement ls) a s) h.0 (subst (Begins (next_statement ls) (begun (without_comments ls)).answer) (sym h.1) (begun-next ls))
+abbrev Answered : Result LineStart UnitFault → (after : State) → Reply LineStart → Type 0
+Answered answer after r = (r.answer ≡ answer) × (after ≡ r.after)
+
+start-begins : (ls : List Line) (answer : Result LineStart UnitFault) (s : State) → Answered answer s (start_line_of (Between ls)) → Begins (next_statement ls) answer s
+start-begins ls answer s h = subst (λ a. Begins (next_statement ls) a s) h.0 (subst (Begins (next_statement ls) (begun (without_comments ls)).answer) (sym h.1) (begun-next ls))
 
 -- The line that was begun is a plain one.
-middle-begins : (l : Line) (ls : List Line) (answer : Result LineStart LexFault) (s : State) → kind_of l ≡ PlainLine → Answers (λ start. start) answer s (start_line_of (Inside l ls)) → Begins (next_statement (l ∷ ls)) answer s
+middle-begins : (l : Line) (ls : List Line) (answer : Result LineStart UnitFault) (s : State) → kind_of l ≡ PlainLine → Answered answer s (start_line_of (Inside l ls)) → Begins (next_statement (l ∷ ls)) answer s
 unfolding next_statement
 middle-begins l ls (Ok x) s e h =
     let here : next_by (kind_of l) l ls (next_statement ls) ≡ statement_at l ls = rw e refl in
@@ -98,10 +104,15 @@ middle-begins l ls (Ok x) s e h =
     subst (λ a. Begins (next_by (kind_of l) l ls (next_statement ls)) a s) h.0 (subst (BeginsHere (next_by (kind_of l) l ls (next_statement ls))) (sym h.1) begun)
 middle-begins l ls (Err f) s e h = absurd cc
 
-pub begins : (before after : State) (answer : Result LineStart LexFault) → Stands before → Answers (λ start. start) answer after (start_line_of before) → Begins (next_statement (lines_from before)) answer after
+pub begins : (before after : State) (answer : Result LineStart UnitFault) → Stands before → Answered answer after (start_line_of before) → Begins (next_statement (lines_from before)) answer after
 begins (Between ls) after answer stands h = start-begins ls answer after h
 begins (Inside l ls) after answer stands h = middle-begins l ls answer after stands h
 begins (Failed f) after answer stands h = absurd stands
+
+-- the fault at a line's start, as it is answered
+pub begins-badly : (before after : State) (f : LexFault) → Stands before → Answers {X = LineStart} (λ start. start) (Err f) after (start_line_of before) → Fails (fault.Lex f) (next_statement (lines_from before))
+begins-badly before after lex.OutOfMemory stands h = tt
+begins-badly before after (lex.Unit f) stands h = begins before after (Err f) stands h
 
 -- ---- a measure of the lines that are left
 

@@ -1,7 +1,7 @@
 -- The words of a section, one by one: each takes a unit at least, so a limit that is large enough does not matter.
 use Rattle.std.proofs.Common.{◌≡◌, ℕ, zero, suc, ◌<◌, ◌≤◌, Bool, true, false, cond, Option, Some, None, Ok, Err, List, [], ◌∷◌, ◌++◌, length, refl, sym, ap, ◌∙◌, append_assoc, arith}
 use Rattle.std.proofs.lemmas.List.{append-nil}
-use Rattle.nj_text.specs.declared.fault.LexFault.{LexFault}
+use Rattle.nj_text.specs.declared.fault.UnitFault.{UnitFault}
 use Rattle.nj_text.specs.Bytes.{drop_while}
 use Rattle.nj_text.specs.Units.{Meaning, Ordinary, Escape, Reference, Join, OpeningJoin, Comment, LeadingTab, LineEnd, TextEnd, BadByte, BadEscape, TextUnit}
 use Rattle.nj_text.specs.Lines.{Line, with_units}
@@ -48,7 +48,7 @@ none_is_no_word : {w : WordText} → ◌≡◌ {A = Option WordText} None (Some 
 none_is_no_word e = absurd cc
 
 -- what a call that gives a word leaves
-word_left : (l : Line) (ls : List Line) (w : WordText) (after : State) (f g : Option LexFault) (t : Bool) → begins_word l.units ≡ t
+word_left : (l : Line) (ls : List Line) (w : WordText) (after : State) (f g : Option UnitFault) (t : Bool) → begins_word l.units ≡ t
     → ◌≡◌ {A = Step (Option WordText)} (called (unless_fault f (cond t (unless_fault g (reply (Some (word_here l)) (Inside (with_units (drop_while in_word l.units) l) ls))) (reply None (Inside l ls))))) (Ok (Some w, after))
     → units_left after < length l.units
 word_left l ls w after (Some f) g t b e = absurd cc

@@ -1,6 +1,7 @@
 -- Why a text is no list of statements.
 use Rattle.std.specs.Prelude.{ℕ, List, codes}
-use Rattle.nj_text.specs.declared.fault.LexFault.{LexFault}
+use Rattle.nj_text.specs.declared.fault.UnitFault.{UnitFault}
+use Rattle.nj_text.specs.declared.fault.LexFault.TheVariants as lex
 use Rattle.nj_text.specs.declared.spot.Spot.{Spot}
 use Rattle.nj_manifest.specs.declared.fault.Wanted.{Wanted}
 use Rattle.nj_manifest.specs.declared.fault.Wanted.TheVariants as wanted
@@ -10,7 +11,7 @@ use Rattle.nj_manifest.specs.declared.fault.ParseFault.TheVariants as fault
 -- a fault with its place and names
 pub data Fault : Type 0 where
   -- a bad unit
-  Bad : (unit : LexFault) → Fault
+  Bad : (unit : UnitFault) → Fault
   -- something else stands where this is wanted
   Expected : (spot : Spot) (wanted : Wanted) → Fault
   -- an indented line outside of blocks
@@ -19,9 +20,12 @@ pub data Fault : Type 0 where
   RspPair : (spot : Spot) → Fault
   UnknownKey : (spot : Spot) (key : List ℕ) → Fault
   MissingDepth : (spot : Spot) → Fault
+  -- none of a text: the program's own
+  OutOfMemory : Fault
 
 abbrev pub fault_text : ParseFault → Fault
-fault_text (fault.Lex f) = Bad f
+fault_text (fault.Lex (lex.Unit f)) = Bad f
+fault_text (fault.Lex lex.OutOfMemory) = OutOfMemory
 fault_text (fault.Expected spot wanted) = Expected spot wanted
 fault_text (fault.UnexpectedIndent spot) = UnexpectedIndent spot
 fault_text (fault.MissingCommand spot) = MissingCommand spot

@@ -8,7 +8,7 @@ use Rattle.nj_text.specs.Units.{Ordinary, TextUnit, first_spot}
 use Rattle.nj_text.specs.Lines.{Line, line_spot, with_units}
 use Rattle.nj_text.specs.Words.{in_identifier}
 use Rattle.nj_text.specs.Calls.{is_sign, fault_spot}
-use Rattle.nj_manifest.specs.Faults.{Fault, Bad, Expected, UnexpectedIndent, MissingCommand, RspPair, UnknownKey, MissingDepth}
+use Rattle.nj_manifest.specs.Faults.{Fault, Bad, Expected, UnexpectedIndent, MissingCommand, RspPair, UnknownKey, MissingDepth, OutOfMemory}
 use Rattle.nj_manifest.specs.Statements.{PlacedText, next_statement}
 
 -- whole lines, the first units of one more, and from there on the rest of that line and the others
@@ -54,6 +54,7 @@ is_syntax (MissingCommand spot) = false
 is_syntax (RspPair spot) = false
 is_syntax (UnknownKey spot key) = true
 is_syntax (MissingDepth spot) = false
+is_syntax OutOfMemory = false
 
 -- the place that a fault names, where it stands before this rest of a line
 abbrev pub NamesThePlaceOf : Fault → Line → Type 0

@@ -1,6 +1,6 @@
 -- Reading on within a line, call by call of the lexer.
 use Rattle.std.specs.Prelude.{◌≡◌, ℕ, zero, suc, Bool, true, false, Option, Some, None, Result, Ok, Err, List, [], ◌∷◌, length}
-use Rattle.nj_text.specs.declared.fault.LexFault.{LexFault}
+use Rattle.nj_text.specs.declared.fault.UnitFault.{UnitFault}
 use Rattle.nj_text.specs.declared.fault.LexFault.TheVariants as lex
 use Rattle.nj_text.specs.declared.sign.Sign.{Sign}
 use Rattle.nj_text.specs.declared.spot.Spot.{Spot}
@@ -21,7 +21,7 @@ abbrev pub ◌>>=◌ : {A B : Type 0} → Result A Fault → (A → Result B Fau
 (Ok x) >>= f = f x
 (Err e) >>= f = Err e
 
-abbrev pub answered : {A : Type 0} → Result A LexFault → State → Step A
+abbrev pub answered : {A : Type 0} → Result A UnitFault → State → Step A
 answered (Ok x) after = Ok (x, after)
 answered (Err f) after = Err (Bad f)
 

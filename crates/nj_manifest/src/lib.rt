@@ -14,7 +14,7 @@ mod steps;
 
 pub use fault::{ParseFault, Wanted};
 pub use laws::{faults_are_leftmost, statements_are_the_forms};
-pub use nj_text::{LexFault, Part, Spot, Word};
+pub use nj_text::{LexFault, Part, Spot, UnitFault, Word};
 pub use parser::Parser;
 pub use statement::{Line, Placed, Statement};
 

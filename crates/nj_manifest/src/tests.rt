@@ -1,5 +1,5 @@
 use super::*;
-use nj_text::LexFault;
+use nj_text::{LexFault, UnitFault};
 use std::alloc::{AllocError, Global};
 use std::fmt::Write;
 use std::process::Abort;
@@ -191,15 +191,15 @@ fn expected(line: usize, column: usize, wanted: Wanted) -> ParseFault<'static> {
 }
 
 fn bad_byte(line: usize, column: usize) -> ParseFault<'static> {
-    ParseFault::Lex(LexFault::BadByte(spot(line, column)))
+    ParseFault::Lex(LexFault::Unit(UnitFault::BadByte(spot(line, column))))
 }
 
 fn bad_escape(line: usize, column: usize) -> ParseFault<'static> {
-    ParseFault::Lex(LexFault::BadEscape(spot(line, column)))
+    ParseFault::Lex(LexFault::Unit(UnitFault::BadEscape(spot(line, column))))
 }
 
 fn tab(line: usize, column: usize) -> ParseFault<'static> {
-    ParseFault::Lex(LexFault::Tab(spot(line, column)))
+    ParseFault::Lex(LexFault::Unit(UnitFault::Tab(spot(line, column))))
 }
 
 fn indent(line: usize, column: usize) -> ParseFault<'static> {

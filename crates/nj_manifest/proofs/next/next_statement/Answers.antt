@@ -1,20 +1,19 @@
-use Rattle.std.proofs.Common.{Err, sym, ap, ◌∙◌, option_map}
+use Rattle.std.proofs.Common.{sym, ap, subst, ◌∙◌, option_map, Err}
 use Rattle.nj_text.specs.declared.sign.LineStart.TheVariants as start
 use Rattle.nj_manifest.specs.declared.fault.ParseFault.TheVariants as fault
 use Rattle.nj_manifest.specs.Faults.{UnexpectedIndent}
-use Rattle.nj_manifest.specs.Statements.{lines_from, next_statement}
+use Rattle.nj_manifest.specs.Steps.{Fails}
 use Rattle.nj_manifest.specs.Held.{placed_text}
-use Rattle.nj_manifest.proofs.CallsTaken.{fails-so, handed}
-use Rattle.nj_manifest.proofs.Starts.{front_at, begins, begins-as, blank-falls-as}
+use Rattle.nj_manifest.proofs.CallsTaken.{handed}
+use Rattle.nj_manifest.proofs.Starts.{front_at, begins-badly, begins-as, blank-falls-as}
 use Rattle.nj_manifest.proofs.Nexts.{here-next}
 use Rattle.nj_manifest.proofs.next.next_statement.Goals as goal
 
 pub returns-in_err-start_line : goal.returns-in_err-start_line
 returns-in_err-start_line c =
     let f = c.in_err-start_line.field-0.0 in
-    let b = begins c.lines.lexer c.start_line.new.self (Err f) c.lines.invariant.0 c.in_err-start_line.ensures in
-    let whole = sym c.lines.invariant.1 ∙ b in
-    rw (handed (fault.Lex f) c.from_residual.result c.from_residual.ensures) (fails-so (fault.Lex f) (next_statement (lines_from c.args.lexer.now)) whole)
+    let b = begins-badly c.lines.lexer c.start_line.new.self f c.lines.invariant.0 c.in_err-start_line.ensures in
+    rw (handed (fault.Lex f) c.from_residual.result c.from_residual.ensures) (subst (Fails (fault.Lex f)) c.lines.invariant.1 b)
 
 pub returns-in-End : goal.returns-in-End
 returns-in-End c =

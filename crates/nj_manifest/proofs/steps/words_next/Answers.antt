@@ -15,7 +15,7 @@ pub returns-in_err-word : goal.returns-in_err-word
 returns-in_err-word c =
     let fault = c.in_err-word.field-0.0 in
     let fails = fails-by fault c.words.lexer c.path_word.new.self (path_word_of c.words.lexer) (words_next c.args.lexer.now) c.in_err-word.ensures
-    (words-fail (words_next c.args.lexer.now) (map word_text c.words.words.items) c.words.lexer (Rattle.nj_manifest.specs.Faults.Bad fault) c.words.invariant) in
+    (λ unit. words-fail (words_next c.args.lexer.now) (map word_text c.words.words.items) c.words.lexer (Rattle.nj_manifest.specs.Faults.Bad unit) c.words.invariant) in
     handed-on (λ words. map word_text words.items) fault c.from_residual.result c.path_word.new.self (words_next c.args.lexer.now) c.from_residual.ensures fails
 
 pub words-smaller : goal.words-smaller
