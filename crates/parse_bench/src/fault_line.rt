@@ -4,7 +4,7 @@ ghost use Rattle.std.specs.Prelude.{◌≡◌, ◌++◌, OnOk, IfOk};
 ghost use Rattle.nj_manifest.specs.Faults.{fault_text};
 ghost use Rattle.parse_bench.specs.FaultLines.{unit_words, place_of, words_of, fault_line_of};
 
-use nj_manifest::{LexFault, ParseFault, Spot};
+use nj_manifest::{LexFault, ParseFault, Spot, UnitFault};
 use std::alloc::{AllocError, Global};
 
 /// `LINE:COLUMN: TEXT` and a line feed.
@@ -18,12 +18,13 @@ pub fn fault_line(alloc: Global, fault: ParseFault<'_>) -> Result<Vec<u8>, Alloc
     Ok(bytes)
 }
 
-/// The place of a fault; want of memory has the first place.
+/// The place of a fault; out of memory is reported at the first place.
 fn place_of(fault: ParseFault<'_>) -> Spot
     ensures { result ≡ place_of (fault_text fault.entry) }
 {
     match fault {
-        ParseFault::Lex(unit) => unit.spot(),
+        ParseFault::Lex(LexFault::Unit(unit)) => unit.spot(),
+        ParseFault::Lex(LexFault::OutOfMemory) => Spot { line: 1, column: 1 },
         ParseFault::Expected(spot, _) => spot,
         ParseFault::UnexpectedIndent(spot) => spot,
         ParseFault::MissingCommand(spot) => spot,
@@ -38,7 +39,8 @@ fn put_words(bytes: &mut Vec<u8>, fault: ParseFault<'_>) -> Result<(), AllocErro
     ensures { OnOk result (bytes.new.items ≡ bytes.old.items ++ words_of (fault_text fault.entry)) }
 {
     match fault {
-        ParseFault::Lex(unit) => put(bytes, unit_words(unit)),
+        ParseFault::Lex(LexFault::Unit(unit)) => put(bytes, unit_words(unit)),
+        ParseFault::Lex(LexFault::OutOfMemory) => put(bytes, "out of memory"),
         ParseFault::Expected(_, wanted) => {
             put(bytes, "expected ")?;
             put(bytes, wanted.text())
@@ -65,15 +67,14 @@ fn put(bytes: &mut Vec<u8>, text: &str) -> Result<(), AllocError>
     bytes.extend_from_slice(text.as_bytes())
 }
 
-/// The text of a bad unit, or of want of memory.
-fn unit_words(unit: LexFault) -> &'static str
+/// The text of a bad unit.
+fn unit_words(unit: UnitFault) -> &'static str
     ensures { result.now ≡ unit_words unit }
 {
     match unit {
-        LexFault::BadByte(_) => "unexpected byte",
-        LexFault::Tab(_) => "tabs are not allowed, use spaces",
-        LexFault::BadEscape(_) => "bad $-escape (literal $ must be written as $$)",
-        LexFault::OutOfMemory => "out of memory",
+        UnitFault::BadByte(_) => "unexpected byte",
+        UnitFault::Tab(_) => "tabs are not allowed, use spaces",
+        UnitFault::BadEscape(_) => "bad $-escape (literal $ must be written as $$)",
     }
 }
 
