@@ -3,7 +3,7 @@ use Rattle.std.proofs.Common.{◌≡◌, ℕ, suc, ◌+◌, ◌<◌, ◌≤◌, 
 use Rattle.std.specs.List.{AllByRecursion}
 use Rattle.std.specs.Result.{IsErrAnd}
 use Rattle.nj_text.specs.declared.spot.Spot.{Spot}
-use Rattle.nj_text.specs.declared.fault.LexFault.TheVariants as lex
+use Rattle.nj_text.specs.declared.fault.UnitFault.TheVariants as lex
 use Rattle.nj_manifest.specs.Faults as text
 use Rattle.nj_manifest.specs.Statements.{StatementText, BindingText, RuleText, PoolText, BuildText, DefaultText, IncludeText, SubninjaText, LineText, PlacedText}
 use Rattle.nj_scope.specs.Readings.{Reading, EachPathOnce}
@@ -79,13 +79,13 @@ pub syntax-names : (file : List ℕ) (fault : text.Fault) → path_at_fault (fau
 syntax-names file (text.Bad (lex.BadByte spot)) = refl
 syntax-names file (text.Bad (lex.Tab spot)) = refl
 syntax-names file (text.Bad (lex.BadEscape spot)) = refl
-syntax-names file (text.Bad lex.OutOfMemory) = refl
 syntax-names file (text.Expected spot wanted) = refl
 syntax-names file (text.UnexpectedIndent spot) = refl
 syntax-names file (text.MissingCommand spot) = refl
 syntax-names file (text.RspPair spot) = refl
 syntax-names file (text.UnknownKey spot key) = refl
 syntax-names file (text.MissingDepth spot) = refl
+syntax-names file text.OutOfMemory = refl
 
 -- ---- a run that stops
 

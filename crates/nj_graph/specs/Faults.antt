@@ -1,8 +1,8 @@
 -- Why files are no graph: the place of a fault, and what is wrong there.
 use Rattle.std.specs.Prelude.{ℕ, Option, Some, None, option_map, List, string_bytes}
 use Rattle.nj_text.specs.declared.spot.Spot.{Spot}
-use Rattle.nj_text.specs.declared.fault.LexFault.{LexFault}
-use Rattle.nj_text.specs.declared.fault.LexFault.TheVariants as lex
+use Rattle.nj_text.specs.declared.fault.UnitFault.{UnitFault}
+use Rattle.nj_text.specs.declared.fault.UnitFault.TheVariants as lex
 use Rattle.nj_manifest.specs.declared.fault.Wanted.{Wanted}
 use Rattle.nj_manifest.specs.Faults as text
 use Rattle.nj_graph.specs.declared.fault.Place.{Place}
@@ -52,11 +52,10 @@ no_memory = record { place = None; cause = OutOfMemory }
 
 -- ---- the faults of a text
 
-abbrev pub unit_fault : (file : List ℕ) → LexFault → FaultText
+abbrev pub unit_fault : (file : List ℕ) → UnitFault → FaultText
 unit_fault file (lex.BadByte spot) = fault_at file spot UnexpectedByte
 unit_fault file (lex.Tab spot) = fault_at file spot Tab
 unit_fault file (lex.BadEscape spot) = fault_at file spot BadEscape
-unit_fault file lex.OutOfMemory = no_memory
 
 abbrev pub fault_in : (file : List ℕ) → text.Fault → FaultText
 fault_in file (text.Bad unit) = unit_fault file unit
@@ -66,6 +65,7 @@ fault_in file (text.MissingCommand spot) = fault_at file spot MissingCommand
 fault_in file (text.RspPair spot) = fault_at file spot RspPair
 fault_in file (text.UnknownKey spot key) = fault_at file spot (UnknownKey key)
 fault_in file (text.MissingDepth spot) = fault_at file spot MissingDepth
+fault_in file text.OutOfMemory = no_memory
 
 -- ---- a fault as it is handed out
 

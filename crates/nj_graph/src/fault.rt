@@ -4,7 +4,7 @@ ghost use Rattle.std.specs.Prelude.{◌≡◌, IfOk};
 ghost use Rattle.nj_manifest.specs.Faults as parsed;
 ghost use Rattle.nj_graph.specs.Faults.{fault_text, cause_text, fault_at, fault_in, no_memory};
 
-use nj_manifest::{LexFault, ParseFault, Spot, Wanted};
+use nj_manifest::{LexFault, ParseFault, Spot, UnitFault, Wanted};
 use std::alloc::{AllocError, AllocFailed, Global};
 
 /// A place in a file.
@@ -91,9 +91,12 @@ impl GraphFault {
         ensures { IfOk result (λ f. fault_text f ≡ fault_in file.now (parsed.fault_text fault.entry)) }
     {
         let (spot, cause) = match fault {
-            ParseFault::Lex(LexFault::BadByte(spot)) => (spot, Cause::UnexpectedByte),
-            ParseFault::Lex(LexFault::Tab(spot)) => (spot, Cause::Tab),
-            ParseFault::Lex(LexFault::BadEscape(spot)) => (spot, Cause::BadEscape),
+            ParseFault::Lex(LexFault::Unit(UnitFault::BadByte(spot))) => (
+                spot,
+                Cause::UnexpectedByte,
+            ),
+            ParseFault::Lex(LexFault::Unit(UnitFault::Tab(spot))) => (spot, Cause::Tab),
+            ParseFault::Lex(LexFault::Unit(UnitFault::BadEscape(spot))) => (spot, Cause::BadEscape),
             ParseFault::Lex(LexFault::OutOfMemory) => return Ok(GraphFault::out_of_memory()),
             ParseFault::Expected(spot, wanted) => (spot, Cause::Expected(wanted)),
             ParseFault::UnexpectedIndent(spot) => (spot, Cause::UnexpectedIndent),
