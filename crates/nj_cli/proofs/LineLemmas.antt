@@ -3,7 +3,7 @@ use Rattle.std.proofs.Common.{◌≡◌, ℕ, zero, suc, ◌+◌, ◌≤◌, Boo
 use Rattle.std.proofs.lemmas.Bool.{false≢true}
 use Rattle.std.specs.Str.{bytes_eq}
 use Rattle.std.specs.Prelude.{codes}
-use Rattle.nj_text.specs.declared.fault.LexFault.{LexFault}
+use Rattle.nj_text.specs.declared.fault.UnitFault.{UnitFault}
 use Rattle.nj_text.specs.declared.sign.Sign.{Sign}
 use Rattle.nj_text.specs.declared.sign.Sign.TheVariants as sign
 use Rattle.nj_text.specs.Bytes.{drop_while}
@@ -21,7 +21,7 @@ pub bind-some : {A B : Type 0} (o : Option A) (k : A → Option B) (y : B) → (
 bind-some (Some x) k y h = (x, refl, h)
 bind-some None k y h = absurd cc
 
-called-fault : {A : Type 0} (f : Option LexFault) (r : Reply A) (y : A × State) → called (calls.unless_fault f r) ≡ Some y → called r ≡ Some y
+called-fault : {A : Type 0} (f : Option UnitFault) (r : Reply A) (y : A × State) → called (calls.unless_fault f r) ≡ Some y → called r ≡ Some y
 called-fault None r y h = h
 called-fault (Some f) r y h = absurd cc
 

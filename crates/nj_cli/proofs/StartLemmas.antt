@@ -1,7 +1,9 @@
 -- The first of the sayings, as the lexer comes to it.
 use Rattle.std.proofs.Common.{◌≡◌, ℕ, Bool, true, false, cond, ◌&&◌, Some, None, Result, Ok, Err, List, [], ◌∷◌, refl, sym, ap, subst, ◌∙◌}
 use Rattle.std.proofs.lemmas.Bool.{false≢true}
+use Rattle.nj_text.specs.declared.fault.UnitFault.{UnitFault}
 use Rattle.nj_text.specs.declared.fault.LexFault.{LexFault}
+use Rattle.nj_text.specs.declared.fault.LexFault.TheVariants as lex
 use Rattle.nj_text.specs.declared.sign.LineStart.{LineStart}
 use Rattle.nj_text.specs.declared.sign.LineStart.TheVariants as start
 use Rattle.nj_text.specs.Lines.{Line, with_units, lines_behind, Kind, CommentLine, TabLine, BlankLine, IndentedLine, PlainLine, kind_of}
@@ -24,7 +26,7 @@ abbrev BeginsLine : (State → Saying) → List Saying → State → Type 0
 BeginsLine say ss s = (l : Line) × (ls : List Line) × (others : List Saying) × (s ≡ Inside l ls) × (ss ≡ say s ∷ others) × (sayings_left (Between (lines_behind l ls)) ≡ Some others)
 
 -- what the start of a line says of the sayings, and where the lexer stands then
-abbrev Begins : List Saying → Result LineStart LexFault → State → Type 0
+abbrev Begins : List Saying → Result LineStart UnitFault → State → Type 0
 Begins ss (Ok start.End) s = ss ≡ []
 Begins ss (Ok start.Blank) s = (others : List Saying) × (ss ≡ Blank ∷ others) × (sayings_left s ≡ Some others)
 Begins ss (Ok start.Indented) s = BeginsLine block_saying ss s
@@ -70,9 +72,8 @@ begun-says (l ∷ ls) = by_comment (is_comment (kind_of l)) refl (begun-says ls)
     by_comment true e rest = subst (λ ss. BeginsAt ss (lines_behind l (without_comments ls))) (sym (said_before-comment (kind_of l) l ls (unless_last l (sayings ls)) e)) (by_last l.is_last refl rest)
 
 -- what the lexer answers at the start of a line
-start-begins : (ls : List Line) (answer : Result LineStart LexFault) (s : State) → Answers (λ start. start) answer s (start_line_of (Between ls)) → Begins (sayings ls) answer s
-start-begins ls (Ok x) s h = subst (λ a. Begins (sayings ls) a s) h.0 (subst (Begins (sayings ls) (begun (without_comments ls)).answer) (sym h.1) (begun-says ls))
-start-begins ls (Err f) s h = subst (λ a. Begins (sayings ls) a s) h.0 (subst (Begins (sayings ls) (begun (without_comments ls)).answer) (sym h.1) (begun-says ls))
+start-begins : (ls : List Line) (answer : Result LineStart UnitFault) (s : State) → ((start_line_of (Between ls)).answer ≡ answer) × (s ≡ (start_line_of (Between ls)).after) → Begins (sayings ls) answer s
+start-begins ls answer s h = subst (λ a. Begins (sayings ls) a s) h.0 (subst (Begins (sayings ls) (begun (without_comments ls)).answer) (sym h.1) (begun-says ls))
 
 -- ---- the arms
 
@@ -87,7 +88,8 @@ blank-first (Inside l ls) after h = tt
 blank-first (Failed f) after h = tt
 
 pub fault-first : (before after : State) (f : LexFault) (line : ℕ) → Answers (λ start. start) (Err f) after (start_line_of before) → line ≡ number_at after → IsFirst (Some (BlockLine line None)) (sayings_left before) (sayings_left after)
-fault-first (Between ls) after f line h e = let b = start-begins ls (Err f) after h in rw b.1 (ap (λ n. Some (BlockLine n None)) e, λ g. absurd (false≢true g))
+fault-first (Between ls) after lex.OutOfMemory line h e = absurd h
+fault-first (Between ls) after (lex.Unit f) line h e = let b = start-begins ls (Err f) after h in rw b.1 (ap (λ n. Some (BlockLine n None)) e, λ g. absurd (false≢true g))
 fault-first (Inside l ls) after f line h e = tt
 fault-first (Failed g) after f line h e = tt
 

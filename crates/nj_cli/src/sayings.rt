@@ -50,7 +50,7 @@ impl From<LexFault> for LineFault {
     fn from(fault: LexFault) -> LineFault {
         match fault {
             LexFault::OutOfMemory => LineFault::OutOfMemory,
-            LexFault::BadByte(_) | LexFault::Tab(_) | LexFault::BadEscape(_) => LineFault::Departs,
+            LexFault::Unit(_) => LineFault::Departs,
         }
     }
 }
