@@ -12,3 +12,4 @@ pub mod Steps
 pub mod Stands
 pub mod SignsTaken
 pub mod UnitLaws
+pub mod PartLaws

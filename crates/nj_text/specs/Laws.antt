@@ -1,10 +1,12 @@
--- Laws above the cut: units and lines lose nothing of a text, and each place counts line feeds and bytes.
+-- Laws above the cut: units and lines lose nothing of a text, each place counts line feeds and bytes, and the parts of
+-- words and values stand in the text from left to right.
 use Rattle.std.specs.Prelude.{◌≡◌, ℕ, ◌+◌, Bool, not, Option, Some, None, List, [], ◌∷◌, ◌++◌, map}
 use Rattle.std.specs.List.{flat_map, count_by, suffix_len}
 use Rattle.nj_text.specs.declared.spot.Spot.{Spot}
 use Rattle.nj_text.specs.Bytes.{is_line_feed}
 use Rattle.nj_text.specs.Units.{TextUnit, units}
 use Rattle.nj_text.specs.Lines.{Line, text_lines, ending_of}
+use Rattle.nj_text.specs.Words.{PartText, Text, Name, parts_of}
 use Rattle.nj_text.specs.Calls.{bytes_of}
 
 -- the bytes of the units, one after another, are the text
@@ -38,3 +40,20 @@ marks_of l = map InLine l.units ++ AtEnd l.end l.is_last ∷ []
 -- the lines, one after another, are the units
 abbrev pub LinesAreTheUnits : Type 0
 LinesAreTheUnits = (text : List ℕ) → flat_map marks_of (text_lines text) ≡ map mark_of (units text)
+
+-- the bytes of a part as they stand in the text: a run of ordinary bytes, the byte of an escape, or a name
+abbrev pub part_bytes : PartText → List ℕ
+part_bytes (Text bytes) = bytes
+part_bytes (Name name) = name
+
+-- The pieces stand in the bytes from left to right: each after the end of the one before it.
+abbrev pub StandInOrder : (pieces : List (List ℕ)) → (bytes : List ℕ) → Type 0
+StandInOrder [] bytes = Unit {0}
+StandInOrder (piece ∷ pieces) bytes = (gap : List ℕ) × (rest : List ℕ) × (bytes ≡ gap ++ piece ++ rest) × StandInOrder pieces rest
+
+-- Units that follow one another in a text, as those of a word or a value do, are a range of its bytes, and their parts
+-- stand in that range from left to right. So the parts stand at rising ranges of the text, none over another.
+abbrev pub PartsStandInOrder : Type 0
+PartsStandInOrder =
+    (text : List ℕ) (before us after : List TextUnit) → units text ≡ before ++ us ++ after
+    → (text ≡ bytes_of before ++ bytes_of us ++ bytes_of after) × StandInOrder (map part_bytes (parts_of us)) (bytes_of us)

@@ -1,6 +1,6 @@
 //! Laws of the cut of a text into units and lines.
 
-ghost use Rattle.nj_text.specs.Laws.{UnitsAreTheText, UnitsStandInPlace, LinesAreTheUnits};
+ghost use Rattle.nj_text.specs.Laws.{UnitsAreTheText, UnitsStandInPlace, LinesAreTheUnits, PartsStandInOrder};
 
 /// The units of a text, one after another, are the text.
 pub fn units_are_the_text()
@@ -15,4 +15,9 @@ pub fn units_stand_in_place()
 /// The lines of a text, each with its end, are its units.
 pub fn lines_are_the_units()
     ensures { LinesAreTheUnits }
+{}
+
+/// The parts of a word or a value stand at rising ranges of the text.
+pub fn parts_stand_in_order()
+    ensures { PartsStandInOrder }
 {}

@@ -22,7 +22,9 @@ mod word;
 mod words;
 
 pub use fault::{LexFault, UnitFault};
-pub use laws::{lines_are_the_units, units_are_the_text, units_stand_in_place};
+pub use laws::{
+    lines_are_the_units, parts_stand_in_order, units_are_the_text, units_stand_in_place,
+};
 pub use lexer::Lexer;
 pub use numbers::{leading_number, version_of};
 pub use sign::{LineStart, Sign};
