@@ -178,6 +178,10 @@ run_read k r spot there bytes xs ys is_r run behind whole e nonempty =
     let none : NoneInRun (in_run (run_of k)) ys = rw (← is_r, behind) (none_behind (in_run r) bytes) in
     rw e (run_piece k spot bytes xs ys whole all none (λ h. false≢true (sym nonempty ∙ ap (λ zs. eqb (length zs) 0) h)))
 
+-- behind the run that stands at a place none of its bytes stands
+pub run_over : (k : TextKind) (r : Run) (bytes ys : List ℕ) → r ≡ run_of k → ys ≡ drop_while (in_run r) bytes → NoneInRun (in_run (run_of k)) ys
+run_over k r bytes ys is_r behind = rw (← is_r, behind) (none_behind (in_run r) bytes)
+
 -- ---- turns of the loop
 
 -- a part more

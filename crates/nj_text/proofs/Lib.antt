@@ -1,6 +1,7 @@
 pub mod Rows
 pub mod NumberRows
 pub mod Lists
+pub mod LaneRuns
 pub mod Digits
 pub mod Cuts
 pub mod Nexts

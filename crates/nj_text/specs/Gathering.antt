@@ -1,5 +1,5 @@
 -- What the lexer gathers of a word or a value.
-use Rattle.std.specs.Prelude.{◌≡◌, ℕ, ◌<◌, Bool, true, false, Option, Some, None, Result, Ok, Err, List, [], ◌∷◌, length, map}
+use Rattle.std.specs.Prelude.{◌≡◌, ℕ, ◌<◌, ◌≤◌, Bool, true, false, Option, Some, None, Result, Ok, Err, List, [], ◌∷◌, ◌++◌, length, map}
 use Rattle.std.specs.List.{take_while}
 use Rattle.std.specs.Global.{Vec}
 use Rattle.nj_text.specs.declared.fault.UnitFault.{UnitFault}
@@ -14,6 +14,7 @@ use Rattle.nj_text.specs.declared.parts.Piece.TheVariants as piece
 use Rattle.nj_text.specs.declared.runs.Run.{Run}
 use Rattle.nj_text.specs.declared.runs.Run.TheVariants as run
 use Rattle.nj_text.specs.Bytes.{drop_while}
+use Rattle.nj_text.specs.Runs.{in_run}
 use Rattle.nj_text.specs.Units.{Meaning, LeadingTab, LineEnd, TextEnd, BadByte, BadEscape, TextUnit}
 use Rattle.nj_text.specs.Scans.{units_within}
 use Rattle.nj_text.specs.Words.{in_word, next_fault, parts_of, part_text, PartText}
@@ -62,6 +63,15 @@ IsShorter n other = Unit {0}
 abbrev pub NoneInRun : (ℕ → Bool) → List ℕ → Type 0
 NoneInRun p [] = Unit {0}
 NoneInRun p (b ∷ bs) = p b ≡ false
+
+-- The run of ordinary bytes at the front is taken, and behind it stands none.
+abbrev pub TakesRun : TextKind → (old new : List Part) → Cursor → Result Cursor LexFault → Type 0
+TakesRun kind old new c (Ok after) =
+    (map part_text new ++ gathered kind (units_at after) ≡ map part_text old ++ gathered kind (units_at c))
+    × (behind_text kind (units_at after) ≡ behind_text kind (units_at c))
+    × NoneInRun (in_run (run_of kind)) after.rest.now
+    × (length after.rest.now ≤ length c.rest.now)
+TakesRun kind old new c (Err f) = f ≡ lex.OutOfMemory
 
 -- a whole text, or its fault; out of memory says nothing of it
 abbrev pub FailsText : LexFault → Option UnitFault → Type 0

@@ -10,6 +10,7 @@ use crate::next::{Next, next_unit};
 use crate::runs::Run;
 
 /// Behind the join that stands next; None where none does.
+#[inline(always)]
 fn past_join(cursor: Cursor<'_>) -> Option<Cursor<'_>>
     ensures blanks { MatchOption result
         (begins_with_space_byte cursor.entry.rest.now ≡ false → drop_while is_blank (units_within cursor.entry.spot cursor.entry.rest.now) ≡ units_within cursor.entry.spot cursor.entry.rest.now)
@@ -29,6 +30,7 @@ fn past_join(cursor: Cursor<'_>) -> Option<Cursor<'_>>
 }
 
 /// Behind the blanks that stand next.
+#[inline(always)]
 pub fn skip_blanks(start: Cursor<'_>) -> Cursor<'_>
     ensures { units_within result.spot result.rest.now ≡ drop_while is_blank (units_within start.entry.spot start.entry.rest.now) }
 {

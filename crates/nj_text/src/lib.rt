@@ -7,6 +7,7 @@ mod blanks;
 mod cursor;
 mod dollar;
 mod fault;
+mod lanes;
 mod laws;
 mod lexer;
 mod next;

@@ -4,7 +4,7 @@ ghost use Rattle.std.specs.Prelude.{◌≡◌, ◌<◌, ◌+◌, length, map, If
 ghost use Rattle.nj_text.specs.Scans.{units_within};
 ghost use Rattle.nj_text.specs.Runs.{in_run};
 ghost use Rattle.nj_text.specs.Calls.{begins_word};
-ghost use Rattle.nj_text.specs.Gathering.{run_of, Gathers, PieceIs, NoneInRun, IsShorter};
+ghost use Rattle.nj_text.specs.Gathering.{run_of, Gathers, PieceIs, TakesRun, NoneInRun, IsShorter};
 
 use crate::cursor::Cursor;
 use crate::fault::{LexFault, UnitFault};
@@ -47,6 +47,7 @@ impl TextKind {
 }
 
 /// What stands next in a text that has no ordinary byte of its own next.
+#[inline(always)]
 fn special_piece(kind: TextKind, cursor: Cursor<'_>) -> Piece<'_>
     requires { NoneInRun (in_run (run_of kind)) cursor.rest.now }
     ensures piece { PieceIs kind (units_within cursor.entry.spot cursor.entry.rest.now) result }
@@ -64,19 +65,25 @@ fn special_piece(kind: TextKind, cursor: Cursor<'_>) -> Piece<'_>
     }
 }
 
-/// What stands next in a text.
-fn next_piece(kind: TextKind, cursor: Cursor<'_>) -> Piece<'_>
-    ensures piece { PieceIs kind (units_within cursor.entry.spot cursor.entry.rest.now) result }
-    ensures shorter { IsShorter (length cursor.entry.rest.now) result }
+/// Appends the run of ordinary bytes that stands next, if there is one, and skips it.
+#[inline(always)]
+fn take_run<'a>(
+    parts: &mut Vec<Part<'a>>,
+    kind: TextKind,
+    cursor: Cursor<'a>,
+) -> Result<Cursor<'a>, LexFault>
+    ensures { TakesRun kind parts.old.items parts.new.items cursor.entry result }
 {
-    let (bytes, behind) = cursor.run(kind.run());
+    let (bytes, after) = cursor.run(kind.run());
     if bytes.is_empty() {
-        return special_piece(kind, cursor);
+        return Ok(after);
     }
-    Piece::Part(Part::Bytes(bytes), behind)
+    parts.push(Part::Bytes(bytes))?;
+    Ok(after)
 }
 
 /// The parts of the text that stands next, and where it ends.
+#[inline(always)]
 pub fn gather<'a>(
     alloc: Global,
     kind: TextKind,
@@ -87,19 +94,24 @@ pub fn gather<'a>(
     let mut parts = Vec::new(alloc);
     let mut cursor = start;
     'pieces: loop {
-        match next_piece(kind, cursor) {
+        let behind = match take_run(&mut parts, kind, cursor) {
+            Ok(behind) => behind,
+            Err(fault) => return Err(fault),
+        };
+        match special_piece(kind, behind) {
             Piece::Part(part, after) => {
                 parts.push(part)?;
                 cursor = after;
             }
             Piece::Join(after) => cursor = after,
-            Piece::End => return Ok((parts, cursor)),
+            Piece::End => return Ok((parts, behind)),
             Piece::Bad(fault) => return Err(LexFault::Unit(fault)),
         }
     }
 }
 
 /// Whether a word begins.
+#[inline(always)]
 pub fn begins_word(cursor: Cursor<'_>) -> bool
     ensures { result ≡ begins_word (units_within cursor.entry.spot cursor.entry.rest.now) }
 {

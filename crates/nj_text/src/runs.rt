@@ -5,6 +5,9 @@ ghost use Rattle.std.specs.List.{prefix_len, take_while};
 ghost use Rattle.nj_text.specs.Bytes.{drop_while};
 ghost use Rattle.nj_text.specs.Runs.{in_run};
 
+use crate::lanes::{LANES, stops};
+use std::simd::prelude::*;
+
 /// The kinds of bytes that are passed as one run.
 #[derive(Clone, Copy)]
 pub enum Run {
@@ -52,9 +55,9 @@ pub fn is_in(run: Run, byte: u8) -> bool
     }
 }
 
-/// How many bytes of the run stand at the front.
+/// How many bytes of the run stand at the front, tested one by one.
 #[inline(always)]
-pub fn run_length(run: Run, bytes: &[u8]) -> usize
+fn length_by_bytes(run: Run, bytes: &[u8]) -> usize
     ensures length { result ≡ prefix_len (in_run run) bytes.now }
     ensures within { result ≤ length bytes.now }
 {
@@ -66,6 +69,39 @@ pub fn run_length(run: Run, bytes: &[u8]) -> usize
         length += 1;
     }
     length
+}
+
+/// How many bytes of the run stand at the front, tested sixteen at a time.
+#[inline(always)]
+fn length_by_lanes(run: Run, bytes: &[u8]) -> usize
+    ensures length { result ≡ prefix_len (in_run run) bytes.now }
+    ensures within { result ≤ length bytes.now }
+{
+    let mut passed = 0;
+    'lanes: while bytes.len() - passed >= LANES {
+        let stops = stops(run, u8x16::from_slice(&bytes[passed..]));
+        if stops != 0 {
+            return passed + stops.trailing_zeros() as usize;
+        }
+        passed += LANES;
+    }
+    passed + length_by_bytes(run, &bytes[passed..])
+}
+
+/// How many bytes of the run stand at the front. Spaces and names after a `$` are few: sixteen at once gain nothing.
+#[inline(always)]
+pub fn run_length(run: Run, bytes: &[u8]) -> usize
+    ensures length { result ≡ prefix_len (in_run run) bytes.now }
+    ensures within { result ≤ length bytes.now }
+{
+    match run {
+        Run::Spaces => length_by_bytes(run, bytes),
+        Run::Name => length_by_bytes(run, bytes),
+        Run::Identifier => length_by_lanes(run, bytes),
+        Run::Word => length_by_lanes(run, bytes),
+        Run::Value => length_by_lanes(run, bytes),
+        Run::Comment => length_by_lanes(run, bytes),
+    }
 }
 
 /// The run at the front, which may be empty, and the bytes behind it.

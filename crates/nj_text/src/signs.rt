@@ -16,6 +16,7 @@ use crate::runs::first_byte;
 use crate::sign::Sign;
 
 /// The fault of the unit that stands next, where it is a bad one.
+#[inline(always)]
 pub fn bad_unit(cursor: Cursor<'_>) -> Option<UnitFault>
     ensures { result ≡ next_fault (units_within cursor.entry.spot cursor.entry.rest.now) }
 {

@@ -1,7 +1,7 @@
 use Rattle.std.proofs.Common.{◌≡◌, ◌+◌, drop}
 use Rattle.std.specs.List.{prefix_len}
 use Rattle.nj_text.specs.Runs.{in_run}
-use Rattle.nj_text.proofs.runs.run_length.Given as goal
+use Rattle.nj_text.proofs.runs.length_by_bytes.Given as goal
 
 abbrev pub invariant-loop-byte : goal.invariant-loop-byte
 invariant-loop-byte l =

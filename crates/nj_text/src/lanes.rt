@@ -1,0 +1,92 @@
+//! Sixteen bytes at once.
+//!
+//! Nearly all bytes of a manifest stand in runs: paths, flags, names. So the bytes of a run are not tested one by one:
+//! sixteen of them are loaded as the lanes of a vector and compared with each byte that ends a run, and the first lane
+//! with such a byte is where the run ends. Each test is that of a single byte, for all 256 bytes.
+
+ghost use Rattle.std.specs.Prelude.{◌≡◌, not, map};
+ghost use Rattle.std.specs.Simd.Lanes.{mask_l};
+ghost use Rattle.nj_text.specs.Runs.{in_run};
+
+use crate::runs::Run;
+use std::simd::prelude::*;
+
+/// How many bytes a vector has.
+pub const LANES: usize = 16;
+
+/// A bit for each lane, set where the byte is none of the run.
+#[inline(always)]
+pub fn stops(run: Run, lanes: u8x16) -> u64
+    ensures { result ≡ mask_l (map (λ b. not (in_run run b)) lanes) }
+{
+    match run {
+        Run::Spaces => space_stops(lanes),
+        Run::Name => name_stops(lanes),
+        Run::Identifier => identifier_stops(lanes),
+        Run::Word => word_stops(lanes),
+        Run::Value => value_stops(lanes),
+        Run::Comment => comment_stops(lanes),
+    }
+}
+
+#[inline(always)]
+fn space_stops(lanes: u8x16) -> u64
+    ensures { result ≡ mask_l (map (λ b. not (in_run Run.Spaces b)) lanes) }
+{
+    lanes.simd_ne(u8x16::splat(b' ')).to_bitmask()
+}
+
+#[inline(always)]
+fn name_stops(lanes: u8x16) -> u64
+    ensures { result ≡ mask_l (map (λ b. not (in_run Run.Name b)) lanes) }
+{
+    let letters_from_a = (lanes | u8x16::splat(0x20)) - u8x16::splat(b'a');
+    let digits = lanes - u8x16::splat(b'0');
+    (letters_from_a.simd_ge(u8x16::splat(26))
+        & digits.simd_ge(u8x16::splat(10))
+        & lanes.simd_ne(u8x16::splat(b'_'))
+        & lanes.simd_ne(u8x16::splat(b'-'))).to_bitmask()
+}
+
+#[inline(always)]
+fn identifier_stops(lanes: u8x16) -> u64
+    ensures { result ≡ mask_l (map (λ b. not (in_run Run.Identifier b)) lanes) }
+{
+    let letters_from_a = (lanes | u8x16::splat(0x20)) - u8x16::splat(b'a');
+    let digits = lanes - u8x16::splat(b'0');
+    (letters_from_a.simd_ge(u8x16::splat(26))
+        & digits.simd_ge(u8x16::splat(10))
+        & lanes.simd_ne(u8x16::splat(b'_'))
+        & lanes.simd_ne(u8x16::splat(b'-'))
+        & lanes.simd_ne(u8x16::splat(b'.'))).to_bitmask()
+}
+
+#[inline(always)]
+fn word_stops(lanes: u8x16) -> u64
+    ensures { result ≡ mask_l (map (λ b. not (in_run Run.Word b)) lanes) }
+{
+    (lanes.simd_eq(u8x16::splat(b'$'))
+        | lanes.simd_eq(u8x16::splat(b'\n'))
+        | lanes.simd_eq(u8x16::splat(b'\r'))
+        | lanes.simd_eq(u8x16::splat(0))
+        | lanes.simd_eq(u8x16::splat(b' '))
+        | lanes.simd_eq(u8x16::splat(b':'))
+        | lanes.simd_eq(u8x16::splat(b'|'))).to_bitmask()
+}
+
+#[inline(always)]
+fn value_stops(lanes: u8x16) -> u64
+    ensures { result ≡ mask_l (map (λ b. not (in_run Run.Value b)) lanes) }
+{
+    (lanes.simd_eq(u8x16::splat(b'$'))
+        | lanes.simd_eq(u8x16::splat(b'\n'))
+        | lanes.simd_eq(u8x16::splat(b'\r'))
+        | lanes.simd_eq(u8x16::splat(0))).to_bitmask()
+}
+
+#[inline(always)]
+fn comment_stops(lanes: u8x16) -> u64
+    ensures { result ≡ mask_l (map (λ b. not (in_run Run.Comment b)) lanes) }
+{
+    lanes.simd_eq(u8x16::splat(b'\n')).to_bitmask()
+}
