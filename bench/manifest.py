@@ -1,7 +1,10 @@
 #!/usr/bin/env python3
-"""Writes a large Ninja file to standard output, in the form that CMake writes: manifest.py N has N build statements.
+"""Writes a large Ninja file to standard output: manifest.py N [SHAPE] has N build statements.
 
-The same N gives the same bytes. Each target is 20 statements: one for the order, 18 compilations, and a link.
+The shape `cmake` (the one without a word) is the form that CMake writes, with long values. The shape `dense` is that of
+generators which list what each file includes: long lists of short inputs, paths of about 34 bytes, and in each block five
+references and a join. The same N and shape give the same bytes. In both each target is 20 statements: one for the order,
+18 compilations, and a link.
 """
 
 import sys
@@ -113,12 +116,68 @@ def statement(index):
     return compilation(target, number)
 
 
-def write_manifest(count, out):
-    out.write(HEAD)
+DENSE_HEAD = """\
+ninja_required_version = 1.5
+root = ../project
+cxxflags = -O2 -g -std=c++20
+defines = -DNDEBUG -D_GNU_SOURCE
+warnings = -Wall -Wextra
+
+rule cxx
+  command = c++ $FLAGS -MMD -MF $out.d -c $in -o $out
+  depfile = $out.d
+  deps = gcc
+
+rule ar
+  command = ar qc $out $in
+
+"""
+
+DENSE_HEADERS = 12
+
+
+def dense_object(target, number):
+    return f"out/obj/base_{target:05}/unit_{number:02}.cc.o"
+
+
+def dense_header(target, number, place):
+    """A header of the target, or of one of the three before it."""
+    return f"src/base_{max(target - place % 4, 0):05}/include/widget_{(number * 7 + place) % 40:02}.h"
+
+
+def dense_compilation(target, number):
+    headers = " ".join(dense_header(target, number, place) for place in range(DENSE_HEADERS))
+    return f"""\
+build {dense_object(target, number)}: cxx src/base_{target:05}/source/unit_{number:02}.cc | {headers} || order_{target}
+  FLAGS = $cxxflags $defines -I$root/src/base_{target:05} $
+      -I${{root}}/include $warnings
+"""
+
+
+def dense_link(target):
+    objects = " ".join(dense_object(target, number) for number in range(1, PER_TARGET - 1))
+    return f"build out/lib/base_{target:05}.a: ar {objects} || order_{target}\n"
+
+
+def dense_statement(index):
+    target, number = divmod(index, PER_TARGET)
+    if number == 0:
+        return f"build order_{target}: phony\n"
+    if number == PER_TARGET - 1:
+        return dense_link(target)
+    return dense_compilation(target, number)
+
+
+SHAPES = {"cmake": (HEAD, statement, "cmake_order_target_0"), "dense": (DENSE_HEAD, dense_statement, "order_0")}
+
+
+def write_manifest(count, out, shape="cmake"):
+    head, statement_at, target = SHAPES[shape]
+    out.write(head)
     for index in range(count):
-        out.write(statement(index))
-    out.write("default cmake_order_target_0\n")
+        out.write(statement_at(index))
+    out.write(f"default {target}\n")
 
 
 if __name__ == "__main__":
-    write_manifest(int(sys.argv[1]), sys.stdout)
+    write_manifest(int(sys.argv[1]), sys.stdout, *sys.argv[2:])
