@@ -1,5 +1,5 @@
 -- The first fault of a block.
-use Rattle.std.proofs.Common.{◌≡◌, ℕ, Bool, true, false, cond, inl, inr, Result, Ok, Err, is_ok, List, [], ◌∷◌, ◌++◌, refl, sym, ap, subst, ◌∙◌, append_assoc}
+use Rattle.std.proofs.Common.{◌≡◌, ℕ, Bool, true, false, cond, inl, inr, Result, Ok, Err, List, [], ◌∷◌, ◌++◌, refl, sym, ap, subst, ◌∙◌, append_assoc}
 use Rattle.nj_text.specs.declared.fault.UnitFault.TheVariants as lex
 use Rattle.nj_text.specs.declared.spot.Spot.{Spot}
 use Rattle.nj_text.specs.Units.{TextUnit}
@@ -10,10 +10,10 @@ use Rattle.nj_manifest.specs.declared.block.Keys.{Keys}
 use Rattle.nj_manifest.specs.Faults.{Fault, Bad}
 use Rattle.nj_manifest.specs.Steps.{Step, ◌>>=◌}
 use Rattle.nj_manifest.specs.Statements.{LineText, line_next, Reading, or_last, no_lines, block_by, block}
-use Rattle.nj_manifest.specs.Leftmost.{goes_on, element, written_unit, written, are_plain, NamesThePlaceOf}
+use Rattle.nj_manifest.specs.Leftmost.{goes_on, element, written_unit, written, are_plain, NamesThePlaceOf, met_before, offers}
 use Rattle.nj_manifest.proofs.BlockLines.{in_front}
 use Rattle.nj_manifest.proofs.LeftmostFronts.{front, element-front}
-use Rattle.nj_manifest.proofs.LeftmostSteps.{no_result, at, text, Fits, Said, begin, Stuck, Outcome, stuck, through}
+use Rattle.nj_manifest.proofs.LeftmostSteps.{at, text, Fits, Said, begin, Stuck, Outcome, stuck, through}
 use Rattle.nj_manifest.proofs.LeftmostHeads.{starts}
 use Rattle.nj_manifest.proofs.LeftmostLines.{line_turn, key_bytes, key_line, key_plain, key_starts}
 use Rattle.nj_manifest.proofs.LeftmostKinds.{kind_units, spaces_of, behind_spaces, spaces_cut, spaces_pass, unspaced, kind_replaced, no_space_same, identifier_no_space, identifier_spaced, indented_spaces, tab_place}
@@ -26,9 +26,10 @@ pub record BlockStuck (allowed : Keys) (ls : List Line) (fault : Fault) : Type 0
   pub others : List Line
   pub cut : ls ≡ goes_on before begun line others
   pub place : NamesThePlaceOf fault line
-  pub none : (m : Line) (ms : List Line) → element m.units ≡ element line.units → is_ok (block allowed (goes_on before begun m ms)) ≡ false
+  pub refuses : (m : Line) (ms : List Line) → element m.units ≡ element line.units → block allowed (goes_on before begun m ms) ≡ Err (met_before m fault)
   pub bytes : List ℕ
   pub plain : are_plain bytes ≡ true
+  pub offered : offers fault bytes ≡ true
   pub read : List LineText
   pub some : (ms : List Line) → block allowed (goes_on before begun (written bytes) ms) ≡ in_front read (block allowed ms)
 
@@ -76,9 +77,8 @@ more_in_front : (v : LineText) (s : State) (front : List LineText) (others : Rea
 more_in_front v s front (Ok o) = refl
 more_in_front v s front (Err f) = refl
 
-none_then : (others : Reading (List LineText)) (line : LineText × State) → is_ok others ≡ false → is_ok (line_then others line) ≡ false
-none_then (Ok o) line h = absurd cc
-none_then (Err f) line h = refl
+bad_then : (others : Reading (List LineText)) (line : LineText × State) (f : Fault) → others ≡ Err f → line_then others line ≡ Err f
+bad_then others line f h = rw h refl
 
 same_fault : {A : Type 0} (r : Result A Fault) (f g : Fault) → r ≡ Err f → r ≡ Err g → g ≡ f
 same_fault r f g h i = errs (sym i ∙ h)
@@ -98,13 +98,14 @@ stuck_here allowed l ls fault h s =
       others = ls;
       cut = ap (λ (y : List TextUnit). with_units y l ∷ ls) (spaces_cut l.units ∙ (ap (λ (y : List TextUnit). sp ++ y) s.cut ∙ sym (append_assoc sp s.begun s.left)));
       place = s.place;
-      none = λ m ms same.
-          let r = s.none m.units m ms same in
+      refuses = λ m ms same.
+          let r = s.refuses m.units m ms same in
           let assoc = append_assoc sp s.begun m.units in
-          no_result _ r.0 (ap (λ (y : List TextUnit). block allowed (with_units y m ∷ ms)) assoc
-          ∙ bad_block allowed (with_units (sp ++ (s.begun ++ m.units)) m) ms r.0 r.1.0 (ap (λ (y : List TextUnit). line_next allowed (at y m ms)) r.1.1 ∙ r.1.2));
+          ap (λ (y : List TextUnit). block allowed (with_units y m ∷ ms)) assoc
+          ∙ bad_block allowed (with_units (sp ++ (s.begun ++ m.units)) m) ms (met_before m fault) r.0 (ap (λ (y : List TextUnit). line_next allowed (at y m ms)) r.1 ∙ r.2);
       bytes = s.bytes;
       plain = s.plain;
+      offered = s.offered;
       read = s.value ∷ [];
       some = λ ms.
           let r = s.some ms in
@@ -146,9 +147,10 @@ tab_here allowed l ls tab h =
       others = ls;
       cut = ap (λ (y : List TextUnit). with_units y l ∷ ls) (spaces_cut l.units);
       place = tab_place l.units tab l.end h;
-      none = λ m ms same. no_result _ _ (tab_block allowed (with_units (sp ++ m.units) m) ms tab (kind_replaced l.units m.units (element-front m.units (behind_spaces l.units) same) ∙ h));
+      refuses = λ m ms same. tab_block allowed (with_units (sp ++ m.units) m) ms tab (kind_replaced l.units m.units (element-front m.units (behind_spaces l.units) same) ∙ h);
       bytes = 32 ∷ key_bytes allowed;
       plain = key_plain allowed;
+      offered = refl;
       read = d.0 ∷ [];
       some = λ ms.
           read_block allowed (with_units (sp ++ text (32 ∷ key_bytes allowed)) (written [])) ms d.0 (Between ms) (spaced_key allowed sp (spaces_pass l.units)) refl
@@ -167,9 +169,10 @@ stuck_behind_comment allowed l ls fault same r = record {
   others = r.others;
   cut = ap (λ (y : List Line). l ∷ y) r.cut;
   place = r.place;
-  none = λ m ms e. ap is_ok (same (goes_on r.before r.begun m ms)) ∙ r.none m ms e;
+  refuses = λ m ms e. same (goes_on r.before r.begun m ms) ∙ r.refuses m ms e;
   bytes = r.bytes;
   plain = r.plain;
+  offered = r.offered;
   read = r.read;
   some = λ ms. same (goes_on r.before r.begun (written r.bytes) ms) ∙ r.some ms;
 }
@@ -183,9 +186,10 @@ stuck_behind_line allowed l ls fault v reads r = record {
   others = r.others;
   cut = ap (λ (y : List Line). l ∷ y) r.cut;
   place = r.place;
-  none = λ m ms e. ap is_ok (reads (goes_on r.before r.begun m ms)) ∙ none_then (block allowed (goes_on r.before r.begun m ms)) (v, Between (lines_behind l (goes_on r.before r.begun m ms))) (r.none m ms e);
+  refuses = λ m ms e. reads (goes_on r.before r.begun m ms) ∙ bad_then (block allowed (goes_on r.before r.begun m ms)) (v, Between (lines_behind l (goes_on r.before r.begun m ms))) (met_before m fault) (r.refuses m ms e);
   bytes = r.bytes;
   plain = r.plain;
+  offered = r.offered;
   read = v ∷ r.read;
   some = λ ms.
       let xs = goes_on r.before r.begun (written r.bytes) ms in

@@ -11,7 +11,7 @@ use Rattle.nj_manifest.specs.Steps.{Step, ◌>>=◌, NameText, name_next, behind
 use Rattle.nj_manifest.specs.Statements.{OutputsText, InputsText, HeadText, BuildHead, unless_none, outputs_next, inputs_next, build_next}
 use Rattle.nj_manifest.specs.Leftmost.{written}
 use Rattle.nj_manifest.proofs.LeftmostFronts.{sign-same, element-front}
-use Rattle.nj_manifest.proofs.LeftmostSteps.{no_result, at, text, Fits, is_separator, is_colon, colon_is, opens-more, after_name, after_words, FailsAt, Said, Along, Outcome, stuck, stick, bind-bind}
+use Rattle.nj_manifest.proofs.LeftmostSteps.{at, text, Fits, is_separator, is_colon, colon_is, opens-more, after_name, after_words, FailsAt, Said, Along, Outcome, stuck, stick, bind-bind}
 use Rattle.nj_manifest.proofs.LeftmostSigns.{sign_step, led_on, ending, colon_single, finish}
 use Rattle.nj_manifest.proofs.LeftmostWords.{settled, settled_same, one_more, WordsPass}
 use Rattle.nj_manifest.proofs.LeftmostSections.{is_pipe, is_pipe2, is_pipe_at, SectionRun, SectionPass, section_none}
@@ -155,9 +155,9 @@ no_explicit e us n empty none = record {
   cut = n.run.cut;
   place = refl;
   fails = λ ms. ap (λ (y : List TextUnit). build_next (at y e ms)) n.run.cut ∙ nothing_read n.run.left e ms n.stops none;
-  none = λ x d ms same.
+  refuses = λ x d ms same.
       let seen = element-front x n.run.left same in
-      no_result _ _ (nothing_read x d ms (settled_same x n.run.left seen ∙ n.stops) (sign-same sign.Pipe x n.run.left seen ∙ none));
+      (nothing_read x d ms (settled_same x n.run.left seen ∙ n.stops) (sign-same sign.Pipe x n.run.left seen ∙ none));
 }
   where
     missing : (t : Bool) (ws : List WordText) (x : List TextUnit) (d : Line) (ms : List Line) → is_empty ws ≡ t → t ≡ true → with_implicit_outputs ws ([], at x d ms) ≡ Err (Expected (spot_of_first x d.end) wanted.Path)
@@ -175,7 +175,7 @@ no_implicit e ex left run m empty = record {
   cut = run.cut;
   place = refl;
   fails = λ ms. ap (λ (y : List TextUnit). with_explicit_outputs (ex, at y e ms)) run.cut ∙ nothing_read run.left e ms (inr refl);
-  none = λ x d ms same. no_result _ _ (nothing_read x d ms (inr (element-front x run.left same)));
+  refuses = λ x d ms same. nothing_read x d ms (inr (element-front x run.left same));
 }
   where
     nothing_read : (x : List TextUnit) (d : Line) (ms : List Line) → Fits after_words run.left x → with_explicit_outputs (ex, at (run.used ++ x) d ms) ≡ Err (Expected (spot_of_first x d.end) wanted.Path)
@@ -208,11 +208,11 @@ module _ {P : Said HeadText} {whole : List TextUnit} (e : Line) where
 
   at_colon : (outs : OutputsText) (us : List TextUnit) → Along P whole (λ s. with_outputs (outs, s)) after_words us → Outcome P whole e
   at_colon outs us a =
-      sign_turn e sign.Colon wanted.Colon after_name colon_single (λ s. with_outputs (outs, s)) (with_colon outs) (λ s. refl) a (58 ∷ 114 ∷ []) refl refl (ends_colon outs) (λ p b. at_rule p.left b)
+      sign_turn e sign.Colon wanted.Colon after_name colon_single (λ s. with_outputs (outs, s)) (with_colon outs) (λ s. refl) a (58 ∷ 114 ∷ []) refl refl refl (ends_colon outs) (λ p b. at_rule p.left b)
     where
       at_rule : (left : List TextUnit) → Along P whole (λ s. name_next wanted.CommandName s >>= with_rule outs) after_name left → Outcome P whole e
       at_rule left b =
-          name_turn e wanted.CommandName (λ s. name_next wanted.CommandName s >>= with_rule outs) (with_rule outs) (λ s. refl) b (32 ∷ 114 ∷ []) refl refl (ends_rule outs) (λ n c. at_inputs outs n.passes.value n.passes.left c)
+          name_turn e wanted.CommandName (λ s. name_next wanted.CommandName s >>= with_rule outs) (with_rule outs) (λ s. refl) b (32 ∷ 114 ∷ []) refl refl refl (ends_rule outs) (λ n c. at_inputs outs n.passes.value n.passes.left c)
 
   -- the same reading, said otherwise
   along-same : {t : List TextUnit → Bool} {us : List TextUnit} (k k' : State → Step HeadText) → ((s : State) → k s ≡ k' s) → Along P whole k t us → Along P whole k' t us
@@ -228,7 +228,7 @@ module _ {P : Said HeadText} {whole : List TextUnit} (e : Line) where
       stuck_first : (n : WordsPass us) → is_empty n.value ≡ true → is_sign sign.Pipe n.run.left ≡ false → Outcome P whole e
       stuck_first n empty none =
           let d = ends_explicit_outputs n.run.word n.run.words in
-          stuck _ (stick build_next build_next (λ x. Ok x) (λ s. itself (build_next s)) a (no_explicit e us n empty none) (32 ∷ 120 ∷ 58 ∷ 114 ∷ []) refl d.0 (n.run.fits after_name (one_more (text (58 ∷ 114 ∷ []))) refl)
+          stuck _ (stick build_next build_next (λ x. Ok x) (λ s. itself (build_next s)) a (no_explicit e us n empty none) (32 ∷ 120 ∷ 58 ∷ 114 ∷ []) refl refl d.0 (n.run.fits after_name (one_more (text (58 ∷ 114 ∷ []))) refl)
           (λ ms. build_is (at (n.run.used ++ one_more (text (58 ∷ 114 ∷ []))) (written []) ms) ∙ (ap (λ r. r >>= with_explicit_outputs) (n.run.more (text (58 ∷ 114 ∷ [])) (written []) ms refl) ∙ d.1 ms)))
 
       by_empty : (n : WordsPass us) (t : Bool) → is_empty n.value ≡ t → is_sign sign.Pipe n.run.left ≡ false → Along P whole (λ s. with_implicit_outputs n.value ([], s)) after_words n.run.left → Outcome P whole e
@@ -239,7 +239,7 @@ module _ {P : Said HeadText} {whole : List TextUnit} (e : Line) where
       stuck_second : (ex : List WordText) (left : List TextUnit) (run : SectionRun sign.Pipe left) (m : SectionPass sign.Pipe left run) → Along P whole (λ s. with_explicit_outputs (ex, s)) after_words left → (is_empty ex && is_empty m.value) ≡ true → Outcome P whole e
       stuck_second ex left run m b empty =
           let d = ends_implicit_outputs ex run.word run.words in
-          stuck _ (stick (λ s. with_explicit_outputs (ex, s)) (λ s. with_explicit_outputs (ex, s)) (λ x. Ok x) (λ s. itself (with_explicit_outputs (ex, s))) b (no_implicit e ex left run m empty) (32 ∷ 120 ∷ 58 ∷ 114 ∷ []) refl d.0 (run.fits (text (58 ∷ 114 ∷ [])))
+          stuck _ (stick (λ s. with_explicit_outputs (ex, s)) (λ s. with_explicit_outputs (ex, s)) (λ x. Ok x) (λ s. itself (with_explicit_outputs (ex, s))) b (no_implicit e ex left run m empty) (32 ∷ 120 ∷ 58 ∷ 114 ∷ []) refl refl d.0 (run.fits (text (58 ∷ 114 ∷ [])))
           (λ ms. ap (λ r. r >>= with_implicit_outputs ex) (run.more (text (58 ∷ 114 ∷ [])) (written []) ms refl) ∙ d.1 ms))
 
       by_both : (n : WordsPass us) (run : SectionRun sign.Pipe n.run.left) (m : SectionPass sign.Pipe n.run.left run) (t : Bool) → (is_empty n.value && is_empty m.value) ≡ t → Along P whole (λ s. with_explicit_outputs (n.value, s)) after_words n.run.left

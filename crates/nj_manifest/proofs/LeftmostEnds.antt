@@ -1,5 +1,5 @@
 -- Lines that end a block which was begun, whatever lines it has.
-use Rattle.std.proofs.Common.{◌≡◌, ℕ, Bool, true, false, cond, ◌&&◌, ◌||◌, not, Result, Ok, Err, is_ok, List, [], ◌∷◌, ◌++◌, map, refl, sym, ap, ◌∙◌, codes}
+use Rattle.std.proofs.Common.{◌≡◌, ℕ, Bool, true, false, cond, ◌&&◌, ◌||◌, not, Result, Ok, Err, List, [], ◌∷◌, ◌++◌, map, refl, sym, ap, ◌∙◌, codes}
 use Rattle.std.specs.List.{list_any, list_all}
 use Rattle.std.specs.Str.{bytes_eq}
 use Rattle.nj_text.specs.declared.spot.Spot.{Spot}
@@ -98,16 +98,12 @@ closed spot (BuildHead outputs rule inputs) ls front e =
 
 -- ---- where a statement fails behind its first line
 
-block_none : {A : Type 0} (r : Reading (List LineText)) (k : List LineText × List Line → Result A Fault) → is_ok r ≡ false → is_ok (r >>= k) ≡ false
-block_none (Ok x) k h = absurd cc
-block_none (Err f) k h = refl
-
--- With a fault in its block no statement is read.
-pub none_with_block : (spot : Spot) (h : HeadText) (ls : List Line) (all : (item : StatementText) → h ≡ Alone item → ⊥) → is_ok (block (keys_of h) ls) ≡ false → is_ok (with_block spot h ls) ≡ false
-none_with_block spot (Alone item) ls all e = absurd (all item refl)
-none_with_block spot (RuleHead name) ls all e = block_none (block keys.OfRule ls) _ e
-none_with_block spot (PoolHead name) ls all e = block_none (block keys.OfPool ls) _ e
-none_with_block spot (BuildHead outputs rule inputs) ls all e = block_none (block keys.All ls) _ e
+-- A fault of its block is the statement's.
+pub block_refuses : (spot : Spot) (h : HeadText) (ls : List Line) (f : Fault) (all : (item : StatementText) → h ≡ Alone item → ⊥) → block (keys_of h) ls ≡ Err f → with_block spot h ls ≡ Err f
+block_refuses spot (Alone item) ls f all e = absurd (all item refl)
+block_refuses spot (RuleHead name) ls f all e = rw e refl
+block_refuses spot (PoolHead name) ls f all e = rw e refl
+block_refuses spot (BuildHead outputs rule inputs) ls f all e = rw e refl
 
 fault_of_missing : {A B : Type 0} (there : Bool) (fault f : Fault) (others : Result A Fault) (k : A → Result B Fault) → is_syntax fault ≡ false → is_syntax f ≡ true → (unless_missing there fault others >>= k) ≡ Err f → (others >>= k) ≡ Err f
 fault_of_missing true fault f others k n s h = h

@@ -12,10 +12,10 @@ use Rattle.nj_manifest.specs.declared.fault.Wanted.TheVariants as wanted
 use Rattle.nj_manifest.specs.Faults.{Fault, Bad, Expected}
 use Rattle.nj_manifest.specs.Steps.{Step, ◌>>=◌}
 use Rattle.nj_manifest.specs.Statements.{path_there}
-use Rattle.nj_manifest.specs.Leftmost.{are_plain}
+use Rattle.nj_manifest.specs.Leftmost.{are_plain, offers}
 use Rattle.nj_manifest.proofs.LeftmostRuns.{begins, both_parts, behind_stops, skip, skip_stops, gap_of, gap_passes, gap_cut}
 use Rattle.nj_manifest.proofs.LeftmostFronts.{fault-same, element-front}
-use Rattle.nj_manifest.proofs.LeftmostSteps.{no_result, at, text, after_name, after_words, Fits, fits-gap, Passes, FailsAt, fault-place}
+use Rattle.nj_manifest.proofs.LeftmostSteps.{at, text, after_name, after_words, Fits, fits-gap, Passes, FailsAt, fault-place}
 use Rattle.nj_manifest.proofs.LeftmostNames.{no_blank_there}
 use Rattle.nj_manifest.proofs.LeftmostWords.{settled, settled_so, settled_same, settled_ends, ends_word, ends_same, so_not, both_so, is-sound, opening_in, word_call, word_of, word_x, word_reads, word_fails, no_word_reads, bad_word_reads, one_more_reads, fits-word}
 use Rattle.nj_manifest.proofs.LeftmostSections.{colon_settled}
@@ -31,6 +31,7 @@ pub record FileStuck (us : List TextUnit) (e : Line) (fault : Fault) : Type 0 wh
   pub here : FailsAt file_word us e fault used left
   pub bytes : List ℕ
   pub plain : are_plain bytes ≡ true
+  pub offered : offers fault bytes ≡ true
   pub word : WordText
   pub fits : Fits after_name us (used ++ text bytes)
   pub reads : (d : Line) (ms : List Line) → file_word (at (used ++ text bytes) d ms) ≡ Ok (word, at [] d ms)
@@ -49,13 +50,14 @@ found_bad : (r : Step (Option WordText)) (f : Fault) → r ≡ Err f → (r >>= 
 found_bad r f h = rw h refl
 
 -- ` x` is written before anything is read
-first_stuck : (us : List TextUnit) (e : Line) (fault : Fault) → FailsAt file_word us e fault (gap_of us) (skip us) → FileStuck us e fault
-first_stuck us e fault n = record {
+first_stuck : (us : List TextUnit) (e : Line) (fault : Fault) → offers fault (32 ∷ 120 ∷ []) ≡ true → FailsAt file_word us e fault (gap_of us) (skip us) → FileStuck us e fault
+first_stuck us e fault o n = record {
   used = gap_of us;
   left = skip us;
   here = n;
   bytes = 32 ∷ 120 ∷ [];
   plain = refl;
+  offered = o;
   word = word_x;
   fits = fits-gap after_name us (text (32 ∷ 120 ∷ [])) refl;
   reads = λ d ms. found_some _ word_x (at [] d ms) (one_more_reads (gap_of us) [] d ms (gap_passes us) refl);
@@ -66,8 +68,8 @@ bad_first us e bad f = record {
   cut = gap_cut us;
   place = fault-place (skip us) e.end bad f;
   fails = λ ms. ap (λ (y : List TextUnit). file_word (at y e ms)) (gap_cut us) ∙ found_bad _ (Bad bad) (bad_word_reads (gap_of us) (skip us) e ms bad (gap_passes us) (skip_stops us) f);
-  none = λ x d ms same.
-      no_result _ _ (found_bad _ (Bad bad) (bad_word_reads (gap_of us) x d ms bad (gap_passes us) (no_blank_there us x same) (fault-same x (skip us) (element-front x (skip us) same) ∙ f)));
+  refuses = λ x d ms same.
+      found_bad _ (Bad bad) (bad_word_reads (gap_of us) x d ms bad (gap_passes us) (no_blank_there us x same) (fault-same x (skip us) (element-front x (skip us) same) ∙ f));
 }
 
 none_first : (us : List TextUnit) (e : Line) → settled (skip us) ≡ true → FailsAt file_word us e (Expected (spot_of_first (skip us) e.end) wanted.Path) (gap_of us) (skip us)
@@ -75,8 +77,8 @@ none_first us e h = record {
   cut = gap_cut us;
   place = refl;
   fails = λ ms. ap (λ (y : List TextUnit). file_word (at y e ms)) (gap_cut us) ∙ found_none _ (skip us) e ms (no_word_reads (gap_of us) (skip us) e ms (gap_passes us) h);
-  none = λ x d ms same.
-      no_result _ _ (found_none _ x d ms (no_word_reads (gap_of us) x d ms (gap_passes us) (settled_same x (skip us) (element-front x (skip us) same) ∙ h)));
+  refuses = λ x d ms same.
+      found_none _ x d ms (no_word_reads (gap_of us) x d ms (gap_passes us) (settled_same x (skip us) (element-front x (skip us) same) ∙ h));
 }
 
 module _ (us : List TextUnit) (u : TextUnit) (run rest : List TextUnit) (e : Line) (o : opens_word u ≡ true) (a : AllIn in_word (u ∷ run)) (c : us ≡ (gap_of us ++ u ∷ run) ++ rest) where
@@ -88,10 +90,11 @@ module _ (us : List TextUnit) (u : TextUnit) (run rest : List TextUnit) (e : Lin
       cut = c;
       place = fault-place rest e.end bad f;
       fails = λ ms. ap (λ (y : List TextUnit). file_word (at y e ms)) c ∙ found_bad _ (Bad bad) (word_fails (gap_of us) u run rest e ms bad (gap_passes us) o a f);
-      none = λ x d ms same. no_result _ _ (found_bad _ (Bad bad) (word_fails (gap_of us) u run x d ms bad (gap_passes us) o a (fault-same x rest (element-front x rest same) ∙ f)));
+      refuses = λ x d ms same. found_bad _ (Bad bad) (word_fails (gap_of us) u run x d ms bad (gap_passes us) o a (fault-same x rest (element-front x rest same) ∙ f));
     };
     bytes = [];
     plain = refl;
+    offered = refl;
     word = word_of u run;
     fits = fits-word after_name us (gap_of us) u run rest [] (gap_passes us) o c;
     reads = λ d ms. found_some _ (word_of u run) (at [] d ms) (word_reads (gap_of us) u run [] d ms (gap_passes us) o a refl);
@@ -136,9 +139,9 @@ file_seen us e = by_fault (next_fault (skip us)) refl
         by_end u run rest (ap opens_word (sym first) ∙ o) a (behind_stops in_word (v ∷ vs)) cut (next_fault rest) refl
 
     by_word : (b : Bool) → begins opens_word (skip us) ≡ b → next_fault (skip us) ≡ None → FileSeen us e
-    by_word false w f = ends_here _ (first_stuck us e _ (none_first us e (settled_so (skip us) (skip_stops us) w f)))
+    by_word false w f = ends_here _ (first_stuck us e _ refl (none_first us e (settled_so (skip us) (skip_stops us) w f)))
     by_word true w f = by_run (take_while in_word (skip us)) (AllIn-take_while in_word (skip us)) (skip us) refl w refl
 
     by_fault : (f : Option UnitFault) → next_fault (skip us) ≡ f → FileSeen us e
-    by_fault (Some bad) f = ends_here (Bad bad) (first_stuck us e (Bad bad) (bad_first us e bad f))
+    by_fault (Some bad) f = ends_here (Bad bad) (first_stuck us e (Bad bad) refl (bad_first us e bad f))
     by_fault None f = by_word (begins opens_word (skip us)) refl f

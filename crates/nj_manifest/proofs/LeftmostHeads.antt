@@ -11,10 +11,10 @@ use Rattle.nj_manifest.specs.declared.fault.Wanted.TheVariants as wanted
 use Rattle.nj_manifest.specs.Faults.{Fault, Expected}
 use Rattle.nj_manifest.specs.Steps.{Step, ◌>>=◌, NameText, name_next, behind, words_next}
 use Rattle.nj_manifest.specs.Statements.{HeadText, Alone, RuleHead, PoolHead, BindingText, DefaultText, IncludeText, SubninjaText, equals_value, name_alone, unless_none, build_next, targets_next, path_there, file_next, as_head, head_behind, head_next}
-use Rattle.nj_manifest.specs.Leftmost.{written}
+use Rattle.nj_manifest.specs.Leftmost.{written, offers_next}
 use Rattle.nj_manifest.proofs.LeftmostRuns.{begins}
 use Rattle.nj_manifest.proofs.LeftmostFronts.{element-front}
-use Rattle.nj_manifest.proofs.LeftmostSteps.{no_result, at, text, after_name, after_words, FailsAt, Said, Along, Outcome, stuck, stick, pass}
+use Rattle.nj_manifest.proofs.LeftmostSteps.{at, text, after_name, after_words, FailsAt, Said, Along, Outcome, stuck, stick, pass}
 use Rattle.nj_manifest.proofs.LeftmostSigns.{ending, finish}
 use Rattle.nj_manifest.proofs.LeftmostWords.{settled, settled_same, one_more, word_call, WordsPass}
 use Rattle.nj_manifest.proofs.LeftmostTurns.{ReadTo, name_turn, words_turn}
@@ -99,7 +99,7 @@ no_target head e us n empty = record {
   cut = n.run.cut;
   place = refl;
   fails = λ ms. ap (λ (y : List TextUnit). words_next (at y e ms) >>= targets_end head) n.run.cut ∙ nothing_read n.run.left e ms n.stops;
-  none = λ x d ms same. no_result _ _ (nothing_read x d ms (settled_same x n.run.left (element-front x n.run.left same) ∙ n.stops));
+  refuses = λ x d ms same. nothing_read x d ms (settled_same x n.run.left (element-front x n.run.left same) ∙ n.stops);
 }
   where
     nothing_read : (x : List TextUnit) (d : Line) (ms : List Line) → settled x ≡ true → (words_next (at (n.run.used ++ x) d ms) >>= targets_end head) ≡ Err (Expected (spot_of_first x d.end) wanted.TargetName)
@@ -111,9 +111,9 @@ abbrev pub starts : List TextUnit → Bool
 starts us = begins in_identifier us
 
 module _ {P : Said HeadText} {whole : List TextUnit} (e : Line) where
-  alone_turn : (want : Wanted) (head : NameText → HeadText) (us : List TextUnit) → Along P whole (λ s. as_head head (name_alone want s)) after_name us → Outcome P whole e
-  alone_turn want head us a =
-      name_turn e want (λ s. as_head head (name_alone want s)) (named_end head) (alone_is want head) a (32 ∷ 114 ∷ []) refl refl (ends_name want head)
+  alone_turn : (want : Wanted) (head : NameText → HeadText) (us : List TextUnit) → offers_next want (114 ∷ []) ≡ true → Along P whole (λ s. as_head head (name_alone want s)) after_name us → Outcome P whole e
+  alone_turn want head us offered a =
+      name_turn e want (λ s. as_head head (name_alone want s)) (named_end head) (alone_is want head) a (32 ∷ 114 ∷ []) refl offered refl (ends_name want head)
       (λ n b. finish (λ s. named_end head (n.passes.value, s)) (head n.passes.value) e (λ s. refl) b refl)
 
   targets_turn : (head : List WordText → HeadText) (us : List TextUnit) → Along P whole (λ s. as_head head (targets_next s)) after_name us → Outcome P whole e
@@ -124,7 +124,7 @@ module _ {P : Said HeadText} {whole : List TextUnit} (e : Line) where
       by_empty n false h b = finish (λ s. targets_end head (n.value, s)) (head n.value) e (λ s. ap (λ (t : Bool). ending (head n.value) (unless_none t wanted.TargetName s (line_end s))) h) b refl
       by_empty n true h b =
           let d = ends_targets head n.run.word n.run.words in
-          stuck _ (stick (λ s. as_head head (targets_next s)) (λ s. words_next s >>= targets_end head) (λ x. Ok x) (λ s. targets_is head s ∙ itself (words_next s >>= targets_end head)) a (no_target head e us n h) (32 ∷ 120 ∷ []) refl d.0
+          stuck _ (stick (λ s. as_head head (targets_next s)) (λ s. words_next s >>= targets_end head) (λ x. Ok x) (λ s. targets_is head s ∙ itself (words_next s >>= targets_end head)) a (no_target head e us n h) (32 ∷ 120 ∷ []) refl refl d.0
           (n.run.fits after_name (one_more []) refl)
           (λ ms. targets_is head (at (n.run.used ++ one_more []) (written []) ms) ∙ (ap (λ r. r >>= targets_end head) (n.run.more [] (written []) ms refl) ∙ d.1 ms)))
 
@@ -135,7 +135,7 @@ module _ {P : Said HeadText} {whole : List TextUnit} (e : Line) where
       by_file (reads_on p) = finish (λ s. file_end head (p.value, s)) (head p.value) e (λ s. refl) (pass (λ s. as_head head (file_next s)) file_word (file_end head) (file_is head) a p) refl
       by_file (ends_here fault n) =
           let d = ends_file head n.word in
-          stuck fault (stick (λ s. as_head head (file_next s)) file_word (file_end head) (file_is head) a n.here n.bytes n.plain d.0 n.fits
+          stuck fault (stick (λ s. as_head head (file_next s)) file_word (file_end head) (file_is head) a n.here n.bytes n.plain n.offered d.0 n.fits
           (λ ms. file_is head (at (n.used ++ text n.bytes) (written []) ms) ∙ (ap (λ r. r >>= file_end head) (n.reads (written []) ms) ∙ d.1 ms)))
 
   behind_turn : (word : List ℕ) (us : List TextUnit) → Along P whole (λ s. head_behind word s) after_name us → Outcome P whole e
@@ -148,8 +148,8 @@ module _ {P : Said HeadText} {whole : List TextUnit} (e : Line) where
           (cond i (as_head (λ word. Alone (IncludeText word)) (file_next s)) (cond u (as_head (λ word. Alone (SubninjaText word)) (file_next s)) (as_head (λ value. Alone (BindingText word value)) (equals_value s)))))))) after_name us
           → Outcome P whole e
       by_word true r p d i u a = build_turn e us a
-      by_word false true p d i u a = alone_turn wanted.RuleName RuleHead us a
-      by_word false false true d i u a = alone_turn wanted.PoolName PoolHead us a
+      by_word false true p d i u a = alone_turn wanted.RuleName RuleHead us refl a
+      by_word false false true d i u a = alone_turn wanted.PoolName PoolHead us refl a
       by_word false false false true i u a = targets_turn (λ words. Alone (DefaultText words)) us a
       by_word false false false false true u a = file_turn (λ word. Alone (IncludeText word)) us a
       by_word false false false false false true a = file_turn (λ word. Alone (SubninjaText word)) us a
@@ -158,4 +158,4 @@ module _ {P : Said HeadText} {whole : List TextUnit} (e : Line) where
   pub head_turn : (us : List TextUnit) → Along P whole head_next starts us → Outcome P whole e
   unfolding head_next
   head_turn us a =
-      name_turn e wanted.Statement head_next (λ word. head_behind word.0.name word.1) (λ s. refl) a (97 ∷ 61 ∷ 98 ∷ []) refl refl ends_binding (λ n b. behind_turn n.passes.value.name n.passes.left b)
+      name_turn e wanted.Statement head_next (λ word. head_behind word.0.name word.1) (λ s. refl) a (97 ∷ 61 ∷ 98 ∷ []) refl refl refl ends_binding (λ n b. behind_turn n.passes.value.name n.passes.left b)

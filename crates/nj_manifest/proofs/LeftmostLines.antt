@@ -10,14 +10,15 @@ use Rattle.nj_manifest.specs.declared.block.Keys.TheVariants as keys
 use Rattle.nj_manifest.specs.Faults.{UnknownKey}
 use Rattle.nj_manifest.specs.Steps.{Step, ◌>>=◌, NameText, name_next, behind}
 use Rattle.nj_manifest.specs.Statements.{LineText, allows, if_allowed, equals_value, line_next}
-use Rattle.nj_manifest.specs.Leftmost.{written, are_plain}
+use Rattle.nj_manifest.specs.Leftmost.{written, are_plain, offers_next}
 use Rattle.nj_manifest.proofs.LeftmostRuns.{skip, gap_of, gap_passes, gap_cut}
-use Rattle.nj_manifest.proofs.LeftmostSteps.{no_result, at, text, fits-gap, after_name, FailsAt, Said, Along, Outcome, stuck, stick}
+use Rattle.nj_manifest.proofs.LeftmostSteps.{at, text, fits-gap, after_name, FailsAt, Said, Along, Outcome, stuck, stick}
 use Rattle.nj_manifest.proofs.LeftmostNames.{NamePasses, name_skips}
 use Rattle.nj_manifest.proofs.LeftmostTurns.{ReadTo, name_turn}
 use Rattle.nj_manifest.proofs.LeftmostValues.{value_turn}
 use Rattle.nj_manifest.proofs.LeftmostBuilds.{itself}
 use Rattle.nj_manifest.proofs.LeftmostHeads.{starts}
+use Rattle.nj_text.specs.Bytes.{is_space, drop_while}
 
 abbrev line_of : NameText → WordText → LineText
 line_of key value = record { spot = key.spot; name = key.name; value = value }
@@ -52,6 +53,11 @@ key_plain keys.OfRule = refl
 key_plain keys.OfPool = refl
 key_plain keys.All = refl
 
+pub key_offers : (allowed : Keys) → offers_next wanted.VariableName (drop_while is_space (key_bytes allowed)) ≡ true
+key_offers keys.OfRule = refl
+key_offers keys.OfPool = refl
+key_offers keys.All = refl
+
 pub key_starts : (allowed : Keys) → starts (text (key_bytes allowed)) ≡ true
 key_starts keys.OfRule = refl
 key_starts keys.OfPool = refl
@@ -70,19 +76,19 @@ module _ (allowed : Keys) (us : List TextUnit) (e : Line) (n : NamePasses wanted
     fails = λ ms.
         let a = n.again (skip us) e ms refl in
         ap (λ (y : List TextUnit). line_next allowed (at y e ms)) (gap_cut us) ∙ unknown_reads (gap_of us ++ skip us) e ms h a.0 a.1;
-    none = λ x d ms same.
+    refuses = λ x d ms same.
         let a = n.again x d ms same in
-        no_result _ _ (unknown_reads (gap_of us ++ x) d ms h a.0 a.1);
+        (unknown_reads (gap_of us ++ x) d ms h a.0 a.1);
   }
 
 pub line_turn : {P : Said LineText} {whole : List TextUnit} (e : Line) (allowed : Keys) (us : List TextUnit) → Along P whole (line_next allowed) starts us → Outcome P whole e
 line_turn {P = P} {whole = whole} e allowed us a =
-    name_turn e wanted.VariableName (line_next allowed) (keyed allowed) (line_is allowed) a (key_bytes allowed) (key_plain allowed) (key_starts allowed) (reads_key allowed) (λ n b. by_allowed n (allows allowed n.passes.value.name) refl b)
+    name_turn e wanted.VariableName (line_next allowed) (keyed allowed) (line_is allowed) a (key_bytes allowed) (key_plain allowed) (key_offers allowed) (key_starts allowed) (reads_key allowed) (λ n b. by_allowed n (allows allowed n.passes.value.name) refl b)
   where
     by_allowed : (n : NamePasses wanted.VariableName starts us e) (t : Bool) → allows allowed n.passes.value.name ≡ t → Along P whole (λ s. keyed allowed (n.passes.value, s)) after_name n.passes.left → Outcome P whole e
     by_allowed n true h b = value_turn e (line_of n.passes.value) (λ s. keyed allowed (n.passes.value, s)) (λ s. ap (λ (t : Bool). if_allowed t n.passes.value (equals_value s) >>= valued n.passes.value) h) b
     by_allowed n false h b =
         let d = reads_key allowed in
-        stuck _ (stick (line_next allowed) (line_next allowed) (λ x. Ok x) (λ s. itself (line_next allowed s)) a (unknown_key allowed us e n h) (key_bytes allowed) (key_plain allowed) d.0 (fits-gap starts us (text (key_bytes allowed)) (key_starts allowed))
+        stuck _ (stick (line_next allowed) (line_next allowed) (λ x. Ok x) (λ s. itself (line_next allowed s)) a (unknown_key allowed us e n h) (key_bytes allowed) (key_plain allowed) refl d.0 (fits-gap starts us (text (key_bytes allowed)) (key_starts allowed))
         (λ ms. line_is allowed (at (gap_of us ++ text (key_bytes allowed)) (written []) ms)
         ∙ (ap (λ r. r >>= keyed allowed) (name_skips wanted.VariableName (gap_of us) (text (key_bytes allowed)) (written []) ms (gap_passes us)) ∙ (reads_key allowed).1 ms)))

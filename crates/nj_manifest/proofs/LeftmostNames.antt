@@ -15,7 +15,7 @@ use Rattle.nj_manifest.specs.Steps.{Step, ◌>>=◌, called, NameText, named, na
 use Rattle.nj_manifest.specs.Leftmost.{element}
 use Rattle.nj_manifest.proofs.LeftmostRuns.{begins, both_parts, behind_stops, none_passed, none_taken, run_passed, run_taken, skip, skip_again, skip_stops, skip_gap, gap_of, gap_passes, gap_cut, no_other, not_byte}
 use Rattle.nj_manifest.proofs.LeftmostFronts.{identifier_no_pipe, begins-same, fault-same, element-front, element-identifier}
-use Rattle.nj_manifest.proofs.LeftmostSteps.{no_result, at, blank_no_pipe, Fits, by_fits, fits-alone, Passes, FailsAt, fault-place, opens-none, after_name, is_separator, separator_is, ordinary_no_fault}
+use Rattle.nj_manifest.proofs.LeftmostSteps.{at, blank_no_pipe, Fits, by_fits, fits-alone, Passes, FailsAt, fault-place, opens-none, after_name, is_separator, separator_is, ordinary_no_fault, OfWanted}
 
 pub identifier_no_blank : (u : TextUnit) → in_identifier u ≡ true → is_blank u ≡ false
 identifier_no_blank u h = no_other is_identifier_byte is_blank_meaning (not_byte is_identifier_byte 32 refl) u.means h
@@ -87,7 +87,7 @@ pub record NamePasses (want : Wanted) (t : List TextUnit → Bool) (us : List Te
 
 pub data NameSeen (want : Wanted) (t : List TextUnit → Bool) (us : List TextUnit) (e : Line) : Type 0 where
   there : (name : NamePasses want t us e) → NameSeen want t us e
-  missing : (fault : Fault) (here : FailsAt (name_next want) us e fault (gap_of us) (skip us)) → NameSeen want t us e
+  missing : (fault : Fault) (of : OfWanted want fault) (here : FailsAt (name_next want) us e fault (gap_of us) (skip us)) → NameSeen want t us e
 
 same_spot : (x : List TextUnit) (u : TextUnit) (run : List TextUnit) (end : Spot) → take_while in_identifier x ≡ u ∷ run → spot_of_first x end ≡ u.spot
 same_spot [] u run end h = absurd cc
@@ -140,24 +140,24 @@ name_seen want t us e = by_fault (next_fault (skip us)) refl
     by_run : (run : List TextUnit) → take_while in_identifier (skip us) ≡ run → next_fault (skip us) ≡ None → AllIn in_identifier run → (bs : List ℕ) → bytes_of run ≡ bs → NameSeen want t us e
     by_run [] r f i (b ∷ bs) h = absurd cc
     by_run (u ∷ run) r f i (b ∷ bs) h = there (passes_name want t us e run u b bs r i h)
-    by_run run r f i [] h = missing (Expected (spot_of_first (skip us) e.end) want) (record {
+    by_run run r f i [] h = missing (Expected (spot_of_first (skip us) e.end) want) (λ bytes h. h) (record {
       cut = gap_cut us;
       place = refl;
       fails = λ ms. name_is_here want us e ms ∙ named_none want (next_fault (skip us)) (take_while in_identifier (skip us)) (spot_of_first (skip us) e.end) (at (drop_while in_identifier (skip us)) e ms) f (ap bytes_of r ∙ h);
-      none = λ x d ms same.
+      refuses = λ x d ms same.
           let sees = fault-same x (skip us) (element-front x (skip us) same) in
-          no_result _ _ (name_behind want (gap_of us) x d ms (gap_passes us) (no_blank_there us x same)
+          (name_behind want (gap_of us) x d ms (gap_passes us) (no_blank_there us x same)
           ∙ named_none want (next_fault x) (take_while in_identifier x) (spot_of_first x d.end) (at (drop_while in_identifier x) d ms) (sees ∙ f) (ap bytes_of (same_run x (skip us) same ∙ r) ∙ h));
     })
 
     by_fault : (f : Option UnitFault) → next_fault (skip us) ≡ f → NameSeen want t us e
     by_fault None f = by_run (take_while in_identifier (skip us)) refl f (AllIn-take_while in_identifier (skip us)) (bytes_of (take_while in_identifier (skip us))) refl
-    by_fault (Some bad) f = missing (Bad bad) (record {
+    by_fault (Some bad) f = missing (Bad bad) (λ bytes h. refl) (record {
       cut = gap_cut us;
       place = fault-place (skip us) e.end bad f;
       fails = λ ms. name_is_here want us e ms ∙ named_bad want (next_fault (skip us)) bad (take_while in_identifier (skip us)) (spot_of_first (skip us) e.end) (at (drop_while in_identifier (skip us)) e ms) f;
-      none = λ x d ms same.
+      refuses = λ x d ms same.
           let sees = fault-same x (skip us) (element-front x (skip us) same) in
-          no_result _ _ (name_behind want (gap_of us) x d ms (gap_passes us) (no_blank_there us x same)
+          (name_behind want (gap_of us) x d ms (gap_passes us) (no_blank_there us x same)
           ∙ named_bad want (next_fault x) bad (take_while in_identifier x) (spot_of_first x d.end) (at (drop_while in_identifier x) d ms) (sees ∙ f));
     })

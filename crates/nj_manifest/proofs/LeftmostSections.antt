@@ -1,5 +1,5 @@
 -- The sections of a build statement: what begins with `|`, `||` or `|@`.
-use Rattle.std.proofs.Common.{◌≡◌, ℕ, Bool, true, false, cond, ◌&&◌, not, eqb, Option, None, Ok, is_ok, inl, inr, List, [], ◌∷◌, ◌++◌, refl, sym, ap, ◌∙◌, append_assoc}
+use Rattle.std.proofs.Common.{◌≡◌, ℕ, Bool, true, false, cond, ◌&&◌, not, eqb, Option, None, Ok, inl, inr, List, [], ◌∷◌, ◌++◌, refl, sym, ap, ◌∙◌, append_assoc}
 use Rattle.nj_text.specs.declared.fault.UnitFault.{UnitFault}
 use Rattle.nj_text.specs.declared.sign.Sign.{Sign}
 use Rattle.nj_text.specs.declared.sign.Sign.TheVariants as sign
@@ -13,6 +13,7 @@ use Rattle.nj_manifest.proofs.LeftmostRuns.{begins, none_passed}
 use Rattle.nj_manifest.proofs.LeftmostFronts.{front, byte-same, sign-same, front-append, front-two, front-bare, element-front}
 use Rattle.nj_manifest.proofs.LeftmostSteps.{at, Fits, Passes, FailsAt, opens-none, opens-no_fault, after_words, is_colon, colon_is}
 use Rattle.nj_manifest.proofs.LeftmostWords.{settled, settled_blank, settled_fault, settled_so, settled_same, one_more, WordsRun, WordsPass, WordsSeen, there, broken, words_seen}
+use Rattle.nj_manifest.specs.Leftmost.{offers}
 
 -- ---- what may follow words
 
@@ -188,7 +189,7 @@ pub record SectionPass (want : Sign) (us : List TextUnit) (run : SectionRun want
 pub data SectionSeen (want : Sign) (us : List TextUnit) (e : Line) : Type 0 where
   absent : (so : is_sign want us ≡ false) → SectionSeen want us e
   present : (run : SectionRun want us) (words : SectionPass want us run) → SectionSeen want us e
-  faulty : (fault : Fault) (run : SectionRun want us) (here : FailsAt (section_next want) us e fault run.used run.left) → SectionSeen want us e
+  faulty : (fault : Fault) (of : (bytes : List ℕ) → offers fault bytes ≡ true) (run : SectionRun want us) (here : FailsAt (section_next want) us e fault run.used run.left) → SectionSeen want us e
 
 -- what fits here is settled, where this is
 pub fits_settled : (us x : List TextUnit) → settled us ≡ true → Fits after_words us x → settled x ≡ true
@@ -229,13 +230,13 @@ module _ (want : Sign) (us : List TextUnit) (e : Line) (m : Mark want us) where
     goes = λ x d ms fit. section_reads words.run x d ms (follows_fit words.run x fit) ∙ words.goes x d ms (fits_settled words.run.left x words.stops fit);
     settles = λ x fit. section_sees words.run x (follows_fit words.run x fit);
   })
-  by_words (broken fault run n) = faulty fault (marked run) (record {
+  by_words (broken fault of run n) = faulty fault of (marked run) (record {
     cut = (marked run).cut;
     place = n.place;
     fails = λ ms. ap (λ (y : List TextUnit). section_next want (at y e ms)) m.cut ∙ (m.reads m.rest e ms m.so ∙ n.fails ms);
-    none = λ x d ms same.
+    refuses = λ x d ms same.
         let seen = front-append run.used x run.left (element-front x run.left same) ∙ ap front (sym run.cut) in
-        ap is_ok (section_reads run x d ms (m.same (run.used ++ x) m.rest seen ∙ m.so)) ∙ n.none x d ms same;
+        section_reads run x d ms (m.same (run.used ++ x) m.rest seen ∙ m.so) ∙ n.refuses x d ms same;
   })
 
 pub section_seen : (want : Sign) (us : List TextUnit) (e : Line) → IsMark want → settled us ≡ true → SectionSeen want us e

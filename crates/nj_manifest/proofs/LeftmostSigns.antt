@@ -1,5 +1,5 @@
 -- Signs along a line, and its end.
-use Rattle.std.proofs.Common.{◌≡◌, ℕ, Bool, true, false, cond, eqb, Option, Some, None, Result, Ok, Err, is_ok, List, [], ◌∷◌, ◌++◌, refl, sym, ap, ◌∙◌, append_assoc}
+use Rattle.std.proofs.Common.{◌≡◌, ℕ, Bool, true, false, cond, eqb, Option, Some, None, Result, Ok, Err, List, [], ◌∷◌, ◌++◌, refl, sym, ap, ◌∙◌, append_assoc}
 use Rattle.nj_text.specs.declared.fault.UnitFault.{UnitFault}
 use Rattle.nj_text.specs.declared.sign.Sign.{Sign}
 use Rattle.nj_text.specs.declared.sign.Sign.TheVariants as sign
@@ -12,10 +12,10 @@ use Rattle.nj_manifest.specs.declared.fault.Wanted.{Wanted}
 use Rattle.nj_manifest.specs.declared.fault.Wanted.TheVariants as wanted
 use Rattle.nj_manifest.specs.Faults.{Fault, Bad, Expected}
 use Rattle.nj_manifest.specs.Steps.{Step, ◌>>=◌, called, if_there, behind}
-use Rattle.nj_manifest.specs.Leftmost.{element, written}
+use Rattle.nj_manifest.specs.Leftmost.{element, written, offers}
 use Rattle.nj_manifest.proofs.LeftmostRuns.{begins, none_passed, skip, skip_stops, skip_gap, gap_of, gap_passes, gap_cut, no_other, not_byte}
 use Rattle.nj_manifest.proofs.LeftmostFronts.{fault-same, sign-same, element-front}
-use Rattle.nj_manifest.proofs.LeftmostSteps.{at, blank_no_pipe, Fits, fits-alone, fits-gap, Passes, FailsAt, fault-place, ordinary_no_fault, Said, Along, Outcome, stuck, stick, arrive}
+use Rattle.nj_manifest.proofs.LeftmostSteps.{at, blank_no_pipe, Fits, fits-alone, fits-gap, Passes, FailsAt, fault-place, ordinary_no_fault, Said, Along, Outcome, stuck, stick, arrive, OfWanted}
 use Rattle.nj_manifest.proofs.LeftmostNames.{no_blank_there}
 
 -- a sign as a step, which says nothing
@@ -62,9 +62,6 @@ step_ok r s h = rw h refl
 step_bad : (r : Result State Fault) (f : Fault) → r ≡ Err f → led_on r ≡ Err f
 step_bad r f h = rw h refl
 
-step_none : (r : Result State Fault) (f : Fault) → r ≡ Err f → is_ok (led_on r) ≡ false
-step_none r f h = rw h refl
-
 -- ---- where a sign is not there
 
 there_too : (us x : List TextUnit) → element x ≡ element (skip us) → skip x ≡ x
@@ -75,8 +72,8 @@ bad_before_sign want miss us e bad f = record {
   cut = gap_cut us;
   place = fault-place (skip us) e.end bad f;
   fails = λ ms. step_bad _ _ (behind_is_here want miss us e ms ∙ sign_bad miss _ bad _ _ _ f);
-  none = λ x d ms same.
-      step_none _ _ (sign_behind want miss (gap_of us) x d ms (gap_passes us) (there_too us x same) ∙ sign_bad miss _ bad _ _ _ (fault-same x (skip us) (element-front x (skip us) same) ∙ f));
+  refuses = λ x d ms same.
+      step_bad _ _ (sign_behind want miss (gap_of us) x d ms (gap_passes us) (there_too us x same) ∙ sign_bad miss _ bad _ _ _ (fault-same x (skip us) (element-front x (skip us) same) ∙ f));
 }
 
 pub no_sign_there : (want : Sign) (miss : Wanted) (us : List TextUnit) (e : Line) → next_fault (skip us) ≡ None → is_sign want (skip us) ≡ false → FailsAt (sign_step want miss) us e (Expected (spot_of_first (skip us) e.end) miss) (gap_of us) (skip us)
@@ -84,9 +81,9 @@ no_sign_there want miss us e f g = record {
   cut = gap_cut us;
   place = refl;
   fails = λ ms. step_bad _ _ (behind_is_here want miss us e ms ∙ sign_none miss _ _ _ (skip us) e ms f g);
-  none = λ x d ms same.
+  refuses = λ x d ms same.
       let sees = element-front x (skip us) same in
-      step_none _ _ (sign_behind want miss (gap_of us) x d ms (gap_passes us) (there_too us x same) ∙ sign_none miss _ _ _ x d ms (fault-same x (skip us) sees ∙ f) (sign-same want x (skip us) sees ∙ g));
+      step_bad _ _ (sign_behind want miss (gap_of us) x d ms (gap_passes us) (there_too us x same) ∙ sign_none miss _ _ _ x d ms (fault-same x (skip us) sees ∙ f) (sign-same want x (skip us) sees ∙ g));
 }
 
 -- ---- signs of one unit
@@ -106,7 +103,7 @@ equals_single = record { byte = 61; no_pipe = refl; none = refl; one = λ u x. r
 
 pub data SignSeen (want : Sign) (miss : Wanted) (t t' : List TextUnit → Bool) (us : List TextUnit) (e : Line) : Type 0 where
   there : (passes : Passes (sign_step want miss) t t' us) → SignSeen want miss t t' us e
-  missing : (fault : Fault) (here : FailsAt (sign_step want miss) us e fault (gap_of us) (skip us)) → SignSeen want miss t t' us e
+  missing : (fault : Fault) (of : OfWanted miss fault) (here : FailsAt (sign_step want miss) us e fault (gap_of us) (skip us)) → SignSeen want miss t t' us e
 
 no_unit : (want : Sign) → IsSingle want → is_sign want [] ≡ true → ⊥
 no_unit want s h = false_is_true (sym s.none ∙ h)
@@ -147,11 +144,11 @@ sign_seen want miss t t' us e s = by_fault (next_fault (skip us)) refl
 
     by_sign : (b : Bool) → is_sign want (skip us) ≡ b → next_fault (skip us) ≡ None → SignSeen want miss t t' us e
     by_sign true h f = by_units (skip us) refl h
-    by_sign false h f = missing (Expected (spot_of_first (skip us) e.end) miss) (no_sign_there want miss us e f h)
+    by_sign false h f = missing (Expected (spot_of_first (skip us) e.end) miss) (λ bytes h. h) (no_sign_there want miss us e f h)
 
     by_fault : (f : Option UnitFault) → next_fault (skip us) ≡ f → SignSeen want miss t t' us e
     by_fault None f = by_sign (is_sign want (skip us)) refl f
-    by_fault (Some bad) f = missing (Bad bad) (bad_before_sign want miss us e bad f)
+    by_fault (Some bad) f = missing (Bad bad) (λ bytes h. refl) (bad_before_sign want miss us e bad f)
 
 -- ---- the end of the line
 
@@ -174,15 +171,15 @@ pub finish : {B : Type 0} {P : Said B} {whole : List TextUnit} {t : List TextUni
     → Outcome P whole e
 finish {B = B} {P = P} {whole = whole} {t = t} {us = us} k value e so a empty = by_fault (next_fault (skip us)) refl
   where
-    stick_here : (fault : Fault) → FailsAt (sign_step sign.LineEnd wanted.Newline) us e fault (gap_of us) (skip us) → Outcome P whole e
-    stick_here fault n =
-        stuck fault (stick k (sign_step sign.LineEnd wanted.Newline) (λ x. Ok (value, x.1)) (λ s. so s ∙ with_value (behind sign.LineEnd wanted.Newline s) value) a n [] refl value (fits-gap t us [] empty)
+    stick_here : (fault : Fault) → offers fault [] ≡ true → FailsAt (sign_step sign.LineEnd wanted.Newline) us e fault (gap_of us) (skip us) → Outcome P whole e
+    stick_here fault o n =
+        stuck fault (stick k (sign_step sign.LineEnd wanted.Newline) (λ x. Ok (value, x.1)) (λ s. so s ∙ with_value (behind sign.LineEnd wanted.Newline s) value) a n [] refl o value (fits-gap t us [] empty)
         (λ ms. so (at (gap_of us ++ []) (written []) ms) ∙ ended _ _ value (end_there wanted.Newline (gap_of us) (written []) ms (gap_passes us))))
 
     by_units : (r : List TextUnit) → skip us ≡ r → next_fault (skip us) ≡ None → Outcome P whole e
     by_units [] r f = arrive e k value a (λ ms. so (at us e ms) ∙ ended _ _ value (end_here wanted.Newline us e ms r))
-    by_units (u ∷ left) r f = stick_here (Expected (spot_of_first (skip us) e.end) wanted.Newline) (no_sign_there sign.LineEnd wanted.Newline us e f (ap is_empty r))
+    by_units (u ∷ left) r f = stick_here (Expected (spot_of_first (skip us) e.end) wanted.Newline) refl (no_sign_there sign.LineEnd wanted.Newline us e f (ap is_empty r))
 
     by_fault : (f : Option UnitFault) → next_fault (skip us) ≡ f → Outcome P whole e
     by_fault None f = by_units (skip us) refl f
-    by_fault (Some bad) f = stick_here (Bad bad) (bad_before_sign sign.LineEnd wanted.Newline us e bad f)
+    by_fault (Some bad) f = stick_here (Bad bad) refl (bad_before_sign sign.LineEnd wanted.Newline us e bad f)

@@ -1,5 +1,5 @@
 -- The first fault of the next statement of some lines.
-use Rattle.std.proofs.Common.{◌≡◌, Bool, true, false, cond, inl, inr, Option, Some, Result, Ok, Err, is_ok, List, [], ◌∷◌, ◌++◌, map, refl, sym, ap, subst, ◌∙◌, codes}
+use Rattle.std.proofs.Common.{◌≡◌, Bool, true, false, cond, inl, inr, Option, Some, Result, Ok, Err, List, [], ◌∷◌, ◌++◌, map, refl, sym, ap, subst, ◌∙◌, codes}
 use Rattle.nj_text.specs.declared.fault.UnitFault.TheVariants as lex
 use Rattle.nj_text.specs.declared.spot.Spot.{Spot}
 use Rattle.nj_text.specs.Units.{TextUnit}
@@ -10,14 +10,14 @@ use Rattle.nj_manifest.specs.declared.block.Keys.{Keys}
 use Rattle.nj_manifest.specs.Faults.{Fault, Bad, UnexpectedIndent}
 use Rattle.nj_manifest.specs.Steps.{Step, ◌>>=◌, name_next, behind}
 use Rattle.nj_manifest.specs.Statements.{LineText, PlacedText, StatementText, Alone, HeadText, Reading, lines_from, head_behind, head_next, equals_value, block, with_block, statement_at, nothing_more, front_of, next_by, next_statement}
-use Rattle.nj_manifest.specs.Leftmost.{goes_on, element, written, is_syntax, NamesThePlaceOf, StandsLeftmost}
+use Rattle.nj_manifest.specs.Leftmost.{goes_on, element, written, is_syntax, NamesThePlaceOf, met_before, offers, StandsLeftmost}
 use Rattle.nj_manifest.proofs.BlockLines.{in_front}
 use Rattle.nj_manifest.proofs.LeftmostFronts.{element-front}
-use Rattle.nj_manifest.proofs.LeftmostSteps.{no_result, at, text, Fits, Said, begin, Stuck, Outcome, stuck, through}
+use Rattle.nj_manifest.proofs.LeftmostSteps.{at, text, Fits, Said, begin, Stuck, Outcome, stuck, through}
 use Rattle.nj_manifest.proofs.LeftmostHeads.{starts, head_turn}
 use Rattle.nj_manifest.proofs.LeftmostBlocks.{BlockStuck, block_stuck, blank_block}
-use Rattle.nj_manifest.proofs.LeftmostEnds.{keys_of, closing, closing_plain, closed, none_with_block, fault_of_block}
-use Rattle.nj_manifest.proofs.LeftmostKinds.{kind_units, spaces_of, behind_spaces, spaces_cut, spaces_pass, kind_spaced, kind_replaced, plain_same, identifier_plain, tab_place}
+use Rattle.nj_manifest.proofs.LeftmostEnds.{keys_of, closing, closing_plain, closed, block_refuses, fault_of_block}
+use Rattle.nj_manifest.proofs.LeftmostKinds.{kind_units, spaces_of, behind_spaces, spaces_cut, spaces_pass, kind_spaced, kind_replaced, plain_same, identifier_plain, tab_place, unspaced, no_space_same}
 
 -- ---- a line with which a statement begins
 
@@ -48,9 +48,8 @@ plain_read l ms v s h r = plain_next l ms h ∙ ap (λ (y : Step HeadText). y >>
 placed_some : (spot : Spot) (r : Reading StatementText) (item : StatementText) (rest : List Line) → r ≡ Ok (item, rest) → ◌≡◌ {A = Reading (Option PlacedText)} (r >>= λ item. Ok (Some (record { spot = spot; item = item.0 }), item.1)) (Ok (Some (record { spot = spot; item = item }), rest))
 placed_some spot r item rest h = rw h refl
 
-placed_none : (spot : Spot) (r : Reading StatementText) → is_ok r ≡ false → is_ok (◌>>=◌ {B = Option PlacedText × List Line} r (λ item. Ok (Some (record { spot = spot; item = item.0 }), item.1))) ≡ false
-placed_none spot (Ok x) h = absurd cc
-placed_none spot (Err f) h = refl
+placed_bad : (spot : Spot) (r : Reading StatementText) (f : Fault) → r ≡ Err f → ◌≡◌ {A = Reading (Option PlacedText)} (r >>= λ item. Ok (Some (record { spot = spot; item = item.0 }), item.1)) (Err f)
+placed_bad spot r f h = rw h refl
 
 errs : {A : Type 0} {x y : Fault} → ◌≡◌ {A = Result A Fault} (Err x) (Err y) → x ≡ y
 errs e = cc
@@ -86,10 +85,10 @@ stuck_first l ls fault s =
       others = ls;
       cut = ap (λ (y : List TextUnit). with_units y l ∷ ls) s.cut;
       place = s.place;
-      some = record { bytes = s.bytes; lines = closing s.value; plain_bytes = s.plain; plain_lines = closing_plain s.value; placed = c.0; rest = c.1; reads = c.2 };
-      none = λ m ms same.
-          let n = s.none m.units m ms same in
-          no_result _ n.0 (plain_bad (with_units (s.begun ++ m.units) m) ms n.0 n.1.0 n.1.1);
+      some = record { bytes = s.bytes; lines = closing s.value; plain_bytes = s.plain; offered = s.offered; plain_lines = closing_plain s.value; placed = c.0; rest = c.1; reads = c.2 };
+      refuses = λ m ms same.
+          let n = s.refuses m.units m ms same in
+          plain_bad (with_units (s.begun ++ m.units) m) ms (met_before m fault) n.0 n.1;
     }
 
 -- the lines behind one that is not the last
@@ -111,11 +110,11 @@ stuck_in_block l ls fault v k last reads all s =
       others = s.others;
       cut = ap (λ (y : List Line). l ∷ y) s.cut;
       place = s.place;
-      some = record { bytes = s.bytes; lines = closing v; plain_bytes = s.plain; plain_lines = closing_plain v; placed = c.0; rest = c.1; reads = c.2 };
-      none = λ m ms same.
+      some = record { bytes = s.bytes; lines = closing v; plain_bytes = s.plain; offered = s.offered; plain_lines = closing_plain v; placed = c.0; rest = c.1; reads = c.2 };
+      refuses = λ m ms same.
           let ys = goes_on s.before s.begun m ms in
-          let n : is_ok (block (keys_of v) (lines_behind l ys)) ≡ false = ap (λ (y : List Line). is_ok (block (keys_of v) y)) (behind_more l ys last) ∙ s.none m ms same in
-          ap is_ok (plain_read l ys v (Between (lines_behind l ys)) k (reads ys)) ∙ placed_none (line_spot l) (with_block (line_spot l) v (lines_behind l ys)) (none_with_block (line_spot l) v (lines_behind l ys) all n);
+          let n : block (keys_of v) (lines_behind l ys) ≡ Err (met_before m fault) = ap (block (keys_of v)) (behind_more l ys last) ∙ s.refuses m ms same in
+          plain_read l ys v (Between (lines_behind l ys)) k (reads ys) ∙ placed_bad (line_spot l) (with_block (line_spot l) v (lines_behind l ys)) (met_before m fault) (block_refuses (line_spot l) v (lines_behind l ys) (met_before m fault) all n);
     }
 
 no_block_fault : (allowed : Keys) (l : Line) (ls : List Line) (f : Fault) → block allowed (with_units [] l ∷ ls) ≡ Err f → ⊥
@@ -159,9 +158,9 @@ blank_then : (sp : List TextUnit) → AllIn is_space_unit sp → SomeOf (with_un
 blank_then sp a = (one_statement.0, one_statement.1, by_kind_next (with_units (sp ++ []) (written [])) (written (codes "a=b") ∷ []) BlankLine (kind_spaced sp [] a refl) ∙ one_statement.2)
 
 -- The fault is that of the line's kind, whatever is behind its first unit.
-of_kind : (l : Line) (ls : List Line) (fault : Fault) → NamesThePlaceOf fault (with_units (behind_spaces l.units) l)
-    → ((m : Line) (ms : List Line) → element m.units ≡ element (behind_spaces l.units) → is_ok (next_statement (with_units (spaces_of l.units ++ m.units) m ∷ ms)) ≡ false) → StandsLeftmost (l ∷ ls) fault
-of_kind l ls fault place none =
+of_kind : (l : Line) (ls : List Line) (fault : Fault) → offers fault [] ≡ true → NamesThePlaceOf fault (with_units (behind_spaces l.units) l)
+    → ((m : Line) (ms : List Line) → element m.units ≡ element (behind_spaces l.units) → next_statement (with_units (spaces_of l.units ++ m.units) m ∷ ms) ≡ Err (met_before m fault)) → StandsLeftmost (l ∷ ls) fault
+of_kind l ls fault offered place refuses =
     let c = blank_then (spaces_of l.units) (spaces_pass l.units) in
     record {
       before = [];
@@ -170,19 +169,26 @@ of_kind l ls fault place none =
       others = ls;
       cut = ap (λ (y : List TextUnit). with_units y l ∷ ls) (spaces_cut l.units);
       place = place;
-      some = record { bytes = []; lines = codes "a=b" ∷ []; plain_bytes = refl; plain_lines = refl; placed = c.0; rest = c.1; reads = c.2 };
-      none = none;
+      some = record { bytes = []; lines = codes "a=b" ∷ []; plain_bytes = refl; offered = offered; plain_lines = refl; placed = c.0; rest = c.1; reads = c.2 };
+      refuses = refuses;
     }
 
 tab_leftmost : (l : Line) (ls : List Line) (tab : Spot) → kind_of l ≡ TabLine tab → StandsLeftmost (l ∷ ls) (Bad (lex.Tab tab))
 tab_leftmost l ls tab k =
-    of_kind l ls (Bad (lex.Tab tab)) (tab_place l.units tab l.end k)
-    (λ m ms same. no_result _ _ (by_kind_next (with_units (spaces_of l.units ++ m.units) m) ms (TabLine tab) (kind_replaced l.units m.units (element-front m.units (behind_spaces l.units) same) ∙ k)))
+    of_kind l ls (Bad (lex.Tab tab)) refl (tab_place l.units tab l.end k)
+    (λ m ms same. (by_kind_next (with_units (spaces_of l.units ++ m.units) m) ms (TabLine tab) (kind_replaced l.units m.units (element-front m.units (behind_spaces l.units) same) ∙ k)))
+
+-- an indented line whose units behind its spaces these are
+abbrev unexpected_at : Line → Reading (Option PlacedText)
+unexpected_at l = Err (UnexpectedIndent (record { line = (line_spot l).line; column = 1 }))
 
 indented_leftmost : (l : Line) (ls : List Line) → kind_of l ≡ IndentedLine → StandsLeftmost (l ∷ ls) (UnexpectedIndent (front_of l))
 indented_leftmost l ls k =
-    of_kind l ls (UnexpectedIndent (front_of l)) refl
-    (λ m ms same. no_result _ _ (by_kind_next (with_units (spaces_of l.units ++ m.units) m) ms IndentedLine (kind_replaced l.units m.units (element-front m.units (behind_spaces l.units) same) ∙ k)))
+    of_kind l ls (UnexpectedIndent (front_of l)) refl refl
+    (λ m ms same.
+    let sees = element-front m.units (behind_spaces l.units) same in
+    by_kind_next (with_units (spaces_of l.units ++ m.units) m) ms IndentedLine (kind_replaced l.units m.units sees ∙ k)
+    ∙ ap (λ (y : List TextUnit). unexpected_at (with_units y m)) (unspaced (spaces_of l.units) m.units (spaces_pass l.units) (no_space_same l.units m.units sees)))
 
 -- behind a line that says nothing, and is not the last
 leftmost_behind : (l : Line) (ls : List Line) (fault : Fault) → ((ms : List Line) → next_statement (l ∷ ms) ≡ next_statement ms) → StandsLeftmost ls fault → StandsLeftmost (l ∷ ls) fault
@@ -193,8 +199,8 @@ leftmost_behind l ls fault same r = record {
   others = r.others;
   cut = ap (λ (y : List Line). l ∷ y) r.cut;
   place = r.place;
-  some = record { bytes = r.some.bytes; lines = r.some.lines; plain_bytes = r.some.plain_bytes; plain_lines = r.some.plain_lines; placed = r.some.placed; rest = r.some.rest; reads = same (goes_on r.before r.begun (written r.some.bytes) (map written r.some.lines)) ∙ r.some.reads };
-  none = λ m ms e. ap is_ok (same (goes_on r.before r.begun m ms)) ∙ r.none m ms e;
+  some = record { bytes = r.some.bytes; lines = r.some.lines; plain_bytes = r.some.plain_bytes; offered = r.some.offered; plain_lines = r.some.plain_lines; placed = r.some.placed; rest = r.some.rest; reads = same (goes_on r.before r.begun (written r.some.bytes) (map written r.some.lines)) ∙ r.some.reads };
+  refuses = λ m ms e. same (goes_on r.before r.begun m ms) ∙ r.refuses m ms e;
 }
 
 not_last : (t : Bool) (rest : List Line) (others : Reading (Option PlacedText)) (f : Fault) → cond t (nothing_more rest) others ≡ Err f → (t ≡ false) × (others ≡ Err f)

@@ -1,18 +1,19 @@
 -- Reading on along a line: where a reading passes, where it fails, and what both say of a whole line.
-use Rattle.std.proofs.Common.{◌≡◌, ℕ, Bool, true, false, ◌||◌, ◌==◌, eqb, Option, Some, None, Result, Ok, Err, is_ok, ◌⊎◌, inl, inr, List, [], ◌∷◌, ◌++◌, map, refl, sym, ap, subst, ◌∙◌, append_assoc}
+use Rattle.std.proofs.Common.{◌≡◌, ℕ, Bool, true, false, ◌||◌, ◌==◌, eqb, Option, Some, None, Result, Ok, Err, ◌⊎◌, inl, inr, List, [], ◌∷◌, ◌++◌, map, refl, sym, ap, subst, ◌∙◌, append_assoc}
 use Rattle.std.proofs.lemmas.Bool.{eqb-true}
 use Rattle.nj_text.specs.declared.fault.UnitFault.{UnitFault}
 use Rattle.nj_text.specs.declared.fault.UnitFault.TheVariants as lex
 use Rattle.nj_text.specs.declared.spot.Spot.{Spot}
-use Rattle.nj_text.specs.Bytes.{is_space}
+use Rattle.nj_text.specs.Bytes.{is_space, drop_while}
 use Rattle.nj_text.specs.Units.{Meaning, Ordinary, LeadingTab, BadByte, BadEscape, TextUnit, is_ordinary_in}
 use Rattle.nj_text.specs.Lines.{Line, with_units, lines_behind, spot_of_first}
 use Rattle.nj_text.specs.Words.{is_blank, is_blank_meaning, begins_with_byte, fault_of_meaning, next_fault}
 use Rattle.nj_text.specs.Calls.{State, Between, Inside, fault_spot}
 use Rattle.nj_text.proofs.Lists.{AllIn}
+use Rattle.nj_manifest.specs.declared.fault.Wanted.{Wanted}
 use Rattle.nj_manifest.specs.Faults.{Fault}
 use Rattle.nj_manifest.specs.Steps.{Step, ◌>>=◌}
-use Rattle.nj_manifest.specs.Leftmost.{element, written_unit, written, are_plain, NamesThePlaceOf}
+use Rattle.nj_manifest.specs.Leftmost.{element, written_unit, written, are_plain, NamesThePlaceOf, met_before, offers_next, offers}
 use Rattle.nj_manifest.proofs.LeftmostRuns.{begins, no_other, not_byte, gap_of, skip, gap_passes, gap_cut}
 use Rattle.nj_manifest.proofs.LeftmostFronts.{front, front-append, front-alone, element-front}
 
@@ -132,7 +133,7 @@ pub record FailsAt {A : Type 0} (f : State → Step A) (us : List TextUnit) (e :
   pub cut : us ≡ used ++ left
   pub place : NamesThePlaceOf fault (with_units left e)
   pub fails : (ms : List Line) → f (at us e ms) ≡ Err fault
-  pub none : (x : List TextUnit) (d : Line) (ms : List Line) → element x ≡ element left → is_ok (f (at (used ++ x) d ms)) ≡ false
+  pub refuses : (x : List TextUnit) (d : Line) (ms : List Line) → element x ≡ element left → f (at (used ++ x) d ms) ≡ Err (met_before (with_units x d) fault)
 
 -- the place of the first of the units, if that is a bad one
 pub fault-place : (us : List TextUnit) (end : Spot) (f : UnitFault) → next_fault us ≡ Some f → fault_spot f ≡ spot_of_first us end
@@ -147,6 +148,10 @@ fault-place (u ∷ us) end f h = by_meaning u.means h
     by_meaning BadEscape h = ap fault_spot (sym (same (lex.BadEscape u.spot) h))
     by_meaning LeadingTab h = ap fault_spot (sym (same (lex.Tab u.spot) h))
     by_meaning m h = absurd cc
+
+-- What begins with this that is wanted begins with what the fault expects.
+abbrev pub OfWanted : Wanted → Fault → Type 0
+OfWanted want fault = (bytes : List ℕ) → offers_next want (drop_while is_space bytes) ≡ true → offers fault bytes ≡ true
 
 -- ---- a whole line
 
@@ -167,9 +172,10 @@ pub record Stuck {B : Type 0} (P : Said B) (whole : List TextUnit) (e : Line) (f
   pub cut : whole ≡ begun ++ left
   pub place : NamesThePlaceOf fault (with_units left e)
   pub fails : (ms : List Line) → P whole e ms (Err fault)
-  pub none : (x : List TextUnit) (d : Line) (ms : List Line) → element x ≡ element left → (f : Fault) × P (begun ++ x) d ms (Err f)
+  pub refuses : (x : List TextUnit) (d : Line) (ms : List Line) → element x ≡ element left → P (begun ++ x) d ms (Err (met_before (with_units x d) fault))
   pub bytes : List ℕ
   pub plain : are_plain bytes ≡ true
+  pub offered : offers fault bytes ≡ true
   pub value : B
   pub some : (ms : List Line) → P (begun ++ text bytes) (written []) ms (Ok (value, Between ms))
 
@@ -190,21 +196,13 @@ pass {P = P} {whole = whole} {us = us} k f g so a p = record {
       subst (λ (y : List TextUnit). P y e ms (g (p.value, at x e ms))) (sym (append_assoc a.begun p.used x)) (subst (P (a.begun ++ (p.used ++ x)) e ms) on (a.goes (p.used ++ x) e ms (p.settled x fit)));
 }
 
-pub no_result : {A : Type 0} (r : Result A Fault) (f : Fault) → r ≡ Err f → is_ok r ≡ false
-no_result r f h = rw h refl
-
-pub no_bind : {A B : Type 0} (r : Result A Fault) (g : A → Result B Fault) → is_ok r ≡ false → is_ok (r >>= g) ≡ false
-no_bind (Ok x) g h = absurd cc
-no_bind (Err f) g h = refl
-
-pub its_fault : {A : Type 0} (r : Result A Fault) → is_ok r ≡ false → (f : Fault) × (r ≡ Err f)
-its_fault (Ok x) h = absurd cc
-its_fault (Err f) h = (f, refl)
+pub err_bind : {A B : Type 0} (r : Result A Fault) (g : A → Result B Fault) (f : Fault) → r ≡ Err f → (r >>= g) ≡ Err f
+err_bind r g f h = rw h refl
 
 pub stick : {A B : Type 0} {P : Said B} {whole : List TextUnit} {t : List TextUnit → Bool} {us : List TextUnit} {e : Line} {fault : Fault} {used left : List TextUnit} (k : State → Step B) (f : State → Step A) (g : A × State → Step B)
-    → ((s : State) → k s ≡ (f s >>= g)) → Along P whole k t us → FailsAt f us e fault used left → (bytes : List ℕ) → are_plain bytes ≡ true → (value : B) → Fits t us (used ++ text bytes)
+    → ((s : State) → k s ≡ (f s >>= g)) → Along P whole k t us → FailsAt f us e fault used left → (bytes : List ℕ) → are_plain bytes ≡ true → offers fault bytes ≡ true → (value : B) → Fits t us (used ++ text bytes)
     → ((ms : List Line) → k (at (used ++ text bytes) (written []) ms) ≡ Ok (value, Between ms)) → Stuck P whole e fault
-stick {P = P} {whole = whole} {us = us} {e = e} {fault = fault} {used = used} {left = left} k f g so a n bytes plain value fit some = record {
+stick {P = P} {whole = whole} {us = us} {e = e} {fault = fault} {used = used} {left = left} k f g so a n bytes plain offered value fit some = record {
   begun = a.begun ++ used;
   left = left;
   cut = a.cut ∙ (ap (λ (x : List TextUnit). a.begun ++ x) n.cut ∙ sym (append_assoc a.begun used left));
@@ -212,13 +210,14 @@ stick {P = P} {whole = whole} {us = us} {e = e} {fault = fault} {used = used} {l
   fails = λ ms.
       let failed = so (at us e ms) ∙ ap (λ r. r >>= g) (n.fails ms) in
       subst (λ (y : List TextUnit). P y e ms (Err fault)) (sym a.cut) (subst (P (a.begun ++ us) e ms) failed (a.goes us e ms (inr refl)));
-  none = λ x d ms same.
-      let failed = no_bind (f (at (used ++ x) d ms)) g (n.none x d ms same) in
-      let which = its_fault (f (at (used ++ x) d ms) >>= g) failed in
+  refuses = λ x d ms same.
+      let there = met_before (with_units x d) fault in
+      let failed = err_bind (f (at (used ++ x) d ms)) g there (n.refuses x d ms same) in
       let seen = front-append used x left (element-front x left same) ∙ ap front (sym n.cut) in
-      (which.0, subst (λ (y : List TextUnit). P y d ms (Err which.0)) (sym (append_assoc a.begun used x)) (subst (P (a.begun ++ (used ++ x)) d ms) (so (at (used ++ x) d ms) ∙ which.1) (a.goes (used ++ x) d ms (inr seen))));
+      subst (λ (y : List TextUnit). P y d ms (Err there)) (sym (append_assoc a.begun used x)) (subst (P (a.begun ++ (used ++ x)) d ms) (so (at (used ++ x) d ms) ∙ failed) (a.goes (used ++ x) d ms (inr seen)));
   bytes = bytes;
   plain = plain;
+  offered = offered;
   value = value;
   some = λ ms. subst (λ (y : List TextUnit). P y (written []) ms (Ok (value, Between ms))) (sym (append_assoc a.begun used (text bytes))) (subst (P (a.begun ++ (used ++ text bytes)) (written []) ms) (some ms) (a.goes (used ++ text bytes) (written []) ms fit));
 }

@@ -7,7 +7,7 @@ use Rattle.nj_text.specs.Words.{WordText}
 use Rattle.nj_text.specs.Calls.{State, Between, is_sign}
 use Rattle.nj_manifest.specs.declared.fault.Wanted.{Wanted}
 use Rattle.nj_manifest.specs.Steps.{Step, ◌>>=◌, NameText, name_next, words_next, section_next}
-use Rattle.nj_manifest.specs.Leftmost.{written, are_plain}
+use Rattle.nj_manifest.specs.Leftmost.{written, are_plain, offers_next}
 use Rattle.nj_manifest.proofs.LeftmostRuns.{gap_of, gap_passes}
 use Rattle.nj_manifest.proofs.LeftmostSteps.{at, text, fits-gap, after_name, after_words, Passes, Said, Along, Outcome, stuck, stick, pass}
 use Rattle.nj_manifest.proofs.LeftmostNames.{NamePasses, NameSeen, name_seen, name_skips}
@@ -17,28 +17,29 @@ use Rattle.nj_manifest.proofs.LeftmostSigns as signs
 use Rattle.nj_manifest.proofs.LeftmostWords.{settled, one_more, WordsRun, WordsPass, WordsSeen, words_seen}
 use Rattle.nj_manifest.proofs.LeftmostWords as words
 use Rattle.nj_manifest.proofs.LeftmostSections.{IsMark, SectionRun, SectionPass, SectionSeen, section_seen, absent, present, faulty, pass_words, pass_absent, pass_present}
+use Rattle.nj_text.specs.Bytes.{is_space, drop_while}
 
 -- what some text is read to, whatever lines follow
 abbrev pub ReadTo : {B : Type 0} → (List Line → Step B) → Type 0
 ReadTo {B = B} reading = (value : B) × ((ms : List Line) → reading ms ≡ Ok (value, Between ms))
 
 module _ {B : Type 0} {P : Said B} {whole : List TextUnit} (e : Line) where
-  pub name_turn : {t : List TextUnit → Bool} {us : List TextUnit} (want : Wanted) (k : State → Step B) (g : NameText × State → Step B) → ((s : State) → k s ≡ (name_next want s >>= g)) → Along P whole k t us → (tail : List ℕ) → are_plain tail ≡ true → t (text tail) ≡ true
+  pub name_turn : {t : List TextUnit → Bool} {us : List TextUnit} (want : Wanted) (k : State → Step B) (g : NameText × State → Step B) → ((s : State) → k s ≡ (name_next want s >>= g)) → Along P whole k t us → (tail : List ℕ) → are_plain tail ≡ true → offers_next want (drop_while is_space tail) ≡ true → t (text tail) ≡ true
       → ReadTo (λ ms. name_next want (at (text tail) (written []) ms) >>= g) → ((n : NamePasses want t us e) → Along P whole (λ s. g (n.passes.value, s)) after_name n.passes.left → Outcome P whole e) → Outcome P whole e
-  name_turn {t = t} {us = us} want k g so a tail plain fit done next = by_name (name_seen want t us e)
+  name_turn {t = t} {us = us} want k g so a tail plain offered fit done next = by_name (name_seen want t us e)
     where
       by_name : NameSeen want t us e → Outcome P whole e
       by_name (names.there n) = next n (pass k (name_next want) g so a n.passes)
-      by_name (names.missing fault n) = stuck fault (stick k (name_next want) g so a n tail plain done.0 (fits-gap t us (text tail) fit)
+      by_name (names.missing fault of n) = stuck fault (stick k (name_next want) g so a n tail plain (of tail offered) done.0 (fits-gap t us (text tail) fit)
           (λ ms. so (at (gap_of us ++ text tail) (written []) ms) ∙ (ap (λ r. r >>= g) (name_skips want (gap_of us) (text tail) (written []) ms (gap_passes us)) ∙ done.1 ms)))
 
   pub sign_turn : {t : List TextUnit → Bool} {us : List TextUnit} (want : Sign) (miss : Wanted) (t' : List TextUnit → Bool) → IsSingle want → (k : State → Step B) (g : Bool × State → Step B) → ((s : State) → k s ≡ (sign_step want miss s >>= g)) → Along P whole k t us
-      → (tail : List ℕ) → are_plain tail ≡ true → t (text tail) ≡ true → ReadTo (λ ms. sign_step want miss (at (text tail) (written []) ms) >>= g) → ((p : Passes (sign_step want miss) t t' us) → Along P whole (λ s. g (p.value, s)) t' p.left → Outcome P whole e) → Outcome P whole e
-  sign_turn {t = t} {us = us} want miss t' single k g so a tail plain fit done next = by_sign (sign_seen want miss t t' us e single)
+      → (tail : List ℕ) → are_plain tail ≡ true → offers_next miss (drop_while is_space tail) ≡ true → t (text tail) ≡ true → ReadTo (λ ms. sign_step want miss (at (text tail) (written []) ms) >>= g) → ((p : Passes (sign_step want miss) t t' us) → Along P whole (λ s. g (p.value, s)) t' p.left → Outcome P whole e) → Outcome P whole e
+  sign_turn {t = t} {us = us} want miss t' single k g so a tail plain offered fit done next = by_sign (sign_seen want miss t t' us e single)
     where
       by_sign : SignSeen want miss t t' us e → Outcome P whole e
       by_sign (signs.there p) = next p (pass k (sign_step want miss) g so a p)
-      by_sign (signs.missing fault n) = stuck fault (stick k (sign_step want miss) g so a n tail plain done.0 (fits-gap t us (text tail) fit)
+      by_sign (signs.missing fault of n) = stuck fault (stick k (sign_step want miss) g so a n tail plain (of tail offered) done.0 (fits-gap t us (text tail) fit)
           (λ ms. so (at (gap_of us ++ text tail) (written []) ms) ∙ (ap (λ r. led_on r >>= g) (sign_skips want miss (gap_of us) (text tail) (written []) ms (gap_passes us)) ∙ done.1 ms)))
 
   pub words_turn : {t : List TextUnit → Bool} {us : List TextUnit} (k : State → Step B) (g : List WordText × State → Step B) → ((s : State) → k s ≡ (words_next s >>= g)) → Along P whole k t us → ((x : List TextUnit) → after_words x ≡ true → t x ≡ true)
@@ -48,9 +49,9 @@ module _ {B : Type 0} {P : Said B} {whole : List TextUnit} (e : Line) where
     where
       by_words : WordsSeen us e → Outcome P whole e
       by_words (words.there n) = next n (pass k words_next g so a (pass_words t us more n))
-      by_words (words.broken fault run n) =
+      by_words (words.broken fault of run n) =
           let d = done run.word run.words in
-          stuck fault (stick k words_next g so a n (32 ∷ 120 ∷ tail) plain d.0 (run.fits t (one_more (text tail)) fit)
+          stuck fault (stick k words_next g so a n (32 ∷ 120 ∷ tail) plain (of (32 ∷ 120 ∷ tail)) d.0 (run.fits t (one_more (text tail)) fit)
           (λ ms. so (at (run.used ++ one_more (text tail)) (written []) ms) ∙ (ap (λ r. r >>= g) (run.more (text tail) (written []) ms ends) ∙ d.1 ms)))
 
   pub section_turn : {us : List TextUnit} (want : Sign) → IsMark want → (k : State → Step B) (g : List WordText × State → Step B) → ((s : State) → k s ≡ (section_next want s >>= g)) → Along P whole k after_words us → settled us ≡ true
@@ -62,7 +63,7 @@ module _ {B : Type 0} {P : Said B} {whole : List TextUnit} (e : Line) where
       by_section : SectionSeen want us e → Outcome P whole e
       by_section (absent none) = without none (pass k (section_next want) g so a (pass_absent want us is here none))
       by_section (present run n) = with run n (pass k (section_next want) g so a (pass_present want us run n))
-      by_section (faulty fault run n) =
+      by_section (faulty fault of run n) =
           let d = done run.word run.words in
-          stuck fault (stick k (section_next want) g so a n (32 ∷ 120 ∷ tail) plain d.0 (run.fits (text tail))
+          stuck fault (stick k (section_next want) g so a n (32 ∷ 120 ∷ tail) plain (of (32 ∷ 120 ∷ tail)) d.0 (run.fits (text tail))
           (λ ms. so (at (run.used ++ one_more (text tail)) (written []) ms) ∙ (ap (λ r. r >>= g) (run.more (text tail) (written []) ms ends) ∙ d.1 ms)))

@@ -14,7 +14,7 @@ use Rattle.nj_manifest.specs.Statements.{equals_value}
 use Rattle.nj_manifest.specs.Leftmost.{written}
 use Rattle.nj_manifest.proofs.LeftmostRuns.{skip}
 use Rattle.nj_manifest.proofs.LeftmostFronts.{fault-same, element-front}
-use Rattle.nj_manifest.proofs.LeftmostSteps.{no_result, at, text, anything, after_name, FailsAt, fault-place, Said, Along, Outcome, stuck, stick, arrive}
+use Rattle.nj_manifest.proofs.LeftmostSteps.{at, text, anything, after_name, FailsAt, fault-place, Said, Along, Outcome, stuck, stick, arrive}
 use Rattle.nj_manifest.proofs.LeftmostSigns.{sign_step, led_on, ending, equals_single}
 use Rattle.nj_manifest.proofs.LeftmostTurns.{ReadTo, sign_turn}
 
@@ -110,8 +110,8 @@ bad_value us e bad s = record {
   cut = s.cut;
   place = fault-place s.left e.end bad s.next;
   fails = λ ms. value_bad us e ms bad (ap first_fault s.cut ∙ (first_behind_sound s.used s.left s.sound ∙ first_is_next s.left bad s.next));
-  none = λ x d ms same.
-      no_result _ _ (value_bad (s.used ++ x) d ms bad (first_behind_sound s.used x s.sound ∙ first_is_next x bad (fault-same x s.left (element-front x s.left same) ∙ s.next)));
+  refuses = λ x d ms same.
+      value_bad (s.used ++ x) d ms bad (first_behind_sound s.used x s.sound ∙ first_is_next x bad (fault-same x s.left (element-front x s.left same) ∙ s.next));
 }
 
 -- the value, and then the end of the line
@@ -150,7 +150,7 @@ read_x view = (view (value_text (text (120 ∷ [])) (written [])), λ ms. refl)
 -- A line that ends with a value.
 pub value_turn : {B : Type 0} {P : Said B} {whole us : List TextUnit} (e : Line) (view : WordText → B) (k : State → Step B) → ((s : State) → k s ≡ ◌>>=◌ {B = B × State} (equals_value s) (λ v. Ok (view v.0, v.1))) → Along P whole k after_name us → Outcome P whole e
 value_turn {B = B} {P = P} {whole = whole} e view k so a =
-    sign_turn e sign.Equals wanted.Equals anything equals_single k (equals_then view) (λ s. so s ∙ equals_is view s) a (61 ∷ 120 ∷ []) refl refl (read_x view) (λ p b. at_value p.left b)
+    sign_turn e sign.Equals wanted.Equals anything equals_single k (equals_then view) (λ s. so s ∙ equals_is view s) a (61 ∷ 120 ∷ []) refl refl refl (read_x view) (λ p b. at_value p.left b)
   where
     at_value : (left : List TextUnit) → Along P whole (λ s. value_call s >>= valued view) anything left → Outcome P whole e
     at_value left b = by_fault (first_fault left) refl
@@ -160,5 +160,5 @@ value_turn {B = B} {P = P} {whole = whole} e view k so a =
         by_fault (Some bad) h =
             let s = before_bad left bad h in
             let sound = first_behind_sound s.used [] s.sound in
-            stuck (Bad bad) (stick (λ s. value_call s >>= valued view) value_call (valued view) (λ s. refl) b (bad_value left e bad s) [] refl (view (value_text (s.used ++ []) (written []))) (inl refl)
+            stuck (Bad bad) (stick (λ s. value_call s >>= valued view) value_call (valued view) (λ s. refl) b (bad_value left e bad s) [] refl refl (view (value_text (s.used ++ []) (written []))) (inl refl)
             (λ ms. value_ended view (s.used ++ []) (written []) ms sound))

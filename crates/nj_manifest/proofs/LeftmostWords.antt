@@ -1,5 +1,5 @@
 -- Words along a line: those that are read, and the bad unit that ends them.
-use Rattle.std.proofs.Common.{◌≡◌, ℕ, zero, suc, ◌<◌, Bool, true, false, cond, ◌&&◌, not, eqb, Option, Some, None, Ok, Err, is_ok, inl, inr, List, [], ◌∷◌, ◌++◌, length, refl, sym, ap, ◌∙◌, append_assoc, length-append, arith}
+use Rattle.std.proofs.Common.{◌≡◌, ℕ, zero, suc, ◌<◌, Bool, true, false, cond, ◌&&◌, not, eqb, Option, Some, None, Ok, Err, inl, inr, List, [], ◌∷◌, ◌++◌, length, refl, sym, ap, ◌∙◌, append_assoc, length-append, arith}
 use Rattle.std.specs.List.{take_while}
 use Rattle.std.proofs.lemmas.Bool.{and_parts}
 use Rattle.nj_text.specs.declared.fault.UnitFault.{UnitFault}
@@ -12,11 +12,11 @@ use Rattle.nj_text.specs.Calls.{State, reply, unless_fault, begins_word, path_wo
 use Rattle.nj_text.proofs.Lists.{AllIn, AllIn-take_while, take_while-cons_yes}
 use Rattle.nj_manifest.specs.Faults.{Fault, Bad}
 use Rattle.nj_manifest.specs.Steps.{Step, called, words_from, words_next}
-use Rattle.nj_manifest.specs.Leftmost.{written_unit}
+use Rattle.nj_manifest.specs.Leftmost.{written_unit, offers}
 use Rattle.nj_manifest.proofs.WordLimits.{words_next-fails, words_next-ends, words_next-more}
 use Rattle.nj_manifest.proofs.LeftmostRuns.{begins, both_parts, behind_stops, none_passed, run_passed, run_taken, skip, skip_stops, skip_gap, gap_of, gap_passes, gap_cut, not_byte}
 use Rattle.nj_manifest.proofs.LeftmostFronts.{front, begins-same, fault-same, front-append, element-front}
-use Rattle.nj_manifest.proofs.LeftmostSteps.{no_result, at, blank_no_pipe, Fits, fits-alone, fits-gap, FailsAt, fault-place}
+use Rattle.nj_manifest.proofs.LeftmostSteps.{at, blank_no_pipe, Fits, fits-alone, fits-gap, FailsAt, fault-place}
 use Rattle.nj_manifest.proofs.LeftmostNames.{no_blank_there}
 
 -- ---- tests on the units that follow
@@ -225,7 +225,7 @@ pub record WordsPass (us : List TextUnit) : Type 0 where
 
 pub data WordsSeen (us : List TextUnit) (e : Line) : Type 0 where
   there : (words : WordsPass us) → WordsSeen us e
-  broken : (fault : Fault) (run : WordsRun us) (here : FailsAt words_next us e fault run.used run.left) → WordsSeen us e
+  broken : (fault : Fault) (of : (bytes : List ℕ) → offers fault bytes ≡ true) (run : WordsRun us) (here : FailsAt words_next us e fault run.used run.left) → WordsSeen us e
 
 one_more_words : (gap z : List TextUnit) (e : Line) (ms : List Line) → AllIn is_blank gap → settled z ≡ true → words_next (at (gap ++ one_more z) e ms) ≡ Ok (word_x ∷ [], at z e ms)
 one_more_words gap z e ms g h =
@@ -246,12 +246,12 @@ gap_run us = record {
 -- a fault before the next word
 bad_first : (us : List TextUnit) (e : Line) (bad : UnitFault) → next_fault (skip us) ≡ Some bad → WordsSeen us e
 unfolding gap_run
-bad_first us e bad f = broken (Bad bad) (gap_run us) (record {
+bad_first us e bad f = broken (Bad bad) (λ bytes. refl) (gap_run us) (record {
   cut = gap_cut us;
   place = fault-place (skip us) e.end bad f;
   fails = λ ms. words_next-fails (at us e ms) (Bad bad) (word_is_here us e ms ∙ bad_reads (skip us) e ms bad f);
-  none = λ x d ms same.
-      no_result _ _ (words_next-fails (at (gap_of us ++ x) d ms) (Bad bad) (bad_word_reads (gap_of us) x d ms bad (gap_passes us) (no_blank_there us x same) (fault-same x (skip us) (element-front x (skip us) same) ∙ f)));
+  refuses = λ x d ms same.
+      words_next-fails (at (gap_of us ++ x) d ms) (Bad bad) (bad_word_reads (gap_of us) x d ms bad (gap_passes us) (no_blank_there us x same) (fault-same x (skip us) (element-front x (skip us) same) ∙ f));
 })
 
 no_first : (us : List TextUnit) (e : Line) → settled (skip us) ≡ true → WordsSeen us e
@@ -278,10 +278,6 @@ from_more w s others ws after h = rw h refl
 from_bad : (w : WordText) (s : State) (others : Step (List WordText)) (f : Fault) → others ≡ Err f → words_from (Some w) s others ≡ Err f
 from_bad w s others f h = rw h refl
 
-from_none : (w : WordText) (s : State) (others : Step (List WordText)) → is_ok others ≡ false → is_ok (words_from (Some w) s others) ≡ false
-from_none w s (Ok x) h = absurd cc
-from_none w s (Err f) h = refl
-
 -- a word before other units
 module _ (us gap : List TextUnit) (u : TextUnit) (run rest : List TextUnit) (e : Line) (g : AllIn is_blank gap) (o : opens_word u ≡ true) (a : AllIn in_word (u ∷ run)) (c : us ≡ (gap ++ u ∷ run) ++ rest) where
   word_before : (y : List TextUnit) (d : Line) (ms : List Line) → ends_word y ≡ true → words_next (at ((gap ++ u ∷ run) ++ y) d ms) ≡ words_from (Some (word_of u run)) (at y d ms) (words_next (at y d ms))
@@ -289,7 +285,7 @@ module _ (us gap : List TextUnit) (u : TextUnit) (run rest : List TextUnit) (e :
 
   -- a fault right behind the word
   broken_behind : (bad : UnitFault) → next_fault rest ≡ Some bad → WordsSeen us e
-  broken_behind bad f = broken (Bad bad) (record {
+  broken_behind bad f = broken (Bad bad) (λ bytes. refl) (record {
     used = gap ++ u ∷ run;
     left = rest;
     cut = c;
@@ -301,7 +297,7 @@ module _ (us gap : List TextUnit) (u : TextUnit) (run rest : List TextUnit) (e :
     cut = c;
     place = fault-place rest e.end bad f;
     fails = λ ms. words_next-fails (at us e ms) (Bad bad) (ap (λ (y : List TextUnit). word_call (at y e ms)) c ∙ word_fails gap u run rest e ms bad g o a f);
-    none = λ x d ms same. no_result _ _ (words_next-fails (at ((gap ++ u ∷ run) ++ x) d ms) (Bad bad) (word_fails gap u run x d ms bad g o a (fault-same x rest (element-front x rest same) ∙ f)));
+    refuses = λ x d ms same. words_next-fails (at ((gap ++ u ∷ run) ++ x) d ms) (Bad bad) (word_fails gap u run x d ms bad g o a (fault-same x rest (element-front x rest same) ∙ f));
   })
 
   -- what ends the word ends it with other units behind it too
@@ -331,15 +327,15 @@ module _ (us gap : List TextUnit) (u : TextUnit) (run rest : List TextUnit) (e :
       more = λ z d ms h. further (one_more z) d ms (ends_before (one_more z) refl) ∙ from_more (word_of u run) (at (others.used ++ one_more z) d ms) _ (others.word ∷ others.words) (at z d ms) (others.more z d ms h);
     }
 
-    longer_broken : (fault : Fault) → FailsAt words_next rest e fault others.used others.left → WordsSeen us e
+    longer_broken : (fault : Fault) → ((bytes : List ℕ) → offers fault bytes ≡ true) → FailsAt words_next rest e fault others.used others.left → WordsSeen us e
     unfolding longer_run
-    longer_broken fault n = broken fault longer_run (record {
+    longer_broken fault of n = broken fault of longer_run (record {
       cut = whole_cut;
       place = n.place;
       fails = λ ms. ap (λ (y : List TextUnit). words_next (at y e ms)) c ∙ (word_before rest e ms ends ∙ from_bad (word_of u run) (at rest e ms) _ fault (n.fails ms));
-      none = λ x d ms same.
+      refuses = λ x d ms same.
           let seen = front-append others.used x others.left (element-front x others.left same) ∙ ap front (sym others.cut) in
-          ap is_ok (further x d ms (ends_same (others.used ++ x) rest seen ∙ ends)) ∙ from_none (word_of u run) (at (others.used ++ x) d ms) _ (n.none x d ms same);
+          further x d ms (ends_same (others.used ++ x) rest seen ∙ ends) ∙ from_bad (word_of u run) (at (others.used ++ x) d ms) _ _ (n.refuses x d ms same);
     })
 
   longer_pass : (ends : ends_word rest ≡ true) → WordsPass rest → WordsSeen us e
@@ -353,7 +349,7 @@ module _ (us gap : List TextUnit) (u : TextUnit) (run rest : List TextUnit) (e :
 
   longer : ends_word rest ≡ true → WordsSeen rest e → WordsSeen us e
   longer ends (there words) = longer_pass ends words
-  longer ends (broken fault others n) = longer_broken ends others fault n
+  longer ends (broken fault of others n) = longer_broken ends others fault of n
 
 shorter : (xs ys : List TextUnit) (u : TextUnit) (run rest : List TextUnit) → xs ≡ (ys ++ u ∷ run) ++ rest → length rest < length xs
 shorter xs ys u run rest c = omega (arith, ap length c, length-append {A = TextUnit} (ys ++ u ∷ run) rest, length-append {A = TextUnit} ys (u ∷ run))

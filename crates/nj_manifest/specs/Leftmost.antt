@@ -1,13 +1,15 @@
 -- Where the first fault of some lines stands: a statement could go on from what is before it, and none goes on from
 -- what is up to and with it.
-use Rattle.std.specs.Prelude.{◌≡◌, ℕ, Bool, true, false, ◌||◌, Some, Ok, Err, is_ok, List, [], ◌∷◌, ◌++◌, map, take}
+use Rattle.std.specs.Prelude.{◌≡◌, ℕ, Bool, true, false, ◌||◌, ◌==◌, Some, Ok, Err, List, [], ◌∷◌, ◌++◌, map, take}
 use Rattle.std.specs.List.{take_while, list_all}
 use Rattle.nj_text.specs.declared.sign.Sign.TheVariants as sign
-use Rattle.nj_text.specs.Bytes.{is_ordinary_byte}
+use Rattle.nj_text.specs.Bytes.{is_space, is_identifier_byte, is_ordinary_byte, is_word_byte, drop_while}
 use Rattle.nj_text.specs.Units.{Ordinary, TextUnit, first_spot}
 use Rattle.nj_text.specs.Lines.{Line, line_spot, with_units}
 use Rattle.nj_text.specs.Words.{in_identifier}
-use Rattle.nj_text.specs.Calls.{is_sign, fault_spot}
+use Rattle.nj_text.specs.Calls.{is_empty, is_sign, fault_spot}
+use Rattle.nj_manifest.specs.declared.fault.Wanted.{Wanted}
+use Rattle.nj_manifest.specs.declared.fault.Wanted.TheVariants as wanted
 use Rattle.nj_manifest.specs.Faults.{Fault, Bad, Expected, UnexpectedIndent, MissingCommand, RspPair, UnknownKey, MissingDepth, OutOfMemory}
 use Rattle.nj_manifest.specs.Statements.{PlacedText, next_statement}
 
@@ -64,20 +66,50 @@ NamesThePlaceOf (UnexpectedIndent spot) l = spot ≡ record { line = (line_spot 
 NamesThePlaceOf (UnknownKey spot key) l = spot ≡ line_spot l
 NamesThePlaceOf fault l = ⊥
 
--- from this front a statement goes on, in the same line with these bytes and then with these lines, each byte of which
--- stands for itself
-pub record SomeStatement (before : List Line) (begun : List TextUnit) : Type 0 where
+-- The same fault, met before this rest of a line. A bad unit and a key stand in the element, and so keep their places.
+abbrev pub met_before : Line → Fault → Fault
+met_before l (Expected spot wanted) = Expected (line_spot l) wanted
+met_before l (UnexpectedIndent spot) = UnexpectedIndent (record { line = (line_spot l).line; column = 1 })
+met_before l fault = fault
+
+abbrev pub begins_in : (ℕ → Bool) → List ℕ → Bool
+begins_in p [] = false
+begins_in p (b ∷ bs) = p b
+
+-- what these bytes begin with, after spaces, where that is wanted
+abbrev pub offers_next : Wanted → List ℕ → Bool
+offers_next wanted.Statement bytes = begins_in is_identifier_byte bytes
+offers_next wanted.RuleName bytes = begins_in is_identifier_byte bytes
+offers_next wanted.PoolName bytes = begins_in is_identifier_byte bytes
+offers_next wanted.Path bytes = begins_in is_word_byte bytes
+offers_next wanted.Colon bytes = begins_in (λ b. b == 58) bytes
+offers_next wanted.CommandName bytes = begins_in is_identifier_byte bytes
+offers_next wanted.TargetName bytes = begins_in is_word_byte bytes
+offers_next wanted.VariableName bytes = begins_in is_identifier_byte bytes
+offers_next wanted.Equals bytes = begins_in (λ b. b == 61) bytes
+offers_next wanted.Newline bytes = is_empty bytes
+
+-- whether the bytes begin with what the fault says is expected
+abbrev pub offers : Fault → List ℕ → Bool
+offers (Expected spot wanted) bytes = offers_next wanted (drop_while is_space bytes)
+offers fault bytes = true
+
+-- From this front a statement goes on: in the same line with these bytes, of which the first are what the fault says is
+-- expected, and then with these lines. Each byte stands for itself.
+pub record SomeStatement (before : List Line) (begun : List TextUnit) (fault : Fault) : Type 0 where
   pub bytes : List ℕ
   pub lines : List (List ℕ)
   pub plain_bytes : are_plain bytes ≡ true
+  pub offered : offers fault bytes ≡ true
   pub plain_lines : list_all are_plain lines ≡ true
   pub placed : PlacedText
   pub rest : List Line
   pub reads : next_statement (goes_on before begun (written bytes) (map written lines)) ≡ Ok (Some placed, rest)
 
--- from this front, and this element behind it, none does, whatever follows
-abbrev pub NoStatement : (before : List Line) → (begun element : List TextUnit) → Type 0
-NoStatement before begun here = (l : Line) (ls : List Line) → element l.units ≡ here → is_ok (next_statement (goes_on before begun l ls)) ≡ false
+-- from this front, with this element after it, none does: whatever follows, the answer is this fault
+abbrev pub Refuses : (before : List Line) → (begun element : List TextUnit) → Fault → Type 0
+Refuses before begun here fault =
+    (l : Line) (ls : List Line) → element l.units ≡ here → next_statement (goes_on before begun l ls) ≡ Err (met_before l fault)
 
 -- The lines, cut before the element at which the fault stands.
 pub record StandsLeftmost (ls : List Line) (fault : Fault) : Type 0 where
@@ -87,8 +119,8 @@ pub record StandsLeftmost (ls : List Line) (fault : Fault) : Type 0 where
   pub others : List Line
   pub cut : ls ≡ goes_on before begun line others
   pub place : NamesThePlaceOf fault line
-  pub some : SomeStatement before begun
-  pub none : NoStatement before begun (element line.units)
+  pub some : SomeStatement before begun fault
+  pub refuses : Refuses before begun (element line.units) fault
 
 -- Each fault of syntax is the leftmost.
 abbrev pub FaultsAreLeftmost : Type 0
