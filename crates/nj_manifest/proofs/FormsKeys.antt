@@ -58,7 +58,7 @@ unless_missing-ok : {A : Type 0} (there : Bool) (fault : Fault) (others : Result
 unless_missing-ok true fault others x h = (refl, h)
 unless_missing-ok false fault others x h = absurd cc
 
-agree-forms : (a b : Bool) → agree a b ≡ true → (a ≡ true) ↔ (b ≡ true)
+pub agree-forms : (a b : Bool) → agree a b ≡ true → (a ≡ true) ↔ (b ≡ true)
 agree-forms true b h = (λ e. h, λ e. refl)
 agree-forms false b h = (λ e. absurd cc, λ e. absurd (no_both b h e))
   where
@@ -66,7 +66,7 @@ agree-forms false b h = (λ e. absurd cc, λ e. absurd (no_both b h e))
     no_both true n e = absurd cc
     no_both false n e = absurd cc
 
-forms-agree : (a b : Bool) → ((a ≡ true) ↔ (b ≡ true)) → agree a b ≡ true
+pub forms-agree : (a b : Bool) → ((a ≡ true) ↔ (b ≡ true)) → agree a b ≡ true
 forms-agree true b h = h.0 refl
 forms-agree false true h = absurd (false_is_true (h.1 refl))
   where

@@ -9,10 +9,10 @@ use Rattle.nj_text.specs.Words.{Text}
 use Rattle.nj_text.specs.Calls.{is_empty}
 use Rattle.nj_manifest.specs.declared.block.Keys.{Keys}
 use Rattle.nj_manifest.specs.declared.block.Keys.TheVariants as keys
-use Rattle.nj_manifest.specs.Faults.{Fault, MissingCommand, RspPair, MissingDepth}
+use Rattle.nj_manifest.specs.Faults.{Fault, MissingCommand, RspPair, MissingDepth, is_syntax}
 use Rattle.nj_manifest.specs.Steps.{◌>>=◌, NameText, name_next, behind}
 use Rattle.nj_manifest.specs.Statements.{LineText, equals_value, line_next, Reading, block, OutputsText, InputsText, StatementText, RuleText, PoolText, BuildText, HeadText, Alone, RuleHead, PoolHead, BuildHead, gives, names, unless_missing, agree, whole_rule, whole_pool, with_block}
-use Rattle.nj_manifest.specs.Leftmost.{written, are_plain, is_syntax}
+use Rattle.nj_manifest.specs.Leftmost.{written, are_plain}
 use Rattle.nj_manifest.proofs.BlockLines.{in_front}
 
 -- the keys that a block of this statement takes

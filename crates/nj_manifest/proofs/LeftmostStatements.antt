@@ -7,10 +7,10 @@ use Rattle.nj_text.specs.Lines.{Line, line_spot, with_units, lines_behind, Kind,
 use Rattle.nj_text.specs.Calls.{State, Between, Inside, without_comments}
 use Rattle.nj_text.proofs.Lists.{AllIn}
 use Rattle.nj_manifest.specs.declared.block.Keys.{Keys}
-use Rattle.nj_manifest.specs.Faults.{Fault, Bad, UnexpectedIndent}
+use Rattle.nj_manifest.specs.Faults.{Fault, Bad, UnexpectedIndent, is_syntax}
 use Rattle.nj_manifest.specs.Steps.{Step, ◌>>=◌, name_next, behind}
 use Rattle.nj_manifest.specs.Statements.{LineText, PlacedText, StatementText, Alone, HeadText, Reading, lines_from, head_behind, head_next, equals_value, block, with_block, statement_at, nothing_more, front_of, next_by, next_statement}
-use Rattle.nj_manifest.specs.Leftmost.{goes_on, element, written, is_syntax, NamesThePlaceOf, met_before, offers, StandsLeftmost}
+use Rattle.nj_manifest.specs.Leftmost.{goes_on, element, written, NamesThePlaceOf, met_before, offers, StandsLeftmost}
 use Rattle.nj_manifest.proofs.BlockLines.{in_front}
 use Rattle.nj_manifest.proofs.LeftmostFronts.{element-front}
 use Rattle.nj_manifest.proofs.LeftmostSteps.{at, text, Fits, Said, begin, Stuck, Outcome, stuck, through}
@@ -21,10 +21,10 @@ use Rattle.nj_manifest.proofs.LeftmostKinds.{kind_units, spaces_of, behind_space
 
 -- ---- a line with which a statement begins
 
-abbrev Plain : Said HeadText
+abbrev pub Plain : Said HeadText
 Plain x e ms r = (kind_units x ≡ PlainLine) × (head_next (at x e ms) ≡ r)
 
-head_outcome : (l : Line) → kind_of l ≡ PlainLine → Outcome Plain l.units l
+pub head_outcome : (l : Line) → kind_of l ≡ PlainLine → Outcome Plain l.units l
 head_outcome l h = head_turn l l.units (begin Plain head_next starts l.units by_fit)
   where
     by_fit : (x : List TextUnit) (e : Line) (ms : List Line) → Fits starts l.units x → Plain x e ms (head_next (at x e ms))
@@ -39,22 +39,22 @@ plain_next : (l : Line) (ms : List Line) → kind_of l ≡ PlainLine → next_st
 unfolding next_statement statement_at
 plain_next l ms h = ap (λ (k : Kind). next_by k l ms (next_statement ms)) h
 
-plain_bad : (l : Line) (ms : List Line) (f : Fault) → kind_of l ≡ PlainLine → head_next (Inside l ms) ≡ Err f → next_statement (l ∷ ms) ≡ Err f
+pub plain_bad : (l : Line) (ms : List Line) (f : Fault) → kind_of l ≡ PlainLine → head_next (Inside l ms) ≡ Err f → next_statement (l ∷ ms) ≡ Err f
 plain_bad l ms f h r = plain_next l ms h ∙ ap (λ (y : Step HeadText). y >>= placed_then (line_spot l)) r
 
-plain_read : (l : Line) (ms : List Line) (v : HeadText) (s : State) → kind_of l ≡ PlainLine → head_next (Inside l ms) ≡ Ok (v, s) → next_statement (l ∷ ms) ≡ placed_then (line_spot l) (v, s)
+pub plain_read : (l : Line) (ms : List Line) (v : HeadText) (s : State) → kind_of l ≡ PlainLine → head_next (Inside l ms) ≡ Ok (v, s) → next_statement (l ∷ ms) ≡ placed_then (line_spot l) (v, s)
 plain_read l ms v s h r = plain_next l ms h ∙ ap (λ (y : Step HeadText). y >>= placed_then (line_spot l)) r
 
 placed_some : (spot : Spot) (r : Reading StatementText) (item : StatementText) (rest : List Line) → r ≡ Ok (item, rest) → ◌≡◌ {A = Reading (Option PlacedText)} (r >>= λ item. Ok (Some (record { spot = spot; item = item.0 }), item.1)) (Ok (Some (record { spot = spot; item = item }), rest))
 placed_some spot r item rest h = rw h refl
 
-placed_bad : (spot : Spot) (r : Reading StatementText) (f : Fault) → r ≡ Err f → ◌≡◌ {A = Reading (Option PlacedText)} (r >>= λ item. Ok (Some (record { spot = spot; item = item.0 }), item.1)) (Err f)
+pub placed_bad : (spot : Spot) (r : Reading StatementText) (f : Fault) → r ≡ Err f → ◌≡◌ {A = Reading (Option PlacedText)} (r >>= λ item. Ok (Some (record { spot = spot; item = item.0 }), item.1)) (Err f)
 placed_bad spot r f h = rw h refl
 
-errs : {A : Type 0} {x y : Fault} → ◌≡◌ {A = Result A Fault} (Err x) (Err y) → x ≡ y
+pub errs : {A : Type 0} {x y : Fault} → ◌≡◌ {A = Result A Fault} (Err x) (Err y) → x ≡ y
 errs e = cc
 
-placed_fault : (spot : Spot) (r : Reading StatementText) (f : Fault) → ◌≡◌ {A = Reading (Option PlacedText)} (r >>= λ item. Ok (Some (record { spot = spot; item = item.0 }), item.1)) (Err f) → r ≡ Err f
+pub placed_fault : (spot : Spot) (r : Reading StatementText) (f : Fault) → ◌≡◌ {A = Reading (Option PlacedText)} (r >>= λ item. Ok (Some (record { spot = spot; item = item.0 }), item.1)) (Err f) → r ≡ Err f
 placed_fault spot (Ok x) f h = absurd cc
 placed_fault spot (Err g) f h = ap Err (errs h)
 
@@ -123,7 +123,7 @@ no_block_fault allowed l ls f h = apart (sym (blank_block allowed (with_units []
     apart : {A : Type 0} {x : A} → ◌≡◌ {A = Result A Fault} (Ok x) (Err f) → ⊥
     apart e = absurd cc
 
-same_fault : {A : Type 0} (r : Result A Fault) (f g : Fault) → r ≡ Err f → r ≡ Err g → g ≡ f
+pub same_fault : {A : Type 0} (r : Result A Fault) (f g : Fault) → r ≡ Err f → r ≡ Err g → g ≡ f
 same_fault r f g h i = errs (sym i ∙ h)
 
 as_fault : (ls : List Line) (f g : Fault) → g ≡ f → StandsLeftmost ls g → StandsLeftmost ls f
@@ -145,7 +145,7 @@ plain_leftmost l ls fault k h syntax = by_head (head_outcome l k)
 
 -- ---- lines before a statement
 
-by_kind_next : (l : Line) (ms : List Line) (k : Kind) → kind_of l ≡ k → next_statement (l ∷ ms) ≡ next_by k l ms (next_statement ms)
+pub by_kind_next : (l : Line) (ms : List Line) (k : Kind) → kind_of l ≡ k → next_statement (l ∷ ms) ≡ next_by k l ms (next_statement ms)
 unfolding next_statement
 by_kind_next l ms k h = ap (λ (k : Kind). next_by k l ms (next_statement ms)) h
 
@@ -203,14 +203,14 @@ leftmost_behind l ls fault same r = record {
   refuses = λ m ms e. same (goes_on r.before r.begun m ms) ∙ r.refuses m ms e;
 }
 
-not_last : (t : Bool) (rest : List Line) (others : Reading (Option PlacedText)) (f : Fault) → cond t (nothing_more rest) others ≡ Err f → (t ≡ false) × (others ≡ Err f)
+pub not_last : (t : Bool) (rest : List Line) (others : Reading (Option PlacedText)) (f : Fault) → cond t (nothing_more rest) others ≡ Err f → (t ≡ false) × (others ≡ Err f)
 not_last true rest others f h = absurd cc
 not_last false rest others f h = (refl, h)
 
-nothing_no_fault : (rest : List Line) (f : Fault) → nothing_more rest ≡ Err f → ⊥
+pub nothing_no_fault : (rest : List Line) (f : Fault) → nothing_more rest ≡ Err f → ⊥
 nothing_no_fault rest f h = absurd cc
 
-no_lines_next : next_statement [] ≡ nothing_more []
+pub no_lines_next : next_statement [] ≡ nothing_more []
 unfolding next_statement
 no_lines_next = refl
 

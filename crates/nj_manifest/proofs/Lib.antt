@@ -6,6 +6,7 @@ pub mod FormRows
 pub mod FormsBlocks
 pub mod FormsGaps
 pub mod FormsKeys
+pub mod FormsLacks
 pub mod FormsLines
 pub mod FormsStatements
 pub mod FormsTokens

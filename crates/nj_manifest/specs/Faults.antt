@@ -1,5 +1,5 @@
 -- Why a text is no list of statements.
-use Rattle.std.specs.Prelude.{ℕ, List, codes}
+use Rattle.std.specs.Prelude.{ℕ, Bool, true, false, List, codes}
 use Rattle.nj_text.specs.declared.fault.UnitFault.{UnitFault}
 use Rattle.nj_text.specs.declared.fault.LexFault.TheVariants as lex
 use Rattle.nj_text.specs.declared.spot.Spot.{Spot}
@@ -32,6 +32,17 @@ fault_text (fault.MissingCommand spot) = MissingCommand spot
 fault_text (fault.RspPair spot) = RspPair spot
 fault_text (fault.UnknownKey spot key) = UnknownKey spot key.now
 fault_text (fault.MissingDepth spot) = MissingDepth spot
+
+-- A fault of syntax; the others say what a whole block lacks.
+abbrev pub is_syntax : Fault → Bool
+is_syntax (Bad unit) = true
+is_syntax (Expected spot wanted) = true
+is_syntax (UnexpectedIndent spot) = true
+is_syntax (MissingCommand spot) = false
+is_syntax (RspPair spot) = false
+is_syntax (UnknownKey spot key) = true
+is_syntax (MissingDepth spot) = false
+is_syntax OutOfMemory = false
 
 -- the text of what is wanted
 abbrev pub wanted_text : Wanted → List ℕ

@@ -12,6 +12,7 @@ use Rattle.nj_text.specs.Words.{WordText, is_blank, is_opening_meaning, in_ident
 use Rattle.nj_text.specs.Calls.{bytes_of, is_empty, without_comments}
 use Rattle.nj_manifest.specs.declared.block.Keys.{Keys}
 use Rattle.nj_manifest.specs.declared.block.Keys.TheVariants as keys
+use Rattle.nj_manifest.specs.Faults.{Fault, MissingCommand, RspPair, MissingDepth}
 use Rattle.nj_manifest.specs.Steps.{NameText}
 use Rattle.nj_manifest.specs.Statements.{LineText, allows, OutputsText, InputsText, StatementText, BindingText, RuleText, PoolText, BuildText, DefaultText, IncludeText, SubninjaText, PlacedText, HeadText, Alone, RuleHead, PoolHead, BuildHead}
 
@@ -223,6 +224,17 @@ pub data StatementForm : HeadText → List Line → StatementText → (rest : Li
   pool : {name : NameText} {ls rest : List Line} {lines : List LineText} → BlockForm keys.OfPool ls lines rest → list_any (λ l. bytes_eq l.name (codes "depth")) lines ≡ true → StatementForm (PoolHead name) ls (PoolText name lines) rest
   build : {outputs : OutputsText} {name : NameText} {inputs : InputsText} {ls rest : List Line} {lines : List LineText} → BlockForm keys.All ls lines rest → StatementForm (BuildHead outputs name inputs) ls (BuildText outputs name inputs lines) rest
 
+-- What the block of a rule or a pool lacks, though each of its lines has its form.
+pub data LackForm (spot : Spot) : HeadText → List Line → Fault → Type 0 where
+  -- only one of the two keys of a response file
+  pair : {name : NameText} {ls rest : List Line} {lines : List LineText} → BlockForm keys.OfRule ls lines rest
+      → ((Gives (codes "rspfile") lines ↔ Gives (codes "rspfile_content") lines) → ⊥) → LackForm spot (RuleHead name) ls (RspPair spot)
+  command : {name : NameText} {ls rest : List Line} {lines : List LineText} → BlockForm keys.OfRule ls lines rest
+      → (Gives (codes "rspfile") lines ↔ Gives (codes "rspfile_content") lines) → (Gives (codes "command") lines → ⊥)
+      → LackForm spot (RuleHead name) ls (MissingCommand spot)
+  depth : {name : NameText} {ls rest : List Line} {lines : List LineText} → BlockForm keys.OfPool ls lines rest
+      → list_any (λ l. bytes_eq l.name (codes "depth")) lines ≡ false → LackForm spot (PoolHead name) ls (MissingDepth spot)
+
 -- The next statement of some lines, and the lines behind it; or none. Comments and blank lines are passed.
 pub data NextForm : List Line → Option PlacedText → (rest : List Line) → Type 0 where
   statement : {l : Line} {ls rest : List Line} {head : HeadText} {item : StatementText} → kind_of l ≡ PlainLine → HeadForm l head → StatementForm head (lines_behind l ls) item rest → NextForm (l ∷ ls) (Some (record { spot = line_spot l; item = item })) rest
@@ -231,3 +243,11 @@ pub data NextForm : List Line → Option PlacedText → (rest : List Line) → T
   last_blank : {l : Line} {ls : List Line} → kind_of l ≡ BlankLine → l.is_last ≡ true → NextForm (l ∷ ls) None (lines_behind l ls)
   last_comment : {l : Line} {ls : List Line} → kind_of l ≡ CommentLine → l.is_last ≡ true → NextForm (l ∷ ls) None (lines_behind l (without_comments ls))
   nothing : NextForm [] None []
+
+-- The next statement of some lines has its first line, and lacks a line of its block. The fault stands where the
+-- statement begins.
+pub data NextLacks : List Line → Fault → Type 0 where
+  statement : {l : Line} {ls : List Line} {head : HeadText} {fault : Fault} → kind_of l ≡ PlainLine → HeadForm l head
+      → LackForm (line_spot l) head (lines_behind l ls) fault → NextLacks (l ∷ ls) fault
+  blank : {l : Line} {ls : List Line} {fault : Fault} → kind_of l ≡ BlankLine → l.is_last ≡ false → NextLacks ls fault → NextLacks (l ∷ ls) fault
+  comment : {l : Line} {ls : List Line} {fault : Fault} → kind_of l ≡ CommentLine → l.is_last ≡ false → NextLacks ls fault → NextLacks (l ∷ ls) fault

@@ -10,7 +10,7 @@ use Rattle.nj_text.specs.Words.{in_identifier}
 use Rattle.nj_text.specs.Calls.{is_empty, is_sign, fault_spot}
 use Rattle.nj_manifest.specs.declared.fault.Wanted.{Wanted}
 use Rattle.nj_manifest.specs.declared.fault.Wanted.TheVariants as wanted
-use Rattle.nj_manifest.specs.Faults.{Fault, Bad, Expected, UnexpectedIndent, MissingCommand, RspPair, UnknownKey, MissingDepth, OutOfMemory}
+use Rattle.nj_manifest.specs.Faults.{Fault, Bad, Expected, UnexpectedIndent, UnknownKey, is_syntax}
 use Rattle.nj_manifest.specs.Statements.{PlacedText, next_statement}
 
 -- whole lines, the first units of one more, and from there on the rest of that line and the others
@@ -46,17 +46,6 @@ abbrev pub are_plain : List ℕ → Bool
 are_plain bytes = list_all is_ordinary_byte bytes
 
 -- ---- the law's words
-
--- A fault of syntax; the others say what a whole block lacks.
-abbrev pub is_syntax : Fault → Bool
-is_syntax (Bad unit) = true
-is_syntax (Expected spot wanted) = true
-is_syntax (UnexpectedIndent spot) = true
-is_syntax (MissingCommand spot) = false
-is_syntax (RspPair spot) = false
-is_syntax (UnknownKey spot key) = true
-is_syntax (MissingDepth spot) = false
-is_syntax OutOfMemory = false
 
 -- the place that a fault names, where it stands before this rest of a line
 abbrev pub NamesThePlaceOf : Fault → Line → Type 0

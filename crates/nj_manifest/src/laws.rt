@@ -1,6 +1,6 @@
 //! Laws of the grammar of statements.
 
-ghost use Rattle.nj_manifest.specs.Laws.{StatementsAreTheForms};
+ghost use Rattle.nj_manifest.specs.Laws.{StatementsAreTheForms, MissingLinesAreLacking};
 ghost use Rattle.nj_manifest.specs.Leftmost.{FaultsAreLeftmost};
 
 /// A statement is read from lines, or none at their end, exactly where the forms of Ninja's manual say so.
@@ -8,8 +8,14 @@ pub fn statements_are_the_forms()
     ensures { StatementsAreTheForms }
 {}
 
-/// A fault of syntax stands at the first element with which no statement goes on, whatever follows it; from what is
-/// before that element a statement does go on.
+/// A rule without `command`, a rule with one of the two keys of a response file, and a pool without `depth` are refused
+/// as such exactly where each line of the block has its form.
+pub fn missing_lines_are_lacking()
+    ensures { MissingLinesAreLacking }
+{}
+
+/// A fault of syntax stands at the first element with which no statement goes on: whatever follows it, the answer is this
+/// fault. From what is before that element a statement does go on, with what the fault says is expected.
 pub fn faults_are_leftmost()
     ensures { FaultsAreLeftmost }
 {}

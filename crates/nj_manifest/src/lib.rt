@@ -13,7 +13,7 @@ mod statement;
 mod steps;
 
 pub use fault::{ParseFault, Wanted};
-pub use laws::{faults_are_leftmost, statements_are_the_forms};
+pub use laws::{faults_are_leftmost, missing_lines_are_lacking, statements_are_the_forms};
 pub use nj_text::{LexFault, Part, Spot, UnitFault, Word};
 pub use parser::Parser;
 pub use statement::{Line, Placed, Statement};

@@ -1,0 +1,179 @@
+-- Missing lines of rules and pools: the faults that are read, and the forms of the grammar.
+use Rattle.std.proofs.Common.{◌≡◌, Bool, true, false, cond, Option, Result, Ok, Err, List, [], ◌∷◌, refl, sym, ap, subst, ◌∙◌, codes}
+use Rattle.std.specs.Prelude.{◌↔◌}
+use Rattle.std.specs.List.{list_any}
+use Rattle.std.specs.Str.{bytes_eq}
+use Rattle.nj_text.specs.declared.fault.UnitFault.TheVariants as lex
+use Rattle.nj_text.specs.declared.spot.Spot.{Spot}
+use Rattle.nj_text.specs.Lines.{Line, line_spot, lines_behind, Kind, CommentLine, TabLine, BlankLine, IndentedLine, PlainLine, kind_of}
+use Rattle.nj_text.specs.Calls.{State, Between, Inside, without_comments}
+use Rattle.nj_manifest.specs.declared.block.Keys.{Keys}
+use Rattle.nj_manifest.specs.declared.block.Keys.TheVariants as keys
+use Rattle.nj_manifest.specs.Faults.{Fault, Bad, Expected, UnexpectedIndent, MissingCommand, RspPair, UnknownKey, MissingDepth, OutOfMemory, is_syntax}
+use Rattle.nj_manifest.specs.Steps.{◌>>=◌, NameText}
+use Rattle.nj_manifest.specs.Statements.{LineText, StatementText, RuleText, PoolText, BuildText, PlacedText, HeadText, Alone, RuleHead, PoolHead, BuildHead, Reading, gives, names, agree, unless_missing, block, whole_rule, whole_pool, head_next, with_block, front_of, nothing_more, next_statement}
+use Rattle.nj_manifest.specs.Grammar.{HeadForm, BlockForm, Gives, LackForm, NextLacks}
+use Rattle.nj_manifest.specs.Laws.{MissingLinesAreLacking}
+use Rattle.nj_manifest.specs.Leftmost.{NamesThePlaceOf}
+use Rattle.nj_manifest.proofs.FormsLines.{head-form, head-read}
+use Rattle.nj_manifest.proofs.FormsBlocks.{block-form, block-read}
+use Rattle.nj_manifest.proofs.FormsKeys.{gives-form, gives-read, agree-forms, forms-agree}
+use Rattle.nj_manifest.proofs.LeftmostSteps.{Stuck, Outcome, stuck, through}
+use Rattle.nj_manifest.proofs.LeftmostBlocks.{block_stuck}
+use Rattle.nj_manifest.proofs.LeftmostStatements.{Plain, head_outcome, plain_bad, plain_read, placed_bad, placed_fault, by_kind_next, same_fault, not_last, nothing_no_fault, no_lines_next}
+
+-- ---- faults of lines are faults of syntax
+
+no_syntax : {P : Type 0} (f : Fault) → is_syntax f ≡ true → is_syntax f ≡ false → P
+no_syntax f h n = absurd (apart (sym h ∙ n))
+  where
+    apart : true ≡ false → ⊥
+    apart e = absurd cc
+
+names_syntax : (f : Fault) (l : Line) → NamesThePlaceOf f l → is_syntax f ≡ true
+names_syntax (Bad unit) l h = refl
+names_syntax (Expected spot wanted) l h = refl
+names_syntax (UnexpectedIndent spot) l h = refl
+names_syntax (MissingCommand spot) l h = absurd h
+names_syntax (RspPair spot) l h = absurd h
+names_syntax (UnknownKey spot key) l h = refl
+names_syntax (MissingDepth spot) l h = absurd h
+names_syntax OutOfMemory l h = absurd h
+
+block_syntax : {P : Type 0} (allowed : Keys) (ls : List Line) (f : Fault) → block allowed ls ≡ Err f → is_syntax f ≡ false → P
+block_syntax allowed ls f h n =
+    let s = block_stuck allowed ls f h in
+    no_syntax f (names_syntax f s.line s.place) n
+
+-- ---- a block that lacks a line
+
+abbrev rsp_agree : List LineText → Bool
+rsp_agree lines = agree (gives (codes "rspfile") lines) (gives (codes "rspfile_content") lines)
+
+abbrev Pair : List LineText → Type 0
+Pair lines = Gives (codes "rspfile") lines ↔ Gives (codes "rspfile_content") lines
+
+false_is_true : {P : Type 0} (t : Bool) → t ≡ false → t ≡ true → P
+false_is_true t f h = absurd (apart (sym f ∙ h))
+  where
+    apart : false ≡ true → ⊥
+    apart e = absurd cc
+
+pair_agrees : (lines : List LineText) → Pair lines → rsp_agree lines ≡ true
+pair_agrees lines p =
+    forms-agree (gives (codes "rspfile") lines) (gives (codes "rspfile_content") lines)
+    (λ e. gives-read (codes "rspfile_content") lines (p.0 (gives-form (codes "rspfile") lines e)), λ e. gives-read (codes "rspfile") lines (p.1 (gives-form (codes "rspfile_content") lines e)))
+
+agrees_pair : (lines : List LineText) → rsp_agree lines ≡ true → Pair lines
+agrees_pair lines h =
+    let both = agree-forms (gives (codes "rspfile") lines) (gives (codes "rspfile_content") lines) h in
+    (λ g. gives-form (codes "rspfile_content") lines (both.0 (gives-read (codes "rspfile") lines g)), λ g. gives-form (codes "rspfile") lines (both.1 (gives-read (codes "rspfile_content") lines g)))
+
+errs : {A : Type 0} {x y : Fault} → ◌≡◌ {A = Result A Fault} (Err x) (Err y) → x ≡ y
+errs e = cc
+
+no_err : {A P : Type 0} {x : A} {f : Fault} → ◌≡◌ {A = Result A Fault} (Ok x) (Err f) → P
+no_err e = absurd cc
+
+rule-lacks : (spot : Spot) (name : NameText) (ls rest : List Line) (lines : List LineText) (f : Fault) → BlockForm keys.OfRule ls lines rest → ◌≡◌ {A = Reading StatementText} (whole_rule spot lines >>= λ whole. Ok (RuleText name whole, rest)) (Err f)
+    → LackForm spot (RuleHead name) ls f
+unfolding whole_rule
+rule-lacks spot name ls rest lines f b h = by_pair (rsp_agree lines) refl h
+  where
+    then : Result (List LineText) Fault → Reading StatementText
+    then r = r >>= λ whole. Ok (RuleText name whole, rest)
+
+    by_command : (t : Bool) → gives (codes "command") lines ≡ t → rsp_agree lines ≡ true → then (unless_missing t (MissingCommand spot) (Ok lines)) ≡ Err f → LackForm spot (RuleHead name) ls f
+    by_command true c p g = no_err g
+    by_command false c p g = subst (λ (x : Fault). LackForm spot (RuleHead name) ls x) (errs g) (LackForm.command b (agrees_pair lines p) (λ given. false_is_true _ c (gives-read (codes "command") lines given)))
+
+    by_pair : (t : Bool) → rsp_agree lines ≡ t → then (unless_missing t (RspPair spot) (unless_missing (gives (codes "command") lines) (MissingCommand spot) (Ok lines))) ≡ Err f → LackForm spot (RuleHead name) ls f
+    by_pair true p g = by_command (gives (codes "command") lines) refl p g
+    by_pair false p g = subst (λ (x : Fault). LackForm spot (RuleHead name) ls x) (errs g) (LackForm.pair b (λ both. false_is_true _ p (pair_agrees lines both)))
+
+pool-lacks : (spot : Spot) (name : NameText) (ls rest : List Line) (lines : List LineText) (f : Fault) → BlockForm keys.OfPool ls lines rest → ◌≡◌ {A = Reading StatementText} (whole_pool spot lines >>= λ whole. Ok (PoolText name whole, rest)) (Err f)
+    → LackForm spot (PoolHead name) ls f
+unfolding whole_pool
+pool-lacks spot name ls rest lines f b h = by_depth (names (codes "depth") lines) refl h
+  where
+    by_depth : (t : Bool) → names (codes "depth") lines ≡ t → ◌≡◌ {A = Reading StatementText} (unless_missing t (MissingDepth spot) (Ok lines) >>= λ whole. Ok (PoolText name whole, rest)) (Err f) → LackForm spot (PoolHead name) ls f
+    by_depth true d g = no_err g
+    by_depth false d g = subst (λ (x : Fault). LackForm spot (PoolHead name) ls x) (errs g) (LackForm.depth b d)
+
+-- what was read of a block, or its fault
+with_lines : {A P : Type 0} (allowed : Keys) (ls : List Line) (k : List LineText × List Line → Result A Fault) (f : Fault) → is_syntax f ≡ false → (block allowed ls >>= k) ≡ Err f → ((lines : List LineText) (rest : List Line) → BlockForm allowed ls lines rest → k (lines, rest) ≡ Err f → P) → P
+with_lines {A = A} {P = P} allowed ls k f n h go = by_block (block allowed ls) refl h
+  where
+    by_block : (r : Reading (List LineText)) → block allowed ls ≡ r → (r >>= k) ≡ Err f → P
+    by_block (Ok x) e g = go x.0 x.1 (block-form allowed ls x.0 x.1 e) g
+    by_block (Err y) e g = block_syntax allowed ls f (e ∙ ap Err (errs g)) n
+
+with_block-lacks : (spot : Spot) (head : HeadText) (ls : List Line) (f : Fault) → is_syntax f ≡ false → with_block spot head ls ≡ Err f → LackForm spot head ls f
+with_block-lacks spot (Alone one) ls f n h = no_err h
+with_block-lacks spot (RuleHead name) ls f n h = with_lines keys.OfRule ls (λ lines. whole_rule spot lines.0 >>= λ whole. Ok (RuleText name whole, lines.1)) f n h (λ lines rest b g. rule-lacks spot name ls rest lines f b g)
+with_block-lacks spot (PoolHead name) ls f n h = with_lines keys.OfPool ls (λ lines. whole_pool spot lines.0 >>= λ whole. Ok (PoolText name whole, lines.1)) f n h (λ lines rest b g. pool-lacks spot name ls rest lines f b g)
+with_block-lacks spot (BuildHead outputs rule inputs) ls f n h = with_lines keys.All ls (λ lines. Ok (BuildText outputs rule inputs lines.0, lines.1)) f n h (λ lines rest b g. no_err g)
+
+not_so : (t : Bool) → (t ≡ true → ⊥) → t ≡ false
+not_so true h = absurd (h refl)
+not_so false h = refl
+
+pair-refuses : (spot : Spot) (lines : List LineText) → (Pair lines → ⊥) → whole_rule spot lines ≡ Err (RspPair spot)
+unfolding whole_rule
+pair-refuses spot lines n = rw (not_so (rsp_agree lines) (λ h. n (agrees_pair lines h))) refl
+
+command-refuses : (spot : Spot) (lines : List LineText) → Pair lines → (Gives (codes "command") lines → ⊥) → whole_rule spot lines ≡ Err (MissingCommand spot)
+unfolding whole_rule
+command-refuses spot lines p n = rw (pair_agrees lines p, not_so (gives (codes "command") lines) (λ h. n (gives-form (codes "command") lines h))) refl
+
+depth-refuses : (spot : Spot) (lines : List LineText) → list_any (λ (l : LineText). bytes_eq l.name (codes "depth")) lines ≡ false → whole_pool spot lines ≡ Err (MissingDepth spot)
+unfolding whole_pool
+depth-refuses spot lines h = rw h refl
+
+lack-refuses : {spot : Spot} {head : HeadText} {ls : List Line} {f : Fault} → LackForm spot head ls f → (with_block spot head ls ≡ Err f) × (is_syntax f ≡ false)
+lack-refuses {spot = spot} (LackForm.pair {lines = lines} b n) = (rw (block-read b, pair-refuses spot lines n) refl, refl)
+lack-refuses {spot = spot} (LackForm.command {lines = lines} b p n) = (rw (block-read b, command-refuses spot lines p n) refl, refl)
+lack-refuses {spot = spot} (LackForm.depth {lines = lines} b n) = (rw (block-read b, depth-refuses spot lines n) refl, refl)
+
+-- ---- the next statement
+
+plain-lacks : (l : Line) (ls : List Line) (f : Fault) → is_syntax f ≡ false → kind_of l ≡ PlainLine → next_statement (l ∷ ls) ≡ Err f → NextLacks (l ∷ ls) f
+plain-lacks l ls f n k h = by_head (head_outcome l k)
+  where
+    by_head : Outcome Plain l.units l → NextLacks (l ∷ ls) f
+    by_head (stuck g s) =
+        let same = same_fault (next_statement (l ∷ ls)) f g h (plain_bad l ls g k (s.fails ls).1) in
+        no_syntax f (ap is_syntax (sym same) ∙ names_syntax g _ s.place) n
+    by_head (through v so) =
+        let read = (so ls).1 in
+        let failed = placed_fault (line_spot l) (with_block (line_spot l) v (lines_behind l ls)) f (sym (plain_read l ls v (Between (lines_behind l ls)) k read) ∙ h) in
+        NextLacks.statement k (head-form l ls v (Between (lines_behind l ls)) read).0 (with_block-lacks (line_spot l) v (lines_behind l ls) f n failed)
+
+next-lacks : (ls : List Line) (f : Fault) → is_syntax f ≡ false → next_statement ls ≡ Err f → NextLacks ls f
+next-lacks [] f n h = absurd (nothing_no_fault [] f (sym no_lines_next ∙ h))
+next-lacks (l ∷ ls) f n h = by_kind (kind_of l) refl (next-lacks ls f n)
+  where
+    by_kind : (k : Kind) → kind_of l ≡ k → (next_statement ls ≡ Err f → NextLacks ls f) → NextLacks (l ∷ ls) f
+    by_kind CommentLine k rest =
+        let last = not_last l.is_last (lines_behind l (without_comments ls)) (next_statement ls) f (sym (by_kind_next l ls CommentLine k) ∙ h) in
+        NextLacks.comment k last.0 (rest last.1)
+    by_kind (TabLine tab) k rest = no_syntax f (ap is_syntax (sym (same_fault (next_statement (l ∷ ls)) f (Bad (lex.Tab tab)) h (by_kind_next l ls (TabLine tab) k)))) n
+    by_kind IndentedLine k rest = no_syntax f (ap is_syntax (sym (same_fault (next_statement (l ∷ ls)) f (UnexpectedIndent (front_of l)) h (by_kind_next l ls IndentedLine k)))) n
+    by_kind BlankLine k rest =
+        let last = not_last l.is_last (lines_behind l ls) (next_statement ls) f (sym (by_kind_next l ls BlankLine k) ∙ h) in
+        NextLacks.blank k last.0 (rest last.1)
+    by_kind PlainLine k rest = plain-lacks l ls f n k h
+
+next-refuses : {ls : List Line} {f : Fault} → NextLacks ls f → (next_statement ls ≡ Err f) × (is_syntax f ≡ false)
+next-refuses (NextLacks.statement {l = l} {ls = ls} {head = head} {fault = f} k first lacks) =
+    let r = lack-refuses lacks in
+    (plain_read l ls head (Between (lines_behind l ls)) k (head-read l ls head first) ∙ placed_bad (line_spot l) (with_block (line_spot l) head (lines_behind l ls)) f r.0, r.1)
+next-refuses (NextLacks.blank {l = l} {ls = ls} k e others) =
+    let r = next-refuses others in
+    (by_kind_next l ls BlankLine k ∙ (ap (λ (t : Bool). cond t (nothing_more (lines_behind l ls)) (next_statement ls)) e ∙ r.0), r.1)
+next-refuses (NextLacks.comment {l = l} {ls = ls} k e others) =
+    let r = next-refuses others in
+    (by_kind_next l ls CommentLine k ∙ (ap (λ (t : Bool). cond t (nothing_more (lines_behind l (without_comments ls))) (next_statement ls)) e ∙ r.0), r.1)
+
+pub are_lacking : MissingLinesAreLacking
+are_lacking ls f = (λ h. next-lacks ls f h.1 h.0, λ l. next-refuses l)
