@@ -1,8 +1,10 @@
 -- Why a text is no list of statements.
-use Rattle.std.specs.Prelude.{ℕ, Bool, true, false, List, codes}
+use Rattle.std.specs.Prelude.{ℕ, Bool, true, false, Option, Some, None, List, ◌++◌, codes}
 use Rattle.nj_text.specs.declared.fault.UnitFault.{UnitFault}
+use Rattle.nj_text.specs.declared.fault.UnitFault.TheVariants as unit_fault
 use Rattle.nj_text.specs.declared.fault.LexFault.TheVariants as lex
 use Rattle.nj_text.specs.declared.spot.Spot.{Spot}
+use Rattle.nj_text.specs.Calls.{fault_spot}
 use Rattle.nj_manifest.specs.declared.fault.Wanted.{Wanted}
 use Rattle.nj_manifest.specs.declared.fault.Wanted.TheVariants as wanted
 use Rattle.nj_manifest.specs.declared.fault.ParseFault.{ParseFault}
@@ -56,3 +58,31 @@ wanted_text wanted.TargetName = codes "target name"
 wanted_text wanted.VariableName = codes "variable name"
 wanted_text wanted.Equals = codes "'='"
 wanted_text wanted.Newline = codes "newline"
+
+-- ---- the place and the text of a fault
+
+-- out of memory has no place
+abbrev pub place_of : Fault → Option Spot
+place_of (Bad unit) = Some (fault_spot unit)
+place_of (Expected spot wanted) = Some spot
+place_of (UnexpectedIndent spot) = Some spot
+place_of (MissingCommand spot) = Some spot
+place_of (RspPair spot) = Some spot
+place_of (UnknownKey spot key) = Some spot
+place_of (MissingDepth spot) = Some spot
+place_of OutOfMemory = None
+
+abbrev pub unit_text : UnitFault → List ℕ
+unit_text (unit_fault.BadByte spot) = codes "unexpected byte"
+unit_text (unit_fault.Tab spot) = codes "tabs are not allowed, use spaces"
+unit_text (unit_fault.BadEscape spot) = codes "bad $-escape (literal $ must be written as $$)"
+
+abbrev pub text_of : Fault → List ℕ
+text_of (Bad unit) = unit_text unit
+text_of (Expected spot wanted) = codes "expected " ++ wanted_text wanted
+text_of (UnexpectedIndent spot) = codes "unexpected indent"
+text_of (MissingCommand spot) = codes "expected 'command =' line"
+text_of (RspPair spot) = codes "rspfile and rspfile_content need to be both specified"
+text_of (UnknownKey spot key) = codes "unexpected variable '" ++ key ++ codes "'"
+text_of (MissingDepth spot) = codes "expected 'depth =' line"
+text_of OutOfMemory = codes "out of memory"

@@ -1,11 +1,12 @@
 //! Why a text is no list of statements.
 
 ghost use Rattle.std.specs.Prelude.{◌≡◌};
-ghost use Rattle.nj_manifest.specs.Faults.{wanted_text};
+ghost use Rattle.nj_manifest.specs.Faults.{wanted_text, fault_text, place_of, unit_text, text_of};
 ghost use Rattle.nj_text.specs.declared.fault.LexFault.TheVariants.{OutOfMemory};
 ghost use Rattle.nj_manifest.specs.declared.fault.ParseFault.TheVariants.{Lex};
 
-use nj_text::{LexFault, Spot};
+use crate::fault_text::FaultText;
+use nj_text::{LexFault, Spot, UnitFault};
 use std::alloc::{AllocError, AllocFailed};
 
 /// What would have to stand at a place, in the words of the fault's text.
@@ -71,6 +72,53 @@ pub enum ParseFault<'a> {
     UnknownKey(Spot, &'a [u8]),
     /// A pool without `depth`; the place is that of the statement.
     MissingDepth(Spot),
+}
+
+impl<'a> ParseFault<'a> {
+    /// The place of the fault; `None` if an allocation failed.
+    pub fn spot(self) -> Option<Spot>
+        ensures { result ≡ place_of (fault_text self.entry) }
+    {
+        match self {
+            ParseFault::Lex(LexFault::Unit(unit)) => Some(unit.spot()),
+            ParseFault::Lex(LexFault::OutOfMemory) => None,
+            ParseFault::Expected(spot, _) => Some(spot),
+            ParseFault::UnexpectedIndent(spot) => Some(spot),
+            ParseFault::MissingCommand(spot) => Some(spot),
+            ParseFault::RspPair(spot) => Some(spot),
+            ParseFault::UnknownKey(spot, _) => Some(spot),
+            ParseFault::MissingDepth(spot) => Some(spot),
+        }
+    }
+
+    /// The text of the fault, without its place.
+    pub fn text(self) -> FaultText<'a>
+        ensures { result ≡ text_of (fault_text self.entry) }
+    {
+        match self {
+            ParseFault::Lex(LexFault::Unit(unit)) => FaultText::fixed(unit_text(unit)),
+            ParseFault::Lex(LexFault::OutOfMemory) => FaultText::fixed("out of memory"),
+            ParseFault::Expected(_, wanted) => FaultText::pair("expected ", wanted.text()),
+            ParseFault::UnexpectedIndent(_) => FaultText::fixed("unexpected indent"),
+            ParseFault::MissingCommand(_) => FaultText::fixed("expected 'command =' line"),
+            ParseFault::RspPair(_) => {
+                FaultText::fixed("rspfile and rspfile_content need to be both specified")
+            }
+            ParseFault::UnknownKey(_, key) => FaultText::naming("unexpected variable '", key, "'"),
+            ParseFault::MissingDepth(_) => FaultText::fixed("expected 'depth =' line"),
+        }
+    }
+}
+
+/// The text of a bad unit.
+fn unit_text(unit: UnitFault) -> &'static str
+    ensures { result.now ≡ unit_text unit }
+{
+    match unit {
+        UnitFault::BadByte(_) => "unexpected byte",
+        UnitFault::Tab(_) => "tabs are not allowed, use spaces",
+        UnitFault::BadEscape(_) => "bad $-escape (literal $ must be written as $$)",
+    }
 }
 
 impl From<LexFault> for ParseFault<'_> {

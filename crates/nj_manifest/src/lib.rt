@@ -5,6 +5,7 @@
 
 mod block;
 mod fault;
+mod fault_text;
 mod heads;
 mod laws;
 mod next;
@@ -13,6 +14,7 @@ mod statement;
 mod steps;
 
 pub use fault::{ParseFault, Wanted};
+pub use fault_text::FaultText;
 pub use laws::{faults_are_leftmost, missing_lines_are_lacking, statements_are_the_forms};
 pub use nj_text::{LexFault, Part, Spot, UnitFault, Word};
 pub use parser::Parser;
