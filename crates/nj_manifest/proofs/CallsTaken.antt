@@ -8,7 +8,9 @@ use Rattle.nj_text.specs.Calls.{State, Reply, FailsOrLacksMemory}
 use Rattle.nj_manifest.specs.declared.fault.ParseFault.{ParseFault}
 use Rattle.nj_manifest.specs.declared.fault.ParseFault.TheVariants as fault
 use Rattle.nj_manifest.specs.Faults.{Fault, Bad, fault_text}
-use Rattle.nj_manifest.specs.Steps.{Step, called, Fails, Reads}
+use Rattle.nj_manifest.specs.LineSteps.{Step, called}
+use Rattle.nj_manifest.specs.Parsers.{Fails}
+use Rattle.nj_manifest.specs.ParserContracts.{TakesStep}
 
 pub gave : {Y : Type 0} (y : Y) (after : State) (r : Reply Y) → (r.answer ≡ Ok y) × (after ≡ r.after) → called r ≡ Ok (y, after)
 gave y after r h = rw h.0 (rw h.1 refl)
@@ -22,7 +24,7 @@ fails-by lex.OutOfMemory before after r whole h so = tt
 fails-by (lex.Unit unit) before after r whole h so = so unit (failed-so unit r h.0)
 
 -- what `?` hands on
-pub handed-on : {X Y : Type 0} (view : X → Y) (f : LexFault) (r : Result X ParseFault) (after : State) (whole : Step Y) → IsErr r × IsErrAnd r (λ e. e ≡ fault.Lex f) → Fails (fault.Lex f) whole → Reads view r after whole
+pub handed-on : {X Y : Type 0} (view : X → Y) (f : LexFault) (r : Result X ParseFault) (after : State) (whole : Step Y) → IsErr r × IsErrAnd r (λ e. e ≡ fault.Lex f) → Fails (fault.Lex f) whole → TakesStep view r after whole
 handed-on view f (Ok x) after whole h so = absurd cc
 handed-on view f (Err e) after whole h so = rw h.1 so
 

@@ -7,7 +7,7 @@ use Rattle.nj_text.specs.Lines.{Line, text_lines}
 use Rattle.nj_text.specs.Words.{Text}
 use Rattle.nj_text.proofs.Cuts.{plain_units}
 use Rattle.nj_manifest.specs.Faults.{Fault}
-use Rattle.nj_manifest.specs.Steps.{NameText}
+use Rattle.nj_manifest.specs.LineSteps.{NameText}
 use Rattle.nj_manifest.specs.Statements.{OutputsText, InputsText, PlacedText, BuildText}
 use Rattle.nj_manifest.specs.Grammar.{IdentifierForm, KeywordForm, WordForm, WordsForm, SignForm, SectionForm, BuildForm, HeadForm, BlockForm, StatementForm, NextForm}
 use Rattle.nj_manifest.proofs.StatementRows.{on_texts, first_of, item_of, at}
@@ -50,15 +50,15 @@ pipe_row = record { gap = units_at 11 (codes " "); run = units_at 12 (codes "|")
 build_row : BuildForm (units_at 1 (codes "build a: r |")) outputs rule inputs
 build_row =
     record {
-      behind_build = units_at 6 (codes " a: r |");
-      behind_explicit = units_at 8 (codes ": r |");
-      behind_outputs = units_at 8 (codes ": r |");
-      behind_colon = units_at 9 (codes " r |");
-      behind_rule = units_at 11 (codes " |");
-      behind_inputs = units_at 11 (codes " |");
-      behind_implicit = [];
-      behind_order_only = [];
-      behind_validations = [];
+      after_build = units_at 6 (codes " a: r |");
+      after_explicit = units_at 8 (codes ": r |");
+      after_outputs = units_at 8 (codes ": r |");
+      after_colon = units_at 9 (codes " r |");
+      after_rule = units_at 11 (codes " |");
+      after_inputs = units_at 11 (codes " |");
+      after_implicit = [];
+      after_order_only = [];
+      after_validations = [];
       keyword = keyword_row;
       explicit_outputs = WordsForm.more output_row WordsForm.none;
       implicit_outputs = SectionForm.left_out;

@@ -9,8 +9,8 @@ use Rattle.nj_manifest.specs.declared.fault.Wanted.{Wanted}
 use Rattle.nj_manifest.specs.declared.fault.Wanted.TheVariants as wanted
 use Rattle.nj_manifest.specs.declared.block.Keys.{Keys}
 use Rattle.nj_manifest.specs.Faults.{Fault}
-use Rattle.nj_manifest.specs.Steps.{Step, ◌>>=◌, NameText, name_next}
-use Rattle.nj_manifest.specs.Statements.{LineText, allows, if_allowed, equals_value, line_next, Reading, or_last, no_lines, block_by, block}
+use Rattle.nj_manifest.specs.LineSteps.{Step, ◌>>=◌, NameText, name_next}
+use Rattle.nj_manifest.specs.Statements.{LineText, allows, if_allowed, equals_value, line_next, Parsed, or_last, no_lines, block_by, block}
 use Rattle.nj_manifest.specs.Grammar.{BindingForm, BlockForm}
 use Rattle.nj_manifest.proofs.Framing.{bind-ok}
 use Rattle.nj_manifest.proofs.BlockLines.{block-behind}
@@ -74,17 +74,17 @@ line-form allowed l ls us line s h =
     let name = name-form wanted.VariableName l ls us key.0 key.1 in
     let read = equals_value-form l ls name.0 value.0.0 value.0.1 (ap equals_value (sym name.2) ∙ ok.1) in
     let same = gives-it (record { spot = key.0.0.spot; name = key.0.0.name; value = value.0.0 }) value.0.1 line s value.2 in
-    (subst (LineIs allowed l us) same.0 (record { behind_name = name.0; behind_sign = read.0; of_name = name.1; equals = read.1; of_value = read.2 }, ok.0), sym same.1 ∙ read.3)
+    (subst (LineIs allowed l us) same.0 (record { after_name = name.0; after_sign = read.0; of_name = name.1; equals = read.1; of_value = read.2 }, ok.0), sym same.1 ∙ read.3)
 
 line-read : (allowed : Keys) (l : Line) (ls : List Line) (us : List TextUnit) (line : LineText) → LineIs allowed l us line → line_next allowed (within l ls us) ≡ Ok (line, Between (lines_behind l ls))
 unfolding line_next
 line-read allowed l ls us line f =
-    rw (name-read wanted.VariableName l ls us f.0.behind_name (record { spot = line.spot; name = line.name }) f.0.of_name, f.1, equals_value-read l ls f.0.behind_name f.0.behind_sign line.value f.0.equals f.0.of_value) refl
+    rw (name-read wanted.VariableName l ls us f.0.after_name (record { spot = line.spot; name = line.name }) f.0.of_name, f.1, equals_value-read l ls f.0.after_name f.0.after_sign line.value f.0.equals f.0.of_value) refl
 
 -- ---- blocks
 
 -- a reading that gives a value and lines
-pub reads-it : {A : Type 0} (x : A) (ls : List Line) (y : A) (rest : List Line) → ◌≡◌ {A = Reading A} (Ok (x, ls)) (Ok (y, rest)) → (x ≡ y) × (ls ≡ rest)
+pub reads-it : {A : Type 0} (x : A) (ls : List Line) (y : A) (rest : List Line) → ◌≡◌ {A = Parsed A} (Ok (x, ls)) (Ok (y, rest)) → (x ≡ y) × (ls ≡ rest)
 reads-it {A} x ls y rest e =
     let same : ◌≡◌ {A = A × List Line} (x, ls) (y, rest) = cc in
     (ap (λ (r : A × List Line). r.0) same, ap (λ (r : A × List Line). r.1) same)

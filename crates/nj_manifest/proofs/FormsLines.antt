@@ -13,8 +13,8 @@ use Rattle.nj_text.specs.Calls.{State, Between, Inside, is_empty, begins_word, i
 use Rattle.nj_manifest.specs.declared.fault.Wanted.{Wanted}
 use Rattle.nj_manifest.specs.declared.fault.Wanted.TheVariants as wanted
 use Rattle.nj_manifest.specs.Faults.{Fault}
-use Rattle.nj_manifest.specs.Steps.{Step, ◌>>=◌, called, NameText, name_next, behind, words_next, section_next}
-use Rattle.nj_manifest.specs.Statements.{OutputsText, InputsText, HeadText, Alone, RuleHead, PoolHead, BuildHead, BindingText, DefaultText, IncludeText, SubninjaText, equals_value, name_alone, unless_none, outputs_next, inputs_next, build_next, targets_next, path_there, file_next, as_head, head_behind, head_next}
+use Rattle.nj_manifest.specs.LineSteps.{Step, ◌>>=◌, called, NameText, name_next, expect_sign, words_next, section_next}
+use Rattle.nj_manifest.specs.Statements.{OutputsText, InputsText, HeadText, Alone, RuleHead, PoolHead, BuildHead, BindingText, DefaultText, IncludeText, SubninjaText, equals_value, name_alone, unless_none, outputs_next, inputs_next, build_next, targets_next, path_there, file_next, as_head, head_after, head_next}
 use Rattle.nj_manifest.specs.Grammar.{AreBlanks, IdentifierForm, KeywordForm, keywords, WordForm, WordsForm, SignForm, SectionForm, left_out, there, BuildForm, NamedForm, FileForm, HeadForm}
 use Rattle.nj_manifest.proofs.Framing.{bind-ok, after-is, value-is}
 use Rattle.nj_manifest.proofs.FormsGaps.{skip}
@@ -31,10 +31,10 @@ leads_to : (one s t : State) → one ≡ s → one ≡ t → s ≡ t
 leads_to one s t e f = sym e ∙ f
 
 -- the end of the line behind blanks that are passed already
-end_behind-form : (miss : Wanted) (l : Line) (ls : List Line) (us : List TextUnit) (s : State) → behind sign.LineEnd miss (within l ls (skip us)) ≡ Ok s → AreBlanks us × (s ≡ Between (lines_behind l ls))
+end_behind-form : (miss : Wanted) (l : Line) (ls : List Line) (us : List TextUnit) (s : State) → expect_sign sign.LineEnd miss (within l ls (skip us)) ≡ Ok s → AreBlanks us × (s ≡ Between (lines_behind l ls))
 end_behind-form miss l ls us s h = end-form miss l ls us s (sym (behind_skips sign.LineEnd miss l ls us) ∙ h)
 
-end_behind-read : (miss : Wanted) (l : Line) (ls : List Line) (us : List TextUnit) → AreBlanks us → behind sign.LineEnd miss (within l ls (skip us)) ≡ Ok (Between (lines_behind l ls))
+end_behind-read : (miss : Wanted) (l : Line) (ls : List Line) (us : List TextUnit) → AreBlanks us → expect_sign sign.LineEnd miss (within l ls (skip us)) ≡ Ok (Between (lines_behind l ls))
 end_behind-read miss l ls us h = behind_skips sign.LineEnd miss l ls us ∙ end-read miss l ls us h
 
 -- ---- a name alone
@@ -43,10 +43,10 @@ name_alone-form : (want : Wanted) (l : Line) (ls : List Line) (us : List TextUni
 unfolding name_alone
 name_alone-form want l ls us name s h =
     let read = bind-ok (name_next want (within l ls us)) _ (name, s) h in
-    let end = bind-ok (behind sign.LineEnd wanted.Newline read.0.1) (λ end. Ok (read.0.0, end)) (name, s) read.2 in
+    let end = bind-ok (expect_sign sign.LineEnd wanted.Newline read.0.1) (λ end. Ok (read.0.0, end)) (name, s) read.2 in
     let it = name-form want l ls us read.0 read.1 in
     let same = gives-it read.0.0 end.0 name s end.2 in
-    let ended = end-form wanted.Newline l ls it.0 end.0 (ap (behind sign.LineEnd wanted.Newline) (sym it.2) ∙ end.1) in
+    let ended = end-form wanted.Newline l ls it.0 end.0 (ap (expect_sign sign.LineEnd wanted.Newline) (sym it.2) ∙ end.1) in
     (it.0, subst (λ (n : NameText). IdentifierForm us n it.0) same.0 it.1, ended.0, sym same.1 ∙ ended.1)
 
 name_alone-read : (want : Wanted) (l : Line) (ls : List Line) (us rest : List TextUnit) (name : NameText) → IdentifierForm us name rest → AreBlanks rest → name_alone want (within l ls us) ≡ Ok (name, Between (lines_behind l ls))
@@ -64,11 +64,11 @@ targets-form : (l : Line) (ls : List Line) (us : List TextUnit) (words : List Wo
 unfolding targets_next
 targets-form l ls us words s h =
     let read = bind-ok (words_next (within l ls us)) _ (words, s) h in
-    let end = bind-ok (unless_none (is_empty read.0.0) wanted.TargetName read.0.1 (behind sign.LineEnd wanted.Newline read.0.1)) (λ end. Ok (read.0.0, end)) (words, s) read.2 in
-    let some = unless_none-ok (is_empty read.0.0) wanted.TargetName read.0.1 (behind sign.LineEnd wanted.Newline read.0.1) end.0 end.1 in
+    let end = bind-ok (unless_none (is_empty read.0.0) wanted.TargetName read.0.1 (expect_sign sign.LineEnd wanted.Newline read.0.1)) (λ end. Ok (read.0.0, end)) (words, s) read.2 in
+    let some = unless_none-ok (is_empty read.0.0) wanted.TargetName read.0.1 (expect_sign sign.LineEnd wanted.Newline read.0.1) end.0 end.1 in
     let it = words-form l ls read.0.0 us read.0.1 read.1 in
     let same = gives-it read.0.0 end.0 words s end.2 in
-    let ended = end_behind-form wanted.Newline l ls it.0 end.0 (ap (behind sign.LineEnd wanted.Newline) (sym it.2) ∙ some.1) in
+    let ended = end_behind-form wanted.Newline l ls it.0 end.0 (ap (expect_sign sign.LineEnd wanted.Newline) (sym it.2) ∙ some.1) in
     (it.0, subst (λ (ws : List WordText). WordsForm us ws it.0) same.0 it.1, ap is_empty (sym same.0) ∙ some.0, ended.0, sym same.1 ∙ ended.1)
 
 targets-read : (l : Line) (ls : List Line) (us rest : List TextUnit) (words : List WordText) → WordsForm us words rest → is_empty words ≡ false → AreBlanks rest → targets_next (within l ls us) ≡ Ok (words, Between (lines_behind l ls))
@@ -79,7 +79,7 @@ targets-read l ls us rest words f some e =
 
 -- the end of the line behind a file
 abbrev file_end : WordText × State → Step WordText
-file_end word = behind sign.LineEnd wanted.Newline word.1 >>= λ end. Ok (word.0, end)
+file_end word = expect_sign sign.LineEnd wanted.Newline word.1 >>= λ end. Ok (word.0, end)
 
 file-form : (l : Line) (ls : List Line) (us : List TextUnit) (word : WordText) (s : State) → file_next (within l ls us) ≡ Ok (word, s) → (rest : List TextUnit) × WordForm us word rest × AreBlanks rest × (s ≡ Between (lines_behind l ls))
 unfolding file_next
@@ -92,10 +92,10 @@ file-form l ls us word s h =
         → (rest : List TextUnit) × WordForm us word rest × AreBlanks rest × (s ≡ Between (lines_behind l ls))
     by_found None after e g = absurd cc
     by_found (Some w) after e g =
-        let end = bind-ok (behind sign.LineEnd wanted.Newline after) (λ end. Ok (w, end)) (word, s) g in
+        let end = bind-ok (expect_sign sign.LineEnd wanted.Newline after) (λ end. Ok (w, end)) (word, s) g in
         let it = word-form l ls us w after e in
         let same = gives-it w end.0 word s end.2 in
-        let ended = end-form wanted.Newline l ls it.0 end.0 (ap (behind sign.LineEnd wanted.Newline) (sym it.2) ∙ end.1) in
+        let ended = end-form wanted.Newline l ls it.0 end.0 (ap (expect_sign sign.LineEnd wanted.Newline) (sym it.2) ∙ end.1) in
         (it.0, subst (λ (v : WordText). WordForm us v it.0) same.0 it.1, ended.0, sym same.1 ∙ ended.1)
 
 file-read : (l : Line) (ls : List Line) (us rest : List TextUnit) (word : WordText) → WordForm us word rest → AreBlanks rest → file_next (within l ls us) ≡ Ok (word, Between (lines_behind l ls))
@@ -108,15 +108,15 @@ file-read l ls us rest word f e =
 -- what is next before a section
 at_validations : {us rest : List TextUnit} {words : List WordText} → SectionForm sign.PipeAt us words rest → Stops rest false false false → (at : Bool) × Stops us false false at
 at_validations left_out stops = (false, stops)
-at_validations {us} (there {behind = behind} s ws) stops = (true, pipe_at_stops us behind s)
+at_validations {us} (there {after = behind} s ws) stops = (true, pipe_at_stops us behind s)
 
 at_order_only : {us rest : List TextUnit} {words : List WordText} {at : Bool} → SectionForm sign.Pipe2 us words rest → Stops rest false false at → (two at : Bool) × Stops us false two at
 at_order_only {at = at} left_out stops = (false, at, stops)
-at_order_only {us} (there {behind = behind} s ws) stops = (true, false, pipe2_stops us behind s)
+at_order_only {us} (there {after = behind} s ws) stops = (true, false, pipe2_stops us behind s)
 
 at_implicit : {us rest : List TextUnit} {words : List WordText} {two at : Bool} → SectionForm sign.Pipe us words rest → Stops rest false two at → (one two at : Bool) × Stops us one two at
 at_implicit {two = two} {at = at} left_out stops = (false, two, at, stops)
-at_implicit {us} (there {behind = behind} s ws) stops = (true, false, false, pipe_stops us behind s)
+at_implicit {us} (there {after = behind} s ws) stops = (true, false, false, pipe_stops us behind s)
 
 pipe_is_no_end : sign.Pipe ≡ sign.LineEnd → ⊥
 pipe_is_no_end e = absurd cc
@@ -141,9 +141,9 @@ section_behind-read want l ls {us = us} n f a b c = section_skips want l ls us �
 
 -- `OUTPUTS | IMPLICIT-OUTPUTS`
 record OutputsForm (us : List TextUnit) (outputs : OutputsText) (rest : List TextUnit) : Type 0 where
-  pub behind_explicit : List TextUnit
-  pub explicit : WordsForm us outputs.explicit behind_explicit
-  pub implicit : SectionForm sign.Pipe behind_explicit outputs.implicit rest
+  pub after_explicit : List TextUnit
+  pub explicit : WordsForm us outputs.explicit after_explicit
+  pub implicit : SectionForm sign.Pipe after_explicit outputs.implicit rest
   pub some : (is_empty outputs.explicit && is_empty outputs.implicit) ≡ false
 
 outputs-form : (l : Line) (ls : List Line) (us : List TextUnit) (outputs : OutputsText) (s : State) → outputs_next (within l ls us) ≡ Ok (outputs, s) → (rest : List TextUnit) × OutputsForm us outputs rest × (s ≡ within l ls (skip rest))
@@ -155,7 +155,7 @@ outputs-form l ls us outputs s h =
     let same = gives-it (record { explicit = explicit.0.0; implicit = implicit.0.0 }) implicit.0.1 outputs s some.1 in
     let one = words-form l ls explicit.0.0 us explicit.0.1 explicit.1 in
     let two = section_behind-form sign.Pipe l ls one.0 explicit.0.1 implicit.0.1 implicit.0.0 pipe_is_no_end one.2 implicit.1 in
-    (two.0, subst (λ (o : OutputsText). OutputsForm us o two.0) same.0 (record { behind_explicit = one.0; explicit = one.1; implicit = two.1; some = some.0 }), leads_to implicit.0.1 s (within l ls (skip two.0)) same.1 two.2)
+    (two.0, subst (λ (o : OutputsText). OutputsForm us o two.0) same.0 (record { after_explicit = one.0; explicit = one.1; implicit = two.1; some = some.0 }), leads_to implicit.0.1 s (within l ls (skip two.0)) same.1 two.2)
 
 outputs-read : (l : Line) (ls : List Line) (us rest : List TextUnit) (outputs : OutputsText) → OutputsForm us outputs rest → Stops rest false false false → outputs_next (within l ls us) ≡ Ok (outputs, within l ls (skip rest))
 unfolding outputs_next
@@ -165,13 +165,13 @@ outputs-read l ls us rest outputs f stops =
 
 -- `INPUTS | IMPLICIT || ORDER-ONLY |@ VALIDATIONS`
 record InputsForm (us : List TextUnit) (inputs : InputsText) (rest : List TextUnit) : Type 0 where
-  pub behind_explicit : List TextUnit
-  pub behind_implicit : List TextUnit
-  pub behind_order_only : List TextUnit
-  pub explicit : WordsForm us inputs.explicit behind_explicit
-  pub implicit : SectionForm sign.Pipe behind_explicit inputs.implicit behind_implicit
-  pub order_only : SectionForm sign.Pipe2 behind_implicit inputs.order_only behind_order_only
-  pub validations : SectionForm sign.PipeAt behind_order_only inputs.validations rest
+  pub after_explicit : List TextUnit
+  pub after_implicit : List TextUnit
+  pub after_order_only : List TextUnit
+  pub explicit : WordsForm us inputs.explicit after_explicit
+  pub implicit : SectionForm sign.Pipe after_explicit inputs.implicit after_implicit
+  pub order_only : SectionForm sign.Pipe2 after_implicit inputs.order_only after_order_only
+  pub validations : SectionForm sign.PipeAt after_order_only inputs.validations rest
 
 inputs-form : (l : Line) (ls : List Line) (us : List TextUnit) (inputs : InputsText) (s : State) → inputs_next (within l ls us) ≡ Ok (inputs, s) → (rest : List TextUnit) × InputsForm us inputs rest × (s ≡ within l ls (skip rest))
 unfolding inputs_next
@@ -186,7 +186,7 @@ inputs-form l ls us inputs s h =
     let three = section_behind-form sign.Pipe2 l ls two.0 implicit.0.1 order_only.0.1 order_only.0.0 pipe2_is_no_end two.2 order_only.1 in
     let four = section_behind-form sign.PipeAt l ls three.0 order_only.0.1 validations.0.1 validations.0.0 pipe_at_is_no_end three.2 validations.1 in
     let form : InputsForm us (record { explicit = explicit.0.0; implicit = implicit.0.0; order_only = order_only.0.0; validations = validations.0.0 }) four.0 =
-    record { behind_explicit = one.0; behind_implicit = two.0; behind_order_only = three.0; explicit = one.1; implicit = two.1; order_only = three.1; validations = four.1 } in
+    record { after_explicit = one.0; after_implicit = two.0; after_order_only = three.0; explicit = one.1; implicit = two.1; order_only = three.1; validations = four.1 } in
     (four.0, subst (λ (i : InputsText). InputsForm us i four.0) same.0 form, leads_to validations.0.1 s (within l ls (skip four.0)) same.1 four.2)
 
 inputs-read : (l : Line) (ls : List Line) (us rest : List TextUnit) (inputs : InputsText) → InputsForm us inputs rest → Stops rest false false false → inputs_next (within l ls us) ≡ Ok (inputs, within l ls (skip rest))
@@ -206,23 +206,23 @@ inputs-read l ls us rest inputs f stops =
 
 -- behind the keyword: `OUTPUTS: RULE INPUTS`
 record PartsForm (us : List TextUnit) (outputs : OutputsText) (rule : NameText) (inputs : InputsText) : Type 0 where
-  pub behind_outputs : List TextUnit
-  pub behind_colon : List TextUnit
-  pub behind_rule : List TextUnit
-  pub behind_inputs : List TextUnit
-  pub of_outputs : OutputsForm us outputs behind_outputs
-  pub colon : SignForm sign.Colon behind_outputs behind_colon
-  pub of_rule : IdentifierForm behind_colon rule behind_rule
-  pub of_inputs : InputsForm behind_rule inputs behind_inputs
-  pub end : AreBlanks behind_inputs
+  pub after_outputs : List TextUnit
+  pub after_colon : List TextUnit
+  pub after_rule : List TextUnit
+  pub after_inputs : List TextUnit
+  pub of_outputs : OutputsForm us outputs after_outputs
+  pub colon : SignForm sign.Colon after_outputs after_colon
+  pub of_rule : IdentifierForm after_colon rule after_rule
+  pub of_inputs : InputsForm after_rule inputs after_inputs
+  pub end : AreBlanks after_inputs
 
 -- what is read of a build statement
 abbrev PartsRead : Line → List Line → List TextUnit → HeadText → State → Type 0
 PartsRead l ls us head s = (outputs : OutputsText) × (rule : NameText) × (inputs : InputsText) × PartsForm us outputs rule inputs × (head ≡ BuildHead outputs rule inputs) × (s ≡ Between (lines_behind l ls))
 
 -- each step of it, where the lexer stands as the step before left it
-colon_behind-form : (l : Line) (ls : List Line) (us : List TextUnit) (s s' : State) → s ≡ within l ls (skip us) → behind sign.Colon wanted.Colon s ≡ Ok s' → (rest : List TextUnit) × SignForm sign.Colon us rest × (s' ≡ within l ls rest)
-colon_behind-form l ls us s s' e h = behind-form sign.Colon wanted.Colon l ls us s' colon_is_no_end (sym (behind_skips sign.Colon wanted.Colon l ls us) ∙ sym (ap (behind sign.Colon wanted.Colon) e) ∙ h)
+colon_behind-form : (l : Line) (ls : List Line) (us : List TextUnit) (s s' : State) → s ≡ within l ls (skip us) → expect_sign sign.Colon wanted.Colon s ≡ Ok s' → (rest : List TextUnit) × SignForm sign.Colon us rest × (s' ≡ within l ls rest)
+colon_behind-form l ls us s s' e h = behind-form sign.Colon wanted.Colon l ls us s' colon_is_no_end (sym (behind_skips sign.Colon wanted.Colon l ls us) ∙ sym (ap (expect_sign sign.Colon wanted.Colon) e) ∙ h)
 
 name_at-form : (want : Wanted) (l : Line) (ls : List Line) (us : List TextUnit) (s : State) (y : NameText × State) → s ≡ within l ls us → name_next want s ≡ Ok y → (rest : List TextUnit) × IdentifierForm us y.0 rest × (y.1 ≡ within l ls rest)
 name_at-form want l ls us s y e h = name-form want l ls us y (ap (name_next want) (sym e) ∙ h)
@@ -230,17 +230,17 @@ name_at-form want l ls us s y e h = name-form want l ls us y (ap (name_next want
 inputs_at-form : (l : Line) (ls : List Line) (us : List TextUnit) (s s' : State) (inputs : InputsText) → s ≡ within l ls us → inputs_next s ≡ Ok (inputs, s') → (rest : List TextUnit) × InputsForm us inputs rest × (s' ≡ within l ls (skip rest))
 inputs_at-form l ls us s s' inputs e h = inputs-form l ls us inputs s' (ap inputs_next (sym e) ∙ h)
 
-end_behind_at-form : (l : Line) (ls : List Line) (us : List TextUnit) (s s' : State) → s ≡ within l ls (skip us) → behind sign.LineEnd wanted.Newline s ≡ Ok s' → AreBlanks us × (s' ≡ Between (lines_behind l ls))
-end_behind_at-form l ls us s s' e h = end_behind-form wanted.Newline l ls us s' (ap (behind sign.LineEnd wanted.Newline) (sym e) ∙ h)
+end_behind_at-form : (l : Line) (ls : List Line) (us : List TextUnit) (s s' : State) → s ≡ within l ls (skip us) → expect_sign sign.LineEnd wanted.Newline s ≡ Ok s' → AreBlanks us × (s' ≡ Between (lines_behind l ls))
+end_behind_at-form l ls us s s' e h = end_behind-form wanted.Newline l ls us s' (ap (expect_sign sign.LineEnd wanted.Newline) (sym e) ∙ h)
 
 build-form : (l : Line) (ls : List Line) (us : List TextUnit) (head : HeadText) (s : State) → build_next (within l ls us) ≡ Ok (head, s) → PartsRead l ls us head s
 unfolding build_next
 build-form l ls us head s h =
     let outputs = bind-ok (outputs_next (within l ls us)) _ (head, s) h in
-    let colon = bind-ok (behind sign.Colon wanted.Colon outputs.0.1) _ (head, s) outputs.2 in
+    let colon = bind-ok (expect_sign sign.Colon wanted.Colon outputs.0.1) _ (head, s) outputs.2 in
     let rule = bind-ok (name_next wanted.CommandName colon.0) _ (head, s) colon.2 in
     let inputs = bind-ok (inputs_next rule.0.1) _ (head, s) rule.2 in
-    let end = bind-ok (behind sign.LineEnd wanted.Newline inputs.0.1) (λ end. Ok (BuildHead outputs.0.0 rule.0.0 inputs.0.0, end)) (head, s) inputs.2 in
+    let end = bind-ok (expect_sign sign.LineEnd wanted.Newline inputs.0.1) (λ end. Ok (BuildHead outputs.0.0 rule.0.0 inputs.0.0, end)) (head, s) inputs.2 in
     let one = outputs-form l ls us outputs.0.0 outputs.0.1 outputs.1 in
     let two = colon_behind-form l ls one.0 outputs.0.1 colon.0 one.2 colon.1 in
     let three = name_at-form wanted.CommandName l ls two.0 colon.0 rule.0 two.2 rule.1 in
@@ -250,7 +250,7 @@ build-form l ls us head s h =
       outputs.0.0,
       rule.0.0,
       inputs.0.0,
-      record { behind_outputs = one.0; behind_colon = two.0; behind_rule = three.0; behind_inputs = four.0; of_outputs = one.1; colon = two.1; of_rule = three.1; of_inputs = four.1; end = five.0 },
+      record { after_outputs = one.0; after_colon = two.0; after_rule = three.0; after_inputs = four.0; of_outputs = one.1; colon = two.1; of_rule = three.1; of_inputs = four.1; end = five.0 },
       sym same.0,
       leads_to end.0 s (Between (lines_behind l ls)) same.1 five.1,
     )
@@ -259,12 +259,12 @@ build-read : (l : Line) (ls : List Line) (us : List TextUnit) (outputs : Outputs
 unfolding build_next
 build-read l ls us outputs rule inputs f =
     rw (
-      outputs-read l ls us f.behind_outputs outputs f.of_outputs (colon_stops f.behind_outputs f.behind_colon f.colon),
-      behind_skips sign.Colon wanted.Colon l ls f.behind_outputs,
-      behind-read sign.Colon wanted.Colon l ls f.behind_outputs f.behind_colon colon_is_no_end f.colon,
-      name-read wanted.CommandName l ls f.behind_colon f.behind_rule rule f.of_rule,
-      inputs-read l ls f.behind_rule f.behind_inputs inputs f.of_inputs (end_stops f.behind_inputs f.end),
-      end_behind-read wanted.Newline l ls f.behind_inputs f.end,
+      outputs-read l ls us f.after_outputs outputs f.of_outputs (colon_stops f.after_outputs f.after_colon f.colon),
+      behind_skips sign.Colon wanted.Colon l ls f.after_outputs,
+      behind-read sign.Colon wanted.Colon l ls f.after_outputs f.after_colon colon_is_no_end f.colon,
+      name-read wanted.CommandName l ls f.after_colon f.after_rule rule f.of_rule,
+      inputs-read l ls f.after_rule f.after_inputs inputs f.of_inputs (end_stops f.after_inputs f.end),
+      end_behind-read wanted.Newline l ls f.after_inputs f.end,
     ) refl
 
 -- ---- words of the language
@@ -287,8 +287,8 @@ none_of false false false false false true x1 x2 x3 x4 x5 x6 x7 h = absurd cc
 none_of false false false false false false x1 x2 x3 x4 x5 x6 x7 h = refl
 
 -- what is read where the word is no keyword
-no_keyword : (word : List ℕ) (s : State) → list_any (bytes_eq word) keywords ≡ false → head_behind word s ≡ as_head (λ value. Alone (BindingText word value)) (equals_value s)
-unfolding head_behind
+no_keyword : (word : List ℕ) (s : State) → list_any (bytes_eq word) keywords ≡ false → head_after word s ≡ as_head (λ value. Alone (BindingText word value)) (equals_value s)
+unfolding head_after
 no_keyword word s h =
     none_of (bytes_eq word (codes "build")) (bytes_eq word (codes "rule")) (bytes_eq word (codes "pool")) (bytes_eq word (codes "default")) (bytes_eq word (codes "include")) (bytes_eq word (codes "subninja"))
     (build_next s) (as_head RuleHead (name_alone wanted.RuleName s)) (as_head PoolHead (name_alone wanted.PoolName s)) (as_head (λ words. Alone (DefaultText words)) (targets_next s))
@@ -296,32 +296,32 @@ no_keyword word s h =
 
 -- ---- first lines
 
-build_parts : {us : List TextUnit} {outputs : OutputsText} {name : NameText} {inputs : InputsText} → (f : BuildForm us outputs name inputs) → PartsForm f.behind_build outputs name inputs
+build_parts : {us : List TextUnit} {outputs : OutputsText} {name : NameText} {inputs : InputsText} → (f : BuildForm us outputs name inputs) → PartsForm f.after_build outputs name inputs
 build_parts f =
     record {
-      behind_outputs = f.behind_outputs;
-      behind_colon = f.behind_colon;
-      behind_rule = f.behind_rule;
-      behind_inputs = f.behind_validations;
-      of_outputs = record { behind_explicit = f.behind_explicit; explicit = f.explicit_outputs; implicit = f.implicit_outputs; some = f.some_output };
+      after_outputs = f.after_outputs;
+      after_colon = f.after_colon;
+      after_rule = f.after_rule;
+      after_inputs = f.after_validations;
+      of_outputs = record { after_explicit = f.after_explicit; explicit = f.explicit_outputs; implicit = f.implicit_outputs; some = f.some_output };
       colon = f.colon;
       of_rule = f.of_rule;
-      of_inputs = record { behind_explicit = f.behind_inputs; behind_implicit = f.behind_implicit; behind_order_only = f.behind_order_only; explicit = f.explicit_inputs; implicit = f.implicit_inputs; order_only = f.order_only_inputs; validations = f.validations };
+      of_inputs = record { after_explicit = f.after_inputs; after_implicit = f.after_implicit; after_order_only = f.after_order_only; explicit = f.explicit_inputs; implicit = f.implicit_inputs; order_only = f.order_only_inputs; validations = f.validations };
       end = f.end;
     }
 
 whole_build : (us rest : List TextUnit) (outputs : OutputsText) (name : NameText) (inputs : InputsText) → KeywordForm (codes "build") us rest → PartsForm rest outputs name inputs → BuildForm us outputs name inputs
 whole_build us rest outputs name inputs k f =
     record {
-      behind_build = rest;
-      behind_explicit = f.of_outputs.behind_explicit;
-      behind_outputs = f.behind_outputs;
-      behind_colon = f.behind_colon;
-      behind_rule = f.behind_rule;
-      behind_inputs = f.of_inputs.behind_explicit;
-      behind_implicit = f.of_inputs.behind_implicit;
-      behind_order_only = f.of_inputs.behind_order_only;
-      behind_validations = f.behind_inputs;
+      after_build = rest;
+      after_explicit = f.of_outputs.after_explicit;
+      after_outputs = f.after_outputs;
+      after_colon = f.after_colon;
+      after_rule = f.after_rule;
+      after_inputs = f.of_inputs.after_explicit;
+      after_implicit = f.of_inputs.after_implicit;
+      after_order_only = f.of_inputs.after_order_only;
+      after_validations = f.after_inputs;
       keyword = k;
       explicit_outputs = f.of_outputs.explicit;
       implicit_outputs = f.of_outputs.implicit;
@@ -337,21 +337,21 @@ whole_build us rest outputs name inputs k f =
 
 -- A first line that is there is read.
 pub head-read : (l : Line) (ls : List Line) (head : HeadText) → HeadForm l head → head_next (Inside l ls) ≡ Ok (head, Between (lines_behind l ls))
-unfolding head_next head_behind
+unfolding head_next head_after
 head-read l ls head (HeadForm.binding {name = name} {value = value} f n) =
-    rw (name-read wanted.Statement l ls l.units f.behind_name name f.of_name, no_keyword name.name (within l ls f.behind_name) n, equals_value-read l ls f.behind_name f.behind_sign value f.equals f.of_value) refl
+    rw (name-read wanted.Statement l ls l.units f.after_name name f.of_name, no_keyword name.name (within l ls f.after_name) n, equals_value-read l ls f.after_name f.after_sign value f.equals f.of_value) refl
 head-read l ls head (HeadForm.rule {name = name} f) =
-    rw (name-read wanted.Statement l ls l.units f.behind_keyword _ f.keyword.here, name_alone-read wanted.RuleName l ls f.behind_keyword f.behind_name name f.of_name f.end) refl
+    rw (name-read wanted.Statement l ls l.units f.after_keyword _ f.keyword.here, name_alone-read wanted.RuleName l ls f.after_keyword f.after_name name f.of_name f.end) refl
 head-read l ls head (HeadForm.pool {name = name} f) =
-    rw (name-read wanted.Statement l ls l.units f.behind_keyword _ f.keyword.here, name_alone-read wanted.PoolName l ls f.behind_keyword f.behind_name name f.of_name f.end) refl
+    rw (name-read wanted.Statement l ls l.units f.after_keyword _ f.keyword.here, name_alone-read wanted.PoolName l ls f.after_keyword f.after_name name f.of_name f.end) refl
 head-read l ls head (HeadForm.build {outputs = outputs} {name = name} {inputs = inputs} f) =
-    rw (name-read wanted.Statement l ls l.units f.behind_build _ f.keyword.here) (build-read l ls f.behind_build outputs name inputs (build_parts f))
+    rw (name-read wanted.Statement l ls l.units f.after_build _ f.keyword.here) (build-read l ls f.after_build outputs name inputs (build_parts f))
 head-read l ls head (HeadForm.default {targets = targets} f) =
-    rw (name-read wanted.Statement l ls l.units f.behind_keyword _ f.keyword.here, targets-read l ls f.behind_keyword f.behind_targets targets f.of_targets f.some_target f.end) refl
+    rw (name-read wanted.Statement l ls l.units f.after_keyword _ f.keyword.here, targets-read l ls f.after_keyword f.after_targets targets f.of_targets f.some_target f.end) refl
 head-read l ls head (HeadForm.include {file = file} f) =
-    rw (name-read wanted.Statement l ls l.units f.behind_keyword _ f.keyword.here, file-read l ls f.behind_keyword f.behind_file file f.of_file f.end) refl
+    rw (name-read wanted.Statement l ls l.units f.after_keyword _ f.keyword.here, file-read l ls f.after_keyword f.after_file file f.of_file f.end) refl
 head-read l ls head (HeadForm.subninja {file = file} f) =
-    rw (name-read wanted.Statement l ls l.units f.behind_keyword _ f.keyword.here, file-read l ls f.behind_keyword f.behind_file file f.of_file f.end) refl
+    rw (name-read wanted.Statement l ls l.units f.after_keyword _ f.keyword.here, file-read l ls f.after_keyword f.after_file file f.of_file f.end) refl
 
 -- a first line that is read to the end of the line
 abbrev HeadIs : Line → List Line → HeadText → State → Type 0
@@ -371,20 +371,20 @@ named_is : (word : List ℕ) (l : Line) (ls : List Line) (want : Wanted) (make :
 named_is word l ls want make us head s k form h =
     let x = as_head-parts make (name_alone want (within l ls us)) head s h in
     let it = name_alone-form want l ls us x.0 s x.1 in
-    head-is l ls (make x.0) head s x.2 (form x.0 (record { behind_keyword = us; behind_name = it.0; keyword = k; of_name = it.1; end = it.2 })) it.3
+    head-is l ls (make x.0) head s x.2 (form x.0 (record { after_keyword = us; after_name = it.0; keyword = k; of_name = it.1; end = it.2 })) it.3
 
 file_is : (word : List ℕ) (l : Line) (ls : List Line) (make : WordText → HeadText) (us : List TextUnit) (head : HeadText) (s : State) → KeywordForm word l.units us → ((file : WordText) → FileForm word l.units file → HeadForm l (make file))
     → as_head make (file_next (within l ls us)) ≡ Ok (head, s) → HeadIs l ls head s
 file_is word l ls make us head s k form h =
     let x = as_head-parts make (file_next (within l ls us)) head s h in
     let it = file-form l ls us x.0 s x.1 in
-    head-is l ls (make x.0) head s x.2 (form x.0 (record { behind_keyword = us; behind_file = it.0; keyword = k; of_file = it.1; end = it.2 })) it.3
+    head-is l ls (make x.0) head s x.2 (form x.0 (record { after_keyword = us; after_file = it.0; keyword = k; of_file = it.1; end = it.2 })) it.3
 
 targets_are : (l : Line) (ls : List Line) (us : List TextUnit) (head : HeadText) (s : State) → KeywordForm (codes "default") l.units us → as_head (λ words. Alone (DefaultText words)) (targets_next (within l ls us)) ≡ Ok (head, s) → HeadIs l ls head s
 targets_are l ls us head s k h =
     let x = as_head-parts (λ words. Alone (DefaultText words)) (targets_next (within l ls us)) head s h in
     let it = targets-form l ls us x.0 s x.1 in
-    head-is l ls (Alone (DefaultText x.0)) head s x.2 (HeadForm.default (record { behind_keyword = us; behind_targets = it.0; keyword = k; of_targets = it.1; some_target = it.2; end = it.3 })) it.4
+    head-is l ls (Alone (DefaultText x.0)) head s x.2 (HeadForm.default (record { after_keyword = us; after_targets = it.0; keyword = k; of_targets = it.1; some_target = it.2; end = it.3 })) it.4
 
 build_is : (l : Line) (ls : List Line) (us : List TextUnit) (head : HeadText) (s : State) → KeywordForm (codes "build") l.units us → build_next (within l ls us) ≡ Ok (head, s) → HeadIs l ls head s
 build_is l ls us head s k h =
@@ -396,10 +396,10 @@ binding_is : (l : Line) (ls : List Line) (us : List TextUnit) (name : NameText) 
 binding_is l ls us name head s f n h =
     let x = as_head-parts (λ value. Alone (BindingText name.name value)) (equals_value (within l ls us)) head s h in
     let it = equals_value-form l ls us x.0 s x.1 in
-    head-is l ls (Alone (BindingText name.name x.0)) head s x.2 (HeadForm.binding {name = name} (record { behind_name = us; behind_sign = it.0; of_name = f; equals = it.1; of_value = it.2 }) n) it.3
+    head-is l ls (Alone (BindingText name.name x.0)) head s x.2 (HeadForm.binding {name = name} (record { after_name = us; after_sign = it.0; of_name = f; equals = it.1; of_value = it.2 }) n) it.3
 
-behind_word : (l : Line) (ls : List Line) (us : List TextUnit) (name : NameText) (head : HeadText) (s : State) → IdentifierForm l.units name us → head_behind name.name (within l ls us) ≡ Ok (head, s) → HeadIs l ls head s
-unfolding head_behind
+behind_word : (l : Line) (ls : List Line) (us : List TextUnit) (name : NameText) (head : HeadText) (s : State) → IdentifierForm l.units name us → head_after name.name (within l ls us) ≡ Ok (head, s) → HeadIs l ls head s
+unfolding head_after
 behind_word l ls us name head s f h =
     by_word (bytes_eq name.name (codes "build")) (bytes_eq name.name (codes "rule")) (bytes_eq name.name (codes "pool")) (bytes_eq name.name (codes "default")) (bytes_eq name.name (codes "include")) (bytes_eq name.name (codes "subninja"))
     refl refl refl refl refl refl h
@@ -422,4 +422,4 @@ unfolding head_next
 head-form l ls head s h =
     let word = bind-ok (name_next wanted.Statement (Inside l ls)) _ (head, s) h in
     let it = name-form wanted.Statement l ls l.units word.0 word.1 in
-    behind_word l ls it.0 word.0.0 head s it.1 (ap (head_behind word.0.0.name) (sym it.2) ∙ word.2)
+    behind_word l ls it.0 word.0.0 head s it.1 (ap (head_after word.0.0.name) (sym it.2) ∙ word.2)

@@ -13,7 +13,7 @@ use Rattle.nj_text.specs.Words.{is_blank, is_blank_meaning, in_identifier, begin
 use Rattle.nj_text.specs.Calls as calls
 use Rattle.nj_text.specs.Calls.{State, Between, Inside, Reply, bytes_of, some_bytes, is_empty, begins_word, is_sign, behind_sign, sign_of}
 use Rattle.nj_manifest.specs.declared.fault.Wanted.{Wanted}
-use Rattle.nj_manifest.specs.Steps.{Step, ◌>>=◌, called, NameText, named, name_next, if_there, behind}
+use Rattle.nj_manifest.specs.LineSteps.{Step, ◌>>=◌, called, NameText, named, name_next, if_there, expect_sign}
 use Rattle.nj_manifest.specs.Grammar.{begins, AreBlanks, IdentifierForm, SignForm}
 use Rattle.nj_manifest.proofs.Framing.{bind-ok, called-fault, after-is, value-is}
 use Rattle.nj_manifest.proofs.FormsGaps.{both_parts, front_passes, behind_stops, run_passed, run_taken, skip, skip_again, skip_gap, gap_of, gap_passes, gap_cut, blanks_end, end_of_blanks}
@@ -297,12 +297,12 @@ pub sign-none : (want : Sign) (l : Line) (ls : List Line) (us : List TextUnit) �
 sign-none want l ls us n h = sign_at-gives want l ls (skip us) (next_fault (skip us)) false n h
 
 -- what a sign that is there is behind the blanks
-pub record Stands (want : Sign) (l : Line) (ls : List Line) (us rest : List TextUnit) : Type 0 where
+pub record IsBetweenStatements (want : Sign) (l : Line) (ls : List Line) (us rest : List TextUnit) : Type 0 where
   pub no_fault : next_fault (skip us) ≡ None
   pub is_there : is_sign want (skip us) ≡ true
   pub behind_is : behind_it want l ls (skip us) ≡ within l ls rest
 
-pub sign_stands : (want : Sign) (l : Line) (ls : List Line) (us rest : List TextUnit) → (want ≡ sign.LineEnd → ⊥) → SignForm want us rest → Stands want l ls us rest
+pub sign_stands : (want : Sign) (l : Line) (ls : List Line) (us rest : List TextUnit) → (want ≡ sign.LineEnd → ⊥) → SignForm want us rest → IsBetweenStatements want l ls us rest
 sign_stands sign.LineEnd l ls us rest n f = absurd (n refl)
 sign_stands sign.Colon l ls us rest n f =
     let it = one_byte 58 us f.gap f.run rest refl f.cut f.blanks f.of_sign in
@@ -328,29 +328,29 @@ sign-read want l ls us rest n f =
 
 -- ---- signs that have to be there
 
-pub behind_skips : (want : Sign) (miss : Wanted) (l : Line) (ls : List Line) (us : List TextUnit) → behind want miss (within l ls (skip us)) ≡ behind want miss (within l ls us)
-unfolding behind
+pub behind_skips : (want : Sign) (miss : Wanted) (l : Line) (ls : List Line) (us : List TextUnit) → expect_sign want miss (within l ls (skip us)) ≡ expect_sign want miss (within l ls us)
+unfolding expect_sign
 behind_skips want miss l ls us = ap (λ (r : Step Bool). r >>= λ t. if_there miss t.0 t.1) (sign_skips want l ls us)
 
 if_there-ok : (miss : Wanted) (t : Bool) (s s' : State) → if_there miss t s ≡ Ok s' → (t ≡ true) × (s ≡ s')
 if_there-ok miss true s s' h = (refl, cc)
 if_there-ok miss false s s' h = absurd cc
 
-behind-called : (want : Sign) (miss : Wanted) (s s' : State) → behind want miss s ≡ Ok s' → called (sign_of want s) ≡ Ok (true, s')
-unfolding behind
+behind-called : (want : Sign) (miss : Wanted) (s s' : State) → expect_sign want miss s ≡ Ok s' → called (sign_of want s) ≡ Ok (true, s')
+unfolding expect_sign
 behind-called want miss s s' h =
     let b = bind-ok (called (sign_of want s)) (λ t. if_there miss t.0 t.1) s' h in
     let there = if_there-ok miss b.0.0 b.0.1 s' b.2 in
     b.1 ∙ ap (λ (t : Bool). Ok (t, b.0.1)) there.0 ∙ ap (λ (s : State). Ok (true, s)) there.1
 
-called-behind : (want : Sign) (miss : Wanted) (s s' : State) → called (sign_of want s) ≡ Ok (true, s') → behind want miss s ≡ Ok s'
-unfolding behind
+called-behind : (want : Sign) (miss : Wanted) (s s' : State) → called (sign_of want s) ≡ Ok (true, s') → expect_sign want miss s ≡ Ok s'
+unfolding expect_sign
 called-behind want miss s s' h = rw h refl
 
-pub behind-form : (want : Sign) (miss : Wanted) (l : Line) (ls : List Line) (us : List TextUnit) (s : State) → (want ≡ sign.LineEnd → ⊥) → behind want miss (within l ls us) ≡ Ok s → (rest : List TextUnit) × SignForm want us rest × (s ≡ within l ls rest)
+pub behind-form : (want : Sign) (miss : Wanted) (l : Line) (ls : List Line) (us : List TextUnit) (s : State) → (want ≡ sign.LineEnd → ⊥) → expect_sign want miss (within l ls us) ≡ Ok s → (rest : List TextUnit) × SignForm want us rest × (s ≡ within l ls rest)
 behind-form want miss l ls us s n h = sign-form want l ls us s n (behind-called want miss (within l ls us) s h)
 
-pub behind-read : (want : Sign) (miss : Wanted) (l : Line) (ls : List Line) (us rest : List TextUnit) → (want ≡ sign.LineEnd → ⊥) → SignForm want us rest → behind want miss (within l ls us) ≡ Ok (within l ls rest)
+pub behind-read : (want : Sign) (miss : Wanted) (l : Line) (ls : List Line) (us rest : List TextUnit) → (want ≡ sign.LineEnd → ⊥) → SignForm want us rest → expect_sign want miss (within l ls us) ≡ Ok (within l ls rest)
 behind-read want miss l ls us rest n f = called-behind want miss (within l ls us) (within l ls rest) (sign-read want l ls us rest n f)
 
 nothing_there : (us : List TextUnit) → is_empty us ≡ true → us ≡ []
@@ -358,14 +358,14 @@ nothing_there [] h = refl
 nothing_there (u ∷ us) h = absurd cc
 
 -- The end of a line is read where blanks stand alone.
-pub end-form : (miss : Wanted) (l : Line) (ls : List Line) (us : List TextUnit) (s : State) → behind sign.LineEnd miss (within l ls us) ≡ Ok s → AreBlanks us × (s ≡ Between (lines_behind l ls))
+pub end-form : (miss : Wanted) (l : Line) (ls : List Line) (us : List TextUnit) (s : State) → expect_sign sign.LineEnd miss (within l ls us) ≡ Ok s → AreBlanks us × (s ≡ Between (lines_behind l ls))
 end-form miss l ls us s h = by_case (sign-cases sign.LineEnd l ls us (true, s) (behind-called sign.LineEnd miss (within l ls us) s h))
   where
     by_case : IsThere sign.LineEnd l ls (skip us) (true, s) ⊎ IsNotThere sign.LineEnd l ls (skip us) (true, s) → AreBlanks us × (s ≡ Between (lines_behind l ls))
     by_case (inl there) = (end_of_blanks us (nothing_there (skip us) there.0), there.2)
     by_case (inr not_there) = absurd (false≢true (sym not_there.1))
 
-pub end-read : (miss : Wanted) (l : Line) (ls : List Line) (us : List TextUnit) → AreBlanks us → behind sign.LineEnd miss (within l ls us) ≡ Ok (Between (lines_behind l ls))
+pub end-read : (miss : Wanted) (l : Line) (ls : List Line) (us : List TextUnit) → AreBlanks us → expect_sign sign.LineEnd miss (within l ls us) ≡ Ok (Between (lines_behind l ls))
 end-read miss l ls us h =
     let e = blanks_end us h in
     called-behind sign.LineEnd miss (within l ls us) (Between (lines_behind l ls)) (sign_at-gives sign.LineEnd l ls (skip us) (next_fault (skip us)) true (rw e refl) (rw e refl))

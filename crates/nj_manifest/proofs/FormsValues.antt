@@ -10,7 +10,7 @@ use Rattle.nj_text.specs.Words.{WordText, is_opening_meaning, behind_opening, fi
 use Rattle.nj_text.specs.Calls as calls
 use Rattle.nj_text.specs.Calls.{State, Between, value_of}
 use Rattle.nj_manifest.specs.declared.fault.Wanted.TheVariants as wanted
-use Rattle.nj_manifest.specs.Steps.{Step, called, behind}
+use Rattle.nj_manifest.specs.LineSteps.{Step, called, expect_sign}
 use Rattle.nj_manifest.specs.Statements.{equals_value}
 use Rattle.nj_manifest.specs.Grammar.{begins, is_opening, SignForm, ValueForm}
 use Rattle.nj_manifest.proofs.Framing.{bind-ok, after-is, value-is}
@@ -103,13 +103,13 @@ pub equals_value-form : (l : Line) (ls : List Line) (us : List TextUnit) (value 
     → (rest : List TextUnit) × SignForm sign.Equals us rest × ValueForm rest l.end value × (s ≡ Between (lines_behind l ls))
 unfolding equals_value
 equals_value-form l ls us value s h =
-    let equals = bind-ok (behind sign.Equals wanted.Equals (within l ls us)) _ (value, s) h in
+    let equals = bind-ok (expect_sign sign.Equals wanted.Equals (within l ls us)) _ (value, s) h in
     let read = bind-ok (called (value_of equals.0)) _ (value, s) equals.2 in
-    let end = bind-ok (behind sign.LineEnd wanted.Newline read.0.1) (λ end. Ok (read.0.0, end)) (value, s) read.2 in
+    let end = bind-ok (expect_sign sign.LineEnd wanted.Newline read.0.1) (λ end. Ok (read.0.0, end)) (value, s) read.2 in
     let it = behind-form sign.Equals wanted.Equals l ls us equals.0 equals_ends equals.1 in
     let same = value-is read.0.0 end.0 (value, s) end.2 in
     let there = value-form l ls it.0 read.0.0 read.0.1 (ap (λ (t : State). called (value_of t)) (sym it.2) ∙ read.1) in
-    let ended = end-form wanted.Newline l ls [] end.0 (ap (behind sign.LineEnd wanted.Newline) (sym there.1) ∙ end.1) in
+    let ended = end-form wanted.Newline l ls [] end.0 (ap (expect_sign sign.LineEnd wanted.Newline) (sym there.1) ∙ end.1) in
     (it.0, it.1, subst (λ (v : WordText). ValueForm it.0 l.end v) same there.0, sym (after-is read.0.0 end.0 (value, s) end.2) ∙ ended.1)
 
 pub equals_value-read : (l : Line) (ls : List Line) (us rest : List TextUnit) (value : WordText) → SignForm sign.Equals us rest → ValueForm rest l.end value → equals_value (within l ls us) ≡ Ok (value, Between (lines_behind l ls))

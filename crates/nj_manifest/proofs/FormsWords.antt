@@ -12,7 +12,7 @@ use Rattle.nj_text.specs.Words.{WordText, is_blank, is_blank_meaning, in_word, o
 use Rattle.nj_text.specs.Calls as calls
 use Rattle.nj_text.specs.Calls.{State, begins_word, is_sign, sign_of, path_word_of}
 use Rattle.nj_text.proofs.Lists.{take_while-cons_yes}
-use Rattle.nj_manifest.specs.Steps.{Step, ◌>>=◌, called, words_from, words_next, words_if, section_next}
+use Rattle.nj_manifest.specs.LineSteps.{Step, ◌>>=◌, called, words_from, words_next, words_if, section_next}
 use Rattle.nj_manifest.specs.Grammar.{WordForm, WordsForm, none, more, SectionForm, left_out, there}
 use Rattle.nj_manifest.proofs.Framing.{bind-ok, after-is, value-is}
 use Rattle.nj_manifest.proofs.WordLimits.{opening_is_within, words_next-fails, words_next-ends, words_next-more}
@@ -201,7 +201,7 @@ words_without_fault (more f fs) n = word_without_fault f
 -- Words that are there are read, where neither a word nor a bad unit is next.
 pub words-read : (l : Line) (ls : List Line) {us rest : List TextUnit} {words : List WordText} → WordsForm us words rest → next_fault (skip rest) ≡ None → begins_word (skip rest) ≡ false → words_next (within l ls us) ≡ Ok (words, within l ls (skip rest))
 words-read l ls {us = us} none n b = words_next-ends (within l ls us) (within l ls (skip us)) (no_word-read l ls us n b)
-words-read l ls {us = us} {rest = rest} (more {behind = behind} {word = word} f fs) n b =
+words-read l ls {us = us} {rest = rest} (more {after = behind} {word = word} f fs) n b =
     let first = word-read l ls us behind word f (fault_behind_blanks behind (words_without_fault fs n)) in
     words_next-more (within l ls us) word (within l ls behind) first ∙ ap (words_from (Some word) (within l ls behind)) (words-read l ls fs n b)
 
@@ -231,4 +231,4 @@ pub section-read : (want : Sign) (l : Line) (ls : List Line) {us rest : List Tex
     → next_fault (skip rest) ≡ None → begins_word (skip rest) ≡ false → is_sign want (skip rest) ≡ false → section_next want (within l ls us) ≡ Ok (words, within l ls (skip rest))
 unfolding section_next
 section-read want l ls {us = us} n left_out f b i = rw (sign-none want l ls us f i) refl
-section-read want l ls {us = us} n (there {behind = behind} s ws) f b i = rw (sign-read want l ls us behind n s) (words-read l ls ws f b)
+section-read want l ls {us = us} n (there {after = behind} s ws) f b i = rw (sign-read want l ls us behind n s) (words-read l ls ws f b)

@@ -16,8 +16,8 @@ use Rattle.nj_manifest.specs.declared.fault.Wanted.{Wanted}
 use Rattle.nj_manifest.specs.declared.fault.Wanted.TheVariants as wanted
 use Rattle.nj_manifest.specs.declared.block.Keys.{Keys}
 use Rattle.nj_manifest.specs.Faults.{Fault}
-use Rattle.nj_manifest.specs.Steps.{Step, ◌>>=◌, called, NameText, named, name_next, if_there, behind, words_from, words_within, units_left, words_next, words_if, section_next}
-use Rattle.nj_manifest.specs.Statements.{LineText, allows, if_allowed, equals_value, line_next, OutputsText, InputsText, HeadText, Alone, RuleHead, PoolHead, BuildHead, BindingText, DefaultText, IncludeText, SubninjaText, name_alone, unless_none, outputs_next, inputs_next, build_next, targets_next, path_there, file_next, as_head, head_behind, head_next}
+use Rattle.nj_manifest.specs.LineSteps.{Step, ◌>>=◌, called, NameText, named, name_next, if_there, expect_sign, words_from, words_within, units_left, words_next, words_if, section_next}
+use Rattle.nj_manifest.specs.Statements.{LineText, allows, if_allowed, equals_value, line_next, OutputsText, InputsText, HeadText, Alone, RuleHead, PoolHead, BuildHead, BindingText, DefaultText, IncludeText, SubninjaText, name_alone, unless_none, outputs_next, inputs_next, build_next, targets_next, path_there, file_next, as_head, head_after, head_next}
 
 -- ---- steps
 
@@ -65,21 +65,21 @@ sign-there : (want : Wanted) (t : Bool) (there other : State) (y : Bool × State
 sign-there want true there other y s e h = sym (after-is _ _ y e ∙ (if_there-after want y.0 y.1 s h).1)
 sign-there want false there other y s e h = absurd (false≢true (value-is _ _ y e ∙ (if_there-after want y.0 y.1 s h).0))
 
-behind-inside : (want : Sign) (miss : Wanted) (l : Line) (ls : List Line) (s : State) → behind want miss (Inside l ls) ≡ Ok s → s ≡ behind_sign want (behind_blanks l) ls
-unfolding behind
+behind-inside : (want : Sign) (miss : Wanted) (l : Line) (ls : List Line) (s : State) → expect_sign want miss (Inside l ls) ≡ Ok s → s ≡ behind_sign want (behind_blanks l) ls
+unfolding expect_sign
 behind-inside want miss l ls s h =
     let b = bind-ok (called (sign_of want (Inside l ls))) (λ t. if_there miss t.0 t.1) s h in
     let e = called-fault (next_fault (behind_blanks l).units) _ b.0 b.1 in
     sign-there miss (is_sign want (behind_blanks l).units) _ _ b.0 s e b.2
 
-line_end-inside : (miss : Wanted) (l : Line) (ls : List Line) (s s' : State) → On l ls s → behind sign.LineEnd miss s ≡ Ok s' → Ended l ls s'
-line_end-inside miss l ls s s' o h = behind-inside sign.LineEnd miss (with_units o.0 l) ls s' (ap (behind sign.LineEnd miss) (sym o.1) ∙ h)
+line_end-inside : (miss : Wanted) (l : Line) (ls : List Line) (s s' : State) → On l ls s → expect_sign sign.LineEnd miss s ≡ Ok s' → Ended l ls s'
+line_end-inside miss l ls s s' o h = behind-inside sign.LineEnd miss (with_units o.0 l) ls s' (ap (expect_sign sign.LineEnd miss) (sym o.1) ∙ h)
 
-colon-inside : (miss : Wanted) (l : Line) (ls : List Line) (s s' : State) → On l ls s → behind sign.Colon miss s ≡ Ok s' → On l ls s'
-colon-inside miss l ls s s' o h = (_, behind-inside sign.Colon miss (with_units o.0 l) ls s' (ap (behind sign.Colon miss) (sym o.1) ∙ h))
+colon-inside : (miss : Wanted) (l : Line) (ls : List Line) (s s' : State) → On l ls s → expect_sign sign.Colon miss s ≡ Ok s' → On l ls s'
+colon-inside miss l ls s s' o h = (_, behind-inside sign.Colon miss (with_units o.0 l) ls s' (ap (expect_sign sign.Colon miss) (sym o.1) ∙ h))
 
-equals-inside : (miss : Wanted) (l : Line) (ls : List Line) (s s' : State) → On l ls s → behind sign.Equals miss s ≡ Ok s' → On l ls s'
-equals-inside miss l ls s s' o h = (_, behind-inside sign.Equals miss (with_units o.0 l) ls s' (ap (behind sign.Equals miss) (sym o.1) ∙ h))
+equals-inside : (miss : Wanted) (l : Line) (ls : List Line) (s s' : State) → On l ls s → expect_sign sign.Equals miss s ≡ Ok s' → On l ls s'
+equals-inside miss l ls s s' o h = (_, behind-inside sign.Equals miss (with_units o.0 l) ls s' (ap (expect_sign sign.Equals miss) (sym o.1) ∙ h))
 
 name-inside : (want : Wanted) (l : Line) (ls : List Line) (s : State) (y : NameText × State) → On l ls s → name_next want s ≡ Ok y → On l ls y.1
 name-inside want l ls s y o h = name_next-inside want (with_units o.0 l) ls y (ap (name_next want) (sym o.1) ∙ h)
@@ -151,15 +151,15 @@ section-inside want l ls s y i o h =
 -- ---- lines
 
 -- What ends its line leaves the lexer behind it.
-ends-line : {A : Type 0} (l : Line) (ls : List Line) (x : A) (s : State) (y : A × State) → On l ls s → (behind sign.LineEnd wanted.Newline s >>= λ end. Ok (x, end)) ≡ Ok y → Ended l ls y.1
+ends-line : {A : Type 0} (l : Line) (ls : List Line) (x : A) (s : State) (y : A × State) → On l ls s → (expect_sign sign.LineEnd wanted.Newline s >>= λ end. Ok (x, end)) ≡ Ok y → Ended l ls y.1
 ends-line l ls x s y o h =
-    let end = bind-ok (behind sign.LineEnd wanted.Newline s) (λ end. Ok (x, end)) y h in
+    let end = bind-ok (expect_sign sign.LineEnd wanted.Newline s) (λ end. Ok (x, end)) y h in
     sym (after-is x end.0 y end.2) ∙ line_end-inside wanted.Newline l ls s end.0 o end.1
 
 equals_value-inside : (l : Line) (ls : List Line) (s : State) (y : WordText × State) → On l ls s → equals_value s ≡ Ok y → Ended l ls y.1
 unfolding equals_value
 equals_value-inside l ls s y o h =
-    let equals = bind-ok (behind sign.Equals wanted.Equals s) _ y h in
+    let equals = bind-ok (expect_sign sign.Equals wanted.Equals s) _ y h in
     let value = bind-ok (called (value_of equals.0)) _ y equals.2 in
     let at_value = equals-inside wanted.Equals l ls s equals.0 o equals.1 in
     ends-line l ls value.0.0 value.0.1 y (value-inside l ls equals.0 value.0 at_value value.1) value.2
@@ -222,7 +222,7 @@ build-inside : (l : Line) (ls : List Line) (s : State) (y : HeadText × State) �
 unfolding build_next
 build-inside l ls s y o h =
     let outputs = bind-ok (outputs_next s) _ y h in
-    let colon = bind-ok (behind sign.Colon wanted.Colon outputs.0.1) _ y outputs.2 in
+    let colon = bind-ok (expect_sign sign.Colon wanted.Colon outputs.0.1) _ y outputs.2 in
     let rule = bind-ok (name_next wanted.CommandName colon.0) _ y colon.2 in
     let inputs = bind-ok (inputs_next rule.0.1) _ y rule.2 in
     let at_colon = colon-inside wanted.Colon l ls outputs.0.1 colon.0 (outputs-inside l ls s outputs.0 o outputs.1) colon.1 in
@@ -233,8 +233,8 @@ targets-inside : (l : Line) (ls : List Line) (s : State) (y : List WordText × S
 unfolding targets_next
 targets-inside l ls s y o h =
     let words = bind-ok (words_next s) _ y h in
-    let end = bind-ok (unless_none (is_empty words.0.0) wanted.TargetName words.0.1 (behind sign.LineEnd wanted.Newline words.0.1)) _ y words.2 in
-    let read = unless_none-ok (is_empty words.0.0) wanted.TargetName words.0.1 (behind sign.LineEnd wanted.Newline words.0.1) end.0 end.1 in
+    let end = bind-ok (unless_none (is_empty words.0.0) wanted.TargetName words.0.1 (expect_sign sign.LineEnd wanted.Newline words.0.1)) _ y words.2 in
+    let read = unless_none-ok (is_empty words.0.0) wanted.TargetName words.0.1 (expect_sign sign.LineEnd wanted.Newline words.0.1) end.0 end.1 in
     sym (after-is _ _ y end.2) ∙ line_end-inside wanted.Newline l ls words.0.1 end.0 (words-inside l ls s words.0 o words.1) read
 
 path_there-after : (found : Option WordText) (s : State) (y : WordText × State) → path_there found s ≡ Ok y → s ≡ y.1
@@ -254,9 +254,9 @@ as_head-inside l ls head step y read h =
     let x = bind-ok step _ y h in
     sym (after-is _ _ y x.2) ∙ read x.0 x.1
 
-head_behind-inside : (l : Line) (ls : List Line) (word : List ℕ) (s : State) (y : HeadText × State) → On l ls s → head_behind word s ≡ Ok y → Ended l ls y.1
-unfolding head_behind
-head_behind-inside l ls word s y o h =
+head_after-inside : (l : Line) (ls : List Line) (word : List ℕ) (s : State) (y : HeadText × State) → On l ls s → head_after word s ≡ Ok y → Ended l ls y.1
+unfolding head_after
+head_after-inside l ls word s y o h =
     by_word (bytes_eq word (codes "build")) (bytes_eq word (codes "rule")) (bytes_eq word (codes "pool")) (bytes_eq word (codes "default")) (bytes_eq word (codes "include")) (bytes_eq word (codes "subninja")) h
   where
     by_word : (b r p d i u : Bool)
@@ -276,4 +276,4 @@ pub head-inside : (l : Line) (ls : List Line) (h : HeadText) (after : State) →
 unfolding head_next
 head-inside l ls h after e =
     let word = bind-ok (name_next wanted.Statement (Inside l ls)) _ (h, after) e in
-    head_behind-inside l ls word.0.0.name word.0.1 (h, after) (name_next-inside wanted.Statement l ls word.0 word.1) word.2
+    head_after-inside l ls word.0.0.name word.0.1 (h, after) (name_next-inside wanted.Statement l ls word.0 word.1) word.2

@@ -10,7 +10,7 @@ use Rattle.nj_text.specs.Words.{part_text}
 use Rattle.nj_text.specs.Calls.{is_empty}
 use Rattle.nj_manifest.specs.declared.statement.Line.{Line}
 use Rattle.nj_manifest.specs.Statements.{LineText, gives, names}
-use Rattle.nj_manifest.specs.Held.{line_text, lines_text}
+use Rattle.nj_manifest.specs.Contents.{line_text, lines_text}
 
 -- the last line of the key decides
 gives-more : (key : List ℕ) (ls : List LineText) (l : LineText) → gives key (ls ++ l ∷ []) ≡ cond (bytes_eq l.name key) (not (is_empty l.value.parts)) (gives key ls)

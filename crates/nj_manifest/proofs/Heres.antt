@@ -8,9 +8,11 @@ use Rattle.nj_manifest.specs.declared.fault.ParseFault.TheVariants as fault
 use Rattle.nj_manifest.specs.declared.statement.Statement.{Statement}
 use Rattle.nj_text.specs.declared.fault.LexFault.TheVariants as lex
 use Rattle.nj_manifest.specs.Faults.{Fault}
-use Rattle.nj_manifest.specs.Steps.{Fails, ◌>>=◌}
+use Rattle.nj_manifest.specs.Parsers.{Fails}
+use Rattle.nj_manifest.specs.LineSteps.{◌>>=◌}
 use Rattle.nj_manifest.specs.Statements.{HeadText, lines_from, head_next, with_block, statement_at}
-use Rattle.nj_manifest.specs.Held.{ReadsFrom, ReadsAt, statement_text, placed_text}
+use Rattle.nj_manifest.specs.ParserContracts.{ParsesFrom, ParsesAt}
+use Rattle.nj_manifest.specs.Contents.{statement_text, placed_text}
 use Rattle.nj_manifest.proofs.Framing.{head-inside}
 
 -- the first line, and then the statement with its block
@@ -30,23 +32,23 @@ fails-on (fault.UnknownKey s key) x k h = rw h refl
 fails-on (fault.MissingDepth s) x k h = rw h refl
 
 pub here-ok : (before middle after : State) (h : HeadText) (spot : Spot) (item : Statement) → spot ≡ spot_of before → head_next before ≡ Ok (h, middle)
-    → ReadsFrom statement_text middle after (with_block spot h) (Ok item) → ReadsAt (option_map placed_text) before after statement_at (Ok (Some (record { spot = spot; item = item })))
+    → ParsesFrom statement_text middle after (with_block spot h) (Ok item) → ParsesAt (option_map placed_text) before after statement_at (Ok (Some (record { spot = spot; item = item })))
 here-ok (Between ls) middle after h spot item s e r = tt
 here-ok (Failed f) middle after h spot item s e r = tt
 here-ok (Inside l ls) middle after h spot item s e r =
     let i = head-inside l ls h middle e in
-    let r' = subst (λ m. ReadsFrom statement_text m after (with_block spot h) (Ok item)) i r in
+    let r' = subst (λ m. ParsesFrom statement_text m after (with_block spot h) (Ok item)) i r in
     let e' = subst (λ m. head_next (Inside l ls) ≡ Ok (h, m)) i e in
     let w = subst (λ p. with_block p h (lines_behind l ls) ≡ Ok (statement_text item, lines_from after)) s r'.0 in
     (at-head l ls h (Between (lines_behind l ls)) e' ∙ rw (w, s) refl, r'.1)
 
 pub here-fails : (before middle after : State) (h : HeadText) (spot : Spot) (f : ParseFault) → spot ≡ spot_of before → head_next before ≡ Ok (h, middle)
-    → ReadsFrom statement_text middle after (with_block spot h) (Err f) → ReadsAt (option_map placed_text) before after statement_at (Err f)
+    → ParsesFrom statement_text middle after (with_block spot h) (Err f) → ParsesAt (option_map placed_text) before after statement_at (Err f)
 here-fails (Between ls) middle after h spot f s e r = tt
 here-fails (Failed g) middle after h spot f s e r = tt
 here-fails (Inside l ls) middle after h spot f s e r =
     let i = head-inside l ls h middle e in
-    let r' = subst (λ m. ReadsFrom statement_text m after (with_block spot h) (Err f)) i r in
+    let r' = subst (λ m. ParsesFrom statement_text m after (with_block spot h) (Err f)) i r in
     let e' = subst (λ m. head_next (Inside l ls) ≡ Ok (h, m)) i e in
     let w = subst (λ p. Fails f (with_block p h (lines_behind l ls))) s r' in
     rw (at-head l ls h (Between (lines_behind l ls)) e') (fails-on f (with_block (line_spot l) h (lines_behind l ls)) (λ item. Ok (Some (record { spot = line_spot l; item = item.0 }), item.1)) w)

@@ -7,7 +7,7 @@ use Rattle.nj_text.specs.Words.{WordText}
 use Rattle.nj_text.specs.Calls.{State, is_empty, is_sign}
 use Rattle.nj_manifest.specs.declared.fault.Wanted.TheVariants as wanted
 use Rattle.nj_manifest.specs.Faults.{Fault, Expected}
-use Rattle.nj_manifest.specs.Steps.{Step, ◌>>=◌, NameText, name_next, behind, words_within, words_next, section_next}
+use Rattle.nj_manifest.specs.LineSteps.{Step, ◌>>=◌, NameText, name_next, expect_sign, words_within, words_next, section_next}
 use Rattle.nj_manifest.specs.Statements.{OutputsText, InputsText, HeadText, BuildHead, unless_none, outputs_next, inputs_next, build_next}
 use Rattle.nj_manifest.specs.Leftmost.{written}
 use Rattle.nj_manifest.proofs.LeftmostFronts.{sign-same, element-front}
@@ -23,7 +23,7 @@ abbrev inputs_of : (explicit implicit order_only validations : List WordText) �
 inputs_of e i o v = record { explicit = e; implicit = i; order_only = o; validations = v }
 
 abbrev ended : OutputsText → NameText → InputsText → State → Step HeadText
-ended outs rule ins s = ending (BuildHead outs rule ins) (behind sign.LineEnd wanted.Newline s)
+ended outs rule ins s = ending (BuildHead outs rule ins) (expect_sign sign.LineEnd wanted.Newline s)
 
 abbrev with_validations : OutputsText → NameText → (e i o : List WordText) → List WordText × State → Step HeadText
 with_validations outs rule e i o v = ended outs rule (inputs_of e i o v.0) v.1
@@ -81,12 +81,12 @@ colon_is_led outs (Ok s) = rule_is outs s
 colon_is_led outs (Err f) = refl
 
 abbrev outputs_then : OutputsText × State → Step HeadText
-outputs_then o = behind sign.Colon wanted.Colon o.1 >>= λ colon. name_next wanted.CommandName colon >>= λ rule. inputs_next rule.1 >>= inputs_then o.0 rule.0
+outputs_then o = expect_sign sign.Colon wanted.Colon o.1 >>= λ colon. name_next wanted.CommandName colon >>= λ rule. inputs_next rule.1 >>= inputs_then o.0 rule.0
 
 outputs_is : (s : State) → ◌≡◌ {A = Step HeadText} (outputs_next s >>= outputs_then) (words_next s >>= with_explicit_outputs)
 unfolding outputs_next
 outputs_is s =
-    bind-same (outputs_next s) outputs_then with_outputs (λ o. colon_is_led o.0 (behind sign.Colon wanted.Colon o.1))
+    bind-same (outputs_next s) outputs_then with_outputs (λ o. colon_is_led o.0 (expect_sign sign.Colon wanted.Colon o.1))
     ∙ (bind-bind (words_next s) _ with_outputs ∙ bind-same (words_next s) _ with_explicit_outputs (λ e. bind-bind (section_next sign.Pipe e.1) (some_output e.0) with_outputs))
 
 build_is : (s : State) → build_next s ≡ (words_next s >>= with_explicit_outputs)
@@ -99,19 +99,19 @@ abbrev nowhere : List Line → State
 nowhere ms = at [] (written []) ms
 
 ends_explicit : (outs : OutputsText) (rule : NameText) (w : WordText) (ws : List WordText) → ReadTo (λ ms. with_explicit outs rule (w ∷ ws, nowhere ms))
-unfolding section_next behind
+unfolding section_next expect_sign
 ends_explicit outs rule w ws = (BuildHead outs rule (inputs_of (w ∷ ws) [] [] []), λ ms. refl)
 
 ends_implicit : (outs : OutputsText) (rule : NameText) (e : List WordText) (w : WordText) (ws : List WordText) → ReadTo (λ ms. with_implicit outs rule e (w ∷ ws, nowhere ms))
-unfolding section_next behind
+unfolding section_next expect_sign
 ends_implicit outs rule e w ws = (BuildHead outs rule (inputs_of e (w ∷ ws) [] []), λ ms. refl)
 
 ends_order : (outs : OutputsText) (rule : NameText) (e i : List WordText) (w : WordText) (ws : List WordText) → ReadTo (λ ms. with_order outs rule e i (w ∷ ws, nowhere ms))
-unfolding section_next behind
+unfolding section_next expect_sign
 ends_order outs rule e i w ws = (BuildHead outs rule (inputs_of e i (w ∷ ws) []), λ ms. refl)
 
 ends_validations : (outs : OutputsText) (rule : NameText) (e i o : List WordText) (w : WordText) (ws : List WordText) → ReadTo (λ ms. with_validations outs rule e i o (w ∷ ws, nowhere ms))
-unfolding behind
+unfolding expect_sign
 ends_validations outs rule e i o w ws = (BuildHead outs rule (inputs_of e i o (w ∷ ws)), λ ms. refl)
 
 abbrev name_r : NameText
@@ -119,21 +119,21 @@ name_r = record { spot = first_spot; name = 114 ∷ [] }
 
 -- ` r`
 ends_rule : (outs : OutputsText) → ReadTo (λ ms. name_next wanted.CommandName (at (text (32 ∷ 114 ∷ [])) (written []) ms) >>= with_rule outs)
-unfolding name_next words_next words_within section_next behind
+unfolding name_next words_next words_within section_next expect_sign
 ends_rule outs = (BuildHead outs name_r (inputs_of [] [] [] []), λ ms. refl)
 
 -- `:r`
 ends_colon : (outs : OutputsText) → ReadTo (λ ms. sign_step sign.Colon wanted.Colon (at (text (58 ∷ 114 ∷ [])) (written []) ms) >>= with_colon outs)
-unfolding name_next words_next words_within section_next behind
+unfolding name_next words_next words_within section_next expect_sign
 ends_colon outs = (BuildHead outs name_r (inputs_of [] [] [] []), λ ms. refl)
 
 ends_implicit_outputs : (e : List WordText) (w : WordText) (ws : List WordText) → ReadTo (λ ms. with_implicit_outputs e (w ∷ ws, at (text (58 ∷ 114 ∷ [])) (written []) ms))
-unfolding name_next words_next words_within section_next behind
+unfolding name_next words_next words_within section_next expect_sign
 ends_implicit_outputs [] w ws = (BuildHead (outputs_of [] (w ∷ ws)) name_r (inputs_of [] [] [] []), λ ms. refl)
 ends_implicit_outputs (v ∷ e) w ws = (BuildHead (outputs_of (v ∷ e) (w ∷ ws)) name_r (inputs_of [] [] [] []), λ ms. refl)
 
 ends_explicit_outputs : (w : WordText) (ws : List WordText) → ReadTo (λ ms. with_explicit_outputs (w ∷ ws, at (text (58 ∷ 114 ∷ [])) (written []) ms))
-unfolding name_next words_next words_within section_next behind
+unfolding name_next words_next words_within section_next expect_sign
 ends_explicit_outputs w ws = (BuildHead (outputs_of (w ∷ ws) []) name_r (inputs_of [] [] [] []), λ ms. refl)
 
 -- ---- along the line

@@ -10,7 +10,7 @@ use Rattle.nj_text.specs.Calls.{State}
 use Rattle.nj_text.proofs.Lists.{AllIn, AllIn-take_while, take_while-cons_yes}
 use Rattle.nj_manifest.specs.declared.fault.Wanted.TheVariants as wanted
 use Rattle.nj_manifest.specs.Faults.{Fault, Bad, Expected}
-use Rattle.nj_manifest.specs.Steps.{Step, ◌>>=◌}
+use Rattle.nj_manifest.specs.LineSteps.{Step, ◌>>=◌}
 use Rattle.nj_manifest.specs.Statements.{path_there}
 use Rattle.nj_manifest.specs.Leftmost.{are_plain, offers}
 use Rattle.nj_manifest.proofs.LeftmostRuns.{begins, both_parts, behind_stops, skip, skip_stops, gap_of, gap_passes, gap_cut}

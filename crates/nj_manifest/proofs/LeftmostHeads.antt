@@ -9,8 +9,8 @@ use Rattle.nj_text.specs.Calls.{State, is_empty}
 use Rattle.nj_manifest.specs.declared.fault.Wanted.{Wanted}
 use Rattle.nj_manifest.specs.declared.fault.Wanted.TheVariants as wanted
 use Rattle.nj_manifest.specs.Faults.{Fault, Expected}
-use Rattle.nj_manifest.specs.Steps.{Step, ◌>>=◌, NameText, name_next, behind, words_next}
-use Rattle.nj_manifest.specs.Statements.{HeadText, Alone, RuleHead, PoolHead, BindingText, DefaultText, IncludeText, SubninjaText, equals_value, name_alone, unless_none, build_next, targets_next, path_there, file_next, as_head, head_behind, head_next}
+use Rattle.nj_manifest.specs.LineSteps.{Step, ◌>>=◌, NameText, name_next, expect_sign, words_next}
+use Rattle.nj_manifest.specs.Statements.{HeadText, Alone, RuleHead, PoolHead, BindingText, DefaultText, IncludeText, SubninjaText, equals_value, name_alone, unless_none, build_next, targets_next, path_there, file_next, as_head, head_after, head_next}
 use Rattle.nj_manifest.specs.Leftmost.{written, offers_next}
 use Rattle.nj_manifest.proofs.LeftmostRuns.{begins}
 use Rattle.nj_manifest.proofs.LeftmostFronts.{element-front}
@@ -25,7 +25,7 @@ use Rattle.nj_manifest.proofs.LeftmostFiles.{file_word, FileSeen, reads_on, ends
 -- ---- the lines in steps
 
 abbrev line_end : State → Result State Fault
-line_end s = behind sign.LineEnd wanted.Newline s
+line_end s = expect_sign sign.LineEnd wanted.Newline s
 
 end_is : {A : Type 0} (head : A → HeadText) (x : A) (r : Result State Fault) → as_head head (ending x r) ≡ ending (head x) r
 end_is head x (Ok s) = refl
@@ -74,20 +74,20 @@ file_is head s = ap (as_head head) (file_led s) ∙ file_by head (file_word s)
 -- ---- texts that end what is begun
 
 ends_name : (want : Wanted) (head : NameText → HeadText) → ReadTo (λ ms. name_next want (at (text (32 ∷ 114 ∷ [])) (written []) ms) >>= named_end head)
-unfolding name_next behind
+unfolding name_next expect_sign
 ends_name want head = (head (record { spot = first_spot; name = 114 ∷ [] }), λ ms. refl)
 
 ends_targets : (head : List WordText → HeadText) (w : WordText) (ws : List WordText) → ReadTo (λ ms. targets_end head (w ∷ ws, at [] (written []) ms))
-unfolding behind
+unfolding expect_sign
 ends_targets head w ws = (head (w ∷ ws), λ ms. refl)
 
 ends_file : (head : WordText → HeadText) (w : WordText) → ReadTo (λ ms. file_end head (w, at [] (written []) ms))
-unfolding behind
+unfolding expect_sign
 ends_file head w = (head w, λ ms. refl)
 
 -- `a=b`
-ends_binding : ReadTo (λ ms. name_next wanted.Statement (at (text (97 ∷ 61 ∷ 98 ∷ [])) (written []) ms) >>= λ word. head_behind word.0.name word.1)
-unfolding name_next head_behind equals_value behind
+ends_binding : ReadTo (λ ms. name_next wanted.Statement (at (text (97 ∷ 61 ∷ 98 ∷ [])) (written []) ms) >>= λ word. head_after word.0.name word.1)
+unfolding name_next head_after equals_value expect_sign
 ends_binding = (_, λ ms. refl)
 
 -- ---- along the line
@@ -138,8 +138,8 @@ module _ {P : Said HeadText} {whole : List TextUnit} (e : Line) where
           stuck fault (stick (λ s. as_head head (file_next s)) file_word (file_end head) (file_is head) a n.here n.bytes n.plain n.offered d.0 n.fits
           (λ ms. file_is head (at (n.used ++ text n.bytes) (written []) ms) ∙ (ap (λ r. r >>= file_end head) (n.reads (written []) ms) ∙ d.1 ms)))
 
-  behind_turn : (word : List ℕ) (us : List TextUnit) → Along P whole (λ s. head_behind word s) after_name us → Outcome P whole e
-  unfolding head_behind
+  behind_turn : (word : List ℕ) (us : List TextUnit) → Along P whole (λ s. head_after word s) after_name us → Outcome P whole e
+  unfolding head_after
   behind_turn word us a =
       by_word (bytes_eq word (codes "build")) (bytes_eq word (codes "rule")) (bytes_eq word (codes "pool")) (bytes_eq word (codes "default")) (bytes_eq word (codes "include")) (bytes_eq word (codes "subninja")) a
     where
@@ -158,4 +158,4 @@ module _ {P : Said HeadText} {whole : List TextUnit} (e : Line) where
   pub head_turn : (us : List TextUnit) → Along P whole head_next starts us → Outcome P whole e
   unfolding head_next
   head_turn us a =
-      name_turn e wanted.Statement head_next (λ word. head_behind word.0.name word.1) (λ s. refl) a (97 ∷ 61 ∷ 98 ∷ []) refl refl refl ends_binding (λ n b. behind_turn n.passes.value.name n.passes.left b)
+      name_turn e wanted.Statement head_next (λ word. head_after word.0.name word.1) (λ s. refl) a (97 ∷ 61 ∷ 98 ∷ []) refl refl refl ends_binding (λ n b. behind_turn n.passes.value.name n.passes.left b)

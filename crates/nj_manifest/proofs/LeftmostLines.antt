@@ -8,7 +8,7 @@ use Rattle.nj_manifest.specs.declared.fault.Wanted.TheVariants as wanted
 use Rattle.nj_manifest.specs.declared.block.Keys.{Keys}
 use Rattle.nj_manifest.specs.declared.block.Keys.TheVariants as keys
 use Rattle.nj_manifest.specs.Faults.{UnknownKey}
-use Rattle.nj_manifest.specs.Steps.{Step, ◌>>=◌, NameText, name_next, behind}
+use Rattle.nj_manifest.specs.LineSteps.{Step, ◌>>=◌, NameText, name_next, expect_sign}
 use Rattle.nj_manifest.specs.Statements.{LineText, allows, if_allowed, equals_value, line_next}
 use Rattle.nj_manifest.specs.Leftmost.{written, are_plain, offers_next}
 use Rattle.nj_manifest.proofs.LeftmostRuns.{skip, gap_of, gap_passes, gap_cut}
@@ -40,7 +40,7 @@ key_bytes keys.OfPool = codes "depth=x"
 key_bytes keys.All = codes "a=x"
 
 reads_key : (allowed : Keys) → ReadTo (λ ms. name_next wanted.VariableName (at (text (key_bytes allowed)) (written []) ms) >>= keyed allowed)
-unfolding name_next equals_value behind
+unfolding name_next equals_value expect_sign
 reads_key keys.OfRule = (_, λ ms. refl)
 reads_key keys.OfPool = (_, λ ms. refl)
 reads_key keys.All = (_, λ ms. refl)

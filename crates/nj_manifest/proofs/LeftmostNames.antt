@@ -11,7 +11,7 @@ use Rattle.nj_text.specs.Calls.{State, reply, unless_fault, bytes_of, some_bytes
 use Rattle.nj_text.proofs.Lists.{AllIn, AllIn-take_while, take_while-cons_yes, take_while-cons_no}
 use Rattle.nj_manifest.specs.declared.fault.Wanted.{Wanted}
 use Rattle.nj_manifest.specs.Faults.{Fault, Bad, Expected}
-use Rattle.nj_manifest.specs.Steps.{Step, ◌>>=◌, called, NameText, named, name_next}
+use Rattle.nj_manifest.specs.LineSteps.{Step, ◌>>=◌, called, NameText, named, name_next}
 use Rattle.nj_manifest.specs.Leftmost.{element}
 use Rattle.nj_manifest.proofs.LeftmostRuns.{begins, both_parts, behind_stops, none_passed, none_taken, run_passed, run_taken, skip, skip_again, skip_stops, skip_gap, gap_of, gap_passes, gap_cut, no_other, not_byte}
 use Rattle.nj_manifest.proofs.LeftmostFronts.{identifier_no_pipe, begins-same, fault-same, element-front, element-identifier}

@@ -11,7 +11,7 @@ use Rattle.nj_text.proofs.Lists.{AllIn}
 use Rattle.nj_manifest.specs.declared.fault.Wanted.{Wanted}
 use Rattle.nj_manifest.specs.declared.fault.Wanted.TheVariants as wanted
 use Rattle.nj_manifest.specs.Faults.{Fault, Bad, Expected}
-use Rattle.nj_manifest.specs.Steps.{Step, ◌>>=◌, called, if_there, behind}
+use Rattle.nj_manifest.specs.LineSteps.{Step, ◌>>=◌, called, if_there, expect_sign}
 use Rattle.nj_manifest.specs.Leftmost.{element, written, offers}
 use Rattle.nj_manifest.proofs.LeftmostRuns.{begins, none_passed, skip, skip_stops, skip_gap, gap_of, gap_passes, gap_cut, no_other, not_byte}
 use Rattle.nj_manifest.proofs.LeftmostFronts.{fault-same, sign-same, element-front}
@@ -23,7 +23,7 @@ abbrev pub led_on : Result State Fault → Step Bool
 led_on r = r >>= λ t. Ok (true, t)
 
 abbrev pub sign_step : Sign → Wanted → State → Step Bool
-sign_step want miss s = led_on (behind want miss s)
+sign_step want miss s = led_on (expect_sign want miss s)
 
 -- a value, once the line has ended
 abbrev pub ending : {B : Type 0} → B → Result State Fault → Step B
@@ -36,15 +36,15 @@ sign_by miss f t there other = called (unless_fault f (cond t (reply true there)
 abbrev sign_here : Sign → Wanted → List TextUnit → Line → List Line → Result State Fault
 sign_here want miss us e ms = sign_by miss (next_fault us) (is_sign want us) (behind_sign want (with_units us e) ms) (at us e ms)
 
-behind_is_here : (want : Sign) (miss : Wanted) (us : List TextUnit) (e : Line) (ms : List Line) → behind want miss (at us e ms) ≡ sign_here want miss (skip us) e ms
-unfolding behind
+behind_is_here : (want : Sign) (miss : Wanted) (us : List TextUnit) (e : Line) (ms : List Line) → expect_sign want miss (at us e ms) ≡ sign_here want miss (skip us) e ms
+unfolding expect_sign
 behind_is_here want miss us e ms = refl
 
-sign_behind : (want : Sign) (miss : Wanted) (gap x : List TextUnit) (e : Line) (ms : List Line) → AllIn is_blank gap → skip x ≡ x → behind want miss (at (gap ++ x) e ms) ≡ sign_here want miss x e ms
+sign_behind : (want : Sign) (miss : Wanted) (gap x : List TextUnit) (e : Line) (ms : List Line) → AllIn is_blank gap → skip x ≡ x → expect_sign want miss (at (gap ++ x) e ms) ≡ sign_here want miss x e ms
 sign_behind want miss gap x e ms h n = behind_is_here want miss (gap ++ x) e ms ∙ ap (λ (y : List TextUnit). sign_here want miss y e ms) (skip_gap gap x h ∙ n)
 
 -- blanks before a sign do not matter
-pub sign_skips : (want : Sign) (miss : Wanted) (gap x : List TextUnit) (e : Line) (ms : List Line) → AllIn is_blank gap → behind want miss (at (gap ++ x) e ms) ≡ behind want miss (at x e ms)
+pub sign_skips : (want : Sign) (miss : Wanted) (gap x : List TextUnit) (e : Line) (ms : List Line) → AllIn is_blank gap → expect_sign want miss (at (gap ++ x) e ms) ≡ expect_sign want miss (at x e ms)
 sign_skips want miss gap x e ms h = behind_is_here want miss (gap ++ x) e ms ∙ (ap (λ (y : List TextUnit). sign_here want miss y e ms) (skip_gap gap x h) ∙ sym (behind_is_here want miss x e ms))
 
 sign_ok : (miss : Wanted) (f : Option UnitFault) (t : Bool) (there there' other : State) → f ≡ None → t ≡ true → there ≡ there' → sign_by miss f t there other ≡ Ok there'
@@ -122,7 +122,7 @@ passes_sign want miss t t' us s u left r h =
       value = true;
       cut = cut;
       goes = λ x d ms fit.
-          step_ok _ _ (ap (λ (y : List TextUnit). behind want miss (at y d ms)) (append_assoc (gap_of us) (u ∷ []) x)
+          step_ok _ _ (ap (λ (y : List TextUnit). expect_sign want miss (at y d ms)) (append_assoc (gap_of us) (u ∷ []) x)
           ∙ (sign_behind want miss (gap_of us) (u ∷ x) d ms (gap_passes us) (none_passed is_blank (u ∷ x) blank)
           ∙ sign_ok miss _ _ _ _ _ (ordinary_no_fault (λ c. eqb c s.byte) u.means u.spot is) (s.one u x ∙ is) (s.behind u x d ms)));
       settled = λ x fit. settled_by (gap_of us) (gap_passes us) x cut;
@@ -153,10 +153,10 @@ sign_seen want miss t t' us e s = by_fault (next_fault (skip us)) refl
 -- ---- the end of the line
 
 -- the end where nothing but blanks is left
-end_there : (miss : Wanted) (gap : List TextUnit) (e : Line) (ms : List Line) → AllIn is_blank gap → behind sign.LineEnd miss (at (gap ++ []) e ms) ≡ Ok (Between (lines_behind e ms))
+end_there : (miss : Wanted) (gap : List TextUnit) (e : Line) (ms : List Line) → AllIn is_blank gap → expect_sign sign.LineEnd miss (at (gap ++ []) e ms) ≡ Ok (Between (lines_behind e ms))
 end_there miss gap e ms h = sign_behind sign.LineEnd miss gap [] e ms h refl
 
-end_here : (miss : Wanted) (us : List TextUnit) (e : Line) (ms : List Line) → skip us ≡ [] → behind sign.LineEnd miss (at us e ms) ≡ Ok (Between (lines_behind e ms))
+end_here : (miss : Wanted) (us : List TextUnit) (e : Line) (ms : List Line) → skip us ≡ [] → expect_sign sign.LineEnd miss (at us e ms) ≡ Ok (Between (lines_behind e ms))
 end_here miss us e ms h = behind_is_here sign.LineEnd miss us e ms ∙ ap (λ (y : List TextUnit). sign_here sign.LineEnd miss y e ms) h
 
 with_value : {B : Type 0} (r : Result State Fault) (value : B) → ending value r ≡ (led_on r >>= λ x. Ok (value, x.1))
@@ -167,13 +167,13 @@ ended : {B : Type 0} (r : Result State Fault) (s : State) (value : B) → r ≡ 
 ended r s value h = rw h refl
 
 -- A reading that ends with its line.
-pub finish : {B : Type 0} {P : Said B} {whole : List TextUnit} {t : List TextUnit → Bool} {us : List TextUnit} (k : State → Step B) (value : B) (e : Line) → ((s : State) → k s ≡ ending value (behind sign.LineEnd wanted.Newline s)) → Along P whole k t us → t [] ≡ true
+pub finish : {B : Type 0} {P : Said B} {whole : List TextUnit} {t : List TextUnit → Bool} {us : List TextUnit} (k : State → Step B) (value : B) (e : Line) → ((s : State) → k s ≡ ending value (expect_sign sign.LineEnd wanted.Newline s)) → Along P whole k t us → t [] ≡ true
     → Outcome P whole e
 finish {B = B} {P = P} {whole = whole} {t = t} {us = us} k value e so a empty = by_fault (next_fault (skip us)) refl
   where
     stick_here : (fault : Fault) → offers fault [] ≡ true → FailsAt (sign_step sign.LineEnd wanted.Newline) us e fault (gap_of us) (skip us) → Outcome P whole e
     stick_here fault o n =
-        stuck fault (stick k (sign_step sign.LineEnd wanted.Newline) (λ x. Ok (value, x.1)) (λ s. so s ∙ with_value (behind sign.LineEnd wanted.Newline s) value) a n [] refl o value (fits-gap t us [] empty)
+        stuck fault (stick k (sign_step sign.LineEnd wanted.Newline) (λ x. Ok (value, x.1)) (λ s. so s ∙ with_value (expect_sign sign.LineEnd wanted.Newline s) value) a n [] refl o value (fits-gap t us [] empty)
         (λ ms. so (at (gap_of us ++ []) (written []) ms) ∙ ended _ _ value (end_there wanted.Newline (gap_of us) (written []) ms (gap_passes us))))
 
     by_units : (r : List TextUnit) → skip us ≡ r → next_fault (skip us) ≡ None → Outcome P whole e

@@ -12,7 +12,7 @@ use Rattle.nj_text.specs.Calls.{State, Between, Inside, fault_spot}
 use Rattle.nj_text.proofs.Lists.{AllIn}
 use Rattle.nj_manifest.specs.declared.fault.Wanted.{Wanted}
 use Rattle.nj_manifest.specs.Faults.{Fault}
-use Rattle.nj_manifest.specs.Steps.{Step, ◌>>=◌}
+use Rattle.nj_manifest.specs.LineSteps.{Step, ◌>>=◌}
 use Rattle.nj_manifest.specs.Leftmost.{element, written_unit, written, are_plain, NamesThePlaceOf, met_before, offers_next, offers}
 use Rattle.nj_manifest.proofs.LeftmostRuns.{begins, no_other, not_byte, gap_of, skip, gap_passes, gap_cut}
 use Rattle.nj_manifest.proofs.LeftmostFronts.{front, front-append, front-alone, element-front}

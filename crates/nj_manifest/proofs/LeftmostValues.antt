@@ -9,7 +9,7 @@ use Rattle.nj_text.specs.Words.{is_blank, is_blank_meaning, is_opening_meaning, 
 use Rattle.nj_text.specs.Calls.{State, Between, reply, unless_fault, value_of}
 use Rattle.nj_manifest.specs.declared.fault.Wanted.TheVariants as wanted
 use Rattle.nj_manifest.specs.Faults.{Fault, Bad}
-use Rattle.nj_manifest.specs.Steps.{Step, ◌>>=◌, called, behind}
+use Rattle.nj_manifest.specs.LineSteps.{Step, ◌>>=◌, called, expect_sign}
 use Rattle.nj_manifest.specs.Statements.{equals_value}
 use Rattle.nj_manifest.specs.Leftmost.{written}
 use Rattle.nj_manifest.proofs.LeftmostRuns.{skip}
@@ -116,22 +116,22 @@ bad_value us e bad s = record {
 
 -- the value, and then the end of the line
 abbrev valued : {B : Type 0} → (WordText → B) → WordText × State → Step B
-valued view v = ending (view v.0) (behind sign.LineEnd wanted.Newline v.1)
+valued view v = ending (view v.0) (expect_sign sign.LineEnd wanted.Newline v.1)
 
 value_ended : {B : Type 0} (view : WordText → B) (us : List TextUnit) (e : Line) (ms : List Line) → first_fault us ≡ None → (value_call (at us e ms) >>= valued view) ≡ Ok (view (value_text us e), Between (lines_behind e ms))
-unfolding behind
+unfolding expect_sign
 value_ended view us e ms h = ap (λ r. r >>= valued view) (value_ok us e ms h)
 
 value_is : {B : Type 0} (view : WordText → B) (w : WordText) (r : Result State Fault) → ◌≡◌ {A = Step B} (ending w r >>= λ v. Ok (view v.0, v.1)) (ending (view w) r)
 value_is view w (Ok end) = refl
 value_is view w (Err f) = refl
 
-valued_is : {B : Type 0} (view : WordText → B) (r : Step WordText) → ◌≡◌ {A = Step B} ((r >>= λ value. ending value.0 (behind sign.LineEnd wanted.Newline value.1)) >>= λ v. Ok (view v.0, v.1)) (r >>= valued view)
-valued_is view (Ok v) = value_is view v.0 (behind sign.LineEnd wanted.Newline v.1)
+valued_is : {B : Type 0} (view : WordText → B) (r : Step WordText) → ◌≡◌ {A = Step B} ((r >>= λ value. ending value.0 (expect_sign sign.LineEnd wanted.Newline value.1)) >>= λ v. Ok (view v.0, v.1)) (r >>= valued view)
+valued_is view (Ok v) = value_is view v.0 (expect_sign sign.LineEnd wanted.Newline v.1)
 valued_is view (Err f) = refl
 
 led_is : {B : Type 0} (view : WordText → B) (r : Result State Fault)
-    → ◌≡◌ {A = Step B} ((r >>= λ equals. value_call equals >>= λ value. ending value.0 (behind sign.LineEnd wanted.Newline value.1)) >>= λ v. Ok (view v.0, v.1)) (led_on r >>= λ c. value_call c.1 >>= valued view)
+    → ◌≡◌ {A = Step B} ((r >>= λ equals. value_call equals >>= λ value. ending value.0 (expect_sign sign.LineEnd wanted.Newline value.1)) >>= λ v. Ok (view v.0, v.1)) (led_on r >>= λ c. value_call c.1 >>= valued view)
 led_is view (Ok equals) = valued_is view (value_call equals)
 led_is view (Err f) = refl
 
@@ -141,10 +141,10 @@ equals_then view c = value_call c.1 >>= valued view
 
 equals_is : {B : Type 0} (view : WordText → B) (s : State) → ◌≡◌ {A = Step B} (◌>>=◌ {B = B × State} (equals_value s) (λ v. Ok (view v.0, v.1))) (sign_step sign.Equals wanted.Equals s >>= equals_then view)
 unfolding equals_value
-equals_is view s = led_is view (behind sign.Equals wanted.Equals s)
+equals_is view s = led_is view (expect_sign sign.Equals wanted.Equals s)
 
 read_x : {B : Type 0} (view : WordText → B) → ReadTo (λ ms. sign_step sign.Equals wanted.Equals (at (text (61 ∷ 120 ∷ [])) (written []) ms) >>= equals_then view)
-unfolding behind
+unfolding expect_sign
 read_x view = (view (value_text (text (120 ∷ [])) (written [])), λ ms. refl)
 
 -- A line that ends with a value.

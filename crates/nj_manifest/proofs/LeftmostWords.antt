@@ -11,7 +11,7 @@ use Rattle.nj_text.specs.Words.{is_blank, is_blank_meaning, opens_word, opens_wo
 use Rattle.nj_text.specs.Calls.{State, reply, unless_fault, begins_word, path_word_of}
 use Rattle.nj_text.proofs.Lists.{AllIn, AllIn-take_while, take_while-cons_yes}
 use Rattle.nj_manifest.specs.Faults.{Fault, Bad}
-use Rattle.nj_manifest.specs.Steps.{Step, called, words_from, words_next}
+use Rattle.nj_manifest.specs.LineSteps.{Step, called, words_from, words_next}
 use Rattle.nj_manifest.specs.Leftmost.{written_unit, offers}
 use Rattle.nj_manifest.proofs.WordLimits.{words_next-fails, words_next-ends, words_next-more}
 use Rattle.nj_manifest.proofs.LeftmostRuns.{begins, both_parts, behind_stops, none_passed, run_passed, run_taken, skip, skip_stops, skip_gap, gap_of, gap_passes, gap_cut, not_byte}

@@ -12,12 +12,12 @@ use Rattle.nj_text.specs.Calls as calls
 use Rattle.nj_text.specs.Calls.{State, Reply, Between, Inside, Failed, Answers, start_line_of, begun, begun_by, is_comment, is_empty, without_comments, spot_of}
 use Rattle.nj_manifest.specs.declared.fault.ParseFault.TheVariants as fault
 use Rattle.nj_manifest.specs.Faults.{Bad, UnexpectedIndent}
-use Rattle.nj_manifest.specs.Steps.{Fails}
-use Rattle.nj_manifest.specs.Statements.{PlacedText, Reading, lines_from, or_last, nothing_more, statement_at, next_by, next_statement}
-use Rattle.nj_manifest.specs.Held.{Stands}
+use Rattle.nj_manifest.specs.Parsers.{Fails}
+use Rattle.nj_manifest.specs.Statements.{PlacedText, Parsed, lines_from, or_last, nothing_more, statement_at, next_by, next_statement}
+use Rattle.nj_manifest.specs.ParserContracts.{IsBetweenStatements}
 
 abbrev Next : Type 0
-Next = Reading (Option PlacedText)
+Next = Parsed (Option PlacedText)
 
 abbrev pub front_at : Spot → Spot
 front_at spot = record { line = spot.line; column = 1 }
@@ -104,13 +104,13 @@ middle-begins l ls (Ok x) s e h =
     subst (λ a. Begins (next_by (kind_of l) l ls (next_statement ls)) a s) h.0 (subst (BeginsHere (next_by (kind_of l) l ls (next_statement ls))) (sym h.1) begun)
 middle-begins l ls (Err f) s e h = absurd cc
 
-pub begins : (before after : State) (answer : Result LineStart UnitFault) → Stands before → Answered answer after (start_line_of before) → Begins (next_statement (lines_from before)) answer after
+pub begins : (before after : State) (answer : Result LineStart UnitFault) → IsBetweenStatements before → Answered answer after (start_line_of before) → Begins (next_statement (lines_from before)) answer after
 begins (Between ls) after answer stands h = start-begins ls answer after h
 begins (Inside l ls) after answer stands h = middle-begins l ls answer after stands h
 begins (Failed f) after answer stands h = absurd stands
 
 -- the fault at a line's start, as it is answered
-pub begins-badly : (before after : State) (f : LexFault) → Stands before → Answers {X = LineStart} (λ start. start) (Err f) after (start_line_of before) → Fails (fault.Lex f) (next_statement (lines_from before))
+pub begins-badly : (before after : State) (f : LexFault) → IsBetweenStatements before → Answers {X = LineStart} (λ start. start) (Err f) after (start_line_of before) → Fails (fault.Lex f) (next_statement (lines_from before))
 begins-badly before after lex.OutOfMemory stands h = tt
 begins-badly before after (lex.Unit f) stands h = begins before after (Err f) stands h
 
@@ -171,7 +171,7 @@ blank-falls (Between ls) after h =
 blank-falls (Inside l ls) after h = absurd cc
 blank-falls (Failed f) after h = absurd cc
 
-pub begins-as : (before after : State) (got want : LineStart) → got ≡ want → Stands before → Answers (λ start. start) (Ok got) after (start_line_of before) → Begins (next_statement (lines_from before)) (Ok want) after
+pub begins-as : (before after : State) (got want : LineStart) → got ≡ want → IsBetweenStatements before → Answers (λ start. start) (Ok got) after (start_line_of before) → Begins (next_statement (lines_from before)) (Ok want) after
 begins-as before after got want e stands h = subst (λ x. Begins (next_statement (lines_from before)) (Ok x) after) e (begins before after (Ok got) stands h)
 
 pub blank-falls-as : (before after : State) (got : LineStart) → got ≡ start.Blank → Answers (λ start. start) (Ok got) after (start_line_of before) → lines_ahead after < lines_ahead before

@@ -8,7 +8,7 @@ use Rattle.nj_text.specs.Lines.{Line, with_units}
 use Rattle.nj_text.specs.Words.{is_blank, in_word, in_word_meaning, opens_word_meaning, next_fault, WordText}
 use Rattle.nj_text.specs.Calls.{State, Between, Inside, Failed, reply, unless_fault, behind_blanks, begins_word, word_here, path_word_of}
 use Rattle.nj_manifest.specs.Faults.{Fault}
-use Rattle.nj_manifest.specs.Steps.{Step, ◌>>=◌, called, words_from, words_within, units_left, words_next}
+use Rattle.nj_manifest.specs.LineSteps.{Step, ◌>>=◌, called, words_from, words_within, units_left, words_next}
 
 drop_while_shortens : {X : Type 0} (p : X → Bool) (xs : List X) → length (drop_while p xs) ≤ length xs
 drop_while_shortens p [] = omega arith

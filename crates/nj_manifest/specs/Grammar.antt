@@ -8,13 +8,16 @@ use Rattle.nj_text.specs.declared.sign.Sign.TheVariants as sign
 use Rattle.nj_text.specs.declared.spot.Spot.{Spot}
 use Rattle.nj_text.specs.Units.{Ordinary, TextUnit}
 use Rattle.nj_text.specs.Lines.{Line, line_spot, lines_behind, spot_of_first, CommentLine, BlankLine, IndentedLine, PlainLine, kind_of}
-use Rattle.nj_text.specs.Words.{WordText, is_blank, is_opening_meaning, in_identifier, opens_word, in_word, first_fault, parts_of, begins_with_byte}
+use Rattle.nj_text.specs.Words.{WordText, is_blank, is_opening_meaning, in_identifier, opens_word, in_word, first_fault, parts_of}
+use Rattle.nj_text.specs.Words.{begins_with_byte}
 use Rattle.nj_text.specs.Calls.{bytes_of, is_empty, without_comments}
 use Rattle.nj_manifest.specs.declared.block.Keys.{Keys}
 use Rattle.nj_manifest.specs.declared.block.Keys.TheVariants as keys
 use Rattle.nj_manifest.specs.Faults.{Fault, MissingCommand, RspPair, MissingDepth}
-use Rattle.nj_manifest.specs.Steps.{NameText}
-use Rattle.nj_manifest.specs.Statements.{LineText, allows, OutputsText, InputsText, StatementText, BindingText, RuleText, PoolText, BuildText, DefaultText, IncludeText, SubninjaText, PlacedText, HeadText, Alone, RuleHead, PoolHead, BuildHead}
+use Rattle.nj_manifest.specs.LineSteps.{NameText}
+use Rattle.nj_manifest.specs.Statements.{LineText, allows, OutputsText, InputsText, StatementText, BindingText, RuleText}
+use Rattle.nj_manifest.specs.Statements.{PoolText, BuildText, DefaultText, IncludeText, SubninjaText, PlacedText, HeadText, Alone}
+use Rattle.nj_manifest.specs.Statements.{RuleHead, PoolHead, BuildHead}
 
 -- ---- parts of a line
 
@@ -65,7 +68,8 @@ pub record WordForm (us : List TextUnit) (word : WordText) (rest : List TextUnit
 -- paths, none or some, and the rest
 pub data WordsForm : (us : List TextUnit) → List WordText → (rest : List TextUnit) → Type 0 where
   none : {us : List TextUnit} → WordsForm us [] us
-  more : {us behind rest : List TextUnit} {word : WordText} {words : List WordText} → WordForm us word behind → WordsForm behind words rest → WordsForm us (word ∷ words) rest
+  more : {us after rest : List TextUnit} {word : WordText} {words : List WordText}
+      → WordForm us word after → WordsForm after words rest → WordsForm us (word ∷ words) rest
 
 -- the bytes of a sign; the end of a line has none
 abbrev pub sign_bytes : Sign → List ℕ
@@ -93,15 +97,16 @@ pub record SignForm (want : Sign) (us : List TextUnit) (rest : List TextUnit) : 
 -- a section that may be left out: its sign and its paths
 pub data SectionForm (want : Sign) : (us : List TextUnit) → List WordText → (rest : List TextUnit) → Type 0 where
   left_out : {us : List TextUnit} → SectionForm want us [] us
-  there : {us behind rest : List TextUnit} {words : List WordText} → SignForm want us behind → WordsForm behind words rest → SectionForm want us words rest
+  there : {us after rest : List TextUnit} {words : List WordText}
+      → SignForm want us after → WordsForm after words rest → SectionForm want us words rest
 
--- a join that opens its line, or nothing (no such join stands behind a sign of the same line in a text)
+-- a join that opens its line, or nothing (in a text no such join follows a sign of the same line)
 abbrev pub is_opening : List TextUnit → Bool
 is_opening [] = true
 is_opening (u ∷ []) = is_opening_meaning u.means
 is_opening (u ∷ v ∷ us) = false
 
--- Blanks, and behind them all the others, among which there is no bad unit. A value without units is placed where its
+-- Blanks, and after them all the others, among which there is no bad unit. A value without units is placed where its
 -- line ends.
 pub record ValueForm (us : List TextUnit) (end : Spot) (value : WordText) : Type 0 where
   pub opening : List TextUnit
@@ -120,66 +125,68 @@ pub record ValueForm (us : List TextUnit) (end : Spot) (value : WordText) : Type
 
 -- `build OUTPUTS | IMPLICIT-OUTPUTS: RULE INPUTS | IMPLICIT || ORDER-ONLY |@ VALIDATIONS`, with an output at least
 pub record BuildForm (us : List TextUnit) (outputs : OutputsText) (rule : NameText) (inputs : InputsText) : Type 0 where
-  pub behind_build : List TextUnit
-  pub behind_explicit : List TextUnit
-  pub behind_outputs : List TextUnit
-  pub behind_colon : List TextUnit
-  pub behind_rule : List TextUnit
-  pub behind_inputs : List TextUnit
-  pub behind_implicit : List TextUnit
-  pub behind_order_only : List TextUnit
-  pub behind_validations : List TextUnit
-  pub keyword : KeywordForm (codes "build") us behind_build
-  pub explicit_outputs : WordsForm behind_build outputs.explicit behind_explicit
-  pub implicit_outputs : SectionForm sign.Pipe behind_explicit outputs.implicit behind_outputs
+  pub after_build : List TextUnit
+  pub after_explicit : List TextUnit
+  pub after_outputs : List TextUnit
+  pub after_colon : List TextUnit
+  pub after_rule : List TextUnit
+  pub after_inputs : List TextUnit
+  pub after_implicit : List TextUnit
+  pub after_order_only : List TextUnit
+  pub after_validations : List TextUnit
+  pub keyword : KeywordForm (codes "build") us after_build
+  pub explicit_outputs : WordsForm after_build outputs.explicit after_explicit
+  pub implicit_outputs : SectionForm sign.Pipe after_explicit outputs.implicit after_outputs
   pub some_output : (is_empty outputs.explicit && is_empty outputs.implicit) ≡ false
-  pub colon : SignForm sign.Colon behind_outputs behind_colon
-  pub of_rule : IdentifierForm behind_colon rule behind_rule
-  pub explicit_inputs : WordsForm behind_rule inputs.explicit behind_inputs
-  pub implicit_inputs : SectionForm sign.Pipe behind_inputs inputs.implicit behind_implicit
-  pub order_only_inputs : SectionForm sign.Pipe2 behind_implicit inputs.order_only behind_order_only
-  pub validations : SectionForm sign.PipeAt behind_order_only inputs.validations behind_validations
-  pub end : AreBlanks behind_validations
+  pub colon : SignForm sign.Colon after_outputs after_colon
+  pub of_rule : IdentifierForm after_colon rule after_rule
+  pub explicit_inputs : WordsForm after_rule inputs.explicit after_inputs
+  pub implicit_inputs : SectionForm sign.Pipe after_inputs inputs.implicit after_implicit
+  pub order_only_inputs : SectionForm sign.Pipe2 after_implicit inputs.order_only after_order_only
+  pub validations : SectionForm sign.PipeAt after_order_only inputs.validations after_validations
+  pub end : AreBlanks after_validations
 
 -- `NAME = VALUE`
 pub record BindingForm (us : List TextUnit) (end : Spot) (name : NameText) (value : WordText) : Type 0 where
-  pub behind_name : List TextUnit
-  pub behind_sign : List TextUnit
-  pub of_name : IdentifierForm us name behind_name
-  pub equals : SignForm sign.Equals behind_name behind_sign
-  pub of_value : ValueForm behind_sign end value
+  pub after_name : List TextUnit
+  pub after_sign : List TextUnit
+  pub of_name : IdentifierForm us name after_name
+  pub equals : SignForm sign.Equals after_name after_sign
+  pub of_value : ValueForm after_sign end value
 
 -- this keyword and a name
 pub record NamedForm (word : List ℕ) (us : List TextUnit) (name : NameText) : Type 0 where
-  pub behind_keyword : List TextUnit
-  pub behind_name : List TextUnit
-  pub keyword : KeywordForm word us behind_keyword
-  pub of_name : IdentifierForm behind_keyword name behind_name
-  pub end : AreBlanks behind_name
+  pub after_keyword : List TextUnit
+  pub after_name : List TextUnit
+  pub keyword : KeywordForm word us after_keyword
+  pub of_name : IdentifierForm after_keyword name after_name
+  pub end : AreBlanks after_name
 
 -- this keyword and a path
 pub record FileForm (word : List ℕ) (us : List TextUnit) (file : WordText) : Type 0 where
-  pub behind_keyword : List TextUnit
-  pub behind_file : List TextUnit
-  pub keyword : KeywordForm word us behind_keyword
-  pub of_file : WordForm behind_keyword file behind_file
-  pub end : AreBlanks behind_file
+  pub after_keyword : List TextUnit
+  pub after_file : List TextUnit
+  pub keyword : KeywordForm word us after_keyword
+  pub of_file : WordForm after_keyword file after_file
+  pub end : AreBlanks after_file
 
 -- `default` and paths, one at least
 pub record DefaultForm (us : List TextUnit) (targets : List WordText) : Type 0 where
-  pub behind_keyword : List TextUnit
-  pub behind_targets : List TextUnit
-  pub keyword : KeywordForm (codes "default") us behind_keyword
-  pub of_targets : WordsForm behind_keyword targets behind_targets
+  pub after_keyword : List TextUnit
+  pub after_targets : List TextUnit
+  pub keyword : KeywordForm (codes "default") us after_keyword
+  pub of_targets : WordsForm after_keyword targets after_targets
   pub some_target : is_empty targets ≡ false
-  pub end : AreBlanks behind_targets
+  pub end : AreBlanks after_targets
 
 -- the first line of a statement, by the manual's cases
 pub data HeadForm (l : Line) : HeadText → Type 0 where
-  binding : {name : NameText} {value : WordText} → BindingForm l.units l.end name value → list_any (bytes_eq name.name) keywords ≡ false → HeadForm l (Alone (BindingText name.name value))
+  binding : {name : NameText} {value : WordText} → BindingForm l.units l.end name value → list_any (bytes_eq name.name) keywords ≡ false
+      → HeadForm l (Alone (BindingText name.name value))
   rule : {name : NameText} → NamedForm (codes "rule") l.units name → HeadForm l (RuleHead name)
   pool : {name : NameText} → NamedForm (codes "pool") l.units name → HeadForm l (PoolHead name)
-  build : {outputs : OutputsText} {name : NameText} {inputs : InputsText} → BuildForm l.units outputs name inputs → HeadForm l (BuildHead outputs name inputs)
+  build : {outputs : OutputsText} {name : NameText} {inputs : InputsText} → BuildForm l.units outputs name inputs
+      → HeadForm l (BuildHead outputs name inputs)
   default : {targets : List WordText} → DefaultForm l.units targets → HeadForm l (Alone (DefaultText targets))
   include : {file : WordText} → FileForm (codes "include") l.units file → HeadForm l (Alone (IncludeText file))
   subninja : {file : WordText} → FileForm (codes "subninja") l.units file → HeadForm l (Alone (SubninjaText file))
@@ -192,13 +199,16 @@ pub record BlockLineForm (allowed : Keys) (l : Line) (line : LineText) : Type 0 
   pub binding : BindingForm l.units l.end (record { spot = line.spot; name = line.name }) line.value
   pub key : allows allowed line.name ≡ true
 
--- The lines of a block, and the lines behind it. Comments stand among them. The block ends before a line that is not
--- indented; where that is a blank one, behind it.
+-- The lines of a block, and the lines after it. Comments stand among them. The block ends before a line that is not
+-- indented, but after it if it is a blank one.
 pub data BlockForm (allowed : Keys) : List Line → List LineText → (rest : List Line) → Type 0 where
-  line : {l : Line} {ls rest : List Line} {first : LineText} {others : List LineText} → BlockLineForm allowed l first → BlockForm allowed (lines_behind l ls) others rest → BlockForm allowed (l ∷ ls) (first ∷ others) rest
-  comment : {l : Line} {ls rest : List Line} {lines : List LineText} → kind_of l ≡ CommentLine → l.is_last ≡ false → BlockForm allowed ls lines rest → BlockForm allowed (l ∷ ls) lines rest
-  -- (behind the last line of a text stand no others)
-  last_comment : {l : Line} {ls : List Line} → kind_of l ≡ CommentLine → l.is_last ≡ true → BlockForm allowed (l ∷ ls) [] (lines_behind l (without_comments ls))
+  line : {l : Line} {ls rest : List Line} {first : LineText} {others : List LineText} → BlockLineForm allowed l first
+      → BlockForm allowed (lines_behind l ls) others rest → BlockForm allowed (l ∷ ls) (first ∷ others) rest
+  comment : {l : Line} {ls rest : List Line} {lines : List LineText} → kind_of l ≡ CommentLine → l.is_last ≡ false
+      → BlockForm allowed ls lines rest → BlockForm allowed (l ∷ ls) lines rest
+  -- (no line follows the last of a text)
+  last_comment : {l : Line} {ls : List Line} → kind_of l ≡ CommentLine → l.is_last ≡ true
+      → BlockForm allowed (l ∷ ls) [] (lines_behind l (without_comments ls))
   blank : {l : Line} {ls : List Line} → kind_of l ≡ BlankLine → BlockForm allowed (l ∷ ls) [] (lines_behind l ls)
   plain : {l : Line} {ls : List Line} → kind_of l ≡ PlainLine → BlockForm allowed (l ∷ ls) [] (l ∷ ls)
   nothing : BlockForm allowed [] [] []
@@ -215,14 +225,18 @@ pub record Gives (key : List ℕ) (lines : List LineText) : Type 0 where
 
 -- ---- statements
 
--- a first line's statement, with the block that the lines behind it begin with
+-- a first line's statement, with the block that the lines after it begin with
 pub data StatementForm : HeadText → List Line → StatementText → (rest : List Line) → Type 0 where
   alone : {item : StatementText} {ls : List Line} → StatementForm (Alone item) ls item ls
   -- a rule gives its command, and of the two keys of a response file both or none
-  rule : {name : NameText} {ls rest : List Line} {lines : List LineText} → BlockForm keys.OfRule ls lines rest → Gives (codes "command") lines → (Gives (codes "rspfile") lines ↔ Gives (codes "rspfile_content") lines) → StatementForm (RuleHead name) ls (RuleText name lines) rest
+  rule : {name : NameText} {ls rest : List Line} {lines : List LineText} → BlockForm keys.OfRule ls lines rest
+      → Gives (codes "command") lines → (Gives (codes "rspfile") lines ↔ Gives (codes "rspfile_content") lines)
+      → StatementForm (RuleHead name) ls (RuleText name lines) rest
   -- a pool names its depth
-  pool : {name : NameText} {ls rest : List Line} {lines : List LineText} → BlockForm keys.OfPool ls lines rest → list_any (λ l. bytes_eq l.name (codes "depth")) lines ≡ true → StatementForm (PoolHead name) ls (PoolText name lines) rest
-  build : {outputs : OutputsText} {name : NameText} {inputs : InputsText} {ls rest : List Line} {lines : List LineText} → BlockForm keys.All ls lines rest → StatementForm (BuildHead outputs name inputs) ls (BuildText outputs name inputs lines) rest
+  pool : {name : NameText} {ls rest : List Line} {lines : List LineText} → BlockForm keys.OfPool ls lines rest
+      → list_any (λ l. bytes_eq l.name (codes "depth")) lines ≡ true → StatementForm (PoolHead name) ls (PoolText name lines) rest
+  build : {outputs : OutputsText} {name : NameText} {inputs : InputsText} {ls rest : List Line} {lines : List LineText}
+      → BlockForm keys.All ls lines rest → StatementForm (BuildHead outputs name inputs) ls (BuildText outputs name inputs lines) rest
 
 -- What the block of a rule or a pool lacks, though each of its lines has its form.
 pub data LackForm (spot : Spot) : HeadText → List Line → Fault → Type 0 where
@@ -235,13 +249,17 @@ pub data LackForm (spot : Spot) : HeadText → List Line → Fault → Type 0 wh
   depth : {name : NameText} {ls rest : List Line} {lines : List LineText} → BlockForm keys.OfPool ls lines rest
       → list_any (λ l. bytes_eq l.name (codes "depth")) lines ≡ false → LackForm spot (PoolHead name) ls (MissingDepth spot)
 
--- The next statement of some lines, and the lines behind it; or none. Comments and blank lines are passed.
+-- The next statement of some lines, and the lines after it; or none. Comments and blank lines are skipped.
 pub data NextForm : List Line → Option PlacedText → (rest : List Line) → Type 0 where
-  statement : {l : Line} {ls rest : List Line} {head : HeadText} {item : StatementText} → kind_of l ≡ PlainLine → HeadForm l head → StatementForm head (lines_behind l ls) item rest → NextForm (l ∷ ls) (Some (record { spot = line_spot l; item = item })) rest
-  blank : {l : Line} {ls rest : List Line} {found : Option PlacedText} → kind_of l ≡ BlankLine → l.is_last ≡ false → NextForm ls found rest → NextForm (l ∷ ls) found rest
-  comment : {l : Line} {ls rest : List Line} {found : Option PlacedText} → kind_of l ≡ CommentLine → l.is_last ≡ false → NextForm ls found rest → NextForm (l ∷ ls) found rest
+  statement : {l : Line} {ls rest : List Line} {head : HeadText} {item : StatementText} → kind_of l ≡ PlainLine → HeadForm l head
+      → StatementForm head (lines_behind l ls) item rest → NextForm (l ∷ ls) (Some (record { spot = line_spot l; item = item })) rest
+  blank : {l : Line} {ls rest : List Line} {found : Option PlacedText} → kind_of l ≡ BlankLine → l.is_last ≡ false
+      → NextForm ls found rest → NextForm (l ∷ ls) found rest
+  comment : {l : Line} {ls rest : List Line} {found : Option PlacedText} → kind_of l ≡ CommentLine → l.is_last ≡ false
+      → NextForm ls found rest → NextForm (l ∷ ls) found rest
   last_blank : {l : Line} {ls : List Line} → kind_of l ≡ BlankLine → l.is_last ≡ true → NextForm (l ∷ ls) None (lines_behind l ls)
-  last_comment : {l : Line} {ls : List Line} → kind_of l ≡ CommentLine → l.is_last ≡ true → NextForm (l ∷ ls) None (lines_behind l (without_comments ls))
+  last_comment : {l : Line} {ls : List Line} → kind_of l ≡ CommentLine → l.is_last ≡ true
+      → NextForm (l ∷ ls) None (lines_behind l (without_comments ls))
   nothing : NextForm [] None []
 
 -- The next statement of some lines has its first line, and lacks a line of its block. The fault stands where the
@@ -249,5 +267,7 @@ pub data NextForm : List Line → Option PlacedText → (rest : List Line) → T
 pub data NextLacks : List Line → Fault → Type 0 where
   statement : {l : Line} {ls : List Line} {head : HeadText} {fault : Fault} → kind_of l ≡ PlainLine → HeadForm l head
       → LackForm (line_spot l) head (lines_behind l ls) fault → NextLacks (l ∷ ls) fault
-  blank : {l : Line} {ls : List Line} {fault : Fault} → kind_of l ≡ BlankLine → l.is_last ≡ false → NextLacks ls fault → NextLacks (l ∷ ls) fault
-  comment : {l : Line} {ls : List Line} {fault : Fault} → kind_of l ≡ CommentLine → l.is_last ≡ false → NextLacks ls fault → NextLacks (l ∷ ls) fault
+  blank : {l : Line} {ls : List Line} {fault : Fault} → kind_of l ≡ BlankLine → l.is_last ≡ false → NextLacks ls fault
+      → NextLacks (l ∷ ls) fault
+  comment : {l : Line} {ls : List Line} {fault : Fault} → kind_of l ≡ CommentLine → l.is_last ≡ false → NextLacks ls fault
+      → NextLacks (l ∷ ls) fault

@@ -1,5 +1,5 @@
--- Where the first fault of some lines stands: a statement could go on from what is before it, and none goes on from
--- what is up to and with it.
+-- Where the first fault of some lines stands: what is before it is the beginning of some statement, and with the element
+-- at which it stands it is the beginning of none.
 use Rattle.std.specs.Prelude.{◌≡◌, ℕ, Bool, true, false, ◌||◌, ◌==◌, Some, Ok, Err, List, [], ◌∷◌, ◌++◌, map, take}
 use Rattle.std.specs.List.{take_while, list_all}
 use Rattle.nj_text.specs.declared.sign.Sign.TheVariants as sign
@@ -32,7 +32,7 @@ element_by false false us = take 1 us
 abbrev pub element : List TextUnit → List TextUnit
 element us = element_by (begins_identifier us) (is_sign sign.Pipe2 us || is_sign sign.PipeAt us) us
 
--- ---- lines that are written behind a front
+-- ---- lines that are written after a front
 
 -- a byte that stands for itself (its place stands for nothing here)
 abbrev pub written_unit : ℕ → TextUnit

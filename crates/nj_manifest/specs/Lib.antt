@@ -1,7 +1,9 @@
+pub mod Contents
 pub mod Faults
 pub mod Grammar
-pub mod Held
 pub mod Laws
 pub mod Leftmost
+pub mod LineSteps
+pub mod ParserContracts
+pub mod Parsers
 pub mod Statements
-pub mod Steps

@@ -6,14 +6,15 @@ use Rattle.nj_text.specs.declared.fault.UnitFault.TheVariants as lex
 use Rattle.nj_text.specs.declared.sign.Sign.TheVariants as sign
 use Rattle.nj_text.specs.declared.spot.Spot.{Spot}
 use Rattle.nj_text.specs.Bytes.{drop_while}
-use Rattle.nj_text.specs.Lines.{Line, line_spot, with_units, lines_behind, Kind, CommentLine, TabLine, BlankLine, IndentedLine, PlainLine, kind_of, is_space_unit}
+use Rattle.nj_text.specs.Lines.{Line, line_spot, with_units, lines_behind, Kind, CommentLine, TabLine, BlankLine, IndentedLine}
+use Rattle.nj_text.specs.Lines.{PlainLine, kind_of, is_space_unit}
 use Rattle.nj_text.specs.Words.{WordText}
 use Rattle.nj_text.specs.Calls.{State, Between, Inside, Failed, is_empty, path_word_of, value_of, spot_of, without_comments}
 use Rattle.nj_manifest.specs.declared.fault.Wanted.TheVariants as wanted
 use Rattle.nj_manifest.specs.declared.block.Keys.{Keys}
 use Rattle.nj_manifest.specs.declared.block.Keys.TheVariants as keys
 use Rattle.nj_manifest.specs.Faults.{Fault, Bad, Expected, UnexpectedIndent, MissingCommand, RspPair, UnknownKey, MissingDepth}
-use Rattle.nj_manifest.specs.Steps.{Step, ◌>>=◌, called, NameText, name_next, behind, words_next, section_next}
+use Rattle.nj_manifest.specs.LineSteps.{Step, ◌>>=◌, called, NameText, name_next, expect_sign, words_next, section_next}
 
 -- ---- block lines
 
@@ -26,7 +27,8 @@ pub record LineText : Type 0 where
 -- the keys of a rule
 abbrev pub rule_keys : List (List ℕ)
 rule_keys =
-    codes "command" ∷ codes "depfile" ∷ codes "deps" ∷ codes "msvc_deps_prefix" ∷ codes "description" ∷ codes "dyndep" ∷ codes "generator" ∷ codes "pool" ∷ codes "restat" ∷ codes "rspfile" ∷ codes "rspfile_content" ∷ []
+    codes "command" ∷ codes "depfile" ∷ codes "deps" ∷ codes "msvc_deps_prefix" ∷ codes "description" ∷ codes "dyndep"
+    ∷ codes "generator" ∷ codes "pool" ∷ codes "restat" ∷ codes "rspfile" ∷ codes "rspfile_content" ∷ []
 
 abbrev pub allows : Keys → List ℕ → Bool
 allows keys.OfRule key = list_any (bytes_eq key) rule_keys
@@ -40,12 +42,12 @@ if_allowed false key others = Err (UnknownKey key.spot key.name)
 -- `= VALUE`, to the end of the line
 unfoldable pub equals_value : State → Step WordText
 equals_value s = do
-  equals ← behind sign.Equals wanted.Equals s
+  equals ← expect_sign sign.Equals wanted.Equals s
   value ← called (value_of equals)
-  end ← behind sign.LineEnd wanted.Newline value.1
+  end ← expect_sign sign.LineEnd wanted.Newline value.1
   Ok (value.0, end)
 
--- a line of a block, behind its leading spaces
+-- a line of a block, after its leading spaces
 unfoldable pub line_next : Keys → State → Step LineText
 line_next allowed s = do
   key ← name_next wanted.VariableName s
@@ -58,21 +60,21 @@ lines_from (Between ls) = ls
 lines_from (Inside l ls) = l ∷ ls
 lines_from (Failed f) = []
 
--- what is read of lines, and the lines behind it
-abbrev pub Reading : Type 0 → Type 0
-Reading A = Result (A × List Line) Fault
+-- what is read of lines, and the lines after it
+abbrev pub Parsed : Type 0 → Type 0
+Parsed A = Result (A × List Line) Fault
 
--- behind the last line nothing is read of the others
+-- after the last line of a text nothing is read
 abbrev pub or_last : {A : Type 0} → Line → (last others : A) → A
 or_last l last others = if l.is_last then last else others
 
-abbrev pub no_lines : List Line → Reading (List LineText)
+abbrev pub no_lines : List Line → Parsed (List LineText)
 no_lines rest = Ok ([], rest)
 
 abbrev pub without_spaces : Line → Line
 without_spaces l = with_units (drop_while is_space_unit l.units) l
 
-abbrev pub block_by : Keys → Kind → Line → List Line → Reading (List LineText) → Reading (List LineText)
+abbrev pub block_by : Keys → Kind → Line → List Line → Parsed (List LineText) → Parsed (List LineText)
 block_by allowed CommentLine l ls others = or_last l (no_lines (lines_behind l (without_comments ls))) others
 block_by allowed (TabLine tab) l ls others = Err (Bad (lex.Tab tab))
 block_by allowed IndentedLine l ls others = do
@@ -83,8 +85,8 @@ block_by allowed BlankLine l ls others = no_lines (lines_behind l ls)
 block_by allowed PlainLine l ls others = no_lines (l ∷ ls)
 
 -- The lines of a block: those that are indented, and comments among them, up to the first line of another kind. A
--- blank line that ends them is passed.
-unfoldable pub block : Keys → List Line → Reading (List LineText)
+-- blank line that ends them is skipped.
+unfoldable pub block : Keys → List Line → Parsed (List LineText)
 block allowed [] = no_lines []
 block allowed (l ∷ ls) = block_by allowed (kind_of l) l ls (block allowed ls)
 
@@ -122,11 +124,11 @@ pub data HeadText : Type 0 where
   PoolHead : (name : NameText) → HeadText
   BuildHead : (outputs : OutputsText) (rule : NameText) (inputs : InputsText) → HeadText
 
--- behind `rule` or `pool`: a name and the end of the line
+-- after `rule` or `pool`: a name and the end of the line
 unfoldable pub name_alone : wanted.the_data → State → Step NameText
 name_alone want s = do
   name ← name_next want s
-  end ← behind sign.LineEnd wanted.Newline name.1
+  end ← expect_sign sign.LineEnd wanted.Newline name.1
   Ok (name.0, end)
 
 -- there has to be one
@@ -134,12 +136,13 @@ abbrev pub unless_none : {A : Type 0} → (none : Bool) → wanted.the_data → 
 unless_none true want s others = Err (Expected (spot_of s) want)
 unless_none false want s others = others
 
--- behind `build`: `OUTPUTS | IMPLICIT-OUTPUTS`
+-- after `build`: `OUTPUTS | IMPLICIT-OUTPUTS`
 unfoldable pub outputs_next : State → Step OutputsText
 outputs_next s = do
   explicit ← words_next s
   implicit ← section_next sign.Pipe explicit.1
-  unless_none (is_empty explicit.0 && is_empty implicit.0) wanted.Path implicit.1 (Ok (record { explicit = explicit.0; implicit = implicit.0 }, implicit.1))
+  unless_none (is_empty explicit.0 && is_empty implicit.0) wanted.Path implicit.1
+      (Ok (record { explicit = explicit.0; implicit = implicit.0 }, implicit.1))
 
 -- `INPUTS | IMPLICIT || ORDER-ONLY |@ VALIDATIONS`
 unfoldable pub inputs_next : State → Step InputsText
@@ -154,37 +157,37 @@ inputs_next s = do
 unfoldable pub build_next : State → Step HeadText
 build_next s = do
   outputs ← outputs_next s
-  colon ← behind sign.Colon wanted.Colon outputs.1
+  colon ← expect_sign sign.Colon wanted.Colon outputs.1
   rule ← name_next wanted.CommandName colon
   inputs ← inputs_next rule.1
-  end ← behind sign.LineEnd wanted.Newline inputs.1
+  end ← expect_sign sign.LineEnd wanted.Newline inputs.1
   Ok (BuildHead outputs.0 rule.0 inputs.0, end)
 
--- behind `default`
+-- after `default`: the targets
 unfoldable pub targets_next : State → Step (List WordText)
 targets_next s = do
   words ← words_next s
-  end ← unless_none (is_empty words.0) wanted.TargetName words.1 (behind sign.LineEnd wanted.Newline words.1)
+  end ← unless_none (is_empty words.0) wanted.TargetName words.1 (expect_sign sign.LineEnd wanted.Newline words.1)
   Ok (words.0, end)
 
 abbrev pub path_there : Option WordText → State → Step WordText
 path_there None after = Err (Expected (spot_of after) wanted.Path)
 path_there (Some word) after = Ok (word, after)
 
--- behind `include` or `subninja`
+-- after `include` or `subninja`: the file
 unfoldable pub file_next : State → Step WordText
 file_next s = do
   found ← called (path_word_of s)
   word ← path_there found.0 found.1
-  end ← behind sign.LineEnd wanted.Newline word.1
+  end ← expect_sign sign.LineEnd wanted.Newline word.1
   Ok (word.0, end)
 
 abbrev pub as_head : {A : Type 0} → (A → HeadText) → Step A → Step HeadText
 as_head head step = step >>= λ x. Ok (head x.0, x.1)
 
--- what stands behind the identifier with which a statement begins
-unfoldable pub head_behind : (word : List ℕ) → State → Step HeadText
-head_behind word s =
+-- what follows the identifier with which a statement begins
+unfoldable pub head_after : (word : List ℕ) → State → Step HeadText
+head_after word s =
     if bytes_eq word (codes "build") then build_next s
     else (if bytes_eq word (codes "rule") then as_head RuleHead (name_alone wanted.RuleName s)
     else (if bytes_eq word (codes "pool") then as_head PoolHead (name_alone wanted.PoolName s)
@@ -197,14 +200,15 @@ head_behind word s =
 unfoldable pub head_next : State → Step HeadText
 head_next s = do
   word ← name_next wanted.Statement s
-  head_behind word.0.name word.1
+  head_after word.0.name word.1
 
 -- ---- what a block has to give
 
 -- whether the last line of this key has a value with a part at least
 abbrev pub gives : (key : List ℕ) → List LineText → Bool
 gives key [] = false
-gives key (l ∷ ls) = if bytes_eq l.name key && not (list_any (λ m. bytes_eq m.name key) ls) then not (is_empty l.value.parts) else gives key ls
+gives key (l ∷ ls) =
+    if bytes_eq l.name key && not (list_any (λ m. bytes_eq m.name key) ls) then not (is_empty l.value.parts) else gives key ls
 
 -- whether a line has this key
 abbrev pub names : (key : List ℕ) → List LineText → Bool
@@ -230,7 +234,7 @@ whole_pool spot lines = unless_missing (names (codes "depth") lines) (MissingDep
 -- ---- the next statement
 
 -- a statement with its block
-abbrev pub with_block : Spot → HeadText → List Line → Reading StatementText
+abbrev pub with_block : Spot → HeadText → List Line → Parsed StatementText
 with_block spot (Alone item) ls = Ok (item, ls)
 with_block spot (RuleHead name) ls = do
   lines ← block keys.OfRule ls
@@ -244,28 +248,28 @@ with_block spot (BuildHead outputs rule inputs) ls = do
   lines ← block keys.All ls
   Ok (BuildText outputs rule inputs lines.0, lines.1)
 
-unfoldable pub statement_at : Line → List Line → Reading (Option PlacedText)
+unfoldable pub statement_at : Line → List Line → Parsed (Option PlacedText)
 statement_at l ls = do
   head ← head_next (Inside l ls)
   item ← with_block (line_spot l) head.0 (lines_from head.1)
   Ok (Some (record { spot = line_spot l; item = item.0 }), item.1)
 
-abbrev pub nothing_more : List Line → Reading (Option PlacedText)
+abbrev pub nothing_more : List Line → Parsed (Option PlacedText)
 nothing_more rest = Ok (None, rest)
 
 -- the first column of an indented line
 abbrev pub front_of : Line → Spot
 front_of l = record { line = (line_spot (without_spaces l)).line; column = 1 }
 
-abbrev pub next_by : Kind → Line → List Line → Reading (Option PlacedText) → Reading (Option PlacedText)
+abbrev pub next_by : Kind → Line → List Line → Parsed (Option PlacedText) → Parsed (Option PlacedText)
 next_by CommentLine l ls others = or_last l (nothing_more (lines_behind l (without_comments ls))) others
 next_by (TabLine tab) l ls others = Err (Bad (lex.Tab tab))
 next_by IndentedLine l ls others = Err (UnexpectedIndent (front_of l))
 next_by BlankLine l ls others = or_last l (nothing_more (lines_behind l ls)) others
 next_by PlainLine l ls others = statement_at l ls
 
--- the next statement of the lines, if there is one, and the lines behind it
-unfoldable pub next_statement : List Line → Reading (Option PlacedText)
+-- the next statement of the lines, if there is one, and the lines after it
+unfoldable pub next_statement : List Line → Parsed (Option PlacedText)
 next_statement [] = nothing_more []
 next_statement (l ∷ ls) = next_by (kind_of l) l ls (next_statement ls)
 

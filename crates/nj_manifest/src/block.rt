@@ -2,13 +2,14 @@
 
 ghost use Rattle.std.specs.Prelude.{◌≡◌, map};
 ghost use Rattle.nj_text.specs.Words.{word_text};
-ghost use Rattle.nj_manifest.specs.Steps.{Reads};
+ghost use Rattle.nj_manifest.specs.ParserContracts.{TakesStep};
 ghost use Rattle.nj_manifest.specs.Statements.{allows, equals_value, line_next, block, names, gives, whole_rule, whole_pool};
-ghost use Rattle.nj_manifest.specs.Held.{line_text, lines_text, ReadsFrom, Wholes};
+ghost use Rattle.nj_manifest.specs.Contents.{line_text, lines_text};
+ghost use Rattle.nj_manifest.specs.ParserContracts.{ParsesFrom, Wholes};
 
 use crate::fault::{ParseFault, Wanted};
 use crate::statement::Line;
-use crate::steps::{behind, name_next};
+use crate::steps::{expect_sign, name_next};
 use nj_text::{Lexer, LineStart, Sign, Spot, Word};
 use std::alloc::Global;
 
@@ -54,22 +55,22 @@ fn is_rule_key(key: &[u8]) -> bool
 /// `= VALUE`, to the end of the line.
 #[tactic(auto, unfolding(crate::specs::Statements::equals_value))]
 pub fn equals_value<'a>(alloc: Global, lexer: &mut Lexer<'a>) -> Result<Word<'a>, ParseFault<'a>>
-    ensures { Reads word_text result lexer.new (equals_value lexer.old) }
+    ensures { TakesStep word_text result lexer.new (equals_value lexer.old) }
 {
-    behind(lexer, Sign::Equals, Wanted::Equals)?;
+    expect_sign(lexer, Sign::Equals, Wanted::Equals)?;
     let value = lexer.value(alloc)?;
-    behind(lexer, Sign::LineEnd, Wanted::Newline)?;
+    expect_sign(lexer, Sign::LineEnd, Wanted::Newline)?;
     Ok(value)
 }
 
-/// A line of a block, behind its leading spaces.
+/// A line of a block, after its leading spaces.
 #[tactic(auto, unfolding(crate::specs::Statements::line_next))]
 fn line_next<'a>(
     alloc: Global,
     lexer: &mut Lexer<'a>,
     allowed: Keys,
 ) -> Result<Line<'a>, ParseFault<'a>>
-    ensures { Reads line_text result lexer.new (line_next allowed lexer.old) }
+    ensures { TakesStep line_text result lexer.new (line_next allowed lexer.old) }
 {
     let key = name_next(lexer, Wanted::VariableName)?;
     if !allows(allowed, key.name) {
@@ -89,7 +90,8 @@ pub fn block<'a>(
     lexer: &mut Lexer<'a>,
     allowed: Keys,
 ) -> Result<Vec<Line<'a>>, ParseFault<'a>>
-    ensures { ReadsFrom (λ lines. lines_text lines.items) lexer.old lexer.new (block allowed) result }
+    ensures { ParsesFrom (λ lines. lines_text lines.items) lexer.old lexer.new
+        (block allowed) result }
 {
     let mut lines = Vec::new(alloc);
     'lines: while let LineStart::Indented = lexer.start_line()? {

@@ -14,21 +14,21 @@ use std::alloc::{AllocError, AllocFailed};
 pub enum Wanted {
     /// A statement's first identifier, at a line's start.
     Statement,
-    /// The name behind `rule`.
+    /// The name after `rule`.
     RuleName,
-    /// The name behind `pool`.
+    /// The name after `pool`.
     PoolName,
-    /// An output behind `build`, or the file behind `include` or `subninja`.
+    /// An output after `build`, or the file after `include` or `subninja`.
     Path,
-    /// The `:` behind the outputs.
+    /// The `:` after the outputs.
     Colon,
-    /// The rule's name behind the `:`.
+    /// The rule's name after the `:`.
     CommandName,
-    /// A target behind `default`.
+    /// A target after `default`.
     TargetName,
     /// The identifier of a block line.
     VariableName,
-    /// The `=` behind the identifier of a binding or a block line.
+    /// The `=` after the identifier of a binding or a block line.
     Equals,
     /// The end of the line.
     Newline,
@@ -58,7 +58,7 @@ impl Wanted {
 /// is named.
 #[derive(Clone, Copy, Debug, PartialEq, Eq)]
 pub enum ParseFault<'a> {
-    /// A bad unit, or want of memory.
+    /// A bad unit, or out of memory.
     Lex(LexFault),
     /// Something else stands where this is wanted.
     Expected(Spot, Wanted),

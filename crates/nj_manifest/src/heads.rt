@@ -2,13 +2,14 @@
 
 ghost use Rattle.std.specs.Prelude.{◌≡◌, map};
 ghost use Rattle.nj_text.specs.Words.{word_text};
-ghost use Rattle.nj_manifest.specs.Steps.{Reads, name_text};
-ghost use Rattle.nj_manifest.specs.Statements.{name_alone, outputs_next, inputs_next, build_next, targets_next, file_next, head_behind, head_next};
-ghost use Rattle.nj_manifest.specs.Held.{words_text, outputs_text, inputs_text, head_text};
+ghost use Rattle.nj_manifest.specs.ParserContracts.{TakesStep};
+ghost use Rattle.nj_manifest.specs.Contents.{name_text};
+ghost use Rattle.nj_manifest.specs.Statements.{name_alone, outputs_next, inputs_next, build_next, targets_next, file_next, head_after, head_next};
+ghost use Rattle.nj_manifest.specs.Contents.{words_text, outputs_text, inputs_text, head_text};
 
 use crate::block::equals_value;
 use crate::fault::{ParseFault, Wanted};
-use crate::steps::{Name, behind, name_next, section_next, words_next};
+use crate::steps::{Name, expect_sign, name_next, section_next, words_next};
 use nj_text::{Lexer, Sign, Word};
 use std::alloc::Global;
 
@@ -47,20 +48,20 @@ pub enum Head<'a> {
     Subninja(Word<'a>),
 }
 
-/// Behind `rule` or `pool`: a name and the end of the line.
+/// After `rule` or `pool`: a name and the end of the line.
 #[tactic(auto, unfolding(crate::specs::Statements::name_alone))]
 fn name_alone<'a>(lexer: &mut Lexer<'a>, wanted: Wanted) -> Result<Name<'a>, ParseFault<'a>>
-    ensures { Reads name_text result lexer.new (name_alone wanted lexer.old) }
+    ensures { TakesStep name_text result lexer.new (name_alone wanted lexer.old) }
 {
     let name = name_next(lexer, wanted)?;
-    behind(lexer, Sign::LineEnd, Wanted::Newline)?;
+    expect_sign(lexer, Sign::LineEnd, Wanted::Newline)?;
     Ok(name)
 }
 
-/// Behind `build`: `OUTPUTS | IMPLICIT-OUTPUTS`.
+/// After `build`: `OUTPUTS | IMPLICIT-OUTPUTS`.
 #[tactic(auto, unfolding(crate::specs::Statements::outputs_next))]
 fn outputs_next<'a>(alloc: Global, lexer: &mut Lexer<'a>) -> Result<Outputs<'a>, ParseFault<'a>>
-    ensures { Reads outputs_text result lexer.new (outputs_next lexer.old) }
+    ensures { TakesStep outputs_text result lexer.new (outputs_next lexer.old) }
 {
     let explicit = words_next(alloc, lexer)?;
     let implicit = section_next(alloc, lexer, Sign::Pipe)?;
@@ -73,7 +74,7 @@ fn outputs_next<'a>(alloc: Global, lexer: &mut Lexer<'a>) -> Result<Outputs<'a>,
 /// `INPUTS | IMPLICIT || ORDER-ONLY |@ VALIDATIONS`.
 #[tactic(auto, unfolding(crate::specs::Statements::inputs_next))]
 fn inputs_next<'a>(alloc: Global, lexer: &mut Lexer<'a>) -> Result<Inputs<'a>, ParseFault<'a>>
-    ensures { Reads inputs_text result lexer.new (inputs_next lexer.old) }
+    ensures { TakesStep inputs_text result lexer.new (inputs_next lexer.old) }
 {
     let explicit = words_next(alloc, lexer)?;
     let implicit = section_next(alloc, lexer, Sign::Pipe)?;
@@ -90,51 +91,52 @@ fn inputs_next<'a>(alloc: Global, lexer: &mut Lexer<'a>) -> Result<Inputs<'a>, P
 /// `OUTPUTS : RULE INPUTS`.
 #[tactic(auto, unfolding(crate::specs::Statements::build_next))]
 fn build_next<'a>(alloc: Global, lexer: &mut Lexer<'a>) -> Result<Head<'a>, ParseFault<'a>>
-    ensures { Reads head_text result lexer.new (build_next lexer.old) }
+    ensures { TakesStep head_text result lexer.new (build_next lexer.old) }
 {
     let outputs = outputs_next(alloc, lexer)?;
-    behind(lexer, Sign::Colon, Wanted::Colon)?;
+    expect_sign(lexer, Sign::Colon, Wanted::Colon)?;
     let rule = name_next(lexer, Wanted::CommandName)?;
     let inputs = inputs_next(alloc, lexer)?;
-    behind(lexer, Sign::LineEnd, Wanted::Newline)?;
+    expect_sign(lexer, Sign::LineEnd, Wanted::Newline)?;
     Ok(Head::Build(outputs, rule, inputs))
 }
 
-/// Behind `default`.
+/// After `default`: the targets.
 #[tactic(auto, unfolding(crate::specs::Statements::targets_next))]
 fn targets_next<'a>(alloc: Global, lexer: &mut Lexer<'a>) -> Result<Vec<Word<'a>>, ParseFault<'a>>
-    ensures { Reads (λ words. words_text words.items) result lexer.new (targets_next lexer.old) }
+    ensures { TakesStep (λ words. words_text words.items) result lexer.new
+        (targets_next lexer.old) }
 {
     let words = words_next(alloc, lexer)?;
     if words.is_empty() {
         return Err(ParseFault::Expected(lexer.spot(), Wanted::TargetName));
     }
-    behind(lexer, Sign::LineEnd, Wanted::Newline)?;
+    expect_sign(lexer, Sign::LineEnd, Wanted::Newline)?;
     Ok(words)
 }
 
-/// Behind `include` or `subninja`.
+/// After `include` or `subninja`: the file.
 #[tactic(auto, unfolding(crate::specs::Statements::file_next))]
 fn file_next<'a>(alloc: Global, lexer: &mut Lexer<'a>) -> Result<Word<'a>, ParseFault<'a>>
-    ensures { Reads word_text result lexer.new (file_next lexer.old) }
+    ensures { TakesStep word_text result lexer.new (file_next lexer.old) }
 {
     match lexer.path_word(alloc)? {
         None => Err(ParseFault::Expected(lexer.spot(), Wanted::Path)),
         Some(word) => {
-            behind(lexer, Sign::LineEnd, Wanted::Newline)?;
+            expect_sign(lexer, Sign::LineEnd, Wanted::Newline)?;
             Ok(word)
         }
     }
 }
 
-/// What stands behind the identifier with which a statement begins.
-#[tactic(auto, unfolding(crate::specs::Statements::head_behind))]
-fn head_behind<'a>(
+/// What follows the identifier with which a statement begins.
+#[tactic(auto, unfolding(crate::specs::Statements::head_after))]
+fn head_after<'a>(
     alloc: Global,
     lexer: &mut Lexer<'a>,
     word: &'a [u8],
 ) -> Result<Head<'a>, ParseFault<'a>>
-    ensures { Reads head_text result lexer.new (head_behind word.now lexer.old) }
+    ensures { TakesStep head_text result lexer.new (head_after word.now lexer.old) }
 {
     if word == b"build".as_slice() {
         build_next(alloc, lexer)
@@ -156,8 +158,8 @@ fn head_behind<'a>(
 /// The first line of a statement.
 #[tactic(auto, unfolding(crate::specs::Statements::head_next))]
 pub fn head_next<'a>(alloc: Global, lexer: &mut Lexer<'a>) -> Result<Head<'a>, ParseFault<'a>>
-    ensures { Reads head_text result lexer.new (head_next lexer.old) }
+    ensures { TakesStep head_text result lexer.new (head_next lexer.old) }
 {
     let word = name_next(lexer, Wanted::Statement)?;
-    head_behind(alloc, lexer, word.name)
+    head_after(alloc, lexer, word.name)
 }

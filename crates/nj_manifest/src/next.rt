@@ -2,9 +2,11 @@
 
 ghost use Rattle.std.specs.Prelude.{◌≡◌, map, Some, option_map};
 ghost use Rattle.nj_text.specs.Words.{word_text};
-ghost use Rattle.nj_manifest.specs.Steps.{Reads, name_text};
+ghost use Rattle.nj_manifest.specs.ParserContracts.{TakesStep};
+ghost use Rattle.nj_manifest.specs.Contents.{name_text};
 ghost use Rattle.nj_manifest.specs.Statements.{with_block, statement_at, next_statement};
-ghost use Rattle.nj_manifest.specs.Held.{head_text, statement_text, placed_text, ReadsFrom, ReadsAt, ReadsNext, Stands};
+ghost use Rattle.nj_manifest.specs.Contents.{head_text, statement_text, placed_text};
+ghost use Rattle.nj_manifest.specs.ParserContracts.{ParsesFrom, ParsesAt, ParsesNext, IsBetweenStatements};
 
 use crate::block::{Keys, block, whole_pool, whole_rule};
 use crate::fault::ParseFault;
@@ -22,7 +24,8 @@ fn rule_with_block<'a>(
     spot: Spot,
     name: Name<'a>,
 ) -> Result<Statement<'a>, ParseFault<'a>>
-    ensures { ReadsFrom statement_text lexer.old lexer.new (with_block spot (head_text (Head.Rule name.entry))) result }
+    ensures { ParsesFrom statement_text lexer.old lexer.new
+        (with_block spot (head_text (Head.Rule name.entry))) result }
 {
     let lines = block(alloc, lexer, Keys::OfRule)?;
     whole_rule(spot, &lines)?;
@@ -41,7 +44,8 @@ fn pool_with_block<'a>(
     spot: Spot,
     name: Name<'a>,
 ) -> Result<Statement<'a>, ParseFault<'a>>
-    ensures { ReadsFrom statement_text lexer.old lexer.new (with_block spot (head_text (Head.Pool name.entry))) result }
+    ensures { ParsesFrom statement_text lexer.old lexer.new
+        (with_block spot (head_text (Head.Pool name.entry))) result }
 {
     let lines = block(alloc, lexer, Keys::OfPool)?;
     whole_pool(spot, &lines)?;
@@ -61,7 +65,8 @@ fn build_with_block<'a>(
     rule: Name<'a>,
     inputs: Inputs<'a>,
 ) -> Result<Statement<'a>, ParseFault<'a>>
-    ensures { (spot : Spot) → ReadsFrom statement_text lexer.old lexer.new (with_block spot (head_text (Head.Build outputs.entry rule.entry inputs.entry))) result }
+    ensures { (spot : Spot) → ParsesFrom statement_text lexer.old lexer.new
+        (with_block spot (head_text (Head.Build outputs.entry rule.entry inputs.entry))) result }
 {
     let lines = block(alloc, lexer, Keys::All)?;
     Ok(Statement::Build {
@@ -85,7 +90,8 @@ fn with_block<'a>(
     spot: Spot,
     head: Head<'a>,
 ) -> Result<Statement<'a>, ParseFault<'a>>
-    ensures { ReadsFrom statement_text lexer.old lexer.new (with_block spot (head_text head.entry)) result }
+    ensures { ParsesFrom statement_text lexer.old lexer.new
+        (with_block spot (head_text head.entry)) result }
 {
     match head {
         Head::Binding(name, value) => Ok(Statement::Binding { name, value }),
@@ -106,7 +112,7 @@ fn statement_at<'a>(
     alloc: Global,
     lexer: &mut Lexer<'a>,
 ) -> Result<Option<Placed<Statement<'a>>>, ParseFault<'a>>
-    ensures { ReadsAt (option_map placed_text) lexer.old lexer.new statement_at result }
+    ensures { ParsesAt (option_map placed_text) lexer.old lexer.new statement_at result }
 {
     let spot = lexer.spot();
     let head = head_next(alloc, lexer)?;
@@ -119,8 +125,8 @@ pub fn next_statement<'a>(
     alloc: Global,
     lexer: &mut Lexer<'a>,
 ) -> Result<Option<Placed<Statement<'a>>>, ParseFault<'a>>
-    requires { Stands lexer.old }
-    ensures { ReadsNext (option_map placed_text) lexer.old lexer.new next_statement result }
+    requires { IsBetweenStatements lexer.old }
+    ensures { ParsesNext (option_map placed_text) lexer.old lexer.new next_statement result }
 {
     'lines: loop {
         match lexer.start_line()? {

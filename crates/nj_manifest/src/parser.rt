@@ -2,7 +2,8 @@
 
 ghost use Rattle.std.specs.Prelude.{◌≡◌, true};
 ghost use Rattle.nj_manifest.specs.Statements.{Lines};
-ghost use Rattle.nj_manifest.specs.Held.{stands_unless, IsNext};
+ghost use Rattle.nj_manifest.specs.ParserContracts.{is_between_unless};
+ghost use Rattle.nj_manifest.specs.Parsers.{IsNext};
 ghost use Rattle.nj_text.specs.Lines.{text_lines};
 
 use crate::fault::ParseFault;
@@ -19,7 +20,7 @@ use std::marker::Model;
 pub struct Parser<'a> {
     lexer: Lexer<'a>,
     refused: Option<ParseFault<'a>>,
-    ghost stands: { stands_unless refused lexer ≡ true },
+    ghost between: { is_between_unless refused lexer ≡ true },
 }
 
 impl<'a> Model for Parser<'a> {
@@ -27,7 +28,7 @@ impl<'a> Model for Parser<'a> {
 
     ghost Value = { Left };
 
-    ghost use Rattle.nj_manifest.specs.Held.{left_of};
+    ghost use Rattle.nj_manifest.specs.ParserContracts.{left_of};
 
     ghost view = { λ parser. left_of parser.refused parser.lexer };
 }
@@ -43,8 +44,12 @@ impl<'a> Parser<'a> {
         }
     }
 
-    /// The next statement with its block, at the place of its first byte; none at the end of the text. A fault is
-    /// answered again by every later call, and so is want of memory.
+    /// The next statement with its block, at the place of its first byte; `None` at the end of the text, and from then
+    /// on by every call.
+    ///
+    /// # Errors
+    ///
+    /// The first fault of the text, or out of memory. Every later call returns the same error.
     pub fn next_statement(
         &mut self,
         alloc: Global,

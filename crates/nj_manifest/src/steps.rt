@@ -1,8 +1,10 @@
-//! Reading on within a line.
+//! Reading on along a line.
 
 ghost use Rattle.std.specs.Prelude.{◌≡◌, map};
 ghost use Rattle.nj_text.specs.Words.{word_text};
-ghost use Rattle.nj_manifest.specs.Steps.{Reads, LeadsTo, name_text, name_next, behind, words_next, section_next};
+ghost use Rattle.nj_manifest.specs.ParserContracts.{TakesStep, LeadsTo};
+ghost use Rattle.nj_manifest.specs.Contents.{name_text};
+ghost use Rattle.nj_manifest.specs.LineSteps.{name_next, expect_sign, words_next, section_next};
 
 use crate::fault::{ParseFault, Wanted};
 use nj_text::{Lexer, Sign, Spot, Word};
@@ -16,9 +18,9 @@ pub struct Name<'a> {
 }
 
 /// An identifier.
-#[tactic(auto, unfolding(crate::specs::Steps::name_next))]
+#[tactic(auto, unfolding(crate::specs::LineSteps::name_next))]
 pub fn name_next<'a>(lexer: &mut Lexer<'a>, wanted: Wanted) -> Result<Name<'a>, ParseFault<'a>>
-    ensures { Reads name_text result lexer.new (name_next wanted lexer.old) }
+    ensures { TakesStep name_text result lexer.new (name_next wanted lexer.old) }
 {
     lexer.skip_blanks();
     let spot = lexer.spot();
@@ -28,10 +30,14 @@ pub fn name_next<'a>(lexer: &mut Lexer<'a>, wanted: Wanted) -> Result<Name<'a>, 
     }
 }
 
-/// Passes a sign that has to stand there.
-#[tactic(auto, unfolding(crate::specs::Steps::behind))]
-pub fn behind<'a>(lexer: &mut Lexer<'a>, want: Sign, wanted: Wanted) -> Result<(), ParseFault<'a>>
-    ensures { LeadsTo result lexer.new (behind want wanted lexer.old) }
+/// Takes a sign that has to stand there.
+#[tactic(auto, unfolding(crate::specs::LineSteps::expect_sign))]
+pub fn expect_sign<'a>(
+    lexer: &mut Lexer<'a>,
+    want: Sign,
+    wanted: Wanted,
+) -> Result<(), ParseFault<'a>>
+    ensures { LeadsTo result lexer.new (expect_sign want wanted lexer.old) }
 {
     if lexer.sign(want)? {
         return Ok(());
@@ -39,9 +45,10 @@ pub fn behind<'a>(lexer: &mut Lexer<'a>, want: Sign, wanted: Wanted) -> Result<(
     Err(ParseFault::Expected(lexer.spot(), wanted))
 }
 
-/// The words from here on, up to what is none.
+/// The words from here on, up to what is no word.
 pub fn words_next<'a>(alloc: Global, lexer: &mut Lexer<'a>) -> Result<Vec<Word<'a>>, ParseFault<'a>>
-    ensures { Reads (λ words. map word_text words.items) result lexer.new (words_next lexer.old) }
+    ensures { TakesStep (λ words. map word_text words.items) result lexer.new
+        (words_next lexer.old) }
 {
     let mut words = Vec::new(alloc);
     'words: while let Some(word) = lexer.path_word(alloc)? {
@@ -50,14 +57,15 @@ pub fn words_next<'a>(alloc: Global, lexer: &mut Lexer<'a>) -> Result<Vec<Word<'
     Ok(words)
 }
 
-/// The words of a section that begins with this sign, and none where the sign is not there.
-#[tactic(auto, unfolding(crate::specs::Steps::section_next))]
+/// The words of a section that begins with this sign; none if the sign is not there.
+#[tactic(auto, unfolding(crate::specs::LineSteps::section_next))]
 pub fn section_next<'a>(
     alloc: Global,
     lexer: &mut Lexer<'a>,
     want: Sign,
 ) -> Result<Vec<Word<'a>>, ParseFault<'a>>
-    ensures { Reads (λ words. map word_text words.items) result lexer.new (section_next want lexer.old) }
+    ensures { TakesStep (λ words. map word_text words.items) result lexer.new
+        (section_next want lexer.old) }
 {
     if lexer.sign(want)? {
         return words_next(alloc, lexer);

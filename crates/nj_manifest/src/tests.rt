@@ -21,7 +21,7 @@ fn put_word(text: &mut String, word: &Word<'_>) -> Result<(), AllocError> {
     Ok(())
 }
 
-/// Words behind their sign; nothing where there are none.
+/// Words after their sign; nothing if there are none.
 fn put_words(text: &mut String, sign: &str, words: &[Word<'_>]) -> Result<(), AllocError> {
     if !words.is_empty() {
         text.push_str(sign)?;
@@ -116,7 +116,7 @@ fn put_item(text: &mut String, item: &Statement<'_>) -> Result<(), AllocError> {
     }
 }
 
-/// The first statements of a text, a line each, and the fault behind them.
+/// The first statements of a text, a line each, and the fault after them.
 fn listed<'a>(
     alloc: Global,
     parser: &mut Parser<'a>,
@@ -142,18 +142,18 @@ fn reads(rt: &impl Abort, alloc: Global, text: &[u8], want: &str) -> Result<(), 
     let mut parser = Parser::new(text);
     let (found, fault) = listed(alloc, &mut parser)?;
     assert_eq!(rt; found.as_str(), want);
-    assert_eq!(rt; fault, None, "behind {want}");
+    assert_eq!(rt; fault, None, "after {want}");
     for _ in 0..2 {
         assert!(rt;
             matches!(parser.next_statement(alloc), Ok(None)),
-            "behind {want}"
+            "after {want}"
         );
     }
     Ok(())
 }
 
-/// The text's front has these statements, and behind them this fault, for good.
-fn refuses_behind(
+/// The text's front has these statements, and after them this fault, for good.
+fn refuses_after(
     rt: &impl Abort,
     alloc: Global,
     text: &[u8],
@@ -392,7 +392,7 @@ fn bad_units(rt: HostRuntime) -> Result<(), Fail> {
         (b"build a: r\rb", bad_byte(1, 11)),
         (b"# \r\0\ndefault a \r", bad_byte(2, 11)),
     ] {
-        refuses_behind(&rt, rt.alloc(), text, "", fault)?;
+        refuses_after(&rt, rt.alloc(), text, "", fault)?;
     }
     Ok(())
 }
@@ -414,7 +414,7 @@ fn wanted_names_and_words(rt: HostRuntime) -> Result<(), Fail> {
         (b"default", expected(1, 8, Wanted::TargetName)),
         (b"default : a", expected(1, 9, Wanted::TargetName)),
     ] {
-        refuses_behind(&rt, rt.alloc(), text, "", fault)?;
+        refuses_after(&rt, rt.alloc(), text, "", fault)?;
     }
     Ok(())
 }
@@ -431,7 +431,7 @@ fn wanted_signs(rt: HostRuntime) -> Result<(), Fail> {
         (b"default a : b", expected(1, 11, Wanted::Newline)),
         (b"include a b", expected(1, 11, Wanted::Newline)),
     ] {
-        refuses_behind(&rt, rt.alloc(), text, "", fault)?;
+        refuses_after(&rt, rt.alloc(), text, "", fault)?;
     }
     Ok(())
 }
@@ -453,13 +453,13 @@ fn faults_of_blocks(rt: HostRuntime) -> Result<(), Fail> {
         (b"pool p", no_depth(1, 1)),
         (b"# c\npool p\nx = 1", no_depth(2, 1)),
     ] {
-        refuses_behind(&rt, rt.alloc(), text, "", fault)?;
+        refuses_after(&rt, rt.alloc(), text, "", fault)?;
     }
     Ok(())
 }
 
 #[test]
-fn faults_behind_statements(rt: HostRuntime) -> Result<(), Fail> {
+fn faults_after_statements(rt: HostRuntime) -> Result<(), Fail> {
     for (text, want, fault) in [
         (
             b"build a: r\n  x = 1\n\n  y = 2\n".as_slice(),
@@ -474,7 +474,7 @@ fn faults_behind_statements(rt: HostRuntime) -> Result<(), Fail> {
         ),
         (b"x =\n\0y = 2\n", "1:1 x = 1:4\n", bad_byte(2, 1)),
     ] {
-        refuses_behind(&rt, rt.alloc(), text, want, fault)?;
+        refuses_after(&rt, rt.alloc(), text, want, fault)?;
     }
     Ok(())
 }

@@ -5,17 +5,18 @@ use Rattle.nj_text.specs.Lines.{Line, text_lines}
 use Rattle.nj_manifest.specs.declared.statement.Placed.{Placed}
 use Rattle.nj_manifest.specs.declared.statement.Statement.{Statement}
 use Rattle.nj_manifest.specs.Statements.{StatementText, BindingText, RuleText, PoolText, BuildText, DefaultText, IncludeText, SubninjaText, PlacedText, next_statement, Left, Lines, Refused}
-use Rattle.nj_manifest.specs.Held.{statement_text, placed_text, IsNext}
+use Rattle.nj_manifest.specs.Contents.{statement_text, placed_text}
+use Rattle.nj_manifest.specs.Parsers.{IsNext}
 use Rattle.nj_manifest.proofs.Starts.{ahead}
 use Rattle.parse_bench.specs.declared.counts.Counts.{Counts}
-use Rattle.parse_bench.specs.Counting.{Stand, counts_of, counted, total, number_of, is_binding, is_rule, is_pool, is_build, is_default, is_include, is_subninja}
+use Rattle.parse_bench.specs.Counting.{ComeNext, counts_of, counted, total, number_of, is_binding, is_rule, is_pool, is_build, is_default, is_include, is_subninja}
 use Rattle.nj_manifest.proofs.Consumed.{statement_takes, text_has_bytes}
 
 -- ---- one statement more
 
-Stand-last : (ls : List Line) (ss : List PlacedText) (behind rest : List Line) (s : PlacedText) → Stand ls ss behind → next_statement behind ≡ Ok (Some s, rest) → Stand ls (ss ++ s ∷ []) rest
-Stand-last ls [] behind rest s h e = (rest, ap next_statement h ∙ e, refl)
-Stand-last ls (t ∷ ts) behind rest s h e = (h.0, h.1, Stand-last h.0 ts behind rest s h.2 e)
+ComeNext-last : (ls : List Line) (ss : List PlacedText) (behind rest : List Line) (s : PlacedText) → ComeNext ls ss behind → next_statement behind ≡ Ok (Some s, rest) → ComeNext ls (ss ++ s ∷ []) rest
+ComeNext-last ls [] behind rest s h e = (rest, ap next_statement h ∙ e, refl)
+ComeNext-last ls (t ∷ ts) behind rest s h e = (h.0, h.1, ComeNext-last h.0 ts behind rest s h.2 e)
 
 number-last : (is_kind : StatementText → Bool) (ss : List PlacedText) (s : PlacedText) → number_of is_kind (ss ++ s ∷ []) ≡ number_of is_kind ss + cond (is_kind s.item) 1 0
 number-last is_kind ss s = sum_by-append (λ t. cond (is_kind t.item) 1 0) ss (s ∷ []) ∙ ap (λ n. number_of is_kind ss + n) (zero-add (cond (is_kind s.item) 1 0))
@@ -58,7 +59,7 @@ total-counted (SubninjaText word) n = omega arith
 
 -- What was counted stands before what is left, and there is room for the rest.
 abbrev pub StandsAt : (lines : List Line) → (size : ℕ) → Counts → Left → Type 0
-StandsAt lines size n (Lines rest) = (ss : List PlacedText) × Stand lines ss rest × (n ≡ counts_of ss) × (total n + ahead rest ≤ size)
+StandsAt lines size n (Lines rest) = (ss : List PlacedText) × ComeNext lines ss rest × (n ≡ counts_of ss) × (total n + ahead rest ≤ size)
 StandsAt lines size n (Refused fault) = ⊥
 
 abbrev pub lines_left : Left → ℕ
@@ -81,7 +82,7 @@ turn lines size n (Lines ls) after p h next =
     let takes = statement_takes ls s rest next.1 in
     let one = total-counted s.item n in
     let still : StandsAt lines size (counted s.item n) (Lines rest) =
-    (h.0 ++ s ∷ [], Stand-last lines h.0 ls rest s h.1 next.1, ap (counted s.item) h.2 ∙ sym (counts-last h.0 s), let within = h.3 in omega arith) in
+    (h.0 ++ s ∷ [], ComeNext-last lines h.0 ls rest s h.1 next.1, ap (counted s.item) h.2 ∙ sym (counts-last h.0 s), let within = h.3 in omega arith) in
     let within = h.3 in
     let same : lines_left after ≡ ahead rest = ap lines_left next.2 in
     record { room = omega arith; fewer = omega arith; stands = subst (StandsAt lines size (counted s.item n)) (sym next.2) still }

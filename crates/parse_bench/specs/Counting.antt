@@ -4,16 +4,17 @@ use Rattle.std.specs.List.{count_by}
 use Rattle.std.specs.Fmt.{decimal}
 use Rattle.nj_text.specs.Lines.{Line}
 use Rattle.nj_manifest.specs.declared.fault.ParseFault.{ParseFault}
-use Rattle.nj_manifest.specs.Steps.{Fails}
-use Rattle.nj_manifest.specs.Statements.{StatementText, BindingText, RuleText, PoolText, BuildText, DefaultText, IncludeText, SubninjaText, PlacedText, next_statement}
+use Rattle.nj_manifest.specs.Parsers.{Fails}
+use Rattle.nj_manifest.specs.Statements.{StatementText, BindingText, RuleText, PoolText, BuildText, DefaultText, IncludeText}
+use Rattle.nj_manifest.specs.Statements.{SubninjaText, PlacedText, next_statement}
 use Rattle.parse_bench.specs.declared.counts.Counts.{Counts}
 
 -- ---- the statements of lines
 
--- These statements stand next in the lines, one behind the other, and behind the last of them the lines `behind`.
-abbrev pub Stand : (lines : List Line) → List PlacedText → (behind : List Line) → Type 0
-Stand lines [] behind = lines ≡ behind
-Stand lines (s ∷ ss) behind = (others : List Line) × (next_statement lines ≡ Ok (Some s, others)) × Stand others ss behind
+-- These statements come next in the lines, one after another, and then the lines `rest`.
+abbrev pub ComeNext : (lines : List Line) → List PlacedText → (rest : List Line) → Type 0
+ComeNext lines [] rest = lines ≡ rest
+ComeNext lines (s ∷ ss) rest = (others : List Line) × (next_statement lines ≡ Ok (Some s, others)) × ComeNext others ss rest
 
 -- There is no other statement in these lines.
 abbrev pub AreEnded : List Line → Type 0
@@ -79,10 +80,11 @@ counted (SubninjaText word) n = record n { subninjas = n.subninjas + 1 }
 abbrev pub total : Counts → ℕ
 total n = n.bindings + n.rules + n.pools + n.builds + n.defaults + n.includes + n.subninjas
 
--- It counts all statements of the lines; or answers the first fault, which comes behind some statements.
+-- It counts all statements of the lines; or answers the first fault, which comes after some statements.
 abbrev pub CountsAll : Result Counts ParseFault → List Line → Type 0
-CountsAll (Ok counts) lines = (ss : List PlacedText) × (behind : List Line) × Stand lines ss behind × AreEnded behind × (counts ≡ counts_of ss)
-CountsAll (Err f) lines = (ss : List PlacedText) × (behind : List Line) × Stand lines ss behind × Fails f (next_statement behind)
+CountsAll (Ok counts) lines =
+    (ss : List PlacedText) × (rest : List Line) × ComeNext lines ss rest × AreEnded rest × (counts ≡ counts_of ss)
+CountsAll (Err f) lines = (ss : List PlacedText) × (rest : List Line) × ComeNext lines ss rest × Fails f (next_statement rest)
 
 -- ---- what is printed
 

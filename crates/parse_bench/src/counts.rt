@@ -2,7 +2,7 @@
 
 ghost use Rattle.std.specs.Prelude.{◌≡◌, ◌+◌, ◌-◌, ◌^◌, ◌<◌, []};
 ghost use Rattle.nj_text.specs.Lines.{text_lines};
-ghost use Rattle.nj_manifest.specs.Held.{statement_text};
+ghost use Rattle.nj_manifest.specs.Contents.{statement_text};
 ghost use Rattle.parse_bench.specs.Counting.{counted, counts_of, total, CountsAll};
 
 use nj_manifest::{ParseFault, Parser, Statement};
@@ -80,7 +80,7 @@ impl fmt::Display for Counts {
 ///
 /// # Errors
 ///
-/// The first fault of the text, and want of memory.
+/// The first fault of the text, or out of memory.
 pub fn count_statements(alloc: Global, text: &[u8]) -> Result<Counts, ParseFault<'_>>
     ensures { CountsAll result (text_lines text.now) }
 {

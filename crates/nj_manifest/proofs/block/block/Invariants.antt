@@ -1,4 +1,4 @@
-use Rattle.nj_manifest.specs.Held.{lines_text}
+use Rattle.nj_manifest.specs.Contents.{lines_text}
 use Rattle.nj_manifest.proofs.BlockLines.{StillReads, lines_left}
 use Rattle.nj_manifest.proofs.block.block.Given as goal
 

@@ -1,6 +1,6 @@
 use Rattle.std.proofs.Common.{◌≡◌, take}
 use Rattle.nj_manifest.specs.Statements.{gives}
-use Rattle.nj_manifest.specs.Held.{lines_text}
+use Rattle.nj_manifest.specs.Contents.{lines_text}
 use Rattle.nj_manifest.proofs.block.gives.Given as goal
 
 abbrev pub invariant-lines : goal.invariant-lines

@@ -2,8 +2,8 @@ use Rattle.std.proofs.Common.{sym, ap, subst, ◌∙◌, option_map, Err}
 use Rattle.nj_text.specs.declared.sign.LineStart.TheVariants as start
 use Rattle.nj_manifest.specs.declared.fault.ParseFault.TheVariants as fault
 use Rattle.nj_manifest.specs.Faults.{UnexpectedIndent}
-use Rattle.nj_manifest.specs.Steps.{Fails}
-use Rattle.nj_manifest.specs.Held.{placed_text}
+use Rattle.nj_manifest.specs.Parsers.{Fails}
+use Rattle.nj_manifest.specs.Contents.{placed_text}
 use Rattle.nj_manifest.proofs.CallsTaken.{handed}
 use Rattle.nj_manifest.proofs.Starts.{front_at, begins-badly, begins-as, blank-falls-as}
 use Rattle.nj_manifest.proofs.Nexts.{here-next}

@@ -3,7 +3,7 @@ use Rattle.std.proofs.lemmas.List.{map-append}
 use Rattle.std.specs.Option.{option_map}
 use Rattle.nj_text.specs.Words.{word_text}
 use Rattle.nj_text.specs.Calls.{path_word_of}
-use Rattle.nj_manifest.specs.Steps.{words_next, called}
+use Rattle.nj_manifest.specs.LineSteps.{words_next, called}
 use Rattle.nj_manifest.proofs.WordLimits.{words-turn, words-end, words-fail, units_left-word}
 use Rattle.nj_manifest.proofs.CallsTaken.{gave, fails-by, handed-on}
 use Rattle.nj_manifest.proofs.steps.words_next.Goals as goal

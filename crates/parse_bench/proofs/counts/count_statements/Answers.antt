@@ -1,6 +1,6 @@
 use Rattle.std.proofs.Common.{arith, length, Some, Ok}
 use Rattle.nj_text.specs.Lines.{text_lines}
-use Rattle.nj_manifest.specs.Held.{IsNext}
+use Rattle.nj_manifest.specs.Parsers.{IsNext}
 use Rattle.parse_bench.proofs.Turns.{at_first, turn}
 use Rattle.parse_bench.proofs.counts.count_statements.Goals as goal
 

@@ -1,18 +1,14 @@
--- Reading on within a line, call by call of the lexer.
-use Rattle.std.specs.Prelude.{◌≡◌, ℕ, zero, suc, Bool, true, false, Option, Some, None, Result, Ok, Err, List, [], ◌∷◌, length}
+-- Reading on along a line, call by call of the lexer.
+use Rattle.std.specs.Prelude.{ℕ, zero, suc, Bool, true, false, Option, Some, None, Result, Ok, Err, List, [], ◌∷◌, length}
 use Rattle.nj_text.specs.declared.fault.UnitFault.{UnitFault}
-use Rattle.nj_text.specs.declared.fault.LexFault.TheVariants as lex
 use Rattle.nj_text.specs.declared.sign.Sign.{Sign}
 use Rattle.nj_text.specs.declared.spot.Spot.{Spot}
 use Rattle.nj_text.specs.Words.{WordText}
 use Rattle.nj_text.specs.Calls.{State, Between, Inside, Failed, Reply, skip_blanks_of, ident_of, sign_of, path_word_of, spot_of}
 use Rattle.nj_manifest.specs.declared.fault.Wanted.{Wanted}
-use Rattle.nj_manifest.specs.declared.fault.ParseFault.{ParseFault}
-use Rattle.nj_manifest.specs.declared.fault.ParseFault.TheVariants as fault
-use Rattle.nj_manifest.specs.declared.steps.Name.{Name}
-use Rattle.nj_manifest.specs.Faults.{Fault, Bad, Expected, fault_text}
+use Rattle.nj_manifest.specs.Faults.{Fault, Bad, Expected}
 
--- what is read, and the lexer behind it; or the fault at which no statement goes on
+-- what is read, and the lexer after it; or the fault at which no statement goes on
 abbrev pub Step : Type 0 → Type 0
 Step A = Result (A × State) Fault
 
@@ -48,9 +44,9 @@ abbrev pub if_there : Wanted → Bool → State → Result State Fault
 if_there wanted true after = Ok after
 if_there wanted false after = Err (Expected (spot_of after) wanted)
 
--- the lexer behind a sign that has to stand there
-unfoldable pub behind : Sign → Wanted → State → Result State Fault
-behind want wanted s = do
+-- the lexer after a sign that has to stand there
+unfoldable pub expect_sign : Sign → Wanted → State → Result State Fault
+expect_sign want wanted s = do
   there ← called (sign_of want s)
   if_there wanted there.0 there.1
 
@@ -87,22 +83,3 @@ unfoldable pub section_next : Sign → State → Step (List WordText)
 section_next want s = do
   there ← called (sign_of want s)
   words_if there.0 there.1
-
--- ---- what a function of the program gives
-
-abbrev pub Fails : {Y : Type 0} → ParseFault → Result Y Fault → Type 0
-Fails (fault.Lex lex.OutOfMemory) expected = Unit {0}
-Fails f expected = expected ≡ Err (fault_text f)
-
--- It reads what is expected, seen by view, and leaves the lexer there; or answers the fault; or wants memory.
-abbrev pub Reads : {X Y : Type 0} → (X → Y) → Result X ParseFault → (after : State) → Step Y → Type 0
-Reads view (Ok x) after expected = expected ≡ Ok (view x, after)
-Reads view (Err f) after expected = Fails f expected
-
--- the same of what only leads on
-abbrev pub LeadsTo : Result (Unit {0}) ParseFault → (after : State) → Result State Fault → Type 0
-LeadsTo (Ok done) after expected = expected ≡ Ok after
-LeadsTo (Err f) after expected = Fails f expected
-
-abbrev pub name_text : Name → NameText
-name_text n = record { spot = n.spot; name = n.name.now }

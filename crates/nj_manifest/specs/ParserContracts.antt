@@ -1,0 +1,72 @@
+-- What the private functions of a parser answer, and where they leave its lexer.
+use Rattle.std.specs.Prelude.{◌≡◌, Bool, true, false, Option, Some, None, Result, Ok, Err, List}
+use Rattle.nj_text.specs.Lines as lines
+use Rattle.nj_text.specs.Calls.{State, Between, Inside, Failed}
+use Rattle.nj_manifest.specs.declared.fault.ParseFault.{ParseFault}
+use Rattle.nj_manifest.specs.Faults.{Fault, fault_text}
+use Rattle.nj_manifest.specs.LineSteps.{Step}
+use Rattle.nj_manifest.specs.Statements.{LineText, Parsed, lines_from, Left, Lines, Refused}
+use Rattle.nj_manifest.specs.Parsers.{Fails}
+
+-- ---- along a line
+
+-- It reads what is expected, as the view shows it, and leaves the lexer there; or it fails.
+abbrev pub TakesStep : {X Y : Type 0} → (X → Y) → Result X ParseFault → (after : State) → Step Y → Type 0
+TakesStep view (Ok x) after expected = expected ≡ Ok (view x, after)
+TakesStep view (Err f) after expected = Fails f expected
+
+-- the same of what only leads on
+abbrev pub LeadsTo : Result (Unit {0}) ParseFault → (after : State) → Result State Fault → Type 0
+LeadsTo (Ok done) after expected = expected ≡ Ok after
+LeadsTo (Err f) after expected = Fails f expected
+
+-- ---- from line to line
+
+-- between two statements the lexer stands before lines, or at the front of a line that was begun
+abbrev pub IsBetweenStatements : State → Type 0
+IsBetweenStatements (Between ls) = Unit {0}
+IsBetweenStatements (Inside l ls) = lines.kind_of l ≡ lines.PlainLine
+IsBetweenStatements (Failed f) = ⊥
+
+-- what is read of the lines before which the lexer stands, with the lexer before the lines after it
+abbrev pub ParsesFrom : {X Y : Type 0} → (X → Y) → (before after : State) → (List lines.Line → Parsed Y) → Result X ParseFault → Type 0
+ParsesFrom view (Between ls) after parse (Ok x) = (parse ls ≡ Ok (view x, lines_from after)) × IsBetweenStatements after
+ParsesFrom view (Between ls) after parse (Err f) = Fails f (parse ls)
+ParsesFrom view other after parse result = Unit {0}
+
+-- the same of a line at whose first unit the lexer stands
+abbrev pub ParsesAt : {X Y : Type 0}
+    → (X → Y) → (before after : State) → (lines.Line → List lines.Line → Parsed Y) → Result X ParseFault → Type 0
+ParsesAt view (Inside l ls) after parse (Ok x) = (parse l ls ≡ Ok (view x, lines_from after)) × IsBetweenStatements after
+ParsesAt view (Inside l ls) after parse (Err f) = Fails f (parse l ls)
+ParsesAt view other after parse result = Unit {0}
+
+-- what is read of the lines that are left, with the lexer before the lines after it
+abbrev pub ParsesNext : {X Y : Type 0} → (X → Y) → (before after : State) → (List lines.Line → Parsed Y) → Result X ParseFault → Type 0
+ParsesNext view before after parse (Ok x) = (parse (lines_from before) ≡ Ok (view x, lines_from after)) × IsBetweenStatements after
+ParsesNext view before after parse (Err f) = Fails f (parse (lines_from before))
+
+-- the check of a block's lines
+abbrev pub Wholes : List LineText → Result (List LineText) Fault → Result (Unit {0}) ParseFault → Type 0
+Wholes lines expected (Ok done) = expected ≡ Ok lines
+Wholes lines expected (Err f) = Fails f expected
+
+-- ---- a parser
+
+abbrev pub is_plain : lines.Kind → Bool
+is_plain lines.PlainLine = true
+is_plain kind = false
+
+-- whether the lexer stands between two statements
+abbrev pub is_between_statements : State → Bool
+is_between_statements (Between ls) = true
+is_between_statements (Inside l ls) = is_plain (lines.kind_of l)
+is_between_statements (Failed f) = false
+
+abbrev pub is_between_unless : Option ParseFault → State → Bool
+is_between_unless None s = is_between_statements s
+is_between_unless (Some f) s = true
+
+abbrev pub left_of : Option ParseFault → State → Left
+left_of None s = Lines (lines_from s)
+left_of (Some f) s = Refused (fault_text f)
