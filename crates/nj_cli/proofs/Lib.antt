@@ -13,6 +13,7 @@ pub mod Whole
 pub mod Defaults
 mod GraphRows
 mod ReadingRows
+mod WordRows
 pub mod PathLemmas
 pub mod LineLemmas
 pub mod SectionLemmas

@@ -1,5 +1,6 @@
 -- What a run answers, by its words and by what was read.
-use Rattle.std.specs.Prelude.{ℕ, ◌&&◌, if◌then◌else◌, Option, Some, None, Result, Ok, Err, List, [], ◌∷◌, codes}
+use Rattle.std.specs.Prelude.{ℕ, nat_eq, Bool, false, not, ◌&&◌, if◌then◌else◌, Option, Some, None, Result, Ok, Err, List, [], ◌∷◌, codes}
+use Rattle.std.specs.List.{list_any}
 use Rattle.std.specs.Str.{bytes_eq}
 use Rattle.nj_scope.specs.Readings.{Reading, bytes_in}
 use Rattle.nj_cli.specs.Commands.{command_lines}
@@ -28,14 +29,21 @@ faulty text = refused Fault text
 
 -- ---- the words and the paths
 
-abbrev pub if_commands : (flag tool : List ℕ) → List (List ℕ) → Option (List (List ℕ))
-if_commands flag tool targets = if bytes_eq flag (codes "-t") && bytes_eq tool (codes "commands") then Some targets else None
+-- the word is an option: it begins with `-` and is not `-` itself
+abbrev pub is_option : List ℕ → Bool
+is_option [] = false
+is_option (byte ∷ []) = false
+is_option (byte ∷ next ∷ bytes) = nat_eq byte 45
+
+-- the words are `-t commands`, and no other option follows
+abbrev pub are_commands : (flag tool : List ℕ) → (targets : List (List ℕ)) → Bool
+are_commands flag tool targets = bytes_eq flag (codes "-t") && bytes_eq tool (codes "commands") && not (list_any is_option targets)
 
 -- the targets that the words ask for: no words, or `-t commands` and the targets
 abbrev pub targets_of : List (List ℕ) → Option (List (List ℕ))
 targets_of [] = Some []
 targets_of (flag ∷ []) = None
-targets_of (flag ∷ tool ∷ targets) = if_commands flag tool targets
+targets_of (flag ∷ tool ∷ targets) = if are_commands flag tool targets then Some targets else None
 
 abbrev pub main_file : List ℕ
 main_file = codes "build.ninja"

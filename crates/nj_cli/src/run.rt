@@ -1,7 +1,8 @@
 //! A run of the program.
 
 ghost use Rattle.std.specs.Prelude.{◌≡◌, ℕ, List, map, option_map, string_bytes};
-ghost use Rattle.nj_cli.specs.Outcome.{targets_of};
+ghost use Rattle.std.specs.List.{list_any};
+ghost use Rattle.nj_cli.specs.Outcome.{is_option, targets_of};
 ghost use Rattle.nj_cli.specs.Runs.{Around, RunsAs};
 ghost use Rattle.nj_cli.specs.Steps.{Finds};
 
@@ -48,17 +49,35 @@ pub fn run_words<S: FileSource, O: Sink, E: Sink>(
     }
 }
 
-/// The targets that the words ask for.
+/// The targets that the words ask for. `None` if they ask for nothing that the program does.
 fn targets_of(words: &[String]) -> Option<&[String]>
     ensures { option_map (λ targets. map string_bytes targets.now) result
         ≡ targets_of (map string_bytes words.now) }
 {
     match words {
         [] => Some(words),
-        [flag, tool, targets @ ..] if flag.as_str() == "-t" && tool.as_str() == "commands" => {
+        [flag, tool, targets @ ..]
+            if flag.as_str() == "-t" && tool.as_str() == "commands" && !have_option(targets) => {
             Some(targets)
         }
         _ => None,
+    }
+}
+
+/// Whether one of the words is an option.
+fn have_option(words: &[String]) -> bool
+    ensures { result ≡ list_any is_option (map string_bytes words.now) }
+{
+    words.iter().any(|word| is_option(word))
+}
+
+/// Whether the word is an option: it begins with `-` and is not `-` itself.
+fn is_option(word: &str) -> bool
+    ensures { result ≡ is_option word.now }
+{
+    match word.as_bytes() {
+        [first, _, ..] => *first == b'-',
+        _ => false,
     }
 }
 

@@ -147,7 +147,7 @@ fn tells_paths_in_commands(rt: HostRuntime) -> Result<(), Fail> {
 
 #[test]
 fn refuses_words(rt: HostRuntime) -> Result<(), Fail> {
-    let rows: [&[&str]; 7] = [
+    let rows: [&[&str]; 10] = [
         &["-t", "graph"],
         &["--help"],
         &["-t"],
@@ -155,6 +155,9 @@ fn refuses_words(rt: HostRuntime) -> Result<(), Fail> {
         &["commands", "-t"],
         &["-t", "commands2", "d"],
         &["d", "-t", "commands"],
+        &["-t", "commands", "-s"],
+        &["-t", "commands", "d", "--stdin"],
+        &["-t", "commands", "--", "d"],
     ];
     for words in rows {
         let mut files = main_file(rt.alloc(), DIAMOND)?;
@@ -184,6 +187,8 @@ fn tells_faults_of_targets(rt: HostRuntime) -> Result<(), Fail> {
     assert_faulty(&rt, DIAMOND, &["-t", "commands", "d", "q", "r"], unknown)?;
     assert_faulty(&rt, DIAMOND, &["-t", "commands", "q", "a^"], unknown)?;
     assert_faulty(&rt, DIAMOND, &["-t", "commands", "a^", "q"], unread)?;
+    let dash = b"ninja-explain: unknown target '-'\n";
+    assert_faulty(&rt, DIAMOND, &["-t", "commands", "-"], dash)?;
     for target in ["a^", "", "./a", "a/", "/a", "a//b", "../a", "."] {
         assert_faulty(&rt, DIAMOND, &["-t", "commands", target], unread)?;
     }
