@@ -1,0 +1,72 @@
+#!/usr/bin/env python3
+"""Compares the table of docs/ARCHITECTURE.md, "Where things are found", with the files of the crates.
+
+Each definition file and module that it names has to exist, and each that exists has to be named.
+Prints what differs, and nothing else. The status is 1 if anything differs.
+"""
+
+import re
+import sys
+from pathlib import Path
+
+ROOT = Path(__file__).resolve().parent.parent
+TABLE = ROOT / "docs/ARCHITECTURE.md"
+# modules that every crate may have, and whose names say nothing
+PLAIN = {"src/lib.rt", "src/main.rt", "specs/Lib.antt"}
+
+
+def named_files(cell, folder, ending):
+    """The files that a cell names in code marks; what stands in parentheses are functions."""
+    words = re.findall(r"`([^`]+)`", re.sub(r"\([^)]*\)", "", cell))
+    return {word if "/" in word else f"{folder}/{word}{ending}" for word in words}
+
+
+def named():
+    """For each crate of the table the files that it names."""
+    files, crate = {}, None
+    for line in TABLE.read_text().splitlines():
+        cells = [cell.strip() for cell in line.strip().strip("|").split("|")]
+        if head := re.fullmatch(r"\*\*`(\w+)`\*\*", cells[0]):
+            crate = head[1]
+            files[crate] = set()
+        elif crate and line.startswith("|") and len(cells) == 3:
+            files[crate] |= named_files(cells[1], "specs", ".antt")
+            files[crate] |= named_files(cells[2], "src", ".rt")
+        elif crate and not line.startswith("|"):
+            crate = None
+    return files
+
+
+def test_modules(crate):
+    """The modules that are there for tests alone."""
+    found = set()
+    for file in crate.glob("src/**/*.rt"):
+        names = re.findall(r"#\[cfg\(test\)\]\s*mod (\w+);", file.read_text())
+        base = file.parent if file.stem in ("lib", "main") else file.with_suffix("")
+        found |= {str((base / f"{name}.rt").relative_to(crate)) for name in names}
+    return found
+
+
+def present(crate):
+    """The crate's modules and definition files."""
+    files = [*crate.glob("src/**/*.rt"), *crate.glob("specs/**/*.antt")]
+    return {str(file.relative_to(crate)) for file in files} - PLAIN - test_modules(crate)
+
+
+def main():
+    faults, table = [], named()
+    if not table:
+        faults.append("it has no table of crates")
+    for crate in sorted((ROOT / "crates").iterdir()):
+        said = table.pop(crate.name, set())
+        there = present(crate)
+        faults += [f"it does not name {crate.name}/{it}" for it in sorted(there - said)]
+        faults += [f"there is no {crate.name}/{it}" for it in sorted(said) if not (crate / it).is_file()]
+    faults += [f"there is no crate {name}" for name in table]
+    for fault in faults:
+        print(f"{TABLE.relative_to(ROOT)}: {fault}")
+    return 1 if faults else 0
+
+
+if __name__ == "__main__":
+    sys.exit(main())
