@@ -19,6 +19,7 @@ cc hello.o greet.o -o hello
 """
 DONE, FAULT, USAGE, OUTPUT_FAILED = 0, 1, 2, 4
 EDGES = 200_000
+MOST_BYTES = 1 << 30
 SECONDS = 60
 
 failures = []
@@ -52,9 +53,9 @@ def run(folder, words, **streams):
     return ran.returncode, ran.stdout, ran.stderr
 
 
-def run_closed(folder, words, redirection):
-    """Runs the program with one of its outputs closed."""
-    shell = ["sh", "-c", f'exec "$0" "$@" {redirection}', PROGRAM, *words]
+def run_by_shell(folder, words, before="", after=""):
+    """Runs the program by a shell, after a command and with redirections of its own."""
+    shell = ["sh", "-c", f'{before} exec "$0" "$@" {after}', PROGRAM, *words]
     ran = subprocess.run(shell, cwd=folder, capture_output=True, timeout=SECONDS)
     return ran.returncode, ran.stdout, ran.stderr
 
@@ -76,8 +77,8 @@ def try_outputs(folder):
     first = HELLO_COMMANDS.splitlines(keepends=True)[0]
     expect("one target", run(folder, [*commands, "hello.o"]), (DONE, first, b""))
     unknown = [*commands, "nothing"]
-    expect("closed output", run_closed(folder, commands, ">&-"), (OUTPUT_FAILED, b"", b""))
-    expect("closed error output", run_closed(folder, unknown, "2>&-"), (FAULT, b"", b""))
+    expect("closed output", run_by_shell(folder, commands, after=">&-"), (OUTPUT_FAILED, b"", b""))
+    expect("closed error output", run_by_shell(folder, unknown, after="2>&-"), (FAULT, b"", b""))
     with open("/dev/full", "wb") as full:
         expect("full output", run(folder, commands, stdout=full), (OUTPUT_FAILED, None, b""))
         expect("full error output", run(folder, unknown, stderr=full), (FAULT, b"", None))
@@ -94,6 +95,10 @@ def try_faults(folder):
     no_file = (FAULT, b"", b"build.ninja:1:1: cannot read 'build.ninja'\n")
     expect("folder called build.ninja", run(folder, commands), no_file)
     main.rmdir()
+    with main.open("wb") as file:
+        file.truncate(MOST_BYTES + 1)
+    small_room = run_by_shell(folder, commands, before="ulimit -v 100000;")
+    expect("file above the limit, in little room", small_room, no_file)
 
 
 def try_large(folder):

@@ -1,18 +1,16 @@
 -- What was read, piece by piece.
-use Rattle.std.proofs.Common.{◌≡◌, ℕ, ◌+◌, Option, List, length, take, drop, sym, ap, subst, ◌∙◌}
-use Rattle.std.proofs.KnownBytes.{Consumes-trans, starts_with_rest}
-use Rattle.std.proofs.lemmas.List.{drop-take}
-use Rattle.std.specs.Io.{StartsWith, appended_bytes}
+use Rattle.std.proofs.Common.{◌≡◌, ℕ, ◌+◌, ◌≤◌, Option, List, length, take, drop, sym, subst}
+use Rattle.std.proofs.KnownBytes.{Consumes-trans}
+use Rattle.std.proofs.Math.Seq.{take-add}
 use Rattle.std.specs.Io.KnownBytes.{Consumes}
 
--- n bytes behind the old ones are kept
-pub Consumes-kept : (a b : Option (List ℕ)) (old after whole read : List ℕ) (f n : ℕ) → f ≡ length old → whole ≡ read → after ≡ take (f + n) whole → Consumes a b (take n (drop f read))
-    → Consumes a b (appended_bytes old after)
-Consumes-kept a b old after whole read f n is same kept piece =
-    let behind : appended_bytes old after ≡ take n (drop f read) = ap (λ k. drop k after) (sym is) ∙ ap (drop f) (kept ∙ ap (take (f + n)) same) ∙ drop-take f n read in
-    subst (Consumes a b) (sym behind) piece
+-- the reader's first bytes stand at the front of the room
+pub record IsFilled (first now : Option (List ℕ)) (room : List ℕ) (filled : ℕ) : Type 0 where
+  pub read : Consumes first now (take filled room)
+  pub in_room : filled ≤ length room
+  pub within : filled ≤ 1073741824
 
 -- one piece more
-pub Consumes-piece : (a b c : Option (List ℕ)) (old new : List ℕ) → Consumes a b old → StartsWith new old → Consumes b c (appended_bytes old new) → Consumes a c new
-Consumes-piece a b c old new before grows piece =
-    subst (Consumes a c) (sym (starts_with_rest new old grows)) (Consumes-trans a b c old (appended_bytes old new) before piece)
+pub Consumes-piece : (a b c : Option (List ℕ)) (old new : List ℕ) (f n : ℕ) → Consumes a b (take f old) → take f new ≡ take f old → Consumes b c (take n (drop f new)) → Consumes a c (take (f + n) new)
+Consumes-piece a b c old new f n before front piece =
+    subst (Consumes a c) (sym (take-add f n new)) (Consumes-trans a b c (take f new) (take n (drop f new)) (subst (Consumes a b) (sym front) before) piece)

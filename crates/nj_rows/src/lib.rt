@@ -1,5 +1,7 @@
-//! Worked runs of `ninja-explain` over files in memory.
+//! Worked runs of `ninja-explain` over files in memory, and readings of a disk.
 #![tactic(auto)]
 
+#[cfg(test)]
+mod disk;
 #[cfg(test)]
 mod runs;

@@ -4,5 +4,9 @@ use Rattle.nj_cli.proofs.disk.read_whole.Goals as goal
 
 pub reads-preserved : goal.reads-preserved
 reads-preserved g c =
-    let read = c.in_ok-read_piece.ensures in
-    (Consumes-piece _ _ _ _ _ c.reads.invariant.0 read.grows read.piece, omega arith)
+    let piece = c.in_ok-count.ensures in
+    record {
+      read = Consumes-piece _ _ _ _ _ c.reads.filled c.in_ok-count.count c.reads.invariant.read piece.front piece.piece;
+      in_room = omega arith;
+      within = omega arith;
+    }
