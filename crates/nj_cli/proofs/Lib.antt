@@ -24,5 +24,4 @@ pub mod Picking
 pub mod Explaining
 pub mod Pieces
 pub mod Tellings
-pub mod Finding
 pub mod Running

@@ -1,29 +1,30 @@
 -- How a run ends.
-use Rattle.std.proofs.Common.{◌≡◌, ◌⊎◌, inl, inr, ℕ, Option, None, Some, IsSome, List, [], ◌∷◌, Err, refl, sym, ap, subst, ◌∙◌, append-nil}
-use Rattle.nj_scope.specs.Readings.{Reading, bytes_in}
-use Rattle.nj_cli.specs.Steps.{FindsBy, Finds}
+use Rattle.std.proofs.Common.{◌≡◌, ◌⊎◌, inl, inr, ℕ, Option, None, Some, IsSome, List, [], ◌∷◌, ◌++◌, Err, refl, sym, ap, subst, ◌∙◌, append-nil}
+use Rattle.nj_scope.specs.Readings.{Reading, bytes_in, paths_of, IsPrefix}
+use Rattle.nj_scope.specs.Sources.{HasRead}
+use Rattle.nj_scope.proofs.SourceLemmas.{HasRead-nothing}
+use Rattle.nj_cli.specs.RunAnswers.{AnswersByTable, AnswersCommands}
 use Rattle.nj_cli.specs.Outcome.{Outcome, main_file, targets_of, paths_for, paths_read, outcome_for, outcome_of, outcome_of_main, faulty}
-use Rattle.nj_cli.specs.Runs.{Around, IsBeginning, paths_of, Ends, RunsAs}
+use Rattle.nj_cli.specs.Runs.{Around, Ends, RunsAs}
 use Rattle.nj_cli.specs.Runs.Ends.{whole, without_memory, source_failed}
 use Rattle.nj_cli.specs.FaultLines.{line_of, unreadable_words, out_of_memory}
-use Rattle.nj_cli.specs.Steps.{fault_text, TellsFault}
+use Rattle.nj_cli.specs.RunAnswers.{fault_text, TellsFault}
 use Rattle.nj_cli.specs.Told.{Took, Told}
 use Rattle.nj_cli.specs.declared.fault.RunFault.{RunFault}
 use Rattle.nj_cli.specs.declared.fault.RunFault.TheVariants as fault
 use Rattle.nj_cli.specs.declared.status.Status.{Status}
 use Rattle.nj_cli.specs.declared.status.Status.TheVariants.{Fault, Usage}
-use Rattle.nj_cli.proofs.Finding.{HasRead-none}
 
-module _ (words : List (List ℕ)) (said : List ℕ → Option (Option (List ℕ))) (old new : Around) (ending : Status) where
+module _ (words : List (List ℕ)) (old new : Around) (ending : Status) where
   -- the words are not read
-  pub RunsAs-refused : targets_of words ≡ None → new.readings ≡ old.readings → new.failures ≡ old.failures → new.output ≡ old.output
-      → Told old.error new.error (line_of unreadable_words) → ending ≡ Usage → RunsAs words said old new ending
-  RunsAs-refused none readings failures output error status = (
+  pub RunsAs-refused : targets_of words ≡ None → new.source ≡ old.source → new.output ≡ old.output
+      → Told old.error new.error (line_of unreadable_words) → ending ≡ Usage → RunsAs words old new ending
+  RunsAs-refused none same output error status = (
     [],
-    HasRead-none said old.readings new.readings readings,
+    subst (λ source. HasRead old.source source []) (sym same) (HasRead-nothing old.source),
     whole (record {
       paths = sym (ap paths_for none);
-      failures = failures;
+      failures = ap (λ source. source.failures) same;
       output = let P : Option (List (List ℕ)) → Type 0 = λ t. Took old.output new.output (outcome_for [] t).output in subst P (sym none) output;
       error = let P : Option (List (List ℕ)) → Type 0 = λ t. Told old.error new.error (outcome_for [] t).error in subst P (sym none) error;
       status = status ∙ ap (λ t. (outcome_for [] t).status) (sym none);
@@ -34,12 +35,12 @@ module _ (words : List (List ℕ)) (said : List ℕ → Option (Option (List ℕ
     paths_are : paths_read words ≡ main_file ∷ []
     paths_are = ap paths_for is_targets
 
-    -- memory was refused
-    ends_without_memory : (table : List Reading) → IsBeginning (paths_of table) (main_file ∷ []) → new.failures ≡ old.failures → Told old.error new.error (line_of out_of_memory)
+    -- an allocation failed
+    ends_without_memory : (table : List Reading) → IsPrefix (paths_of table) (main_file ∷ []) → new.source.failures ≡ old.source.failures → Told old.error new.error (line_of out_of_memory)
         → Ends words table old new ending
     ends_without_memory table (others, first) failures told = without_memory (record {
       words_are_read = subst IsSome (sym is_targets) refl;
-      paths = (others, first ∙ sym paths_are);
+      paths = (others, paths_are ∙ first);
       failures = failures;
       output = same_output;
       error = told;
@@ -47,7 +48,7 @@ module _ (words : List (List ℕ)) (said : List ℕ → Option (Option (List ℕ
     })
 
     -- the outcome is a fault
-    ends_faulty : (table : List Reading) (text : List ℕ) → paths_of table ≡ main_file ∷ [] → new.failures ≡ old.failures → outcome_of_main (bytes_in table main_file) targets ≡ faulty text
+    ends_faulty : (table : List Reading) (text : List ℕ) → paths_of table ≡ main_file ∷ [] → new.source.failures ≡ old.source.failures → outcome_of_main (bytes_in table main_file) targets ≡ faulty text
         → Told old.error new.error (line_of text) → Ends words table old new ending
     ends_faulty table text paths failures outcome told =
         let is : outcome_of table words ≡ faulty text = ap (outcome_for table) is_targets ∙ outcome in
@@ -59,26 +60,27 @@ module _ (words : List (List ℕ)) (said : List ℕ → Option (Option (List ℕ
           status = is_fault ∙ ap (λ o. o.status) (sym is);
         })
 
-    ends_by_main : (table : List Reading) (f : RunFault) → paths_of table ≡ main_file ∷ [] → new.failures ≡ old.failures → outcome_of_main (bytes_in table main_file) targets ≡ faulty (fault_text f)
+    ends_by_main : (table : List Reading) (f : RunFault) → paths_of table ≡ main_file ∷ [] → new.source.failures ≡ old.source.failures → outcome_of_main (bytes_in table main_file) targets ≡ faulty (fault_text f)
         → Told old.error new.error (line_of (fault_text f)) ⊎ Told old.error new.error (line_of out_of_memory) → Ends words table old new ending
     ends_by_main table f paths failures outcome (inl told) = ends_faulty table (fault_text f) paths failures outcome told
-    ends_by_main table f paths failures outcome (inr told) = ends_without_memory table ([], append-nil (paths_of table) ∙ paths) failures told
+    ends_by_main table f paths failures outcome (inr told) = ends_without_memory table ([], sym paths ∙ sym (append-nil (paths_of table))) failures told
 
-    ends_by : (table : List Reading) (f : RunFault) → FindsBy targets table old.failures new.failures (Err f) → TellsFault f old.error new.error → Ends words table old new ending
-    ends_by table fault.OutOfMemory finds (inl told) = ends_without_memory table finds.paths finds.failures told
-    ends_by table fault.OutOfMemory finds (inr told) = ends_without_memory table finds.paths finds.failures told
-    ends_by table fault.Unreadable finds told = source_failed (record {
-      paths = let (others, first, some) = finds.paths in (others, first ∙ sym paths_are, some);
-      failures = finds.failures;
+    ends_by : (table : List Reading) (f : RunFault) → AnswersByTable targets table old.source new.source (Err f) → TellsFault f old.error new.error → Ends words table old new ending
+    ends_by table fault.OutOfMemory answers (inl told) = ends_without_memory table answers.paths answers.failures told
+    ends_by table fault.OutOfMemory answers (inr told) = ends_without_memory table answers.paths answers.failures told
+    ends_by table fault.Unreadable answers told = source_failed (record {
+      next = main_file;
+      paths = ([], paths_are ∙ ap (λ t. paths_of t ++ main_file ∷ [] ++ []) (sym answers.nothing));
+      failures = answers.failures;
       output = same_output;
       error = told;
       status = is_fault;
     })
-    ends_by table fault.NotThere finds told = ends_by_main table fault.NotThere finds.paths finds.failures finds.outcome told
-    ends_by table (fault.NotReadYet line) finds told = ends_by_main table (fault.NotReadYet line) finds.paths finds.failures finds.outcome told
-    ends_by table fault.TargetNotReadYet finds told = ends_by_main table fault.TargetNotReadYet finds.paths finds.failures finds.outcome told
-    ends_by table (fault.UnknownTarget path) finds told = ends_by_main table (fault.UnknownTarget path) finds.paths finds.failures finds.outcome told
+    ends_by table fault.NotThere answers told = ends_by_main table fault.NotThere answers.paths answers.failures answers.outcome told
+    ends_by table (fault.NotReadYet line) answers told = ends_by_main table (fault.NotReadYet line) answers.paths answers.failures answers.outcome told
+    ends_by table fault.TargetNotReadYet answers told = ends_by_main table fault.TargetNotReadYet answers.paths answers.failures answers.outcome told
+    ends_by table (fault.UnknownTarget path) answers told = ends_by_main table (fault.UnknownTarget path) answers.paths answers.failures answers.outcome told
 
     -- no commands were found
-    pub RunsAs-fault : (f : RunFault) → Finds targets said old.readings new.readings old.failures new.failures (Err f) → TellsFault f old.error new.error → RunsAs words said old new ending
-    RunsAs-fault f (table, has_read, finds) told = (table, has_read, ends_by table f finds told)
+    pub RunsAs-fault : (f : RunFault) → AnswersCommands targets old.source new.source (Err f) → TellsFault f old.error new.error → RunsAs words old new ending
+    RunsAs-fault f (table, has_read, answers) told = (table, has_read, ends_by table f answers told)

@@ -5,7 +5,7 @@ use Rattle.std.proofs.lemmas.Bool.{false≢true}
 use Rattle.nj_tools.specs.Sinks.{SinkState, Writes}
 use Rattle.nj_tools.specs.declared.sinks.SinkFault.{SinkFault}
 use Rattle.nj_cli.specs.FaultLines.{line_of, out_of_memory}
-use Rattle.nj_cli.specs.Steps.{made_line}
+use Rattle.nj_cli.specs.RunAnswers.{made_line}
 use Rattle.nj_cli.specs.Told.{Told}
 
 -- a text that is not empty was told where it was written

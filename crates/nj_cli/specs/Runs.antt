@@ -1,6 +1,7 @@
 -- What a run does to its source and to its two sinks.
-use Rattle.std.specs.Prelude.{◌≡◌, ◌≢◌, ℕ, ◌<◌, ◌-◌, ◌^◌, Option, option_map, IsSome, List, [], ◌++◌, map, All}
-use Rattle.nj_scope.specs.Readings.{Reading, AgreesWith}
+use Rattle.std.specs.Prelude.{◌≡◌, ℕ, IsSome, List, [], ◌∷◌, ◌++◌}
+use Rattle.nj_scope.specs.Readings.{Reading, paths_of, IsPrefix}
+use Rattle.nj_scope.specs.Sources.{SourceState, HasRead, Rises}
 use Rattle.nj_tools.specs.Sinks.{SinkState}
 use Rattle.nj_cli.specs.Outcome.{outcome_of, targets_of, paths_read}
 use Rattle.nj_cli.specs.FaultLines.{line_of, out_of_memory, unreadable}
@@ -10,41 +11,19 @@ use Rattle.nj_cli.specs.declared.status.Status.TheVariants.{Fault, OutputFailed}
 
 -- what can be told of a run's source and of its two sinks
 pub record Around : Type 0 where
-  -- the readings so far, of a source that tells them
-  pub readings : Option (List Reading)
-  -- how often a reading has failed; the count is held at 2 ^ 64 - 1
-  pub failures : ℕ
+  pub source : SourceState
   pub output : SinkState
   pub error : SinkState
 
--- ---- the readings
-
-abbrev pub paths_of : List Reading → List (List ℕ)
-paths_of table = map (λ r. r.path) table
-
--- these were the readings, and what was found is what the source said of its files, where it said so
-pub record HasRead (said : List ℕ → Option (Option (List ℕ))) (old new : Option (List Reading)) (table : List Reading) : Type 0 where
-  pub readings : new ≡ option_map (λ before. before ++ table) old
-  pub as_said : All (λ r. AgreesWith (said r.path) r.bytes) table
-
--- the paths are the first of all
-abbrev pub IsBeginning : (paths all : List (List ℕ)) → Type 0
-IsBeginning paths all = (others : List (List ℕ)) × (paths ++ others ≡ all)
-
--- the paths are the first of all, and not all
-abbrev pub IsShort : (paths all : List (List ℕ)) → Type 0
-IsShort paths all = (others : List (List ℕ)) × (paths ++ others ≡ all) × (others ≢ [])
-
--- a count of failures rose, or could not
-abbrev pub Rises : (old new : ℕ) → Type 0
-Rises old new = old < 2 ^ 64 - 1 → old < new
+abbrev pub around : (source : SourceState) → (output error : SinkState) → Around
+around source output error = record { source = source; output = output; error = error }
 
 -- ---- the ends
 
 -- all was read, the output was taken and the error told
 pub record EndsWhole (words : List (List ℕ)) (table : List Reading) (old new : Around) (ending : Status) : Type 0 where
   pub paths : paths_of table ≡ paths_read words
-  pub failures : new.failures ≡ old.failures
+  pub failures : new.source.failures ≡ old.source.failures
   pub output : Took old.output new.output (outcome_of table words).output
   pub error : Told old.error new.error (outcome_of table words).error
   pub status : ending ≡ (outcome_of table words).status
@@ -52,24 +31,25 @@ pub record EndsWhole (words : List (List ℕ)) (table : List Reading) (old new :
 -- all was read, and the sink of the output failed; the error output heard nothing
 pub record EndsCutShort (words : List (List ℕ)) (table : List Reading) (old new : Around) (ending : Status) : Type 0 where
   pub paths : paths_of table ≡ paths_read words
-  pub failures : new.failures ≡ old.failures
+  pub failures : new.source.failures ≡ old.source.failures
   pub output : Failed old.output new.output (outcome_of table words).output
   pub error : new.error ≡ old.error
   pub status : ending ≡ OutputFailed
 
--- memory was refused, at words that are read; the output heard nothing
+-- an allocation failed, at words that are read; the output heard nothing
 pub record EndsWithoutMemory (words : List (List ℕ)) (table : List Reading) (old new : Around) (ending : Status) : Type 0 where
   pub words_are_read : IsSome (targets_of words)
-  pub paths : IsBeginning (paths_of table) (paths_read words)
-  pub failures : new.failures ≡ old.failures
+  pub paths : IsPrefix (paths_of table) (paths_read words)
+  pub failures : new.source.failures ≡ old.source.failures
   pub output : new.output ≡ old.output
   pub error : Told old.error new.error (line_of out_of_memory)
   pub status : ending ≡ Fault
 
--- the source failed at the next path, and counted that; the output heard nothing
+-- the source failed at the path that comes next, and counted that; the output heard nothing
 pub record EndsUnreadable (words : List (List ℕ)) (table : List Reading) (old new : Around) (ending : Status) : Type 0 where
-  pub paths : IsShort (paths_of table) (paths_read words)
-  pub failures : Rises old.failures new.failures
+  pub next : List ℕ
+  pub paths : IsPrefix (paths_of table ++ next ∷ []) (paths_read words)
+  pub failures : Rises old.source.failures new.source.failures
   pub output : new.output ≡ old.output
   pub error : Told old.error new.error (line_of unreadable)
   pub status : ending ≡ Fault
@@ -82,6 +62,5 @@ pub data Ends (words : List (List ℕ)) (table : List Reading) (old new : Around
   source_failed : EndsUnreadable words table old new ending → Ends words table old new ending
 
 -- what a run with these words does
-abbrev pub RunsAs : (words : List (List ℕ)) → (said : List ℕ → Option (Option (List ℕ))) → (old new : Around) → Status → Type 0
-RunsAs words said old new ending =
-    (table : List Reading) × HasRead said old.readings new.readings table × Ends words table old new ending
+abbrev pub RunsAs : (words : List (List ℕ)) → (old new : Around) → Status → Type 0
+RunsAs words old new ending = (table : List Reading) × HasRead old.source new.source table × Ends words table old new ending

@@ -86,13 +86,9 @@ impl<R: Files + Input + Drop> DiskFiles<R> {
 }
 
 impl<R: Files + Input + Drop> FileSource for DiskFiles<R> {
-    ghost use Rattle.std.specs.Prelude.{None};
+    ghost use Rattle.nj_cli.specs.Disk.{disk_state};
 
-    ghost readings = { λ _. None };
-
-    ghost failures = { λ disk. disk.failed };
-
-    ghost files = { λ _ _. None };
+    ghost state = { disk_state };
 
     fn read(&mut self, alloc: Global, path: &str) -> Result<Option<Vec<u8>>, SourceFault> {
         let answer = self.answer(alloc, path);

@@ -2,7 +2,7 @@
 
 ghost use Rattle.std.specs.Prelude.{◌≡◌, ℕ, ◌<◌, Some, length, map, string_bytes, All, IfOk};
 ghost use Rattle.nj_cli.specs.Outcome.{outcome_of_main, or_defaults};
-ghost use Rattle.nj_cli.specs.Steps.{PicksTarget, PicksTargets, AnswersAs};
+ghost use Rattle.nj_cli.specs.RunAnswers.{PicksTarget, PicksTargets, AnswersAs};
 ghost use Rattle.nj_cli.specs.Held.{IsWhole, edges_of};
 
 use crate::fault::RunFault;

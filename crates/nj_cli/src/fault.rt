@@ -45,7 +45,7 @@ impl<'w, T: Drop> From<AllocFailed<T>> for RunFault<'w> {
 
 impl<'w> From<SourceFault> for RunFault<'w> {
     ghost use Rattle.std.specs.Prelude.{◌≡◌};
-    ghost use Rattle.nj_cli.specs.Steps.{fault_of_source};
+    ghost use Rattle.nj_cli.specs.RunAnswers.{fault_of_source};
 
     ghost from_gives = { λ fault e. e ≡ fault_of_source fault };
 
@@ -59,7 +59,7 @@ impl<'w> From<SourceFault> for RunFault<'w> {
 
 impl<'w> From<ReadFault> for RunFault<'w> {
     ghost use Rattle.std.specs.Prelude.{◌≡◌};
-    ghost use Rattle.nj_cli.specs.Steps.{fault_of_reading};
+    ghost use Rattle.nj_cli.specs.RunAnswers.{fault_of_reading};
 
     ghost from_gives = { λ fault e. e ≡ fault_of_reading fault };
 

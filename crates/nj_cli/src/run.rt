@@ -3,8 +3,8 @@
 ghost use Rattle.std.specs.Prelude.{◌≡◌, ℕ, List, map, option_map, string_bytes};
 ghost use Rattle.std.specs.List.{list_any};
 ghost use Rattle.nj_cli.specs.Outcome.{is_option, targets_of};
-ghost use Rattle.nj_cli.specs.Runs.{Around, RunsAs};
-ghost use Rattle.nj_cli.specs.Steps.{Finds};
+ghost use Rattle.nj_cli.specs.Runs.{RunsAs, around};
+ghost use Rattle.nj_cli.specs.RunAnswers.{AnswersCommands};
 
 use crate::explain::commands_of;
 use crate::fault::RunFault;
@@ -25,20 +25,9 @@ pub fn run_words<S: FileSource, O: Sink, E: Sink>(
     out: &mut O,
     err: &mut E,
 ) -> Status
-    ensures run { let before : Around = record {
-      readings = S.readings source.old;
-      failures = S.failures source.old;
-      output = O.state out.old;
-      error = E.state err.old;
-    } in
-        let after : Around = record {
-          readings = S.readings source.new;
-          failures = S.failures source.new;
-          output = O.state out.new;
-          error = E.state err.new;
-        } in
-        RunsAs (map string_bytes words.now) (S.files source.old) before after result }
-    ensures says_the_same { (path : List ℕ) → S.files source.new path ≡ S.files source.old path }
+    ensures { RunsAs (map string_bytes words.now)
+        (around (S.state source.old) (O.state out.old) (E.state err.old))
+        (around (S.state source.new) (O.state out.new) (E.state err.new)) result }
 {
     let Some(targets) = targets_of(words) else {
         return refuse_words(err);
@@ -87,15 +76,12 @@ fn commands<'w, S: FileSource>(
     source: &mut S,
     targets: &'w [String],
 ) -> Result<Vec<u8>, RunFault<'w>>
-    ensures finds { Finds (map string_bytes targets.now) (S.files source.old)
-        (S.readings source.old) (S.readings source.new)
-        (S.failures source.old) (S.failures source.new) result }
-    ensures says_the_same { (path : List ℕ) → S.files source.new path ≡ S.files source.old path }
+    ensures { AnswersCommands (map string_bytes targets.now)
+        (S.state source.old) (S.state source.new) result }
 {
     let mut files = FileTable::new(alloc);
-    files.read_in(alloc, source, MAIN_FILE)?;
-    match files.get(MAIN_FILE) {
-        Some(text) => commands_of(alloc, text, targets),
+    match files.open(alloc, source, MAIN_FILE)? {
+        Some(text) => commands_of(alloc, text.as_slice(), targets),
         None => Err(RunFault::NotThere),
     }
 }

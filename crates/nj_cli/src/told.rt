@@ -2,7 +2,7 @@
 
 ghost use Rattle.std.specs.Prelude.{◌≡◌};
 ghost use Rattle.nj_cli.specs.FaultLines.{line_of, unreadable_words, out_of_memory};
-ghost use Rattle.nj_cli.specs.Steps.{made_line, TellsFault, Delivers};
+ghost use Rattle.nj_cli.specs.RunAnswers.{made_line, TellsFault, Delivers};
 ghost use Rattle.nj_cli.specs.Told.{Told};
 
 use crate::fault::RunFault;

@@ -2,10 +2,10 @@ use Rattle.std.proofs.Common.{refl, sym}
 use Rattle.nj_cli.proofs.Running.{RunsAs-refused, RunsAs-fault}
 use Rattle.nj_cli.proofs.run.run_words.Goals as goal
 
-pub returns-in_default-clause-run : goal.returns-in_default-clause-run
-returns-in_default-clause-run g c =
-    RunsAs-refused _ _ _ _ _ (sym c.in_default.ensures) refl refl refl c.refuse_words.ensures.line c.refuse_words.ensures.status
+pub returns-in_default : goal.returns-in_default
+returns-in_default g c =
+    RunsAs-refused _ _ _ _ (sym c.in_default.ensures) refl refl c.refuse_words.ensures.line c.refuse_words.ensures.status
 
-pub returns-in-Err-clause-run : goal.returns-in-Err-clause-run
-returns-in-Err-clause-run g c =
-    RunsAs-fault _ _ _ _ _ _ (sym c.in-Some.ensures) refl c.tell_fault.ensures.status c.in-Err.fault c.in-Err.ensures.finds c.tell_fault.ensures.line
+pub returns-in-Err : goal.returns-in-Err
+returns-in-Err g c =
+    RunsAs-fault _ _ _ _ _ (sym c.in-Some.ensures) refl c.tell_fault.ensures.status c.in-Err.fault c.in-Err.ensures c.tell_fault.ensures.line

@@ -2,14 +2,14 @@
 use Rattle.std.specs.Prelude.{◌≡◌, ◌⊎◌, ℕ, Option, Some, None, Result, Ok, Err, String, List, [], ◌∷◌, string_bytes}
 use Rattle.std.specs.Global.{Vec}
 use Rattle.std.specs.declared.alloc.AllocError.{AllocError}
-use Rattle.nj_scope.specs.Readings.{Reading, bytes_in}
+use Rattle.nj_scope.specs.Readings.{Reading, bytes_in, paths_of, IsPrefix}
+use Rattle.nj_scope.specs.Sources.{SourceState, HasRead, Rises}
 use Rattle.nj_scope.specs.declared.source.SourceFault.{SourceFault}
 use Rattle.nj_scope.specs.declared.source.SourceFault.TheVariants as source
 use Rattle.nj_tools.specs.Sinks.{SinkState}
 use Rattle.nj_cli.specs.FaultLines.{line_of, out_of_memory, not_there, unreadable, not_read_yet, target_not_read_yet, unknown_target}
 use Rattle.nj_cli.specs.Graph.{EdgeText, maker_of, row_of}
 use Rattle.nj_cli.specs.Outcome.{Outcome, done, faulty, main_file, target_fault, first_fault, outcome_of_main}
-use Rattle.nj_cli.specs.Runs.{HasRead, IsBeginning, IsShort, Rises, paths_of}
 use Rattle.nj_cli.specs.Told.{Took, Failed, Told}
 use Rattle.nj_cli.specs.declared.fault.RunFault.{RunFault}
 use Rattle.nj_cli.specs.declared.fault.RunFault.TheVariants as fault
@@ -67,30 +67,33 @@ AnswersAs o (Err fault.Unreadable) = ⊥
 AnswersAs o (Err f) = o ≡ faulty (fault_text f)
 
 -- the main file was read, and the answer is by what was found of it
-pub record AnswersByMain (targets : List (List ℕ)) (table : List Reading) (failures0 failures1 : ℕ) (answer : Result (Vec ℕ) RunFault) : Type 0 where
+pub record AnswersByMain (targets : List (List ℕ)) (table : List Reading) (before after : SourceState)
+    (answer : Result (Vec ℕ) RunFault) : Type 0 where
   pub paths : paths_of table ≡ main_file ∷ []
-  pub failures : failures1 ≡ failures0
+  pub failures : after.failures ≡ before.failures
   pub outcome : AnswersAs (outcome_of_main (bytes_in table main_file) targets) answer
 
--- memory was refused
-pub record LacksMemory (table : List Reading) (failures0 failures1 : ℕ) : Type 0 where
-  pub paths : IsBeginning (paths_of table) (main_file ∷ [])
-  pub failures : failures1 ≡ failures0
+-- an allocation failed
+pub record LacksMemory (table : List Reading) (before after : SourceState) : Type 0 where
+  pub paths : IsPrefix (paths_of table) (main_file ∷ [])
+  pub failures : after.failures ≡ before.failures
 
--- the source failed
-pub record LacksMain (table : List Reading) (failures0 failures1 : ℕ) : Type 0 where
-  pub paths : IsShort (paths_of table) (main_file ∷ [])
-  pub failures : Rises failures0 failures1
+-- the source failed at the main file
+pub record LacksMain (table : List Reading) (before after : SourceState) : Type 0 where
+  pub nothing : table ≡ []
+  pub failures : Rises before.failures after.failures
 
--- how the commands are found, where these were the readings
-abbrev pub FindsBy : (targets : List (List ℕ)) → (table : List Reading) → (failures0 failures1 : ℕ) → Result (Vec ℕ) RunFault → Type 0
-FindsBy targets table failures0 failures1 (Err fault.OutOfMemory) = LacksMemory table failures0 failures1
-FindsBy targets table failures0 failures1 (Err fault.Unreadable) = LacksMain table failures0 failures1
-FindsBy targets table failures0 failures1 answer = AnswersByMain targets table failures0 failures1 answer
+-- the answer, where these were the readings
+abbrev pub AnswersByTable : (targets : List (List ℕ)) → (table : List Reading) → (before after : SourceState)
+    → Result (Vec ℕ) RunFault → Type 0
+AnswersByTable targets table before after (Err fault.OutOfMemory) = LacksMemory table before after
+AnswersByTable targets table before after (Err fault.Unreadable) = LacksMain table before after
+AnswersByTable targets table before after answer = AnswersByMain targets table before after answer
 
-abbrev pub Finds : (targets : List (List ℕ)) → (said : List ℕ → Option (Option (List ℕ))) → (readings0 readings1 : Option (List Reading)) → (failures0 failures1 : ℕ) → Result (Vec ℕ) RunFault → Type 0
-Finds targets said readings0 readings1 failures0 failures1 answer =
-    (table : List Reading) × HasRead said readings0 readings1 table × FindsBy targets table failures0 failures1 answer
+-- the command lines that the targets need, by the source's main file
+abbrev pub AnswersCommands : (targets : List (List ℕ)) → (before after : SourceState) → Result (Vec ℕ) RunFault → Type 0
+AnswersCommands targets before after answer =
+    (table : List Reading) × HasRead before after table × AnswersByTable targets table before after answer
 
 -- ---- the two outputs
 
