@@ -3,11 +3,12 @@
 ghost use Rattle.std.specs.Prelude.{◌≡◌, ◌+◌, ◌<◌, ◌≤◌, ◌↔◌, [], Some, Ok, Err, option_copied, vec_len, length, take, drop, IfOk, OnOk, IsTrue};
 ghost use Rattle.std.specs.Io.KnownBytes.{Consumes, IsAtEnd};
 
-use nj_scope::{FileSource, SourceFault};
+use nj_scope::{FileSource, HashKeys, SourceFault};
 use std::alloc::{AllocError, Global};
 use std::fs::{self, OpenFile};
 use std::io::{ErrorKind, Read};
 use std::marker::Model;
+use std::random::RandomSource;
 use std::rt::Files;
 
 /// The greatest number of bytes that are read of a file.
@@ -28,6 +29,7 @@ const PIECE: usize = 131_072;
 pub struct DiskFiles<R: Drop> {
     rt: R,
     input_name: Option<String>,
+    keys: HashKeys,
     failed: u64,
 }
 
@@ -40,21 +42,34 @@ impl<R: Drop> Model for DiskFiles<R> {
     ghost view = { λ d. record { input_name = option_map string_bytes d.input_name; failed = d.failed } };
 }
 
-impl<R: Drop> DiskFiles<R> {
-    /// The files of the working folder. A file of the name `stdin_for` is read from standard input; the name
-    /// counts as it is written.
+impl<R: RandomSource + Drop> DiskFiles<R> {
+    /// The files of the working folder. A file of the name `stdin_for` is read from standard input;
+    /// the name counts as it is written. The keys of hashes are drawn here, once for the run. If the
+    /// system has no random bytes to give, they are those that everyone knows.
     pub fn new(rt: R, alloc: Global, stdin_for: Option<&str>) -> Result<DiskFiles<R>, AllocError>
-        ensures { IfOk result (λ disk. disk ≡ record { input_name = option_copied stdin_for.entry; failed = 0 }) }
+        ensures { IfOk result (λ disk. disk ≡
+            record { input_name = option_copied stdin_for.entry; failed = 0 }) }
     {
         let input_name = match stdin_for {
             Some(name) => Some(String::from_str(alloc, name)?),
             None => None,
         };
+        let keys = drawn_keys(&rt);
         Ok(DiskFiles {
             rt,
             input_name,
+            keys,
             failed: 0,
         })
+    }
+}
+
+/// Keys that no stranger knows, if the system has random bytes to give.
+fn drawn_keys<R: RandomSource>(rt: &R) -> HashKeys {
+    let mut drawn = [0; 8];
+    match rt.fill_bytes(&mut drawn) {
+        Ok(()) => HashKeys::new(u64::from_le_bytes(drawn)),
+        Err(_) => HashKeys::default(),
     }
 }
 
@@ -96,6 +111,10 @@ impl<R: Files + Input + Drop> FileSource for DiskFiles<R> {
             self.failed = self.failed.saturating_add(1);
         }
         answer
+    }
+
+    fn hash_keys(&self) -> HashKeys {
+        self.keys
     }
 }
 

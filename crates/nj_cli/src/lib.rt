@@ -16,7 +16,7 @@ mod status;
 mod told;
 
 pub use disk::DiskFiles;
-pub use nj_scope::{FileSource, FileTable, MemoryFiles, SourceFault};
+pub use nj_scope::{FileSource, FileTable, HashKeys, MemoryFiles, SourceFault};
 pub use nj_tools::{MemorySink, Sink, SinkFault, WriteSink};
 pub use order::order_law;
 pub use run::run_words;

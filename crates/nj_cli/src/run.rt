@@ -79,7 +79,7 @@ fn commands<'w, S: FileSource>(
     ensures { AnswersCommands (map string_bytes targets.now)
         (S.state source.old) (S.state source.new) result }
 {
-    let mut files = FileTable::new(alloc);
+    let mut files = FileTable::new(alloc, source.hash_keys());
     match files.open(alloc, source, MAIN_FILE)? {
         Some(text) => commands_of(alloc, text.as_slice(), targets),
         None => Err(RunFault::NotThere),

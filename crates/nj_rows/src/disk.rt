@@ -1,5 +1,7 @@
 use nj_cli::{DiskFiles, FileSource, SourceFault};
 use std::fs;
+use std::hash::{BuildHasher, Hasher};
+use std::rt::Files;
 use std::test::Fail;
 
 #[test]
@@ -35,5 +37,21 @@ fn not_there_is_no_fault(rt: HostRuntime) -> Result<(), Fail> {
         let answer = disk.read(rt.alloc(), path);
         assert!(rt; matches!(&answer, Err(SourceFault::Io)));
     }
+    Ok(())
+}
+
+/// The hash of one byte, by the keys of this source.
+fn hash_of_a_byte<R: Files + Input + Drop>(disk: &DiskFiles<R>) -> u64 {
+    let mut hasher = disk.hash_keys().build_hasher();
+    hasher.write_u8(7);
+    hasher.finish()
+}
+
+#[test]
+fn draws_keys_of_hashes(rt: HostRuntime) -> Result<(), Fail> {
+    let one = DiskFiles::new(rt, rt.alloc(), None)?;
+    let other = DiskFiles::new(rt, rt.alloc(), None)?;
+    assert_eq!(rt; hash_of_a_byte(&one), hash_of_a_byte(&one));
+    assert_ne!(rt; hash_of_a_byte(&one), hash_of_a_byte(&other));
     Ok(())
 }
