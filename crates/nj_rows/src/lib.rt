@@ -1,7 +1,9 @@
-//! Worked runs of `ninja-explain` over files in memory, and readings of a disk.
+//! Worked runs of `ninja-explain` over files in memory, readings of a disk, and writes to sinks.
 #![tactic(auto)]
 
 #[cfg(test)]
 mod disk;
 #[cfg(test)]
 mod runs;
+#[cfg(test)]
+mod sinks;

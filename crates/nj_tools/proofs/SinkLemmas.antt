@@ -1,11 +1,8 @@
 -- How what a sink took, one answer after the other, joins.
-use Rattle.std.proofs.Common.{◌≡◌, ◌≢◌, ℕ, zero, suc, ◌<◌, ◌+◌, ◌-◌, ◌^◌, Bool, ◌||◌, List, [], ◌∷◌, ◌++◌, length, take, drop, Option, Some, None, Result, Ok, Err, refl, ap, ◌∙◌, arith, append_assoc, take-append-drop}
+use Rattle.std.proofs.Common.{◌≡◌, ◌≢◌, ℕ, zero, suc, ◌-◌, Bool, ◌||◌, List, [], ◌∷◌, ◌++◌, length, take, drop, Ok, refl, ap, ◌∙◌, arith, append_assoc, take-append-drop}
 use Rattle.std.proofs.lemmas.List.{take_rest}
-use Rattle.std.proofs.lemmas.Option.{none-some, same_Some}
-use Rattle.std.specs.Io.KnownBytes.{Appends}
 use Rattle.std.proofs.KnownBytes.{Appends-nil, Appends-trans}
-use Rattle.nj_tools.specs.declared.sinks.SinkFault.{SinkFault}
-use Rattle.nj_tools.specs.Sinks.{SinkState, Takes, FailsAfter, Puts, Writes, TellsWritten, has_bytes, one_more}
+use Rattle.nj_tools.specs.Sinks.{SinkState, Takes, FailsAfter, Puts, has_bytes}
 
 -- at first nothing was taken
 pub Takes-nil : (s : SinkState) → Takes s s []
@@ -50,20 +47,3 @@ IsUnderway-put old before after text (byte ∷ rest) (suc more) so_far put some 
       rw (take_rest (byte ∷ rest) (suc more), append_assoc, joined) parts,
       Takes-trans _ _ _ _ _ taken put.1,
     )
-
--- bytes that were told, and those that follow them
-Appends-told : (old new : Option (List ℕ)) (before bytes : List ℕ) → old ≡ Some before → Appends old new bytes → new ≡ Some (before ++ bytes)
-Appends-told None new before bytes told appended = absurd (none-some before told)
-Appends-told (Some xs) None before bytes told appended = absurd appended
-Appends-told (Some xs) (Some ys) before bytes told appended = ap Some (appended ∙ ap (λ l. l ++ bytes) (same_Some xs before told))
-
--- what a sink that tells its bytes tells after a whole write
-pub TellsWritten-from : (old new : SinkState) (before text : List ℕ) (result : Result Unit SinkFault)
-    → old.taken ≡ Some before → Writes old new text result → TellsWritten before new text result
-TellsWritten-from old new before text (Ok done) told written = Appends-told _ _ _ _ told written.taken
-TellsWritten-from old new before text (Err fault) told written =
-    let (front, cut, failed) = written in (front, cut, Appends-told _ _ _ _ told failed.taken)
-
--- below its greatest value the count of failures rises by one
-pub one_more-below : (failures : ℕ) → failures < 2 ^ 64 - 1 → one_more failures ≡ failures + 1
-one_more-below failures below = omega arith

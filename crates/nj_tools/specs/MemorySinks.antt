@@ -1,4 +1,4 @@
--- What can be told of a sink in memory.
+-- What is known of a sink in memory.
 use Rattle.std.specs.Prelude.{ℕ, ◌-◌, Bool, List, length, take, Option, Some, None}
 use Rattle.nj_tools.specs.Sinks.{SinkState}
 
@@ -6,14 +6,14 @@ use Rattle.nj_tools.specs.Sinks.{SinkState}
 pub record Memory : Type 0 where
   -- the bytes that it took so far
   pub bytes : List ℕ
-  -- how many bytes it takes at most, where there is a limit
+  -- how many bytes it takes at most; `None` if there is no limit
   pub limit : Option ℕ
   -- how many bytes fit in the memory that it holds
   pub capacity : ℕ
   pub failures : ℕ
   pub took_since_failure : Bool
 
--- what can be told of it as of any sink: it tells its bytes
+-- what is known of it as of any sink
 abbrev pub state_of : Memory → SinkState
 state_of m = record { taken = Some m.bytes; failures = m.failures; took_since_failure = m.took_since_failure }
 

@@ -1,11 +1,11 @@
--- What can be told of a sink, and what a sink and a whole write do to it.
-use Rattle.std.specs.Prelude.{◌≡◌, ◌≢◌, ℕ, zero, suc, ◌+◌, ◌-◌, ◌^◌, ◌≤◌, min, Bool, true, false, ◌||◌, List, [], ◌∷◌, ◌++◌, length, take, Option, Some, Result, Ok, Err}
+-- What is known of a sink, and what a sink and a whole write do to it.
+use Rattle.std.specs.Prelude.{◌≡◌, ◌≢◌, ℕ, zero, suc, ◌+◌, ◌-◌, ◌^◌, ◌≤◌, min, Bool, true, false, ◌||◌, List, [], ◌∷◌, ◌++◌, length, take, Option, Result, Ok, Err}
 use Rattle.std.specs.Io.KnownBytes.{Appends}
 use Rattle.nj_tools.specs.declared.sinks.SinkFault.{SinkFault}
 
--- what can be told of a sink
+-- what is known of a sink
 pub record SinkState : Type 0 where
-  -- the bytes that it took so far, of a sink that tells them
+  -- the bytes that it took so far; `None` for a sink that does not say
   pub taken : Option (List ℕ)
   -- how often it failed to take bytes
   pub failures : ℕ
@@ -49,9 +49,3 @@ IsCutShort front text = (rest : List ℕ) × (front ++ rest ≡ text) × (rest �
 abbrev pub Writes : SinkState → SinkState → List ℕ → Result Unit SinkFault → Type 0
 Writes old new text (Ok done) = Takes old new text
 Writes old new text (Err fault) = (front : List ℕ) × IsCutShort front text × FailsAfter old new front
-
--- what a sink that told the bytes before tells after a whole write: the text follows them, or a beginning of it
-abbrev pub TellsWritten : List ℕ → SinkState → List ℕ → Result Unit SinkFault → Type 0
-TellsWritten before new text (Ok done) = new.taken ≡ Some (before ++ text)
-TellsWritten before new text (Err fault) =
-    (front : List ℕ) × IsCutShort front text × (new.taken ≡ Some (before ++ front))

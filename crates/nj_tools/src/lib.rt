@@ -10,6 +10,3 @@ pub use memory::MemorySink;
 pub use sinks::{Sink, SinkFault};
 pub use whole::write_whole;
 pub use writer::WriteSink;
-
-#[cfg(test)]
-mod tests;

@@ -7,7 +7,7 @@ use crate::sinks::{Sink, SinkFault};
 use std::alloc::Global;
 use std::marker::Model;
 
-/// Keeps what it takes in memory, up to a limit. A refused growth is a failure like any other.
+/// Keeps what it takes in memory, up to a limit. A failed allocation is a failure like any other.
 #[derive(Drop)]
 pub struct MemorySink {
     bytes: Vec<u8>,
@@ -37,7 +37,7 @@ impl Model for MemorySink {
 impl MemorySink {
     ghost use Rattle.nj_tools.specs.MemorySinks.{fitting};
 
-    /// A sink that took nothing yet, and takes at most `limit` bytes. It takes no memory.
+    /// A sink that has taken nothing yet, and takes at most `limit` bytes. It allocates nothing.
     pub fn new(alloc: Global, limit: Option<usize>) -> MemorySink
         ensures { result ≡ record {
           bytes = [];
@@ -85,7 +85,7 @@ impl Sink for MemorySink {
         ensures limit { self.new.limit ≡ self.old.limit }
         ensures count { IfOk result (λ count. count ≡ length (fitting self.old bytes.now)) }
 
-        // At the limit it always fails, and below it only where the memory would have to grow.
+        // At the limit it always fails, and below it only if its memory would have to grow.
         ensures empty { bytes.now ≡ [] → IsOk result }
         ensures full { bytes.now ≢ [] → fitting self.old bytes.now ≡ [] → IsErr result }
         ensures memory { OnErr result ((fitting self.old bytes.now ≡ [])

@@ -23,10 +23,10 @@ impl Error for SinkFault {}
 pub trait Sink {
     ghost use Rattle.nj_tools.specs.Sinks.{SinkState, Puts};
 
-    // What can be told of the sink.
+    // What is known of the sink.
     ghost state: { Self → SinkState };
 
-    /// Takes bytes from the front, and answers how many. An error, or 0 where there are some, is a
+    /// Takes bytes from the front, and returns how many. An error, or 0 if there are some, is a
     /// failure: nothing was taken, and the count of failures rises by one.
     fn put(&mut self, bytes: &[u8]) -> Result<usize, SinkFault>
         ensures { Puts (state self.old) (state self.new) bytes.now result };

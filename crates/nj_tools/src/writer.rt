@@ -6,7 +6,7 @@ use crate::sinks::{Sink, SinkFault};
 use std::io::Write;
 use std::marker::Model;
 
-/// Puts what it is given to a writer, once. An interrupted write is a failure like any other.
+/// Writes what it is given to a writer, in one call. An interrupted write is a failure like any other.
 #[derive(Drop)]
 pub struct WriteSink<W: Write> {
     writer: W,
@@ -27,7 +27,7 @@ impl<W: Write> Model for WriteSink<W> {
 }
 
 impl<W: Write> WriteSink<W> {
-    /// A sink that tells what the writer tells, and did not fail yet.
+    /// A sink over the writer, which has not failed yet.
     pub fn new(writer: W) -> WriteSink<W>
         ensures { result ≡ record {
           taken = W.contents writer;
