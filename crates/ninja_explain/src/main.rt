@@ -1,7 +1,7 @@
-//! Tells the commands that Ninja would run.
+//! Explains Ninja files without building anything.
 #![tactic(auto)]
 
-use nj_cli::{DiskFiles, Status, WriteSink, refuse_words, run_words, tell_out_of_memory};
+use nj_cli::{DiskFiles, Status, WriteSink, refuse_words, report_out_of_memory, run_words};
 use std::io::ErrorKind;
 use std::process::ExitCode;
 use std::{env, io};
@@ -15,7 +15,7 @@ fn run(rt: HostRuntime) -> Status {
     let mut err = WriteSink::new(rt.stderr());
     let words = match words(rt) {
         Ok(words) => words,
-        Err(e) if e.kind() == ErrorKind::OutOfMemory => return tell_out_of_memory(&mut err),
+        Err(e) if e.kind() == ErrorKind::OutOfMemory => return report_out_of_memory(&mut err),
         Err(_) => return refuse_words(&mut err),
     };
     let stdin_for = if words.is_empty() {
@@ -24,13 +24,13 @@ fn run(rt: HostRuntime) -> Status {
         None
     };
     let Ok(mut files) = DiskFiles::new(rt, rt.alloc(), stdin_for) else {
-        return tell_out_of_memory(&mut err);
+        return report_out_of_memory(&mut err);
     };
     let mut out = WriteSink::new(rt.stdout());
     run_words(rt.alloc(), &mut files, &words, &mut out, &mut err)
 }
 
-/// The program's arguments, without its name. One that is no text makes it fail.
+/// The program's arguments, without its name. It fails if one of them is not UTF-8.
 fn words(rt: HostRuntime) -> io::Result<Vec<String>> {
     Ok(env::args(&rt)?.skip(1).collect(rt.alloc())?)
 }

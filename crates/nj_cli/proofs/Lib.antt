@@ -23,5 +23,5 @@ pub mod NeededWithin
 pub mod Picking
 pub mod Explaining
 pub mod Pieces
-pub mod Tellings
+pub mod Reports
 pub mod Running

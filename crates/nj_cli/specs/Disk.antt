@@ -1,4 +1,4 @@
--- What can be told of the files of a disk.
+-- What is known of the files of a disk.
 use Rattle.std.specs.Prelude.{ℕ, Option, None, List}
 use Rattle.nj_scope.specs.Sources.{SourceState}
 
@@ -8,6 +8,6 @@ pub record Disk : Type 0 where
   -- how often a reading has failed; the count is held at 2 ^ 64 - 1
   pub failed : ℕ
 
--- what can be told of it as of any source: how often it failed, and nothing of its readings and files
+-- what is known of it as of any source: how often it failed, and nothing of its readings and files
 abbrev pub disk_state : Disk → SourceState
 disk_state disk = record { readings = None; failures = disk.failed; files = λ path. None }

@@ -68,7 +68,8 @@ or_defaults edges (target ∷ targets) = target ∷ targets
 
 -- why the word is no target, if it is none
 abbrev pub target_fault : List EdgeText → (word : List ℕ) → Option (List ℕ)
-target_fault edges word = if is_path word then (if is_named edges word then None else Some (unknown_target word)) else Some target_not_read_yet
+target_fault edges word =
+    if is_path word then (if is_named edges word then None else Some (unknown_target word)) else Some target_not_read_yet
 
 abbrev pub first_of : Option (List ℕ) → Option (List ℕ) → Option (List ℕ)
 first_of None others = others

@@ -10,7 +10,7 @@ use Rattle.nj_tools.specs.Sinks.{SinkState}
 use Rattle.nj_cli.specs.FaultLines.{line_of, out_of_memory, not_there, unreadable, not_read_yet, target_not_read_yet, unknown_target}
 use Rattle.nj_cli.specs.Graph.{EdgeText, maker_of, row_of}
 use Rattle.nj_cli.specs.Outcome.{Outcome, done, faulty, main_file, target_fault, first_fault, outcome_of_main}
-use Rattle.nj_cli.specs.Told.{Took, Failed, Told}
+use Rattle.nj_cli.specs.Reported.{Took, Failed, Reported}
 use Rattle.nj_cli.specs.declared.fault.RunFault.{RunFault}
 use Rattle.nj_cli.specs.declared.fault.RunFault.TheVariants as fault
 use Rattle.nj_cli.specs.declared.reading.ReadFault.{ReadFault}
@@ -41,7 +41,7 @@ fault_of_reading reading.OutOfMemory = fault.OutOfMemory
 
 -- ---- the targets
 
--- The fault is told by this text. Memory may be refused, and the source has no part in it.
+-- The text of the fault is as expected. An allocation may fail; the source has no part in it.
 abbrev pub IsFault : RunFault → Option (List ℕ) → Type 0
 IsFault fault.OutOfMemory expected = Unit {0}
 IsFault fault.Unreadable expected = ⊥
@@ -59,7 +59,7 @@ PicksTargets edges words (Err f) = IsFault f (first_fault edges words)
 
 -- ---- the commands
 
--- The outcome is that of the commands, or of the fault. Memory may be refused, and the source has no part in it.
+-- The outcome is that of the commands, or of the fault. An allocation may fail; the source has no part in it.
 abbrev pub AnswersAs : Outcome → Result (Vec ℕ) RunFault → Type 0
 AnswersAs o (Ok text) = o ≡ done text.items
 AnswersAs o (Err fault.OutOfMemory) = Unit {0}
@@ -97,15 +97,15 @@ AnswersCommands targets before after answer =
 
 -- ---- the two outputs
 
--- the line that was made, or that there was no memory to make it
+-- the line that was made, or that an allocation failed
 abbrev pub made_line : {Y : Type 0} → Result (String Y) AllocError → List ℕ
 made_line (Ok line) = string_bytes line
 made_line (Err e) = line_of out_of_memory
 
--- the fault was told; or that there was no memory to make its line, unless it is that the source failed
-abbrev pub TellsFault : RunFault → (old new : SinkState) → Type 0
-TellsFault fault.Unreadable old new = Told old new (line_of unreadable)
-TellsFault f old new = Told old new (line_of (fault_text f)) ⊎ Told old new (line_of out_of_memory)
+-- The fault was reported, or out of memory if its line could not be made. The line of a source that failed is always there.
+abbrev pub ReportsFault : RunFault → (old new : SinkState) → Type 0
+ReportsFault fault.Unreadable old new = Reported old new (line_of unreadable)
+ReportsFault f old new = Reported old new (line_of (fault_text f)) ⊎ Reported old new (line_of out_of_memory)
 
 -- how the writing of the output ends
 abbrev pub Delivers : (old new : SinkState) → List ℕ → Status → Type 0

@@ -5,11 +5,11 @@ use Rattle.nj_scope.specs.Sources.{SourceState, HasRead, Rises}
 use Rattle.nj_tools.specs.Sinks.{SinkState}
 use Rattle.nj_cli.specs.Outcome.{outcome_of, targets_of, paths_read}
 use Rattle.nj_cli.specs.FaultLines.{line_of, out_of_memory, unreadable}
-use Rattle.nj_cli.specs.Told.{Took, Failed, Told}
+use Rattle.nj_cli.specs.Reported.{Took, Failed, Reported}
 use Rattle.nj_cli.specs.declared.status.Status.{Status}
 use Rattle.nj_cli.specs.declared.status.Status.TheVariants.{Fault, OutputFailed}
 
--- what can be told of a run's source and of its two sinks
+-- what is known of a run's source and of its two sinks
 pub record Around : Type 0 where
   pub source : SourceState
   pub output : SinkState
@@ -20,15 +20,15 @@ around source output error = record { source = source; output = output; error = 
 
 -- ---- the ends
 
--- all was read, the output was taken and the error told
+-- all was read, the output was taken and the error reported
 pub record EndsWhole (words : List (List ℕ)) (table : List Reading) (old new : Around) (ending : Status) : Type 0 where
   pub paths : paths_of table ≡ paths_read words
   pub failures : new.source.failures ≡ old.source.failures
   pub output : Took old.output new.output (outcome_of table words).output
-  pub error : Told old.error new.error (outcome_of table words).error
+  pub error : Reported old.error new.error (outcome_of table words).error
   pub status : ending ≡ (outcome_of table words).status
 
--- all was read, and the sink of the output failed; the error output heard nothing
+-- all was read, and the sink of the output failed; nothing was reported
 pub record EndsCutShort (words : List (List ℕ)) (table : List Reading) (old new : Around) (ending : Status) : Type 0 where
   pub paths : paths_of table ≡ paths_read words
   pub failures : new.source.failures ≡ old.source.failures
@@ -36,22 +36,22 @@ pub record EndsCutShort (words : List (List ℕ)) (table : List Reading) (old ne
   pub error : new.error ≡ old.error
   pub status : ending ≡ OutputFailed
 
--- an allocation failed, at words that are read; the output heard nothing
+-- an allocation failed, at words that can be read; nothing was output
 pub record EndsWithoutMemory (words : List (List ℕ)) (table : List Reading) (old new : Around) (ending : Status) : Type 0 where
   pub words_are_read : IsSome (targets_of words)
   pub paths : IsPrefix (paths_of table) (paths_read words)
   pub failures : new.source.failures ≡ old.source.failures
   pub output : new.output ≡ old.output
-  pub error : Told old.error new.error (line_of out_of_memory)
+  pub error : Reported old.error new.error (line_of out_of_memory)
   pub status : ending ≡ Fault
 
--- the source failed at the path that comes next, and counted that; the output heard nothing
+-- the source failed at the path that comes next, and counted that; nothing was output
 pub record EndsUnreadable (words : List (List ℕ)) (table : List Reading) (old new : Around) (ending : Status) : Type 0 where
   pub next : List ℕ
   pub paths : IsPrefix (paths_of table ++ next ∷ []) (paths_read words)
   pub failures : Rises old.source.failures new.source.failures
   pub output : new.output ≡ old.output
-  pub error : Told old.error new.error (line_of unreadable)
+  pub error : Reported old.error new.error (line_of unreadable)
   pub status : ending ≡ Fault
 
 -- how a run with these words may end, where these were its readings

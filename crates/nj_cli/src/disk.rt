@@ -11,7 +11,7 @@ use std::marker::Model;
 use std::random::RandomSource;
 use std::rt::Files;
 
-/// The greatest number of bytes that are read of a file.
+/// The greatest number of bytes that a file may have.
 const MOST_BYTES: usize = 1_073_741_824;
 
 /// The greatest number of reads that are made of a file: one for each byte, and one at the end.
@@ -20,8 +20,8 @@ const MOST_READS: u32 = 1_073_741_825;
 /// The room that is made where the size of a file is not known.
 const FIRST_ROOM: usize = 16_384;
 
-/// How many bytes are made ready for one read at most: few enough to be still near the processor when
-/// the read fills them.
+/// How many bytes are made ready for one read at most: few enough to be still in the processor's
+/// cache when the read fills them.
 const PIECE: usize = 131_072;
 
 /// The files of the working folder. One name may stand for standard input.
@@ -39,13 +39,16 @@ impl<R: Drop> Model for DiskFiles<R> {
 
     ghost Value = { Disk };
 
-    ghost view = { λ d. record { input_name = option_map string_bytes d.input_name; failed = d.failed } };
+    ghost view = { λ d. record {
+      input_name = option_map string_bytes d.input_name;
+      failed = d.failed;
+    } };
 }
 
 impl<R: RandomSource + Drop> DiskFiles<R> {
     /// The files of the working folder. A file of the name `stdin_for` is read from standard input;
-    /// the name counts as it is written. The keys of hashes are drawn here, once for the run. If the
-    /// system has no random bytes to give, they are those that everyone knows.
+    /// the name counts as it is written. The keys of hashes are drawn here, once for the run. If
+    /// the system has no random bytes to give, they are those that everyone knows.
     pub fn new(rt: R, alloc: Global, stdin_for: Option<&str>) -> Result<DiskFiles<R>, AllocError>
         ensures { IfOk result (λ disk. disk ≡
             record { input_name = option_copied stdin_for.entry; failed = 0 }) }
@@ -74,7 +77,7 @@ fn drawn_keys<R: RandomSource>(rt: &R) -> HashKeys {
 }
 
 impl<R: Files + Input + Drop> DiskFiles<R> {
-    // The bytes of the file, of standard input where its name stands for that.
+    // The bytes of the file, or of standard input if its name stands for that.
     fn answer(&self, alloc: Global, path: &str) -> Result<Option<Vec<u8>>, SourceFault> {
         if self.is_input(path) {
             return Ok(Some(read_whole(alloc, &mut self.rt.reader(), 0)?));
@@ -118,8 +121,8 @@ impl<R: Files + Input + Drop> FileSource for DiskFiles<R> {
     }
 }
 
-/// The bytes that the reader has left. `stated` is how many it says it has: a guess, which may be too
-/// low or too high. More than a file may have, stated or read, and a read that fails, are `Io`.
+/// The bytes that the reader has left. `stated` is how many it says it has: a guess, which may be
+/// too low or too high. More than a file may have, stated or read, and a read that fails, are `Io`.
 fn read_whole<R: Read>(alloc: Global, reader: &mut R, stated: u64) -> Result<Vec<u8>, SourceFault>
     ensures bytes { IfOk result (λ bytes.
         Consumes (R.remaining reader.old) (R.remaining reader.new) bytes.items) }
@@ -193,15 +196,16 @@ fn lengthen(bytes: &mut Vec<u8>) -> Result<(), SourceFault>
     Ok(())
 }
 
-/// Reads once, to the places from this one on.
-fn read_at<R: Read>(reader: &mut R, bytes: &mut [u8], place: usize) -> Result<usize, SourceFault>
-    requires { place < length bytes.old }
-    ensures front { take place bytes.new ≡ take place bytes.old }
-    ensures fits { IfOk result (λ count. place + count ≤ length bytes.new) }
-    ensures piece { IfOk result (λ count. Consumes (R.remaining reader.old) (R.remaining reader.new) (take count (drop place bytes.new))) }
+/// Reads once, into the bytes from this position on.
+fn read_at<R: Read>(reader: &mut R, bytes: &mut [u8], position: usize) -> Result<usize, SourceFault>
+    requires { position < length bytes.old }
+    ensures front { take position bytes.new ≡ take position bytes.old }
+    ensures fits { IfOk result (λ count. position + count ≤ length bytes.new) }
+    ensures piece { IfOk result (λ count. Consumes (R.remaining reader.old)
+        (R.remaining reader.new) (take count (drop position bytes.new))) }
     ensures end { result ≡ Ok 0 → IsAtEnd (R.remaining reader.new) }
 {
-    match reader.read(&mut bytes[place..]) {
+    match reader.read(&mut bytes[position..]) {
         Ok(count) => Ok(count),
         Err(_) => Err(SourceFault::Io),
     }

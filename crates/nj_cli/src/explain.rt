@@ -12,8 +12,8 @@ use crate::path::is_path;
 use crate::reading::read_manifest;
 use std::alloc::Global;
 
-/// The command lines that the targets need, each edge after what it needs; without targets those of all
-/// that is no input.
+/// The command lines that the targets need, each after those that make its inputs. Without targets,
+/// those that the outputs need that are inputs of no edge.
 pub fn commands_of<'w>(
     alloc: Global,
     text: &[u8],
@@ -39,7 +39,8 @@ fn makers_of<'w>(
 ) -> Result<Vec<usize>, RunFault<'w>>
     requires { IsWhole graph.now }
     ensures picks { PicksTargets (edges_of graph.now) (map string_bytes targets.now) result }
-    ensures within { IfOk result (λ row. All (λ edge. edge < length (edges_of graph.now)) row.items) }
+    ensures within { IfOk result (λ row.
+        All (λ edge. edge < length (edges_of graph.now)) row.items) }
 {
     let mut row = Vec::new(alloc);
     'targets: for target in targets {

@@ -11,13 +11,13 @@ pub enum RunFault<'w> {
     NotThere,
     /// The main file could not be read.
     Unreadable,
-    /// The statement that begins at this line is none that is read.
+    /// The statement that begins at this line is not read yet.
     NotReadYet(usize),
-    /// A target is no path that is read.
+    /// A target is a path that is not read yet.
     TargetNotReadYet,
     /// No edge names the target.
     UnknownTarget(&'w str),
-    /// Memory was refused.
+    /// An allocation failed.
     OutOfMemory,
 }
 

@@ -8,16 +8,17 @@ ghost use Rattle.nj_cli.specs.RunAnswers.{AnswersCommands};
 
 use crate::explain::commands_of;
 use crate::fault::RunFault;
+use crate::report::{refuse_words, report_fault, write_output};
 use crate::status::Status;
-use crate::told::{refuse_words, tell_fault, write_output};
 use nj_scope::{FileSource, FileTable};
 use nj_tools::Sink;
 use std::alloc::Global;
 
 const MAIN_FILE: &str = "build.ninja";
 
-/// Runs the program with these words. Without words, and at `-t commands` without targets, it writes the
-/// commands of all that the main file builds; at `-t commands TARGET..` those that the targets need.
+/// Runs the program with these words. Without words, and with `-t commands` alone, it writes the
+/// commands of everything that the main file builds; with `-t commands TARGET..` those that the
+/// targets need.
 pub fn run_words<S: FileSource, O: Sink, E: Sink>(
     alloc: Global,
     source: &mut S,
@@ -34,7 +35,7 @@ pub fn run_words<S: FileSource, O: Sink, E: Sink>(
     };
     match commands(alloc, source, targets) {
         Ok(text) => write_output(out, &text),
-        Err(fault) => tell_fault(alloc, err, fault),
+        Err(fault) => report_fault(alloc, err, fault),
     }
 }
 

@@ -8,11 +8,11 @@ ghost use Rattle.nj_cli.specs.Status.{exit_code};
 pub enum Status {
     /// What was asked for was found and written.
     Done,
-    /// It was not found, as the error output says.
+    /// A fault was found, which the error output names.
     Fault,
     /// The words ask for nothing that the program does.
     Usage,
-    /// The run was given up before its end.
+    /// The run was stopped before its end.
     Stopped,
     /// The output could not be written.
     OutputFailed,

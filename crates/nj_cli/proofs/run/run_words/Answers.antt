@@ -8,4 +8,4 @@ returns-in_default g c =
 
 pub returns-in-Err : goal.returns-in-Err
 returns-in-Err g c =
-    RunsAs-fault _ _ _ _ _ (sym c.in-Some.ensures) refl c.tell_fault.ensures.status c.in-Err.fault c.in-Err.ensures c.tell_fault.ensures.line
+    RunsAs-fault _ _ _ _ _ (sym c.in-Some.ensures) refl c.report_fault.ensures.status c.in-Err.fault c.in-Err.ensures c.report_fault.ensures.line

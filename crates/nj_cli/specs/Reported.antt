@@ -1,16 +1,16 @@
--- What a sink heard of a text.
+-- What a sink did with a text.
 use Rattle.std.specs.Prelude.{◌≡◌, ◌⊎◌, ℕ, List, [], ◌∷◌}
 use Rattle.nj_tools.specs.Sinks.{SinkState, Takes, FailsAfter, IsCutShort}
 
--- the sink took the whole text; of an empty text it heard nothing
+-- the sink took the whole text; it was not asked to take an empty one
 abbrev pub Took : (old new : SinkState) → List ℕ → Type 0
 Took old new [] = new ≡ old
 Took old new (byte ∷ bytes) = Takes old new (byte ∷ bytes)
 
--- the sink took a beginning of the text, failed once, and heard nothing more
+-- the sink took a beginning of the text, failed once, and was asked for nothing more
 abbrev pub Failed : (old new : SinkState) → List ℕ → Type 0
 Failed old new text = (front : List ℕ) × IsCutShort front text × FailsAfter old new front
 
--- the text was told once: the sink took it, or failed on the way
-abbrev pub Told : (old new : SinkState) → List ℕ → Type 0
-Told old new text = Took old new text ⊎ Failed old new text
+-- the text was written once: the sink took it, or failed on the way
+abbrev pub Reported : (old new : SinkState) → List ℕ → Type 0
+Reported old new text = Took old new text ⊎ Failed old new text
