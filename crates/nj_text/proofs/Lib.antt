@@ -14,3 +14,11 @@ pub mod Stands
 pub mod SignsTaken
 pub mod UnitLaws
 pub mod PartLaws
+pub mod Pairs
+pub mod KeptParts
+pub mod SlashPieces
+pub mod NamesDropped
+pub mod WrittenParts
+pub mod CleanTexts
+pub mod CleanPaths
+pub mod PathRows

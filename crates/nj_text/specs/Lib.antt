@@ -9,3 +9,6 @@ pub mod Scans
 pub mod Gathering
 pub mod Standing
 pub mod Laws
+pub mod Paths
+pub mod PathLaws
+pub mod Cleaning

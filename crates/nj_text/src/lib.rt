@@ -4,6 +4,7 @@
 #![tactic(auto)]
 
 mod blanks;
+mod cleaning;
 mod cursor;
 mod dollar;
 mod fault;
@@ -13,6 +14,9 @@ mod lexer;
 mod next;
 mod numbers;
 mod parts;
+mod path_laws;
+mod paths;
+mod pieces;
 mod runs;
 mod sign;
 mod signs;
@@ -28,9 +32,15 @@ pub use laws::{
 };
 pub use lexer::Lexer;
 pub use numbers::{leading_number, version_of};
+pub use path_laws::{
+    clean_paths_stay, cleaning_gives_clean_paths, cleaning_twice_is_cleaning_once,
+};
+pub use paths::{TextFault, clean_into, clean_path, is_clean};
 pub use sign::{LineStart, Sign};
 pub use spot::Spot;
 pub use word::{Part, Word};
 
+#[cfg(test)]
+mod path_tests;
 #[cfg(test)]
 mod tests;

@@ -1,0 +1,171 @@
+-- The clean paths: what cleaning gives, and what it leaves as it is.
+use Rattle.std.proofs.Common.{◌≡◌, ◌≢◌, ℕ, zero, suc, ◌+◌, ◌<◌, Bool, true, false, eqb, List, [], ◌∷◌, ◌++◌, length, drop, replicate, refl, sym, ap, ◌∙◌, subst, arith, append_assoc, length-append}
+use Rattle.std.specs.Prelude.{◌||◌, ◌↔◌, IsTrue}
+use Rattle.std.specs.List.{slice_split, AllByRecursion}
+use Rattle.std.proofs.lemmas.Bool.Decides.{nat_tests}
+use Rattle.std.proofs.lemmas.List.Elements.{All-from_recursion, recursion_from_All}
+use Rattle.std.proofs.lemmas.List.Splits.{length-slice_split, join_with_byte-slice_split}
+use Rattle.nj_text.specs.Bytes.{drop_while}
+use Rattle.nj_text.specs.Paths.{is_slash, is_up, leads_nowhere, is_absolute, IsName, without_leftmost_pair, relative_text, absolute_text, clean_path_of}
+use Rattle.nj_text.specs.PathLaws.{IsCleanPath, IsHere, IsRoot, IsRelative, IsAbsolute, CleaningGivesCleanPaths, CleanPathsStay, CleaningTwiceIsCleaningOnce}
+use Rattle.nj_text.specs.Cleaning.{parts_kept, nothing_kept, text_kept, all_stay, is_here, stays_clean}
+use Rattle.nj_text.proofs.KeptParts.{down_from_names, parts_after, kept-ups, drop-kept}
+use Rattle.nj_text.proofs.SlashPieces.{slash_is}
+use Rattle.nj_text.proofs.WrittenParts.{text_of, AllGo, go-kept, long_text}
+use Rattle.nj_text.proofs.CleanTexts.{AllWhole, kept_of, names-kept, relative-kept, absolute-kept, pieces-text, text-relative, stay-names, stay-ups, stay-kept, stay-down}
+
+-- ---- what is written
+
+here_is : (path : List ℕ) → is_here path ≡ true → path ≡ 46 ∷ []
+here_is [] h = absurd (cc)
+here_is (b ∷ []) h = let e : b ≡ 46 = grind (arith, nat_tests, h) in rw e refl
+here_is (b ∷ c ∷ path) h = absurd (cc)
+
+absolute_is : (path : List ℕ) → is_absolute path ≡ true → path ≡ 47 ∷ drop 1 path
+absolute_is [] e = absurd (cc)
+absolute_is (b ∷ bs) e = rw (slash_is b e) refl
+
+relative_full : (ps : List (List ℕ)) → 0 < length ps → relative_text ps ≡ text_of ps
+relative_full [] h = absurd (omega arith)
+relative_full (p ∷ ps) h = refl
+
+clean_here : clean_path_of (46 ∷ []) ≡ 46 ∷ []
+unfolding clean_path_of without_leftmost_pair
+clean_here = refl
+
+clean_root : clean_path_of (47 ∷ []) ≡ 47 ∷ []
+unfolding clean_path_of without_leftmost_pair
+clean_root = refl
+
+pub pushed-absolute : (old new path : List ℕ) → is_absolute path ≡ true → new ≡ (old ++ 47 ∷ []) ++ text_kept true (kept_of path) → new ≡ old ++ clean_path_of path
+pushed-absolute old new path e n =
+    n ∙ append_assoc old (47 ∷ []) (text_kept true (kept_of path)) ∙ ap (λ xs. old ++ xs) (sym (absolute-kept path e))
+
+relative_none : (ps : List (List ℕ)) → AllGo ps → length (text_of ps) ≡ 0 → text_of ps ++ 46 ∷ [] ≡ relative_text ps
+relative_none [] h l = refl
+relative_none (p ∷ ps) h l = absurd (omega (arith, long_text p ps h.0))
+
+relative_some : (ps : List (List ℕ)) → 0 < length (text_of ps) → text_of ps ≡ relative_text ps
+relative_some [] l = absurd (omega arith)
+relative_some (p ∷ ps) l = refl
+
+pub pushed-none : (old new path : List ℕ) → is_absolute path ≡ false → new ≡ old ++ text_kept false (kept_of path) → length new ≡ length old → new ++ 46 ∷ [] ≡ old ++ clean_path_of path
+pushed-none old new path e n l =
+    let parts = parts_kept (kept_of path).ups (kept_of path).names in
+    let none : length (text_of parts) ≡ 0 = omega (arith, l, ap length n, length-append old (text_of parts)) in
+    ap (λ xs. xs ++ 46 ∷ []) n ∙ append_assoc old (text_of parts) (46 ∷ [])
+    ∙ ap (λ xs. old ++ xs) (relative_none parts (go-kept (kept_of path).ups (kept_of path).names (names-kept path)) none ∙ sym (relative-kept path e))
+
+pub pushed-some : (old new path : List ℕ) → is_absolute path ≡ false → new ≡ old ++ text_kept false (kept_of path) → length new ≢ length old → new ≡ old ++ clean_path_of path
+pushed-some old new path e n l =
+    let parts = parts_kept (kept_of path).ups (kept_of path).names in
+    let some : 0 < length (text_of parts) = omega (arith, l, ap length n, length-append old (text_of parts)) in
+    n ∙ ap (λ xs. old ++ xs) (relative_some parts some ∙ sym (relative-kept path e))
+
+-- ---- a path whose pieces all stay is clean
+
+relative_stays : (path : List ℕ) → is_absolute path ≡ false → all_stay false (slice_split is_slash path) ≡ true → clean_path_of path ≡ path
+relative_stays path e h =
+    let pieces : parts_kept (kept_of path).ups (kept_of path).names ≡ slice_split is_slash path = stay-kept (slice_split is_slash path) false 0 [] (λ c. refl) h in
+    relative-kept path e ∙ ap relative_text pieces ∙ relative_full (slice_split is_slash path) (omega (arith, length-slice_split is_slash path)) ∙ join_with_byte-slice_split 47 path
+
+absolute_stays : (bs : List ℕ) → all_stay true (slice_split is_slash bs) ≡ true → clean_path_of (47 ∷ bs) ≡ 47 ∷ bs
+absolute_stays bs h =
+    let pieces : parts_after nothing_kept (slice_split is_slash bs) ≡ slice_split is_slash bs = stay-kept (slice_split is_slash bs) true 0 [] (λ c. refl) h in
+    let names : parts_kept 0 (kept_of bs).names ≡ slice_split is_slash bs =
+    sym (drop-kept (kept_of bs).ups (kept_of bs).names (down_from_names (kept_of bs).names (names-kept bs))) ∙ ap (drop_while is_up) pieces ∙ stay-down (slice_split is_slash bs) h in
+    absolute-kept (47 ∷ bs) refl ∙ ap absolute_text names ∙ ap (λ xs. 47 ∷ xs) (join_with_byte-slice_split 47 bs)
+
+pub clean-stays : (path : List ℕ) → stays_clean path ≡ true → clean_path_of path ≡ path
+clean-stays path h = by_front (is_absolute path) refl
+  where
+    rooted : (bs : List ℕ) → eqb (length bs) 0 || all_stay true (slice_split is_slash bs) ≡ true → clean_path_of (47 ∷ bs) ≡ 47 ∷ bs
+    rooted [] h = clean_root
+    rooted (b ∷ bs) h = let some : eqb (suc (length bs)) 0 ≡ false = grind (arith, nat_tests) in absolute_stays (b ∷ bs) (sym (ap (λ t. t || all_stay true (slice_split is_slash (b ∷ bs))) some) ∙ h)
+
+    relative : (t : Bool) → is_here path ≡ t → t || all_stay false (slice_split is_slash path) ≡ true → is_absolute path ≡ false → clean_path_of path ≡ path
+    relative true t h e = ap clean_path_of (here_is path t) ∙ clean_here ∙ sym (here_is path t)
+    relative false t h e = relative_stays path e h
+
+    by_front : (t : Bool) → is_absolute path ≡ t → clean_path_of path ≡ path
+    by_front true e = ap clean_path_of (absolute_is path e) ∙ rooted (drop 1 path) (rw e at h) ∙ sym (absolute_is path e)
+    by_front false e = relative (is_here path) refl (rw e at h) e
+
+-- ---- what cleaning gives
+
+names_push : (ns : List (List ℕ)) (n : List ℕ) → AllByRecursion IsName ns → IsName n → AllByRecursion IsName (ns ++ n ∷ [])
+names_push [] n h i = (i, tt)
+names_push (m ∷ ns) n h i = (h.0, names_push ns n h.1 i)
+
+names_in_order : (names : List (List ℕ)) → AllByRecursion IsName names → AllByRecursion IsName (parts_kept 0 names)
+names_in_order [] h = tt
+names_in_order (n ∷ names) h = names_push (parts_kept 0 names) n (names_in_order names h.1) h.0
+
+is_relative : (ups : ℕ) (ns : List (List ℕ)) → AllByRecursion IsName ns → IsCleanPath (relative_text (replicate ups (46 ∷ 46 ∷ []) ++ ns))
+is_relative zero [] h = IsHere refl
+is_relative zero (n ∷ ns) h = IsRelative 0 (n ∷ ns) (omega arith) (All-from_recursion IsName (n ∷ ns) h) refl
+is_relative (suc ups) ns h = IsRelative (suc ups) ns (omega arith) (All-from_recursion IsName ns h) refl
+
+is_rooted : (ns : List (List ℕ)) → AllByRecursion IsName ns → IsCleanPath (absolute_text ns)
+is_rooted [] h = IsRoot refl
+is_rooted (n ∷ ns) h = IsAbsolute (n ∷ ns) (omega arith) (All-from_recursion IsName (n ∷ ns) h) refl
+
+pub cleaning-clean : CleaningGivesCleanPaths
+cleaning-clean path = by_front (is_absolute path) refl
+  where
+    by_front : (t : Bool) → is_absolute path ≡ t → IsCleanPath (clean_path_of path)
+    by_front true e = subst IsCleanPath (sym (absolute-kept path e)) (is_rooted (parts_kept 0 (kept_of path).names) (names_in_order (kept_of path).names (names-kept path)))
+    by_front false e =
+        subst IsCleanPath (sym (relative-kept path e ∙ ap relative_text (kept-ups (kept_of path).ups (kept_of path).names)))
+        (is_relative (kept_of path).ups (parts_kept 0 (kept_of path).names) (names_in_order (kept_of path).names (names-kept path)))
+
+-- ---- the pieces of a clean path stay
+
+whole_names : (ns : List (List ℕ)) → AllByRecursion IsName ns → AllWhole ns
+whole_names [] h = tt
+whole_names (n ∷ ns) h = (h.0.has_no_slash, whole_names ns h.1)
+
+whole_ups : (n : ℕ) (ps : List (List ℕ)) → AllWhole ps → AllWhole (replicate n (46 ∷ 46 ∷ []) ++ ps)
+whole_ups zero ps h = h
+whole_ups (suc n) ps h = (refl, whole_ups n ps h)
+
+or_true : (s t : Bool) → t ≡ true → s || t ≡ true
+or_true true t e = refl
+or_true false t e = e
+
+stays_relative : (p : List ℕ) (ps : List (List ℕ)) → leads_nowhere p ≡ false → AllWhole (p ∷ ps) → all_stay false (p ∷ ps) ≡ true → stays_clean (text_of (p ∷ ps)) ≡ true
+stays_relative p ps e w h =
+    let low : is_absolute (text_of (p ∷ ps)) ≡ false = text-relative p ps e w.0 in
+    let all : all_stay false (slice_split is_slash (text_of (p ∷ ps))) ≡ true = ap (all_stay false) (pieces-text p ps w) ∙ h in
+    rw low (or_true (is_here (text_of (p ∷ ps))) (all_stay false (slice_split is_slash (text_of (p ∷ ps)))) all)
+
+relative_parts : (ups : ℕ) (ns : List (List ℕ)) → AllByRecursion IsName ns → 0 < ups + length ns → stays_clean (text_of (replicate ups (46 ∷ 46 ∷ []) ++ ns)) ≡ true
+relative_parts zero [] h l = absurd (omega arith)
+relative_parts zero (n ∷ ns) h l = stays_relative n ns h.0.leads_somewhere (whole_names (n ∷ ns) h) (stay-names false (n ∷ ns) h)
+relative_parts (suc ups) ns h l =
+    stays_relative (46 ∷ 46 ∷ []) (replicate ups (46 ∷ 46 ∷ []) ++ ns) refl (whole_ups (suc ups) ns (whole_names ns h)) (stay-ups (suc ups) ns (stay-names false ns h))
+
+absolute_parts : (ns : List (List ℕ)) → AllByRecursion IsName ns → 0 < length ns → stays_clean (47 ∷ text_of ns) ≡ true
+absolute_parts [] h l = absurd (omega arith)
+absolute_parts (n ∷ ns) h l =
+    or_true (eqb (length (text_of (n ∷ ns))) 0) (all_stay true (slice_split is_slash (text_of (n ∷ ns)))) (ap (all_stay true) (pieces-text n ns (whole_names (n ∷ ns) h)) ∙ stay-names true (n ∷ ns) h)
+
+stays_if_clean : (path : List ℕ) → IsCleanPath path → stays_clean path ≡ true
+stays_if_clean path (IsHere e) = ap stays_clean e
+stays_if_clean path (IsRoot e) = ap stays_clean e
+stays_if_clean path (IsRelative ups names l all e) = ap stays_clean e ∙ relative_parts ups names (recursion_from_All IsName names all) l
+stays_if_clean path (IsAbsolute names l all e) = ap stays_clean e ∙ absolute_parts names (recursion_from_All IsName names all) l
+
+pub stays-clean : (path : List ℕ) → clean_path_of path ≡ path → stays_clean path ≡ true
+stays-clean path e = stays_if_clean path (subst IsCleanPath e (cleaning-clean path))
+
+-- ---- the laws
+
+pub clean-path : CleanPathsStay
+clean-path path clean = clean-stays path (stays_if_clean path clean)
+
+pub clean-twice : CleaningTwiceIsCleaningOnce
+clean-twice path = clean-path (clean_path_of path) (cleaning-clean path)
+
+pub clean-iff : (path : List ℕ) (b : Bool) → b ≡ stays_clean path → IsTrue b ↔ (clean_path_of path ≡ path)
+clean-iff path b e = ((λ h. clean-stays path (sym e ∙ h)), (λ h. e ∙ stays-clean path h))

@@ -1,0 +1,24 @@
+-- Laws of clean paths.
+use Rattle.std.specs.Prelude.{◌≡◌, ℕ, ◌+◌, ◌<◌, List, [], ◌∷◌, ◌++◌, length, replicate}
+use Rattle.std.specs.List.{join_with_byte, All}
+use Rattle.nj_text.specs.Paths.{IsName, clean_path_of}
+
+-- `.`, or `/`, or some `..` and then names, joined by slashes, or a slash and then names, joined by slashes
+pub data IsCleanPath (path : List ℕ) : Type 0 where
+  IsHere : path ≡ 46 ∷ [] → IsCleanPath path
+  IsRoot : path ≡ 47 ∷ [] → IsCleanPath path
+  IsRelative : (ups : ℕ) (names : List (List ℕ)) → 0 < ups + length names → All IsName names
+      → path ≡ join_with_byte 47 (replicate ups (46 ∷ 46 ∷ []) ++ names) → IsCleanPath path
+  IsAbsolute : (names : List (List ℕ)) → 0 < length names → All IsName names → path ≡ 47 ∷ join_with_byte 47 names → IsCleanPath path
+
+-- what cleaning gives is clean: no part is empty or `.`, and `..` stands only before all names, and in no absolute path
+abbrev pub CleaningGivesCleanPaths : Type 0
+CleaningGivesCleanPaths = (path : List ℕ) → IsCleanPath (clean_path_of path)
+
+-- cleaning leaves a clean path as it is
+abbrev pub CleanPathsStay : Type 0
+CleanPathsStay = (path : List ℕ) → IsCleanPath path → clean_path_of path ≡ path
+
+-- cleaning twice is cleaning once
+abbrev pub CleaningTwiceIsCleaningOnce : Type 0
+CleaningTwiceIsCleaningOnce = (path : List ℕ) → clean_path_of (clean_path_of path) ≡ clean_path_of path

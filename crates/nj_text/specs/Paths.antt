@@ -1,0 +1,62 @@
+-- The clean path of a path.
+use Rattle.std.specs.Prelude.{◌≡◌, ℕ, ◌==◌, Bool, true, false, not, ◌&&◌, if◌then◌else◌, List, [], ◌∷◌, length}
+use Rattle.std.specs.List.{filter, slice_split, join_with_byte, list_any}
+use Rattle.std.specs.Fn.{iterate}
+use Rattle.nj_text.specs.Bytes.{drop_while}
+
+abbrev pub is_slash : ℕ → Bool
+is_slash b = b == 47
+
+-- `..`, the folder above
+abbrev pub is_up : List ℕ → Bool
+is_up (a ∷ b ∷ []) = a == 46 && b == 46
+is_up part = false
+
+-- an empty part or `.`: it leads to where one is
+abbrev pub leads_nowhere : List ℕ → Bool
+leads_nowhere [] = true
+leads_nowhere (b ∷ []) = b == 46
+leads_nowhere part = false
+
+-- a part that leads into a folder or to a file: neither empty nor `.` nor `..`, and without a slash
+pub record IsName (part : List ℕ) : Type 0 where
+  pub leads_somewhere : leads_nowhere part ≡ false
+  pub leads_down : is_up part ≡ false
+  pub has_no_slash : list_any is_slash part ≡ false
+
+-- what stands between the slashes of a path, without empty and `.` parts
+abbrev pub parts_of_path : List ℕ → List (List ℕ)
+parts_of_path path = filter (λ part. not (leads_nowhere part)) (slice_split is_slash path)
+
+-- the first is a part other than `..`, the second is `..`
+abbrev pub is_pair : List ℕ → List ℕ → Bool
+is_pair part next = not (is_up part) && is_up next
+
+-- the parts without their leftmost pair: a part other than `..` that stands directly before a `..`
+unfoldable pub without_leftmost_pair : List (List ℕ) → List (List ℕ)
+without_leftmost_pair [] = []
+without_leftmost_pair (part ∷ []) = part ∷ []
+without_leftmost_pair (part ∷ next ∷ parts) = if is_pair part next then parts else part ∷ without_leftmost_pair (next ∷ parts)
+
+-- the parts with the leftmost pair taken out while there is one, which is at most as often as there are parts
+abbrev pub without_pairs : List (List ℕ) → List (List ℕ)
+without_pairs parts = iterate without_leftmost_pair (length parts) parts
+
+abbrev pub is_absolute : List ℕ → Bool
+is_absolute [] = false
+is_absolute (b ∷ bs) = is_slash b
+
+-- the text of a relative path: its parts, joined by slashes, or `.` where there are none
+abbrev pub relative_text : List (List ℕ) → List ℕ
+relative_text [] = 46 ∷ []
+relative_text (part ∷ parts) = join_with_byte 47 (part ∷ parts)
+
+-- the text of an absolute path: a slash, and its parts, joined by slashes
+abbrev pub absolute_text : List (List ℕ) → List ℕ
+absolute_text parts = 47 ∷ join_with_byte 47 parts
+
+-- the clean path of a path that is not empty; an absolute one loses all leading `..`
+unfoldable pub clean_path_of : List ℕ → List ℕ
+clean_path_of path =
+    if is_absolute path then absolute_text (drop_while is_up (without_pairs (parts_of_path path)))
+    else relative_text (without_pairs (parts_of_path path))
