@@ -22,3 +22,5 @@ pub mod WrittenParts
 pub mod CleanTexts
 pub mod CleanPaths
 pub mod PathRows
+pub mod QuoteRows
+pub mod QuotedTexts

@@ -12,3 +12,6 @@ pub mod Laws
 pub mod Paths
 pub mod PathLaws
 pub mod Cleaning
+pub mod Quotes
+pub mod QuoteLaws
+pub mod Quoting

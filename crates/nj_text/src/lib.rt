@@ -17,6 +17,8 @@ mod parts;
 mod path_laws;
 mod paths;
 mod pieces;
+mod quote_laws;
+mod quotes;
 mod runs;
 mod sign;
 mod signs;
@@ -36,11 +38,15 @@ pub use path_laws::{
     clean_paths_stay, cleaning_gives_clean_paths, cleaning_twice_is_cleaning_once,
 };
 pub use paths::{TextFault, clean_into, clean_path, is_clean};
+pub use quote_laws::shells_take_the_path;
+pub use quotes::quote_into;
 pub use sign::{LineStart, Sign};
 pub use spot::Spot;
 pub use word::{Part, Word};
 
 #[cfg(test)]
 mod path_tests;
+#[cfg(test)]
+mod quote_tests;
 #[cfg(test)]
 mod tests;

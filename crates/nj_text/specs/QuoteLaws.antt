@@ -1,0 +1,44 @@
+-- What a POSIX shell makes of a quoted path.
+use Rattle.std.specs.Prelude.{◌≡◌, ◌≢◌, ℕ, ◌==◌, if◌then◌else◌, Option, Some, None, List, [], ◌∷◌, ◌++◌}
+use Rattle.nj_text.specs.Quotes.{is_plain_byte, is_quote, quoted}
+
+-- where the shell stands in a word
+pub data ShellStand : Type 0 where
+  Unquoted : ShellStand
+  InQuotes : ShellStand
+  AfterBackslash : ShellStand
+
+-- what a byte adds to the word, where it has a meaning here: outside quotes plain bytes, `'` and `\`; after a `\` a `'`; in quotes every byte
+abbrev pub added : ShellStand → ℕ → Option (List ℕ)
+added Unquoted b = if is_quote b then Some [] else if b == 92 then Some [] else if is_plain_byte b then Some (b ∷ []) else None
+added InQuotes b = if is_quote b then Some [] else Some (b ∷ [])
+added AfterBackslash b = if is_quote b then Some (b ∷ []) else None
+
+abbrev pub stand_after : ShellStand → ℕ → ShellStand
+stand_after Unquoted b = if is_quote b then InQuotes else if b == 92 then AfterBackslash else Unquoted
+stand_after InQuotes b = if is_quote b then Unquoted else InQuotes
+stand_after AfterBackslash b = Unquoted
+
+abbrev pub joined_words : Option (List ℕ) → Option (List ℕ) → Option (List ℕ)
+joined_words None rest = None
+joined_words (Some bytes) None = None
+joined_words (Some bytes) (Some more) = Some (bytes ++ more)
+
+-- a word ends outside quotes
+abbrev pub ends : ShellStand → Option (List ℕ)
+ends Unquoted = Some []
+ends InQuotes = None
+ends AfterBackslash = None
+
+abbrev pub word_from : ShellStand → List ℕ → Option (List ℕ)
+word_from stand [] = ends stand
+word_from stand (b ∷ bs) = joined_words (added stand b) (word_from (stand_after stand b) bs)
+
+-- the word that a shell makes of a text; none of the empty text
+abbrev pub shell_word : List ℕ → Option (List ℕ)
+shell_word [] = None
+shell_word (b ∷ bs) = word_from Unquoted (b ∷ bs)
+
+-- a shell takes the quote of a path for the path
+abbrev pub ShellTakesThePath : Type 0
+ShellTakesThePath = (path : List ℕ) → path ≢ [] → shell_word (quoted path) ≡ Some path
