@@ -1,0 +1,44 @@
+-- Lists by index.
+use Rattle.std.proofs.Common.{◌≡◌, ◌≢◌, ℕ, ◌<◌, ◌≤◌, List, [], ◌∷◌, ◌++◌, length, get_or, set, take, sym, ap, ◌∙◌, ◌⊎◌, inl, inr, arith}
+use Rattle.std.specs.Prelude.{Contains, slice_index}
+use Rattle.std.proofs.lemmas.Bool.{cases_lt, cases_eq}
+use Rattle.std.proofs.lemmas.List.{get_or_append_left, get_or_push, get_or_default, length_push, length-take-le, get_or-take, get_or-set_same, get_or-set_other}
+
+-- an element of a list with one more at its end
+pub at_push : (xs : List ℕ) (y i : ℕ) → i < length (xs ++ y ∷ [])
+    → ((i < length xs) × (slice_index (xs ++ y ∷ []) i ≡ slice_index xs i)) ⊎ ((length xs ≡ i) × (slice_index (xs ++ y ∷ []) i ≡ y))
+at_push xs y i lt = elim (cases_lt i (length xs)) [
+  | inl h ↦ inl (h, get_or_append_left xs (y ∷ []) 0 i h)
+  | inr h ↦ let e : length xs ≡ i = omega (arith, length_push xs y) in inr (e, get_or_push xs y 0 i e)
+]
+
+pub at_left : (xs : List ℕ) (y i : ℕ) → i < length xs → slice_index (xs ++ y ∷ []) i ≡ slice_index xs i
+at_left xs y i h = get_or_append_left xs (y ∷ []) 0 i h
+
+pub at_end : (xs : List ℕ) (y : ℕ) → slice_index (xs ++ y ∷ []) (length xs) ≡ y
+at_end xs y = get_or_push xs y 0 (length xs) (omega arith)
+
+-- an element of a list after a write
+pub at_set : {X : Type 0} (xs : List X) (m : ℕ) (x d : X) (i : ℕ) → m < length xs
+    → ((i ≡ m) × (get_or (set xs m x) i d ≡ x)) ⊎ ((i ≢ m) × (get_or (set xs m x) i d ≡ get_or xs i d))
+at_set xs m x d i lt = elim (cases_eq i m) [
+  | inl e ↦ inl (e, ap (λ k. get_or (set xs m x) k d) e ∙ get_or-set_same xs m x d lt)
+  | inr ne ↦ inr (ne, get_or-set_other xs m i x d ne)
+]
+
+-- membership by an index
+pub index_of : (xs : List ℕ) (x : ℕ) → Contains xs x → (i : ℕ) × (i < length xs) × (slice_index xs i ≡ x)
+index_of xs x h = (h.0, h.1, get_or_default xs h.0 0 x h.1 ∙ h.2)
+
+pub contains_at : (xs : List ℕ) (i x : ℕ) → i < length xs → slice_index xs i ≡ x → Contains xs x
+contains_at xs i x lt is = (i, lt, get_or_default xs i x 0 lt ∙ is)
+
+-- membership in a front
+pub index_before : (xs : List ℕ) (n x : ℕ) → n ≤ length xs → Contains (take n xs) x → (i : ℕ) × (i < n) × (slice_index xs i ≡ x)
+index_before xs n x le h =
+    let k = index_of (take n xs) x h in
+    let short : k.0 < n = omega (arith, k.1, length-take-le n xs le) in
+    (k.0, short, sym (get_or-take n xs k.0 0 short) ∙ k.2)
+
+pub contains_before : (xs : List ℕ) (n i x : ℕ) → n ≤ length xs → i < n → slice_index xs i ≡ x → Contains (take n xs) x
+contains_before xs n i x le lt is = contains_at (take n xs) i x (omega (arith, length-take-le n xs le)) (get_or-take n xs i 0 lt ∙ is)
