@@ -1,0 +1,3 @@
+pub mod EdgeLemmas
+pub mod FileLemmas
+pub mod ListLemmas

@@ -1,0 +1,58 @@
+-- Build statements as edges: the files that they name, by their paths.
+use Rattle.std.specs.Prelude.{ℕ, ◌+◌, Bool, false, ◌||◌, not, if◌then◌else◌, Option, Some, None, option_map, List, [], ◌∷◌, ◌++◌, bytes_eq, suc}
+use Rattle.std.specs.List.{list_any, filter, flat_map}
+
+-- The paths of an edge by kind. Validations are no inputs.
+pub record EdgePaths : Type 0 where
+  pub explicit_outputs : List (List ℕ)
+  pub implicit_outputs : List (List ℕ)
+  pub explicit_inputs : List (List ℕ)
+  pub implicit_inputs : List (List ℕ)
+  pub order_only_inputs : List (List ℕ)
+  pub validations : List (List ℕ)
+
+abbrev pub outputs_of : EdgePaths → List (List ℕ)
+outputs_of e = e.explicit_outputs ++ e.implicit_outputs
+
+abbrev pub inputs_of : EdgePaths → List (List ℕ)
+inputs_of e = e.explicit_inputs ++ e.implicit_inputs ++ e.order_only_inputs
+
+abbrev pub is_among : List (List ℕ) → (path : List ℕ) → Bool
+is_among paths path = list_any (bytes_eq path) paths
+
+-- the number of the first edge that passes a test
+abbrev pub first_edge : {E : Type 0} → (E → Bool) → List E → Option ℕ
+first_edge test [] = None
+first_edge test (e ∷ edges) = if test e then Some 0 else option_map (λ n. n + 1) (first_edge test edges)
+
+-- the numbers of all edges that pass it, where the first one has this number
+abbrev pub edges_from : {E : Type 0} → (number : ℕ) → (E → Bool) → List E → List ℕ
+edges_from number test [] = []
+edges_from number test (e ∷ edges) = if test e then number ∷ edges_from (number + 1) test edges else edges_from (number + 1) test edges
+
+-- the edge that makes a file, the first one if there are more; a source has none
+abbrev pub maker_of : List EdgePaths → (path : List ℕ) → Option ℕ
+maker_of edges path = first_edge (λ e. is_among (outputs_of e) path) edges
+
+-- the edges that have a file as an input, each once
+abbrev pub users_of : List EdgePaths → (path : List ℕ) → List ℕ
+users_of edges path = edges_from 0 (λ e. is_among (inputs_of e) path) edges
+
+-- the edges that name a file as a validation, each once
+abbrev pub validation_users_of : List EdgePaths → (path : List ℕ) → List ℕ
+validation_users_of edges path = edges_from 0 (λ e. is_among e.validations path) edges
+
+-- whether an edge has the file as an input
+abbrev pub is_used : List EdgePaths → (path : List ℕ) → Bool
+is_used edges path = list_any (λ e. is_among (inputs_of e) path) edges
+
+-- the outputs that are inputs of no edge, by edge and then by output
+abbrev pub roots_of : List EdgePaths → List (List ℕ)
+roots_of edges = filter (λ path. not (is_used edges path)) (flat_map outputs_of edges)
+
+-- whether an edge names the file, as an output, an input or a validation
+abbrev pub names : EdgePaths → (path : List ℕ) → Bool
+names e path = is_among (outputs_of e) path || is_among (inputs_of e) path || is_among e.validations path
+
+abbrev pub is_named : List EdgePaths → (path : List ℕ) → Bool
+is_named edges path = list_any (λ e. names e path) edges

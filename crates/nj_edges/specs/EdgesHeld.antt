@@ -1,0 +1,143 @@
+-- How the edges of a graph are held: by the numbers of files.
+use Rattle.std.specs.Prelude.{◌≡◌, ℕ, ◌<◌, ◌≤◌, ◌==◌, ◌||◌, Bool, Option, Some, None, is_some, unwrap_or, List, [], ◌∷◌, ◌++◌, map, length, take, drop, slice_get, slice_range, bytes_eq}
+use Rattle.std.specs.List.{list_any, AllByRecursion, IsDistinct}
+use Rattle.nj_edges.specs.declared.files.FileNo.{FileNo}
+use Rattle.nj_edges.specs.declared.edges.Span.{Span}
+use Rattle.nj_edges.specs.declared.edges.EdgeRow.{EdgeRow}
+use Rattle.nj_edges.specs.declared.edges.KindEnds.{KindEnds}
+use Rattle.nj_edges.specs.declared.edges.OpenStarts.{OpenStarts}
+use Rattle.nj_edges.specs.Edges.{EdgePaths, first_edge, maker_of, is_among}
+use Rattle.nj_edges.specs.Files.{with_path}
+
+-- ---- the edges, and the one that is being read
+
+-- the files that it names so far
+pub record OpenEdge : Type 0 where
+  pub outputs : List (List ℕ)
+  pub inputs : List (List ℕ)
+  pub validations : List (List ℕ)
+
+-- the paths of all files, each once; the edges; and the one that is being read
+pub record EdgeTable : Type 0 where
+  pub files : List (List ℕ)
+  pub edges : List EdgePaths
+  pub «open» : OpenEdge
+
+abbrev pub no_files : OpenEdge
+no_files = record { outputs = []; inputs = []; validations = [] }
+
+abbrev pub naming : EdgeTable → (path : List ℕ) → EdgeTable
+naming t path = record t { files = with_path t.files path }
+
+abbrev pub plus_output : EdgeTable → (path : List ℕ) → EdgeTable
+plus_output t path = record t { «open» = record t.«open» { outputs = t.«open».outputs ++ path ∷ [] } }
+
+abbrev pub with_output : EdgeTable → (path : List ℕ) → EdgeTable
+with_output t path = plus_output (naming t path) path
+
+abbrev pub plus_input : EdgeTable → (path : List ℕ) → EdgeTable
+plus_input t path = record t { «open» = record t.«open» { inputs = t.«open».inputs ++ path ∷ [] } }
+
+abbrev pub with_input : EdgeTable → (path : List ℕ) → EdgeTable
+with_input t path = plus_input (naming t path) path
+
+abbrev pub plus_validation : EdgeTable → (path : List ℕ) → EdgeTable
+plus_validation t path = record t { «open» = record t.«open» { validations = t.«open».validations ++ path ∷ [] } }
+
+abbrev pub with_validation : EdgeTable → (path : List ℕ) → EdgeTable
+with_validation t path = plus_validation (naming t path) path
+
+-- whether an edge makes the file, the one that is being read among them
+abbrev pub is_made : EdgeTable → (path : List ℕ) → Bool
+is_made t path = is_some (maker_of t.edges path) || is_among t.«open».outputs path
+
+-- the edge that was read, whose kinds end so
+abbrev pub edge_read : OpenEdge → KindEnds → EdgePaths
+edge_read e ends = record {
+  explicit_outputs = take ends.explicit_outputs e.outputs;
+  implicit_outputs = drop ends.explicit_outputs e.outputs;
+  explicit_inputs = take ends.explicit_inputs e.inputs;
+  implicit_inputs = slice_range e.inputs ends.explicit_inputs ends.implicit_inputs;
+  order_only_inputs = drop ends.implicit_inputs e.inputs;
+  validations = e.validations;
+}
+
+-- ---- by numbers
+
+abbrev pub path_at : (files : List (List ℕ)) → FileNo → List ℕ
+path_at files file = unwrap_or (slice_get files file.0) []
+
+abbrev pub paths_at : (files : List (List ℕ)) → List FileNo → List (List ℕ)
+paths_at files numbers = map (path_at files) numbers
+
+abbrev pub within : {A : Type 0} → List A → Span → List A
+within items span = slice_range items span.start span.end
+
+abbrev pub edge_of : (files : List (List ℕ)) → (outputs inputs validations : List FileNo) → EdgeRow → EdgePaths
+edge_of files outputs inputs validations row =
+    edge_read (record {
+      outputs = paths_at files (within outputs row.outputs);
+      inputs = paths_at files (within inputs row.inputs);
+      validations = paths_at files (within validations row.validations);
+    }) row.kinds
+
+abbrev pub edges_of : (files : List (List ℕ)) → (outputs inputs validations : List FileNo) → List EdgeRow → List EdgePaths
+edges_of files outputs inputs validations rows = map (edge_of files outputs inputs validations) rows
+
+abbrev pub row_between : (starts ends : OpenStarts) → KindEnds → EdgeRow
+row_between starts ends kinds = record {
+  outputs = record { start = starts.outputs; end = ends.outputs };
+  inputs = record { start = starts.inputs; end = ends.inputs };
+  validations = record { start = starts.validations; end = ends.validations };
+  kinds = kinds;
+}
+
+-- the table, of what is held
+abbrev pub table_of : (files : List (List ℕ)) → (outputs inputs validations : List FileNo) → List EdgeRow → OpenStarts → EdgeTable
+table_of files outputs inputs validations rows starts = record {
+  files = files;
+  edges = edges_of files outputs inputs validations rows;
+  «open» = record {
+    outputs = paths_at files (drop starts.outputs outputs);
+    inputs = paths_at files (drop starts.inputs inputs);
+    validations = paths_at files (drop starts.validations validations);
+  };
+}
+
+-- whether the file of this number is among these
+abbrev pub has_number : ℕ → List FileNo → Bool
+has_number n numbers = list_any (λ f. n == f.0) numbers
+
+-- all numbers are those of files
+abbrev pub AreNumbers : (count : ℕ) → List FileNo → Type 0
+AreNumbers count numbers = AllByRecursion (λ f. f.0 < count) numbers
+
+pub record IsWithin (span : Span) (end : ℕ) : Type 0 where
+  pub rises : span.start ≤ span.end
+  pub ends : span.end ≤ end
+
+-- the files of an edge stand before those of the edge that is being read
+pub record RowIsWithin (open_outputs open_inputs open_validations : ℕ) (row : EdgeRow) : Type 0 where
+  pub outputs : IsWithin row.outputs open_outputs
+  pub inputs : IsWithin row.inputs open_inputs
+  pub validations : IsWithin row.validations open_validations
+
+-- the outputs by edge, and those of the edge that is being read
+abbrev pub output_rows : (outputs : List FileNo) → (open_outputs : ℕ) → List EdgeRow → List (List FileNo)
+output_rows outputs open_outputs rows = map (λ row. within outputs row.outputs) rows ++ drop open_outputs outputs ∷ []
+
+-- the maker of each file: the first edge that has it as an output
+abbrev pub HoldMakers : (output_rows : List (List FileNo)) → (makers : List (Option ℕ)) → Type 0
+HoldMakers rows makers = (n : ℕ) → n < length makers → slice_get makers n ≡ Some (first_edge (has_number n) rows)
+
+pub record EdgesAreHeld (files : List (List ℕ)) (makers : List (Option ℕ)) (outputs inputs validations : List FileNo) (rows : List EdgeRow) (starts : OpenStarts) : Type 0 where
+  pub distinct : IsDistinct bytes_eq files
+  pub makers_count : length makers ≡ length files
+  pub makers_are : HoldMakers (output_rows outputs starts.outputs rows) makers
+  pub outputs_are : AreNumbers (length files) outputs
+  pub inputs_are : AreNumbers (length files) inputs
+  pub validations_are : AreNumbers (length files) validations
+  pub rows_are : AllByRecursion (RowIsWithin starts.outputs starts.inputs starts.validations) rows
+  pub outputs_start : starts.outputs ≤ length outputs
+  pub inputs_start : starts.inputs ≤ length inputs
+  pub validations_start : starts.validations ≤ length validations

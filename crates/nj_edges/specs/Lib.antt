@@ -1,0 +1,4 @@
+pub mod Edges
+pub mod EdgesHeld
+pub mod Files
+pub mod Lists

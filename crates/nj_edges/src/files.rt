@@ -1,0 +1,88 @@
+//! The files that build statements name, by their numbers.
+
+ghost use Rattle.std.specs.Prelude.{◌≡◌, ◌<◌, [], length, Some, option_map, option_copied, position, slice_get, is_some, bytes_eq, IfOk, OnOk, OnErr};
+ghost use Rattle.std.specs.List.{IsDistinct, list_any};
+ghost use Rattle.nj_edges.specs.Files.{with_path};
+
+use indexmap::IndexSet;
+use std::alloc::{AllocError, Global};
+use std::marker::Model;
+
+/// The number of a file in its graph.
+#[derive(Clone, Copy, Debug, PartialEq, Eq)]
+pub struct FileNo(pub usize);
+
+/// The paths that were named, each once. The number of a file is the index of its path.
+#[derive(Drop)]
+pub struct Files {
+    alloc: Global,
+    paths: IndexSet<Vec<u8>>,
+}
+
+impl Model for Files {
+    ghost use Rattle.std.specs.Prelude.{List, ℕ, bytes_eq};
+    ghost use Rattle.std.specs.List.{IsDistinct};
+    ghost use Rattle.nj_edges.specs.Files.{held_paths};
+
+    ghost Value = { List (List ℕ) };
+
+    ghost view = { λ f. held_paths f.paths.keys };
+
+    ghost invariant = { λ f. IsDistinct bytes_eq (held_paths f.paths.keys) };
+}
+
+impl Files {
+    /// No files. It takes no memory.
+    pub fn new(alloc: Global) -> Files
+        ensures { result ≡ [] }
+    {
+        Files {
+            alloc,
+            paths: IndexSet::new(alloc),
+        }
+    }
+
+    /// How many files there are.
+    pub fn count(&self) -> usize
+        ensures count { result ≡ length self.now }
+        ensures each_path_once { IsDistinct bytes_eq self.now }
+    {
+        self.paths.len()
+    }
+
+    /// The number of the file at this path; `None` if it was not named.
+    pub fn number(&self, path: &[u8]) -> Option<FileNo>
+        ensures index { option_map (λ file. file.0) result ≡ position (bytes_eq path.now) self.now }
+        ensures known { is_some result ≡ list_any (bytes_eq path.now) self.now }
+    {
+        match self.paths.get_index_of(path) {
+            Some(index) => Some(FileNo(index)),
+            None => None,
+        }
+    }
+
+    /// The path of the file of this number.
+    pub fn path(&self, file: FileNo) -> &[u8]
+        requires { file.0 < length self.now }
+        ensures { slice_get self.now file.0 ≡ Some result.now }
+    {
+        let paths = self.paths.as_slice();
+        paths[file.0].as_slice()
+    }
+
+    /// The number of the file at this path, which is named from now on.
+    pub fn name(&mut self, path: &[u8]) -> Result<FileNo, AllocError>
+        ensures named { OnOk result (self.new ≡ with_path self.old path.now) }
+        ensures number { IfOk result (λ file. slice_get self.new file.0 ≡ Some path.now) }
+        ensures refused { OnErr result (self.new ≡ self.old) }
+        ensures each_path_once { IsDistinct bytes_eq self.new }
+    {
+        if let Some(file) = self.number(path) {
+            return Ok(file);
+        }
+        let file = FileNo(self.count());
+        let key = Vec::from_slice(self.alloc, path)?;
+        self.paths.insert_full(key)?;
+        Ok(file)
+    }
+}

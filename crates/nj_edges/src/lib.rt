@@ -1,0 +1,10 @@
+//! The files and edges of a graph of build statements, by their numbers.
+#![tactic(auto)]
+
+mod edges;
+mod files;
+mod lists;
+
+pub use edges::{EdgeNo, Edges, KindEnds};
+pub use files::{FileNo, Files};
+pub use lists::FlatLists;
