@@ -12,7 +12,7 @@ use Rattle.nj_edges.specs.declared.edges.EdgeRow.{EdgeRow}
 use Rattle.nj_edges.specs.declared.edges.OpenStarts.{OpenStarts}
 use Rattle.nj_edges.specs.declared.edges.KindEnds.{KindEnds}
 use Rattle.nj_edges.specs.Edges.{EdgePaths, first_edge, maker_of, is_among, outputs_of}
-use Rattle.nj_edges.specs.EdgesHeld.{edge_read, path_at, paths_at, within, edge_of, edges_of, table_of, EdgeTable, naming, plus_output, plus_input, plus_validation, is_made, row_between, no_files, has_number, AreNumbers, IsWithin, RowIsWithin, output_rows, HoldMakers, EdgesAreHeld}
+use Rattle.nj_edges.specs.EdgesHeld.{edge_read, path_at, paths_at, within, edge_of, edges_of, table_of, EdgeTable, naming, plus_output, plus_input, plus_validation, is_made, row_between, no_files, EndWithin, has_number, AreNumbers, IsWithin, RowIsWithin, output_rows, HoldMakers, EdgesAreHeld}
 use Rattle.nj_edges.specs.Files.{with_path}
 use Rattle.nj_edges.proofs.ListLemmas.{slice_range-append, slice_range-rest}
 
@@ -288,12 +288,12 @@ ends_of outputs inputs validations = record { outputs = length outputs; inputs =
 map-append : {X Y : Type 0} (f : X → Y) (xs : List X) (x : X) → map f (xs ++ x ∷ []) ≡ map f xs ++ f x ∷ []
 map-append f xs x = map_push f xs x
 
-module _ (files : List (List ℕ)) (makers : List (Option ℕ)) (outputs inputs validations : List FileNo) (rows : List EdgeRow) (starts : OpenStarts) (held : EdgesAreHeld files makers outputs inputs validations rows starts) (kinds : KindEnds) where
+module _ (files : List (List ℕ)) (makers : List (Option ℕ)) (outputs inputs validations : List FileNo) (rows : List EdgeRow) (starts : OpenStarts) (held : EdgesAreHeld files makers outputs inputs validations rows starts) (kinds : KindEnds) (is_phony : Bool) where
   abbrev next_row : EdgeRow
-  next_row = row_between starts (ends_of outputs inputs validations) kinds
+  next_row = row_between starts (ends_of outputs inputs validations) kinds is_phony
 
   pub table-ended : table_of files outputs inputs validations (rows ++ next_row ∷ []) (ends_of outputs inputs validations)
-      ≡ record { files = files; edges = edges_of files outputs inputs validations rows ++ edge_read (table_of files outputs inputs validations rows starts).«open» kinds ∷ []; «open» = no_files }
+      ≡ record { files = files; edges = edges_of files outputs inputs validations rows ++ edge_read (table_of files outputs inputs validations rows starts).«open» kinds is_phony ∷ []; «open» = no_files }
   table-ended =
       let edges = map-append (edge_of files outputs inputs validations) rows next_row in
       let o = slice_range-rest outputs starts.outputs held.outputs_start in
@@ -315,10 +315,11 @@ module _ (files : List (List ℕ)) (makers : List (Option ℕ)) (outputs inputs 
         outputs = record { rises = inside.outputs.rises; ends = omega arith };
         inputs = record { rises = inside.inputs.rises; ends = omega arith };
         validations = record { rises = inside.validations.rises; ends = omega arith };
+        kinds = inside.kinds;
       }
 
-  pub held-ended : EdgesAreHeld files makers outputs inputs validations (rows ++ next_row ∷ []) (ends_of outputs inputs validations)
-  held-ended = record {
+  pub held-ended : EndWithin kinds (length outputs - starts.outputs) (length inputs - starts.inputs) → EdgesAreHeld files makers outputs inputs validations (rows ++ next_row ∷ []) (ends_of outputs inputs validations)
+  held-ended fits = record {
     distinct = held.distinct;
     makers_count = held.makers_count;
     makers_are = λ n below. held.makers_are n below ∙ ap Some (sym (first-more (has_number n) (output_rows outputs starts.outputs rows) [] refl)) ∙ ap (λ rs. Some (first_edge (has_number n) rs)) (sym rows-ended);
@@ -331,6 +332,7 @@ module _ (files : List (List ℕ)) (makers : List (Option ℕ)) (outputs inputs 
           outputs = record { rises = held.outputs_start; ends = omega arith };
           inputs = record { rises = held.inputs_start; ends = omega arith };
           validations = record { rises = held.validations_start; ends = omega arith };
+          kinds = fits;
         });
     outputs_start = omega arith;
     inputs_start = omega arith;
@@ -437,8 +439,8 @@ module _ (files : List (List ℕ)) (makers : List (Option ℕ)) (outputs inputs 
   made-at found is = ap is_some (is ∙ get_or_from_slice_get makers n (first_edge (has_number n) (output_rows outputs starts.outputs rows)) found (held.makers_are n within-makers)) ∙ made-by
 
 -- the table where the edge that is being read ends
-abbrev pub end-value : KindEnds → EdgeTable → EdgeTable
-end-value kinds t = record { files = t.files; edges = t.edges ++ edge_read t.«open» kinds ∷ []; «open» = no_files }
+abbrev pub end-value : KindEnds → Bool → EdgeTable → EdgeTable
+end-value kinds is_phony t = record { files = t.files; edges = t.edges ++ edge_read t.«open» kinds is_phony ∷ []; «open» = no_files }
 
 -- ---- an output more
 
@@ -553,3 +555,14 @@ module _ (files : List (List ℕ)) (makers : List (Option ℕ)) (outputs inputs 
       let below : f.0 < length makers = subst (λ n. f.0 < n) (sym held.makers_count) room in
       let same = is ∙ get_or_from_slice_get makers f.0 (first_edge (has_number f.0) (output_rows outputs starts.outputs rows)) found (held.makers_are f.0 below) in
       sym same ∙ absent found none
+
+-- how many files the edge that is being read has
+pub length-open : (files : List (List ℕ)) (ns : List FileNo) (start : ℕ) → length (paths_at files (drop start ns)) ≡ length ns - start
+length-open files ns start = length-map (drop start ns) (path_at files) ∙ length-drop start ns
+
+pub ended-within : (files : List (List ℕ)) (outputs inputs validations : List FileNo) (rows : List EdgeRow) (starts : OpenStarts) (kinds : KindEnds) (t : EdgeTable)
+    → table_of files outputs inputs validations rows starts ≡ t → EndWithin kinds (length t.«open».outputs) (length t.«open».inputs) → EndWithin kinds (length outputs - starts.outputs) (length inputs - starts.inputs)
+ended-within files outputs inputs validations rows starts kinds t is fits =
+    let o : length t.«open».outputs ≡ length outputs - starts.outputs = ap (λ u. length u.«open».outputs) (sym is) ∙ length-open files outputs starts.outputs in
+    let i : length t.«open».inputs ≡ length inputs - starts.inputs = ap (λ u. length u.«open».inputs) (sym is) ∙ length-open files inputs starts.inputs in
+    rw (← o, ← i) fits

@@ -1,8 +1,10 @@
 -- Build statements as edges: the files that they name, by their paths.
-use Rattle.std.specs.Prelude.{ℕ, ◌+◌, Bool, false, ◌||◌, not, if◌then◌else◌, Option, Some, None, option_map, List, [], ◌∷◌, ◌++◌, bytes_eq, suc}
+use Rattle.std.specs.Prelude.{ℕ, ◌+◌, Bool, false, ◌||◌, not, if◌then◌else◌, Option, Some, None, option_map, List, [], ◌∷◌, ◌++◌, length, nat_lt, bytes_eq}
 use Rattle.std.specs.List.{list_any, filter, flat_map}
+use Rattle.nj_edges.specs.declared.edges.InputKind.{InputKind}
+use Rattle.nj_edges.specs.declared.edges.InputKind.TheVariants.{Explicit, Implicit, OrderOnly}
 
--- The paths of an edge by kind. Validations are no inputs.
+-- The paths of an edge by kind, and whether its rule is `phony`, so that it has no command. Validations are no inputs.
 pub record EdgePaths : Type 0 where
   pub explicit_outputs : List (List ℕ)
   pub implicit_outputs : List (List ℕ)
@@ -10,6 +12,7 @@ pub record EdgePaths : Type 0 where
   pub implicit_inputs : List (List ℕ)
   pub order_only_inputs : List (List ℕ)
   pub validations : List (List ℕ)
+  pub is_phony : Bool
 
 abbrev pub outputs_of : EdgePaths → List (List ℕ)
 outputs_of e = e.explicit_outputs ++ e.implicit_outputs
@@ -56,3 +59,9 @@ names e path = is_among (outputs_of e) path || is_among (inputs_of e) path || is
 
 abbrev pub is_named : List EdgePaths → (path : List ℕ) → Bool
 is_named edges path = list_any (λ e. names e path) edges
+
+-- the kind of the input at an index
+abbrev pub kind_at : EdgePaths → (index : ℕ) → InputKind
+kind_at e index =
+    if nat_lt index (length e.explicit_inputs) then Explicit
+    else (if nat_lt index (length e.explicit_inputs + length e.implicit_inputs) then Implicit else OrderOnly)

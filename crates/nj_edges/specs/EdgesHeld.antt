@@ -1,5 +1,5 @@
 -- How the edges of a graph are held: by the numbers of files.
-use Rattle.std.specs.Prelude.{◌≡◌, ℕ, ◌<◌, ◌≤◌, ◌==◌, ◌||◌, Bool, Option, Some, None, is_some, unwrap_or, List, [], ◌∷◌, ◌++◌, map, length, take, drop, slice_get, slice_range, bytes_eq}
+use Rattle.std.specs.Prelude.{◌≡◌, ℕ, ◌<◌, ◌≤◌, ◌-◌, ◌==◌, ◌||◌, Bool, Option, Some, None, is_some, unwrap_or, List, [], ◌∷◌, ◌++◌, map, length, take, drop, slice_get, slice_range, bytes_eq}
 use Rattle.std.specs.List.{list_any, AllByRecursion, IsDistinct}
 use Rattle.nj_edges.specs.declared.files.FileNo.{FileNo}
 use Rattle.nj_edges.specs.declared.edges.Span.{Span}
@@ -52,15 +52,22 @@ abbrev pub is_made : EdgeTable → (path : List ℕ) → Bool
 is_made t path = is_some (maker_of t.edges path) || is_among t.«open».outputs path
 
 -- the edge that was read, whose kinds end so
-abbrev pub edge_read : OpenEdge → KindEnds → EdgePaths
-edge_read e ends = record {
+abbrev pub edge_read : OpenEdge → KindEnds → Bool → EdgePaths
+edge_read e ends is_phony = record {
   explicit_outputs = take ends.explicit_outputs e.outputs;
   implicit_outputs = drop ends.explicit_outputs e.outputs;
   explicit_inputs = take ends.explicit_inputs e.inputs;
   implicit_inputs = slice_range e.inputs ends.explicit_inputs ends.implicit_inputs;
   order_only_inputs = drop ends.implicit_inputs e.inputs;
   validations = e.validations;
+  is_phony = is_phony;
 }
+
+-- the kinds end within the files of the edge
+pub record EndWithin (ends : KindEnds) (outputs inputs : ℕ) : Type 0 where
+  pub explicit_outputs : ends.explicit_outputs ≤ outputs
+  pub explicit_inputs : ends.explicit_inputs ≤ ends.implicit_inputs
+  pub implicit_inputs : ends.implicit_inputs ≤ inputs
 
 -- ---- by numbers
 
@@ -79,17 +86,18 @@ edge_of files outputs inputs validations row =
       outputs = paths_at files (within outputs row.outputs);
       inputs = paths_at files (within inputs row.inputs);
       validations = paths_at files (within validations row.validations);
-    }) row.kinds
+    }) row.kinds row.is_phony
 
 abbrev pub edges_of : (files : List (List ℕ)) → (outputs inputs validations : List FileNo) → List EdgeRow → List EdgePaths
 edges_of files outputs inputs validations rows = map (edge_of files outputs inputs validations) rows
 
-abbrev pub row_between : (starts ends : OpenStarts) → KindEnds → EdgeRow
-row_between starts ends kinds = record {
+abbrev pub row_between : (starts ends : OpenStarts) → KindEnds → Bool → EdgeRow
+row_between starts ends kinds is_phony = record {
   outputs = record { start = starts.outputs; end = ends.outputs };
   inputs = record { start = starts.inputs; end = ends.inputs };
   validations = record { start = starts.validations; end = ends.validations };
   kinds = kinds;
+  is_phony = is_phony;
 }
 
 -- the table, of what is held
@@ -121,6 +129,7 @@ pub record RowIsWithin (open_outputs open_inputs open_validations : ℕ) (row : 
   pub outputs : IsWithin row.outputs open_outputs
   pub inputs : IsWithin row.inputs open_inputs
   pub validations : IsWithin row.validations open_validations
+  pub kinds : EndWithin row.kinds (row.outputs.end - row.outputs.start) (row.inputs.end - row.inputs.start)
 
 -- the outputs by edge, and those of the edge that is being read
 abbrev pub output_rows : (outputs : List FileNo) → (open_outputs : ℕ) → List EdgeRow → List (List FileNo)

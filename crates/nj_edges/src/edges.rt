@@ -1,7 +1,7 @@
 //! Edges, which are build statements with the files that they name.
 
-ghost use Rattle.std.specs.Prelude.{◌≡◌, [], ◌∷◌, ◌++◌, Some, Ok, true, not, slice_get, IfOk, OnOk, OnErr};
-ghost use Rattle.nj_edges.specs.EdgesHeld.{no_files, naming, with_output, with_input, with_validation, is_made, edge_read, row_between};
+ghost use Rattle.std.specs.Prelude.{◌≡◌, [], ◌∷◌, ◌++◌, Some, Ok, true, not, slice_get, length, IfOk, OnOk, OnErr};
+ghost use Rattle.nj_edges.specs.EdgesHeld.{no_files, EndWithin, naming, with_output, with_input, with_validation, is_made, edge_read, row_between};
 
 use crate::files::{FileNo, Files};
 use std::alloc::{AllocError, Global};
@@ -10,6 +10,17 @@ use std::marker::Model;
 /// The number of an edge in its graph. Edges are numbered in reading order.
 #[derive(Clone, Copy, Debug, PartialEq, Eq)]
 pub struct EdgeNo(pub usize);
+
+/// The kinds of inputs ("Build statements" in the Ninja manual).
+#[derive(Clone, Copy, Debug, PartialEq, Eq)]
+pub enum InputKind {
+    /// An input that `$in` names.
+    Explicit,
+    /// An input after `|`.
+    Implicit,
+    /// An input after `||`.
+    OrderOnly,
+}
 
 /// Where the kinds of an edge's files end: its outputs begin with the explicit ones, its inputs with the explicit
 /// and then the implicit ones. What is left is implicit, and order-only.
@@ -34,6 +45,7 @@ struct EdgeRow {
     inputs: Span,
     validations: Span,
     kinds: KindEnds,
+    is_phony: bool,
 }
 
 // Where the files of the edge that is being read begin.
@@ -135,11 +147,26 @@ impl Edges {
         Ok(())
     }
 
+    /// How many outputs the edge that is being read has so far.
+    pub fn open_outputs(&self) -> usize
+        ensures { result ≡ length self.now.«open».outputs }
+    {
+        self.outputs.as_slice().len() - self.starts.outputs
+    }
+
+    /// How many inputs the edge that is being read has so far.
+    pub fn open_inputs(&self) -> usize
+        ensures { result ≡ length self.now.«open».inputs }
+    {
+        self.inputs.as_slice().len() - self.starts.inputs
+    }
+
     /// Ends the edge that is being read, whose kinds end so, and begins another.
-    pub fn end_edge(&mut self, kinds: KindEnds) -> Result<(), AllocError>
+    pub fn end_edge(&mut self, kinds: KindEnds, is_phony: bool) -> Result<(), AllocError>
+        requires { EndWithin kinds (length self.old.«open».outputs) (length self.old.«open».inputs) }
         ensures { OnOk result (self.new ≡ record {
           files = self.old.files;
-          edges = self.old.edges ++ edge_read self.old.«open» kinds ∷ [];
+          edges = self.old.edges ++ edge_read self.old.«open» kinds is_phony ∷ [];
           «open» = no_files;
         }) }
     {
@@ -148,15 +175,20 @@ impl Edges {
             inputs: self.inputs.as_slice().len(),
             validations: self.validations.as_slice().len(),
         };
-        self.rows.push(row_between(self.starts, ends, kinds))?;
+        self.rows.push(row_between(self.starts, ends, kinds, is_phony))?;
         self.starts = ends;
         Ok(())
     }
 }
 
 // The row of the edge that begins and ends there.
-fn row_between(starts: OpenStarts, ends: OpenStarts, kinds: KindEnds) -> EdgeRow
-    ensures { result ≡ row_between starts ends kinds }
+fn row_between(
+    starts: OpenStarts,
+    ends: OpenStarts,
+    kinds: KindEnds,
+    is_phony: bool,
+) -> EdgeRow
+    ensures { result ≡ row_between starts ends kinds is_phony }
 {
     EdgeRow {
         outputs: Span {
@@ -172,5 +204,6 @@ fn row_between(starts: OpenStarts, ends: OpenStarts, kinds: KindEnds) -> EdgeRow
             end: ends.validations,
         },
         kinds,
+        is_phony,
     }
 }

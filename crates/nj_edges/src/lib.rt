@@ -5,6 +5,6 @@ mod edges;
 mod files;
 mod lists;
 
-pub use edges::{EdgeNo, Edges, KindEnds};
+pub use edges::{EdgeNo, Edges, InputKind, KindEnds};
 pub use files::{FileNo, Files};
 pub use lists::FlatLists;
