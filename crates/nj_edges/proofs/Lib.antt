@@ -1,3 +1,4 @@
+pub mod BucketLemmas
 pub mod EdgeLemmas
 pub mod FileLemmas
 pub mod ListLemmas

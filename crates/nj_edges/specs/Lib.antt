@@ -1,3 +1,5 @@
+pub mod Buckets
+pub mod BucketsHeld
 pub mod Edges
 pub mod EdgesHeld
 pub mod Files

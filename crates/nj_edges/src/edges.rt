@@ -175,19 +175,15 @@ impl Edges {
             inputs: self.inputs.as_slice().len(),
             validations: self.validations.as_slice().len(),
         };
-        self.rows.push(row_between(self.starts, ends, kinds, is_phony))?;
+        self.rows
+            .push(row_between(self.starts, ends, kinds, is_phony))?;
         self.starts = ends;
         Ok(())
     }
 }
 
 // The row of the edge that begins and ends there.
-fn row_between(
-    starts: OpenStarts,
-    ends: OpenStarts,
-    kinds: KindEnds,
-    is_phony: bool,
-) -> EdgeRow
+fn row_between(starts: OpenStarts, ends: OpenStarts, kinds: KindEnds, is_phony: bool) -> EdgeRow
     ensures { result ≡ row_between starts ends kinds is_phony }
 {
     EdgeRow {

@@ -1,6 +1,7 @@
 //! The files and edges of a graph of build statements, by their numbers.
 #![tactic(auto)]
 
+mod buckets;
 mod edges;
 mod files;
 mod lists;

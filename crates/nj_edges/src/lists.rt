@@ -94,7 +94,7 @@ fn row_of<'a, T>(items: &'a [T], ends: &[usize], index: usize) -> &'a [T]
 }
 
 // The items between these indices.
-fn part<T>(items: &[T], start: usize, end: usize) -> &[T]
+pub(crate) fn part<T>(items: &[T], start: usize, end: usize) -> &[T]
     requires rises { start ≤ end }
     requires within { end ≤ length items.now }
     ensures { result.now ≡ slice_range items.now start end }
