@@ -1,7 +1,7 @@
 -- What is held after one statement more.
 use Rattle.std.proofs.Common.{◌≡◌, ℕ, ◌+◌, Bool, true, false, ◌&&◌, ◌==◌, if◌then◌else◌, List, [], ◌∷◌, ◌++◌, map, length, Option, Some, None, unwrap_or, bytes_eq, Result, Ok, Err, OnOk, OnErr, IfOk, refl, sym, ap, ◌∙◌, add-zero, true≢false}
 use Rattle.nj_text.specs.Words.{PartText, Text, Name, WordText}
-use Rattle.nj_manifest.specs.Steps.{NameText}
+use Rattle.nj_manifest.specs.LineSteps.{NameText}
 use Rattle.nj_manifest.specs.Statements.{LineText, OutputsText, InputsText, StatementText, BindingText, RuleText, PoolText, BuildText, DefaultText, IncludeText, SubninjaText}
 use Rattle.nj_scope.specs.Rules.{line_kept, phony_rule}
 use Rattle.nj_scope.specs.Scopes.{or_else, nearest, Bounds, value_in, expanded}

@@ -3,7 +3,7 @@
 ghost use Rattle.std.specs.Prelude.{◌≡◌, ℕ, ◌+◌, ◌<◌, List, [], ◌∷◌, Some, None, true, false, length, not, IfOk, OnOk, OnErr, IfSome};
 ghost use Rattle.nj_text.specs.declared.spot.Spot.{Spot};
 ghost use Rattle.nj_text.specs.Words.{WordText, word_text};
-ghost use Rattle.nj_manifest.specs.Held.{lines_text};
+ghost use Rattle.nj_manifest.specs.Contents.{lines_text};
 ghost use Rattle.nj_manifest.specs.Statements.{LineText, BindingText, RuleText, PoolText, SubninjaText};
 ghost use Rattle.nj_scope.specs.Scopes.{IsScope, expanded};
 ghost use Rattle.nj_scope.specs.ScopesHeld.{parent_at, rule_at};

@@ -3,7 +3,7 @@
 ghost use Rattle.std.specs.Prelude.{◌≡◌, ℕ, List, map, option_copied, option_map, find, reverse, bytes_eq, IfOk};
 ghost use Rattle.nj_scope.specs.Rules.{line_kept, given};
 ghost use Rattle.nj_scope.specs.RulesHeld.{line_held};
-ghost use Rattle.nj_manifest.specs.Held.{line_text};
+ghost use Rattle.nj_manifest.specs.Contents.{line_text};
 
 use crate::late::LateValue;
 use nj_manifest::Line;

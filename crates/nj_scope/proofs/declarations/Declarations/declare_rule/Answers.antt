@@ -1,6 +1,6 @@
 use Rattle.std.proofs.Common.{◌≡◌, List, [], ◌∷◌, ◌++◌, ◌&&◌, ◌==◌, if◌then◌else◌, Some, map, length, bytes_eq, ap, ◌∙◌, subst, sym, refl, arith}
 use Rattle.nj_manifest.specs.Statements.{RuleText}
-use Rattle.nj_manifest.specs.Held.{line_text, lines_text}
+use Rattle.nj_manifest.specs.Contents.{line_text, lines_text}
 use Rattle.nj_manifest.specs.declared.statement.Line.{Line}
 use Rattle.nj_scope.specs.ScopesHeld.{rule_at}
 use Rattle.nj_scope.specs.Rules.{line_kept}
