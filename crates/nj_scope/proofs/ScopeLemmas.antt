@@ -1,7 +1,7 @@
 -- Lemmas on what scopes hold.
 use Rattle.std.proofs.Common.{◌≡◌, ℕ, zero, suc, ◌<◌, nat_eq, Bool, true, false, cond, ◌&&◌, ◌⊎◌, inl, inr, ◌≢◌, List, [], ◌∷◌, ◌++◌, map, length, get_or, slice_set, slice_get, Option, Some, None, is_some, option_map, option_and_then, IfSome, bytes_eq, refl, sym, ap, subst, ◌∙◌, true≢false}
 use Rattle.std.specs.Global.{Vec}
-use Rattle.std.specs.Map.{lookup}
+use Rattle.std.specs.Map.{lookup, set_value}
 use Rattle.std.proofs.lemmas.Bool.Decides.{eqb_tells}
 use Rattle.std.proofs.lemmas.List.{map_push, map-set, length-map}
 use Rattle.std.proofs.lemmas.Option.{slice_get-map, slice_get_read}
@@ -9,7 +9,7 @@ use Rattle.std.proofs.lemmas.Slice.Eq.{bytes_eq-Decides}
 use Rattle.std.proofs.Math.Nat.{lt_irrefl}
 use Rattle.indexmap.specs.IndexMap.{insert_entry}
 use Rattle.nj_scope.specs.declared.scopes.Scope.{Scope}
-use Rattle.nj_scope.specs.ScopesHeld.{ScopeText, scope_text, at_scope, parent_at, bound_at, rule_at, ParentsAreEarlier}
+use Rattle.nj_scope.specs.ScopesHeld.{ScopeText, scope_text, values_text, at_scope, parent_at, bound_at, rule_at, ParentsAreEarlier}
 
 -- ---- lists
 
@@ -149,6 +149,31 @@ module _ {V X : Type 0} (g : V → X) where
       by true same differ rest = ap (λ q. cond (bytes_eq x q) (Some (g v)) (lookup (bytes_eq x) (entries_text es))) (sym (same refl)) ∙ taken (bytes_eq x k.items) (bytes_eq x e.0.items) (ap (bytes_eq x) (same refl))
       by false same differ rest = ap (cond (bytes_eq x e.0.items) (Some (g e.1))) rest ∙ among (bytes_eq x k.items) (bytes_eq x e.0.items) (λ p q. true≢false (sym (differ (sym ((bytes_eq-Decides x k.items).0 p) ∙ (bytes_eq-Decides x e.0.items).0 q)))) (lookup (bytes_eq x) (entries_text es))
 
+  -- another value in the place of the one that is there
+  pub lookup-set : (es : List (Vec ℕ × V)) (name : List ℕ) (v : V) (x : List ℕ) → is_some (lookup (λ k. bytes_eq name k.items) es) ≡ true
+      → lookup (bytes_eq x) (entries_text (set_value (λ k. bytes_eq name k.items) es v)) ≡ cond (bytes_eq x name) (Some (g v)) (lookup (bytes_eq x) (entries_text es))
+  lookup-set [] name v x there = absurd (true≢false (sym there))
+  lookup-set (e ∷ es) name v x there = by (bytes_eq name e.0.items) (bytes_eq-Decides name e.0.items).0 (bytes_eq-Decides name e.0.items).1 (lookup-set es name v x) there
+    where
+      taken : (a b : Bool) → a ≡ b → cond b (Some (g v)) (lookup (bytes_eq x) (entries_text es)) ≡ cond a (Some (g v)) (cond b (Some (g e.1)) (lookup (bytes_eq x) (entries_text es)))
+      taken true true same = refl
+      taken true false same = absurd (true≢false same)
+      taken false true same = absurd (true≢false (sym same))
+      taken false false same = refl
+
+      among : (a b : Bool) → (a ≡ true → b ≡ true → ⊥) → (rest : Option X) → cond b (Some (g e.1)) (cond a (Some (g v)) rest) ≡ cond a (Some (g v)) (cond b (Some (g e.1)) rest)
+      among true true apart rest = absurd (apart refl refl)
+      among true false apart rest = refl
+      among false b apart rest = refl
+
+      by : (b : Bool) → (b ≡ true → name ≡ e.0.items) → (name ≡ e.0.items → b ≡ true)
+          → (is_some (lookup (λ k. bytes_eq name k.items) es) ≡ true → lookup (bytes_eq x) (entries_text (set_value (λ k. bytes_eq name k.items) es v)) ≡ cond (bytes_eq x name) (Some (g v)) (lookup (bytes_eq x) (entries_text es)))
+          → is_some (cond b (Some e.1) (lookup (λ k. bytes_eq name k.items) es)) ≡ true
+          → lookup (bytes_eq x) (entries_text (cond b ((e.0, v) ∷ es) (e ∷ set_value (λ k. bytes_eq name k.items) es v))) ≡ cond (bytes_eq x name) (Some (g v)) (cond (bytes_eq x e.0.items) (Some (g e.1)) (lookup (bytes_eq x) (entries_text es)))
+      by true same differ rest there = taken (bytes_eq x name) (bytes_eq x e.0.items) (ap (bytes_eq x) (same refl))
+      by false same differ rest there = ap (cond (bytes_eq x e.0.items) (Some (g e.1))) (rest there)
+          ∙ among (bytes_eq x name) (bytes_eq x e.0.items) (λ p q. true≢false (sym (differ (sym ((bytes_eq-Decides x name).0 p) ∙ (bytes_eq-Decides x e.0.items).0 q)))) (lookup (bytes_eq x) (entries_text es))
+
   pub lookup-text : (es : List (Vec ℕ × V)) (x : List ℕ) → lookup (bytes_eq x) (entries_text es) ≡ option_map g (lookup (λ k. bytes_eq x k.items) es)
   lookup-text [] x = refl
   lookup-text (e ∷ es) x = by (bytes_eq x e.0.items) (lookup-text es x)
@@ -183,12 +208,11 @@ module _ (items : List Scope) (i : ℕ) (s t : Scope) (inside : i < length (map 
   kept-text f same n =
       ap (λ ss. at_scope f ss n) (map-set scope_text items i t) ∙ at_scope-kept (map scope_text items) i (scope_text s) (scope_text t) here-text f same n
 
-  pub bound-text : (k v : Vec ℕ) → t.values.entries ≡ insert_entry (same_key (λ (v : Vec ℕ). v.items)) s.values.entries k v
-      → (n : ℕ) (x : List ℕ) → bound_at (map scope_text (slice_set items i t)) n x ≡ cond (nat_eq n i && bytes_eq x k.items) (Some v.items) (bound_at (map scope_text items) n x)
-  bound-text k v entries n x =
+  pub bound-text : (name v : List ℕ) → ((x : List ℕ) → lookup (bytes_eq x) (values_text t.values.entries) ≡ cond (bytes_eq x name) (Some v) (lookup (bytes_eq x) (values_text s.values.entries)))
+      → (n : ℕ) (x : List ℕ) → bound_at (map scope_text (slice_set items i t)) n x ≡ cond (nat_eq n i && bytes_eq x name) (Some v) (bound_at (map scope_text items) n x)
+  bound-text name v set n x =
       ap (λ ss. bound_at ss n x) (map-set scope_text items i t)
-      ∙ at_scope-bound (map scope_text items) i (scope_text s) (scope_text t) here-text (λ u. lookup (bytes_eq x) u.values) (bytes_eq x k.items) (Some v.items)
-      (ap (λ es. lookup (bytes_eq x) (entries_text (λ w. w.items) es)) entries ∙ lookup-inserted (λ w. w.items) s.values.entries k v x) n
+      ∙ at_scope-bound (map scope_text items) i (scope_text s) (scope_text t) here-text (λ u. lookup (bytes_eq x) u.values) (bytes_eq x name) (Some v) (set x) n
 
   pub declared-text : (k : Vec ℕ) (v : ℕ) → t.rules.entries ≡ insert_entry (same_key (λ (v : ℕ). v)) s.rules.entries k v
       → (n : ℕ) (x : List ℕ) → rule_at (map scope_text (slice_set items i t)) n x ≡ cond (nat_eq n i && bytes_eq x k.items) (Some v) (rule_at (map scope_text items) n x)

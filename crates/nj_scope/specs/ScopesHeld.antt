@@ -1,5 +1,6 @@
 -- What scopes hold.
 use Rattle.std.specs.Prelude.{ℕ, ◌<◌, Option, List, option_and_then, map, slice_get, bytes_eq, IfSome}
+use Rattle.std.specs.Global.{Vec}
 use Rattle.std.specs.Map.{lookup}
 use Rattle.nj_scope.specs.declared.scopes.Scope.{Scope}
 
@@ -10,10 +11,13 @@ pub record ScopeText : Type 0 where
   pub values : List (List ℕ × List ℕ)
   pub rules : List (List ℕ × ℕ)
 
+abbrev pub values_text : List (Vec ℕ × Vec ℕ) → List (List ℕ × List ℕ)
+values_text entries = map (λ e. (e.0.items, e.1.items)) entries
+
 abbrev pub scope_text : Scope → ScopeText
 scope_text s = record {
   parent = s.parent;
-  values = map (λ e. (e.0.items, e.1.items)) s.values.entries;
+  values = values_text s.values.entries;
   rules = map (λ e. (e.0.items, e.1)) s.rules.entries;
 }
 

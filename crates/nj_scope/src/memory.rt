@@ -68,7 +68,7 @@ impl MemoryFiles {
         }) }
         ensures last_counts { OnOk result ((path : List ℕ) → bytes_added self.new.added path
             ≡ (if bytes_eq path name.now
-                then Some bytes.now else bytes_added self.old.added path)) }
+            then Some bytes.now else bytes_added self.old.added path)) }
         ensures refused { OnErr result (self.new ≡ self.old) }
     {
         let name = String::from_str(self.alloc, name)?;

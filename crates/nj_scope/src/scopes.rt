@@ -2,7 +2,8 @@
 
 ghost use Rattle.std.specs.Prelude.{◌≡◌, ℕ, ◌+◌, ◌<◌, ◌&&◌, ◌==◌, List, Option, Some, None, length, option_copied, is_none, IfSome, IfOk, OnOk, OnErr, if◌then◌else◌, bytes_eq};
 ghost use Rattle.nj_scope.specs.Scopes.{IsScope, nearest, value_in, expanded};
-ghost use Rattle.nj_scope.specs.ScopesHeld.{parent_at, bound_at, rule_at};
+ghost use Rattle.std.specs.Map.{lookup};
+ghost use Rattle.nj_scope.specs.ScopesHeld.{values_text, parent_at, bound_at, rule_at};
 ghost use Rattle.nj_text.specs.Words.{word_text};
 
 use crate::hash_keys::HashKeys;
@@ -95,9 +96,7 @@ impl Scopes {
         ensures parents { (n : ℕ) → parent_at self.new n ≡ parent_at self.old n }
         ensures count { length self.new ≡ length self.old }
     {
-        let key = Vec::from_slice(self.alloc, name)?;
-        self.scopes[scope].values.insert(key, value)?;
-        Ok(())
+        set_value(self.alloc, &mut self.scopes[scope].values, name, value)
     }
 
     /// Declares the rule of this number under a name for which this scope declares none yet.
@@ -200,4 +199,25 @@ impl Scopes {
         }
         Ok(text)
     }
+}
+
+// Sets the value of the name. A name that has one keeps its key.
+fn set_value(
+    alloc: Global,
+    values: &mut IndexMap<Vec<u8>, Vec<u8>, HashKeys>,
+    name: &[u8],
+    value: Vec<u8>,
+) -> Result<(), AllocError>
+    ensures set { OnOk result ((x : List ℕ) → lookup (bytes_eq x) (values_text values.new.entries)
+        ≡ (if bytes_eq x name.now
+        then Some value.items else lookup (bytes_eq x) (values_text values.old.entries))) }
+    ensures refused { OnErr result (values.new.entries ≡ values.old.entries) }
+{
+    if let Some(held) = values.get_mut(name) {
+        *held = value;
+        return Ok(());
+    }
+    let key = Vec::from_slice(alloc, name)?;
+    values.insert(key, value)?;
+    Ok(())
 }

@@ -1,37 +1,24 @@
-use Rattle.std.proofs.Common.{◌<◌, ◌&&◌, ◌==◌, cond, Some, length, ap, ◌∙◌, subst, sym, refl, bytes_eq, Result, Ok, Err, OnErr}
+use Rattle.std.proofs.Common.{◌<◌, ◌&&◌, ◌==◌, cond, Some, length, ap, ◌∙◌, subst, sym, refl, bytes_eq}
 use Rattle.std.specs.Map.{lookup}
-use Rattle.nj_scope.specs.ScopesHeld.{parent_at, bound_at, rule_at}
-use Rattle.nj_scope.proofs.ScopeLemmas.{earlier-set_text, kept-text, bound-text, entries_text}
+use Rattle.nj_scope.specs.ScopesHeld.{values_text, parent_at, bound_at, rule_at}
+use Rattle.nj_scope.proofs.DeclarationLemmas.{at_ok, at_err}
+use Rattle.nj_scope.proofs.ScopeLemmas.{earlier-set_text, kept-text, bound-text}
 use Rattle.nj_scope.proofs.scopes.Scopes.bind.Goals as goal
 
-always : {X Y P : Type 0} (r : Result X Y) → P → OnErr r P
-always (Ok x) h = tt
-always (Err y) h = h
-
 pub invariant_of-self : goal.invariant_of-self
-invariant_of-self c = earlier-set_text c.self.inside.scopes.items c.args.scope c.index_mut.result.now (record { parent = c.index_mut.result.now.parent; values = c.insert.new.self; rules = c.index_mut.result.now.rules }) (subst (λ ss. c.args.scope < length ss) (sym c.self.view_is) c.requires) c.index_mut.ensures.value refl c.self.invariant
-
-pub returns-in_err-insert-clause-refused : goal.returns-in_err-insert-clause-refused
-returns-in_err-insert-clause-refused c =
-    always c.from_residual-in_err-insert.result (λ n x. kept-text c.self.inside.scopes.items c.args.scope c.index_mut.result.now (record { parent = c.index_mut.result.now.parent; values = c.insert.new.self; rules = c.index_mut.result.now.rules }) (subst (λ ss. c.args.scope < length ss) (sym c.self.view_is) c.requires) c.index_mut.ensures.value (λ s. lookup (bytes_eq x) s.values) (ap (λ es. lookup (bytes_eq x) (entries_text (λ v. v.items) es)) c.in_err-insert.ensures.err) n ∙ ap (λ ss. bound_at ss n x) c.self.view_is)
-
-pub returns-in_err-insert-clause-rules : goal.returns-in_err-insert-clause-rules
-returns-in_err-insert-clause-rules c = λ n x. kept-text c.self.inside.scopes.items c.args.scope c.index_mut.result.now (record { parent = c.index_mut.result.now.parent; values = c.insert.new.self; rules = c.index_mut.result.now.rules }) (subst (λ ss. c.args.scope < length ss) (sym c.self.view_is) c.requires) c.index_mut.ensures.value (λ s. lookup (bytes_eq x) s.rules) refl n ∙ ap (λ ss. rule_at ss n x) c.self.view_is
-
-pub returns-in_err-insert-clause-parents : goal.returns-in_err-insert-clause-parents
-returns-in_err-insert-clause-parents c = λ n. kept-text c.self.inside.scopes.items c.args.scope c.index_mut.result.now (record { parent = c.index_mut.result.now.parent; values = c.insert.new.self; rules = c.index_mut.result.now.rules }) (subst (λ ss. c.args.scope < length ss) (sym c.self.view_is) c.requires) c.index_mut.ensures.value (λ s. s.parent) refl n ∙ ap (λ ss. parent_at ss n) c.self.view_is
-
-pub invariant_of-self-2 : goal.invariant_of-self-2
-invariant_of-self-2 c = earlier-set_text c.self.inside.scopes.items c.args.scope c.index_mut.result.now (record { parent = c.index_mut.result.now.parent; values = c.insert.new.self; rules = c.index_mut.result.now.rules }) (subst (λ ss. c.args.scope < length ss) (sym c.self.view_is) c.requires) c.index_mut.ensures.value refl c.self.invariant
+invariant_of-self c = earlier-set_text c.self.inside.scopes.items c.args.scope c.index_mut.result.now (record { parent = c.index_mut.result.now.parent; values = c.set_value.new.values; rules = c.index_mut.result.now.rules }) (subst (λ ss. c.args.scope < length ss) (sym c.self.view_is) c.requires) c.index_mut.ensures.value refl c.self.invariant
 
 pub returns-clause-bound : goal.returns-clause-bound
-returns-clause-bound c = λ n x.
-    bound-text c.self.inside.scopes.items c.args.scope c.index_mut.result.now (record { parent = c.index_mut.result.now.parent; values = c.insert.new.self; rules = c.index_mut.result.now.rules }) (subst (λ ss. c.args.scope < length ss) (sym c.self.view_is) c.requires) c.index_mut.ensures.value c.in_ok-key.key c.args.value c.in_ok-insert.ensures.entries n x
-    ∙ ap (λ ss. cond (n == c.args.scope && bytes_eq x c.in_ok-key.key.items) (Some c.args.value.items) (bound_at ss n x)) c.self.view_is
-    ∙ ap (λ y. cond (n == c.args.scope && bytes_eq x y) (Some c.args.value.items) (bound_at c.args.self.now n x)) c.in_ok-key.ensures.items
+returns-clause-bound c = at_ok c.set_value.result c.set_value.ensures.set (λ set n x.
+    bound-text c.self.inside.scopes.items c.args.scope c.index_mut.result.now (record { parent = c.index_mut.result.now.parent; values = c.set_value.new.values; rules = c.index_mut.result.now.rules }) (subst (λ ss. c.args.scope < length ss) (sym c.self.view_is) c.requires) c.index_mut.ensures.value c.args.name.now c.args.value.items set n x
+    ∙ ap (λ ss. cond (n == c.args.scope && bytes_eq x c.args.name.now) (Some c.args.value.items) (bound_at ss n x)) c.self.view_is)
+
+pub returns-clause-refused : goal.returns-clause-refused
+returns-clause-refused c = at_err c.set_value.result c.set_value.ensures.refused (λ same n x.
+    kept-text c.self.inside.scopes.items c.args.scope c.index_mut.result.now (record { parent = c.index_mut.result.now.parent; values = c.set_value.new.values; rules = c.index_mut.result.now.rules }) (subst (λ ss. c.args.scope < length ss) (sym c.self.view_is) c.requires) c.index_mut.ensures.value (λ s. lookup (bytes_eq x) s.values) (ap (λ es. lookup (bytes_eq x) (values_text es)) same) n ∙ ap (λ ss. bound_at ss n x) c.self.view_is)
 
 pub returns-clause-rules : goal.returns-clause-rules
-returns-clause-rules c = λ n x. kept-text c.self.inside.scopes.items c.args.scope c.index_mut.result.now (record { parent = c.index_mut.result.now.parent; values = c.insert.new.self; rules = c.index_mut.result.now.rules }) (subst (λ ss. c.args.scope < length ss) (sym c.self.view_is) c.requires) c.index_mut.ensures.value (λ s. lookup (bytes_eq x) s.rules) refl n ∙ ap (λ ss. rule_at ss n x) c.self.view_is
+returns-clause-rules c = λ n x. kept-text c.self.inside.scopes.items c.args.scope c.index_mut.result.now (record { parent = c.index_mut.result.now.parent; values = c.set_value.new.values; rules = c.index_mut.result.now.rules }) (subst (λ ss. c.args.scope < length ss) (sym c.self.view_is) c.requires) c.index_mut.ensures.value (λ s. lookup (bytes_eq x) s.rules) refl n ∙ ap (λ ss. rule_at ss n x) c.self.view_is
 
 pub returns-clause-parents : goal.returns-clause-parents
-returns-clause-parents c = λ n. kept-text c.self.inside.scopes.items c.args.scope c.index_mut.result.now (record { parent = c.index_mut.result.now.parent; values = c.insert.new.self; rules = c.index_mut.result.now.rules }) (subst (λ ss. c.args.scope < length ss) (sym c.self.view_is) c.requires) c.index_mut.ensures.value (λ s. s.parent) refl n ∙ ap (λ ss. parent_at ss n) c.self.view_is
+returns-clause-parents c = λ n. kept-text c.self.inside.scopes.items c.args.scope c.index_mut.result.now (record { parent = c.index_mut.result.now.parent; values = c.set_value.new.values; rules = c.index_mut.result.now.rules }) (subst (λ ss. c.args.scope < length ss) (sym c.self.view_is) c.requires) c.index_mut.ensures.value (λ s. s.parent) refl n ∙ ap (λ ss. parent_at ss n) c.self.view_is
