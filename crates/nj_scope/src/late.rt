@@ -1,6 +1,6 @@
 //! Values that are expanded later.
 
-ghost use Rattle.std.specs.Prelude.{◌≡◌, ℕ, ◌<◌, List, [], ◌∷◌, ◌++◌, Some, length, slice_get, IfOk, OnOk, OnErr};
+ghost use Rattle.std.specs.Prelude.{◌≡◌, ◌<◌, List, [], ◌∷◌, ◌++◌, Some, length, slice_get, IfOk, OnOk, OnErr};
 ghost use Rattle.nj_text.specs.Words.{part_text, word_text};
 ghost use Rattle.nj_scope.specs.Late.{part_written, parts_written};
 ghost use Rattle.nj_scope.specs.LateHeld.{text_or_name};

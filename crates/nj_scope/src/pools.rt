@@ -1,6 +1,6 @@
 //! Pools.
 
-ghost use Rattle.std.specs.Prelude.{◌≡◌, ℕ, List, [], ◌∷◌, ◌++◌, not, IfOk, OnOk, OnErr, if◌then◌else◌};
+ghost use Rattle.std.specs.Prelude.{◌≡◌, ℕ, List, [], ◌∷◌, ◌++◌, not, IfOk, OnErr, if◌then◌else◌};
 ghost use Rattle.nj_scope.specs.Pools.{is_pool};
 
 use crate::hash_keys::HashKeys;

@@ -1,6 +1,6 @@
 //! Rules.
 
-ghost use Rattle.std.specs.Prelude.{◌≡◌, ℕ, List, map, option_copied, option_map, find, reverse, bytes_eq, IfOk};
+ghost use Rattle.std.specs.Prelude.{◌≡◌, map, option_copied, find, reverse, bytes_eq, IfOk};
 ghost use Rattle.nj_scope.specs.Rules.{line_kept, given};
 ghost use Rattle.nj_scope.specs.RulesHeld.{line_held};
 ghost use Rattle.nj_manifest.specs.Contents.{line_text};

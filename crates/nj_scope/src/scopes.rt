@@ -1,6 +1,6 @@
 //! The scopes of variables and rules.
 
-ghost use Rattle.std.specs.Prelude.{◌≡◌, ℕ, ◌+◌, ◌<◌, ◌&&◌, ◌==◌, List, Option, Some, None, length, option_copied, is_none, IfSome, IfOk, OnOk, OnErr, if◌then◌else◌, bytes_eq};
+ghost use Rattle.std.specs.Prelude.{◌≡◌, ℕ, ◌+◌, ◌<◌, ◌&&◌, ◌==◌, List, Option, Some, None, length, option_copied, IfSome, IfOk, OnOk, OnErr, if◌then◌else◌, bytes_eq};
 ghost use Rattle.nj_scope.specs.Scopes.{IsScope, nearest, value_in, expanded};
 ghost use Rattle.std.specs.Map.{lookup};
 ghost use Rattle.nj_scope.specs.ScopesHeld.{values_text, parent_at, bound_at, rule_at};

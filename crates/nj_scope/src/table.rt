@@ -1,6 +1,6 @@
 //! The files that a run has read.
 
-ghost use Rattle.std.specs.Prelude.{◌≡◌, List, [], ◌∷◌, ◌++◌, true, false, length, string_bytes, option_copied, option_map, IfOk, OnOk, OnErr};
+ghost use Rattle.std.specs.Prelude.{◌≡◌, List, [], ◌∷◌, ◌++◌, true, false, length, option_copied, option_map, IfOk, OnOk, OnErr};
 ghost use Rattle.nj_scope.specs.Opening.{OpensFile, shared_bytes};
 ghost use Rattle.nj_scope.specs.Readings.{EachPathOnce, reading_of, is_read, bytes_in};
 ghost use Rattle.nj_scope.specs.Sources.{answer_bytes};
