@@ -7,7 +7,8 @@ use Rattle.nj_manifest.specs.Statements.{StatementText, BindingText, RuleText, P
 use Rattle.nj_scope.specs.Readings as table
 use Rattle.nj_scope.specs.Readings.{reading_of}
 use Rattle.nj_scope.specs.ReadingList.{Entry, files_opened}
-use Rattle.nj_graph.specs.Faults.{PlaceText, FaultText}
+use Rattle.nj_graph.specs.declared.fault.Place.{Place}
+use Rattle.nj_graph.specs.declared.fault.GraphFault.{GraphFault}
 use Rattle.nj_graph.specs.Statements.{said}
 use Rattle.nj_graph.specs.Runs.{Prefix}
 use Rattle.nj_graph.specs.Reading.{Site, own_fault, End, Whole, Refused, Lacking, ReadingText, go_on, and_then, Opens, item_read, unless_fault, statement_read, end_by, statements_read, most_opened, most_within, found_read, answer_read, if_room, opened_in, main_site, main_read, path_named, with_new, with_named, paths_read, path_at_end, paths_come_to}
@@ -49,7 +50,7 @@ abbrev pub ComesTo : (main : List ℕ) → List Entry → ReadingText → Type 0
 ComesTo main before r = Prefix (paths_read main before) (paths_come_to main r)
 
 abbrev pub OpensCome : (main : List ℕ) → Opens → Type 0
-OpensCome main opens = (site : Site) (place : PlaceText) (e : Entry) (before : List Entry) → ComesTo main before (opens site place e before)
+OpensCome main opens = (site : Site) (place : Place) (e : Entry) (before : List Entry) → ComesTo main before (opens site place e before)
 
 -- a reading that ends before the next statement
 ends-there : (main : List ℕ) (before : List Entry) (end : End) → ComesTo main before (record { entries = before; end = end })
@@ -67,7 +68,7 @@ item_read-comes main opens comes site before (SubninjaText word) = comes _ _ _ b
 statement_read-comes : (main : List ℕ) (opens : Opens) → OpensCome main opens → (site : Site) (before : List Entry) (s : PlacedText) → ComesTo main before (statement_read opens site before s)
 statement_read-comes main opens comes site before s = by_fault (own_fault site before s.spot s.item)
   where
-    by_fault : (f : Option FaultText) → ComesTo main before (unless_fault f opens site before s.item)
+    by_fault : (f : Option GraphFault) → ComesTo main before (unless_fault f opens site before s.item)
     by_fault (Some fault) = ends-there main before (Refused fault)
     by_fault None = item_read-comes main opens comes site before s.item
 
@@ -79,16 +80,16 @@ statements_read-come main opens comes site (s ∷ others) fault before =
 
 -- ---- a file
 
-found_read-comes : (main : List ℕ) (within : Opens) → OpensCome main within → (site : Site) (place : PlaceText) (entries before : List Entry) → Prefix (paths_read main before) (paths_read main entries) → (text : Option (List ℕ)) → ComesTo main before (found_read within site place entries before text)
+found_read-comes : (main : List ℕ) (within : Opens) → OpensCome main within → (site : Site) (place : Place) (entries before : List Entry) → Prefix (paths_read main before) (paths_read main entries) → (text : Option (List ℕ)) → ComesTo main before (found_read within site place entries before text)
 found_read-comes main within comes site place entries before more None = prefix-new (paths_read main before) site.file
 found_read-comes main within comes site place entries before more (Some text) =
     prefix-then (paths_read main before) (paths_read main entries) _ more (statements_read-come main within comes site (said text).statements (said text).fault entries)
 
-answer_read-comes : (main : List ℕ) (within : Opens) → OpensCome main within → (site : Site) (place : PlaceText) (entries before : List Entry) → Prefix (paths_read main before) (paths_read main entries) → (r : Option table.Reading) → ComesTo main before (answer_read within site place entries before r)
+answer_read-comes : (main : List ℕ) (within : Opens) → OpensCome main within → (site : Site) (place : Place) (entries before : List Entry) → Prefix (paths_read main before) (paths_read main entries) → (r : Option table.Reading) → ComesTo main before (answer_read within site place entries before r)
 answer_read-comes main within comes site place entries before more None = prefix-new (paths_read main before) site.file
 answer_read-comes main within comes site place entries before more (Some r) = found_read-comes main within comes site place entries before more r.bytes
 
-pub opened-comes : (main : List ℕ) (files : List table.Reading) (left : ℕ) (site : Site) (place : PlaceText) (e : Entry) (before : List Entry) → Prefix (paths_read main before) (paths_come_to main (opened_in files left site place e before))
+pub opened-comes : (main : List ℕ) (files : List table.Reading) (left : ℕ) (site : Site) (place : Place) (e : Entry) (before : List Entry) → Prefix (paths_read main before) (paths_come_to main (opened_in files left site place e before))
 unfolding opened_in
 opened-comes main files zero site place e before = prefix-self (paths_read main before)
 opened-comes main files (suc left) site place e before = by_room (nat_lt (files_opened before) most_opened) (opened-comes main files left)
@@ -106,7 +107,7 @@ statements-come main files left = statements_read-come main (opened_in files lef
 -- ---- the path of a file
 
 -- The path that a statement names comes next, whatever is found there.
-pub opened-names : (main : List ℕ) (files : List table.Reading) (left : ℕ) (site : Site) (place : PlaceText) (e : Entry) (before : List Entry)
+pub opened-names : (main : List ℕ) (files : List table.Reading) (left : ℕ) (site : Site) (place : Place) (e : Entry) (before : List Entry)
     → path_named e before e.item ≡ site.file ∷ []
     → nat_lt (files_opened before) most_opened ≡ true
     → Prefix (with_new (paths_read main before) site.file) (paths_come_to main (opened_in files (suc left) site place e before))

@@ -3,11 +3,14 @@ use Rattle.std.proofs.Common.{◌≡◌, ℕ, refl}
 use Rattle.std.specs.Prelude.{codes}
 use Rattle.std.specs.Fmt.{digits}
 use Rattle.nj_manifest.specs.declared.fault.Wanted.TheVariants as wanted
-use Rattle.nj_graph.specs.Faults.{CauseText, Expected, UnknownKey, InvalidDepth, DuplicateRule, NewerVersion, CannotFind, TooManyOpened, CannotRead, FaultText, fault_at, no_memory}
+use Rattle.nj_graph.specs.declared.fault.Cause.{Cause}
+use Rattle.nj_graph.specs.declared.fault.GraphFault.{GraphFault}
+use Rattle.nj_graph.specs.declared.fault.Cause.TheVariants.{Expected, UnknownKey, BadDepth, DuplicateRule, VersionTooNew, Missing, TooManyOpenings, Io}
+use Rattle.nj_graph.specs.Faults.{fault_at, no_memory}
 use Rattle.nj_graph.specs.FaultLines.{fault_line}
 
 -- at a place of the file `build.ninja`
-abbrev at : (line column : ℕ) → CauseText → FaultText
+abbrev at : (line column : ℕ) → Cause → GraphFault
 at line column cause = fault_at (codes "build.ninja") (record { line = line; column = column }) cause
 
 wanted_row : fault_line (at 1 2 (Expected wanted.Equals)) ≡ codes "build.ninja:1:2: expected '='"
@@ -18,7 +21,7 @@ key_row : fault_line (at 3 3 (UnknownKey (codes "depth"))) ≡ codes "build.ninj
 unfolding digits
 key_row = refl
 
-depth_row : fault_line (at 2 3 InvalidDepth) ≡ codes "build.ninja:2:3: invalid pool depth"
+depth_row : fault_line (at 2 3 BadDepth) ≡ codes "build.ninja:2:3: invalid pool depth"
 unfolding digits
 depth_row = refl
 
@@ -26,20 +29,20 @@ rule_row : fault_line (at 1 6 (DuplicateRule (codes "phony"))) ≡ codes "build.
 unfolding digits
 rule_row = refl
 
-version_row : fault_line (at 1 1 (NewerVersion (codes "1.12"))) ≡ codes "build.ninja:1:1: ninja_required_version 1.12 is newer than 1.11"
+version_row : fault_line (at 1 1 (VersionTooNew (codes "1.12"))) ≡ codes "build.ninja:1:1: ninja_required_version 1.12 is newer than 1.11"
 unfolding digits
 version_row = refl
 
-find_row : fault_line (at 2 9 (CannotFind (codes "s"))) ≡ codes "build.ninja:2:9: cannot find 's'"
+find_row : fault_line (at 2 9 (Missing (codes "s"))) ≡ codes "build.ninja:2:9: cannot find 's'"
 unfolding digits
 find_row = refl
 
-read_row : fault_line (at 1 1 (CannotRead (codes "build.ninja"))) ≡ codes "build.ninja:1:1: cannot read 'build.ninja'"
+read_row : fault_line (at 1 1 (Io (codes "build.ninja"))) ≡ codes "build.ninja:1:1: cannot read 'build.ninja'"
 unfolding digits
 read_row = refl
 
 -- numbers are decimal, from their first digit that is not 0
-place_row : fault_line (at 65536 10 TooManyOpened) ≡ codes "build.ninja:65536:10: more than 65536 files opened"
+place_row : fault_line (at 65536 10 TooManyOpenings) ≡ codes "build.ninja:65536:10: more than 65536 files opened"
 unfolding digits
 place_row = refl
 

@@ -13,7 +13,8 @@ use Rattle.nj_scope.specs.ReadingList.{Entry, files_opened, opens_file, rules, i
 use Rattle.nj_scope.proofs.FollowLemmas.{value-listed}
 use Rattle.nj_graph.specs.declared.fault.GraphFault.{GraphFault}
 use Rattle.nj_graph.specs.declared.reader.Reader.{Reader}
-use Rattle.nj_graph.specs.Faults.{FaultText, InvalidDepth, DuplicateRule, DuplicatePool, fault_at}
+use Rattle.nj_graph.specs.declared.fault.Cause.TheVariants.{BadDepth, DuplicateRule, DuplicatePool}
+use Rattle.nj_graph.specs.Faults.{fault_at}
 use Rattle.nj_graph.specs.Reading.{Site, word_says, fault_if, or_then, rule_fault, depth_fault, pool_fault, path_named, with_named, paths_read}
 use Rattle.nj_graph.specs.Runs.{paths}
 use Rattle.nj_graph.specs.Steps.{Holds, Checks, Declares}
@@ -28,7 +29,7 @@ holds-next main old held entries e holds follows opened files none names = recor
   once = subst EachPathOnce (sym files) holds.once;
 }
 
-fault-unless : (b : Bool) (fault : FaultText) → true ≡ not b → fault_if b fault ≡ None
+fault-unless : (b : Bool) (fault : GraphFault) → true ≡ not b → fault_if b fault ≡ None
 fault-unless true fault h = absurd (true≢false h)
 fault-unless false fault h = refl
 
@@ -59,15 +60,15 @@ depths-same site before after old entries follows follows_after same (l ∷ line
     ap (λ says. option_map told (cond (not (is_depth says)) (Some l) (find (λ m. not (is_depth (word_says site entries m.value))) lines))) (says-same site before after old entries follows follows_after same l.value)
     ∙ by (not (is_depth (word_says site old l.value))) (depths-same site before after old entries follows follows_after same lines)
   where
-    told : LineText → FaultText
-    told m = fault_at site.file m.spot InvalidDepth
+    told : LineText → GraphFault
+    told m = fault_at site.file m.spot BadDepth
 
     by : (b : Bool) → depth_fault site entries lines ≡ depth_fault site old lines → option_map told (cond b (Some l) (find (λ m. not (is_depth (word_says site entries m.value))) lines)) ≡ option_map told (cond b (Some l) (find (λ m. not (is_depth (word_says site old m.value))) lines))
     by true others = refl
     by false others = others
 
 -- a pool whose depths were checked
-pub pool-declares : (main : List ℕ) (held : Reader) (expected depths : Option FaultText) (entries : List Entry) (result : Result (Unit {0}) GraphFault) → expected ≡ depths → Checks depths result → Holds main held entries → Declares main held expected entries result
+pub pool-declares : (main : List ℕ) (held : Reader) (expected depths : Option GraphFault) (entries : List Entry) (result : Result (Unit {0}) GraphFault) → expected ≡ depths → Checks depths result → Holds main held entries → Declares main held expected entries result
 pool-declares main held expected depths entries (Ok done) same checks holds = (same ∙ checks, holds)
 pool-declares main held expected depths entries (Err fault) same (inl no_memory) holds = inl no_memory
 pool-declares main held expected depths entries (Err fault) same (inr told) holds = inr (same ∙ told)

@@ -7,7 +7,9 @@ use Rattle.nj_scope.specs.Follows.{Follows}
 use Rattle.nj_scope.specs.Scopes.{outermost}
 use Rattle.nj_graph.specs.declared.fault.GraphFault.{GraphFault}
 use Rattle.nj_graph.specs.declared.reader.Reader.{Reader}
-use Rattle.nj_graph.specs.Faults.{PlaceText, CannotFind, fault_text, no_memory}
+use Rattle.nj_graph.specs.declared.fault.Place.{Place}
+use Rattle.nj_graph.specs.declared.fault.Cause.TheVariants.{Missing}
+use Rattle.nj_graph.specs.Faults.{no_memory}
 use Rattle.nj_graph.specs.Reading.{Refused, Lacking, ReadingText, opened_in, text_read, answer_read, most_within, main_site, main_read, with_new, paths_come_to}
 use Rattle.nj_graph.specs.Runs.{SourceText, Saying, paths, Extends, Prefix}
 use Rattle.nj_graph.specs.Steps.{IsNew, Holds, Stands, ReadsAll, Finds, FindsNone, CannotTell, HasNoMemory, ReadsText, Reads, StopsAt}
@@ -15,7 +17,7 @@ use Rattle.nj_graph.proofs.Comes.{main-comes}
 use Rattle.nj_graph.proofs.Tables.{extends-trans, reading-kept, read-extends, reads-all-then, read-nothing}
 use Rattle.nj_graph.proofs.Turns.{stops-behind}
 
-abbrev pub front_of : (main : List ℕ) → PlaceText
+abbrev pub front_of : (main : List ℕ) → Place
 front_of main = record { file = main; spot = record { line = 1; column = 1 } }
 
 abbrev main_reading : (main : List ℕ) → List Reading → ReadingText
@@ -29,7 +31,7 @@ itself path = ap (λ b. cond (b || false) (path ∷ []) (path ∷ [] ++ path ∷
 
 module _ (main : List ℕ) (said : Saying) (before after : SourceText) (fault : GraphFault) where
   -- there was no memory before the first reading
-  pub main-nothing : after.readings ≡ before.readings → fault_text fault ≡ no_memory → StopsAt main said before after [] (main_reading main) fault
+  pub main-nothing : after.readings ≡ before.readings → fault ≡ no_memory → StopsAt main said before after [] (main_reading main) fault
   main-nothing same none = record {
     files = [];
     reads = read-nothing said before after [] tt same;
@@ -68,7 +70,7 @@ module _ (main : List ℕ) (said : Saying) (before after : SourceText) (fault : 
     reads = h.reads;
     stops = inr (record {
       entries = [];
-      end = Refused (record { place = Some (front_of main); cause = CannotFind main });
+      end = Refused (record { place = Some (front_of main); cause = Missing main });
       answered = h.answered;
       read = λ all ext lacks. ap (λ r. answer_read (opened_in all most_within) (main_site main) (front_of main) [] [] r) (reading-kept main (record { path = main; bytes = None }) all h.files ext h.found);
       came_to = itself main ∙ sym h.came_to;
@@ -121,7 +123,7 @@ module _ (main : List ℕ) (said said2 : Saying) (before mid after : SourceText)
       }) fault s
 
 -- there was no memory for the graph of what was read
-pub reads-memory : (main : List ℕ) (said : Saying) (before after : SourceText) (old held : Reader) (fault : GraphFault) → ReadsText main said before after old held (main_reading main) → fault_text fault ≡ no_memory → StopsAt main said before after old.files (main_reading main) fault
+pub reads-memory : (main : List ℕ) (said : Saying) (before after : SourceText) (old held : Reader) (fault : GraphFault) → ReadsText main said before after old held (main_reading main) → fault ≡ no_memory → StopsAt main said before after old.files (main_reading main) fault
 reads-memory main said before after old held fault r none = record {
   files = r.files;
   reads = r.reads.reads;

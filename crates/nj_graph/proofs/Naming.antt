@@ -13,7 +13,9 @@ use Rattle.nj_scope.specs.Follows.{Follows}
 use Rattle.nj_scope.specs.ReadingList.{Entry, files_opened, opens_file}
 use Rattle.nj_graph.specs.declared.fault.GraphFault.{GraphFault}
 use Rattle.nj_graph.specs.declared.reader.Reader.{Reader}
-use Rattle.nj_graph.specs.Faults.{PlaceText, CauseText, FaultText, fault_text, fault_at, fault_in, no_memory}
+use Rattle.nj_graph.specs.declared.fault.Place.{Place}
+use Rattle.nj_graph.specs.declared.fault.Cause.{Cause}
+use Rattle.nj_graph.specs.Faults.{fault_at, fault_in, no_memory}
 use Rattle.nj_graph.specs.Reading.{Site, entry_at, fault_if, or_then, depth_fault, own_fault, Whole, Refused, ReadingText, Opens, item_read, unless_fault, statement_read, opened_in, text_read, path_named, with_new, with_named, paths_read, path_at_fault, paths_come_to}
 use Rattle.nj_graph.specs.Runs.{SourceText, Saying, paths, Prefix, Stops}
 use Rattle.nj_graph.specs.Steps.{Holds, Grows, Stands, IsFault, ReadsOne, StopsAt, OpensText, OpensFile}
@@ -48,21 +50,21 @@ stands-grown before after number around grows stands = record {
 
 -- ---- no fault of a statement by itself names a path
 
-abbrev NamesNone : Option FaultText → Type 0
-NamesNone found = (fault : FaultText) → found ≡ Some fault → path_at_fault fault.cause ≡ []
+abbrev NamesNone : Option GraphFault → Type 0
+NamesNone found = (fault : GraphFault) → found ≡ Some fault → path_at_fault fault.cause ≡ []
 
 some-is : {A : Type 0} (x y : A) → Some x ≡ Some y → x ≡ y
 some-is x y h = cc
 
-if-names : (b : Bool) (file : List ℕ) (spot : Spot) (cause : CauseText) → path_at_fault cause ≡ [] → NamesNone (fault_if b (fault_at file spot cause))
+if-names : (b : Bool) (file : List ℕ) (spot : Spot) (cause : Cause) → path_at_fault cause ≡ [] → NamesNone (fault_if b (fault_at file spot cause))
 if-names true file spot cause none fault h = ap (λ f. path_at_fault f.cause) (sym (some-is _ fault h)) ∙ none
 if-names false file spot cause none fault h = absurd cc
 
-or-names : (first others : Option FaultText) → NamesNone first → NamesNone others → NamesNone (or_then first others)
+or-names : (first others : Option GraphFault) → NamesNone first → NamesNone others → NamesNone (or_then first others)
 or-names (Some first) others one more = one
 or-names None others one more = more
 
-depth-names : (site : Site) (found : Option LineText) (cause : CauseText) → path_at_fault cause ≡ [] → NamesNone (option_map (λ l. fault_at site.file l.spot cause) found)
+depth-names : (site : Site) (found : Option LineText) (cause : Cause) → path_at_fault cause ≡ [] → NamesNone (option_map (λ l. fault_at site.file l.spot cause) found)
 depth-names site (Some l) cause none fault h = ap (λ f. path_at_fault f.cause) (sym (some-is _ fault h)) ∙ none
 depth-names site None cause none fault h = absurd cc
 
@@ -99,7 +101,7 @@ stops-same main said before after old first second fault same s = record { files
 
 module _ (main : List ℕ) (said : Saying) (before after : SourceText) (old : Reader) (entries : List Entry) (holds : Holds main old entries) (same : after.readings ≡ before.readings) where
   -- there was no memory, and nothing more was read
-  pub stops-memory : (reading : List Reading → ReadingText) (fault : GraphFault) → ((all : List Reading) → Prefix (paths_read main entries) (paths_come_to main (reading all))) → fault_text fault ≡ no_memory
+  pub stops-memory : (reading : List Reading → ReadingText) (fault : GraphFault) → ((all : List Reading) → Prefix (paths_read main entries) (paths_come_to main (reading all))) → fault ≡ no_memory
       → StopsAt main said before after old.files reading fault
   stops-memory reading fault comes none = record {
     files = old.files;
@@ -108,7 +110,7 @@ module _ (main : List ℕ) (said : Saying) (before after : SourceText) (old : Re
   }
 
   -- a fault before which nothing more was read
-  pub stops-refused : (reading : List Reading → ReadingText) (fault : GraphFault) (expected : FaultText) → ((all : List Reading) → reading all ≡ record { entries = entries; end = Refused expected }) → path_at_fault expected.cause ≡ [] → fault_text fault ≡ expected
+  pub stops-refused : (reading : List Reading → ReadingText) (fault : GraphFault) (expected : GraphFault) → ((all : List Reading) → reading all ≡ record { entries = entries; end = Refused expected }) → path_at_fault expected.cause ≡ [] → fault ≡ expected
       → StopsAt main said before after old.files reading fault
   stops-refused reading fault expected is none told = record {
     files = old.files;
@@ -117,16 +119,16 @@ module _ (main : List ℕ) (said : Saying) (before after : SourceText) (old : Re
   }
 
   -- a fault of a statement by itself
-  pub stops-own : (left : ℕ) (site : Site) (s : PlacedText) (expected : Option FaultText) (fault : GraphFault) → own_fault site entries s.spot s.item ≡ expected → IsFault expected fault
+  pub stops-own : (left : ℕ) (site : Site) (s : PlacedText) (expected : Option GraphFault) (fault : GraphFault) → own_fault site entries s.spot s.item ≡ expected → IsFault expected fault
       → StopsAt main said before after old.files (λ all. statement_read (opened_in all left) site entries s) fault
   stops-own left site s expected fault is (inl none) = stops-memory (λ all. statement_read (opened_in all left) site entries s) fault (λ all. item-comes main all left site entries s) none
   stops-own left site s expected fault is (inr told) =
-      stops-refused (λ all. statement_read (opened_in all left) site entries s) fault (fault_text fault) (λ all. ap (λ f. unless_fault f (opened_in all left) site entries s.item) (is ∙ told))
-      (own-names site entries s.spot s.item (fault_text fault) (is ∙ told)) refl
+      stops-refused (λ all. statement_read (opened_in all left) site entries s) fault (fault) (λ all. ap (λ f. unless_fault f (opened_in all left) site entries s.item) (is ∙ told))
+      (own-names site entries s.spot s.item (fault) (is ∙ told)) refl
 
 -- ---- a file that is named
 
-module _ (main : List ℕ) (said : Saying) (before after : SourceText) (old mid held : Reader) (left : ℕ) (place : PlaceText) (path : List ℕ) (entries : List Entry) (text : List ℕ) where
+module _ (main : List ℕ) (said : Saying) (before after : SourceText) (old mid held : Reader) (left : ℕ) (place : Place) (path : List ℕ) (entries : List Entry) (text : List ℕ) where
   pub opens-file : (site : Site) (s : PlacedText) (inner : Site) → Holds main old entries → OpensText main said before after old mid left place path entries text → held.files ≡ mid.files → held.opened ≡ suc old.opened
       → Follows held.declared (entry_at site s.item ∷ entries) → opens_file s.item ≡ 1 → inner.file ≡ path → path_named (entry_at site s.item) entries s.item ≡ path ∷ []
       → ((opens : Opens) → statement_read opens site entries s ≡ opens inner place (entry_at site s.item) entries)
@@ -149,7 +151,7 @@ module _ (main : List ℕ) (said : Saying) (before after : SourceText) (old mid 
   pub stops-open : (site : Site) (s : PlacedText) (inner : Site) (fault : GraphFault) → Holds main old entries → OpensText main said before after old mid left place path entries text
       → inner.file ≡ path → path_named (entry_at site s.item) entries s.item ≡ path ∷ []
       → ((opens : Opens) → statement_read opens site entries s ≡ opens inner place (entry_at site s.item) entries)
-      → fault_text fault ≡ no_memory
+      → fault ≡ no_memory
       → StopsAt main said before after old.files (λ all. statement_read (opened_in all left) site entries s) fault
   stops-open site s inner fault holds o is names read none = record {
     files = o.files;

@@ -7,10 +7,13 @@ use Rattle.nj_scope.specs.Readings.{Reading, EachPathOnce, reading_of, is_read}
 use Rattle.nj_scope.specs.ReadingList.{Entry, files_opened}
 use Rattle.nj_graph.specs.declared.fault.GraphFault.{GraphFault}
 use Rattle.nj_graph.specs.declared.reader.Reader.{Reader}
-use Rattle.nj_graph.specs.Faults.{PlaceText, CauseText, CannotFind, TooManyOpen, TooManyOpened, fault_text, no_memory}
+use Rattle.nj_graph.specs.declared.fault.Place.{Place}
+use Rattle.nj_graph.specs.declared.fault.Cause.{Cause}
+use Rattle.nj_graph.specs.declared.fault.Cause.TheVariants.{Missing, TooDeep, TooManyOpenings}
+use Rattle.nj_graph.specs.Faults.{no_memory}
 use Rattle.nj_graph.specs.Reading.{Site, Refused, Lacking, most_opened, stopped, answer_read, if_room, opened_in, path_named, with_new, with_named, paths_read, path_at_fault, paths_come_to}
 use Rattle.nj_graph.specs.Runs.{SourceText, Saying, paths, Prefix}
-use Rattle.nj_graph.specs.Steps.{Finds, FindsNone, CannotTell, HasNoMemory, StopsAt, OpensText, OpensPath}
+use Rattle.nj_graph.specs.Steps.{IsFault, Finds, FindsNone, CannotTell, HasNoMemory, StopsAt, OpensText, OpensPath}
 use Rattle.nj_graph.proofs.Tables.{reading-kept, with_new-other, read-nothing}
 use Rattle.nj_graph.proofs.Comes.{opened-comes, opened-names}
 
@@ -18,15 +21,20 @@ absent : {X : Type 0} (o : Option X) → is_some o ≡ false → o ≡ None
 absent None h = refl
 absent (Some x) h = absurd (true≢false h)
 
+-- a fault is the expected one, or out of memory
+pub by-fault : {R : Type 0} (expected fault : GraphFault) → IsFault (Some expected) fault → (fault ≡ no_memory → R) → (fault ≡ expected → R) → R
+by-fault expected fault (inl none) lacks is = lacks none
+by-fault expected fault (inr told) lacks is = is cc
+
 -- ---- what is read of a file
 
-module _ (all : List Reading) (inner : Site) (place : PlaceText) (e : Entry) (entries : List Entry) where
-  opened-closed : opened_in all zero inner place e entries ≡ stopped entries place TooManyOpen
+module _ (all : List Reading) (inner : Site) (place : Place) (e : Entry) (entries : List Entry) where
+  opened-closed : opened_in all zero inner place e entries ≡ stopped entries place TooDeep
   unfolding opened_in
   opened-closed = refl
 
   module _ (within : ℕ) where
-    opened-full : most_opened ≤ files_opened entries → opened_in all (suc within) inner place e entries ≡ stopped entries place TooManyOpened
+    opened-full : most_opened ≤ files_opened entries → opened_in all (suc within) inner place e entries ≡ stopped entries place TooManyOpenings
     unfolding opened_in
     opened-full h = ap (λ room. if_room room (opened_in all within) all inner place e entries) (le-ltb (files_opened entries) most_opened h)
 
@@ -38,7 +46,7 @@ module _ (all : List Reading) (inner : Site) (place : PlaceText) (e : Entry) (en
 
 -- ---- how a run stops there
 
-module _ (main : List ℕ) (said : Saying) (before after : SourceText) (old : List Reading) (place : PlaceText) (path : List ℕ) (entries : List Entry) where
+module _ (main : List ℕ) (said : Saying) (before after : SourceText) (old : List Reading) (place : Place) (path : List ℕ) (entries : List Entry) where
   -- the run stops, where the file is that of the path and the statement names it
   abbrev pub StopsHere : (left : ℕ) → GraphFault → Type 0
   StopsHere left f = (inner : Site) (e : Entry) → inner.file ≡ path → path_named e entries e.item ≡ path ∷ [] → StopsAt main said before after old (λ all. opened_in all left inner place e entries) f
@@ -56,7 +64,7 @@ module _ (main : List ℕ) (said : Saying) (before after : SourceText) (old : Li
         (opened-names main all within inner place e entries (named ∙ ap (λ p. p ∷ []) (sym same)) (lt-ltb (files_opened entries) most_opened room))
 
     -- there is no memory for the answer
-    pub stops-lacking : (left : ℕ) → EachPathOnce old → after.readings ≡ before.readings → (f : GraphFault) → fault_text f ≡ no_memory → StopsHere left f
+    pub stops-lacking : (left : ℕ) → EachPathOnce old → after.readings ≡ before.readings → (f : GraphFault) → f ≡ no_memory → StopsHere left f
     stops-lacking left once not_told f answered inner e same named = record {
       files = old;
       reads = read-nothing said before after old once not_told;
@@ -64,9 +72,9 @@ module _ (main : List ℕ) (said : Saying) (before after : SourceText) (old : Li
     }
 
     -- no more files may be open, or opened
-    stops-refused : (left : ℕ) (cause : CauseText) → ((before : List (List ℕ)) → with_named before (path_at_fault cause) ≡ before)
+    stops-refused : (left : ℕ) (cause : Cause) → ((before : List (List ℕ)) → with_named before (path_at_fault cause) ≡ before)
         → ((all : List Reading) (inner : Site) (e : Entry) → opened_in all left inner place e entries ≡ stopped entries place cause)
-        → EachPathOnce old → after.readings ≡ before.readings → (f : GraphFault) → fault_text f ≡ record { place = Some place; cause = cause } → StopsHere left f
+        → EachPathOnce old → after.readings ≡ before.readings → (f : GraphFault) → f ≡ record { place = Some place; cause = cause } → StopsHere left f
     stops-refused left cause none read once not_told f answered inner e same named = record {
       files = old;
       reads = read-nothing said before after old once not_told;
@@ -79,16 +87,16 @@ module _ (main : List ℕ) (said : Saying) (before after : SourceText) (old : Li
       });
     }
 
-    pub stops-closed : (left : ℕ) → left ≡ 0 → EachPathOnce old → after.readings ≡ before.readings → (f : GraphFault) → fault_text f ≡ record { place = Some place; cause = TooManyOpen } → StopsHere left f
+    pub stops-closed : (left : ℕ) → left ≡ 0 → EachPathOnce old → after.readings ≡ before.readings → (f : GraphFault) → f ≡ record { place = Some place; cause = TooDeep } → StopsHere left f
     stops-closed left closed =
-        stops-refused left TooManyOpen (λ before. refl) (λ all inner e. ap (λ n. opened_in all n inner place e entries) closed ∙ opened-closed all inner place e entries)
+        stops-refused left TooDeep (λ before. refl) (λ all inner e. ap (λ n. opened_in all n inner place e entries) closed ∙ opened-closed all inner place e entries)
 
     module _ (left within : ℕ) (left_is : left ≡ suc within) where
       at_left : (all : List Reading) (inner : Site) (e : Entry) → opened_in all left inner place e entries ≡ opened_in all (suc within) inner place e entries
       at_left all inner e = ap (λ n. opened_in all n inner place e entries) left_is
 
-      pub stops-full : most_opened ≤ files_opened entries → EachPathOnce old → after.readings ≡ before.readings → (f : GraphFault) → fault_text f ≡ record { place = Some place; cause = TooManyOpened } → StopsHere left f
-      stops-full full = stops-refused left TooManyOpened (λ before. refl) (λ all inner e. at_left all inner e ∙ opened-full all inner place e entries within full)
+      pub stops-full : most_opened ≤ files_opened entries → EachPathOnce old → after.readings ≡ before.readings → (f : GraphFault) → f ≡ record { place = Some place; cause = TooManyOpenings } → StopsHere left f
+      stops-full full = stops-refused left TooManyOpenings (λ before. refl) (λ all inner e. at_left all inner e ∙ opened-full all inner place e entries within full)
 
       module _ (room : files_opened entries < most_opened) where
         -- there was no memory to find the file
@@ -127,12 +135,12 @@ module _ (main : List ℕ) (said : Saying) (before after : SourceText) (old : Li
           reads = none.reads;
           stops = inr (record {
             entries = entries;
-            end = Refused (record { place = Some place; cause = CannotFind path });
+            end = Refused (record { place = Some place; cause = Missing path });
             answered = none.answered;
             read = λ all is lacking.
                 at_left all inner e
                 ∙ opened-answered all inner place e entries within _ room (ap (reading_of all) same ∙ reading-kept path _ all none.files is none.found)
-                ∙ ap (λ p. stopped entries place (CannotFind p)) same;
+                ∙ ap (λ p. stopped entries place (Missing p)) same;
             came_to = ap (λ before. with_new before path) (sym paths_are) ∙ sym none.came_to;
           });
         }
@@ -144,7 +152,7 @@ module _ (main : List ℕ) (said : Saying) (before after : SourceText) (old : Li
 
 -- ---- a file that is open
 
-pub opens-text : (main : List ℕ) (said : Saying) (before after : SourceText) (old held : Reader) (left within : ℕ) (place : PlaceText) (path : List ℕ) (entries : List Entry) (text : List ℕ) → left ≡ suc within → files_opened entries < most_opened
+pub opens-text : (main : List ℕ) (said : Saying) (before after : SourceText) (old held : Reader) (left within : ℕ) (place : Place) (path : List ℕ) (entries : List Entry) (text : List ℕ) → left ≡ suc within → files_opened entries < most_opened
     → Finds said before after old.files held.files path text → OpensText main said before after old held left place path entries text
 opens-text main said before after old held left within place path entries text left_is room found = record {
   files = found.files;
@@ -158,7 +166,7 @@ opens-text main said before after old held left within place path entries text l
 }
 
 -- what is answered where the run stops
-module _ {Z : Type 0} (main : List ℕ) (said : Saying) (before after : SourceText) (old held : Reader) (left : ℕ) (place : PlaceText) (path : List ℕ) (entries : List Entry) where
+module _ {Z : Type 0} (main : List ℕ) (said : Saying) (before after : SourceText) (old held : Reader) (left : ℕ) (place : Place) (path : List ℕ) (entries : List Entry) where
   pub opens-fault : (result : Result (RcSlice ℕ Z) GraphFault) (P : GraphFault → Type 0)
       → IsErrAnd result P → ((f : GraphFault) → P f → StopsHere main said before after old.files place path entries left f) → OpensPath main said before after old held left place path entries result
   opens-fault (Ok text) P h stops = absurd h

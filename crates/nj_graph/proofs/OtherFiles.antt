@@ -5,7 +5,8 @@ use Rattle.nj_manifest.specs.Statements.{StatementText, BindingText, RuleText, P
 use Rattle.nj_scope.specs.Readings as table
 use Rattle.nj_scope.specs.Readings.{reading_of, is_read}
 use Rattle.nj_scope.specs.ReadingList.{Entry, files_opened}
-use Rattle.nj_graph.specs.Faults.{PlaceText, FaultText}
+use Rattle.nj_graph.specs.declared.fault.Place.{Place}
+use Rattle.nj_graph.specs.declared.fault.GraphFault.{GraphFault}
 use Rattle.nj_graph.specs.Statements.{said}
 use Rattle.nj_graph.specs.Reading.{Site, own_fault, End, Whole, Refused, Lacking, ReadingText, and_then, Opens, item_read, unless_fault, statement_read, statements_read, found_read, answer_read, if_room, most_opened, most_within, opened_in, main_site, main_read}
 use Rattle.nj_graph.specs.Runs.{Extends, IsLacking}
@@ -17,7 +18,7 @@ abbrev SameReading : (all : List table.Reading) → ReadingText → ReadingText 
 SameReading all few more = IsLacking few.end all → more ≡ few
 
 abbrev SameOpens : (all : List table.Reading) → Opens → Opens → Type 0
-SameOpens all few more = (site : Site) (place : PlaceText) (e : Entry) (before : List Entry) → SameReading all (few site place e before) (more site place e before)
+SameOpens all few more = (site : Site) (place : Place) (e : Entry) (before : List Entry) → SameReading all (few site place e before) (more site place e before)
 
 and_then-same : (all : List table.Reading) (few more : ReadingText) (k l : List Entry → ReadingText) → SameReading all few more → ((entries : List Entry) → SameReading all (k entries) (l entries)) → SameReading all (and_then few k) (and_then more l)
 and_then-same all few more k l first others lacks = by few.end refl
@@ -46,7 +47,7 @@ item-same all few more same site before (SubninjaText word) = same _ _ _ before
 statement-same : (all : List table.Reading) (few more : Opens) → SameOpens all few more → (site : Site) (before : List Entry) (s : PlacedText) → SameReading all (statement_read few site before s) (statement_read more site before s)
 statement-same all few more same site before s = by (own_fault site before s.spot s.item)
   where
-    by : (f : Option FaultText) → SameReading all (unless_fault f few site before s.item) (unless_fault f more site before s.item)
+    by : (f : Option GraphFault) → SameReading all (unless_fault f few site before s.item) (unless_fault f more site before s.item)
     by (Some fault) = λ lacks. refl
     by None = item-same all few more same site before s.item
 
@@ -57,7 +58,7 @@ statements-same all few more same site (s ∷ others) fault before =
     and_then-same all (statement_read few site before s) (statement_read more site before s) (λ entries. statements_read few site others fault entries) (λ entries. statements_read more site others fault entries)
     (statement-same all few more same site before s) (statements-same all few more same site others fault)
 
-answer-same : (files all : List table.Reading) (few more : Opens) → Extends all files → SameOpens all few more → (site : Site) (place : PlaceText) (entries before : List Entry)
+answer-same : (files all : List table.Reading) (few more : Opens) → Extends all files → SameOpens all few more → (site : Site) (place : Place) (entries before : List Entry)
     → SameReading all (answer_read few site place entries before (reading_of files site.file)) (answer_read more site place entries before (reading_of all site.file))
 answer-same files all few more extends same site place entries before = by (reading_of files site.file) refl
   where
@@ -78,7 +79,7 @@ unfolding opened_in
 opened-same files all extends zero = λ site place e before lacks. refl
 opened-same files all extends (suc left) = λ site place e before. by site place e before (nat_lt (files_opened before) most_opened) (opened-same files all extends left)
   where
-    by : (site : Site) (place : PlaceText) (e : Entry) (before : List Entry) (room : Bool) → SameOpens all (opened_in files left) (opened_in all left)
+    by : (site : Site) (place : Place) (e : Entry) (before : List Entry) (room : Bool) → SameOpens all (opened_in files left) (opened_in all left)
         → SameReading all (if_room room (opened_in files left) files site place e before) (if_room room (opened_in all left) all site place e before)
     by site place e before false same = λ lacks. refl
     by site place e before true same = answer-same files all (opened_in files left) (opened_in all left) extends same site place (e ∷ before) before

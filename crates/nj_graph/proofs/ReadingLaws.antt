@@ -7,7 +7,10 @@ use Rattle.nj_manifest.specs.Statements.{StatementText, BindingText, RuleText, P
 use Rattle.nj_scope.specs.Readings as table
 use Rattle.nj_scope.specs.Readings.{reading_of, is_read}
 use Rattle.nj_scope.specs.ReadingList.{Entry, rules, is_declared, files_opened, opens_file, RuleIsNew, EachRuleIsNew}
-use Rattle.nj_graph.specs.Faults.{PlaceText, FaultText, DuplicateRule, fault_at}
+use Rattle.nj_graph.specs.declared.fault.Place.{Place}
+use Rattle.nj_graph.specs.declared.fault.GraphFault.{GraphFault}
+use Rattle.nj_graph.specs.declared.fault.Cause.TheVariants.{DuplicateRule}
+use Rattle.nj_graph.specs.Faults.{fault_at}
 use Rattle.nj_graph.specs.Statements.{said}
 use Rattle.nj_graph.specs.Reading.{Site, entry_at, fault_if, own_fault, End, Whole, Refused, Lacking, ReadingText, go_on, and_then, Opens, item_read, unless_fault, statement_read, statements_read, found_read, answer_read, if_room, most_opened, most_within, opened_in, main_site, main_read}
 use Rattle.nj_graph.specs.Laws.{Faultless, ReadIsFaultless, OpeningsAreBounded, MainRulesRise}
@@ -24,7 +27,7 @@ opens-none e = omega (arith, e)
 module _ (P : List Entry → Type 0) (next : (site : Site) (before : List Entry) (spot : Spot) (item : StatementText) → P before → own_fault site before spot item ≡ None → HasRoom item before → P (entry_at site item ∷ before)) where
   -- it holds where a file is opened, if it holds with the statement that opens it wherever there is room
   abbrev OpensKeep : Opens → Type 0
-  OpensKeep opens = (site : Site) (place : PlaceText) (e : Entry) (before : List Entry) → P before → (nat_lt (files_opened before) most_opened ≡ true → P (e ∷ before)) → P (opens site place e before).entries
+  OpensKeep opens = (site : Site) (place : Place) (e : Entry) (before : List Entry) → P before → (nat_lt (files_opened before) most_opened ≡ true → P (e ∷ before)) → P (opens site place e before).entries
 
   item-keeps : (opens : Opens) → OpensKeep opens → (site : Site) (before : List Entry) (spot : Spot) (item : StatementText) → P before → own_fault site before spot item ≡ None → P (item_read opens site before item).entries
   item-keeps opens keeps site before spot (BindingText name value) p none = next site before spot (BindingText name value) p none (λ e. absurd (opens-none e))
@@ -38,7 +41,7 @@ module _ (P : List Entry → Type 0) (next : (site : Site) (before : List Entry)
   statement-keeps : (opens : Opens) → OpensKeep opens → (site : Site) (before : List Entry) (s : PlacedText) → P before → P (statement_read opens site before s).entries
   statement-keeps opens keeps site before s p = by (own_fault site before s.spot s.item) refl
     where
-      by : (f : Option FaultText) → own_fault site before s.spot s.item ≡ f → P (unless_fault f opens site before s.item).entries
+      by : (f : Option GraphFault) → own_fault site before s.spot s.item ≡ f → P (unless_fault f opens site before s.item).entries
       by (Some fault) e = p
       by None e = item-keeps opens keeps site before s.spot s.item p e
 
@@ -55,7 +58,7 @@ module _ (P : List Entry → Type 0) (next : (site : Site) (before : List Entry)
           by_end (Refused f) = q
           by_end (Lacking path place) = q
 
-  answer-keeps : (within : Opens) → OpensKeep within → (site : Site) (place : PlaceText) (entries before : List Entry) (r : Option table.Reading) → P entries → P before → P (answer_read within site place entries before r).entries
+  answer-keeps : (within : Opens) → OpensKeep within → (site : Site) (place : Place) (entries before : List Entry) (r : Option table.Reading) → P entries → P before → P (answer_read within site place entries before r).entries
   answer-keeps within keeps site place entries before None p q = q
   answer-keeps within keeps site place entries before (Some r) p q = by r.bytes
     where
@@ -68,7 +71,7 @@ module _ (P : List Entry → Type 0) (next : (site : Site) (before : List Entry)
   opened-keeps files zero = λ site place e before p q. p
   opened-keeps files (suc left) = λ site place e before p q. by site place e before p (nat_lt (files_opened before) most_opened) q (opened-keeps files left)
     where
-      by : (site : Site) (place : PlaceText) (e : Entry) (before : List Entry) → P before → (room : Bool) → (room ≡ true → P (e ∷ before)) → OpensKeep (opened_in files left) → P (if_room room (opened_in files left) files site place e before).entries
+      by : (site : Site) (place : Place) (e : Entry) (before : List Entry) → P before → (room : Bool) → (room ≡ true → P (e ∷ before)) → OpensKeep (opened_in files left) → P (if_room room (opened_in files left) files site place e before).entries
       by site place e before p false q keeps = p
       by site place e before p true q keeps = answer-keeps (opened_in files left) keeps site place (e ∷ before) before (reading_of files site.file) (q refl) p
 

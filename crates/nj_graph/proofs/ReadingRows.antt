@@ -10,7 +10,9 @@ use Rattle.nj_manifest.proofs.StatementRows.{on_texts, at}
 use Rattle.nj_scope.specs.Readings.{Reading}
 use Rattle.nj_scope.specs.ReadingList.{bounds}
 use Rattle.nj_graph.specs.Statements.{said_in}
-use Rattle.nj_graph.specs.Faults.{CauseText, fault_at, Expected, BadEscape, MissingCommand, EmptyPath, InvalidDepth, DuplicateRule, DuplicatePool, NewerVersion, CannotFind, PathNotText, TooManyOpen, NotYet}
+use Rattle.nj_graph.specs.declared.fault.Cause.{Cause}
+use Rattle.nj_graph.specs.declared.fault.Cause.TheVariants.{Expected, BadEscape, MissingCommand, EmptyPath, BadDepth, DuplicateRule, DuplicatePool, VersionTooNew, Missing, PathNotText, TooDeep, NotYet}
+use Rattle.nj_graph.specs.Faults.{fault_at}
 use Rattle.nj_graph.specs.Reading.{Whole, Refused, Lacking, ReadingText, statements_read, opened_in, main_read, paths_come_to}
 
 -- what a row unfolds to compute on its files
@@ -37,11 +39,11 @@ read_of text others = main_read (file main_file text ∷ others) main_file
 abbrev pub reads_all : (text : List ℕ) → (others : List Reading) → Type 0
 reads_all text others = (read_of text others).end ≡ Whole
 
-abbrev pub refuses : (text : List ℕ) → (others : List Reading) → (place : List ℕ) → Spot → CauseText → Type 0
+abbrev pub refuses : (text : List ℕ) → (others : List Reading) → (place : List ℕ) → Spot → Cause → Type 0
 refuses text others place spot cause = (read_of text others).end ≡ Refused (fault_at place spot cause)
 
 -- refused in the main file, which is the only one
-abbrev pub refuses_alone : (text : List ℕ) → Spot → CauseText → Type 0
+abbrev pub refuses_alone : (text : List ℕ) → Spot → Cause → Type 0
 refuses_alone text spot cause = refuses text [] main_file spot cause
 
 -- ---- the main file
@@ -50,7 +52,7 @@ empty : reads_all [] []
 unfolding on_files
 empty = refl
 
-no_main_file : (main_read (missing main_file ∷ []) main_file).end ≡ Refused (fault_at main_file (at 1 1) (CannotFind main_file))
+no_main_file : (main_read (missing main_file ∷ []) main_file).end ≡ Refused (fault_at main_file (at 1 1) (Missing main_file))
 unfolding on_files
 no_main_file = refl
 
@@ -60,7 +62,7 @@ main_file_not_told = refl
 
 -- ---- versions
 
-newer_version : refuses_alone (codes "ninja_required_version = 1.12\n") (at 1 1) (NewerVersion (codes "1.12"))
+newer_version : refuses_alone (codes "ninja_required_version = 1.12\n") (at 1 1) (VersionTooNew (codes "1.12"))
 unfolding on_files
 newer_version = refl
 
@@ -73,7 +75,7 @@ unfolding on_files
 same_version = refl
 
 -- in every file
-version_of_included : refuses (codes "include s\n") (file (codes "s") (codes "v = 2\nninja_required_version = $v\n") ∷ []) (codes "s") (at 2 1) (NewerVersion (codes "2"))
+version_of_included : refuses (codes "include s\n") (file (codes "s") (codes "v = 2\nninja_required_version = $v\n") ∷ []) (codes "s") (at 2 1) (VersionTooNew (codes "2"))
 unfolding on_files
 version_of_included = refl
 
@@ -83,7 +85,7 @@ great_depth : reads_all (codes "pool p\n  depth = 2147483647\n") []
 unfolding on_files
 great_depth = refl
 
-too_great_depth : refuses_alone (codes "pool p\n  depth = 2147483648\n") (at 2 3) InvalidDepth
+too_great_depth : refuses_alone (codes "pool p\n  depth = 2147483648\n") (at 2 3) BadDepth
 unfolding on_files
 too_great_depth = refl
 
@@ -91,12 +93,12 @@ depth_with_more : reads_all (codes "pool p\n  depth = 2x\n") []
 unfolding on_files
 depth_with_more = refl
 
-negative_depth : refuses_alone (codes "pool p\n  depth = -1\n") (at 2 3) InvalidDepth
+negative_depth : refuses_alone (codes "pool p\n  depth = -1\n") (at 2 3) BadDepth
 unfolding on_files
 negative_depth = refl
 
 -- also one that a later line overrides
-overridden_depth : refuses_alone (codes "pool p\n  depth = x\n  depth = 1\n") (at 2 3) InvalidDepth
+overridden_depth : refuses_alone (codes "pool p\n  depth = x\n  depth = 1\n") (at 2 3) BadDepth
 unfolding on_files
 overridden_depth = refl
 
@@ -104,7 +106,7 @@ depth_by_name : reads_all (codes "d = 3\npool p\n  depth = $d\n") []
 unfolding on_files
 depth_by_name = refl
 
-unknown_depth : refuses_alone (codes "pool p\n  depth = $d\n") (at 2 3) InvalidDepth
+unknown_depth : refuses_alone (codes "pool p\n  depth = $d\n") (at 2 3) BadDepth
 unfolding on_files
 unknown_depth = refl
 
@@ -157,7 +159,7 @@ rule_behind_included = refl
 
 -- ---- files
 
-file_not_there : refuses (codes "include x\n") (missing (codes "x") ∷ []) main_file (at 1 9) (CannotFind (codes "x"))
+file_not_there : refuses (codes "include x\n") (missing (codes "x") ∷ []) main_file (at 1 9) (Missing (codes "x"))
 unfolding on_files
 file_not_there = refl
 
@@ -174,7 +176,7 @@ unfolding on_files
 path_not_text = refl
 
 -- a file is opened again while it is open
-within_itself : refuses_alone (codes "include build.ninja\n") (at 1 9) TooManyOpen
+within_itself : refuses_alone (codes "include build.ninja\n") (at 1 9) TooDeep
 unfolding on_files
 within_itself = refl
 
@@ -193,12 +195,12 @@ abbrev chain : ℕ → List Reading
 chain zero = missing (codes "x") ∷ []
 chain (suc n) = file (name_behind (suc n)) (codes "include " ++ name_behind n) ∷ chain n
 
-missing_in_room : refuses (codes "include " ++ name_behind 30) (chain 30) (codes "ax") (at 1 9) (CannotFind (codes "x"))
+missing_in_room : refuses (codes "include " ++ name_behind 30) (chain 30) (codes "ax") (at 1 9) (Missing (codes "x"))
 unfolding on_files
 missing_in_room = refl
 
 -- where 32 files are open, no other is looked for
-missing_without_room : refuses (codes "include " ++ name_behind 31) (chain 31) (codes "ax") (at 1 9) TooManyOpen
+missing_without_room : refuses (codes "include " ++ name_behind 31) (chain 31) (codes "ax") (at 1 9) TooDeep
 unfolding on_files
 missing_without_room = refl
 
@@ -233,12 +235,12 @@ paths_within_itself = refl
 
 -- ---- values
 
-path_by_name : refuses (codes "v = s\ninclude $v\n") (missing (codes "s") ∷ []) main_file (at 2 9) (CannotFind (codes "s"))
+path_by_name : refuses (codes "v = s\ninclude $v\n") (missing (codes "s") ∷ []) main_file (at 2 9) (Missing (codes "s"))
 unfolding on_files
 path_by_name = refl
 
 -- a child sees the values of the scope around
-path_by_outer_name : refuses (codes "v = a\nsubninja s\n") (file (codes "s") (codes "include $v\n") ∷ missing (codes "a") ∷ []) (codes "s") (at 1 9) (CannotFind (codes "a"))
+path_by_outer_name : refuses (codes "v = a\nsubninja s\n") (file (codes "s") (codes "include $v\n") ∷ missing (codes "a") ∷ []) (codes "s") (at 1 9) (Missing (codes "a"))
 unfolding on_files
 path_by_outer_name = refl
 
@@ -246,17 +248,17 @@ abbrev binds_b : List Reading
 binds_b = file (codes "s") (codes "v = b\n") ∷ missing (codes "a") ∷ missing (codes "b") ∷ []
 
 -- what stands behind `subninja` binds in its own scope
-bound_within : refuses (codes "v = a\nsubninja s\ninclude $v\n") binds_b main_file (at 3 9) (CannotFind (codes "a"))
+bound_within : refuses (codes "v = a\nsubninja s\ninclude $v\n") binds_b main_file (at 3 9) (Missing (codes "a"))
 unfolding on_files
 bound_within = refl
 
 -- what is included binds in the same scope
-bound_by_included : refuses (codes "v = a\ninclude s\ninclude $v\n") binds_b main_file (at 3 9) (CannotFind (codes "b"))
+bound_by_included : refuses (codes "v = a\ninclude s\ninclude $v\n") binds_b main_file (at 3 9) (Missing (codes "b"))
 unfolding on_files
 bound_by_included = refl
 
 -- a value is expanded where it is read
-bound_before : refuses (codes "v = a\nw = $v\nv = b\ninclude $w\n") (missing (codes "a") ∷ missing (codes "b") ∷ []) main_file (at 4 9) (CannotFind (codes "a"))
+bound_before : refuses (codes "v = a\nw = $v\nv = b\ninclude $w\n") (missing (codes "a") ∷ missing (codes "b") ∷ []) main_file (at 4 9) (Missing (codes "a"))
 unfolding on_files
 bound_before = refl
 

@@ -14,7 +14,7 @@ use Rattle.nj_scope.specs.Readings.{Reading}
 use Rattle.nj_scope.specs.ReadingList.{Entry}
 use Rattle.nj_graph.specs.declared.fault.GraphFault.{GraphFault}
 use Rattle.nj_graph.specs.declared.reader.Reader.{Reader}
-use Rattle.nj_graph.specs.Faults.{fault_text, fault_in, no_memory}
+use Rattle.nj_graph.specs.Faults.{fault_in, no_memory}
 use Rattle.nj_graph.specs.Statements.{Said, said, said_in, said_first}
 use Rattle.nj_graph.specs.Reading as reading
 use Rattle.nj_graph.specs.Reading.{Site, End, Whole, Lacking, ReadingText, Opens, go_on, and_then, opened_in, statement_read, statements_read, text_read, end_by, with_named, paths_read, path_at_fault, paths_come_to}
@@ -131,7 +131,7 @@ module _ (main : List ℕ) (said : Saying) (before after : SourceText) (old held
   }
 
   -- there was no memory for the next statement
-  pub ends-memory : (fault : GraphFault) → Underway main said before after old held left site text entries lines → fault_text fault ≡ no_memory → StopsAt main said before after old.files reading_of_text fault
+  pub ends-memory : (fault : GraphFault) → Underway main said before after old held left site text entries lines → fault ≡ no_memory → StopsAt main said before after old.files reading_of_text fault
   ends-memory fault u none = record {
     files = u.files;
     reads = u.reads.reads;
@@ -142,7 +142,7 @@ module _ (main : List ℕ) (said : Saying) (before after : SourceText) (old held
       listed = sym u.holds.paths_are ∙ ap paths u.reads.held_is
 
   -- a fault of syntax
-  pub ends-fault : (fault : GraphFault) (found : Fault) → Underway main said before after old held left site text entries lines → next_statement lines ≡ Err found → fault_text fault ≡ fault_in site.file found
+  pub ends-fault : (fault : GraphFault) (found : Fault) → Underway main said before after old held left site text entries lines → next_statement lines ≡ Err found → fault ≡ fault_in site.file found
       → StopsAt main said before after old.files reading_of_text fault
   unfolding statements_read
   ends-fault fault found u h told = record {

@@ -2,36 +2,39 @@
 use Rattle.std.specs.Prelude.{ℕ, Option, Some, None, List, ◌++◌, codes}
 use Rattle.std.specs.Fmt.{decimal}
 use Rattle.nj_manifest.specs.Faults.{wanted_text}
-use Rattle.nj_graph.specs.Faults.{CauseText, UnexpectedByte, Tab, BadEscape, Expected, UnexpectedIndent, MissingCommand, RspPair, UnknownKey, MissingDepth, EmptyPath, InvalidDepth, DuplicateRule, DuplicatePool, NewerVersion, CannotFind, PathNotText, TooManyOpen, TooManyOpened, CannotRead, NotYet, OutOfMemory, PlaceText, FaultText}
+use Rattle.nj_graph.specs.declared.fault.Place.{Place}
+use Rattle.nj_graph.specs.declared.fault.GraphFault.{GraphFault}
+use Rattle.nj_graph.specs.declared.fault.Cause.{Cause}
+use Rattle.nj_graph.specs.declared.fault.Cause.TheVariants as cause
 
 -- `FILE:LINE:COLUMN`; the program's name where no place is to blame
-abbrev pub place_words : Option PlaceText → List ℕ
-place_words (Some place) = place.file ++ codes ":" ++ decimal place.spot.line ++ codes ":" ++ decimal place.spot.column
-place_words None = codes "ninja-explain"
+abbrev pub place_text : Option Place → List ℕ
+place_text (Some place) = place.file ++ codes ":" ++ decimal place.spot.line ++ codes ":" ++ decimal place.spot.column
+place_text None = codes "ninja-explain"
 
-abbrev pub cause_words : CauseText → List ℕ
-cause_words UnexpectedByte = codes "unexpected byte"
-cause_words Tab = codes "tabs are not allowed, use spaces"
-cause_words BadEscape = codes "bad $-escape (literal $ must be written as $$)"
-cause_words (Expected wanted) = codes "expected " ++ wanted_text wanted
-cause_words UnexpectedIndent = codes "unexpected indent"
-cause_words MissingCommand = codes "expected 'command =' line"
-cause_words RspPair = codes "rspfile and rspfile_content need to be both specified"
-cause_words (UnknownKey key) = codes "unexpected variable '" ++ key ++ codes "'"
-cause_words MissingDepth = codes "expected 'depth =' line"
-cause_words EmptyPath = codes "empty path"
-cause_words InvalidDepth = codes "invalid pool depth"
-cause_words (DuplicateRule name) = codes "duplicate rule '" ++ name ++ codes "'"
-cause_words (DuplicatePool name) = codes "duplicate pool '" ++ name ++ codes "'"
-cause_words (NewerVersion version) = codes "ninja_required_version " ++ version ++ codes " is newer than 1.11"
-cause_words (CannotFind path) = codes "cannot find '" ++ path ++ codes "'"
-cause_words PathNotText = codes "path is not UTF-8"
-cause_words TooManyOpen = codes "more than 32 files open"
-cause_words TooManyOpened = codes "more than 65536 files opened"
-cause_words (CannotRead path) = codes "cannot read '" ++ path ++ codes "'"
-cause_words NotYet = codes "not read yet"
-cause_words OutOfMemory = codes "out of memory"
+abbrev pub cause_text : Cause → List ℕ
+cause_text cause.BadByte = codes "unexpected byte"
+cause_text cause.Tab = codes "tabs are not allowed, use spaces"
+cause_text cause.BadEscape = codes "bad $-escape (literal $ must be written as $$)"
+cause_text (cause.Expected wanted) = codes "expected " ++ wanted_text wanted
+cause_text cause.UnexpectedIndent = codes "unexpected indent"
+cause_text cause.MissingCommand = codes "expected 'command =' line"
+cause_text cause.RspPair = codes "rspfile and rspfile_content need to be both specified"
+cause_text (cause.UnknownKey key) = codes "unexpected variable '" ++ key ++ codes "'"
+cause_text cause.MissingDepth = codes "expected 'depth =' line"
+cause_text cause.EmptyPath = codes "empty path"
+cause_text cause.BadDepth = codes "invalid pool depth"
+cause_text (cause.DuplicateRule name) = codes "duplicate rule '" ++ name ++ codes "'"
+cause_text (cause.DuplicatePool name) = codes "duplicate pool '" ++ name ++ codes "'"
+cause_text (cause.VersionTooNew version) = codes "ninja_required_version " ++ version ++ codes " is newer than 1.11"
+cause_text (cause.Missing path) = codes "cannot find '" ++ path ++ codes "'"
+cause_text cause.PathNotText = codes "path is not UTF-8"
+cause_text cause.TooDeep = codes "more than 32 files open"
+cause_text cause.TooManyOpenings = codes "more than 65536 files opened"
+cause_text (cause.Io path) = codes "cannot read '" ++ path ++ codes "'"
+cause_text cause.NotYet = codes "not read yet"
+cause_text cause.OutOfMemory = codes "out of memory"
 
 -- `FILE:LINE:COLUMN: TEXT`, or `ninja-explain: TEXT`
-abbrev pub fault_line : FaultText → List ℕ
-fault_line fault = place_words fault.place ++ codes ": " ++ cause_words fault.cause
+abbrev pub fault_line : GraphFault → List ℕ
+fault_line fault = place_text fault.place ++ codes ": " ++ cause_text fault.cause

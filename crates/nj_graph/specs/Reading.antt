@@ -14,7 +14,11 @@ use Rattle.nj_scope.specs.Scopes.{expanded}
 use Rattle.nj_scope.specs.Limits.{is_depth, is_newer}
 use Rattle.nj_scope.specs.Pools.{is_pool}
 use Rattle.nj_scope.specs.ReadingList.{Entry, value_after, rules, is_declared, pools, scopes_opened, files_opened}
-use Rattle.nj_graph.specs.Faults.{PlaceText, CauseText, EmptyPath, InvalidDepth, DuplicateRule, DuplicatePool, NewerVersion, CannotFind, PathNotText, TooManyOpen, TooManyOpened, NotYet, FaultText, fault_at, fault_in}
+use Rattle.nj_graph.specs.declared.fault.Place.{Place}
+use Rattle.nj_graph.specs.declared.fault.Cause.{Cause}
+use Rattle.nj_graph.specs.declared.fault.GraphFault.{GraphFault}
+use Rattle.nj_graph.specs.declared.fault.Cause.TheVariants.{EmptyPath, BadDepth, DuplicateRule, DuplicatePool, VersionTooNew, Missing, PathNotText, TooDeep, TooManyOpenings, NotYet}
+use Rattle.nj_graph.specs.Faults.{fault_at, fault_in}
 use Rattle.nj_graph.specs.Statements.{said}
 
 -- ---- where a statement stands
@@ -34,32 +38,32 @@ word_says site before word = expanded (value_after before (site.number ∷ site.
 
 -- ---- what is wrong with a statement by itself
 
-abbrev pub fault_if : Bool → FaultText → Option FaultText
+abbrev pub fault_if : Bool → GraphFault → Option GraphFault
 fault_if true fault = Some fault
 fault_if false fault = None
 
-abbrev pub binding_fault : Site → List Entry → Spot → (name : List ℕ) → (value : List ℕ) → Option FaultText
-binding_fault site before spot name value = fault_if (bytes_eq name (codes "ninja_required_version") && is_newer value) (fault_at site.file spot (NewerVersion value))
+abbrev pub binding_fault : Site → List Entry → Spot → (name : List ℕ) → (value : List ℕ) → Option GraphFault
+binding_fault site before spot name value = fault_if (bytes_eq name (codes "ninja_required_version") && is_newer value) (fault_at site.file spot (VersionTooNew value))
 
-abbrev pub rule_fault : Site → List Entry → NameText → Option FaultText
+abbrev pub rule_fault : Site → List Entry → NameText → Option GraphFault
 rule_fault site before name = fault_if (is_declared (rules before site.number name.name) name.name) (fault_at site.file name.spot (DuplicateRule name.name))
 
 -- each depth of a pool's block counts, also one that a later line overrides
-abbrev pub depth_fault : Site → List Entry → List LineText → Option FaultText
-depth_fault site before lines = option_map (λ l. fault_at site.file l.spot InvalidDepth) (find (λ l. not (is_depth (word_says site before l.value))) lines)
+abbrev pub depth_fault : Site → List Entry → List LineText → Option GraphFault
+depth_fault site before lines = option_map (λ l. fault_at site.file l.spot BadDepth) (find (λ l. not (is_depth (word_says site before l.value))) lines)
 
 abbrev pub or_then : {A : Type 0} → Option A → Option A → Option A
 or_then (Some first) others = Some first
 or_then None others = others
 
-abbrev pub pool_fault : Site → List Entry → NameText → List LineText → Option FaultText
+abbrev pub pool_fault : Site → List Entry → NameText → List LineText → Option GraphFault
 pool_fault site before name lines = or_then (fault_if (is_pool (pools before) name.name) (fault_at site.file name.spot (DuplicatePool name.name))) (depth_fault site before lines)
 
-abbrev pub path_fault : Site → Spot → (path : List ℕ) → Option FaultText
+abbrev pub path_fault : Site → Spot → (path : List ℕ) → Option GraphFault
 path_fault site spot path = or_then (fault_if (is_empty path) (fault_at site.file spot EmptyPath)) (fault_if (not (is_utf8 path)) (fault_at site.file spot PathNotText))
 
 -- the first fault of a statement that is none of its syntax and none of the file that it names
-abbrev pub own_fault : Site → (before : List Entry) → (spot : Spot) → StatementText → Option FaultText
+abbrev pub own_fault : Site → (before : List Entry) → (spot : Spot) → StatementText → Option GraphFault
 own_fault site before spot (BindingText name value) = binding_fault site before spot name (word_says site before value)
 own_fault site before spot (RuleText name lines) = rule_fault site before name
 own_fault site before spot (PoolText name lines) = pool_fault site before name lines
@@ -75,9 +79,9 @@ pub data End : Type 0 where
   -- all was read
   Whole : End
   -- at the first fault
-  Refused : (fault : FaultText) → End
+  Refused : (fault : GraphFault) → End
   -- at a path that the table does not have, which the statement at this place names
-  Lacking : (path : List ℕ) (place : PlaceText) → End
+  Lacking : (path : List ℕ) (place : Place) → End
 
 -- the statements that were read, the last one first
 pub record ReadingText : Type 0 where
@@ -96,9 +100,9 @@ and_then r others = go_on r.end r.entries others
 -- What is read of the file that a statement names: where its own statements stand, the place of its name, the statement
 -- itself, and the statements before it.
 abbrev pub Opens : Type 0
-Opens = Site → PlaceText → Entry → (before : List Entry) → ReadingText
+Opens = Site → Place → Entry → (before : List Entry) → ReadingText
 
-abbrev pub place_at : Site → Spot → PlaceText
+abbrev pub place_at : Site → Spot → Place
 place_at site spot = record { file = site.file; spot = spot }
 
 -- The statements of a file that is included stand in the scope of the `include`, those of one behind `subninja` in a new
@@ -114,7 +118,7 @@ item_read opens site before (PoolText name lines) = record { entries = entry_at 
 item_read opens site before (BuildText outputs rule inputs lines) = record { entries = entry_at site (BuildText outputs rule inputs lines) ∷ before; end = Whole }
 item_read opens site before (DefaultText words) = record { entries = entry_at site (DefaultText words) ∷ before; end = Whole }
 
-abbrev pub unless_fault : Option FaultText → Opens → Site → (before : List Entry) → StatementText → ReadingText
+abbrev pub unless_fault : Option GraphFault → Opens → Site → (before : List Entry) → StatementText → ReadingText
 unless_fault (Some fault) opens site before item = record { entries = before; end = Refused fault }
 unless_fault None opens site before item = item_read opens site before item
 
@@ -141,25 +145,25 @@ most_opened = 65536
 abbrev pub most_within : ℕ
 most_within = 31
 
-abbrev pub stopped : List Entry → PlaceText → CauseText → ReadingText
+abbrev pub stopped : List Entry → Place → Cause → ReadingText
 stopped before place cause = record { entries = before; end = Refused (record { place = Some place; cause = cause }) }
 
 -- by the table's answer for a path
-abbrev pub found_read : Opens → Site → PlaceText → (entries before : List Entry) → Option (List ℕ) → ReadingText
-found_read within site place entries before None = stopped before place (CannotFind site.file)
+abbrev pub found_read : Opens → Site → Place → (entries before : List Entry) → Option (List ℕ) → ReadingText
+found_read within site place entries before None = stopped before place (Missing site.file)
 found_read within site place entries before (Some text) = text_read within site text entries
 
-abbrev pub answer_read : Opens → Site → PlaceText → (entries before : List Entry) → Option table.Reading → ReadingText
+abbrev pub answer_read : Opens → Site → Place → (entries before : List Entry) → Option table.Reading → ReadingText
 answer_read within site place entries before None = record { entries = before; end = Lacking site.file place }
 answer_read within site place entries before (Some r) = found_read within site place entries before r.bytes
 
-abbrev pub if_room : Bool → (within : Opens) → (files : List table.Reading) → Site → PlaceText → Entry → (before : List Entry) → ReadingText
-if_room false within files site place e before = stopped before place TooManyOpened
+abbrev pub if_room : Bool → (within : Opens) → (files : List table.Reading) → Site → Place → Entry → (before : List Entry) → ReadingText
+if_room false within files site place e before = stopped before place TooManyOpenings
 if_room true within files site place e before = answer_read within site place (e ∷ before) before (reading_of files site.file)
 
 -- what is read of a file by these files, where so many more may be open
 unfoldable pub opened_in : (files : List table.Reading) → (left : ℕ) → Opens
-opened_in files zero site place e before = stopped before place TooManyOpen
+opened_in files zero site place e before = stopped before place TooDeep
 opened_in files (suc left) site place e before = if_room (nat_lt (files_opened before) most_opened) (opened_in files left) files site place e before
 
 -- ---- a run
@@ -192,8 +196,8 @@ paths_read main [] = main ∷ []
 paths_read main (e ∷ before) = with_named (paths_read main before) (path_named e before e.item)
 
 -- a path at which a reading ends
-abbrev pub path_at_fault : CauseText → List (List ℕ)
-path_at_fault (CannotFind path) = path ∷ []
+abbrev pub path_at_fault : Cause → List (List ℕ)
+path_at_fault (Missing path) = path ∷ []
 path_at_fault cause = []
 
 abbrev pub path_at_end : End → List (List ℕ)

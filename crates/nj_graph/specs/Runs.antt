@@ -4,7 +4,8 @@ use Rattle.std.specs.List.{AllByRecursion}
 use Rattle.nj_scope.specs.Readings.{Reading, EachPathOnce, is_read, AgreesWith}
 use Rattle.nj_scope.specs.ReadingList.{Entry}
 use Rattle.nj_graph.specs.declared.fault.GraphFault.{GraphFault}
-use Rattle.nj_graph.specs.Faults.{CannotRead, fault_text, no_memory}
+use Rattle.nj_graph.specs.declared.fault.Cause.TheVariants.{Io}
+use Rattle.nj_graph.specs.Faults.{no_memory}
 use Rattle.nj_graph.specs.Reading.{End, Whole, Refused, Lacking, ReadingText, paths_come_to}
 
 -- ---- a source
@@ -50,8 +51,8 @@ Prefix front whole = (others : List (List ℕ)) × (whole ≡ front ++ others)
 -- failed once more.
 abbrev pub IsEnd : (before after : SourceText) → End → GraphFault → Type 0
 IsEnd before after Whole fault = ⊥
-IsEnd before after (Refused expected) fault = fault_text fault ≡ expected
-IsEnd before after (Lacking path place) fault = (fault_text fault ≡ record { place = Some place; cause = CannotRead path }) × (before.failures < 2 ^ 64 - 1 → before.failures < after.failures)
+IsEnd before after (Refused expected) fault = fault ≡ expected
+IsEnd before after (Lacking path place) fault = (fault ≡ record { place = Some place; cause = Io path }) × (before.failures < 2 ^ 64 - 1 → before.failures < after.failures)
 
 -- the path at which the reading ends was not read
 abbrev pub IsLacking : End → List Reading → Type 0
@@ -74,7 +75,7 @@ pub record EndsSo (main : List ℕ) (before after : SourceText) (files : List Re
 
 -- There was no memory; the paths that were read are those to which the reading comes first.
 pub record LacksMemory (main : List ℕ) (files : List Reading) (reading : List Reading → ReadingText) (fault : GraphFault) : Type 0 where
-  pub answered : fault_text fault ≡ no_memory
+  pub answered : fault ≡ no_memory
   pub came_to : (all : List Reading) → Extends all files → Prefix (paths files) (paths_come_to main (reading all))
 
 abbrev pub Stops : (main : List ℕ) → (before after : SourceText) → (files : List Reading) → (reading : List Reading → ReadingText) → GraphFault → Type 0

@@ -19,7 +19,9 @@ use Rattle.nj_graph.specs.declared.fault.GraphFault.{GraphFault}
 use Rattle.nj_graph.specs.declared.reader.Reader.{Reader}
 use Rattle.nj_graph.specs.declared.reader.OpenFile.{OpenFile}
 use Rattle.nj_graph.specs.declared.reader.Opened.{Opened}
-use Rattle.nj_graph.specs.Faults.{PlaceText, FaultText, fault_text, fault_in, no_memory, CannotFind, CannotRead}
+use Rattle.nj_graph.specs.declared.fault.Place.{Place}
+use Rattle.nj_graph.specs.declared.fault.Cause.TheVariants.{Missing, Io}
+use Rattle.nj_graph.specs.Faults.{fault_in, no_memory}
 use Rattle.nj_graph.specs.Reading.{Site, entry_at, Whole, ReadingText, Opens, opened_in, statement_read, text_read, path_named, with_new, paths_read}
 use Rattle.nj_graph.specs.Runs.{SourceText, Saying, IsRead, paths, Extends, Stops}
 
@@ -59,16 +61,16 @@ StandsIn held file around = Stands held.declared.scopes file.scope around
 -- ---- a statement that names no file
 
 -- the fault is the expected one, or want of memory
-abbrev pub IsFault : Option FaultText → GraphFault → Type 0
-IsFault expected fault = (fault_text fault ≡ no_memory) ⊎ (expected ≡ Some (fault_text fault))
+abbrev pub IsFault : Option GraphFault → GraphFault → Type 0
+IsFault expected fault = (fault ≡ no_memory) ⊎ (expected ≡ Some (fault))
 
 -- there is no fault, or it is answered
-abbrev pub Checks : Option FaultText → Result (Unit {0}) GraphFault → Type 0
+abbrev pub Checks : Option GraphFault → Result (Unit {0}) GraphFault → Type 0
 Checks expected (Ok done) = expected ≡ None
 Checks expected (Err fault) = IsFault expected fault
 
 -- the statement has no fault and is held, or its fault is answered
-abbrev pub Declares : (main : List ℕ) → (after : Reader) → Option FaultText → List Entry → Result (Unit {0}) GraphFault → Type 0
+abbrev pub Declares : (main : List ℕ) → (after : Reader) → Option GraphFault → List Entry → Result (Unit {0}) GraphFault → Type 0
 Declares main after expected entries (Ok done) = (expected ≡ None) × Holds main after entries
 Declares main after expected entries (Err fault) = IsFault expected fault
 
@@ -80,7 +82,7 @@ pub record ReadsAll (said : Saying) (before after : SourceText) (old files held 
   pub held_is : held ≡ files
   pub no_failure : after.failures ≡ before.failures
 
-abbrev pub place_in : OpenFile → Spot → PlaceText
+abbrev pub place_in : OpenFile → Spot → Place
 place_in file spot = record { file = file.name.now; spot = spot }
 
 -- a text that is found at a path
@@ -91,18 +93,18 @@ pub record Finds (said : Saying) (before after : SourceText) (old held : List Re
   pub came_to : paths files ≡ with_new (paths old) path
 
 -- no file is there
-pub record FindsNone (said : Saying) (before after : SourceText) (old : List Reading) (place : PlaceText) (path : List ℕ) (fault : GraphFault) : Type 0 where
+pub record FindsNone (said : Saying) (before after : SourceText) (old : List Reading) (place : Place) (path : List ℕ) (fault : GraphFault) : Type 0 where
   pub files : List Reading
   pub reads : IsRead said before after old files
   pub found : reading_of files path ≡ Some (record { path = path; bytes = None })
   pub came_to : paths files ≡ with_new (paths old) path
-  pub answered : fault_text fault ≡ record { place = Some place; cause = CannotFind path }
+  pub answered : fault ≡ record { place = Some place; cause = Missing path }
 
 -- the source failed
-pub record CannotTell (said : Saying) (before after : SourceText) (old : List Reading) (place : PlaceText) (path : List ℕ) (fault : GraphFault) : Type 0 where
+pub record CannotTell (said : Saying) (before after : SourceText) (old : List Reading) (place : Place) (path : List ℕ) (fault : GraphFault) : Type 0 where
   pub reads : IsRead said before after old old
   pub lacking : is_read old path ≡ false
-  pub answered : fault_text fault ≡ record { place = Some place; cause = CannotRead path }
+  pub answered : fault ≡ record { place = Some place; cause = Io path }
   pub failed : before.failures < 2 ^ 64 - 1 → before.failures < after.failures
 
 -- there was no memory, before the reading or behind it
@@ -110,9 +112,9 @@ pub record HasNoMemory (said : Saying) (before after : SourceText) (old : List R
   pub files : List Reading
   pub reads : IsRead said before after old files
   pub came_to : (paths files ≡ paths old) ⊎ ((paths files ≡ with_new (paths old) path) × (is_read files path ≡ true))
-  pub answered : fault_text fault ≡ no_memory
+  pub answered : fault ≡ no_memory
 
-abbrev pub FindsAt : {Z : Type 0} → Saying → (before after : SourceText) → (old held : List Reading) → PlaceText → (path : List ℕ) → Result (RcSlice ℕ Z) GraphFault → Type 0
+abbrev pub FindsAt : {Z : Type 0} → Saying → (before after : SourceText) → (old held : List Reading) → Place → (path : List ℕ) → Result (RcSlice ℕ Z) GraphFault → Type 0
 FindsAt said before after old held place path (Ok text) = Finds said before after old held path (rc_slice_items text)
 FindsAt said before after old held place path (Err fault) = HasNoMemory said before after old path fault ⊎ (CannotTell said before after old place path fault ⊎ FindsNone said before after old place path fault)
 
@@ -123,12 +125,12 @@ pub record StopsAt (main : List ℕ) (said : Saying) (before after : SourceText)
   pub stops : Stops main before after files reading fault
 
 -- the path that a word says, or its fault
-abbrev pub SaysPath : {Z : Type 0} → Option FaultText → (says : List ℕ) → Result (String Z) GraphFault → Type 0
+abbrev pub SaysPath : {Z : Type 0} → Option GraphFault → (says : List ℕ) → Result (String Z) GraphFault → Type 0
 SaysPath expected says (Ok path) = (expected ≡ None) × (string_bytes path ≡ says)
 SaysPath expected says (Err fault) = IsFault expected fault
 
 -- A file is open: what is read of it from here on is its text.
-pub record OpensText (main : List ℕ) (said : Saying) (before after : SourceText) (old held : Reader) (left : ℕ) (place : PlaceText) (path : List ℕ) (entries : List Entry) (text : List ℕ) : Type 0 where
+pub record OpensText (main : List ℕ) (said : Saying) (before after : SourceText) (old held : Reader) (left : ℕ) (place : Place) (path : List ℕ) (entries : List Entry) (text : List ℕ) : Type 0 where
   pub files : List Reading
   pub reads : ReadsAll said before after old.files files held.files
   pub came_to : paths files ≡ with_new (paths old.files) path
@@ -137,7 +139,7 @@ pub record OpensText (main : List ℕ) (said : Saying) (before after : SourceTex
   pub read : (inner : Site) (e : Entry) (all : List Reading) → inner.file ≡ path → Extends all files → opened_in all left inner place e entries ≡ text_read (opened_in all within) inner text (e ∷ entries)
 
 -- a path names a file that is opened, or one at which the run stops
-abbrev pub OpensPath : {Z : Type 0} → (main : List ℕ) → Saying → (before after : SourceText) → (old held : Reader) → (left : ℕ) → PlaceText → (path : List ℕ) → (entries : List Entry) → Result (RcSlice ℕ Z) GraphFault → Type 0
+abbrev pub OpensPath : {Z : Type 0} → (main : List ℕ) → Saying → (before after : SourceText) → (old held : Reader) → (left : ℕ) → Place → (path : List ℕ) → (entries : List Entry) → Result (RcSlice ℕ Z) GraphFault → Type 0
 OpensPath main said before after old held left place path entries (Ok text) = OpensText main said before after old held left place path entries (rc_slice_items text)
 OpensPath main said before after old held left place path entries (Err fault) =
     (inner : Site) (e : Entry) → inner.file ≡ path → path_named e entries e.item ≡ path ∷ [] → StopsAt main said before after old.files (λ all. opened_in all left inner place e entries) fault
@@ -197,7 +199,7 @@ Reads main said before after old held reading (Err fault) = StopsAt main said be
 abbrev pub NextOf : (file : List ℕ) → List Line → (after : Left) → Result (Option (Placed Statement)) GraphFault → Type 0
 NextOf file lines after (Ok (Some s)) = (rest : List Line) × (next_statement lines ≡ Ok (Some (placed_text s), rest)) × (after ≡ Lines rest)
 NextOf file lines after (Ok None) = (rest : List Line) × (next_statement lines ≡ Ok (None, rest))
-NextOf file lines after (Err fault) = (fault_text fault ≡ no_memory) ⊎ ((found : Fault) × (next_statement lines ≡ Err found) × (fault_text fault ≡ fault_in file found))
+NextOf file lines after (Err fault) = (fault ≡ no_memory) ⊎ ((found : Fault) × (next_statement lines ≡ Err found) × (fault ≡ fault_in file found))
 
 abbrev pub NextIs : (file : List ℕ) → (before after : Left) → Result (Option (Placed Statement)) GraphFault → Type 0
 NextIs file (Lines lines) after result = NextOf file lines after result

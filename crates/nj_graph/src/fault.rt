@@ -1,17 +1,74 @@
 //! Why files are no graph.
 
-ghost use Rattle.std.specs.Prelude.{◌≡◌, IfOk};
+ghost use Rattle.std.specs.Prelude.{◌≡◌, IfOk, nat_eq};
+ghost use Rattle.std.specs.Cmp.{partial_equiv_from_equiv};
+ghost use Rattle.std.specs.Cmp.Lexicographic.{nat_list_eq_equiv, pointwise};
 ghost use Rattle.nj_manifest.specs.Faults as parsed;
-ghost use Rattle.nj_graph.specs.Faults.{fault_text, cause_text, fault_at, fault_in, no_memory};
+ghost use Rattle.nj_graph.specs.Faults.{fault_at, fault_in, no_memory};
 
 use nj_manifest::{LexFault, ParseFault, Spot, UnitFault, Wanted};
 use std::alloc::{AllocError, AllocFailed, Global};
+use std::marker::Model;
+
+/// A name or a path, as its bytes.
+#[derive(Debug, Drop)]
+pub struct Name {
+    bytes: Vec<u8>,
+}
+
+impl Model for Name {
+    ghost use Rattle.std.specs.Prelude.{ℕ, List};
+
+    ghost Value = { List ℕ };
+
+    ghost view = { λ name. name.bytes.items };
+}
+
+impl Name {
+    /// The name of these bytes.
+    pub fn new(alloc: Global, bytes: &[u8]) -> Result<Name, AllocError>
+        ensures { IfOk result (λ name. name ≡ bytes.now) }
+    {
+        let bytes = Vec::from_slice(alloc, bytes)?;
+        Ok(Name { bytes })
+    }
+
+    /// Its bytes.
+    pub fn as_bytes(&self) -> &[u8]
+        ensures { result.now ≡ self.now }
+    {
+        self.bytes.as_slice()
+    }
+}
+
+impl From<Vec<u8>> for Name {
+    ghost from_gives = { λ bytes name. name ≡ bytes.items };
+
+    fn from(bytes: Vec<u8>) -> Name {
+        Name { bytes }
+    }
+}
+
+impl PartialEq for Name {
+    ghost eq = { pointwise nat_eq };
+
+    ghost laws = { partial_equiv_from_equiv nat_list_eq_equiv };
+
+    fn eq(&self, other: &Name) -> bool {
+        self.as_bytes() == other.as_bytes()
+    }
+}
+
+impl Eq for Name {
+    ghost laws = { nat_list_eq_equiv };
+}
 
 /// A place in a file.
 #[derive(Debug, PartialEq, Eq, Drop)]
 pub struct Place {
-    /// The name under which the file was opened: the main file's as given, another's as the statement that names it says.
-    pub file: String,
+    /// The name under which the file was opened: the main file's as given, another's as the
+    /// statement that names it says.
+    pub file: Name,
     pub spot: Spot,
 }
 
@@ -19,8 +76,8 @@ pub struct Place {
 #[derive(Debug, PartialEq, Eq, Drop)]
 pub enum Cause {
     /// NUL, or a carriage return that no line feed follows.
-    UnexpectedByte,
-    /// A tab behind the leading spaces of a line.
+    BadByte,
+    /// A tab after the leading spaces of a line.
     Tab,
     /// A `$` that begins neither an escape nor a reference.
     BadEscape,
@@ -33,32 +90,32 @@ pub enum Cause {
     /// A rule with only one of `rspfile` and `rspfile_content`.
     RspPair,
     /// A key that the block may not have.
-    UnknownKey(Vec<u8>),
+    UnknownKey(Name),
     /// A pool without `depth`.
     MissingDepth,
     /// A path that is empty once its variables are expanded.
     EmptyPath,
     /// A depth that is no number, or greater than 2147483647.
-    InvalidDepth,
+    BadDepth,
     /// A second rule of this name in a scope, or one named `phony`.
-    DuplicateRule(Vec<u8>),
+    DuplicateRule(Name),
     /// A second pool of this name, or one named `console`.
-    DuplicatePool(Vec<u8>),
+    DuplicatePool(Name),
     /// `ninja_required_version` asks for this version, which is newer than 1.11.
-    NewerVersion(Vec<u8>),
+    VersionTooNew(Name),
     /// No file is at the path.
-    CannotFind(String),
+    Missing(Name),
     /// The path of an `include` or `subninja` is not UTF-8.
     PathNotText,
     /// More than 32 files would be open at once.
-    TooManyOpen,
+    TooDeep,
     /// More than 65,536 files would be opened in one run.
-    TooManyOpened,
-    /// The file is there, or may be, and reading it failed.
-    CannotRead(String),
+    TooManyOpenings,
+    /// The file at the path is there, or may be, and reading it failed.
+    Io(Name),
     /// `build` and `default` statements are not read yet.
     NotYet,
-    /// There was no memory; the fault has no place.
+    /// An allocation failed; the fault has no place.
     OutOfMemory,
 }
 
@@ -73,28 +130,25 @@ pub struct GraphFault {
 impl GraphFault {
     /// A fault of this cause at a place of the file.
     pub fn at(alloc: Global, file: &str, spot: Spot, cause: Cause) -> Result<GraphFault, AllocError>
-        ensures { IfOk result (λ f. fault_text f ≡ fault_at file.now spot (cause_text cause)) }
+        ensures { IfOk result (λ f. f ≡ fault_at file.now spot cause) }
     {
-        let file = String::from_str(alloc, file)?;
+        let file = Name::new(alloc, file.as_bytes())?;
         Ok(GraphFault {
             place: Some(Place { file, spot }),
             cause,
         })
     }
 
-    /// What the parser of the file answered.
+    /// The fault that the parser of the file answered.
     pub fn of_text(
         alloc: Global,
         file: &str,
         fault: ParseFault<'_>,
     ) -> Result<GraphFault, AllocError>
-        ensures { IfOk result (λ f. fault_text f ≡ fault_in file.now (parsed.fault_text fault.entry)) }
+        ensures { IfOk result (λ f. f ≡ fault_in file.now (parsed.fault_text fault.entry)) }
     {
         let (spot, cause) = match fault {
-            ParseFault::Lex(LexFault::Unit(UnitFault::BadByte(spot))) => (
-                spot,
-                Cause::UnexpectedByte,
-            ),
+            ParseFault::Lex(LexFault::Unit(UnitFault::BadByte(spot))) => (spot, Cause::BadByte),
             ParseFault::Lex(LexFault::Unit(UnitFault::Tab(spot))) => (spot, Cause::Tab),
             ParseFault::Lex(LexFault::Unit(UnitFault::BadEscape(spot))) => (spot, Cause::BadEscape),
             ParseFault::Lex(LexFault::OutOfMemory) => return Ok(GraphFault::out_of_memory()),
@@ -102,17 +156,15 @@ impl GraphFault {
             ParseFault::UnexpectedIndent(spot) => (spot, Cause::UnexpectedIndent),
             ParseFault::MissingCommand(spot) => (spot, Cause::MissingCommand),
             ParseFault::RspPair(spot) => (spot, Cause::RspPair),
-            ParseFault::UnknownKey(spot, key) => {
-                (spot, Cause::UnknownKey(Vec::from_slice(alloc, key)?))
-            }
+            ParseFault::UnknownKey(spot, key) => (spot, Cause::UnknownKey(Name::new(alloc, key)?)),
             ParseFault::MissingDepth(spot) => (spot, Cause::MissingDepth),
         };
         GraphFault::at(alloc, file, spot, cause)
     }
 
-    /// Want of memory.
+    /// Out of memory.
     pub fn out_of_memory() -> GraphFault
-        ensures { fault_text result ≡ no_memory }
+        ensures { result ≡ no_memory }
     {
         GraphFault {
             place: None,
@@ -122,7 +174,7 @@ impl GraphFault {
 }
 
 impl From<AllocError> for GraphFault {
-    ghost from_gives = { λ _ e. fault_text e ≡ no_memory };
+    ghost from_gives = { λ _ e. e ≡ no_memory };
 
     fn from(_e: AllocError) -> GraphFault {
         GraphFault::out_of_memory()
@@ -130,7 +182,7 @@ impl From<AllocError> for GraphFault {
 }
 
 impl<T: Drop> From<AllocFailed<T>> for GraphFault {
-    ghost from_gives = { λ _ e. fault_text e ≡ no_memory };
+    ghost from_gives = { λ _ e. e ≡ no_memory };
 
     fn from(_e: AllocFailed<T>) -> GraphFault {
         GraphFault::out_of_memory()

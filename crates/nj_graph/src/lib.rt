@@ -8,7 +8,7 @@ mod laws;
 mod loading;
 mod reader;
 
-pub use fault::{Cause, GraphFault, Place};
+pub use fault::{Cause, GraphFault, Name, Place};
 pub use graph::{Graph, rules_by_name};
 pub use laws::statements_up_to_the_first_fault;
 pub use loading::{Loaded, load};

@@ -8,12 +8,12 @@ ghost use Rattle.nj_manifest.specs.Statements.{BindingText, RuleText, PoolText, 
 ghost use Rattle.nj_manifest.specs.Held.{lines_text, placed_text};
 ghost use Rattle.nj_scope.specs.Readings.{EachPathOnce};
 ghost use Rattle.nj_scope.specs.ReadingList.{Entry};
-ghost use Rattle.nj_graph.specs.Faults.{CannotRead, NotYet, fault_at, fault_text, no_memory};
+ghost use Rattle.nj_graph.specs.Faults.{fault_at, no_memory};
 ghost use Rattle.nj_graph.specs.Reading.{entry_at, word_says, binding_fault, rule_fault, pool_fault, depth_fault, path_fault, opened_in, text_read, statement_read, main_read};
 ghost use Rattle.nj_graph.specs.Runs.{source_text};
 ghost use Rattle.nj_graph.specs.Steps.{IsNew, Holds, Grows, StandsIn, site_of, place_in, Checks, Declares, IsFault, FindsAt, OpensAt, Steps, Reads, NextIs, SaysPath, OpensPath};
 
-use crate::fault::{Cause, GraphFault};
+use crate::fault::{Cause, GraphFault, Name};
 use nj_manifest::{Line, Parser, Placed, Spot, Statement, Word};
 use nj_scope::{Declared, FileSource, FileTable, SourceFault, is_depth, is_newer};
 use std::alloc::{AllocError, Global};
@@ -32,6 +32,18 @@ pub struct OpenFile<'a> {
     pub name: &'a str,
     pub scope: usize,
     pub left: usize,
+}
+
+impl OpenFile<'_> {
+    // The fault of this cause at a place of the file.
+    fn fault(self, alloc: Global, spot: Spot, cause: Cause) -> GraphFault
+        ensures { IsFault (Some (fault_at self.entry.name.now spot cause)) result }
+    {
+        match GraphFault::at(alloc, self.name, spot, cause) {
+            Ok(fault) => fault,
+            Err(_) => GraphFault::out_of_memory(),
+        }
+    }
 }
 
 /// The file that a statement names, and the number of the scope in which its statements stand.
@@ -176,8 +188,8 @@ impl Reader {
                 self.declare_pool(alloc, file, *name_spot, name, lines)?;
                 Ok(None)
             }
-            Statement::Build { .. } => Err(not_yet(alloc, file, statement.spot)),
-            Statement::Default { .. } => Err(not_yet(alloc, file, statement.spot)),
+            Statement::Build { .. } => Err(file.fault(alloc, statement.spot, Cause::NotYet)),
+            Statement::Default { .. } => Err(file.fault(alloc, statement.spot, Cause::NotYet)),
             Statement::Include { word } => {
                 let named = self.include(alloc, source, file, word)?;
                 Ok(Some(named))
@@ -208,8 +220,8 @@ impl Reader {
         if name == b"ninja_required_version".as_slice() {
             let version = self.declared.expand(alloc, file.scope, value)?;
             if is_newer(&version) {
-                let cause = Cause::NewerVersion(version);
-                return Err(GraphFault::at(alloc, file.name, spot, cause)?);
+                let cause = Cause::VersionTooNew(Name::from(version));
+                return Err(file.fault(alloc, spot, cause));
             }
         }
         self.declared.bind(alloc, file.scope, name, value)?;
@@ -236,8 +248,8 @@ impl Reader {
         if self.declared.declare_rule(alloc, file.scope, name, lines)? {
             return Ok(());
         }
-        let cause = Cause::DuplicateRule(Vec::from_slice(alloc, name)?);
-        Err(GraphFault::at(alloc, file.name, spot, cause)?)
+        let cause = Cause::DuplicateRule(Name::new(alloc, name)?);
+        Err(file.fault(alloc, spot, cause))
     }
 
     // Reads a pool.
@@ -258,8 +270,8 @@ impl Reader {
         ensures grows { OnOk result (Grows self.old.declared.scopes self.new.declared.scopes) }
     {
         if !self.declared.declare_pool(name)? {
-            let cause = Cause::DuplicatePool(Vec::from_slice(alloc, name)?);
-            return Err(GraphFault::at(alloc, file.name, spot, cause)?);
+            let cause = Cause::DuplicatePool(Name::new(alloc, name)?);
+            return Err(file.fault(alloc, spot, cause));
         }
         self.check_depths(alloc, file, lines)
     }
@@ -278,7 +290,7 @@ impl Reader {
         'lines: for line in lines {
             let depth = self.declared.expand(alloc, file.scope, &line.value)?;
             if !is_depth(&depth) {
-                return Err(GraphFault::at(alloc, file.name, line.spot, Cause::InvalidDepth)?);
+                return Err(file.fault(alloc, line.spot, Cause::BadDepth));
             }
         }
         Ok(())
@@ -343,11 +355,11 @@ impl Reader {
     {
         let path = self.declared.expand(alloc, file.scope, word)?;
         if path.as_slice().is_empty() {
-            return Err(GraphFault::at(alloc, file.name, word.spot, Cause::EmptyPath)?);
+            return Err(file.fault(alloc, word.spot, Cause::EmptyPath));
         }
         match String::from_utf8(path) {
             Ok(path) => Ok(path),
-            Err(_) => Err(GraphFault::at(alloc, file.name, word.spot, Cause::PathNotText)?),
+            Err(_) => Err(file.fault(alloc, word.spot, Cause::PathNotText)),
         }
     }
 
@@ -369,10 +381,10 @@ impl Reader {
         ensures says_the_same { (p : List ℕ) → S.files source.new p ≡ S.files source.old p }
     {
         if file.left == 0 {
-            return Err(GraphFault::at(alloc, file.name, spot, Cause::TooManyOpen)?);
+            return Err(file.fault(alloc, spot, Cause::TooDeep));
         }
         if self.opened >= MOST_OPENED {
-            return Err(GraphFault::at(alloc, file.name, spot, Cause::TooManyOpened)?);
+            return Err(file.fault(alloc, spot, Cause::TooManyOpenings));
         }
         let text = text_at(alloc, source, &mut self.files, file.name, spot, path)?;
         self.opened += 1;
@@ -401,7 +413,7 @@ pub fn text_at<S: FileSource>(
     match files.shared(path)? {
         Some(text) => Ok(text),
         None => {
-            let cause = Cause::CannotFind(String::from_str(alloc, path)?);
+            let cause = Cause::Missing(Name::new(alloc, path.as_bytes())?);
             Err(GraphFault::at(alloc, file, spot, cause)?)
         }
     }
@@ -421,16 +433,6 @@ fn next_statement<'a>(
     }
 }
 
-// The fault of a statement of a kind that is not read yet.
-fn not_yet(alloc: Global, file: OpenFile<'_>, spot: Spot) -> GraphFault
-    ensures { IsFault (Some (fault_at file.entry.name.now spot NotYet)) result }
-{
-    match GraphFault::at(alloc, file.name, spot, Cause::NotYet) {
-        Ok(fault) => fault,
-        Err(_) => GraphFault::out_of_memory(),
-    }
-}
-
 // The fault of a reading that failed.
 fn unreadable(
     alloc: Global,
@@ -439,12 +441,12 @@ fn unreadable(
     path: &str,
     fault: SourceFault,
 ) -> Result<GraphFault, AllocError>
-    ensures io { fault ≡ SourceFault.Io → IfOk result (λ f. fault_text f ≡ fault_at file.now spot (CannotRead path.now)) }
-    ensures out_of_memory { fault ≡ SourceFault.OutOfMemory → IfOk result (λ f. fault_text f ≡ no_memory) }
+    ensures io { fault ≡ SourceFault.Io → IfOk result (λ f. f ≡ fault_at file.now spot (Cause.Io path.now)) }
+    ensures out_of_memory { fault ≡ SourceFault.OutOfMemory → IfOk result (λ f. f ≡ no_memory) }
 {
     match fault {
         SourceFault::Io => {
-            let cause = Cause::CannotRead(String::from_str(alloc, path)?);
+            let cause = Cause::Io(Name::new(alloc, path.as_bytes())?);
             GraphFault::at(alloc, file, spot, cause)
         }
         SourceFault::OutOfMemory => Ok(GraphFault::out_of_memory()),

@@ -8,7 +8,9 @@ use Rattle.nj_scope.specs.declared.source.SourceFault.TheVariants as source
 use Rattle.nj_scope.specs.Readings.{Reading, EachPathOnce, is_read, bytes_in, with_reading, AgreesWith, TellsAtMostOneMore}
 use Rattle.nj_scope.proofs.ReadingLemmas.{is_read-push_new}
 use Rattle.nj_graph.specs.declared.fault.GraphFault.{GraphFault}
-use Rattle.nj_graph.specs.Faults.{PlaceText, CannotFind, CannotRead, fault_at, fault_text, no_memory}
+use Rattle.nj_graph.specs.declared.fault.Place.{Place}
+use Rattle.nj_graph.specs.declared.fault.Cause.TheVariants.{Missing, Io}
+use Rattle.nj_graph.specs.Faults.{fault_at, no_memory}
 use Rattle.nj_graph.specs.Reading.{with_new}
 use Rattle.nj_graph.specs.Runs.{SourceText, source_text, Saying, IsRead, paths}
 use Rattle.nj_graph.specs.Steps.{ReadsAll, Finds, FindsNone, CannotTell, HasNoMemory, FindsAt}
@@ -66,7 +68,7 @@ module _ (said : Saying) (before after : SourceText) (old held : List Reading) (
     came_to = k.came_to;
   }
 
-  finds_none : (place : PlaceText) → Known said before after old held path → None ≡ bytes_in held path → (f : GraphFault) → fault_text f ≡ record { place = Some place; cause = CannotFind path } → FindsNone said before after old place path f
+  finds_none : (place : Place) → Known said before after old held path → None ≡ bytes_in held path → (f : GraphFault) → f ≡ record { place = Some place; cause = Missing path } → FindsNone said before after old place path f
   finds_none place k h f answered = record {
     files = held;
     reads = k.reads.reads;
@@ -76,19 +78,19 @@ module _ (said : Saying) (before after : SourceText) (old held : List Reading) (
   }
 
   -- there was no memory behind the reading
-  lacks_after : Known said before after old held path → (f : GraphFault) → fault_text f ≡ no_memory → HasNoMemory said before after old path f
+  lacks_after : Known said before after old held path → (f : GraphFault) → f ≡ no_memory → HasNoMemory said before after old path f
   lacks_after k f answered = record { files = held; reads = k.reads.reads; came_to = inr (k.came_to, k.there); answered = answered }
 
   -- want of memory that is handed on
-  handed_on : {Z : Type 0} (place : PlaceText) (result : Result (RcSlice ℕ Z) GraphFault) → IsErrAnd result (λ f. fault_text f ≡ no_memory)
-      → ((f : GraphFault) → fault_text f ≡ no_memory → HasNoMemory said before after old path f)
+  handed_on : {Z : Type 0} (place : Place) (result : Result (RcSlice ℕ Z) GraphFault) → IsErrAnd result (λ f. f ≡ no_memory)
+      → ((f : GraphFault) → f ≡ no_memory → HasNoMemory said before after old path f)
       → FindsAt said before after old held place path result
   handed_on place (Ok text) h lacks = absurd h
   handed_on place (Err f) h lacks = inl (lacks f h)
 
 module _ (said : Saying) (before after : SourceText) (old : List Reading) (path : List ℕ) where
   -- there was none before the reading, or for what was read
-  lacks_told : EachPathOnce old → is_read old path ≡ false → TellsAtMostOneMore before.readings after.readings path (said path) → (f : GraphFault) → fault_text f ≡ no_memory → HasNoMemory said before after old path f
+  lacks_told : EachPathOnce old → is_read old path ≡ false → TellsAtMostOneMore before.readings after.readings path (said path) → (f : GraphFault) → f ≡ no_memory → HasNoMemory said before after old path f
   lacks_told once new (inl same) f answered = record { files = old; reads = read-nothing said before after old once same; came_to = inl refl; answered = answered }
   lacks_told once new (inr told) f answered = record {
     files = old ++ record { path = path; bytes = told.0 } ∷ [];
@@ -101,67 +103,59 @@ module _ (said : Saying) (before after : SourceText) (old : List Reading) (path 
   lacks_unread : (fault : SourceFault) → EachPathOnce old → is_read old path ≡ false
       → (IsErrOf {T = Unit {0}} (Err fault) source.Io → after.readings ≡ before.readings)
       → (IsErrOf {T = Unit {0}} (Err fault) source.OutOfMemory → TellsAtMostOneMore before.readings after.readings path (said path))
-      → (f : GraphFault) → fault_text f ≡ no_memory → HasNoMemory said before after old path f
+      → (f : GraphFault) → f ≡ no_memory → HasNoMemory said before after old path f
   lacks_unread source.Io once new io memory = lacks_told once new (inl (io refl))
   lacks_unread source.OutOfMemory once new io memory = lacks_told once new (memory refl)
 
-  refused : (place : PlaceText) (fault : SourceFault) (f : GraphFault) → EachPathOnce old → is_read old path ≡ false
+  refused : (place : Place) (fault : SourceFault) (f : GraphFault) → EachPathOnce old → is_read old path ≡ false
       → (IsErrOf {T = Unit {0}} (Err fault) source.Io → after.readings ≡ before.readings)
       → (IsErrOf {T = Unit {0}} (Err fault) source.OutOfMemory → TellsAtMostOneMore before.readings after.readings path (said path))
       → (IsErrOf {T = Unit {0}} (Err fault) source.Io → before.failures < 2 ^ 64 - 1 → before.failures < after.failures)
-      → (fault ≡ source.Io → fault_text f ≡ record { place = Some place; cause = CannotRead path })
-      → (fault ≡ source.OutOfMemory → fault_text f ≡ no_memory)
+      → (fault ≡ source.Io → f ≡ record { place = Some place; cause = Io path })
+      → (fault ≡ source.OutOfMemory → f ≡ no_memory)
       → HasNoMemory said before after old path f ⊎ (CannotTell said before after old place path f ⊎ FindsNone said before after old place path f)
   refused place source.Io f once new io memory counts is_io is_memory =
       inr (inl (record { reads = read-nothing said before after old once (io refl); lacking = new; answered = is_io refl; failed = counts refl }))
   refused place source.OutOfMemory f once new io memory counts is_io is_memory = inl (lacks_told once new (memory refl) f (is_memory refl))
 
--- src/reader.rt:347:20
 pub returns-in_err-unreadable-clause-finds : goal.returns-in_err-unreadable-clause-finds
 returns-in_err-unreadable-clause-finds g c once =
     let e = c.in-Err.ensures in
     handed_on _ _ _ _ _ _ _ c.from_residual.result c.from_residual.ensures.1
     (lacks_unread _ _ (source_text (g.S.FileSource.readings c.read_in.new.source) (g.S.FileSource.failures c.read_in.new.source)) _ _ c.in-Err.fault once (not_known _ e.known) e.io_is_not_told e.out_of_memory_is_told_at_most_once)
 
--- src/reader.rt:347:9
 pub returns-in-Err-clause-finds : goal.returns-in-Err-clause-finds
 returns-in-Err-clause-finds g c once =
     let e = c.in-Err.ensures in
     let u = c.in_ok-unreadable.ensures in
     refused _ _ _ _ _ _ c.in-Err.fault c.in_ok-unreadable.field-0 once (not_known _ e.known) e.io_is_not_told e.out_of_memory_is_told_at_most_once e.io_counts u.io u.out_of_memory
 
--- src/reader.rt:349:11
 pub returns-in_err-text-clause-finds : goal.returns-in_err-text-clause-finds
 returns-in_err-text-clause-finds g c once =
     let e = c.in_default.ensures in
     handed_on _ _ _ _ _ _ _ c.from_residual-in_err-text.result c.from_residual-in_err-text.ensures.1
     (lacks_after _ _ _ _ _ _ (known _ _ _ _ _ _ once e.known_stays (λ there. ap g.S.FileSource.readings (e.known_is_not_asked there)) e.is_read_then e.kept e.told e.as_said e.ok_does_not_count))
 
--- src/reader.rt:352:43
-pub returns-in_err-from_str-in-None-clause-finds :
-    goal.returns-in_err-from_str-in-None-clause-finds
-returns-in_err-from_str-in-None-clause-finds g c once =
+pub returns-in_err-new-in-None-clause-finds : goal.returns-in_err-new-in-None-clause-finds
+returns-in_err-new-in-None-clause-finds g c once =
     let e = c.in_default.ensures in
-    handed_on _ _ _ _ _ _ _ c.from_residual-in_err-from_str-in-None.result c.from_residual-in_err-from_str-in-None.ensures.1
+    handed_on _ _ _ _ _ _ _ c.from_residual-in_err-new-in-None.result c.from_residual-in_err-new-in-None.ensures.1
     (lacks_after _ _ _ _ _ _ (known _ _ _ _ _ _ once e.known_stays (λ there. ap g.S.FileSource.readings (e.known_is_not_asked there)) e.is_read_then e.kept e.told e.as_said e.ok_does_not_count))
 
--- src/reader.rt:353:17
 pub returns-in_err-at-in-None-clause-finds : goal.returns-in_err-at-in-None-clause-finds
 returns-in_err-at-in-None-clause-finds g c once =
     let e = c.in_default.ensures in
     handed_on _ _ _ _ _ _ _ c.from_residual-in_err-at-in-None.result c.from_residual-in_err-at-in-None.ensures.1
     (lacks_after _ _ _ _ _ _ (known _ _ _ _ _ _ once e.known_stays (λ there. ap g.S.FileSource.readings (e.known_is_not_asked there)) e.is_read_then e.kept e.told e.as_said e.ok_does_not_count))
 
--- src/reader.rt:333:1
 pub returns-in-Some-clause-finds : goal.returns-in-Some-clause-finds
 returns-in-Some-clause-finds g c once =
     let e = c.in_default.ensures in
     finds _ _ _ _ _ _ (known _ _ _ _ _ _ once e.known_stays (λ there. ap g.S.FileSource.readings (e.known_is_not_asked there)) e.is_read_then e.kept e.told e.as_said e.ok_does_not_count)
     _ (ap (option_map rc_slice_items) (sym c.in-Some.is) ∙ c.in_ok-text.ensures)
 
--- src/reader.rt:333:1
 pub returns-in_ok-at-in-None-clause-finds : goal.returns-in_ok-at-in-None-clause-finds
 returns-in_ok-at-in-None-clause-finds g c once =
     let e = c.in_default.ensures in
     inr (inr (finds_none _ _ _ _ _ _ _ (known _ _ _ _ _ _ once e.known_stays (λ there. ap g.S.FileSource.readings (e.known_is_not_asked there)) e.is_read_then e.kept e.told e.as_said e.ok_does_not_count)
-    (ap (option_map rc_slice_items) (sym c.in-None.is) ∙ c.in_ok-text.ensures) _ (c.in_ok-at-in-None.ensures ∙ ap (λ p. fault_at c.args.file.now c.args.spot (CannotFind p)) c.in_ok-from_str-in-None.ensures.ok)))
+    (ap (option_map rc_slice_items) (sym c.in-None.is) ∙ c.in_ok-text.ensures) _ (c.in_ok-at-in-None.ensures ∙ ap (λ p. fault_at c.args.file.now c.args.spot (Missing p)) (c.in_ok-new-in-None.ensures ∙ c.as_bytes.ensures.value))))

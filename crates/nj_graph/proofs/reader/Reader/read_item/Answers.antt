@@ -52,14 +52,14 @@ returns-in-Build-clause-steps g c = λ main entries around holds stands.
     let told = source_text (g.S.FileSource.readings c.args.source.now) (g.S.FileSource.failures c.args.source.now) in
     rw (ap statement_text c.in-Build.is)
     (stops-own main (g.S.FileSource.files c.args.source.now) told told c.args.self.now entries holds refl c.args.file.left (site_of c.args.file around) (record { spot = c.args.statement.now.spot; item = statement_text (statement.Build c.in-Build.explicit_outs c.in-Build.implicit_outs c.in-Build.rule c.in-Build.rule_spot c.in-Build.explicit c.in-Build.implicit c.in-Build.order_only c.in-Build.validations c.in-Build.lines) })
-    _ c.not_yet.result refl c.not_yet.ensures)
+    _ c.fault.result refl c.fault.ensures)
 
 pub returns-in-Default-clause-steps : goal.returns-in-Default-clause-steps
 returns-in-Default-clause-steps g c = λ main entries around holds stands.
     let told = source_text (g.S.FileSource.readings c.args.source.now) (g.S.FileSource.failures c.args.source.now) in
     rw (ap statement_text c.in-Default.is)
     (stops-own main (g.S.FileSource.files c.args.source.now) told told c.args.self.now entries holds refl c.args.file.left (site_of c.args.file around) (record { spot = c.args.statement.now.spot; item = statement_text (statement.Default c.in-Default.words) })
-    _ c.not_yet-in-Default.result refl c.not_yet-in-Default.ensures)
+    _ c.fault-in-Default.result refl c.fault-in-Default.ensures)
 
 pub returns-in_ok-named-in-Include-clause-steps : goal.returns-in_ok-named-in-Include-clause-steps
 returns-in_ok-named-in-Include-clause-steps g c = λ main entries around holds stands.

@@ -6,7 +6,7 @@ use Rattle.nj_scope.specs.ScopesHeld.{parent_at}
 use Rattle.nj_scope.specs.Follows.{Follows}
 use Rattle.nj_scope.specs.ReadingList.{scopes_opened}
 use Rattle.nj_graph.specs.declared.reader.Reader.{Reader}
-use Rattle.nj_graph.specs.Faults.{fault_text, no_memory}
+use Rattle.nj_graph.specs.Faults.{no_memory}
 use Rattle.nj_graph.specs.Reading.{Site, entry_at, word_says, path_fault, opened_in, statement_read, unless_fault}
 use Rattle.nj_graph.specs.Runs.{source_text}
 use Rattle.nj_graph.specs.Steps.{Grows, Stands, site_of, place_in}
@@ -50,7 +50,7 @@ returns-in_err-scope-clause-opens g c = λ main entries around spot holds stands
     let is : says ≡ c.deref.result.now = sym (c.deref.ensures ∙ path.1) in
     let told = source_text (g.S.FileSource.readings c.args.source.now) (g.S.FileSource.failures c.args.source.now) in
     let after = source_text (g.S.FileSource.readings c.open_file.new.source) (g.S.FileSource.failures c.open_file.new.source) in
-    let fault = handed-as (λ e. fault_text e ≡ no_memory) c.from_residual-in_err-scope.result c.from_residual-in_err-scope.ensures in
+    let fault = handed-as (λ e. e ≡ no_memory) c.from_residual-in_err-scope.result c.from_residual-in_err-scope.ensures in
     rw fault.1
     (stops-open main (g.S.FileSource.files c.args.source.now) told after c.args.self.now c.open_file.new.self c.open_file.new.self c.args.file.left (place_in c.args.file c.args.word.now.spot) c.deref.result.now entries _
     site s inner fault.0 holds (c.in_ok-text.ensures.opens main entries holds) is (ap (λ p. p ∷ []) is) (λ opens. ap (λ f. unless_fault f opens site entries s.item) path.0) fault.2)
