@@ -5,49 +5,48 @@ use Rattle.std.proofs.lemmas.List.{append-nil, append_assoc}
 use Rattle.nj_manifest.specs.Faults.{Fault}
 use Rattle.nj_manifest.specs.Statements.{StatementText, BindingText, RuleText, PoolText, BuildText, DefaultText, IncludeText, SubninjaText, PlacedText}
 use Rattle.nj_scope.specs.Readings as table
-use Rattle.nj_scope.specs.Readings.{reading_of}
+use Rattle.nj_scope.specs.Readings.{reading_of, IsPrefix}
 use Rattle.nj_scope.specs.ReadingList.{Entry, files_opened}
 use Rattle.nj_graph.specs.declared.fault.Place.{Place}
 use Rattle.nj_graph.specs.declared.fault.GraphFault.{GraphFault}
 use Rattle.nj_graph.specs.Statements.{said}
-use Rattle.nj_graph.specs.Runs.{Prefix}
 use Rattle.nj_graph.specs.Reading.{Site, own_fault, End, Whole, Refused, Lacking, ReadingText, go_on, and_then, Opens, item_read, unless_fault, statement_read, end_by, statements_read, most_opened, most_within, found_read, answer_read, if_room, opened_in, main_site, main_read, path_named, with_new, with_named, paths_read, path_at_end, paths_come_to}
 
 -- ---- paths before others
 
-pub prefix-self : (front : List (List ℕ)) → Prefix front front
+pub prefix-self : (front : List (List ℕ)) → IsPrefix front front
 prefix-self front = ([], sym (append-nil front))
 
-pub prefix-then : (front middle whole : List (List ℕ)) → Prefix front middle → Prefix middle whole → Prefix front whole
+pub prefix-then : (front middle whole : List (List ℕ)) → IsPrefix front middle → IsPrefix middle whole → IsPrefix front whole
 prefix-then front middle whole p q = (p.0 ++ q.0, q.1 ∙ ap (λ paths. paths ++ q.0) p.1 ∙ append_assoc front p.0 q.0)
 
-pub prefix-new : (before : List (List ℕ)) (path : List ℕ) → Prefix before (with_new before path)
+pub prefix-new : (before : List (List ℕ)) (path : List ℕ) → IsPrefix before (with_new before path)
 prefix-new before path = by_there (list_any (bytes_eq path) before)
   where
-    by_there : (t : Bool) → Prefix before (cond t before (before ++ path ∷ []))
+    by_there : (t : Bool) → IsPrefix before (cond t before (before ++ path ∷ []))
     by_there true = prefix-self before
     by_there false = (path ∷ [], refl)
 
-pub prefix-named : (before paths : List (List ℕ)) → Prefix before (with_named before paths)
+pub prefix-named : (before paths : List (List ℕ)) → IsPrefix before (with_named before paths)
 prefix-named before [] = prefix-self before
 prefix-named before (path ∷ paths) = prefix-new before path
 
 -- ---- one reading behind the other
 
 pub and_then-comes : (main : List ℕ) (front : List (List ℕ)) (r : ReadingText) (k : List Entry → ReadingText)
-    → Prefix front (paths_come_to main r)
-    → ((entries : List Entry) → Prefix (paths_read main entries) (paths_come_to main (k entries)))
-    → Prefix front (paths_come_to main (and_then r k))
+    → IsPrefix front (paths_come_to main r)
+    → ((entries : List Entry) → IsPrefix (paths_read main entries) (paths_come_to main (k entries)))
+    → IsPrefix front (paths_come_to main (and_then r k))
 and_then-comes main front r k comes others = by_end r.end comes
   where
-    by_end : (end : End) → Prefix front (with_named (paths_read main r.entries) (path_at_end end)) → Prefix front (paths_come_to main (go_on end r.entries k))
+    by_end : (end : End) → IsPrefix front (with_named (paths_read main r.entries) (path_at_end end)) → IsPrefix front (paths_come_to main (go_on end r.entries k))
     by_end Whole p = prefix-then front (paths_read main r.entries) (paths_come_to main (k r.entries)) p (others r.entries)
     by_end (Refused fault) p = p
     by_end (Lacking path place) p = p
 
 -- a reading, by what was read before it
 abbrev pub ComesTo : (main : List ℕ) → List Entry → ReadingText → Type 0
-ComesTo main before r = Prefix (paths_read main before) (paths_come_to main r)
+ComesTo main before r = IsPrefix (paths_read main before) (paths_come_to main r)
 
 abbrev pub OpensCome : (main : List ℕ) → Opens → Type 0
 OpensCome main opens = (site : Site) (place : Place) (e : Entry) (before : List Entry) → ComesTo main before (opens site place e before)
@@ -80,16 +79,16 @@ statements_read-come main opens comes site (s ∷ others) fault before =
 
 -- ---- a file
 
-found_read-comes : (main : List ℕ) (within : Opens) → OpensCome main within → (site : Site) (place : Place) (entries before : List Entry) → Prefix (paths_read main before) (paths_read main entries) → (text : Option (List ℕ)) → ComesTo main before (found_read within site place entries before text)
+found_read-comes : (main : List ℕ) (within : Opens) → OpensCome main within → (site : Site) (place : Place) (entries before : List Entry) → IsPrefix (paths_read main before) (paths_read main entries) → (text : Option (List ℕ)) → ComesTo main before (found_read within site place entries before text)
 found_read-comes main within comes site place entries before more None = prefix-new (paths_read main before) site.file
 found_read-comes main within comes site place entries before more (Some text) =
     prefix-then (paths_read main before) (paths_read main entries) _ more (statements_read-come main within comes site (said text).statements (said text).fault entries)
 
-answer_read-comes : (main : List ℕ) (within : Opens) → OpensCome main within → (site : Site) (place : Place) (entries before : List Entry) → Prefix (paths_read main before) (paths_read main entries) → (r : Option table.Reading) → ComesTo main before (answer_read within site place entries before r)
+answer_read-comes : (main : List ℕ) (within : Opens) → OpensCome main within → (site : Site) (place : Place) (entries before : List Entry) → IsPrefix (paths_read main before) (paths_read main entries) → (r : Option table.Reading) → ComesTo main before (answer_read within site place entries before r)
 answer_read-comes main within comes site place entries before more None = prefix-new (paths_read main before) site.file
 answer_read-comes main within comes site place entries before more (Some r) = found_read-comes main within comes site place entries before more r.bytes
 
-pub opened-comes : (main : List ℕ) (files : List table.Reading) (left : ℕ) (site : Site) (place : Place) (e : Entry) (before : List Entry) → Prefix (paths_read main before) (paths_come_to main (opened_in files left site place e before))
+pub opened-comes : (main : List ℕ) (files : List table.Reading) (left : ℕ) (site : Site) (place : Place) (e : Entry) (before : List Entry) → IsPrefix (paths_read main before) (paths_come_to main (opened_in files left site place e before))
 unfolding opened_in
 opened-comes main files zero site place e before = prefix-self (paths_read main before)
 opened-comes main files (suc left) site place e before = by_room (nat_lt (files_opened before) most_opened) (opened-comes main files left)
@@ -98,10 +97,10 @@ opened-comes main files (suc left) site place e before = by_room (nat_lt (files_
     by_room false comes = prefix-self (paths_read main before)
     by_room true comes = answer_read-comes main (opened_in files left) comes site place (e ∷ before) before (prefix-named (paths_read main before) (path_named e before e.item)) (reading_of files site.file)
 
-pub item-comes : (main : List ℕ) (files : List table.Reading) (left : ℕ) (site : Site) (before : List Entry) (s : PlacedText) → Prefix (paths_read main before) (paths_come_to main (statement_read (opened_in files left) site before s))
+pub item-comes : (main : List ℕ) (files : List table.Reading) (left : ℕ) (site : Site) (before : List Entry) (s : PlacedText) → IsPrefix (paths_read main before) (paths_come_to main (statement_read (opened_in files left) site before s))
 item-comes main files left = statement_read-comes main (opened_in files left) (opened-comes main files left)
 
-pub statements-come : (main : List ℕ) (files : List table.Reading) (left : ℕ) (site : Site) (statements : List PlacedText) (fault : Option Fault) (before : List Entry) → Prefix (paths_read main before) (paths_come_to main (statements_read (opened_in files left) site statements fault before))
+pub statements-come : (main : List ℕ) (files : List table.Reading) (left : ℕ) (site : Site) (statements : List PlacedText) (fault : Option Fault) (before : List Entry) → IsPrefix (paths_read main before) (paths_come_to main (statements_read (opened_in files left) site statements fault before))
 statements-come main files left = statements_read-come main (opened_in files left) (opened-comes main files left)
 
 -- ---- the path of a file
@@ -110,7 +109,7 @@ statements-come main files left = statements_read-come main (opened_in files lef
 pub opened-names : (main : List ℕ) (files : List table.Reading) (left : ℕ) (site : Site) (place : Place) (e : Entry) (before : List Entry)
     → path_named e before e.item ≡ site.file ∷ []
     → nat_lt (files_opened before) most_opened ≡ true
-    → Prefix (with_new (paths_read main before) site.file) (paths_come_to main (opened_in files (suc left) site place e before))
+    → IsPrefix (with_new (paths_read main before) site.file) (paths_come_to main (opened_in files (suc left) site place e before))
 unfolding opened_in
 opened-names main files left site place e before names room =
     subst (λ t. Front (if_room t (opened_in files left) files site place e before)) (sym room) (by_answer (reading_of files site.file))
@@ -119,20 +118,20 @@ opened-names main files left site place e before names room =
     front = with_new (paths_read main before) site.file
 
     Front : ReadingText → Type 0
-    Front r = Prefix front (paths_come_to main r)
+    Front r = IsPrefix front (paths_come_to main r)
 
     named : paths_read main (e ∷ before) ≡ front
     named = ap (with_named (paths_read main before)) names
 
     by_text : (text : Option (List ℕ)) → Front (found_read (opened_in files left) site place (e ∷ before) before text)
     by_text None = prefix-self front
-    by_text (Some text) = subst (λ paths. Prefix paths (paths_come_to main (found_read (opened_in files left) site place (e ∷ before) before (Some text)))) named (statements-come main files left site (said text).statements (said text).fault (e ∷ before))
+    by_text (Some text) = subst (λ paths. IsPrefix paths (paths_come_to main (found_read (opened_in files left) site place (e ∷ before) before (Some text)))) named (statements-come main files left site (said text).statements (said text).fault (e ∷ before))
 
     by_answer : (r : Option table.Reading) → Front (answer_read (opened_in files left) site place (e ∷ before) before r)
     by_answer None = prefix-self front
     by_answer (Some r) = by_text r.bytes
 
 -- The main file comes first.
-pub main-comes : (main : List ℕ) (files : List table.Reading) → Prefix (main ∷ []) (paths_come_to main (main_read files main))
+pub main-comes : (main : List ℕ) (files : List table.Reading) → IsPrefix (main ∷ []) (paths_come_to main (main_read files main))
 unfolding main_read
 main-comes main files = answer_read-comes main (opened_in files most_within) (opened-comes main files most_within) (main_site main) _ [] [] (prefix-self (main ∷ [])) (reading_of files main)

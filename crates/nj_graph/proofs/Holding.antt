@@ -3,7 +3,7 @@ use Rattle.std.proofs.Common.{◌≡◌, ℕ, ◌+◌, Bool, true, false, not, c
 use Rattle.nj_text.specs.Words.{WordText}
 use Rattle.nj_manifest.specs.Steps.{NameText}
 use Rattle.nj_manifest.specs.Statements.{LineText}
-use Rattle.nj_scope.specs.Readings.{EachPathOnce}
+use Rattle.nj_scope.specs.Readings.{EachPathOnce, paths_of}
 use Rattle.nj_scope.specs.Scopes.{expanded, value_in}
 use Rattle.nj_scope.specs.ScopesHeld.{rule_at, bound_at}
 use Rattle.nj_scope.specs.Follows.{DeclaredText, Follows}
@@ -16,8 +16,7 @@ use Rattle.nj_graph.specs.declared.reader.Reader.{Reader}
 use Rattle.nj_graph.specs.declared.fault.Cause.TheVariants.{BadDepth, DuplicateRule, DuplicatePool}
 use Rattle.nj_graph.specs.Faults.{fault_at}
 use Rattle.nj_graph.specs.Reading.{Site, word_says, fault_if, or_then, rule_fault, depth_fault, pool_fault, path_named, with_named, paths_read}
-use Rattle.nj_graph.specs.Runs.{paths}
-use Rattle.nj_graph.specs.Steps.{Holds, Checks, Declares}
+use Rattle.nj_graph.specs.ReaderContracts.{Holds, Checks, Declares}
 
 -- a statement that names no file
 pub holds-next : (main : List ℕ) (old held : Reader) (entries : List Entry) (e : Entry) → Holds main old entries → Follows held.declared (e ∷ entries) → held.opened ≡ old.opened → held.files ≡ old.files
@@ -25,7 +24,7 @@ pub holds-next : (main : List ℕ) (old held : Reader) (entries : List Entry) (e
 holds-next main old held entries e holds follows opened files none names = record {
   follows = follows;
   opened = opened ∙ holds.opened ∙ sym (add-zero (files_opened entries)) ∙ ap (λ n. files_opened entries + n) (sym none);
-  paths_are = ap paths files ∙ holds.paths_are ∙ ap (with_named (paths_read main entries)) (sym names);
+  paths_are = ap paths_of files ∙ holds.paths_are ∙ ap (with_named (paths_read main entries)) (sym names);
   once = subst EachPathOnce (sym files) holds.once;
 }
 

@@ -1,6 +1,7 @@
 pub mod Comes
 pub mod FaultLineRows
 pub mod Faultless
+pub mod Found
 pub mod GraphRows
 pub mod Holding
 pub mod ListedLemmas

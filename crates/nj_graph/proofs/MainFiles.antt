@@ -2,20 +2,22 @@
 use Rattle.std.proofs.Common.{◌≡◌, ℕ, true, false, ◌||◌, cond, inl, inr, is_some, Option, Some, None, Result, Ok, Err, List, [], ◌∷◌, ◌++◌, refl, sym, ap, subst, ◌∙◌, arith, append-nil, true≢false}
 use Rattle.std.specs.Prelude.{◌⊎◌}
 use Rattle.std.proofs.lemmas.Slice.Eq.{bytes_eq-Decides}
-use Rattle.nj_scope.specs.Readings.{Reading, EachPathOnce, reading_of, is_read}
+use Rattle.nj_scope.specs.Readings.{Reading, EachPathOnce, reading_of, is_read, IsPrefix, paths_of}
 use Rattle.nj_scope.specs.Follows.{Follows}
 use Rattle.nj_scope.specs.Scopes.{outermost}
+use Rattle.nj_scope.specs.Sources.{SourceState}
 use Rattle.nj_graph.specs.declared.fault.GraphFault.{GraphFault}
 use Rattle.nj_graph.specs.declared.reader.Reader.{Reader}
 use Rattle.nj_graph.specs.declared.fault.Place.{Place}
 use Rattle.nj_graph.specs.declared.fault.Cause.TheVariants.{Missing}
 use Rattle.nj_graph.specs.Faults.{no_memory}
 use Rattle.nj_graph.specs.Reading.{Refused, Lacking, ReadingText, opened_in, text_read, answer_read, most_within, main_site, main_read, with_new, paths_come_to}
-use Rattle.nj_graph.specs.Runs.{SourceText, Saying, paths, Extends, Prefix}
-use Rattle.nj_graph.specs.Steps.{IsNew, Holds, Stands, ReadsAll, Finds, FindsNone, CannotTell, HasNoMemory, ReadsText, Reads, StopsAt}
+use Rattle.nj_graph.specs.ReaderContracts.{IsNew, Holds, Stands, ReadsAll, ReadsText, Reads, StopsAt}
+use Rattle.nj_graph.specs.Runs.{IsRead}
+use Rattle.nj_graph.proofs.Found.{Finds, FindsNone, CannotTell, HasNoMemory}
 use Rattle.nj_graph.proofs.Comes.{main-comes}
 use Rattle.nj_graph.proofs.Tables.{extends-trans, reading-kept, read-extends, reads-all-then, read-nothing}
-use Rattle.nj_graph.proofs.Turns.{stops-behind}
+use Rattle.nj_graph.proofs.Turns.{stops-then}
 
 abbrev pub front_of : (main : List ℕ) → Place
 front_of main = record { file = main; spot = record { line = 1; column = 1 } }
@@ -29,23 +31,23 @@ itself path = ap (λ b. cond (b || false) (path ∷ []) (path ∷ [] ++ path ∷
 
 -- ---- the main file is not there
 
-module _ (main : List ℕ) (said : Saying) (before after : SourceText) (fault : GraphFault) where
+module _ (main : List ℕ) (before after : SourceState) (fault : GraphFault) where
   -- there was no memory before the first reading
-  pub main-nothing : after.readings ≡ before.readings → fault ≡ no_memory → StopsAt main said before after [] (main_reading main) fault
+  pub main-nothing : after ≡ before → fault ≡ no_memory → StopsAt main before after [] (main_reading main) fault
   main-nothing same none = record {
     files = [];
-    reads = read-nothing said before after [] tt same;
-    stops = inl (record { answered = none; came_to = λ all ext. (paths_come_to main (main_read all main), refl) });
+    reads = subst (λ source. IsRead before source [] []) (sym same) (read-nothing before [] tt);
+    stops = inl (record { answered = none; failures = ap (λ source. source.failures) same; came_to = λ all ext. (paths_come_to main (main_read all main), refl) });
   }
 
-  main-memory : HasNoMemory said before after [] main fault → StopsAt main said before after [] (main_reading main) fault
-  main-memory h = record { files = h.files; reads = h.reads; stops = inl (record { answered = h.answered; came_to = λ all ext. by all h.came_to }) }
+  main-memory : HasNoMemory before after [] main fault → StopsAt main before after [] (main_reading main) fault
+  main-memory h = record { files = h.files; reads = h.reads; stops = inl (record { answered = h.answered; failures = h.failures; came_to = λ all ext. by all h.came_to }) }
     where
-      by : (all : List Reading) → (paths h.files ≡ []) ⊎ ((paths h.files ≡ main ∷ []) × (is_read h.files main ≡ true)) → Prefix (paths h.files) (paths_come_to main (main_read all main))
-      by all (inl none) = subst (λ ps. Prefix ps (paths_come_to main (main_read all main))) (sym none) (paths_come_to main (main_read all main), refl)
-      by all (inr (one, there)) = subst (λ ps. Prefix ps (paths_come_to main (main_read all main))) (sym one) (main-comes main all)
+      by : (all : List Reading) → (paths_of h.files ≡ []) ⊎ ((paths_of h.files ≡ main ∷ []) × (is_read h.files main ≡ true)) → IsPrefix (paths_of h.files) (paths_come_to main (main_read all main))
+      by all (inl none) = subst (λ ps. IsPrefix ps (paths_come_to main (main_read all main))) (sym none) (paths_come_to main (main_read all main), refl)
+      by all (inr (one, there)) = subst (λ ps. IsPrefix ps (paths_come_to main (main_read all main))) (sym one) (main-comes main all)
 
-  main-unread : CannotTell said before after [] (front_of main) main fault → StopsAt main said before after [] (main_reading main) fault
+  main-unread : CannotTell before after [] (front_of main) main fault → StopsAt main before after [] (main_reading main) fault
   unfolding main_read
   main-unread h = record {
     files = [];
@@ -53,7 +55,7 @@ module _ (main : List ℕ) (said : Saying) (before after : SourceText) (fault : 
     stops = inr (record {
       entries = [];
       end = Lacking main (front_of main);
-      answered = (h.answered, h.failed);
+      answered = (h.answered, h.failures);
       read = λ all ext lacks. ap (λ r. answer_read (opened_in all most_within) (main_site main) (front_of main) [] [] r) (none (reading_of all main) lacks);
       came_to = itself main;
     });
@@ -63,7 +65,7 @@ module _ (main : List ℕ) (said : Saying) (before after : SourceText) (fault : 
       none None e = refl
       none (Some r) e = absurd (true≢false e)
 
-  main-none : FindsNone said before after [] (front_of main) main fault → StopsAt main said before after [] (main_reading main) fault
+  main-none : FindsNone before after [] (front_of main) main fault → StopsAt main before after [] (main_reading main) fault
   unfolding main_read
   main-none h = record {
     files = h.files;
@@ -71,17 +73,17 @@ module _ (main : List ℕ) (said : Saying) (before after : SourceText) (fault : 
     stops = inr (record {
       entries = [];
       end = Refused (record { place = Some (front_of main); cause = Missing main });
-      answered = h.answered;
+      answered = (h.answered, h.failures);
       read = λ all ext lacks. ap (λ r. answer_read (opened_in all most_within) (main_site main) (front_of main) [] [] r) (reading-kept main (record { path = main; bytes = None }) all h.files ext h.found);
       came_to = itself main ∙ sym h.came_to;
     });
   }
 
-  pub main-fault : (old : List Reading) → old ≡ [] → HasNoMemory said before after old main fault ⊎ (CannotTell said before after old (front_of main) main fault ⊎ FindsNone said before after old (front_of main) main fault)
-      → StopsAt main said before after old (main_reading main) fault
-  main-fault old is h = subst (λ fs. StopsAt main said before after fs (main_reading main) fault) (sym is) (by (subst (λ fs. HasNoMemory said before after fs main fault ⊎ (CannotTell said before after fs (front_of main) main fault ⊎ FindsNone said before after fs (front_of main) main fault)) is h))
+  pub main-fault : (old : List Reading) → old ≡ [] → HasNoMemory before after old main fault ⊎ (CannotTell before after old (front_of main) main fault ⊎ FindsNone before after old (front_of main) main fault)
+      → StopsAt main before after old (main_reading main) fault
+  main-fault old is h = subst (λ fs. StopsAt main before after fs (main_reading main) fault) (sym is) (by (subst (λ fs. HasNoMemory before after fs main fault ⊎ (CannotTell before after fs (front_of main) main fault ⊎ FindsNone before after fs (front_of main) main fault)) is h))
     where
-      by : HasNoMemory said before after [] main fault ⊎ (CannotTell said before after [] (front_of main) main fault ⊎ FindsNone said before after [] (front_of main) main fault) → StopsAt main said before after [] (main_reading main) fault
+      by : HasNoMemory before after [] main fault ⊎ (CannotTell before after [] (front_of main) main fault ⊎ FindsNone before after [] (front_of main) main fault) → StopsAt main before after [] (main_reading main) fault
       by (inl m) = main-memory m
       by (inr (inl m)) = main-unread m
       by (inr (inr m)) = main-none m
@@ -92,8 +94,8 @@ module _ (main : List ℕ) (said : Saying) (before after : SourceText) (fault : 
 pub main-stands : (held : Reader) → IsNew held → Stands held.declared.scopes 0 []
 main-stands held new = record { within = outermost new.outermost; there = (rw new.follows.scopes (omega arith), tt) }
 
-module _ (main : List ℕ) (said said2 : Saying) (before mid after : SourceText) (old opened held : Reader) (text : List ℕ) (new : IsNew old) (found : Finds said before mid old.files opened.files main text) (same : (p : List ℕ) → said2 p ≡ said p) where
-  is-text : (all : List Reading) → Extends all found.files → main_read all main ≡ text_read (opened_in all most_within) (main_site main) text []
+module _ (main : List ℕ) (before mid after : SourceState) (old opened held : Reader) (text : List ℕ) (new : IsNew old) (found : Finds before mid old.files opened.files main text) where
+  is-text : (all : List Reading) → IsPrefix found.files all → main_read all main ≡ text_read (opened_in all most_within) (main_site main) text []
   unfolding main_read
   is-text all ext = ap (λ r. answer_read (opened_in all most_within) (main_site main) (front_of main) [] [] r) (reading-kept main (record { path = main; bytes = Some text }) all found.files ext found.found)
 
@@ -101,31 +103,31 @@ module _ (main : List ℕ) (said said2 : Saying) (before mid after : SourceText)
   main-holds declared count = record {
     follows = subst (λ d. Follows d []) (sym declared) new.follows;
     opened = count ∙ new.opened;
-    paths_are = ap paths found.reads.held_is ∙ found.came_to ∙ ap (λ fs. with_new (paths fs) main) new.files;
+    paths_are = ap paths_of found.reads.held_is ∙ found.came_to ∙ ap (λ fs. with_new (paths_of fs) main) new.files;
     once = subst EachPathOnce (sym found.reads.held_is) found.reads.reads.once;
   }
 
-  pub main-reads : (result : Result (Unit {0}) GraphFault) → Reads main said2 mid after opened held (λ all. text_read (opened_in all most_within) (main_site main) text []) result → Reads main said before after old held (main_reading main) result
+  pub main-reads : (result : Result (Unit {0}) GraphFault) → Reads main mid after opened held (λ all. text_read (opened_in all most_within) (main_site main) text []) result → Reads main before after old held (main_reading main) result
   main-reads (Ok done) r = record {
     files = r.files;
-    reads = reads-all-then said said2 before mid after old.files found.files r.files opened.files held.files found.reads there same;
+    reads = reads-all-then before mid after old.files found.files r.files opened.files held.files found.reads there;
     entries = r.entries;
     holds = r.holds;
-    read = λ all ext. is-text all (extends-trans all r.files found.files ext (read-extends said2 mid after found.files r.files there.reads)) ∙ r.read all ext;
+    read = λ all ext. is-text all (extends-trans all r.files found.files ext (read-extends mid after found.files r.files there.reads)) ∙ r.read all ext;
   }
     where
-      there : ReadsAll said2 mid after found.files r.files held.files
-      there = subst (λ fs. ReadsAll said2 mid after fs r.files held.files) found.reads.held_is r.reads
+      there : ReadsAll mid after found.files r.files held.files
+      there = subst (λ fs. ReadsAll mid after fs r.files held.files) found.reads.held_is r.reads
   main-reads (Err fault) s =
-      stops-behind main said said2 before mid after old.files found.files opened.files (λ all. text_read (opened_in all most_within) (main_site main) text []) (main_reading main) found.reads same (record {
-        comes = λ all ext front h. subst (λ r. Prefix front (paths_come_to main r)) (sym (is-text all ext)) h;
+      stops-then main before mid after old.files found.files opened.files (λ all. text_read (opened_in all most_within) (main_site main) text []) (main_reading main) found.reads (record {
+        comes = λ all ext front h. subst (λ r. IsPrefix front (paths_come_to main r)) (sym (is-text all ext)) h;
         ends = λ all ext es end stops h. is-text all ext ∙ h;
       }) fault s
 
 -- there was no memory for the graph of what was read
-pub reads-memory : (main : List ℕ) (said : Saying) (before after : SourceText) (old held : Reader) (fault : GraphFault) → ReadsText main said before after old held (main_reading main) → fault ≡ no_memory → StopsAt main said before after old.files (main_reading main) fault
-reads-memory main said before after old held fault r none = record {
+pub reads-memory : (main : List ℕ) (before after : SourceState) (old held : Reader) (fault : GraphFault) → ReadsText main before after old held (main_reading main) → fault ≡ no_memory → StopsAt main before after old.files (main_reading main) fault
+reads-memory main before after old held fault r none = record {
   files = r.files;
   reads = r.reads.reads;
-  stops = inl (record { answered = none; came_to = λ all ext. ([], ap (paths_come_to main) (r.read all ext) ∙ sym r.holds.paths_are ∙ ap paths r.reads.held_is ∙ sym (append-nil (paths r.files))) });
+  stops = inl (record { answered = none; failures = r.reads.failures; came_to = λ all ext. ([], ap (paths_come_to main) (r.read all ext) ∙ sym r.holds.paths_are ∙ ap paths_of r.reads.held_is ∙ sym (append-nil (paths_of r.files))) });
 }

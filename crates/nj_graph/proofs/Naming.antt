@@ -6,19 +6,20 @@ use Rattle.nj_text.specs.declared.spot.Spot.{Spot}
 use Rattle.nj_text.specs.declared.fault.UnitFault.TheVariants as lex
 use Rattle.nj_manifest.specs.Faults as text
 use Rattle.nj_manifest.specs.Statements.{StatementText, BindingText, RuleText, PoolText, BuildText, DefaultText, IncludeText, SubninjaText, LineText, PlacedText}
-use Rattle.nj_scope.specs.Readings.{Reading, EachPathOnce}
+use Rattle.nj_scope.specs.Readings.{Reading, EachPathOnce, IsPrefix, paths_of}
 use Rattle.nj_scope.specs.Scopes.{IsScope, outermost, child}
 use Rattle.nj_scope.specs.ScopesHeld.{ScopeText, parent_at}
 use Rattle.nj_scope.specs.Follows.{Follows}
 use Rattle.nj_scope.specs.ReadingList.{Entry, files_opened, opens_file}
+use Rattle.nj_scope.specs.Sources.{SourceState}
 use Rattle.nj_graph.specs.declared.fault.GraphFault.{GraphFault}
 use Rattle.nj_graph.specs.declared.reader.Reader.{Reader}
 use Rattle.nj_graph.specs.declared.fault.Place.{Place}
 use Rattle.nj_graph.specs.declared.fault.Cause.{Cause}
 use Rattle.nj_graph.specs.Faults.{fault_at, fault_in, no_memory}
 use Rattle.nj_graph.specs.Reading.{Site, entry_at, fault_if, or_then, depth_fault, own_fault, Whole, Refused, ReadingText, Opens, item_read, unless_fault, statement_read, opened_in, text_read, path_named, with_new, with_named, paths_read, path_at_fault, paths_come_to}
-use Rattle.nj_graph.specs.Runs.{SourceText, Saying, paths, Prefix, Stops}
-use Rattle.nj_graph.specs.Steps.{Holds, Grows, Stands, IsFault, ReadsOne, StopsAt, OpensText, OpensFile}
+use Rattle.nj_graph.specs.Runs.{IsRead, Stops}
+use Rattle.nj_graph.specs.ReaderContracts.{Holds, Grows, Stands, IsFault, ReadsOne, StopsAt, OpensText, OpensFile}
 use Rattle.nj_graph.proofs.Comes.{item-comes, statements-come}
 use Rattle.nj_graph.proofs.Tables.{read-nothing}
 
@@ -91,36 +92,39 @@ syntax-names file text.OutOfMemory = refl
 
 -- ---- a run that stops
 
-pub stops-same : (main : List ℕ) (said : Saying) (before after : SourceText) (old : List Reading) (first second : List Reading → ReadingText) (fault : GraphFault)
-    → ((all : List Reading) → second all ≡ first all) → StopsAt main said before after old first fault → StopsAt main said before after old second fault
-stops-same main said before after old first second fault same s = record { files = s.files; reads = s.reads; stops = by s.stops }
+pub stops-same : (main : List ℕ) (before after : SourceState) (old : List Reading) (first second : List Reading → ReadingText) (fault : GraphFault)
+    → ((all : List Reading) → second all ≡ first all) → StopsAt main before after old first fault → StopsAt main before after old second fault
+stops-same main before after old first second fault same s = record { files = s.files; reads = s.reads; stops = by s.stops }
   where
     by : Stops main before after s.files first fault → Stops main before after s.files second fault
-    by (inl m) = inl (record { answered = m.answered; came_to = λ all e. subst (λ r. Prefix (paths s.files) (paths_come_to main r)) (sym (same all)) (m.came_to all e) })
+    by (inl m) = inl (record { answered = m.answered; failures = m.failures; came_to = λ all e. subst (λ r. IsPrefix (paths_of s.files) (paths_come_to main r)) (sym (same all)) (m.came_to all e) })
     by (inr e) = inr (record { entries = e.entries; end = e.end; answered = e.answered; read = λ all ext lacks. same all ∙ e.read all ext lacks; came_to = e.came_to })
 
-module _ (main : List ℕ) (said : Saying) (before after : SourceText) (old : Reader) (entries : List Entry) (holds : Holds main old entries) (same : after.readings ≡ before.readings) where
+module _ (main : List ℕ) (before after : SourceState) (old : Reader) (entries : List Entry) (holds : Holds main old entries) (same : after ≡ before) where
+  read-no_more : IsRead before after old.files old.files
+  read-no_more = subst (λ source. IsRead before source old.files old.files) (sym same) (read-nothing before old.files holds.once)
+
   -- there was no memory, and nothing more was read
-  pub stops-memory : (reading : List Reading → ReadingText) (fault : GraphFault) → ((all : List Reading) → Prefix (paths_read main entries) (paths_come_to main (reading all))) → fault ≡ no_memory
-      → StopsAt main said before after old.files reading fault
+  pub stops-memory : (reading : List Reading → ReadingText) (fault : GraphFault) → ((all : List Reading) → IsPrefix (paths_read main entries) (paths_come_to main (reading all))) → fault ≡ no_memory
+      → StopsAt main before after old.files reading fault
   stops-memory reading fault comes none = record {
     files = old.files;
-    reads = read-nothing said before after old.files holds.once same;
-    stops = inl (record { answered = none; came_to = λ all e. subst (λ ps. Prefix ps (paths_come_to main (reading all))) (sym holds.paths_are) (comes all) });
+    reads = read-no_more;
+    stops = inl (record { answered = none; failures = ap (λ source. source.failures) same; came_to = λ all e. subst (λ ps. IsPrefix ps (paths_come_to main (reading all))) (sym holds.paths_are) (comes all) });
   }
 
   -- a fault before which nothing more was read
   pub stops-refused : (reading : List Reading → ReadingText) (fault : GraphFault) (expected : GraphFault) → ((all : List Reading) → reading all ≡ record { entries = entries; end = Refused expected }) → path_at_fault expected.cause ≡ [] → fault ≡ expected
-      → StopsAt main said before after old.files reading fault
+      → StopsAt main before after old.files reading fault
   stops-refused reading fault expected is none told = record {
     files = old.files;
-    reads = read-nothing said before after old.files holds.once same;
-    stops = inr (record { entries = entries; end = Refused expected; answered = told; read = λ all e lacks. is all; came_to = ap (with_named (paths_read main entries)) none ∙ sym holds.paths_are });
+    reads = read-no_more;
+    stops = inr (record { entries = entries; end = Refused expected; answered = (told, ap (λ source. source.failures) same); read = λ all e lacks. is all; came_to = ap (with_named (paths_read main entries)) none ∙ sym holds.paths_are });
   }
 
   -- a fault of a statement by itself
   pub stops-own : (left : ℕ) (site : Site) (s : PlacedText) (expected : Option GraphFault) (fault : GraphFault) → own_fault site entries s.spot s.item ≡ expected → IsFault expected fault
-      → StopsAt main said before after old.files (λ all. statement_read (opened_in all left) site entries s) fault
+      → StopsAt main before after old.files (λ all. statement_read (opened_in all left) site entries s) fault
   stops-own left site s expected fault is (inl none) = stops-memory (λ all. statement_read (opened_in all left) site entries s) fault (λ all. item-comes main all left site entries s) none
   stops-own left site s expected fault is (inr told) =
       stops-refused (λ all. statement_read (opened_in all left) site entries s) fault (fault) (λ all. ap (λ f. unless_fault f (opened_in all left) site entries s.item) (is ∙ told))
@@ -128,18 +132,18 @@ module _ (main : List ℕ) (said : Saying) (before after : SourceText) (old : Re
 
 -- ---- a file that is named
 
-module _ (main : List ℕ) (said : Saying) (before after : SourceText) (old mid held : Reader) (left : ℕ) (place : Place) (path : List ℕ) (entries : List Entry) (text : List ℕ) where
-  pub opens-file : (site : Site) (s : PlacedText) (inner : Site) → Holds main old entries → OpensText main said before after old mid left place path entries text → held.files ≡ mid.files → held.opened ≡ suc old.opened
+module _ (main : List ℕ) (before after : SourceState) (old mid held : Reader) (left : ℕ) (place : Place) (path : List ℕ) (entries : List Entry) (text : List ℕ) where
+  pub opens-file : (site : Site) (s : PlacedText) (inner : Site) → Holds main old entries → OpensText main before after old mid left place path entries text → held.files ≡ mid.files → held.opened ≡ suc old.opened
       → Follows held.declared (entry_at site s.item ∷ entries) → opens_file s.item ≡ 1 → inner.file ≡ path → path_named (entry_at site s.item) entries s.item ≡ path ∷ []
       → ((opens : Opens) → statement_read opens site entries s ≡ opens inner place (entry_at site s.item) entries)
-      → OpensFile main said before after old held left inner text (entry_at site s.item) entries (λ all. statement_read (opened_in all left) site entries s)
+      → OpensFile main before after old held left inner text (entry_at site s.item) entries (λ all. statement_read (opened_in all left) site entries s)
   opens-file site s inner holds o files opened follows one is names read = record {
     files = o.files;
-    reads = record { reads = o.reads.reads; held_is = files ∙ o.reads.held_is; no_failure = o.reads.no_failure };
+    reads = record { reads = o.reads.reads; held_is = files ∙ o.reads.held_is; failures = o.reads.failures };
     holds = record {
       follows = follows;
       opened = opened ∙ ap suc holds.opened ∙ sym (add-one (files_opened entries)) ∙ ap (λ n. files_opened entries + n) (sym one);
-      paths_are = ap paths (files ∙ o.reads.held_is) ∙ o.came_to ∙ ap (λ ps. with_new ps path) holds.paths_are ∙ ap (with_named (paths_read main entries)) (sym names);
+      paths_are = ap paths_of (files ∙ o.reads.held_is) ∙ o.came_to ∙ ap (λ ps. with_new ps path) holds.paths_are ∙ ap (with_named (paths_read main entries)) (sym names);
       once = subst EachPathOnce (sym (files ∙ o.reads.held_is)) o.reads.reads.once;
     };
     within = o.within;
@@ -148,31 +152,31 @@ module _ (main : List ℕ) (said : Saying) (before after : SourceText) (old mid 
   }
 
   -- there was no memory for the scope of a file that is open
-  pub stops-open : (site : Site) (s : PlacedText) (inner : Site) (fault : GraphFault) → Holds main old entries → OpensText main said before after old mid left place path entries text
+  pub stops-open : (site : Site) (s : PlacedText) (inner : Site) (fault : GraphFault) → Holds main old entries → OpensText main before after old mid left place path entries text
       → inner.file ≡ path → path_named (entry_at site s.item) entries s.item ≡ path ∷ []
       → ((opens : Opens) → statement_read opens site entries s ≡ opens inner place (entry_at site s.item) entries)
       → fault ≡ no_memory
-      → StopsAt main said before after old.files (λ all. statement_read (opened_in all left) site entries s) fault
+      → StopsAt main before after old.files (λ all. statement_read (opened_in all left) site entries s) fault
   stops-open site s inner fault holds o is names read none = record {
     files = o.files;
     reads = o.reads.reads;
-    stops = inl (record { answered = none; came_to = λ all e. subst (λ r. Prefix (paths o.files) (paths_come_to main r)) (sym (read (opened_in all left) ∙ o.read inner (entry_at site s.item) all is e)) (comes all) });
+    stops = inl (record { answered = none; failures = o.reads.failures; came_to = λ all e. subst (λ r. IsPrefix (paths_of o.files) (paths_come_to main r)) (sym (read (opened_in all left) ∙ o.read inner (entry_at site s.item) all is e)) (comes all) });
   }
     where
-      listed : paths_read main (entry_at site s.item ∷ entries) ≡ paths o.files
+      listed : paths_read main (entry_at site s.item ∷ entries) ≡ paths_of o.files
       listed = ap (with_named (paths_read main entries)) names ∙ ap (λ ps. with_new ps path) (sym holds.paths_are) ∙ sym o.came_to
 
-      comes : (all : List Reading) → Prefix (paths o.files) (paths_come_to main (text_read (opened_in all o.within) inner text (entry_at site s.item ∷ entries)))
-      comes all = subst (λ ps. Prefix ps (paths_come_to main (text_read (opened_in all o.within) inner text (entry_at site s.item ∷ entries)))) listed (statements-come main all o.within inner _ _ (entry_at site s.item ∷ entries))
+      comes : (all : List Reading) → IsPrefix (paths_of o.files) (paths_come_to main (text_read (opened_in all o.within) inner text (entry_at site s.item ∷ entries)))
+      comes all = subst (λ ps. IsPrefix ps (paths_come_to main (text_read (opened_in all o.within) inner text (entry_at site s.item ∷ entries)))) listed (statements-come main all o.within inner _ _ (entry_at site s.item ∷ entries))
 
 -- ---- a statement that names none
 
-pub reads-one : (main : List ℕ) (said : Saying) (told : SourceText) (old held : Reader) (site : Site) (entries : List Entry) (s : PlacedText)
+pub reads-one : (main : List ℕ) (source : SourceState) (old held : Reader) (site : Site) (entries : List Entry) (s : PlacedText)
     → Holds main old entries → Holds main held (entry_at site s.item ∷ entries) → own_fault site entries s.spot s.item ≡ None → held.files ≡ old.files
     → ((opens : Opens) → item_read opens site entries s.item ≡ record { entries = entry_at site s.item ∷ entries; end = Whole })
-    → ReadsOne main said told told old held site entries s
-reads-one main said told old held site entries s holds after none files reads = record {
-  reads = record { reads = read-nothing said told told old.files holds.once refl; held_is = files; no_failure = refl };
+    → ReadsOne main source source old held site entries s
+reads-one main source old held site entries s holds after none files reads = record {
+  reads = record { reads = read-nothing source old.files holds.once; held_is = files; failures = refl };
   holds = after;
   read = λ opens. ap (λ f. unless_fault f opens site entries s.item) none ∙ reads opens;
 }

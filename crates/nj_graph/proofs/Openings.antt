@@ -1,10 +1,12 @@
 -- A path that a statement names, and how its file is opened.
 use Rattle.std.proofs.Common.{inl, inr, ◌≡◌, ◌⊎◌, ℕ, zero, suc, ◌<◌, ◌≤◌, true, false, Option, Some, None, is_some, Result, Ok, Err, List, [], ◌∷◌, refl, sym, ap, subst, ◌∙◌, true≢false}
+use Rattle.std.specs.Global.{Global}
 use Rattle.std.specs.Result.{IsErrAnd}
 use Rattle.std.specs.declared.rc.RcSlice.{RcSlice}
 use Rattle.std.proofs.lemmas.Bool.{lt-ltb, le-ltb}
-use Rattle.nj_scope.specs.Readings.{Reading, EachPathOnce, reading_of, is_read}
+use Rattle.nj_scope.specs.Readings.{Reading, EachPathOnce, reading_of, is_read, IsPrefix, paths_of}
 use Rattle.nj_scope.specs.ReadingList.{Entry, files_opened}
+use Rattle.nj_scope.specs.Sources.{SourceState}
 use Rattle.nj_graph.specs.declared.fault.GraphFault.{GraphFault}
 use Rattle.nj_graph.specs.declared.reader.Reader.{Reader}
 use Rattle.nj_graph.specs.declared.fault.Place.{Place}
@@ -12,8 +14,9 @@ use Rattle.nj_graph.specs.declared.fault.Cause.{Cause}
 use Rattle.nj_graph.specs.declared.fault.Cause.TheVariants.{Missing, TooDeep, TooManyOpenings}
 use Rattle.nj_graph.specs.Faults.{no_memory}
 use Rattle.nj_graph.specs.Reading.{Site, Refused, Lacking, most_opened, stopped, answer_read, if_room, opened_in, path_named, with_new, with_named, paths_read, path_at_fault, paths_come_to}
-use Rattle.nj_graph.specs.Runs.{SourceText, Saying, paths, Prefix}
-use Rattle.nj_graph.specs.Steps.{IsFault, Finds, FindsNone, CannotTell, HasNoMemory, StopsAt, OpensText, OpensPath}
+use Rattle.nj_graph.specs.ReaderContracts.{IsFault, StopsAt, OpensText, OpensPath}
+use Rattle.nj_graph.specs.Runs.{IsRead}
+use Rattle.nj_graph.proofs.Found.{Finds, FindsNone, CannotTell, HasNoMemory}
 use Rattle.nj_graph.proofs.Tables.{reading-kept, with_new-other, read-nothing}
 use Rattle.nj_graph.proofs.Comes.{opened-comes, opened-names}
 
@@ -46,48 +49,48 @@ module _ (all : List Reading) (inner : Site) (place : Place) (e : Entry) (entrie
 
 -- ---- how a run stops there
 
-module _ (main : List ℕ) (said : Saying) (before after : SourceText) (old : List Reading) (place : Place) (path : List ℕ) (entries : List Entry) where
+module _ (main : List ℕ) (before after : SourceState) (old : List Reading) (place : Place) (path : List ℕ) (entries : List Entry) where
   -- the run stops, where the file is that of the path and the statement names it
   abbrev pub StopsHere : (left : ℕ) → GraphFault → Type 0
-  StopsHere left f = (inner : Site) (e : Entry) → inner.file ≡ path → path_named e entries e.item ≡ path ∷ [] → StopsAt main said before after old (λ all. opened_in all left inner place e entries) f
+  StopsHere left f = (inner : Site) (e : Entry) → inner.file ≡ path → path_named e entries e.item ≡ path ∷ [] → StopsAt main before after old (λ all. opened_in all left inner place e entries) f
 
-  module _ (paths_are : paths old ≡ paths_read main entries) where
-    comes : (files : List Reading) → paths files ≡ paths old → (all : List Reading) (left : ℕ) (inner : Site) (e : Entry) → Prefix (paths files) (paths_come_to main (opened_in all left inner place e entries))
+  module _ (paths_are : paths_of old ≡ paths_read main entries) where
+    comes : (files : List Reading) → paths_of files ≡ paths_of old → (all : List Reading) (left : ℕ) (inner : Site) (e : Entry) → IsPrefix (paths_of files) (paths_come_to main (opened_in all left inner place e entries))
     comes files same all left inner e =
-        subst (λ front. Prefix front (paths_come_to main (opened_in all left inner place e entries))) (sym (same ∙ paths_are)) (opened-comes main all left inner place e entries)
+        subst (λ front. IsPrefix front (paths_come_to main (opened_in all left inner place e entries))) (sym (same ∙ paths_are)) (opened-comes main all left inner place e entries)
 
-    names : (files : List Reading) → paths files ≡ with_new (paths old) path → (all : List Reading) (within : ℕ) (inner : Site) (e : Entry) → inner.file ≡ path → path_named e entries e.item ≡ path ∷ [] → files_opened entries < most_opened
-        → Prefix (paths files) (paths_come_to main (opened_in all (suc within) inner place e entries))
+    names : (files : List Reading) → paths_of files ≡ with_new (paths_of old) path → (all : List Reading) (within : ℕ) (inner : Site) (e : Entry) → inner.file ≡ path → path_named e entries e.item ≡ path ∷ [] → files_opened entries < most_opened
+        → IsPrefix (paths_of files) (paths_come_to main (opened_in all (suc within) inner place e entries))
     names files came_to all within inner e same named room =
-        subst (λ front. Prefix front (paths_come_to main (opened_in all (suc within) inner place e entries)))
+        subst (λ front. IsPrefix front (paths_come_to main (opened_in all (suc within) inner place e entries)))
         (ap (with_new (paths_read main entries)) same ∙ ap (λ before. with_new before path) (sym paths_are) ∙ sym came_to)
         (opened-names main all within inner place e entries (named ∙ ap (λ p. p ∷ []) (sym same)) (lt-ltb (files_opened entries) most_opened room))
 
     -- there is no memory for the answer
-    pub stops-lacking : (left : ℕ) → EachPathOnce old → after.readings ≡ before.readings → (f : GraphFault) → f ≡ no_memory → StopsHere left f
-    stops-lacking left once not_told f answered inner e same named = record {
+    pub stops-lacking : (left : ℕ) → EachPathOnce old → after ≡ before → (f : GraphFault) → f ≡ no_memory → StopsHere left f
+    stops-lacking left once stays f answered inner e same named = record {
       files = old;
-      reads = read-nothing said before after old once not_told;
-      stops = inl (record { answered = answered; came_to = λ all is. comes old refl all left inner e });
+      reads = subst (λ source. IsRead before source old old) (sym stays) (read-nothing before old once);
+      stops = inl (record { answered = answered; failures = ap (λ source. source.failures) stays; came_to = λ all is. comes old refl all left inner e });
     }
 
     -- no more files may be open, or opened
     stops-refused : (left : ℕ) (cause : Cause) → ((before : List (List ℕ)) → with_named before (path_at_fault cause) ≡ before)
         → ((all : List Reading) (inner : Site) (e : Entry) → opened_in all left inner place e entries ≡ stopped entries place cause)
-        → EachPathOnce old → after.readings ≡ before.readings → (f : GraphFault) → f ≡ record { place = Some place; cause = cause } → StopsHere left f
-    stops-refused left cause none read once not_told f answered inner e same named = record {
+        → EachPathOnce old → after ≡ before → (f : GraphFault) → f ≡ record { place = Some place; cause = cause } → StopsHere left f
+    stops-refused left cause none read once stays f answered inner e same named = record {
       files = old;
-      reads = read-nothing said before after old once not_told;
+      reads = subst (λ source. IsRead before source old old) (sym stays) (read-nothing before old once);
       stops = inr (record {
         entries = entries;
         end = Refused (record { place = Some place; cause = cause });
-        answered = answered;
+        answered = (answered, ap (λ source. source.failures) stays);
         read = λ all is lacking. read all inner e;
         came_to = none (paths_read main entries) ∙ sym paths_are;
       });
     }
 
-    pub stops-closed : (left : ℕ) → left ≡ 0 → EachPathOnce old → after.readings ≡ before.readings → (f : GraphFault) → f ≡ record { place = Some place; cause = TooDeep } → StopsHere left f
+    pub stops-closed : (left : ℕ) → left ≡ 0 → EachPathOnce old → after ≡ before → (f : GraphFault) → f ≡ record { place = Some place; cause = TooDeep } → StopsHere left f
     stops-closed left closed =
         stops-refused left TooDeep (λ before. refl) (λ all inner e. ap (λ n. opened_in all n inner place e entries) closed ∙ opened-closed all inner place e entries)
 
@@ -95,31 +98,31 @@ module _ (main : List ℕ) (said : Saying) (before after : SourceText) (old : Li
       at_left : (all : List Reading) (inner : Site) (e : Entry) → opened_in all left inner place e entries ≡ opened_in all (suc within) inner place e entries
       at_left all inner e = ap (λ n. opened_in all n inner place e entries) left_is
 
-      pub stops-full : most_opened ≤ files_opened entries → EachPathOnce old → after.readings ≡ before.readings → (f : GraphFault) → f ≡ record { place = Some place; cause = TooManyOpenings } → StopsHere left f
+      pub stops-full : most_opened ≤ files_opened entries → EachPathOnce old → after ≡ before → (f : GraphFault) → f ≡ record { place = Some place; cause = TooManyOpenings } → StopsHere left f
       stops-full full = stops-refused left TooManyOpenings (λ before. refl) (λ all inner e. at_left all inner e ∙ opened-full all inner place e entries within full)
 
       module _ (room : files_opened entries < most_opened) where
         -- there was no memory to find the file
-        stops-no_memory : (f : GraphFault) → HasNoMemory said before after old path f → StopsHere left f
+        stops-no_memory : (f : GraphFault) → HasNoMemory before after old path f → StopsHere left f
         stops-no_memory f lacks inner e same named = record {
           files = lacks.files;
           reads = lacks.reads;
-          stops = inl (record { answered = lacks.answered; came_to = λ all is. by_paths all lacks.came_to });
+          stops = inl (record { answered = lacks.answered; failures = lacks.failures; came_to = λ all is. by_paths all lacks.came_to });
         }
           where
-            by_paths : (all : List Reading) → (paths lacks.files ≡ paths old) ⊎ ((paths lacks.files ≡ with_new (paths old) path) × (is_read lacks.files path ≡ true)) → Prefix (paths lacks.files) (paths_come_to main (opened_in all left inner place e entries))
+            by_paths : (all : List Reading) → (paths_of lacks.files ≡ paths_of old) ⊎ ((paths_of lacks.files ≡ with_new (paths_of old) path) × (is_read lacks.files path ≡ true)) → IsPrefix (paths_of lacks.files) (paths_come_to main (opened_in all left inner place e entries))
             by_paths all (inl old_paths) = comes lacks.files old_paths all left inner e
-            by_paths all (inr new) = subst (λ n. Prefix (paths lacks.files) (paths_come_to main (opened_in all n inner place e entries))) (sym left_is) (names lacks.files new.0 all within inner e same named room)
+            by_paths all (inr new) = subst (λ n. IsPrefix (paths_of lacks.files) (paths_come_to main (opened_in all n inner place e entries))) (sym left_is) (names lacks.files new.0 all within inner e same named room)
 
         -- the source failed
-        stops-cannot_tell : (f : GraphFault) → CannotTell said before after old place path f → StopsHere left f
+        stops-cannot_tell : (f : GraphFault) → CannotTell before after old place path f → StopsHere left f
         stops-cannot_tell f failed inner e same named = record {
           files = old;
           reads = failed.reads;
           stops = inr (record {
             entries = entries;
             end = Lacking path place;
-            answered = (failed.answered, failed.failed);
+            answered = (failed.answered, failed.failures);
             read = λ all is lacking.
                 at_left all inner e
                 ∙ opened-answered all inner place e entries within None room (ap (reading_of all) same ∙ absent (reading_of all path) lacking)
@@ -129,14 +132,14 @@ module _ (main : List ℕ) (said : Saying) (before after : SourceText) (old : Li
         }
 
         -- no file is there
-        stops-none : (f : GraphFault) → FindsNone said before after old place path f → StopsHere left f
+        stops-none : (f : GraphFault) → FindsNone before after old place path f → StopsHere left f
         stops-none f none inner e same named = record {
           files = none.files;
           reads = none.reads;
           stops = inr (record {
             entries = entries;
             end = Refused (record { place = Some place; cause = Missing path });
-            answered = none.answered;
+            answered = (none.answered, none.failures);
             read = λ all is lacking.
                 at_left all inner e
                 ∙ opened-answered all inner place e entries within _ room (ap (reading_of all) same ∙ reading-kept path _ all none.files is none.found)
@@ -145,16 +148,16 @@ module _ (main : List ℕ) (said : Saying) (before after : SourceText) (old : Li
           });
         }
 
-        pub stops-unfound : (f : GraphFault) → HasNoMemory said before after old path f ⊎ (CannotTell said before after old place path f ⊎ FindsNone said before after old place path f) → StopsHere left f
+        pub stops-unfound : (f : GraphFault) → HasNoMemory before after old path f ⊎ (CannotTell before after old place path f ⊎ FindsNone before after old place path f) → StopsHere left f
         stops-unfound f (inl lacks) = stops-no_memory f lacks
         stops-unfound f (inr (inl failed)) = stops-cannot_tell f failed
         stops-unfound f (inr (inr none)) = stops-none f none
 
 -- ---- a file that is open
 
-pub opens-text : (main : List ℕ) (said : Saying) (before after : SourceText) (old held : Reader) (left within : ℕ) (place : Place) (path : List ℕ) (entries : List Entry) (text : List ℕ) → left ≡ suc within → files_opened entries < most_opened
-    → Finds said before after old.files held.files path text → OpensText main said before after old held left place path entries text
-opens-text main said before after old held left within place path entries text left_is room found = record {
+pub opens-text : (main : List ℕ) (before after : SourceState) (old held : Reader) (left within : ℕ) (place : Place) (path : List ℕ) (entries : List Entry) (text : List ℕ) → left ≡ suc within → files_opened entries < most_opened
+    → Finds before after old.files held.files path text → OpensText main before after old held left place path entries text
+opens-text main before after old held left within place path entries text left_is room found = record {
   files = found.files;
   reads = found.reads;
   came_to = found.came_to;
@@ -166,13 +169,13 @@ opens-text main said before after old held left within place path entries text l
 }
 
 -- what is answered where the run stops
-module _ {Z : Type 0} (main : List ℕ) (said : Saying) (before after : SourceText) (old held : Reader) (left : ℕ) (place : Place) (path : List ℕ) (entries : List Entry) where
-  pub opens-fault : (result : Result (RcSlice ℕ Z) GraphFault) (P : GraphFault → Type 0)
-      → IsErrAnd result P → ((f : GraphFault) → P f → StopsHere main said before after old.files place path entries left f) → OpensPath main said before after old held left place path entries result
+module _ (main : List ℕ) (before after : SourceState) (old held : Reader) (left : ℕ) (place : Place) (path : List ℕ) (entries : List Entry) where
+  pub opens-fault : (result : Result (RcSlice ℕ Global) GraphFault) (P : GraphFault → Type 0)
+      → IsErrAnd result P → ((f : GraphFault) → P f → StopsHere main before after old.files place path entries left f) → OpensPath main before after old held left place path entries result
   opens-fault (Ok text) P h stops = absurd h
   opens-fault (Err f) P h stops = stops f h
 
-  pub opens-same_fault : (result : Result (RcSlice ℕ Z) GraphFault) (fault : GraphFault)
-      → IsErrAnd result (λ f. f ≡ fault) → StopsHere main said before after old.files place path entries left fault → OpensPath main said before after old held left place path entries result
+  pub opens-same_fault : (result : Result (RcSlice ℕ Global) GraphFault) (fault : GraphFault)
+      → IsErrAnd result (λ f. f ≡ fault) → StopsHere main before after old.files place path entries left fault → OpensPath main before after old held left place path entries result
   opens-same_fault result fault h stops =
-      opens-fault result (λ f. f ≡ fault) h (λ f same. subst (λ x. StopsHere main said before after old.files place path entries left x) (sym same) stops)
+      opens-fault result (λ f. f ≡ fault) h (λ f same. subst (λ x. StopsHere main before after old.files place path entries left x) (sym same) stops)

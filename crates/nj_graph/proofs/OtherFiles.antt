@@ -3,13 +3,13 @@ use Rattle.std.proofs.Common.{◌≡◌, ℕ, zero, suc, Bool, true, false, nat_
 use Rattle.nj_manifest.specs.Faults.{Fault}
 use Rattle.nj_manifest.specs.Statements.{StatementText, BindingText, RuleText, PoolText, BuildText, DefaultText, IncludeText, SubninjaText, PlacedText}
 use Rattle.nj_scope.specs.Readings as table
-use Rattle.nj_scope.specs.Readings.{reading_of, is_read}
+use Rattle.nj_scope.specs.Readings.{reading_of, is_read, IsPrefix}
 use Rattle.nj_scope.specs.ReadingList.{Entry, files_opened}
 use Rattle.nj_graph.specs.declared.fault.Place.{Place}
 use Rattle.nj_graph.specs.declared.fault.GraphFault.{GraphFault}
 use Rattle.nj_graph.specs.Statements.{said}
 use Rattle.nj_graph.specs.Reading.{Site, own_fault, End, Whole, Refused, Lacking, ReadingText, and_then, Opens, item_read, unless_fault, statement_read, statements_read, found_read, answer_read, if_room, most_opened, most_within, opened_in, main_site, main_read}
-use Rattle.nj_graph.specs.Runs.{Extends, IsLacking}
+use Rattle.nj_graph.specs.Runs.{IsLacking}
 use Rattle.nj_graph.specs.Laws.{OthersAreNotRead}
 use Rattle.nj_graph.proofs.Tables.{reading-kept}
 
@@ -58,7 +58,7 @@ statements-same all few more same site (s ∷ others) fault before =
     and_then-same all (statement_read few site before s) (statement_read more site before s) (λ entries. statements_read few site others fault entries) (λ entries. statements_read more site others fault entries)
     (statement-same all few more same site before s) (statements-same all few more same site others fault)
 
-answer-same : (files all : List table.Reading) (few more : Opens) → Extends all files → SameOpens all few more → (site : Site) (place : Place) (entries before : List Entry)
+answer-same : (files all : List table.Reading) (few more : Opens) → IsPrefix files all → SameOpens all few more → (site : Site) (place : Place) (entries before : List Entry)
     → SameReading all (answer_read few site place entries before (reading_of files site.file)) (answer_read more site place entries before (reading_of all site.file))
 answer-same files all few more extends same site place entries before = by (reading_of files site.file) refl
   where
@@ -74,7 +74,7 @@ answer-same files all few more extends same site place entries before = by (read
     by None is = λ lacks. ap (λ r. answer_read more site place entries before r) (none (reading_of all site.file) lacks)
     by (Some r) is = λ lacks. ap (λ r. answer_read more site place entries before r) (reading-kept site.file r all files extends is) ∙ found r.bytes lacks
 
-opened-same : (files all : List table.Reading) → Extends all files → (left : ℕ) → SameOpens all (opened_in files left) (opened_in all left)
+opened-same : (files all : List table.Reading) → IsPrefix files all → (left : ℕ) → SameOpens all (opened_in files left) (opened_in all left)
 unfolding opened_in
 opened-same files all extends zero = λ site place e before lacks. refl
 opened-same files all extends (suc left) = λ site place e before. by site place e before (nat_lt (files_opened before) most_opened) (opened-same files all extends left)

@@ -1,5 +1,5 @@
 -- The turns of reading a text: the next statement, the file that it names, and what stands behind it.
-use Rattle.std.proofs.Common.{◌≡◌, ℕ, ◌-◌, ◌^◌, ◌<◌, inl, inr, Option, Some, None, Result, Ok, Err, List, ◌∷◌, refl, sym, ap, subst, ◌∙◌, arith}
+use Rattle.std.proofs.Common.{◌≡◌, ℕ, ◌-◌, ◌<◌, inl, inr, Option, Some, None, Result, Ok, Err, List, ◌∷◌, refl, sym, ap, subst, ◌∙◌, arith}
 use Rattle.std.specs.Prelude.{⊤}
 use Rattle.nj_text.specs.Lines.{Line}
 use Rattle.nj_manifest.specs.Faults.{Fault}
@@ -10,16 +10,17 @@ use Rattle.nj_manifest.specs.Statements.{PlacedText, next_statement, Left, Lines
 use Rattle.nj_manifest.proofs.Starts.{ahead}
 use Rattle.nj_manifest.proofs.Consumed.{statement_takes}
 use Rattle.nj_scope.specs.ScopesHeld.{ScopeText}
-use Rattle.nj_scope.specs.Readings.{Reading}
+use Rattle.nj_scope.specs.Readings.{Reading, IsPrefix, paths_of}
 use Rattle.nj_scope.specs.ReadingList.{Entry}
+use Rattle.nj_scope.specs.Sources.{SourceState, Rises}
 use Rattle.nj_graph.specs.declared.fault.GraphFault.{GraphFault}
 use Rattle.nj_graph.specs.declared.reader.Reader.{Reader}
 use Rattle.nj_graph.specs.Faults.{fault_in, no_memory}
 use Rattle.nj_graph.specs.Statements.{Said, said, said_in, said_first}
 use Rattle.nj_graph.specs.Reading as reading
 use Rattle.nj_graph.specs.Reading.{Site, End, Whole, Lacking, ReadingText, Opens, go_on, and_then, opened_in, statement_read, statements_read, text_read, end_by, with_named, paths_read, path_at_fault, paths_come_to}
-use Rattle.nj_graph.specs.Runs.{SourceText, Saying, IsRead, IsEnd, paths, Extends, Prefix, Stops}
-use Rattle.nj_graph.specs.Steps.{Holds, Grows, ReadsAll, StopsAt, OpensFile, ReadsText, Reads, NextOf, NextIs}
+use Rattle.nj_graph.specs.Runs.{IsRead, IsEnd, Stops}
+use Rattle.nj_graph.specs.ReaderContracts.{Holds, Grows, ReadsAll, StopsAt, OpensFile, ReadsText, Reads, NextOf, NextIs}
 use Rattle.nj_graph.proofs.Comes.{and_then-comes, statements-come}
 use Rattle.nj_graph.proofs.Tables.{extends-trans, read-extends, reads-then, reads-all-then}
 use Rattle.nj_graph.proofs.SaidLemmas.{said-step, said-end, said-fault}
@@ -33,70 +34,70 @@ IsStopped Whole = ⊥
 IsStopped (reading.Refused fault) = ⊤
 IsStopped (Lacking path place) = ⊤
 
-is-stopped : (before after : SourceText) (end : End) (fault : GraphFault) → IsEnd before after end fault → IsStopped end
+is-stopped : (before after : SourceState) (end : End) (fault : GraphFault) → IsEnd before after end fault → IsStopped end
 is-stopped before after Whole fault h = h
 is-stopped before after (reading.Refused expected) fault h = tt
 is-stopped before after (Lacking path place) fault h = tt
 
-is-end-before : (before mid after : SourceText) (end : End) (fault : GraphFault) → mid.failures ≡ before.failures → IsEnd mid after end fault → IsEnd before after end fault
+is-end-before : (before mid after : SourceState) (end : End) (fault : GraphFault) → mid.failures ≡ before.failures → IsEnd mid after end fault → IsEnd before after end fault
 is-end-before before mid after Whole fault same h = h
-is-end-before before mid after (reading.Refused expected) fault same h = h
-is-end-before before mid after (Lacking path place) fault same h = (h.0, subst (λ n. n < 2 ^ 64 - 1 → n < after.failures) same h.1)
+is-end-before before mid after (reading.Refused expected) fault same h = (h.0, h.1 ∙ same)
+is-end-before before mid after (Lacking path place) fault same h = (h.0, subst (λ n. Rises n after.failures) same h.1)
 
 -- a reading passes on how another one stops
 pub record Passes (main : List ℕ) (files : List Reading) (inner outer : List Reading → ReadingText) : Type 0 where
-  pub comes : (all : List Reading) → Extends all files → (front : List (List ℕ)) → Prefix front (paths_come_to main (inner all)) → Prefix front (paths_come_to main (outer all))
-  pub ends : (all : List Reading) → Extends all files → (entries : List Entry) (end : End) → IsStopped end → inner all ≡ record { entries = entries; end = end } → outer all ≡ record { entries = entries; end = end }
+  pub comes : (all : List Reading) → IsPrefix files all → (front : List (List ℕ)) → IsPrefix front (paths_come_to main (inner all)) → IsPrefix front (paths_come_to main (outer all))
+  pub ends : (all : List Reading) → IsPrefix files all → (entries : List Entry) (end : End) → IsStopped end → inner all ≡ record { entries = entries; end = end } → outer all ≡ record { entries = entries; end = end }
 
-module _ (main : List ℕ) (said said2 : Saying) (before mid after : SourceText) (old files held : List Reading) (inner outer : List Reading → ReadingText) (reads : ReadsAll said before mid old files held) (same : (p : List ℕ) → said2 p ≡ said p) (passes : Passes main files inner outer) where
-  pub stops-behind : (fault : GraphFault) → StopsAt main said2 mid after held inner fault → StopsAt main said before after old outer fault
-  stops-behind fault s = record { files = s.files; reads = reads-then said said2 before mid after old files s.files reads.reads there same; stops = by s.stops }
+module _ (main : List ℕ) (before mid after : SourceState) (old files held : List Reading) (inner outer : List Reading → ReadingText) (reads : ReadsAll before mid old files held) (passes : Passes main files inner outer) where
+  pub stops-then : (fault : GraphFault) → StopsAt main mid after held inner fault → StopsAt main before after old outer fault
+  stops-then fault s = record { files = s.files; reads = reads-then before mid after old files s.files reads.reads there; stops = by s.stops }
     where
-      there : IsRead said2 mid after files s.files
-      there = subst (λ fs. IsRead said2 mid after fs s.files) reads.held_is s.reads
+      there : IsRead mid after files s.files
+      there = subst (λ fs. IsRead mid after fs s.files) reads.held_is s.reads
 
-      within : (all : List Reading) → Extends all s.files → Extends all files
-      within all e = extends-trans all s.files files e (read-extends said2 mid after files s.files there)
+      within : (all : List Reading) → IsPrefix s.files all → IsPrefix files all
+      within all e = extends-trans all s.files files e (read-extends mid after files s.files there)
 
       by : Stops main mid after s.files inner fault → Stops main before after s.files outer fault
-      by (inl m) = inl (record { answered = m.answered; came_to = λ all e. passes.comes all (within all e) (paths s.files) (m.came_to all e) })
+      by (inl m) = inl (record { answered = m.answered; failures = m.failures ∙ reads.failures; came_to = λ all e. passes.comes all (within all e) (paths_of s.files) (m.came_to all e) })
       by (inr e) = inr (record {
         entries = e.entries;
         end = e.end;
-        answered = is-end-before before mid after e.end fault reads.no_failure e.answered;
+        answered = is-end-before before mid after e.end fault reads.failures e.answered;
         read = λ all ext lacks. passes.ends all (within all ext) e.entries e.end (is-stopped mid after e.end fault e.answered) (e.read all ext lacks);
         came_to = e.came_to;
       })
 
 -- ---- the file that a statement names
 
-module _ (main : List ℕ) (said said2 : Saying) (before mid after : SourceText) (old opened held : Reader) (left : ℕ) (inner : Site) (text : List ℕ) (e : Entry) (entries : List Entry) (outer : List Reading → ReadingText) where
-  pub reads-named : OpensFile main said before mid old opened left inner text e entries outer → ((p : List ℕ) → said2 p ≡ said p) → (result : Result (Unit {0}) GraphFault)
-      → Reads main said2 mid after opened held (λ all. text_read (opened_in all (left - 1)) inner text (e ∷ entries)) result
-      → Reads main said before after old held outer result
-  reads-named o same (Ok done) r = record {
+module _ (main : List ℕ) (before mid after : SourceState) (old opened held : Reader) (left : ℕ) (inner : Site) (text : List ℕ) (e : Entry) (entries : List Entry) (outer : List Reading → ReadingText) where
+  pub reads-named : OpensFile main before mid old opened left inner text e entries outer → (result : Result (Unit {0}) GraphFault)
+      → Reads main mid after opened held (λ all. text_read (opened_in all (left - 1)) inner text (e ∷ entries)) result
+      → Reads main before after old held outer result
+  reads-named o (Ok done) r = record {
     files = r.files;
-    reads = reads-all-then said said2 before mid after old.files o.files r.files opened.files held.files o.reads (subst (λ fs. ReadsAll said2 mid after fs r.files held.files) o.reads.held_is r.reads) same;
+    reads = reads-all-then before mid after old.files o.files r.files opened.files held.files o.reads (subst (λ fs. ReadsAll mid after fs r.files held.files) o.reads.held_is r.reads);
     entries = r.entries;
     holds = r.holds;
-    read = λ all ext. is all (extends-trans all r.files o.files ext (read-extends said2 mid after o.files r.files (subst (λ fs. IsRead said2 mid after fs r.files) o.reads.held_is r.reads.reads))) ∙ r.read all ext;
+    read = λ all ext. is all (extends-trans all r.files o.files ext (read-extends mid after o.files r.files (subst (λ fs. IsRead mid after fs r.files) o.reads.held_is r.reads.reads))) ∙ r.read all ext;
   }
     where
       one-less : left - 1 ≡ o.within
       one-less = rw o.left_is (omega arith)
 
-      is : (all : List Reading) → Extends all o.files → outer all ≡ text_read (opened_in all (left - 1)) inner text (e ∷ entries)
+      is : (all : List Reading) → IsPrefix o.files all → outer all ≡ text_read (opened_in all (left - 1)) inner text (e ∷ entries)
       is all ext = o.read all ext ∙ ap (λ n. text_read (opened_in all n) inner text (e ∷ entries)) (sym one-less)
-  reads-named o same (Err fault) s =
-      stops-behind main said said2 before mid after old.files o.files opened.files (λ all. text_read (opened_in all (left - 1)) inner text (e ∷ entries)) outer o.reads same (record {
-        comes = λ all ext front h. subst (λ r. Prefix front (paths_come_to main r)) (sym (is all ext)) h;
+  reads-named o (Err fault) s =
+      stops-then main before mid after old.files o.files opened.files (λ all. text_read (opened_in all (left - 1)) inner text (e ∷ entries)) outer o.reads (record {
+        comes = λ all ext front h. subst (λ r. IsPrefix front (paths_come_to main r)) (sym (is all ext)) h;
         ends = λ all ext entries2 end stopped h. is all ext ∙ h;
       }) fault s
     where
       one-less : left - 1 ≡ o.within
       one-less = rw o.left_is (omega arith)
 
-      is : (all : List Reading) → Extends all o.files → outer all ≡ text_read (opened_in all (left - 1)) inner text (e ∷ entries)
+      is : (all : List Reading) → IsPrefix o.files all → outer all ≡ text_read (opened_in all (left - 1)) inner text (e ∷ entries)
       is all ext = o.read all ext ∙ ap (λ n. text_read (opened_in all n) inner text (e ∷ entries)) (sym one-less)
 
 -- ---- the statements of a text
@@ -106,21 +107,21 @@ lines_left (Lines ls) = ahead ls
 lines_left (Refused fault) = 0
 
 -- What was read is held, and what the text reads is what the lines that are left read from here on.
-pub record Underway (main : List ℕ) (said : Saying) (before after : SourceText) (old held : Reader) (left : ℕ) (site : Site) (text : List ℕ) (entries : List Entry) (lines : List Line) : Type 0 where
+pub record Underway (main : List ℕ) (before after : SourceState) (old held : Reader) (left : ℕ) (site : Site) (text : List ℕ) (entries : List Entry) (lines : List Line) : Type 0 where
   pub files : List Reading
-  pub reads : ReadsAll said before after old.files files held.files
+  pub reads : ReadsAll before after old.files files held.files
   pub now : List Entry
   pub holds : Holds main held now
   pub most : ℕ
   pub room : ahead lines < most
-  pub goes_on : (all : List Reading) → Extends all files → text_read (opened_in all left) site text entries ≡ statements_read (opened_in all left) site (said_in most lines).statements (said_in most lines).fault now
+  pub goes_on : (all : List Reading) → IsPrefix files all → text_read (opened_in all left) site text entries ≡ statements_read (opened_in all left) site (said_in most lines).statements (said_in most lines).fault now
 
-module _ (main : List ℕ) (said : Saying) (before after : SourceText) (old held : Reader) (left : ℕ) (site : Site) (text : List ℕ) (entries : List Entry) (lines : List Line) where
+module _ (main : List ℕ) (before after : SourceState) (old held : Reader) (left : ℕ) (site : Site) (text : List ℕ) (entries : List Entry) (lines : List Line) where
   abbrev reading_of_text : List Reading → ReadingText
   reading_of_text all = text_read (opened_in all left) site text entries
 
   -- the end of the text
-  pub ends-text : (rest : List Line) → Underway main said before after old held left site text entries lines → next_statement lines ≡ Ok (None, rest) → ReadsText main said before after old held reading_of_text
+  pub ends-text : (rest : List Line) → Underway main before after old held left site text entries lines → next_statement lines ≡ Ok (None, rest) → ReadsText main before after old held reading_of_text
   unfolding statements_read
   ends-text rest u h = record {
     files = u.files;
@@ -131,19 +132,19 @@ module _ (main : List ℕ) (said : Saying) (before after : SourceText) (old held
   }
 
   -- there was no memory for the next statement
-  pub ends-memory : (fault : GraphFault) → Underway main said before after old held left site text entries lines → fault ≡ no_memory → StopsAt main said before after old.files reading_of_text fault
+  pub ends-memory : (fault : GraphFault) → Underway main before after old held left site text entries lines → fault ≡ no_memory → StopsAt main before after old.files reading_of_text fault
   ends-memory fault u none = record {
     files = u.files;
     reads = u.reads.reads;
-    stops = inl (record { answered = none; came_to = λ all ext. subst (λ r. Prefix (paths u.files) (paths_come_to main r)) (sym (u.goes_on all ext)) (subst (λ ps. Prefix ps (paths_come_to main (statements_read (opened_in all left) site (said_in u.most lines).statements (said_in u.most lines).fault u.now))) listed (statements-come main all left site (said_in u.most lines).statements (said_in u.most lines).fault u.now)) });
+    stops = inl (record { answered = none; failures = u.reads.failures; came_to = λ all ext. subst (λ r. IsPrefix (paths_of u.files) (paths_come_to main r)) (sym (u.goes_on all ext)) (subst (λ ps. IsPrefix ps (paths_come_to main (statements_read (opened_in all left) site (said_in u.most lines).statements (said_in u.most lines).fault u.now))) listed (statements-come main all left site (said_in u.most lines).statements (said_in u.most lines).fault u.now)) });
   }
     where
-      listed : paths_read main u.now ≡ paths u.files
-      listed = sym u.holds.paths_are ∙ ap paths u.reads.held_is
+      listed : paths_read main u.now ≡ paths_of u.files
+      listed = sym u.holds.paths_are ∙ ap paths_of u.reads.held_is
 
   -- a fault of syntax
-  pub ends-fault : (fault : GraphFault) (found : Fault) → Underway main said before after old held left site text entries lines → next_statement lines ≡ Err found → fault ≡ fault_in site.file found
-      → StopsAt main said before after old.files reading_of_text fault
+  pub ends-fault : (fault : GraphFault) (found : Fault) → Underway main before after old held left site text entries lines → next_statement lines ≡ Err found → fault ≡ fault_in site.file found
+      → StopsAt main before after old.files reading_of_text fault
   unfolding statements_read
   ends-fault fault found u h told = record {
     files = u.files;
@@ -151,44 +152,44 @@ module _ (main : List ℕ) (said : Saying) (before after : SourceText) (old held
     stops = inr (record {
       entries = u.now;
       end = reading.Refused (fault_in site.file found);
-      answered = told;
+      answered = (told, u.reads.failures);
       read = λ all ext lacks. u.goes_on all ext ∙ ap (λ (s : Said). statements_read (opened_in all left) site s.statements s.fault u.now) (said-fault u.most lines found h u.room);
-      came_to = ap (with_named (paths_read main u.now)) (syntax-names site.file found) ∙ sym u.holds.paths_are ∙ ap paths u.reads.held_is;
+      came_to = ap (with_named (paths_read main u.now)) (syntax-names site.file found) ∙ sym u.holds.paths_are ∙ ap paths_of u.reads.held_is;
     });
   }
 
   -- ---- a statement
 
-  module _ (said2 : Saying) (last : SourceText) (later : Reader) (s : PlacedText) (rest : List Line) (same : (p : List ℕ) → said2 p ≡ said p) (next : next_statement lines ≡ Ok (Some s, rest)) where
+  module _ (last : SourceState) (later : Reader) (s : PlacedText) (rest : List Line) (next : next_statement lines ≡ Ok (Some s, rest)) where
     abbrev behind : (fewer : ℕ) → List Reading → List Entry → ReadingText
     behind fewer all es = statements_read (opened_in all left) site (said_in fewer rest).statements (said_in fewer rest).fault es
 
-    first : (u : Underway main said before after old held left site text entries lines) (fewer : ℕ) → said_in u.most lines ≡ said_first s (said_in fewer rest)
-        → (all : List Reading) → Extends all u.files → reading_of_text all ≡ and_then (statement_read (opened_in all left) site u.now s) (behind fewer all)
+    first : (u : Underway main before after old held left site text entries lines) (fewer : ℕ) → said_in u.most lines ≡ said_first s (said_in fewer rest)
+        → (all : List Reading) → IsPrefix u.files all → reading_of_text all ≡ and_then (statement_read (opened_in all left) site u.now s) (behind fewer all)
     unfolding statements_read
     first u fewer is all ext = u.goes_on all ext ∙ ap (λ (x : Said). statements_read (opened_in all left) site x.statements x.fault u.now) is
 
-    pub turn : (u : Underway main said before after old held left site text entries lines) → ReadsText main said2 after last held later (λ all. statement_read (opened_in all left) site u.now s)
-        → Underway main said before last old later left site text entries rest
+    pub turn : (u : Underway main before after old held left site text entries lines) → ReadsText main after last held later (λ all. statement_read (opened_in all left) site u.now s)
+        → Underway main before last old later left site text entries rest
     turn u r =
         let step = said-step u.most lines rest s next u.room in
-        let there = subst (λ fs. ReadsAll said2 after last fs r.files later.files) u.reads.held_is r.reads in
+        let there = subst (λ fs. ReadsAll after last fs r.files later.files) u.reads.held_is r.reads in
         record {
           files = r.files;
-          reads = reads-all-then said said2 before after last old.files u.files r.files held.files later.files u.reads there same;
+          reads = reads-all-then before after last old.files u.files r.files held.files later.files u.reads there;
           now = r.entries;
           holds = r.holds;
           most = step.0;
           room = step.2;
-          goes_on = λ all ext. first u step.0 step.1 all (extends-trans all r.files u.files ext (read-extends said2 after last u.files r.files there.reads)) ∙ ap (λ x. and_then x (behind step.0 all)) (r.read all ext);
+          goes_on = λ all ext. first u step.0 step.1 all (extends-trans all r.files u.files ext (read-extends after last u.files r.files there.reads)) ∙ ap (λ x. and_then x (behind step.0 all)) (r.read all ext);
         }
 
-    pub turn-stops : (fault : GraphFault) (u : Underway main said before after old held left site text entries lines) → StopsAt main said2 after last held.files (λ all. statement_read (opened_in all left) site u.now s) fault
-        → StopsAt main said before last old.files reading_of_text fault
+    pub turn-stops : (fault : GraphFault) (u : Underway main before after old held left site text entries lines) → StopsAt main after last held.files (λ all. statement_read (opened_in all left) site u.now s) fault
+        → StopsAt main before last old.files reading_of_text fault
     turn-stops fault u stops =
         let step = said-step u.most lines rest s next u.room in
-        stops-behind main said said2 before after last old.files u.files held.files (λ all. statement_read (opened_in all left) site u.now s) reading_of_text u.reads same (record {
-          comes = λ all ext front h. subst (λ r. Prefix front (paths_come_to main r)) (sym (first u step.0 step.1 all ext))
+        stops-then main before after last old.files u.files held.files (λ all. statement_read (opened_in all left) site u.now s) reading_of_text u.reads (record {
+          comes = λ all ext front h. subst (λ r. IsPrefix front (paths_come_to main r)) (sym (first u step.0 step.1 all ext))
               (and_then-comes main front (statement_read (opened_in all left) site u.now s) (behind step.0 all) h (λ es. statements-come main all left site (said_in step.0 rest).statements (said_in step.0 rest).fault es));
           ends = λ all ext es end stopped h. first u step.0 step.1 all ext ∙ ap (λ x. and_then x (behind step.0 all)) h ∙ stays es end (behind step.0 all) stopped;
         }) fault stops
@@ -210,14 +211,14 @@ next-none file before after lines found at is next = subst (λ f. NextOf file li
 pub fewer-left : (before after : Left) (lines rest : List Line) (s : PlacedText) → before ≡ Lines lines → after ≡ Lines rest → next_statement lines ≡ Ok (Some s, rest) → lines_left after < lines_left before
 fewer-left before after lines rest s at behind next = rw (at, behind) (statement_takes lines s rest next)
 
-pub next-stops : (main : List ℕ) (said : Saying) (told after : SourceText) (old held : Reader) (left : ℕ) (site : Site) (text : List ℕ) (entries : List Entry) (lines : List Line) (before later : Left) (fault : GraphFault)
-    → Underway main said told after old held left site text entries lines → before ≡ Lines lines → NextIs site.file before later (Err fault)
-    → StopsAt main said told after old.files (λ all. text_read (opened_in all left) site text entries) fault
-next-stops main said told after old held left site text entries lines before later fault u at next = by (subst (λ b. NextIs site.file b later (Err fault)) at next)
+pub next-stops : (main : List ℕ) (told after : SourceState) (old held : Reader) (left : ℕ) (site : Site) (text : List ℕ) (entries : List Entry) (lines : List Line) (before later : Left) (fault : GraphFault)
+    → Underway main told after old held left site text entries lines → before ≡ Lines lines → NextIs site.file before later (Err fault)
+    → StopsAt main told after old.files (λ all. text_read (opened_in all left) site text entries) fault
+next-stops main told after old held left site text entries lines before later fault u at next = by (subst (λ b. NextIs site.file b later (Err fault)) at next)
   where
-    by : NextOf site.file lines later (Err fault) → StopsAt main said told after old.files (λ all. text_read (opened_in all left) site text entries) fault
-    by (inl none) = ends-memory main said told after old held left site text entries lines fault u none
-    by (inr found) = ends-fault main said told after old held left site text entries lines fault found.0 u found.1 found.2
+    by : NextOf site.file lines later (Err fault) → StopsAt main told after old.files (λ all. text_read (opened_in all left) site text entries) fault
+    by (inl none) = ends-memory main told after old held left site text entries lines fault u none
+    by (inr found) = ends-fault main told after old held left site text entries lines fault found.0 u found.1 found.2
 
 -- ---- scopes
 

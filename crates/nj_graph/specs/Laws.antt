@@ -4,11 +4,11 @@ use Rattle.std.specs.Cmp.Lexicographic.{slice_cmp}
 use Rattle.std.specs.List.Sorted.{IsStrictlySortedBy}
 use Rattle.std.specs.Ordering.{nat_cmp}
 use Rattle.nj_text.specs.declared.spot.Spot.{Spot}
-use Rattle.nj_scope.specs.Readings.{Reading}
+use Rattle.nj_scope.specs.Readings.{Reading, IsPrefix}
 use Rattle.nj_scope.specs.ReadingList.{Entry, rule_texts, files_opened}
 use Rattle.nj_graph.specs.Graph.{main_rules_of}
 use Rattle.nj_graph.specs.Reading.{own_fault, most_opened, main_read}
-use Rattle.nj_graph.specs.Runs.{Extends, IsLacking}
+use Rattle.nj_graph.specs.Runs.{IsLacking}
 
 -- No statement has a fault of its own at its place, by the statements before it. The last one stands first.
 abbrev pub Faultless : List Entry → Type 0
@@ -29,4 +29,4 @@ MainRulesRise = (files : List Reading) (main : List ℕ) → IsStrictlySortedBy 
 
 -- Files to which a reading does not come count for nothing: with more of them it is the same.
 abbrev pub OthersAreNotRead : Type 0
-OthersAreNotRead = (files all : List Reading) (main : List ℕ) → Extends all files → IsLacking (main_read files main).end all → main_read all main ≡ main_read files main
+OthersAreNotRead = (files all : List Reading) (main : List ℕ) → IsPrefix files all → IsLacking (main_read files main).end all → main_read all main ≡ main_read files main

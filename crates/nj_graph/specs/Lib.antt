@@ -3,7 +3,7 @@ pub mod Faults
 pub mod Graph
 pub mod Laws
 pub mod Loads
+pub mod ReaderContracts
 pub mod Reading
 pub mod Runs
 pub mod Statements
-pub mod Steps

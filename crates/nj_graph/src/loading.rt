@@ -1,7 +1,6 @@
 //! Loads the files of a run.
 
-ghost use Rattle.std.specs.Prelude.{◌≡◌, ℕ, List};
-ghost use Rattle.nj_graph.specs.Runs.{source_text};
+ghost use Rattle.std.specs.Prelude.{◌≡◌};
 ghost use Rattle.nj_graph.specs.Loads.{Loads};
 
 use crate::fault::GraphFault;
@@ -9,12 +8,21 @@ use crate::graph::Graph;
 use crate::reader::Reader;
 use nj_scope::{FileSource, FileTable};
 use std::alloc::Global;
+use std::marker::Model;
 
 /// The files of a run, and their graph.
 #[derive(Drop)]
 pub struct Loaded {
     files: FileTable,
     graph: Graph,
+}
+
+impl Model for Loaded {
+    ghost use Rattle.nj_graph.specs.Loads.{LoadedText};
+
+    ghost Value = { LoadedText };
+
+    ghost view = { λ l. record { files = l.files; graph = l.graph } };
 }
 
 impl Loaded {
@@ -37,12 +45,12 @@ impl Loaded {
 ///
 /// # Errors
 ///
-/// The first fault in reading order, with its place: a statement counts before those below it, and the statements of an
-/// included file before those behind the `include`. That a file cannot be read, or that there is no memory, ends the
-/// reading where it happens.
+/// The first fault in reading order, with its place: a statement counts before those below it, and
+/// the statements of an included file before those after the `include`. That a file cannot be read,
+/// or that an allocation failed, ends the reading where it happens. A reading that the source fails
+/// is always answered as such, at the place of the word that names the file, and is not tried again.
 pub fn load<S: FileSource>(alloc: Global, source: &mut S, main: &str) -> Result<Loaded, GraphFault>
-    ensures loads { Loads main.now (S.files source.old) (source_text (S.readings source.old) (S.failures source.old)) (source_text (S.readings source.new) (S.failures source.new)) result }
-    ensures says_the_same { (path : List ℕ) → S.files source.new path ≡ S.files source.old path }
+    ensures { Loads main.now (S.state source.old) (S.state source.new) result }
 {
     let mut reader = Reader::new(alloc)?;
     reader.read_main(alloc, source, main)?;

@@ -6,14 +6,12 @@ ghost use Rattle.nj_text.specs.Words.{word_text};
 ghost use Rattle.nj_manifest.specs.Steps.{NameText};
 ghost use Rattle.nj_manifest.specs.Statements.{BindingText, RuleText, PoolText, IncludeText, SubninjaText};
 ghost use Rattle.nj_manifest.specs.Held.{lines_text, placed_text};
-ghost use Rattle.nj_scope.specs.Readings.{EachPathOnce};
 ghost use Rattle.nj_scope.specs.ReadingList.{Entry};
-ghost use Rattle.nj_graph.specs.Faults.{fault_at, no_memory};
+ghost use Rattle.nj_graph.specs.Faults.{fault_at};
 ghost use Rattle.nj_graph.specs.Reading.{entry_at, word_says, binding_fault, rule_fault, pool_fault, depth_fault, path_fault, opened_in, text_read, statement_read, main_read};
-ghost use Rattle.nj_graph.specs.Runs.{source_text};
-ghost use Rattle.nj_graph.specs.Steps.{IsNew, Holds, Grows, StandsIn, site_of, place_in, Checks, Declares, IsFault, FindsAt, OpensAt, Steps, Reads, NextIs, SaysPath, OpensPath};
+ghost use Rattle.nj_graph.specs.ReaderContracts.{IsNew, Holds, InFile, Grows, place_in, Checks, Declares, IsFault, AnswersText, OpensAt, ReadsItem, Reads, NextIs, SaysPath, OpensPath};
 
-use crate::fault::{Cause, GraphFault, Name};
+use crate::fault::{Cause, GraphFault, Name, Place};
 use nj_manifest::{Line, Parser, Placed, Spot, Statement, Word};
 use nj_scope::{Declared, FileSource, FileTable, SourceFault, is_depth, is_newer};
 use std::alloc::{AllocError, Global};
@@ -26,7 +24,8 @@ pub const MOST_OPEN: usize = 32;
 /// How many files may be opened in one run, the main file and repeated ones among them.
 pub const MOST_OPENED: usize = 65536;
 
-/// An open file: its name, the number of the scope in which its statements stand, and how many files may be open within it.
+/// An open file: its name, the number of the scope in which its statements stand, and how many
+/// files may be open within it.
 #[derive(Clone, Copy)]
 pub struct OpenFile<'a> {
     pub name: &'a str,
@@ -83,9 +82,8 @@ impl Reader {
         main: &str,
     ) -> Result<(), GraphFault>
         requires { IsNew self.old }
-        ensures reads { Reads main.now (S.files source.old) (source_text (S.readings source.old) (S.failures source.old)) (source_text (S.readings source.new) (S.failures source.new))
-            self.old self.new (λ files. main_read files main.now) result }
-        ensures says_the_same { (p : List ℕ) → S.files source.new p ≡ S.files source.old p }
+        ensures { Reads main.now (S.state source.old) (S.state source.new) self.old self.new
+            (λ files. main_read files main.now) result }
     {
         let front = Spot { line: 1, column: 1 };
         let text = text_at(alloc, source, &mut self.files, main, front, main)?;
@@ -107,11 +105,10 @@ impl Reader {
         text: &[u8],
     ) -> Result<(), GraphFault>
         requires { file.scope < length self.old.declared.scopes }
-        ensures reads { (main : List ℕ) (entries : List Entry) (around : List ℕ) → Holds main self.old entries → StandsIn self.old file.entry around
-            → Reads main (S.files source.old) (source_text (S.readings source.old) (S.failures source.old)) (source_text (S.readings source.new) (S.failures source.new))
-            self.old self.new (λ files. text_read (opened_in files file.entry.left) (site_of file.entry around) text.now entries) result }
+        ensures reads { InFile self.old file.entry (λ main site entries.
+            Reads main (S.state source.old) (S.state source.new) self.old self.new
+            (λ files. text_read (opened_in files file.entry.left) site text.now entries) result) }
         ensures grows { OnOk result (Grows self.old.declared.scopes self.new.declared.scopes) }
-        ensures says_the_same { (p : List ℕ) → S.files source.new p ≡ S.files source.old p }
     {
         let mut parser = Parser::new(text);
         'statements: while let Some(statement) = next_statement(alloc, &mut parser, file)? {
@@ -131,11 +128,11 @@ impl Reader {
         statement: &Placed<Statement<'_>>,
     ) -> Result<(), GraphFault>
         requires { file.scope < length self.old.declared.scopes }
-        ensures reads { (main : List ℕ) (entries : List Entry) (around : List ℕ) → Holds main self.old entries → StandsIn self.old file.entry around
-            → Reads main (S.files source.old) (source_text (S.readings source.old) (S.failures source.old)) (source_text (S.readings source.new) (S.failures source.new))
-            self.old self.new (λ files. statement_read (opened_in files file.entry.left) (site_of file.entry around) entries (placed_text statement.now)) result }
+        ensures reads { InFile self.old file.entry (λ main site entries.
+            Reads main (S.state source.old) (S.state source.new) self.old self.new
+            (λ files. statement_read (opened_in files file.entry.left) site entries
+            (placed_text statement.now)) result) }
         ensures grows { OnOk result (Grows self.old.declared.scopes self.new.declared.scopes) }
-        ensures says_the_same { (p : List ℕ) → S.files source.new p ≡ S.files source.old p }
     {
         match self.read_item(alloc, source, file, statement)? {
             None => Ok(()),
@@ -159,13 +156,13 @@ impl Reader {
         statement: &Placed<Statement<'_>>,
     ) -> Result<Option<Opened>, GraphFault>
         requires { file.scope < length self.old.declared.scopes }
-        ensures steps { (main : List ℕ) (entries : List Entry) (around : List ℕ) → Holds main self.old entries → StandsIn self.old file.entry around
-            → Steps main (S.files source.old) (source_text (S.readings source.old) (S.failures source.old)) (source_text (S.readings source.new) (S.failures source.new))
-            self.old self.new file.entry.left (site_of file.entry around) entries (placed_text statement.now) result }
+        ensures reads { InFile self.old file.entry (λ main site entries.
+            ReadsItem main (S.state source.old) (S.state source.new) self.old self.new
+            file.entry.left site entries (placed_text statement.now) result) }
         ensures left { IfOk result (λ named. IfSome named (λ o. 0 < file.entry.left)) }
-        ensures there { IfOk result (λ named. IfSome named (λ o. o.scope < length self.new.declared.scopes)) }
+        ensures there { IfOk result (λ named.
+            IfSome named (λ o. o.scope < length self.new.declared.scopes)) }
         ensures grows { OnOk result (Grows self.old.declared.scopes self.new.declared.scopes) }
-        ensures says_the_same { (p : List ℕ) → S.files source.new p ≡ S.files source.old p }
     {
         match &statement.item {
             Statement::Binding { name, value } => {
@@ -211,9 +208,11 @@ impl Reader {
         value: &Word<'_>,
     ) -> Result<(), GraphFault>
         requires { file.scope < length self.old.declared.scopes }
-        ensures declares { (main : List ℕ) (entries : List Entry) (around : List ℕ) → Holds main self.old entries → StandsIn self.old file.entry around
-            → let site = site_of file.entry around in
-            Declares main self.new (binding_fault site entries spot name.now (word_says site entries (word_text value.now))) (entry_at site (BindingText name.now (word_text value.now)) ∷ entries) result }
+        ensures declares { InFile self.old file.entry (λ main site entries.
+            let word = word_text value.now in
+            Declares main self.new
+            (binding_fault site entries spot name.now (word_says site entries word))
+            (entry_at site (BindingText name.now word) ∷ entries) result) }
         ensures files { self.new.files ≡ self.old.files }
         ensures grows { OnOk result (Grows self.old.declared.scopes self.new.declared.scopes) }
     {
@@ -238,10 +237,10 @@ impl Reader {
         lines: &[Line<'_>],
     ) -> Result<(), GraphFault>
         requires { file.scope < length self.old.declared.scopes }
-        ensures declares { (main : List ℕ) (entries : List Entry) (around : List ℕ) → Holds main self.old entries
-            → let site = site_of file.entry around in
+        ensures declares { InFile self.old file.entry (λ main site entries.
             let named : NameText = record { spot = spot; name = name.now } in
-            Declares main self.new (rule_fault site entries named) (entry_at site (RuleText named (lines_text lines.now)) ∷ entries) result }
+            Declares main self.new (rule_fault site entries named)
+            (entry_at site (RuleText named (lines_text lines.now)) ∷ entries) result) }
         ensures files { self.new.files ≡ self.old.files }
         ensures grows { OnOk result (Grows self.old.declared.scopes self.new.declared.scopes) }
     {
@@ -262,10 +261,11 @@ impl Reader {
         lines: &[Line<'_>],
     ) -> Result<(), GraphFault>
         requires { file.scope < length self.old.declared.scopes }
-        ensures declares { (main : List ℕ) (entries : List Entry) (around : List ℕ) → Holds main self.old entries → StandsIn self.old file.entry around
-            → let site = site_of file.entry around in
+        ensures declares { InFile self.old file.entry (λ main site entries.
             let named : NameText = record { spot = spot; name = name.now } in
-            Declares main self.new (pool_fault site entries named (lines_text lines.now)) (entry_at site (PoolText named (lines_text lines.now)) ∷ entries) result }
+            let texts = lines_text lines.now in
+            Declares main self.new (pool_fault site entries named texts)
+            (entry_at site (PoolText named texts) ∷ entries) result) }
         ensures files { self.new.files ≡ self.old.files }
         ensures grows { OnOk result (Grows self.old.declared.scopes self.new.declared.scopes) }
     {
@@ -284,8 +284,8 @@ impl Reader {
         lines: &[Line<'_>],
     ) -> Result<(), GraphFault>
         requires { file.scope < length self.now.declared.scopes }
-        ensures { (main : List ℕ) (entries : List Entry) (around : List ℕ) → Holds main self.now entries → StandsIn self.now file.entry around
-            → Checks (depth_fault (site_of file.entry around) entries (lines_text lines.now)) result }
+        ensures { InFile self.now file.entry (λ main site entries.
+            Checks (depth_fault site entries (lines_text lines.now)) result) }
     {
         'lines: for line in lines {
             let depth = self.declared.expand(alloc, file.scope, &line.value)?;
@@ -305,13 +305,13 @@ impl Reader {
         word: &Word<'_>,
     ) -> Result<Opened, GraphFault>
         requires { file.scope < length self.old.declared.scopes }
-        ensures opens { (main : List ℕ) (entries : List Entry) (around : List ℕ) (spot : Spot) → Holds main self.old entries → StandsIn self.old file.entry around
-            → OpensAt main (S.files source.old) (source_text (S.readings source.old) (S.failures source.old)) (source_text (S.readings source.new) (S.failures source.new))
-            self.old self.new file.entry.left (site_of file.entry around) entries (record { spot = spot; item = IncludeText (word_text word.now) }) result }
+        ensures opens { (spot : Spot) → InFile self.old file.entry (λ main site entries.
+            OpensAt main (S.state source.old) (S.state source.new) self.old self.new
+            file.entry.left site entries
+            (record { spot = spot; item = IncludeText (word_text word.now) }) result) }
         ensures left { OnOk result (0 < file.entry.left) }
         ensures there { IfOk result (λ o. o.scope < length self.new.declared.scopes) }
         ensures grows { OnOk result (Grows self.old.declared.scopes self.new.declared.scopes) }
-        ensures says_the_same { (p : List ℕ) → S.files source.new p ≡ S.files source.old p }
     {
         let path = self.path(alloc, file, word)?;
         let text = self.open_file(alloc, source, file, word.spot, &path)?;
@@ -331,13 +331,13 @@ impl Reader {
         word: &Word<'_>,
     ) -> Result<Opened, GraphFault>
         requires { file.scope < length self.old.declared.scopes }
-        ensures opens { (main : List ℕ) (entries : List Entry) (around : List ℕ) (spot : Spot) → Holds main self.old entries → StandsIn self.old file.entry around
-            → OpensAt main (S.files source.old) (source_text (S.readings source.old) (S.failures source.old)) (source_text (S.readings source.new) (S.failures source.new))
-            self.old self.new file.entry.left (site_of file.entry around) entries (record { spot = spot; item = SubninjaText (word_text word.now) }) result }
+        ensures opens { (spot : Spot) → InFile self.old file.entry (λ main site entries.
+            OpensAt main (S.state source.old) (S.state source.new) self.old self.new
+            file.entry.left site entries
+            (record { spot = spot; item = SubninjaText (word_text word.now) }) result) }
         ensures left { OnOk result (0 < file.entry.left) }
         ensures there { IfOk result (λ o. o.scope < length self.new.declared.scopes) }
         ensures grows { OnOk result (Grows self.old.declared.scopes self.new.declared.scopes) }
-        ensures says_the_same { (p : List ℕ) → S.files source.new p ≡ S.files source.old p }
     {
         let path = self.path(alloc, file, word)?;
         let text = self.open_file(alloc, source, file, word.spot, &path)?;
@@ -348,10 +348,9 @@ impl Reader {
     // The path that a word says.
     fn path(&self, alloc: Global, file: OpenFile<'_>, word: &Word<'_>) -> Result<String, GraphFault>
         requires { file.scope < length self.now.declared.scopes }
-        ensures { (main : List ℕ) (entries : List Entry) (around : List ℕ) → Holds main self.now entries → StandsIn self.now file.entry around
-            → let site = site_of file.entry around in
+        ensures { InFile self.now file.entry (λ main site entries.
             let says = word_says site entries (word_text word.now) in
-            SaysPath (path_fault site word.now.spot says) says result }
+            SaysPath (path_fault site word.now.spot says) says result) }
     {
         let path = self.declared.expand(alloc, file.scope, word)?;
         if path.as_slice().is_empty() {
@@ -373,12 +372,11 @@ impl Reader {
         path: &str,
     ) -> Result<RcSlice<u8>, GraphFault>
         ensures opens { (main : List ℕ) (entries : List Entry) → Holds main self.old entries
-            → OpensPath main (S.files source.old) (source_text (S.readings source.old) (S.failures source.old)) (source_text (S.readings source.new) (S.failures source.new))
-            self.old self.new file.entry.left (place_in file.entry spot) path.now entries result }
+            → OpensPath main (S.state source.old) (S.state source.new) self.old self.new
+            file.entry.left (place_in file.entry spot) path.now entries result }
         ensures left { OnOk result (0 < file.entry.left) }
         ensures declared { self.new.declared ≡ self.old.declared }
         ensures opened { OnOk result (self.new.opened ≡ suc self.old.opened) }
-        ensures says_the_same { (p : List ℕ) → S.files source.new p ≡ S.files source.old p }
     {
         if file.left == 0 {
             return Err(file.fault(alloc, spot, Cause::TooDeep));
@@ -392,9 +390,10 @@ impl Reader {
     }
 }
 
-/// The text of the file at the path, which is read unless the table has it. The place is that of the fault where there is
-/// none.
-pub fn text_at<S: FileSource>(
+// The text of the file at the path, which is read unless the table has it; a fault is that of the
+// word at this place. What the fault names is copied before the file is read, so that a reading
+// that fails is answered as such.
+fn text_at<S: FileSource>(
     alloc: Global,
     source: &mut S,
     files: &mut FileTable,
@@ -402,20 +401,23 @@ pub fn text_at<S: FileSource>(
     spot: Spot,
     path: &str,
 ) -> Result<RcSlice<u8>, GraphFault>
-    ensures finds { EachPathOnce files.old
-        → FindsAt (S.files source.old) (source_text (S.readings source.old) (S.failures source.old)) (source_text (S.readings source.new) (S.failures source.new))
-        files.old files.new (record { file = file.now; spot = spot }) path.now result }
-    ensures says_the_same { (p : List ℕ) → S.files source.new p ≡ S.files source.old p }
+    ensures { AnswersText (S.state source.old) (S.state source.new) files.old files.new
+        (record { file = file.now; spot = spot }) path.now result }
 {
-    if let Err(fault) = files.read_in(alloc, source, path) {
-        return Err(unreadable(alloc, file, spot, path, fault)?);
-    }
-    match files.shared(path)? {
-        Some(text) => Ok(text),
-        None => {
-            let cause = Cause::Missing(Name::new(alloc, path.as_bytes())?);
-            Err(GraphFault::at(alloc, file, spot, cause)?)
-        }
+    let name = Name::new(alloc, path.as_bytes())?;
+    let file = Name::new(alloc, file.as_bytes())?;
+    let place = Some(Place { file, spot });
+    match files.open(alloc, source, path) {
+        Ok(Some(text)) => Ok(text),
+        Ok(None) => Err(GraphFault {
+            place,
+            cause: Cause::Missing(name),
+        }),
+        Err(SourceFault::Io) => Err(GraphFault {
+            place,
+            cause: Cause::Io(name),
+        }),
+        Err(SourceFault::OutOfMemory) => Err(GraphFault::out_of_memory()),
     }
 }
 
@@ -430,25 +432,5 @@ fn next_statement<'a>(
     match parser.next_statement(alloc) {
         Ok(found) => Ok(found),
         Err(fault) => Err(GraphFault::of_text(alloc, file.name, fault)?),
-    }
-}
-
-// The fault of a reading that failed.
-fn unreadable(
-    alloc: Global,
-    file: &str,
-    spot: Spot,
-    path: &str,
-    fault: SourceFault,
-) -> Result<GraphFault, AllocError>
-    ensures io { fault ≡ SourceFault.Io → IfOk result (λ f. f ≡ fault_at file.now spot (Cause.Io path.now)) }
-    ensures out_of_memory { fault ≡ SourceFault.OutOfMemory → IfOk result (λ f. f ≡ no_memory) }
-{
-    match fault {
-        SourceFault::Io => {
-            let cause = Cause::Io(Name::new(alloc, path.as_bytes())?);
-            GraphFault::at(alloc, file, spot, cause)
-        }
-        SourceFault::OutOfMemory => Ok(GraphFault::out_of_memory()),
     }
 }

@@ -424,16 +424,19 @@ fn each_file_may_ask_for_a_version(rt: HostRuntime) -> Result<(), Fail> {
     )
 }
 
+// The main file, then the one that `include` or `subninja` names, which is read once.
 #[test]
 fn tells_failed_readings(rt: HostRuntime) -> Result<(), Fail> {
-    for (reading, want) in [
-        (1, "build.ninja:1:1: cannot read 'build.ninja'"),
-        (2, "build.ninja:1:10: cannot read 's'"),
-        // `s` is read once
-        (3, "accepted"),
+    let main = "build.ninja:1:1: cannot read 'build.ninja'";
+    for (reading, text, want) in [
+        (1, "include s", main),
+        (1, "subninja s", main),
+        (2, "include s", "build.ninja:1:9: cannot read 's'"),
+        (2, "subninja s", "build.ninja:1:10: cannot read 's'"),
+        (3, "subninja s\nsubninja s", "accepted"),
     ] {
         let mut source = MemoryFiles::new(rt.alloc());
-        source.add("build.ninja", b"subninja s\nsubninja s")?;
+        source.add("build.ninja", text.as_bytes())?;
         source.add("s", b"rule r\n  command = c")?;
         source.fail_at(reading);
         let line = answer(&rt, &mut source)?;

@@ -3,8 +3,7 @@ use Rattle.std.specs.Rc.{rc_slice_items}
 use Rattle.nj_text.specs.Lines.{text_lines}
 use Rattle.nj_manifest.specs.Held.{placed_text}
 use Rattle.nj_graph.specs.Reading.{Site, entry_at, opened_in, statement_read, text_read}
-use Rattle.nj_graph.specs.Runs.{source_text}
-use Rattle.nj_graph.specs.Steps.{Steps, Reads, site_of}
+use Rattle.nj_graph.specs.ReaderContracts.{ReadsItem, Reads, site_of}
 use Rattle.nj_graph.proofs.Naming.{handed, stands-grown}
 use Rattle.nj_graph.proofs.SaidLemmas.{said-at-first}
 use Rattle.nj_graph.proofs.Tables.{reads-all-nothing}
@@ -15,32 +14,29 @@ pub read_statement-returns-in-Some-clause-reads : goal.read_statement-returns-in
 read_statement-returns-in-Some-clause-reads g t c = λ main entries around holds stands.
     let site = site_of c.args.file around in
     let s = placed_text c.args.statement.now in
-    let said = g.S.FileSource.files c.args.source.now in
-    let said2 = g.S.FileSource.files c.read_item.new.source in
-    let before = source_text (g.S.FileSource.readings c.args.source.now) (g.S.FileSource.failures c.args.source.now) in
-    let mid = source_text (g.S.FileSource.readings c.read_item.new.source) (g.S.FileSource.failures c.read_item.new.source) in
-    let after = source_text (g.S.FileSource.readings c.read_text.new.source) (g.S.FileSource.failures c.read_text.new.source) in
+    let before = g.S.FileSource.state c.args.source.now in
+    let mid = g.S.FileSource.state c.read_item.new.source in
+    let after = g.S.FileSource.state c.read_text.new.source in
     let opened = c.read_item.new.self in
     let named = c.in-Some.named in
-    let steps = subst (λ o. Steps main said before mid c.args.self.now opened c.args.file.left site entries s (Ok o)) c.in-Some.is (c.in_ok-read_item.ensures.steps main entries around holds stands) in
+    let steps = subst (λ o. ReadsItem main before mid c.args.self.now opened c.args.file.left site entries s (Ok o)) c.in-Some.is (c.in_ok-read_item.ensures.reads main entries around holds stands) in
     let inner : Site = steps.0 in
     let at = site-same inner c.as_str.result.now named.scope (steps.1.file ∙ sym c.as_str.ensures.value) steps.1.number in
     let e = entry_at site s.item in
     let nested = c.read_text.ensures.reads main (e ∷ entries) inner.around steps.2.holds steps.1.stands in
-    let same = subst (λ i. Reads main said2 mid after opened c.read_text.new.self (λ all. text_read (opened_in all (c.args.file.left - 1)) i c.as_slice.result.now (e ∷ entries)) c.read_text.result) (sym at) nested in
-    reads-named main said said2 before mid after c.args.self.now opened c.read_text.new.self c.args.file.left inner (rc_slice_items named.text) e entries (λ all. statement_read (opened_in all c.args.file.left) site entries s)
-    steps.2 c.in_ok-read_item.ensures.says_the_same c.read_text.result
-    (subst (λ text. Reads main said2 mid after opened c.read_text.new.self (λ all. text_read (opened_in all (c.args.file.left - 1)) inner text (e ∷ entries)) c.read_text.result) c.as_slice.ensures.value same)
+    let same = subst (λ i. Reads main mid after opened c.read_text.new.self (λ all. text_read (opened_in all (c.args.file.left - 1)) i c.as_slice.result.now (e ∷ entries)) c.read_text.result) (sym at) nested in
+    reads-named main before mid after c.args.self.now opened c.read_text.new.self c.args.file.left inner (rc_slice_items named.text) e entries (λ all. statement_read (opened_in all c.args.file.left) site entries s)
+    steps.2 c.read_text.result
+    (subst (λ text. Reads main mid after opened c.read_text.new.self (λ all. text_read (opened_in all (c.args.file.left - 1)) inner text (e ∷ entries)) c.read_text.result) c.as_slice.ensures.value same)
 
 pub read_text-statements-init : goal.read_text-statements-init
 read_text-statements-init g t c = (
   grows-self c.args.self.now.declared.scopes,
-  λ p. refl,
   text_lines c.args.text.now,
   c.new-parser.ensures,
   λ main entries around holds stands. record {
     files = c.args.self.now.files;
-    reads = reads-all-nothing _ _ _ c.args.self.now.files holds.once refl refl;
+    reads = reads-all-nothing _ c.args.self.now.files holds.once;
     now = entries;
     holds = holds;
     most = suc (length c.args.text.now);
@@ -51,53 +47,52 @@ read_text-statements-init g t c = (
 
 pub read_text-returns-in_err-statement-clause-reads : goal.read_text-returns-in_err-statement-clause-reads
 read_text-returns-in_err-statement-clause-reads g t c = λ main entries around holds stands.
-    let before = source_text (g.S.FileSource.readings c.args.source.now) (g.S.FileSource.failures c.args.source.now) in
-    let after = source_text (g.S.FileSource.readings c.statements.source) (g.S.FileSource.failures c.statements.source) in
+    let before = g.S.FileSource.state c.args.source.now in
+    let after = g.S.FileSource.state c.statements.source in
     rw (handed c.in_err-statement.field-0.0 c.from_residual.result c.from_residual.ensures)
-    (next-stops main (g.S.FileSource.files c.args.source.now) before after c.args.self.now c.statements.self c.args.file.left (site_of c.args.file around) c.args.text.now entries c.statements.invariant.2
-    c.statements.parser c.next_statement.new.parser c.in_err-statement.field-0.0 (c.statements.invariant.4 main entries around holds stands) c.statements.invariant.3 c.in_err-statement.ensures)
+    (next-stops main before after c.args.self.now c.statements.self c.args.file.left (site_of c.args.file around) c.args.text.now entries c.statements.invariant.1
+    c.statements.parser c.next_statement.new.parser c.in_err-statement.field-0.0 (c.statements.invariant.3 main entries around holds stands) c.statements.invariant.2 c.in_err-statement.ensures)
 
 pub read_text-returns-in_err-read_statement-clause-reads : goal.read_text-returns-in_err-read_statement-clause-reads
 read_text-returns-in_err-read_statement-clause-reads g t c = λ main entries around holds stands.
-    let before = source_text (g.S.FileSource.readings c.args.source.now) (g.S.FileSource.failures c.args.source.now) in
-    let mid = source_text (g.S.FileSource.readings c.statements.source) (g.S.FileSource.failures c.statements.source) in
-    let after = source_text (g.S.FileSource.readings c.read_statement.new.source) (g.S.FileSource.failures c.read_statement.new.source) in
-    let next = next-some c.args.file.name.now c.statements.parser c.next_statement.new.parser c.statements.invariant.2 c.in_ok-statement.field-0 c.in-Some.statement c.statements.invariant.3 c.in-Some.is c.in_ok-statement.ensures in
-    let u = c.statements.invariant.4 main entries around holds stands in
+    let before = g.S.FileSource.state c.args.source.now in
+    let mid = g.S.FileSource.state c.statements.source in
+    let after = g.S.FileSource.state c.read_statement.new.source in
+    let next = next-some c.args.file.name.now c.statements.parser c.next_statement.new.parser c.statements.invariant.1 c.in_ok-statement.field-0 c.in-Some.statement c.statements.invariant.2 c.in-Some.is c.in_ok-statement.ensures in
+    let u = c.statements.invariant.3 main entries around holds stands in
     let there = stands-grown c.args.self.now.declared.scopes c.statements.self.declared.scopes c.args.file.scope around c.statements.invariant.0 stands in
     let fault = c.in_err-read_statement.field-0.0 in
     rw (handed fault c.from_residual-in_err-read_statement.result c.from_residual-in_err-read_statement.ensures)
-    (turn-stops main (g.S.FileSource.files c.args.source.now) before mid c.args.self.now c.statements.self c.args.file.left (site_of c.args.file around) c.args.text.now entries c.statements.invariant.2
-    (g.S.FileSource.files c.statements.source) after c.read_statement.new.self (placed_text c.in-Some.statement) next.0 c.statements.invariant.1 next.1 fault u
+    (turn-stops main before mid c.args.self.now c.statements.self c.args.file.left (site_of c.args.file around) c.args.text.now entries c.statements.invariant.1
+    after c.read_statement.new.self (placed_text c.in-Some.statement) next.0 next.1 fault u
     (c.in_err-read_statement.ensures.reads main u.now around u.holds there))
 
 pub read_text-statements-smaller : goal.read_text-statements-smaller
 read_text-statements-smaller g t c =
-    let next = next-some c.args.file.name.now c.statements.parser c.next_statement.new.parser c.statements.invariant.2 c.in_ok-statement.field-0 c.in-Some.statement c.statements.invariant.3 c.in-Some.is c.in_ok-statement.ensures in
-    fewer-left c.statements.parser c.next_statement.new.parser c.statements.invariant.2 next.0 (placed_text c.in-Some.statement) c.statements.invariant.3 next.2 next.1
+    let next = next-some c.args.file.name.now c.statements.parser c.next_statement.new.parser c.statements.invariant.1 c.in_ok-statement.field-0 c.in-Some.statement c.statements.invariant.2 c.in-Some.is c.in_ok-statement.ensures in
+    fewer-left c.statements.parser c.next_statement.new.parser c.statements.invariant.1 next.0 (placed_text c.in-Some.statement) c.statements.invariant.2 next.2 next.1
 
 pub read_text-statements-preserved : goal.read_text-statements-preserved
 read_text-statements-preserved g t c =
-    let before = source_text (g.S.FileSource.readings c.args.source.now) (g.S.FileSource.failures c.args.source.now) in
-    let mid = source_text (g.S.FileSource.readings c.statements.source) (g.S.FileSource.failures c.statements.source) in
-    let after = source_text (g.S.FileSource.readings c.read_statement.new.source) (g.S.FileSource.failures c.read_statement.new.source) in
-    let next = next-some c.args.file.name.now c.statements.parser c.next_statement.new.parser c.statements.invariant.2 c.in_ok-statement.field-0 c.in-Some.statement c.statements.invariant.3 c.in-Some.is c.in_ok-statement.ensures in (
+    let before = g.S.FileSource.state c.args.source.now in
+    let mid = g.S.FileSource.state c.statements.source in
+    let after = g.S.FileSource.state c.read_statement.new.source in
+    let next = next-some c.args.file.name.now c.statements.parser c.next_statement.new.parser c.statements.invariant.1 c.in_ok-statement.field-0 c.in-Some.statement c.statements.invariant.2 c.in-Some.is c.in_ok-statement.ensures in (
       grows-then c.args.self.now.declared.scopes c.statements.self.declared.scopes c.read_statement.new.self.declared.scopes c.statements.invariant.0 c.in_ok-read_statement.ensures.grows,
-      λ p. c.in_ok-read_statement.ensures.says_the_same p ∙ c.statements.invariant.1 p,
       next.0,
       next.2,
       λ main entries around holds stands.
-          let u = c.statements.invariant.4 main entries around holds stands in
+          let u = c.statements.invariant.3 main entries around holds stands in
           let there = stands-grown c.args.self.now.declared.scopes c.statements.self.declared.scopes c.args.file.scope around c.statements.invariant.0 stands in
-          turn main (g.S.FileSource.files c.args.source.now) before mid c.args.self.now c.statements.self c.args.file.left (site_of c.args.file around) c.args.text.now entries c.statements.invariant.2
-          (g.S.FileSource.files c.statements.source) after c.read_statement.new.self (placed_text c.in-Some.statement) next.0 c.statements.invariant.1 next.1 u
+          turn main before mid c.args.self.now c.statements.self c.args.file.left (site_of c.args.file around) c.args.text.now entries c.statements.invariant.1
+          after c.read_statement.new.self (placed_text c.in-Some.statement) next.0 next.1 u
           (c.in_ok-read_statement.ensures.reads main u.now around u.holds there),
     )
 
 pub read_text-returns-clause-reads : goal.read_text-returns-clause-reads
 read_text-returns-clause-reads g t c = λ main entries around holds stands.
-    let before = source_text (g.S.FileSource.readings c.args.source.now) (g.S.FileSource.failures c.args.source.now) in
-    let after = source_text (g.S.FileSource.readings c.statements.source) (g.S.FileSource.failures c.statements.source) in
-    let next = next-none c.args.file.name.now c.statements.parser c.next_statement.new.parser c.statements.invariant.2 c.in_ok-statement.field-0 c.statements.invariant.3 c.in_default.is c.in_ok-statement.ensures in
-    ends-text main (g.S.FileSource.files c.args.source.now) before after c.args.self.now c.statements.self c.args.file.left (site_of c.args.file around) c.args.text.now entries c.statements.invariant.2
-    next.0 (c.statements.invariant.4 main entries around holds stands) next.1
+    let before = g.S.FileSource.state c.args.source.now in
+    let after = g.S.FileSource.state c.statements.source in
+    let next = next-none c.args.file.name.now c.statements.parser c.next_statement.new.parser c.statements.invariant.1 c.in_ok-statement.field-0 c.statements.invariant.2 c.in_default.is c.in_ok-statement.ensures in
+    ends-text main before after c.args.self.now c.statements.self c.args.file.left (site_of c.args.file around) c.args.text.now entries c.statements.invariant.1
+    next.0 (c.statements.invariant.3 main entries around holds stands) next.1

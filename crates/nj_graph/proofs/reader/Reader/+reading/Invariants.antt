@@ -2,8 +2,7 @@ use Rattle.std.proofs.Common.{◌≡◌, ℕ, ◌+◌, ◌*◌, List}
 use Rattle.nj_text.specs.Lines.{Line}
 use Rattle.nj_manifest.specs.Statements.{Lines}
 use Rattle.nj_scope.specs.ReadingList.{Entry}
-use Rattle.nj_graph.specs.Runs.{source_text}
-use Rattle.nj_graph.specs.Steps.{Holds, Grows, StandsIn, site_of}
+use Rattle.nj_graph.specs.ReaderContracts.{Holds, Grows, StandsIn, site_of}
 use Rattle.nj_graph.proofs.Turns.{Underway, lines_left}
 use Rattle.nj_graph.proofs.reader.Reader.+reading.Given as goal
 
@@ -16,10 +15,9 @@ decreases-read_statement g l = 2 * l.file.left
 abbrev pub invariant-read_text-statements : goal.invariant-read_text-statements
 invariant-read_text-statements g l =
     Grows l.initial.self.declared.scopes l.self.declared.scopes
-    × ((p : List ℕ) → g.S.FileSource.files l.source p ≡ g.S.FileSource.files l.initial.source p)
     × (lines : List Line) × (l.parser ≡ Lines lines)
     × ((main : List ℕ) (entries : List Entry) (around : List ℕ) → Holds main l.initial.self entries → StandsIn l.initial.self l.file around
-    → Underway main (g.S.FileSource.files l.initial.source) (source_text (g.S.FileSource.readings l.initial.source) (g.S.FileSource.failures l.initial.source)) (source_text (g.S.FileSource.readings l.source) (g.S.FileSource.failures l.source))
+    → Underway main (g.S.FileSource.state l.initial.source) (g.S.FileSource.state l.source)
     l.initial.self l.self l.file.left (site_of l.file around) l.text entries lines)
 
 abbrev pub decreases-read_text-statements : goal.decreases-read_text-statements

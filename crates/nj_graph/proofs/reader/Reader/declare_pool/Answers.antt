@@ -4,7 +4,7 @@ use Rattle.nj_manifest.specs.Statements.{PoolText}
 use Rattle.nj_manifest.specs.Held.{lines_text}
 use Rattle.nj_graph.specs.declared.reader.Reader.{Reader}
 use Rattle.nj_graph.specs.Reading.{entry_at, depth_fault, pool_fault}
-use Rattle.nj_graph.specs.Steps.{Stands, site_of}
+use Rattle.nj_graph.specs.ReaderContracts.{Stands, site_of}
 use Rattle.nj_graph.proofs.Holding.{holds-next, pool-new, depths-same, pool-declares}
 use Rattle.nj_graph.proofs.reader.Reader.declare_pool.Goals as goal
 

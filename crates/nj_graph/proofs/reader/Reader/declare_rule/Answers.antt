@@ -2,12 +2,12 @@ use Rattle.std.proofs.Common.{refl, sym, ◌∙◌}
 use Rattle.nj_manifest.specs.Statements.{RuleText}
 use Rattle.nj_manifest.specs.Held.{lines_text}
 use Rattle.nj_graph.specs.Reading.{entry_at}
-use Rattle.nj_graph.specs.Steps.{site_of}
+use Rattle.nj_graph.specs.ReaderContracts.{site_of}
 use Rattle.nj_graph.proofs.Holding.{holds-next, rule-new}
 use Rattle.nj_graph.proofs.reader.Reader.declare_rule.Goals as goal
 
 pub returns-then-branch-clause-declares : goal.returns-then-branch-clause-declares
-returns-then-branch-clause-declares c = λ main entries around holds. (
+returns-then-branch-clause-declares c = λ main entries around holds stands. (
   rule-new main c.args.self.now entries (site_of c.args.file around) (record { spot = c.args.spot; name = c.args.name.now }) holds (sym c.if-branch.true ∙ c.in_ok-declare_rule.ensures.is_new),
   holds-next main c.args.self.now (record { declared = c.declare_rule.new.self; files = c.args.self.now.files; opened = c.args.self.now.opened }) entries
       (entry_at (site_of c.args.file around) (RuleText (record { spot = c.args.spot; name = c.args.name.now }) (lines_text c.args.lines.now))) holds

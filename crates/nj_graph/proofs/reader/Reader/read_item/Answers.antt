@@ -5,66 +5,65 @@ use Rattle.nj_manifest.specs.Statements.{BindingText, RuleText, PoolText}
 use Rattle.nj_manifest.specs.declared.statement.Statement.TheVariants as statement
 use Rattle.nj_manifest.specs.Held.{statement_text, lines_text}
 use Rattle.nj_graph.specs.Reading.{entry_at, pool_fault}
-use Rattle.nj_graph.specs.Runs.{source_text}
-use Rattle.nj_graph.specs.Steps.{Holds, IsFault, site_of}
+use Rattle.nj_graph.specs.ReaderContracts.{Holds, IsFault, site_of}
 use Rattle.nj_graph.proofs.Naming.{handed, stops-own, reads-one}
 use Rattle.nj_graph.proofs.reader.Reader.read_item.Goals as goal
 
-pub returns-in_err-bind-in-Binding-clause-steps : goal.returns-in_err-bind-in-Binding-clause-steps
-returns-in_err-bind-in-Binding-clause-steps g c = λ main entries around holds stands.
+pub returns-in_err-bind-in-Binding-clause-reads : goal.returns-in_err-bind-in-Binding-clause-reads
+returns-in_err-bind-in-Binding-clause-reads g c = λ main entries around holds stands.
     let item = BindingText c.in-Binding.name.now (word_text c.in-Binding.value) in
-    let told = source_text (g.S.FileSource.readings c.args.source.now) (g.S.FileSource.failures c.args.source.now) in
+    let told = g.S.FileSource.state c.args.source.now in
     let fault = c.in_err-bind-in-Binding.field-0.0 in
     rw (handed fault c.from_residual.result c.from_residual.ensures, ap statement_text c.in-Binding.is)
-    (stops-own main (g.S.FileSource.files c.args.source.now) told told c.args.self.now entries holds refl c.args.file.left (site_of c.args.file around) (record { spot = c.args.statement.now.spot; item = item })
+    (stops-own main told told c.args.self.now entries holds refl c.args.file.left (site_of c.args.file around) (record { spot = c.args.statement.now.spot; item = item })
     _ fault refl (c.in_err-bind-in-Binding.ensures.declares main entries around holds stands))
 
-pub returns-in_err-declare_rule-in-Rule-clause-steps : goal.returns-in_err-declare_rule-in-Rule-clause-steps
-returns-in_err-declare_rule-in-Rule-clause-steps g c = λ main entries around holds stands.
+pub returns-in_err-declare_rule-in-Rule-clause-reads : goal.returns-in_err-declare_rule-in-Rule-clause-reads
+returns-in_err-declare_rule-in-Rule-clause-reads g c = λ main entries around holds stands.
     let name : NameText = record { spot = c.in-Rule.name_spot; name = c.in-Rule.name.now } in
-    let told = source_text (g.S.FileSource.readings c.args.source.now) (g.S.FileSource.failures c.args.source.now) in
+    let told = g.S.FileSource.state c.args.source.now in
     let fault = c.in_err-declare_rule-in-Rule.field-0.0 in
     rw (handed fault c.from_residual-in_err-declare_rule-in-Rule.result c.from_residual-in_err-declare_rule-in-Rule.ensures, ap statement_text c.in-Rule.is)
-    (stops-own main (g.S.FileSource.files c.args.source.now) told told c.args.self.now entries holds refl c.args.file.left (site_of c.args.file around) (record { spot = c.args.statement.now.spot; item = RuleText name (lines_text c.in-Rule.lines.items) })
-    _ fault refl (c.in_err-declare_rule-in-Rule.ensures.declares main entries around holds))
+    (stops-own main told told c.args.self.now entries holds refl c.args.file.left (site_of c.args.file around) (record { spot = c.args.statement.now.spot; item = RuleText name (lines_text c.in-Rule.lines.items) })
+    _ fault refl (c.in_err-declare_rule-in-Rule.ensures.declares main entries around holds stands))
 
-pub returns-in_err-declare_pool-in-Pool-clause-steps : goal.returns-in_err-declare_pool-in-Pool-clause-steps
-returns-in_err-declare_pool-in-Pool-clause-steps g c = λ main entries around holds stands.
+pub returns-in_err-declare_pool-in-Pool-clause-reads : goal.returns-in_err-declare_pool-in-Pool-clause-reads
+returns-in_err-declare_pool-in-Pool-clause-reads g c = λ main entries around holds stands.
     let name : NameText = record { spot = c.in-Pool.name_spot; name = c.in-Pool.name.now } in
-    let told = source_text (g.S.FileSource.readings c.args.source.now) (g.S.FileSource.failures c.args.source.now) in
+    let told = g.S.FileSource.state c.args.source.now in
     let fault = c.in_err-declare_pool-in-Pool.field-0.0 in
     rw (handed fault c.from_residual-in_err-declare_pool-in-Pool.result c.from_residual-in_err-declare_pool-in-Pool.ensures, ap statement_text c.in-Pool.is)
-    (stops-own main (g.S.FileSource.files c.args.source.now) told told c.args.self.now entries holds refl c.args.file.left (site_of c.args.file around) (record { spot = c.args.statement.now.spot; item = PoolText name (lines_text c.in-Pool.lines.items) })
+    (stops-own main told told c.args.self.now entries holds refl c.args.file.left (site_of c.args.file around) (record { spot = c.args.statement.now.spot; item = PoolText name (lines_text c.in-Pool.lines.items) })
     (pool_fault (site_of c.args.file around) entries name (lines_text c.in-Pool.lines.items)) fault refl
     (subst (λ ls. IsFault (pool_fault (site_of c.args.file around) entries name (lines_text ls)) fault) c.deref-in-Pool.ensures.value (c.in_err-declare_pool-in-Pool.ensures.declares main entries around holds stands)))
 
-pub returns-in_ok-declare_rule-in-Rule-clause-steps : goal.returns-in_ok-declare_rule-in-Rule-clause-steps
-returns-in_ok-declare_rule-in-Rule-clause-steps g c = λ main entries around holds stands.
+pub returns-in_ok-declare_rule-in-Rule-clause-reads : goal.returns-in_ok-declare_rule-in-Rule-clause-reads
+returns-in_ok-declare_rule-in-Rule-clause-reads g c = λ main entries around holds stands.
     let name : NameText = record { spot = c.in-Rule.name_spot; name = c.in-Rule.name.now } in
-    let told = source_text (g.S.FileSource.readings c.args.source.now) (g.S.FileSource.failures c.args.source.now) in
-    let declares = c.in_ok-declare_rule-in-Rule.ensures.declares main entries around holds in
+    let told = g.S.FileSource.state c.args.source.now in
+    let declares = c.in_ok-declare_rule-in-Rule.ensures.declares main entries around holds stands in
     rw (ap statement_text c.in-Rule.is)
-    (reads-one main (g.S.FileSource.files c.args.source.now) told c.args.self.now c.declare_rule.new.self (site_of c.args.file around) entries (record { spot = c.args.statement.now.spot; item = RuleText name (lines_text c.in-Rule.lines.items) })
+    (reads-one main told c.args.self.now c.declare_rule.new.self (site_of c.args.file around) entries (record { spot = c.args.statement.now.spot; item = RuleText name (lines_text c.in-Rule.lines.items) })
     holds (subst (λ ls. Holds main c.declare_rule.new.self (entry_at (site_of c.args.file around) (RuleText name (lines_text ls)) ∷ entries)) c.deref.ensures.value declares.1) declares.0 c.in_ok-declare_rule-in-Rule.ensures.files (λ opens. refl))
 
-pub returns-in-Build-clause-steps : goal.returns-in-Build-clause-steps
-returns-in-Build-clause-steps g c = λ main entries around holds stands.
-    let told = source_text (g.S.FileSource.readings c.args.source.now) (g.S.FileSource.failures c.args.source.now) in
+pub returns-in-Build-clause-reads : goal.returns-in-Build-clause-reads
+returns-in-Build-clause-reads g c = λ main entries around holds stands.
+    let told = g.S.FileSource.state c.args.source.now in
     rw (ap statement_text c.in-Build.is)
-    (stops-own main (g.S.FileSource.files c.args.source.now) told told c.args.self.now entries holds refl c.args.file.left (site_of c.args.file around) (record { spot = c.args.statement.now.spot; item = statement_text (statement.Build c.in-Build.explicit_outs c.in-Build.implicit_outs c.in-Build.rule c.in-Build.rule_spot c.in-Build.explicit c.in-Build.implicit c.in-Build.order_only c.in-Build.validations c.in-Build.lines) })
+    (stops-own main told told c.args.self.now entries holds refl c.args.file.left (site_of c.args.file around) (record { spot = c.args.statement.now.spot; item = statement_text (statement.Build c.in-Build.explicit_outs c.in-Build.implicit_outs c.in-Build.rule c.in-Build.rule_spot c.in-Build.explicit c.in-Build.implicit c.in-Build.order_only c.in-Build.validations c.in-Build.lines) })
     _ c.fault.result refl c.fault.ensures)
 
-pub returns-in-Default-clause-steps : goal.returns-in-Default-clause-steps
-returns-in-Default-clause-steps g c = λ main entries around holds stands.
-    let told = source_text (g.S.FileSource.readings c.args.source.now) (g.S.FileSource.failures c.args.source.now) in
+pub returns-in-Default-clause-reads : goal.returns-in-Default-clause-reads
+returns-in-Default-clause-reads g c = λ main entries around holds stands.
+    let told = g.S.FileSource.state c.args.source.now in
     rw (ap statement_text c.in-Default.is)
-    (stops-own main (g.S.FileSource.files c.args.source.now) told told c.args.self.now entries holds refl c.args.file.left (site_of c.args.file around) (record { spot = c.args.statement.now.spot; item = statement_text (statement.Default c.in-Default.words) })
+    (stops-own main told told c.args.self.now entries holds refl c.args.file.left (site_of c.args.file around) (record { spot = c.args.statement.now.spot; item = statement_text (statement.Default c.in-Default.words) })
     _ c.fault-in-Default.result refl c.fault-in-Default.ensures)
 
-pub returns-in_ok-named-in-Include-clause-steps : goal.returns-in_ok-named-in-Include-clause-steps
-returns-in_ok-named-in-Include-clause-steps g c = λ main entries around holds stands.
-    rw (ap statement_text c.in-Include.is) (c.in_ok-named-in-Include.ensures.opens main entries around c.args.statement.now.spot holds stands)
+pub returns-in_ok-named-in-Include-clause-reads : goal.returns-in_ok-named-in-Include-clause-reads
+returns-in_ok-named-in-Include-clause-reads g c = λ main entries around holds stands.
+    rw (ap statement_text c.in-Include.is) (c.in_ok-named-in-Include.ensures.opens c.args.statement.now.spot main entries around holds stands)
 
-pub returns-in_ok-named-in-Subninja-clause-steps : goal.returns-in_ok-named-in-Subninja-clause-steps
-returns-in_ok-named-in-Subninja-clause-steps g c = λ main entries around holds stands.
-    rw (ap statement_text c.in-Subninja.is) (c.in_ok-named-in-Subninja.ensures.opens main entries around c.args.statement.now.spot holds stands)
+pub returns-in_ok-named-in-Subninja-clause-reads : goal.returns-in_ok-named-in-Subninja-clause-reads
+returns-in_ok-named-in-Subninja-clause-reads g c = λ main entries around holds stands.
+    rw (ap statement_text c.in-Subninja.is) (c.in_ok-named-in-Subninja.ensures.opens c.args.statement.now.spot main entries around holds stands)
