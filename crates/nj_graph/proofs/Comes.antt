@@ -9,8 +9,8 @@ use Rattle.nj_scope.specs.Readings.{reading_of, IsPrefix}
 use Rattle.nj_scope.specs.ReadingList.{Entry, files_opened}
 use Rattle.nj_graph.specs.declared.fault.Place.{Place}
 use Rattle.nj_graph.specs.declared.fault.GraphFault.{GraphFault}
-use Rattle.nj_graph.specs.Statements.{said}
-use Rattle.nj_graph.specs.Reading.{Site, own_fault, End, Whole, Refused, Lacking, ReadingText, go_on, and_then, Opens, item_read, unless_fault, statement_read, end_by, statements_read, most_opened, most_within, found_read, answer_read, if_room, opened_in, main_site, main_read, path_named, with_new, with_named, paths_read, path_at_end, paths_come_to}
+use Rattle.nj_graph.specs.Statements.{parsed}
+use Rattle.nj_graph.specs.Reading.{Site, entry_at, own_fault, End, Whole, Refused, Lacking, ReadingText, go_on, and_then, Opens, item_read, unless_fault, statement_read, end_by, statements_read, most_opened, most_within, found_read, answer_read, if_room, opened_in, main_site, main_read, path_named, with_new, with_named, paths_read, path_at_end, paths_come_to}
 
 -- ---- paths before others
 
@@ -55,34 +55,34 @@ OpensCome main opens = (site : Site) (place : Place) (e : Entry) (before : List 
 ends-there : (main : List ℕ) (before : List Entry) (end : End) → ComesTo main before (record { entries = before; end = end })
 ends-there main before end = prefix-named (paths_read main before) (path_at_end end)
 
-item_read-comes : (main : List ℕ) (opens : Opens) → OpensCome main opens → (site : Site) (before : List Entry) (item : StatementText) → ComesTo main before (item_read opens site before item)
-item_read-comes main opens comes site before (BindingText name value) = prefix-self (paths_read main before)
-item_read-comes main opens comes site before (RuleText name lines) = prefix-self (paths_read main before)
-item_read-comes main opens comes site before (PoolText name lines) = prefix-self (paths_read main before)
-item_read-comes main opens comes site before (BuildText outputs rule inputs lines) = prefix-self (paths_read main before)
-item_read-comes main opens comes site before (DefaultText words) = prefix-self (paths_read main before)
-item_read-comes main opens comes site before (IncludeText word) = comes _ _ _ before
-item_read-comes main opens comes site before (SubninjaText word) = comes _ _ _ before
+item_read-comes : (main : List ℕ) (opens : Opens) → OpensCome main opens → (e : Entry) (before : List Entry) (item : StatementText) → ComesTo main before (item_read opens e before item)
+item_read-comes main opens comes e before (BindingText name value) = prefix-named (paths_read main before) (path_named e before e.item)
+item_read-comes main opens comes e before (RuleText name lines) = prefix-named (paths_read main before) (path_named e before e.item)
+item_read-comes main opens comes e before (PoolText name lines) = prefix-named (paths_read main before) (path_named e before e.item)
+item_read-comes main opens comes e before (BuildText outputs rule inputs lines) = prefix-named (paths_read main before) (path_named e before e.item)
+item_read-comes main opens comes e before (DefaultText words) = prefix-named (paths_read main before) (path_named e before e.item)
+item_read-comes main opens comes e before (IncludeText word) = comes _ _ _ before
+item_read-comes main opens comes e before (SubninjaText word) = comes _ _ _ before
 
-statement_read-comes : (main : List ℕ) (opens : Opens) → OpensCome main opens → (site : Site) (before : List Entry) (s : PlacedText) → ComesTo main before (statement_read opens site before s)
-statement_read-comes main opens comes site before s = by_fault (own_fault site before s.spot s.item)
+statement_read-comes : (main : List ℕ) (opens : Opens) → OpensCome main opens → (e : Entry) (before : List Entry) → ComesTo main before (statement_read opens e before)
+statement_read-comes main opens comes e before = by_fault (own_fault e before)
   where
-    by_fault : (f : Option GraphFault) → ComesTo main before (unless_fault f opens site before s.item)
+    by_fault : (f : Option GraphFault) → ComesTo main before (unless_fault f opens e before)
     by_fault (Some fault) = ends-there main before (Refused fault)
-    by_fault None = item_read-comes main opens comes site before s.item
+    by_fault None = item_read-comes main opens comes e before e.item
 
 statements_read-come : (main : List ℕ) (opens : Opens) → OpensCome main opens → (site : Site) (statements : List PlacedText) (fault : Option Fault) (before : List Entry) → ComesTo main before (statements_read opens site statements fault before)
 unfolding statements_read
 statements_read-come main opens comes site [] fault before = ends-there main before (end_by site.file fault)
 statements_read-come main opens comes site (s ∷ others) fault before =
-    and_then-comes main (paths_read main before) (statement_read opens site before s) (λ entries. statements_read opens site others fault entries) (statement_read-comes main opens comes site before s) (statements_read-come main opens comes site others fault)
+    and_then-comes main (paths_read main before) (statement_read opens (entry_at site s) before) (λ entries. statements_read opens site others fault entries) (statement_read-comes main opens comes (entry_at site s) before) (statements_read-come main opens comes site others fault)
 
 -- ---- a file
 
 found_read-comes : (main : List ℕ) (within : Opens) → OpensCome main within → (site : Site) (place : Place) (entries before : List Entry) → IsPrefix (paths_read main before) (paths_read main entries) → (text : Option (List ℕ)) → ComesTo main before (found_read within site place entries before text)
 found_read-comes main within comes site place entries before more None = prefix-new (paths_read main before) site.file
 found_read-comes main within comes site place entries before more (Some text) =
-    prefix-then (paths_read main before) (paths_read main entries) _ more (statements_read-come main within comes site (said text).statements (said text).fault entries)
+    prefix-then (paths_read main before) (paths_read main entries) _ more (statements_read-come main within comes site (parsed text).statements (parsed text).fault entries)
 
 answer_read-comes : (main : List ℕ) (within : Opens) → OpensCome main within → (site : Site) (place : Place) (entries before : List Entry) → IsPrefix (paths_read main before) (paths_read main entries) → (r : Option table.Reading) → ComesTo main before (answer_read within site place entries before r)
 answer_read-comes main within comes site place entries before more None = prefix-new (paths_read main before) site.file
@@ -97,7 +97,7 @@ opened-comes main files (suc left) site place e before = by_room (nat_lt (files_
     by_room false comes = prefix-self (paths_read main before)
     by_room true comes = answer_read-comes main (opened_in files left) comes site place (e ∷ before) before (prefix-named (paths_read main before) (path_named e before e.item)) (reading_of files site.file)
 
-pub item-comes : (main : List ℕ) (files : List table.Reading) (left : ℕ) (site : Site) (before : List Entry) (s : PlacedText) → IsPrefix (paths_read main before) (paths_come_to main (statement_read (opened_in files left) site before s))
+pub item-comes : (main : List ℕ) (files : List table.Reading) (left : ℕ) (e : Entry) (before : List Entry) → IsPrefix (paths_read main before) (paths_come_to main (statement_read (opened_in files left) e before))
 item-comes main files left = statement_read-comes main (opened_in files left) (opened-comes main files left)
 
 pub statements-come : (main : List ℕ) (files : List table.Reading) (left : ℕ) (site : Site) (statements : List PlacedText) (fault : Option Fault) (before : List Entry) → IsPrefix (paths_read main before) (paths_come_to main (statements_read (opened_in files left) site statements fault before))
@@ -125,7 +125,7 @@ opened-names main files left site place e before names room =
 
     by_text : (text : Option (List ℕ)) → Front (found_read (opened_in files left) site place (e ∷ before) before text)
     by_text None = prefix-self front
-    by_text (Some text) = subst (λ paths. IsPrefix paths (paths_come_to main (found_read (opened_in files left) site place (e ∷ before) before (Some text)))) named (statements-come main files left site (said text).statements (said text).fault (e ∷ before))
+    by_text (Some text) = subst (λ paths. IsPrefix paths (paths_come_to main (found_read (opened_in files left) site place (e ∷ before) before (Some text)))) named (statements-come main files left site (parsed text).statements (parsed text).fault (e ∷ before))
 
     by_answer : (r : Option table.Reading) → Front (answer_read (opened_in files left) site place (e ∷ before) before r)
     by_answer None = prefix-self front

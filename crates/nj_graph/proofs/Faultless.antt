@@ -7,7 +7,7 @@ use Rattle.nj_text.specs.declared.spot.Spot.{Spot}
 use Rattle.nj_text.specs.Calls.{is_empty}
 use Rattle.nj_graph.specs.declared.fault.Cause.TheVariants.{EmptyPath, PathNotText}
 use Rattle.nj_graph.specs.Faults.{fault_at}
-use Rattle.nj_graph.specs.Reading.{Site, fault_if, or_then, path_fault}
+use Rattle.nj_graph.specs.Reading.{fault_if, or_then, path_fault}
 
 pub empty-by_length : (bytes : List ℕ) (b : Bool) → b ≡ (length bytes == 0) → is_empty bytes ≡ b
 empty-by_length [] b h = sym h
@@ -16,18 +16,18 @@ empty-by_length (x ∷ xs) b h = sym (h ∙ never (length xs))
     never : (n : ℕ) → (suc n == 0) ≡ false
     never n = grind (arith, common_steps)
 
-pub path-empty : (site : Site) (spot : Spot) (path : List ℕ) → is_empty path ≡ true → path_fault site spot path ≡ Some (fault_at site.file spot EmptyPath)
-path-empty site spot path h = ap (λ b. or_then (fault_if b (fault_at site.file spot EmptyPath)) (fault_if (not (is_utf8 path)) (fault_at site.file spot PathNotText))) h
+pub path-empty : (file : List ℕ) (spot : Spot) (path : List ℕ) → is_empty path ≡ true → path_fault file spot path ≡ Some (fault_at file spot EmptyPath)
+path-empty file spot path h = ap (λ b. or_then (fault_if b (fault_at file spot EmptyPath)) (fault_if (not (is_utf8 path)) (fault_at file spot PathNotText))) h
 
-pub path-utf8 : (site : Site) (spot : Spot) (path : List ℕ) → is_empty path ≡ false → path_fault site spot path ≡ fault_if (not (is_utf8 path)) (fault_at site.file spot PathNotText)
-path-utf8 site spot path h = ap (λ b. or_then (fault_if b (fault_at site.file spot EmptyPath)) (fault_if (not (is_utf8 path)) (fault_at site.file spot PathNotText))) h
+pub path-utf8 : (file : List ℕ) (spot : Spot) (path : List ℕ) → is_empty path ≡ false → path_fault file spot path ≡ fault_if (not (is_utf8 path)) (fault_at file spot PathNotText)
+path-utf8 file spot path h = ap (λ b. or_then (fault_if b (fault_at file spot EmptyPath)) (fault_if (not (is_utf8 path)) (fault_at file spot PathNotText))) h
 
-pub path-whole : {Z : Type 0} (site : Site) (spot : Spot) (path : List ℕ) (s : String Z) → is_empty path ≡ false → string_bytes s ≡ path → path_fault site spot path ≡ None
-path-whole site spot path s h e =
-    path-utf8 site spot path h ∙ ap (λ b. fault_if (not b) (fault_at site.file spot PathNotText)) (is_utf8-from_IsUtf8 path (subst IsUtf8 e (IsUtf8-string_bytes s)))
+pub path-whole : {Z : Type 0} (file : List ℕ) (spot : Spot) (path : List ℕ) (s : String Z) → is_empty path ≡ false → string_bytes s ≡ path → path_fault file spot path ≡ None
+path-whole file spot path s h e =
+    path-utf8 file spot path h ∙ ap (λ b. fault_if (not b) (fault_at file spot PathNotText)) (is_utf8-from_IsUtf8 path (subst IsUtf8 e (IsUtf8-string_bytes s)))
 
-pub path-bad : (site : Site) (spot : Spot) (path : List ℕ) → is_empty path ≡ false → (IsUtf8 path → ⊥) → path_fault site spot path ≡ Some (fault_at site.file spot PathNotText)
-path-bad site spot path h bad = path-utf8 site spot path h ∙ ap (λ b. fault_if (not b) (fault_at site.file spot PathNotText)) (by (is_utf8 path) refl)
+pub path-bad : (file : List ℕ) (spot : Spot) (path : List ℕ) → is_empty path ≡ false → (IsUtf8 path → ⊥) → path_fault file spot path ≡ Some (fault_at file spot PathNotText)
+path-bad file spot path h bad = path-utf8 file spot path h ∙ ap (λ b. fault_if (not b) (fault_at file spot PathNotText)) (by (is_utf8 path) refl)
   where
     by : (b : Bool) → is_utf8 path ≡ b → b ≡ false
     by true e = absurd (bad (IsUtf8-from_is_utf8 path e))

@@ -19,7 +19,7 @@ use Rattle.nj_graph.specs.ReaderContracts.{ReadsAll, AnswersText}
 use Rattle.nj_graph.proofs.Tables.{reading-at, with_new-known, paths-one_more, read-nothing, read-one}
 
 -- a text that is found at a path
-pub record Finds (before after : SourceState) (old held : List Reading) (path text : List ℕ) : Type 0 where
+pub record FindsText (before after : SourceState) (old held : List Reading) (path text : List ℕ) : Type 0 where
   pub files : List Reading
   pub reads : ReadsAll before after old files held
   pub found : reading_of files path ≡ Some (record { path = path; bytes = Some text })
@@ -74,7 +74,7 @@ module _ (before after : SourceState) (old held : List Reading) (path : List ℕ
   opened-holds found opens =
       reading-at path held (opened-is_read before after old held path found opens) ∙ ap (λ bytes. Some (record { path = path; bytes = bytes })) (sym (opened-found before after old held path found opens))
 
-  pub found-text : (place : Place) (text : RcSlice ℕ Global) → AnswersText before after old held place path (Ok text) → Finds before after old held path (rc_slice_items text)
+  pub found-text : (place : Place) (text : RcSlice ℕ Global) → AnswersText before after old held place path (Ok text) → FindsText before after old held path (rc_slice_items text)
   found-text place text opens = record {
     files = held;
     reads = (opened-reads (Some text) opens).0;

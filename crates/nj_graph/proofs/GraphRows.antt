@@ -2,8 +2,8 @@
 use Rattle.std.proofs.Common.{◌≡◌, ℕ, List, [], ◌∷◌, map, true, false, refl}
 use Rattle.std.specs.Prelude.{codes}
 use Rattle.nj_text.specs.Words.{PartText, Text, Name}
-use Rattle.nj_scope.specs.Rules.{RuleText, RuleLineText}
-use Rattle.nj_graph.specs.Graph.{GraphText, insert_by, sorted_by, main_rules_of, main_rule_at, phony_rule, has_description, description_text}
+use Rattle.nj_scope.specs.Rules.{RuleText, RuleLineText, phony_rule}
+use Rattle.nj_graph.specs.Graph.{GraphText, insert_by, sorted_by, main_rules_of, main_rule_at, has_description, description_text}
 
 abbrev line : (key : List ℕ) → List PartText → RuleLineText
 line key value = record { key = key; value = value }
@@ -32,22 +32,22 @@ bare scope name = record { scope = scope; name = name; lines = [] }
 abbrev names : List RuleText → List (List ℕ)
 names rules = map (λ r. r.name) (main_rules_of rules)
 
-none_declared : names [] ≡ codes "phony" ∷ []
+phony_is_listed : names (phony_rule ∷ []) ≡ codes "phony" ∷ []
 unfolding main_rules_of sorted_by insert_by
-none_declared = refl
+phony_is_listed = refl
 
-by_bytes : names (bare 0 (codes "ld") ∷ bare 0 (codes "cc2") ∷ bare 0 (codes "Zip") ∷ bare 0 (codes "cc") ∷ bare 0 (codes "z") ∷ []) ≡ codes "Zip" ∷ codes "cc" ∷ codes "cc2" ∷ codes "ld" ∷ codes "phony" ∷ codes "z" ∷ []
+by_bytes : names (phony_rule ∷ bare 0 (codes "ld") ∷ bare 0 (codes "cc2") ∷ bare 0 (codes "Zip") ∷ bare 0 (codes "cc") ∷ bare 0 (codes "z") ∷ []) ≡ codes "Zip" ∷ codes "cc" ∷ codes "cc2" ∷ codes "ld" ∷ codes "phony" ∷ codes "z" ∷ []
 unfolding main_rules_of sorted_by insert_by
 by_bytes = refl
 
-not_of_a_child : names (bare 1 (codes "cc") ∷ bare 0 (codes "ld") ∷ bare 2 (codes "ar") ∷ []) ≡ codes "ld" ∷ codes "phony" ∷ []
+not_of_a_child : names (phony_rule ∷ bare 1 (codes "cc") ∷ bare 0 (codes "ld") ∷ bare 2 (codes "ar") ∷ []) ≡ codes "ld" ∷ codes "phony" ∷ []
 unfolding main_rules_of sorted_by insert_by
 not_of_a_child = refl
 
 -- ---- descriptions
 
 abbrev graph : GraphText
-graph = record { rules = quiet_rule ∷ cc_rule ∷ [] }
+graph = record { declarations = record { scopes = []; rules = phony_rule ∷ quiet_rule ∷ cc_rule ∷ []; pools = [] } }
 
 first_is_cc : main_rule_at graph 0 ≡ cc_rule
 unfolding main_rules_of sorted_by insert_by

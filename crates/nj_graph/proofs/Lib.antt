@@ -12,7 +12,7 @@ pub mod Openings
 pub mod OtherFiles
 pub mod ReadingLaws
 pub mod ReadingRows
-pub mod SaidLemmas
+pub mod ParsedLemmas
 pub mod SortLemmas
 pub mod Tables
 pub mod Turns

@@ -1,45 +1,41 @@
--- What a graph holds of the rules that it lists.
-use Rattle.std.proofs.Common.{◌≡◌, ℕ, ◌+◌, ◌<◌, Bool, true, false, cond, ◌==◌, List, [], ◌∷◌, ◌++◌, map, take, length, get_or, Some, option_map, unwrap_or, refl, sym, ap, ◌∙◌, eqb-true, eq-eqb}
+-- How a graph holds the rules that it lists.
+use Rattle.std.proofs.Common.{◌≡◌, ℕ, zero, suc, ◌+◌, ◌<◌, Bool, true, false, cond, ◌==◌, List, [], ◌∷◌, ◌++◌, map, take, length, get_or, Option, Some, refl, sym, ap, ◌∙◌, eqb-true, eq-eqb, arith}
+use Rattle.std.specs.Prelude.{slice_get}
 use Rattle.std.specs.List.Sorted.{IsSortedBy, IsStableBy}
 use Rattle.std.proofs.lemmas.Cmp.{nat_list_cmp_total}
-use Rattle.std.proofs.lemmas.List.{map_push, append-nil}
+use Rattle.std.proofs.lemmas.List.{map_push, map-append, append-nil}
 use Rattle.std.proofs.lemmas.List.Elements.{filter_more}
 use Rattle.std.proofs.lemmas.List.Sorted.{ranks_by}
 use Rattle.std.proofs.lemmas.Option.{slice_get-get_or}
-use Rattle.nj_scope.specs.Rules.{RuleText, rules_in}
-use Rattle.nj_graph.specs.declared.graph.MainRule.{MainRule}
-use Rattle.nj_graph.specs.Graph.{is_before, lines_at, main_rule_text, phony_rule, sorted_by, main_rules_of, HoldMainRules}
+use Rattle.nj_scope.specs.Rules.{RuleText, phony_rule, rules_in}
+use Rattle.nj_graph.specs.Graph.{is_before, sorted_by, main_rules_of}
+use Rattle.nj_graph.specs.GraphHeld.{name_of, rule_name, HoldsMainRules}
 use Rattle.nj_graph.proofs.SortLemmas.{sorted_by-map, stable_sort-is}
 
-abbrev pub comes_before : MainRule → MainRule → Bool
-comes_before m n = is_before m.name.items n.name.items
+abbrev some_rule : RuleText → Option RuleText
+some_rule rule = Some rule
 
 module _ (rules : List RuleText) where
-  abbrev text : MainRule → RuleText
-  text = main_rule_text rules
+  abbrev pub comes_before : ℕ → ℕ → Bool
+  comes_before m n = is_before (rule_name rules m) (rule_name rules n)
 
   -- ---- rule by rule
 
-  -- a rule of the main scope is held by its number
-  text-at : (i : ℕ) (rule : RuleText) (m : MainRule) → i < length rules → rule ≡ get_or rules i rule → rule.scope ≡ 0 → m.name.items ≡ rule.name → m.rule ≡ Some i → text m ≡ rule
-  text-at i rule m below is scope name number =
-      ap (λ n. record { scope = 0; name = m.name.items; lines = lines_at rules n }) number
-      ∙ ap (λ o. record { scope = 0; name = m.name.items; lines = unwrap_or (option_map (λ r. r.lines) o) [] }) (slice_get-get_or rules i rule below ∙ ap (λ r. Some r) (sym is))
-      ∙ ap (λ n. record { scope = 0; name = n; lines = rule.lines }) name ∙ ap (λ s. record { scope = s; name = rule.name; lines = rule.lines }) (sym scope)
-
-  module _ (held : List MainRule) (i : ℕ) (rule : RuleText) (below : i < length rules) (is : rule ≡ get_or rules i rule) (so_far : map text held ≡ phony_rule ∷ rules_in (take i rules) 0) where
+  module _ (numbers : List ℕ) (i : ℕ) (rule : RuleText) (below : i < length rules) (is : rule ≡ get_or rules i rule) (so_far : map (slice_get rules) numbers ≡ map some_rule (rules_in (take i rules) 0)) where
     -- with the next rule
     more : rules_in (take (i + 1) rules) 0 ≡ rules_in (take i rules) 0 ++ cond (0 == rule.scope) (rule ∷ []) []
     more = filter_more (λ r. 0 == r.scope) rules i rule below ∙ ap (λ r. rules_in (take i rules) 0 ++ cond (0 == r.scope) (r ∷ []) []) (sym is)
 
-    pub listed-rule : (m : MainRule) → rule.scope ≡ 0 → m.name.items ≡ rule.name → m.rule ≡ Some i → map text (held ++ m ∷ []) ≡ phony_rule ∷ rules_in (take (i + 1) rules) 0
-    listed-rule m scope name number =
-        map_push text held m ∙ ap (λ rs. rs ++ text m ∷ []) so_far ∙ ap (λ r. phony_rule ∷ (rules_in (take i rules) 0 ++ r ∷ [])) (text-at i rule m below is scope name number)
-        ∙ ap (λ rs. phony_rule ∷ rs) (sym (more ∙ ap (λ b. rules_in (take i rules) 0 ++ cond b (rule ∷ []) []) (eq-eqb 0 rule.scope (sym scope))))
+    pub listed-rule : rule.scope ≡ 0 → map (slice_get rules) (numbers ++ i ∷ []) ≡ map some_rule (rules_in (take (i + 1) rules) 0)
+    listed-rule scope =
+        map_push (slice_get rules) numbers i ∙ ap (λ rs. rs ++ slice_get rules i ∷ []) so_far
+        ∙ ap (λ r. map some_rule (rules_in (take i rules) 0) ++ r ∷ []) (slice_get-get_or rules i rule below ∙ ap some_rule (sym is))
+        ∙ sym (map_push some_rule (rules_in (take i rules) 0) rule)
+        ∙ ap (map some_rule) (sym (more ∙ ap (λ b. rules_in (take i rules) 0 ++ cond b (rule ∷ []) []) (eq-eqb 0 rule.scope (sym scope))))
 
-    pub passed-rule : (rule.scope ≡ 0 → ⊥) → map text held ≡ phony_rule ∷ rules_in (take (i + 1) rules) 0
+    pub passed-rule : (rule.scope ≡ 0 → ⊥) → map (slice_get rules) numbers ≡ map some_rule (rules_in (take (i + 1) rules) 0)
     passed-rule other =
-        so_far ∙ ap (λ rs. phony_rule ∷ rs) (sym (more ∙ ap (λ b. rules_in (take i rules) 0 ++ cond b (rule ∷ []) []) (differs (0 == rule.scope) (eqb-true 0 rule.scope)) ∙ append-nil (rules_in (take i rules) 0)))
+        so_far ∙ ap (map some_rule) (sym (more ∙ ap (λ b. rules_in (take i rules) 0 ++ cond b (rule ∷ []) []) (differs (0 == rule.scope) (eqb-true 0 rule.scope)) ∙ append-nil (rules_in (take i rules) 0)))
       where
         differs : (b : Bool) → (b ≡ true → 0 ≡ rule.scope) → b ≡ false
         differs true h = absurd (other (sym (h refl)))
@@ -47,8 +43,22 @@ module _ (rules : List RuleText) where
 
   -- ---- sorted
 
-  pub sorted-held : (held sorted : List MainRule) → map text held ≡ phony_rule ∷ rules_in rules 0 → IsSortedBy comes_before sorted → IsStableBy comes_before held sorted → HoldMainRules rules sorted
+  abbrev by_name : Option RuleText → Option RuleText → Bool
+  by_name r s = is_before (name_of r) (name_of s)
+
+  pub sorted-held : (numbers sorted : List ℕ) → map (slice_get rules) numbers ≡ map some_rule (rules_in rules 0) → IsSortedBy comes_before sorted → IsStableBy comes_before numbers sorted → HoldsMainRules rules sorted
   unfolding main_rules_of
-  sorted-held held sorted all up stable =
-      ap (map text) (stable_sort-is comes_before (ranks_by nat_list_cmp_total (λ m. m.name.items)) held sorted up stable)
-      ∙ sorted_by-map text (λ r s. is_before r.name s.name) held ∙ ap (sorted_by (λ r s. is_before r.name s.name)) all
+  sorted-held numbers sorted all up stable =
+      ap (map (slice_get rules)) (stable_sort-is comes_before (ranks_by nat_list_cmp_total (rule_name rules)) numbers sorted up stable)
+      ∙ sorted_by-map (slice_get rules) by_name numbers ∙ ap (sorted_by by_name) all
+      ∙ sym (sorted_by-map some_rule by_name (rules_in rules 0))
+
+-- the rule at an index
+pub held-at : (rules : List RuleText) (numbers : List ℕ) (listed : List RuleText) → map (slice_get rules) numbers ≡ map some_rule listed → (i d : ℕ) → i < length listed → slice_get rules (get_or numbers i d) ≡ Some (get_or listed i phony_rule)
+held-at rules [] [] h i d below = absurd (omega (arith, below))
+held-at rules [] (r ∷ listed) h i d below = absurd cc
+held-at rules (n ∷ numbers) [] h i d below = absurd cc
+held-at rules (n ∷ numbers) (r ∷ listed) h zero d below = cc
+held-at rules (n ∷ numbers) (r ∷ listed) h (suc i) d below =
+    let others : map (slice_get rules) numbers ≡ map some_rule listed = cc in
+    held-at rules numbers listed others i d (omega (arith, below))

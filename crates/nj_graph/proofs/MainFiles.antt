@@ -3,7 +3,7 @@ use Rattle.std.proofs.Common.{◌≡◌, ℕ, true, false, ◌||◌, cond, inl, 
 use Rattle.std.specs.Prelude.{◌⊎◌}
 use Rattle.std.proofs.lemmas.Slice.Eq.{bytes_eq-Decides}
 use Rattle.nj_scope.specs.Readings.{Reading, EachPathOnce, reading_of, is_read, IsPrefix, paths_of}
-use Rattle.nj_scope.specs.Follows.{Follows}
+use Rattle.nj_scope.specs.Declarations.{DeclaredBy}
 use Rattle.nj_scope.specs.Scopes.{outermost}
 use Rattle.nj_scope.specs.Sources.{SourceState}
 use Rattle.nj_graph.specs.declared.fault.GraphFault.{GraphFault}
@@ -11,16 +11,14 @@ use Rattle.nj_graph.specs.declared.reader.Reader.{Reader}
 use Rattle.nj_graph.specs.declared.fault.Place.{Place}
 use Rattle.nj_graph.specs.declared.fault.Cause.TheVariants.{Missing}
 use Rattle.nj_graph.specs.Faults.{no_memory}
-use Rattle.nj_graph.specs.Reading.{Refused, Lacking, ReadingText, opened_in, text_read, answer_read, most_within, main_site, main_read, with_new, paths_come_to}
-use Rattle.nj_graph.specs.ReaderContracts.{IsNew, Holds, Stands, ReadsAll, ReadsText, Reads, StopsAt}
+use Rattle.nj_graph.specs.Reading.{Refused, Lacking, ReadingText, opened_in, text_read, answer_read, most_within, main_site, main_place, main_read, with_new, paths_come_to}
+use Rattle.nj_graph.specs.ReaderContracts.{IsNew, Holds, IsOpenScope, ReadsAll, ReadsText, ReadsOrStops, StopsAt}
 use Rattle.nj_graph.specs.Runs.{IsRead}
-use Rattle.nj_graph.proofs.Found.{Finds, FindsNone, CannotTell, HasNoMemory}
+use Rattle.nj_graph.specs.Loads.{LoadedText, Loads}
+use Rattle.nj_graph.proofs.Found.{FindsText, FindsNone, CannotTell, HasNoMemory}
 use Rattle.nj_graph.proofs.Comes.{main-comes}
 use Rattle.nj_graph.proofs.Tables.{extends-trans, reading-kept, read-extends, reads-all-then, read-nothing}
 use Rattle.nj_graph.proofs.Turns.{stops-then}
-
-abbrev pub front_of : (main : List ℕ) → Place
-front_of main = record { file = main; spot = record { line = 1; column = 1 } }
 
 abbrev main_reading : (main : List ℕ) → List Reading → ReadingText
 main_reading main all = main_read all main
@@ -47,16 +45,16 @@ module _ (main : List ℕ) (before after : SourceState) (fault : GraphFault) whe
       by all (inl none) = subst (λ ps. IsPrefix ps (paths_come_to main (main_read all main))) (sym none) (paths_come_to main (main_read all main), refl)
       by all (inr (one, there)) = subst (λ ps. IsPrefix ps (paths_come_to main (main_read all main))) (sym one) (main-comes main all)
 
-  main-unread : CannotTell before after [] (front_of main) main fault → StopsAt main before after [] (main_reading main) fault
+  main-unread : CannotTell before after [] (main_place main) main fault → StopsAt main before after [] (main_reading main) fault
   unfolding main_read
   main-unread h = record {
     files = [];
     reads = h.reads;
     stops = inr (record {
       entries = [];
-      end = Lacking main (front_of main);
+      end = Lacking main (main_place main);
       answered = (h.answered, h.failures);
-      read = λ all ext lacks. ap (λ r. answer_read (opened_in all most_within) (main_site main) (front_of main) [] [] r) (none (reading_of all main) lacks);
+      read = λ all ext lacks. ap (λ r. answer_read (opened_in all most_within) (main_site main) (main_place main) [] [] r) (none (reading_of all main) lacks);
       came_to = itself main;
     });
   }
@@ -65,25 +63,25 @@ module _ (main : List ℕ) (before after : SourceState) (fault : GraphFault) whe
       none None e = refl
       none (Some r) e = absurd (true≢false e)
 
-  main-none : FindsNone before after [] (front_of main) main fault → StopsAt main before after [] (main_reading main) fault
+  main-none : FindsNone before after [] (main_place main) main fault → StopsAt main before after [] (main_reading main) fault
   unfolding main_read
   main-none h = record {
     files = h.files;
     reads = h.reads;
     stops = inr (record {
       entries = [];
-      end = Refused (record { place = Some (front_of main); cause = Missing main });
+      end = Refused (record { place = Some (main_place main); cause = Missing main });
       answered = (h.answered, h.failures);
-      read = λ all ext lacks. ap (λ r. answer_read (opened_in all most_within) (main_site main) (front_of main) [] [] r) (reading-kept main (record { path = main; bytes = None }) all h.files ext h.found);
+      read = λ all ext lacks. ap (λ r. answer_read (opened_in all most_within) (main_site main) (main_place main) [] [] r) (reading-kept main (record { path = main; bytes = None }) all h.files ext h.found);
       came_to = itself main ∙ sym h.came_to;
     });
   }
 
-  pub main-fault : (old : List Reading) → old ≡ [] → HasNoMemory before after old main fault ⊎ (CannotTell before after old (front_of main) main fault ⊎ FindsNone before after old (front_of main) main fault)
+  pub main-fault : (old : List Reading) → old ≡ [] → HasNoMemory before after old main fault ⊎ (CannotTell before after old (main_place main) main fault ⊎ FindsNone before after old (main_place main) main fault)
       → StopsAt main before after old (main_reading main) fault
-  main-fault old is h = subst (λ fs. StopsAt main before after fs (main_reading main) fault) (sym is) (by (subst (λ fs. HasNoMemory before after fs main fault ⊎ (CannotTell before after fs (front_of main) main fault ⊎ FindsNone before after fs (front_of main) main fault)) is h))
+  main-fault old is h = subst (λ fs. StopsAt main before after fs (main_reading main) fault) (sym is) (by (subst (λ fs. HasNoMemory before after fs main fault ⊎ (CannotTell before after fs (main_place main) main fault ⊎ FindsNone before after fs (main_place main) main fault)) is h))
     where
-      by : HasNoMemory before after [] main fault ⊎ (CannotTell before after [] (front_of main) main fault ⊎ FindsNone before after [] (front_of main) main fault) → StopsAt main before after [] (main_reading main) fault
+      by : HasNoMemory before after [] main fault ⊎ (CannotTell before after [] (main_place main) main fault ⊎ FindsNone before after [] (main_place main) main fault) → StopsAt main before after [] (main_reading main) fault
       by (inl m) = main-memory m
       by (inr (inl m)) = main-unread m
       by (inr (inr m)) = main-none m
@@ -91,23 +89,23 @@ module _ (main : List ℕ) (before after : SourceState) (fault : GraphFault) whe
 -- ---- the main file is there
 
 -- its scope
-pub main-stands : (held : Reader) → IsNew held → Stands held.declared.scopes 0 []
-main-stands held new = record { within = outermost new.outermost; there = (rw new.follows.scopes (omega arith), tt) }
+pub main-stands : (held : Reader) → IsNew held → IsOpenScope held.declarations.scopes 0 []
+main-stands held new = record { within = outermost new.outermost; there = (rw new.declares.scopes (omega arith), tt) }
 
-module _ (main : List ℕ) (before mid after : SourceState) (old opened held : Reader) (text : List ℕ) (new : IsNew old) (found : Finds before mid old.files opened.files main text) where
+module _ (main : List ℕ) (before mid after : SourceState) (old opened held : Reader) (text : List ℕ) (new : IsNew old) (found : FindsText before mid old.files opened.files main text) where
   is-text : (all : List Reading) → IsPrefix found.files all → main_read all main ≡ text_read (opened_in all most_within) (main_site main) text []
   unfolding main_read
-  is-text all ext = ap (λ r. answer_read (opened_in all most_within) (main_site main) (front_of main) [] [] r) (reading-kept main (record { path = main; bytes = Some text }) all found.files ext found.found)
+  is-text all ext = ap (λ r. answer_read (opened_in all most_within) (main_site main) (main_place main) [] [] r) (reading-kept main (record { path = main; bytes = Some text }) all found.files ext found.found)
 
-  pub main-holds : opened.declared ≡ old.declared → opened.opened ≡ old.opened → Holds main opened []
+  pub main-holds : opened.declarations ≡ old.declarations → opened.opened ≡ old.opened → Holds main opened []
   main-holds declared count = record {
-    follows = subst (λ d. Follows d []) (sym declared) new.follows;
+    declares = subst (λ d. DeclaredBy d []) (sym declared) new.declares;
     opened = count ∙ new.opened;
     paths_are = ap paths_of found.reads.held_is ∙ found.came_to ∙ ap (λ fs. with_new (paths_of fs) main) new.files;
     once = subst EachPathOnce (sym found.reads.held_is) found.reads.reads.once;
   }
 
-  pub main-reads : (result : Result (Unit {0}) GraphFault) → Reads main mid after opened held (λ all. text_read (opened_in all most_within) (main_site main) text []) result → Reads main before after old held (main_reading main) result
+  pub main-reads : (result : Result (Unit {0}) GraphFault) → ReadsOrStops main mid after opened held (λ all. text_read (opened_in all most_within) (main_site main) text []) result → ReadsOrStops main before after old held (main_reading main) result
   main-reads (Ok done) r = record {
     files = r.files;
     reads = reads-all-then before mid after old.files found.files r.files opened.files held.files found.reads there;
@@ -131,3 +129,19 @@ reads-memory main before after old held fault r none = record {
   reads = r.reads.reads;
   stops = inl (record { answered = none; failures = r.reads.failures; came_to = λ all ext. ([], ap (paths_come_to main) (r.read all ext) ∙ sym r.holds.paths_are ∙ ap paths_of r.reads.held_is ∙ sym (append-nil (paths_of r.files))) });
 }
+
+-- all was read, and the graph has what was declared
+pub is-loaded : (main : List ℕ) (before after : SourceState) (old held : Reader) (loaded : LoadedText) → old.files ≡ [] → ReadsText main before after old held (main_reading main)
+    → loaded.files ≡ held.files → loaded.graph.declarations ≡ held.declarations → Loads main before after (Ok loaded)
+is-loaded main before after old held loaded none r same_files same_declarations = (
+  r.files,
+  subst (λ fs. IsRead before after fs r.files) none r.reads.reads,
+  record {
+    files_are = same_files ∙ r.reads.held_is;
+    entries = r.entries;
+    read = r.read r.files ([], sym (append-nil r.files));
+    graph_is = subst (λ d. DeclaredBy d r.entries) (sym same_declarations) r.holds.declares;
+    came_to = sym r.holds.paths_are ∙ ap paths_of r.reads.held_is;
+    failures = r.reads.failures;
+  },
+)

@@ -11,7 +11,7 @@ use Rattle.std.proofs.lemmas.Map.Text.{is_eq-slice_cmp}
 use Rattle.nj_scope.specs.Rules.{RuleText, rules_in, rule_names}
 use Rattle.nj_scope.specs.ReadingList.{Entry, rule_texts, EachRuleIsNew}
 use Rattle.nj_scope.proofs.RuleNames.{names-distinct}
-use Rattle.nj_graph.specs.Graph.{insert_by, sorted_by, is_before, phony_rule, main_rules_of, NamesRise, ListsMainRules}
+use Rattle.nj_graph.specs.Graph.{insert_by, sorted_by, is_before, main_rules_of, NamesRise, ListsMainRules}
 use Rattle.nj_graph.proofs.SortLemmas.{sorted_by-map, all-insert, all-sorted}
 
 -- ---- the names rise
@@ -43,7 +43,7 @@ strict-sorted (k ∷ ks) distinct = strict-insert k (sorted_by is_before ks) (al
 
 pub names_rise : NamesRise
 unfolding main_rules_of
-names_rise rules distinct = subst (IsStrictlySortedBy order) (sym (sorted_by-map (λ r. r.name) is_before (phony_rule ∷ rules_in rules 0))) (strict-sorted (rule_names rules 0) distinct)
+names_rise rules distinct = subst (IsStrictlySortedBy order) (sym (sorted_by-map (λ r. r.name) is_before (rules_in rules 0))) (strict-sorted (rule_names rules 0) distinct)
 
 -- they rise in a reading in which each rule was new as it was declared
 pub names_rise-read : (entries : List Entry) → EachRuleIsNew entries → IsStrictlySortedBy (slice_cmp nat_cmp) (map (λ r. r.name) (main_rules_of (rule_texts entries)))
@@ -90,24 +90,19 @@ module _ {X : Type 0} where
   permuted-sorted lt (x ∷ xs) =
       IsPermutation-trans (x ∷ xs) (x ∷ sorted_by lt xs) (insert_by lt x (sorted_by lt xs)) (IsPermutation-cons x xs (sorted_by lt xs) (permuted-sorted lt xs)) (permuted-insert lt x (sorted_by lt xs))
 
-listed-unsorted : (rules : List RuleText) (rule : RuleText) → Contains (phony_rule ∷ rules_in rules 0) rule → (rule ≡ phony_rule) ⊎ ((rule.scope ≡ 0) × Contains rules rule)
-listed-unsorted rules rule h = by (contains-cases phony_rule rule (rules_in rules 0) h)
-  where
-    by : (rule ≡ phony_rule) ⊎ Contains (rules_in rules 0) rule → (rule ≡ phony_rule) ⊎ ((rule.scope ≡ 0) × Contains rules rule)
-    by (inl e) = inl e
-    by (inr c) = inr (
-      sym (eqb-true 0 rule.scope (All-contains (λ r. (0 == r.scope) ≡ true) (rules_in rules 0) rule (filter_passes (λ r. 0 == r.scope) rules) c)),
-      All-contains (Contains rules) (rules_in rules 0) rule (All-filter (λ r. 0 == r.scope) (Contains rules) rules (All-contains_itself rules)) c,
-    )
+listed-unsorted : (rules : List RuleText) (rule : RuleText) → Contains (rules_in rules 0) rule → (rule.scope ≡ 0) × Contains rules rule
+listed-unsorted rules rule c = (
+  sym (eqb-true 0 rule.scope (All-contains (λ r. (0 == r.scope) ≡ true) (rules_in rules 0) rule (filter_passes (λ r. 0 == r.scope) rules) c)),
+  All-contains (Contains rules) (rules_in rules 0) rule (All-filter (λ r. 0 == r.scope) (Contains rules) rules (All-contains_itself rules)) c,
+)
 
-unsorted-listed : (rules : List RuleText) (rule : RuleText) → (rule ≡ phony_rule) ⊎ ((rule.scope ≡ 0) × Contains rules rule) → Contains (phony_rule ∷ rules_in rules 0) rule
-unsorted-listed rules rule (inl e) = subst (Contains (phony_rule ∷ rules_in rules 0)) (sym e) (contains-here phony_rule (rules_in rules 0))
-unsorted-listed rules rule (inr c) = contains-later phony_rule rule (rules_in rules 0) (contains-filter (λ r. 0 == r.scope) rules rule (eq-eqb 0 rule.scope (sym c.0)) c.1)
+unsorted-listed : (rules : List RuleText) (rule : RuleText) → (rule.scope ≡ 0) × Contains rules rule → Contains (rules_in rules 0) rule
+unsorted-listed rules rule c = contains-filter (λ r. 0 == r.scope) rules rule (eq-eqb 0 rule.scope (sym c.0)) c.1
 
 pub lists_main_rules : ListsMainRules
 unfolding main_rules_of
 lists_main_rules rules rule =
-    let all : List RuleText = phony_rule ∷ rules_in rules 0 in
+    let all : List RuleText = rules_in rules 0 in
     let moved : IsPermutation all (sorted_by (λ r s. is_before r.name s.name) all) = permuted-sorted (λ r s. is_before r.name s.name) all in (
       λ h. listed-unsorted rules rule (Contains-permutation (sorted_by (λ r s. is_before r.name s.name) all) all rule (IsPermutation-sym all (sorted_by (λ r s. is_before r.name s.name) all) moved) h),
       λ h. Contains-permutation all (sorted_by (λ r s. is_before r.name s.name) all) rule moved (unsorted-listed rules rule h),

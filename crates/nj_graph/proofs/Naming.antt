@@ -1,25 +1,29 @@
 -- What is read of a statement, where it has a fault of its own, and where it names a file.
-use Rattle.std.proofs.Common.{◌≡◌, ℕ, suc, ◌+◌, ◌<◌, ◌≤◌, Result, Ok, Err, IsErr, length, arith, Bool, true, false, true≢false, inl, inr, Option, Some, None, option_map, List, [], ◌∷◌, refl, sym, ap, subst, ◌∙◌, add-one}
+use Rattle.std.proofs.Common.{◌≡◌, ℕ, suc, ◌+◌, ◌<◌, ◌≤◌, Result, Ok, Err, IsErr, IfOk, OnOk, length, arith, Bool, true, false, true≢false, inl, inr, Option, Some, None, option_map, List, [], ◌∷◌, refl, sym, ap, subst, ◌∙◌, add-one}
 use Rattle.std.specs.List.{AllByRecursion}
 use Rattle.std.specs.Result.{IsErrAnd}
 use Rattle.nj_text.specs.declared.spot.Spot.{Spot}
+use Rattle.nj_text.specs.Words.{WordText}
 use Rattle.nj_text.specs.declared.fault.UnitFault.TheVariants as lex
 use Rattle.nj_manifest.specs.Faults as text
-use Rattle.nj_manifest.specs.Statements.{StatementText, BindingText, RuleText, PoolText, BuildText, DefaultText, IncludeText, SubninjaText, LineText, PlacedText}
+use Rattle.nj_manifest.specs.Statements.{StatementText, BindingText, RuleText, PoolText, BuildText, DefaultText, IncludeText, SubninjaText, LineText}
 use Rattle.nj_scope.specs.Readings.{Reading, EachPathOnce, IsPrefix, paths_of}
 use Rattle.nj_scope.specs.Scopes.{IsScope, outermost, child}
 use Rattle.nj_scope.specs.ScopesHeld.{ScopeText, parent_at}
-use Rattle.nj_scope.specs.Follows.{Follows}
-use Rattle.nj_scope.specs.ReadingList.{Entry, files_opened, opens_file}
+use Rattle.nj_scope.specs.Declarations.{DeclarationsText, DeclaredBy, TakesIn}
+use Rattle.nj_scope.specs.ReadingList.{Entry, scope_of, files_opened, opens_file}
 use Rattle.nj_scope.specs.Sources.{SourceState}
 use Rattle.nj_graph.specs.declared.fault.GraphFault.{GraphFault}
+use Rattle.nj_graph.specs.declared.opening.Naming.{Naming}
+use Rattle.nj_graph.specs.declared.opening.Naming.TheVariants as naming
 use Rattle.nj_graph.specs.declared.reader.Reader.{Reader}
+use Rattle.nj_graph.specs.declared.reader.OpenFile.{OpenFile}
 use Rattle.nj_graph.specs.declared.fault.Place.{Place}
 use Rattle.nj_graph.specs.declared.fault.Cause.{Cause}
 use Rattle.nj_graph.specs.Faults.{fault_at, fault_in, no_memory}
-use Rattle.nj_graph.specs.Reading.{Site, entry_at, fault_if, or_then, depth_fault, own_fault, Whole, Refused, ReadingText, Opens, item_read, unless_fault, statement_read, opened_in, text_read, path_named, with_new, with_named, paths_read, path_at_fault, paths_come_to}
+use Rattle.nj_graph.specs.Reading.{Site, entry_at, site_scope, expanded_in, place_at, path_fault, subninja_site, fault_if, or_then, depth_fault, item_fault, own_fault, Whole, Refused, ReadingText, Opens, item_read, unless_fault, statement_read, opened_in, text_read, path_named, with_new, with_named, paths_read, path_at_fault, paths_come_to}
 use Rattle.nj_graph.specs.Runs.{IsRead, Stops}
-use Rattle.nj_graph.specs.ReaderContracts.{Holds, Grows, Stands, IsFault, ReadsOne, StopsAt, OpensText, OpensFile}
+use Rattle.nj_graph.specs.ReaderContracts.{named_item, named_site, site_of, EntersScope, Holds, Grows, IsOpenScope, IsOpenIn, IsFault, ReadsOne, StopsAt, OpensText, OpensNamed}
 use Rattle.nj_graph.proofs.Comes.{item-comes, statements-come}
 use Rattle.nj_graph.proofs.Tables.{read-nothing}
 
@@ -43,8 +47,8 @@ still-there : (before after : ℕ) → before ≤ after → (ns : List ℕ) → 
 still-there before after more [] there = tt
 still-there before after more (n ∷ ns) there = (omega (arith, more, there.0), still-there before after more ns there.1)
 
-pub stands-grown : (before after : List ScopeText) (number : ℕ) (around : List ℕ) → Grows before after → Stands before number around → Stands after number around
-stands-grown before after number around grows stands = record {
+pub open-grown : (before after : List ScopeText) (number : ℕ) (around : List ℕ) → Grows before after → IsOpenScope before number around → IsOpenScope after number around
+open-grown before after number around grows stands = record {
   within = scope-kept (parent_at before) (parent_at after) (length before) grows.parents number (number ∷ around) stands.within stands.there;
   there = still-there (length before) (length after) grows.count (number ∷ around) stands.there;
 }
@@ -65,18 +69,18 @@ or-names : (first others : Option GraphFault) → NamesNone first → NamesNone 
 or-names (Some first) others one more = one
 or-names None others one more = more
 
-depth-names : (site : Site) (found : Option LineText) (cause : Cause) → path_at_fault cause ≡ [] → NamesNone (option_map (λ l. fault_at site.file l.spot cause) found)
-depth-names site (Some l) cause none fault h = ap (λ f. path_at_fault f.cause) (sym (some-is _ fault h)) ∙ none
-depth-names site None cause none fault h = absurd cc
+depth-names : (file : List ℕ) (found : Option LineText) (cause : Cause) → path_at_fault cause ≡ [] → NamesNone (option_map (λ l. fault_at file l.spot cause) found)
+depth-names file (Some l) cause none fault h = ap (λ f. path_at_fault f.cause) (sym (some-is _ fault h)) ∙ none
+depth-names file None cause none fault h = absurd cc
 
-own-names : (site : Site) (before : List Entry) (spot : Spot) (item : StatementText) → NamesNone (own_fault site before spot item)
-own-names site before spot (BindingText name value) = if-names _ site.file spot _ refl
-own-names site before spot (RuleText name lines) = if-names _ site.file name.spot _ refl
-own-names site before spot (PoolText name lines) = or-names _ (depth_fault site before lines) (if-names _ site.file name.spot _ refl) (depth-names site _ _ refl)
-own-names site before spot (BuildText outputs rule inputs lines) = λ fault h. ap (λ f. path_at_fault f.cause) (sym (some-is _ fault h))
-own-names site before spot (DefaultText words) = λ fault h. ap (λ f. path_at_fault f.cause) (sym (some-is _ fault h))
-own-names site before spot (IncludeText word) = or-names _ _ (if-names _ site.file word.spot _ refl) (if-names _ site.file word.spot _ refl)
-own-names site before spot (SubninjaText word) = or-names _ _ (if-names _ site.file word.spot _ refl) (if-names _ site.file word.spot _ refl)
+item-names : (e : Entry) (before : List Entry) (item : StatementText) → NamesNone (item_fault e before item)
+item-names e before (BindingText name value) = if-names _ e.file e.spot _ refl
+item-names e before (RuleText name lines) = if-names _ e.file name.spot _ refl
+item-names e before (PoolText name lines) = or-names _ (depth_fault e.file (scope_of e) before lines) (if-names _ e.file name.spot _ refl) (depth-names e.file _ _ refl)
+item-names e before (BuildText outputs rule inputs lines) = λ fault h. ap (λ f. path_at_fault f.cause) (sym (some-is _ fault h))
+item-names e before (DefaultText words) = λ fault h. ap (λ f. path_at_fault f.cause) (sym (some-is _ fault h))
+item-names e before (IncludeText word) = or-names _ _ (if-names _ e.file word.spot _ refl) (if-names _ e.file word.spot _ refl)
+item-names e before (SubninjaText word) = or-names _ _ (if-names _ e.file word.spot _ refl) (if-names _ e.file word.spot _ refl)
 
 pub syntax-names : (file : List ℕ) (fault : text.Fault) → path_at_fault (fault_in file fault).cause ≡ []
 syntax-names file (text.Bad (lex.BadByte spot)) = refl
@@ -89,6 +93,50 @@ syntax-names file (text.RspPair spot) = refl
 syntax-names file (text.UnknownKey spot key) = refl
 syntax-names file (text.MissingDepth spot) = refl
 syntax-names file text.OutOfMemory = refl
+
+-- ---- the two kinds of statements that name a file
+
+module _ (kind : Naming) (site : Site) (start : Spot) (entries : List Entry) (word : WordText) where
+  abbrev names : Entry
+  names = entry_at site (record { spot = start; item = named_item kind word })
+
+  pub named-fault : own_fault names entries ≡ path_fault site.file word.spot (expanded_in (site_scope site) entries word)
+  named-fault = elim kind as (λ k. own_fault (entry_at site (record { spot = start; item = named_item k word })) entries ≡ path_fault site.file word.spot (expanded_in (site_scope site) entries word)) [ naming.Include ↦ refl | naming.Subninja ↦ refl ]
+
+  pub named-path : path_named names entries names.item ≡ expanded_in (site_scope site) entries word ∷ []
+  named-path = elim kind as (λ k. path_named (entry_at site (record { spot = start; item = named_item k word })) entries (named_item k word) ≡ expanded_in (site_scope site) entries word ∷ []) [ naming.Include ↦ refl | naming.Subninja ↦ refl ]
+
+  pub named-file : (named_site kind names entries word).file ≡ expanded_in (site_scope site) entries word
+  named-file = elim kind as (λ k. (named_site k names entries word).file ≡ expanded_in (site_scope site) entries word) [ naming.Include ↦ refl | naming.Subninja ↦ refl ]
+
+  pub named-opens : opens_file names.item ≡ 1
+  named-opens = elim kind as (λ k. opens_file (named_item k word) ≡ 1) [ naming.Include ↦ refl | naming.Subninja ↦ refl ]
+
+  named-item : (opens : Opens) → item_read opens names entries names.item ≡ opens (named_site kind names entries word) (place_at names word.spot) names entries
+  named-item opens = elim kind as (λ k. item_read opens (entry_at site (record { spot = start; item = named_item k word })) entries (named_item k word) ≡ opens (named_site k (entry_at site (record { spot = start; item = named_item k word })) entries word) (place_at (entry_at site (record { spot = start; item = named_item k word })) word.spot) (entry_at site (record { spot = start; item = named_item k word })) entries) [ naming.Include ↦ refl | naming.Subninja ↦ refl ]
+
+  -- without a fault of its own
+  pub named-read : path_fault site.file word.spot (expanded_in (site_scope site) entries word) ≡ None → (opens : Opens) → statement_read opens names entries ≡ opens (named_site kind names entries word) (place_at names word.spot) names entries
+  named-read none opens = ap (λ f. unless_fault f opens names entries) (named-fault ∙ none) ∙ named-item opens
+
+-- a new scope for the file after `subninja`
+pub enters-new : {X : Type 0} (old : Reader) (new : DeclarationsText) (file : OpenFile) (start : Spot) (word : WordText) (entries : List Entry) (around : List ℕ) (depth : ℕ) (result : Result ℕ X)
+    → IfOk result (λ n. n ≡ length old.declarations.scopes) → OnOk result (parent_at new.scopes (length old.declarations.scopes) ≡ Some file.scope)
+    → ((n : ℕ) → n < length old.declarations.scopes → parent_at new.scopes n ≡ parent_at old.declarations.scopes n) → OnOk result (length new.scopes ≡ length old.declarations.scopes + 1)
+    → OnOk result (TakesIn old.declarations new file.scope around (SubninjaText word)) → DeclaredBy old.declarations entries → IsOpenIn old file around
+    → IfOk result (λ n. EntersScope (record { declarations = new; files = old.files; opened = old.opened }) n
+    (subninja_site (entry_at (site_of file around depth) (record { spot = start; item = SubninjaText word })) entries word) (entry_at (site_of file around depth) (record { spot = start; item = SubninjaText word })) entries)
+enters-new old new file start word entries around depth (Err e) number within others count opened declares inside = tt
+enters-new old new file start word entries around depth (Ok n) number within others count opened declares inside =
+    let grown = open-grown old.declarations.scopes new.scopes file.scope around (record { count = omega (arith, count); parents = others }) inside in
+    record {
+      number_is = sym (number ∙ declares.scopes);
+      scope = record {
+        within = child (ap (parent_at new.scopes) number ∙ within) grown.within;
+        there = (rw number (omega (arith, count)), grown.there);
+      };
+      declares = opened entries file.name.now start depth declares;
+    }
 
 -- ---- a run that stops
 
@@ -123,60 +171,60 @@ module _ (main : List ℕ) (before after : SourceState) (old : Reader) (entries 
   }
 
   -- a fault of a statement by itself
-  pub stops-own : (left : ℕ) (site : Site) (s : PlacedText) (expected : Option GraphFault) (fault : GraphFault) → own_fault site entries s.spot s.item ≡ expected → IsFault expected fault
-      → StopsAt main before after old.files (λ all. statement_read (opened_in all left) site entries s) fault
-  stops-own left site s expected fault is (inl none) = stops-memory (λ all. statement_read (opened_in all left) site entries s) fault (λ all. item-comes main all left site entries s) none
-  stops-own left site s expected fault is (inr told) =
-      stops-refused (λ all. statement_read (opened_in all left) site entries s) fault (fault) (λ all. ap (λ f. unless_fault f (opened_in all left) site entries s.item) (is ∙ told))
-      (own-names site entries s.spot s.item (fault) (is ∙ told)) refl
+  pub stops-own : (left : ℕ) (e : Entry) (fault : GraphFault) → IsFault (own_fault e entries) fault
+      → StopsAt main before after old.files (λ all. statement_read (opened_in all left) e entries) fault
+  stops-own left e fault (inl none) = stops-memory (λ all. statement_read (opened_in all left) e entries) fault (λ all. item-comes main all left e entries) none
+  stops-own left e fault (inr told) =
+      stops-refused (λ all. statement_read (opened_in all left) e entries) fault fault (λ all. ap (λ f. unless_fault f (opened_in all left) e entries) told)
+      (item-names e entries e.item fault told) refl
 
 -- ---- a file that is named
 
-module _ (main : List ℕ) (before after : SourceState) (old mid held : Reader) (left : ℕ) (place : Place) (path : List ℕ) (entries : List Entry) (text : List ℕ) where
-  pub opens-file : (site : Site) (s : PlacedText) (inner : Site) → Holds main old entries → OpensText main before after old mid left place path entries text → held.files ≡ mid.files → held.opened ≡ suc old.opened
-      → Follows held.declared (entry_at site s.item ∷ entries) → opens_file s.item ≡ 1 → inner.file ≡ path → path_named (entry_at site s.item) entries s.item ≡ path ∷ []
-      → ((opens : Opens) → statement_read opens site entries s ≡ opens inner place (entry_at site s.item) entries)
-      → OpensFile main before after old held left inner text (entry_at site s.item) entries (λ all. statement_read (opened_in all left) site entries s)
-  opens-file site s inner holds o files opened follows one is names read = record {
+module _ (main : List ℕ) (before after : SourceState) (old mid held : Reader) (left : ℕ) (place : Place) (path : List ℕ) (e : Entry) (entries : List Entry) (text : List ℕ) where
+  pub opens-file : (inner : Site) → Holds main old entries → OpensText main before after old mid left place path entries text → held.files ≡ mid.files → held.opened ≡ suc old.opened
+      → DeclaredBy held.declarations (e ∷ entries) → opens_file e.item ≡ 1 → inner.file ≡ path → path_named e entries e.item ≡ path ∷ []
+      → ((opens : Opens) → statement_read opens e entries ≡ opens inner place e entries)
+      → OpensNamed main before after old held left inner text e entries
+  opens-file inner holds o files opened declares one is names read = record {
     files = o.files;
     reads = record { reads = o.reads.reads; held_is = files ∙ o.reads.held_is; failures = o.reads.failures };
     holds = record {
-      follows = follows;
+      declares = declares;
       opened = opened ∙ ap suc holds.opened ∙ sym (add-one (files_opened entries)) ∙ ap (λ n. files_opened entries + n) (sym one);
       paths_are = ap paths_of (files ∙ o.reads.held_is) ∙ o.came_to ∙ ap (λ ps. with_new ps path) holds.paths_are ∙ ap (with_named (paths_read main entries)) (sym names);
       once = subst EachPathOnce (sym (files ∙ o.reads.held_is)) o.reads.reads.once;
     };
     within = o.within;
     left_is = o.left_is;
-    read = λ all e. read (opened_in all left) ∙ o.read inner (entry_at site s.item) all is e;
+    read = λ all ext. read (opened_in all left) ∙ o.read inner e all is ext;
   }
 
   -- there was no memory for the scope of a file that is open
-  pub stops-open : (site : Site) (s : PlacedText) (inner : Site) (fault : GraphFault) → Holds main old entries → OpensText main before after old mid left place path entries text
-      → inner.file ≡ path → path_named (entry_at site s.item) entries s.item ≡ path ∷ []
-      → ((opens : Opens) → statement_read opens site entries s ≡ opens inner place (entry_at site s.item) entries)
+  pub stops-open : (inner : Site) (fault : GraphFault) → Holds main old entries → OpensText main before after old mid left place path entries text
+      → inner.file ≡ path → path_named e entries e.item ≡ path ∷ []
+      → ((opens : Opens) → statement_read opens e entries ≡ opens inner place e entries)
       → fault ≡ no_memory
-      → StopsAt main before after old.files (λ all. statement_read (opened_in all left) site entries s) fault
-  stops-open site s inner fault holds o is names read none = record {
+      → StopsAt main before after old.files (λ all. statement_read (opened_in all left) e entries) fault
+  stops-open inner fault holds o is names read none = record {
     files = o.files;
     reads = o.reads.reads;
-    stops = inl (record { answered = none; failures = o.reads.failures; came_to = λ all e. subst (λ r. IsPrefix (paths_of o.files) (paths_come_to main r)) (sym (read (opened_in all left) ∙ o.read inner (entry_at site s.item) all is e)) (comes all) });
+    stops = inl (record { answered = none; failures = o.reads.failures; came_to = λ all ext. subst (λ r. IsPrefix (paths_of o.files) (paths_come_to main r)) (sym (read (opened_in all left) ∙ o.read inner e all is ext)) (comes all) });
   }
     where
-      listed : paths_read main (entry_at site s.item ∷ entries) ≡ paths_of o.files
+      listed : paths_read main (e ∷ entries) ≡ paths_of o.files
       listed = ap (with_named (paths_read main entries)) names ∙ ap (λ ps. with_new ps path) (sym holds.paths_are) ∙ sym o.came_to
 
-      comes : (all : List Reading) → IsPrefix (paths_of o.files) (paths_come_to main (text_read (opened_in all o.within) inner text (entry_at site s.item ∷ entries)))
-      comes all = subst (λ ps. IsPrefix ps (paths_come_to main (text_read (opened_in all o.within) inner text (entry_at site s.item ∷ entries)))) listed (statements-come main all o.within inner _ _ (entry_at site s.item ∷ entries))
+      comes : (all : List Reading) → IsPrefix (paths_of o.files) (paths_come_to main (text_read (opened_in all o.within) inner text (e ∷ entries)))
+      comes all = subst (λ ps. IsPrefix ps (paths_come_to main (text_read (opened_in all o.within) inner text (e ∷ entries)))) listed (statements-come main all o.within inner _ _ (e ∷ entries))
 
 -- ---- a statement that names none
 
-pub reads-one : (main : List ℕ) (source : SourceState) (old held : Reader) (site : Site) (entries : List Entry) (s : PlacedText)
-    → Holds main old entries → Holds main held (entry_at site s.item ∷ entries) → own_fault site entries s.spot s.item ≡ None → held.files ≡ old.files
-    → ((opens : Opens) → item_read opens site entries s.item ≡ record { entries = entry_at site s.item ∷ entries; end = Whole })
-    → ReadsOne main source source old held site entries s
-reads-one main source old held site entries s holds after none files reads = record {
+pub reads-one : (main : List ℕ) (source : SourceState) (old held : Reader) (e : Entry) (entries : List Entry)
+    → Holds main old entries → Holds main held (e ∷ entries) → own_fault e entries ≡ None → held.files ≡ old.files
+    → ((opens : Opens) → item_read opens e entries e.item ≡ record { entries = e ∷ entries; end = Whole })
+    → ReadsOne main source source old held e entries
+reads-one main source old held e entries holds after none files reads = record {
   reads = record { reads = read-nothing source old.files holds.once; held_is = files; failures = refl };
   holds = after;
-  read = λ opens. ap (λ f. unless_fault f opens site entries s.item) none ∙ reads opens;
+  read = λ opens. ap (λ f. unless_fault f opens e entries) none ∙ reads opens;
 }

@@ -16,7 +16,7 @@ use Rattle.nj_graph.specs.Faults.{no_memory}
 use Rattle.nj_graph.specs.Reading.{Site, Refused, Lacking, most_opened, stopped, answer_read, if_room, opened_in, path_named, with_new, with_named, paths_read, path_at_fault, paths_come_to}
 use Rattle.nj_graph.specs.ReaderContracts.{IsFault, StopsAt, OpensText, OpensPath}
 use Rattle.nj_graph.specs.Runs.{IsRead}
-use Rattle.nj_graph.proofs.Found.{Finds, FindsNone, CannotTell, HasNoMemory}
+use Rattle.nj_graph.proofs.Found.{FindsText, FindsNone, CannotTell, HasNoMemory}
 use Rattle.nj_graph.proofs.Tables.{reading-kept, with_new-other, read-nothing}
 use Rattle.nj_graph.proofs.Comes.{opened-comes, opened-names}
 
@@ -156,7 +156,7 @@ module _ (main : List ℕ) (before after : SourceState) (old : List Reading) (pl
 -- ---- a file that is open
 
 pub opens-text : (main : List ℕ) (before after : SourceState) (old held : Reader) (left within : ℕ) (place : Place) (path : List ℕ) (entries : List Entry) (text : List ℕ) → left ≡ suc within → files_opened entries < most_opened
-    → Finds before after old.files held.files path text → OpensText main before after old held left place path entries text
+    → FindsText before after old.files held.files path text → OpensText main before after old held left place path entries text
 opens-text main before after old held left within place path entries text left_is room found = record {
   files = found.files;
   reads = found.reads;

@@ -7,8 +7,8 @@ use Rattle.nj_scope.specs.Readings.{reading_of, is_read, IsPrefix}
 use Rattle.nj_scope.specs.ReadingList.{Entry, files_opened}
 use Rattle.nj_graph.specs.declared.fault.Place.{Place}
 use Rattle.nj_graph.specs.declared.fault.GraphFault.{GraphFault}
-use Rattle.nj_graph.specs.Statements.{said}
-use Rattle.nj_graph.specs.Reading.{Site, own_fault, End, Whole, Refused, Lacking, ReadingText, and_then, Opens, item_read, unless_fault, statement_read, statements_read, found_read, answer_read, if_room, most_opened, most_within, opened_in, main_site, main_read}
+use Rattle.nj_graph.specs.Statements.{parsed}
+use Rattle.nj_graph.specs.Reading.{Site, entry_at, own_fault, End, Whole, Refused, Lacking, ReadingText, and_then, Opens, item_read, unless_fault, statement_read, statements_read, found_read, answer_read, if_room, most_opened, most_within, opened_in, main_site, main_read}
 use Rattle.nj_graph.specs.Runs.{IsLacking}
 use Rattle.nj_graph.specs.Laws.{OthersAreNotRead}
 use Rattle.nj_graph.proofs.Tables.{reading-kept}
@@ -35,28 +35,28 @@ and_then-same all few more k l first others lacks = by few.end refl
         let lacking : few ≡ record { entries = few.entries; end = Lacking path place } = ap (λ e. record { entries = few.entries; end = e }) is in
         ap (λ r. and_then r l) (first (subst (λ e. IsLacking e all) (sym is) (subst (λ r. IsLacking (and_then r k).end all) lacking lacks)) ∙ lacking) ∙ ap (λ r. and_then r k) (sym lacking)
 
-item-same : (all : List table.Reading) (few more : Opens) → SameOpens all few more → (site : Site) (before : List Entry) (item : StatementText) → SameReading all (item_read few site before item) (item_read more site before item)
-item-same all few more same site before (BindingText name value) = λ lacks. refl
-item-same all few more same site before (RuleText name lines) = λ lacks. refl
-item-same all few more same site before (PoolText name lines) = λ lacks. refl
-item-same all few more same site before (BuildText outputs rule inputs lines) = λ lacks. refl
-item-same all few more same site before (DefaultText words) = λ lacks. refl
-item-same all few more same site before (IncludeText word) = same _ _ _ before
-item-same all few more same site before (SubninjaText word) = same _ _ _ before
+item-same : (all : List table.Reading) (few more : Opens) → SameOpens all few more → (e : Entry) (before : List Entry) (item : StatementText) → SameReading all (item_read few e before item) (item_read more e before item)
+item-same all few more same e before (BindingText name value) = λ lacks. refl
+item-same all few more same e before (RuleText name lines) = λ lacks. refl
+item-same all few more same e before (PoolText name lines) = λ lacks. refl
+item-same all few more same e before (BuildText outputs rule inputs lines) = λ lacks. refl
+item-same all few more same e before (DefaultText words) = λ lacks. refl
+item-same all few more same e before (IncludeText word) = same _ _ _ before
+item-same all few more same e before (SubninjaText word) = same _ _ _ before
 
-statement-same : (all : List table.Reading) (few more : Opens) → SameOpens all few more → (site : Site) (before : List Entry) (s : PlacedText) → SameReading all (statement_read few site before s) (statement_read more site before s)
-statement-same all few more same site before s = by (own_fault site before s.spot s.item)
+statement-same : (all : List table.Reading) (few more : Opens) → SameOpens all few more → (e : Entry) (before : List Entry) → SameReading all (statement_read few e before) (statement_read more e before)
+statement-same all few more same e before = by (own_fault e before)
   where
-    by : (f : Option GraphFault) → SameReading all (unless_fault f few site before s.item) (unless_fault f more site before s.item)
+    by : (f : Option GraphFault) → SameReading all (unless_fault f few e before) (unless_fault f more e before)
     by (Some fault) = λ lacks. refl
-    by None = item-same all few more same site before s.item
+    by None = item-same all few more same e before e.item
 
 statements-same : (all : List table.Reading) (few more : Opens) → SameOpens all few more → (site : Site) (statements : List PlacedText) (fault : Option Fault) (before : List Entry) → SameReading all (statements_read few site statements fault before) (statements_read more site statements fault before)
 unfolding statements_read
 statements-same all few more same site [] fault before = λ lacks. refl
 statements-same all few more same site (s ∷ others) fault before =
-    and_then-same all (statement_read few site before s) (statement_read more site before s) (λ entries. statements_read few site others fault entries) (λ entries. statements_read more site others fault entries)
-    (statement-same all few more same site before s) (statements-same all few more same site others fault)
+    and_then-same all (statement_read few (entry_at site s) before) (statement_read more (entry_at site s) before) (λ entries. statements_read few site others fault entries) (λ entries. statements_read more site others fault entries)
+    (statement-same all few more same (entry_at site s) before) (statements-same all few more same site others fault)
 
 answer-same : (files all : List table.Reading) (few more : Opens) → IsPrefix files all → SameOpens all few more → (site : Site) (place : Place) (entries before : List Entry)
     → SameReading all (answer_read few site place entries before (reading_of files site.file)) (answer_read more site place entries before (reading_of all site.file))
@@ -68,7 +68,7 @@ answer-same files all few more extends same site place entries before = by (read
 
     found : (text : Option (List ℕ)) → SameReading all (found_read few site place entries before text) (found_read more site place entries before text)
     found None = λ lacks. refl
-    found (Some text) = statements-same all few more same site (said text).statements (said text).fault entries
+    found (Some text) = statements-same all few more same site (parsed text).statements (parsed text).fault entries
 
     by : (r : Option table.Reading) → reading_of files site.file ≡ r → SameReading all (answer_read few site place entries before r) (answer_read more site place entries before (reading_of all site.file))
     by None is = λ lacks. ap (λ r. answer_read more site place entries before r) (none (reading_of all site.file) lacks)

@@ -1,7 +1,7 @@
 -- Laws of readings, by going along their statements.
-use Rattle.std.proofs.Common.{◌≡◌, ℕ, zero, suc, ◌+◌, ◌≤◌, Bool, true, false, nat_lt, Option, Some, None, List, [], ◌∷◌, refl, arith}
+use Rattle.std.proofs.Common.{◌≡◌, ℕ, zero, suc, ◌+◌, ◌≤◌, Bool, true, false, nat_lt, Option, Some, None, List, [], ◌∷◌, refl, sym, ap, ◌∙◌, arith}
+use Rattle.std.specs.List.{AllByRecursion}
 use Rattle.std.proofs.lemmas.Bool.{ltb-true}
-use Rattle.nj_text.specs.declared.spot.Spot.{Spot}
 use Rattle.nj_manifest.specs.Faults.{Fault}
 use Rattle.nj_manifest.specs.Statements.{StatementText, BindingText, RuleText, PoolText, BuildText, DefaultText, IncludeText, SubninjaText, PlacedText}
 use Rattle.nj_scope.specs.Readings as table
@@ -11,9 +11,9 @@ use Rattle.nj_graph.specs.declared.fault.Place.{Place}
 use Rattle.nj_graph.specs.declared.fault.GraphFault.{GraphFault}
 use Rattle.nj_graph.specs.declared.fault.Cause.TheVariants.{DuplicateRule}
 use Rattle.nj_graph.specs.Faults.{fault_at}
-use Rattle.nj_graph.specs.Statements.{said}
-use Rattle.nj_graph.specs.Reading.{Site, entry_at, fault_if, own_fault, End, Whole, Refused, Lacking, ReadingText, go_on, and_then, Opens, item_read, unless_fault, statement_read, statements_read, found_read, answer_read, if_room, most_opened, most_within, opened_in, main_site, main_read}
-use Rattle.nj_graph.specs.Laws.{Faultless, ReadIsFaultless, OpeningsAreBounded, MainRulesRise}
+use Rattle.nj_graph.specs.Statements.{parsed}
+use Rattle.nj_graph.specs.Reading.{Site, entry_at, fault_if, item_fault, own_fault, End, Whole, Refused, Lacking, ReadingText, go_on, and_then, Opens, item_read, unless_fault, statement_read, statements_read, found_read, answer_read, if_room, most_opened, most_within, opened_in, main_site, main_read}
+use Rattle.nj_graph.specs.Laws.{Faultless, ReadIsFaultless, OpenFilesAreBounded, OpeningsAreBounded, MainRulesRise}
 use Rattle.nj_graph.proofs.NameLemmas.{names_rise-read}
 
 -- there is room for a file that the statement names
@@ -24,66 +24,77 @@ opens-none : ◌≡◌ {A = ℕ} 0 1 → ⊥
 opens-none e = omega (arith, e)
 
 -- What holds of no statement, and of one more that is read, holds of all that are read.
-module _ (P : List Entry → Type 0) (next : (site : Site) (before : List Entry) (spot : Spot) (item : StatementText) → P before → own_fault site before spot item ≡ None → HasRoom item before → P (entry_at site item ∷ before)) where
-  -- it holds where a file is opened, if it holds with the statement that opens it wherever there is room
-  abbrev OpensKeep : Opens → Type 0
-  OpensKeep opens = (site : Site) (place : Place) (e : Entry) (before : List Entry) → P before → (nat_lt (files_opened before) most_opened ≡ true → P (e ∷ before)) → P (opens site place e before).entries
+module _ (P : List Entry → Type 0) (next : (e : Entry) (before : List Entry) → P before → own_fault e before ≡ None → HasRoom e.item before → e.depth ≤ most_within → P (e ∷ before)) where
+  -- it holds where a file is opened within which so many more may be open, if it holds with the statement that opens it
+  -- wherever there is room
+  abbrev OpensKeep : (left : ℕ) → Opens → Type 0
+  OpensKeep left opens = (site : Site) (place : Place) (e : Entry) (before : List Entry) → site.depth + left ≡ suc most_within → P before → (nat_lt (files_opened before) most_opened ≡ true → P (e ∷ before)) → P (opens site place e before).entries
 
-  item-keeps : (opens : Opens) → OpensKeep opens → (site : Site) (before : List Entry) (spot : Spot) (item : StatementText) → P before → own_fault site before spot item ≡ None → P (item_read opens site before item).entries
-  item-keeps opens keeps site before spot (BindingText name value) p none = next site before spot (BindingText name value) p none (λ e. absurd (opens-none e))
-  item-keeps opens keeps site before spot (RuleText name lines) p none = next site before spot (RuleText name lines) p none (λ e. absurd (opens-none e))
-  item-keeps opens keeps site before spot (PoolText name lines) p none = next site before spot (PoolText name lines) p none (λ e. absurd (opens-none e))
-  item-keeps opens keeps site before spot (BuildText outputs rule inputs lines) p none = absurd cc
-  item-keeps opens keeps site before spot (DefaultText words) p none = absurd cc
-  item-keeps opens keeps site before spot (IncludeText word) p none = keeps _ _ _ before p (λ room. next site before spot (IncludeText word) p none (λ e. room))
-  item-keeps opens keeps site before spot (SubninjaText word) p none = keeps _ _ _ before p (λ room. next site before spot (SubninjaText word) p none (λ e. room))
+  module _ (left : ℕ) (opens : Opens) (keeps : OpensKeep left opens) where
+    statement-keeps : (e : Entry) (before : List Entry) → e.depth + left ≡ most_within → P before → P (statement_read opens e before).entries
+    statement-keeps e before depth p = by (own_fault e before) refl
+      where
+        deeper : suc e.depth + left ≡ suc most_within
+        deeper = omega (arith, depth)
 
-  statement-keeps : (opens : Opens) → OpensKeep opens → (site : Site) (before : List Entry) (s : PlacedText) → P before → P (statement_read opens site before s).entries
-  statement-keeps opens keeps site before s p = by (own_fault site before s.spot s.item) refl
-    where
-      by : (f : Option GraphFault) → own_fault site before s.spot s.item ≡ f → P (unless_fault f opens site before s.item).entries
-      by (Some fault) e = p
-      by None e = item-keeps opens keeps site before s.spot s.item p e
+        within : e.depth ≤ most_within
+        within = omega (arith, depth)
 
-  statements-keep : (opens : Opens) → OpensKeep opens → (site : Site) (statements : List PlacedText) (fault : Option Fault) (before : List Entry) → P before → P (statements_read opens site statements fault before).entries
-  unfolding statements_read
-  statements-keep opens keeps site [] fault before p = p
-  statements-keep opens keeps site (s ∷ others) fault before p = by (statement_read opens site before s) (statement-keeps opens keeps site before s p) (statements-keep opens keeps site others fault)
-    where
-      by : (r : ReadingText) → P r.entries → ((before : List Entry) → P before → P (statements_read opens site others fault before).entries) → P (and_then r (λ entries. statements_read opens site others fault entries)).entries
-      by r q rest = by_end r.end
-        where
-          by_end : (end : End) → P (go_on end r.entries (λ entries. statements_read opens site others fault entries)).entries
-          by_end Whole = rest r.entries q
-          by_end (Refused f) = q
-          by_end (Lacking path place) = q
+        by_item : (item : StatementText) → e.item ≡ item → own_fault e before ≡ None → P (item_read opens e before item).entries
+        by_item (BindingText name value) is none = next e before p none (λ one. absurd (opens-none (ap opens_file (sym is) ∙ one))) within
+        by_item (RuleText name lines) is none = next e before p none (λ one. absurd (opens-none (ap opens_file (sym is) ∙ one))) within
+        by_item (PoolText name lines) is none = next e before p none (λ one. absurd (opens-none (ap opens_file (sym is) ∙ one))) within
+        by_item (BuildText outputs rule inputs lines) is none = next e before p none (λ one. absurd (opens-none (ap opens_file (sym is) ∙ one))) within
+        by_item (DefaultText words) is none = next e before p none (λ one. absurd (opens-none (ap opens_file (sym is) ∙ one))) within
+        by_item (IncludeText word) is none = keeps _ _ e before deeper p (λ room. next e before p none (λ one. room) within)
+        by_item (SubninjaText word) is none = keeps _ _ e before deeper p (λ room. next e before p none (λ one. room) within)
 
-  answer-keeps : (within : Opens) → OpensKeep within → (site : Site) (place : Place) (entries before : List Entry) (r : Option table.Reading) → P entries → P before → P (answer_read within site place entries before r).entries
-  answer-keeps within keeps site place entries before None p q = q
-  answer-keeps within keeps site place entries before (Some r) p q = by r.bytes
-    where
-      by : (text : Option (List ℕ)) → P (found_read within site place entries before text).entries
-      by None = q
-      by (Some text) = statements-keep within keeps site (said text).statements (said text).fault entries p
+        by : (f : Option GraphFault) → own_fault e before ≡ f → P (unless_fault f opens e before).entries
+        by (Some fault) is = p
+        by None is = by_item e.item refl is
 
-  opened-keeps : (files : List table.Reading) (left : ℕ) → OpensKeep (opened_in files left)
+    statements-keep : (site : Site) (statements : List PlacedText) (fault : Option Fault) (before : List Entry) → site.depth + left ≡ most_within → P before → P (statements_read opens site statements fault before).entries
+    unfolding statements_read
+    statements-keep site [] fault before depth p = p
+    statements-keep site (s ∷ others) fault before depth p = by (statement_read opens (entry_at site s) before) (statement-keeps (entry_at site s) before depth p) (λ entries q. statements-keep site others fault entries depth q)
+      where
+        by : (r : ReadingText) → P r.entries → ((before : List Entry) → P before → P (statements_read opens site others fault before).entries) → P (and_then r (λ entries. statements_read opens site others fault entries)).entries
+        by r q rest = by_end r.end
+          where
+            by_end : (end : End) → P (go_on end r.entries (λ entries. statements_read opens site others fault entries)).entries
+            by_end Whole = rest r.entries q
+            by_end (Refused f) = q
+            by_end (Lacking path place) = q
+
+    answer-keeps : (site : Site) (place : Place) (entries before : List Entry) (r : Option table.Reading) → site.depth + left ≡ most_within → P entries → P before → P (answer_read opens site place entries before r).entries
+    answer-keeps site place entries before None depth p q = q
+    answer-keeps site place entries before (Some r) depth p q = by r.bytes
+      where
+        by : (text : Option (List ℕ)) → P (found_read opens site place entries before text).entries
+        by None = q
+        by (Some text) = statements-keep site (parsed text).statements (parsed text).fault entries depth p
+
+  opened-keeps : (files : List table.Reading) (left : ℕ) → OpensKeep left (opened_in files left)
   unfolding opened_in
-  opened-keeps files zero = λ site place e before p q. p
-  opened-keeps files (suc left) = λ site place e before p q. by site place e before p (nat_lt (files_opened before) most_opened) q (opened-keeps files left)
+  opened-keeps files zero = λ site place e before depth p q. p
+  opened-keeps files (suc left) = λ site place e before depth p q. by site place e before (omega (arith, depth)) p (nat_lt (files_opened before) most_opened) q (opened-keeps files left)
     where
-      by : (site : Site) (place : Place) (e : Entry) (before : List Entry) → P before → (room : Bool) → (room ≡ true → P (e ∷ before)) → OpensKeep (opened_in files left) → P (if_room room (opened_in files left) files site place e before).entries
-      by site place e before p false q keeps = p
-      by site place e before p true q keeps = answer-keeps (opened_in files left) keeps site place (e ∷ before) before (reading_of files site.file) (q refl) p
+      by : (site : Site) (place : Place) (e : Entry) (before : List Entry) → site.depth + left ≡ most_within → P before → (room : Bool) → (room ≡ true → P (e ∷ before)) → OpensKeep left (opened_in files left) → P (if_room room (opened_in files left) files site place e before).entries
+      by site place e before depth p false q keeps = p
+      by site place e before depth p true q keeps = answer-keeps left (opened_in files left) keeps site place (e ∷ before) before (reading_of files site.file) depth (q refl) p
 
   pub reading-keeps : P [] → (files : List table.Reading) (main : List ℕ) → P (main_read files main).entries
   unfolding main_read
-  reading-keeps none files main = answer-keeps (opened_in files most_within) (opened-keeps files most_within) (main_site main) _ [] [] (reading_of files main) none none
+  reading-keeps none files main = answer-keeps most_within (opened_in files most_within) (opened-keeps files most_within) (main_site main) _ [] [] (reading_of files main) refl none none
 
 pub read_is_faultless : ReadIsFaultless
-read_is_faultless files main = reading-keeps Faultless (λ site before spot item p none room. ((site.file, spot, none), p)) tt files main
+read_is_faultless files main = reading-keeps Faultless (λ e before p none room depth. (none, p)) tt files main
+
+pub open_files_are_bounded : OpenFilesAreBounded
+open_files_are_bounded files main = reading-keeps (λ entries. AllByRecursion (λ e. e.depth ≤ most_within) entries) (λ e before p none room depth. (depth, p)) tt files main
 
 pub openings_are_bounded : OpeningsAreBounded
-openings_are_bounded files main = reading-keeps (λ entries. files_opened entries ≤ most_opened) (λ site before spot item p none room. by before item p room (opens_file item) refl (opens_one item)) (omega arith) files main
+openings_are_bounded files main = reading-keeps (λ entries. files_opened entries ≤ most_opened) (λ e before p none room depth. by before e.item p room (opens_file e.item) refl (opens_one e.item)) (omega arith) files main
   where
     opens_one : (item : StatementText) → opens_file item ≤ 1
     opens_one (BindingText name value) = omega arith
@@ -102,19 +113,19 @@ openings_are_bounded files main = reading-keeps (λ entries. files_opened entrie
 -- ---- rules
 
 -- a rule that has no fault is new
-rule-is-new : (site : Site) (before : List Entry) (spot : Spot) (item : StatementText) → own_fault site before spot item ≡ None → RuleIsNew before site.number item
-rule-is-new site before spot (RuleText name lines) none = by (is_declared (rules before site.number name.name) name.name) refl none
+rule-is-new : (e : Entry) (before : List Entry) (item : StatementText) → item_fault e before item ≡ None → RuleIsNew before e.number item
+rule-is-new e before (RuleText name lines) none = by (is_declared (rules before e.number name.name) name.name) refl none
   where
-    by : (b : Bool) → is_declared (rules before site.number name.name) name.name ≡ b → fault_if b (fault_at site.file name.spot (DuplicateRule name.name)) ≡ None → is_declared (rules before site.number name.name) name.name ≡ false
+    by : (b : Bool) → is_declared (rules before e.number name.name) name.name ≡ b → fault_if b (fault_at e.file name.spot (DuplicateRule name.name)) ≡ None → is_declared (rules before e.number name.name) name.name ≡ false
     by true e h = absurd cc
     by false e h = e
-rule-is-new site before spot (BindingText name value) none = tt
-rule-is-new site before spot (PoolText name lines) none = tt
-rule-is-new site before spot (BuildText outputs rule inputs lines) none = tt
-rule-is-new site before spot (DefaultText words) none = tt
-rule-is-new site before spot (IncludeText word) none = tt
-rule-is-new site before spot (SubninjaText word) none = tt
+rule-is-new e before (BindingText name value) none = tt
+rule-is-new e before (PoolText name lines) none = tt
+rule-is-new e before (BuildText outputs rule inputs lines) none = tt
+rule-is-new e before (DefaultText words) none = tt
+rule-is-new e before (IncludeText word) none = tt
+rule-is-new e before (SubninjaText word) none = tt
 
 pub main_rules_rise : MainRulesRise
 main_rules_rise files main =
-    names_rise-read (main_read files main).entries (reading-keeps EachRuleIsNew (λ site before spot item p none room. (rule-is-new site before spot item none, p)) tt files main)
+    names_rise-read (main_read files main).entries (reading-keeps EachRuleIsNew (λ e before p none room depth. (rule-is-new e before e.item none, p)) tt files main)

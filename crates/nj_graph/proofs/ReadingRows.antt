@@ -9,7 +9,7 @@ use Rattle.nj_manifest.specs.declared.fault.Wanted.TheVariants as wanted
 use Rattle.nj_manifest.proofs.StatementRows.{on_texts, at}
 use Rattle.nj_scope.specs.Readings.{Reading}
 use Rattle.nj_scope.specs.ReadingList.{bounds}
-use Rattle.nj_graph.specs.Statements.{said_in}
+use Rattle.nj_graph.specs.Statements.{parsed_in}
 use Rattle.nj_graph.specs.declared.fault.Cause.{Cause}
 use Rattle.nj_graph.specs.declared.fault.Cause.TheVariants.{Expected, BadEscape, MissingCommand, EmptyPath, BadDepth, DuplicateRule, DuplicatePool, VersionTooNew, Missing, PathNotText, TooDeep, NotYet}
 use Rattle.nj_graph.specs.Faults.{fault_at}
@@ -17,7 +17,7 @@ use Rattle.nj_graph.specs.Reading.{Whole, Refused, Lacking, ReadingText, stateme
 
 -- what a row unfolds to compute on its files
 unfoldable pub on_files : ⊤
-unfolding on_texts value_of_digits is_utf8 chars encode_utf8 bounds said_in statements_read opened_in main_read
+unfolding on_texts value_of_digits is_utf8 chars encode_utf8 bounds parsed_in statements_read opened_in main_read
 on_files = tt
 
 -- ---- what a row shows

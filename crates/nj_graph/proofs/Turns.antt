@@ -16,14 +16,14 @@ use Rattle.nj_scope.specs.Sources.{SourceState, Rises}
 use Rattle.nj_graph.specs.declared.fault.GraphFault.{GraphFault}
 use Rattle.nj_graph.specs.declared.reader.Reader.{Reader}
 use Rattle.nj_graph.specs.Faults.{fault_in, no_memory}
-use Rattle.nj_graph.specs.Statements.{Said, said, said_in, said_first}
+use Rattle.nj_graph.specs.Statements.{Parsed, parsed, parsed_in, and_parsed}
 use Rattle.nj_graph.specs.Reading as reading
-use Rattle.nj_graph.specs.Reading.{Site, End, Whole, Lacking, ReadingText, Opens, go_on, and_then, opened_in, statement_read, statements_read, text_read, end_by, with_named, paths_read, path_at_fault, paths_come_to}
+use Rattle.nj_graph.specs.Reading.{Site, entry_at, End, Whole, Lacking, ReadingText, Opens, go_on, and_then, opened_in, statement_read, statements_read, text_read, end_by, with_named, paths_read, path_at_fault, paths_come_to}
 use Rattle.nj_graph.specs.Runs.{IsRead, IsEnd, Stops}
-use Rattle.nj_graph.specs.ReaderContracts.{Holds, Grows, ReadsAll, StopsAt, OpensFile, ReadsText, Reads, NextOf, NextIs}
+use Rattle.nj_graph.specs.ReaderContracts.{Holds, Grows, ReadsAll, ReadsOne, StopsAt, OpensNamed, ReadsText, ReadsOrStops, NextOf, NextIs}
 use Rattle.nj_graph.proofs.Comes.{and_then-comes, statements-come}
 use Rattle.nj_graph.proofs.Tables.{extends-trans, read-extends, reads-then, reads-all-then}
-use Rattle.nj_graph.proofs.SaidLemmas.{said-step, said-end, said-fault}
+use Rattle.nj_graph.proofs.ParsedLemmas.{parsed-step, parsed-end, parsed-fault}
 use Rattle.nj_graph.proofs.Naming.{syntax-names}
 
 -- ---- one reading behind the other
@@ -71,10 +71,13 @@ module _ (main : List ℕ) (before mid after : SourceState) (old files held : Li
 
 -- ---- the file that a statement names
 
-module _ (main : List ℕ) (before mid after : SourceState) (old opened held : Reader) (left : ℕ) (inner : Site) (text : List ℕ) (e : Entry) (entries : List Entry) (outer : List Reading → ReadingText) where
-  pub reads-named : OpensFile main before mid old opened left inner text e entries outer → (result : Result (Unit {0}) GraphFault)
-      → Reads main mid after opened held (λ all. text_read (opened_in all (left - 1)) inner text (e ∷ entries)) result
-      → Reads main before after old held outer result
+module _ (main : List ℕ) (before mid after : SourceState) (old opened held : Reader) (left : ℕ) (inner : Site) (text : List ℕ) (e : Entry) (entries : List Entry) where
+  abbrev outer : List Reading → ReadingText
+  outer all = statement_read (opened_in all left) e entries
+
+  pub reads-named : OpensNamed main before mid old opened left inner text e entries → (result : Result (Unit {0}) GraphFault)
+      → ReadsOrStops main mid after opened held (λ all. text_read (opened_in all (left - 1)) inner text (e ∷ entries)) result
+      → ReadsOrStops main before after old held outer result
   reads-named o (Ok done) r = record {
     files = r.files;
     reads = reads-all-then before mid after old.files o.files r.files opened.files held.files o.reads (subst (λ fs. ReadsAll mid after fs r.files held.files) o.reads.held_is r.reads);
@@ -100,6 +103,16 @@ module _ (main : List ℕ) (before mid after : SourceState) (old opened held : R
       is : (all : List Reading) → IsPrefix o.files all → outer all ≡ text_read (opened_in all (left - 1)) inner text (e ∷ entries)
       is all ext = o.read all ext ∙ ap (λ n. text_read (opened_in all n) inner text (e ∷ entries)) (sym one-less)
 
+-- a statement that names none
+pub one-read : (main : List ℕ) (before after : SourceState) (old held : Reader) (left : ℕ) (e : Entry) (entries : List Entry) → ReadsOne main before after old held e entries → ReadsText main before after old held (λ all. statement_read (opened_in all left) e entries)
+one-read main before after old held left e entries r = record {
+  files = old.files;
+  reads = r.reads;
+  entries = e ∷ entries;
+  holds = r.holds;
+  read = λ all ext. r.read (opened_in all left);
+}
+
 -- ---- the statements of a text
 
 abbrev pub lines_left : Left → ℕ
@@ -114,7 +127,7 @@ pub record Underway (main : List ℕ) (before after : SourceState) (old held : R
   pub holds : Holds main held now
   pub most : ℕ
   pub room : ahead lines < most
-  pub goes_on : (all : List Reading) → IsPrefix files all → text_read (opened_in all left) site text entries ≡ statements_read (opened_in all left) site (said_in most lines).statements (said_in most lines).fault now
+  pub goes_on : (all : List Reading) → IsPrefix files all → text_read (opened_in all left) site text entries ≡ statements_read (opened_in all left) site (parsed_in most lines).statements (parsed_in most lines).fault now
 
 module _ (main : List ℕ) (before after : SourceState) (old held : Reader) (left : ℕ) (site : Site) (text : List ℕ) (entries : List Entry) (lines : List Line) where
   abbrev reading_of_text : List Reading → ReadingText
@@ -128,7 +141,7 @@ module _ (main : List ℕ) (before after : SourceState) (old held : Reader) (lef
     reads = u.reads;
     entries = u.now;
     holds = u.holds;
-    read = λ all ext. u.goes_on all ext ∙ ap (λ (s : Said). statements_read (opened_in all left) site s.statements s.fault u.now) (said-end u.most lines rest h);
+    read = λ all ext. u.goes_on all ext ∙ ap (λ (s : Parsed). statements_read (opened_in all left) site s.statements s.fault u.now) (parsed-end u.most lines rest h);
   }
 
   -- there was no memory for the next statement
@@ -136,7 +149,7 @@ module _ (main : List ℕ) (before after : SourceState) (old held : Reader) (lef
   ends-memory fault u none = record {
     files = u.files;
     reads = u.reads.reads;
-    stops = inl (record { answered = none; failures = u.reads.failures; came_to = λ all ext. subst (λ r. IsPrefix (paths_of u.files) (paths_come_to main r)) (sym (u.goes_on all ext)) (subst (λ ps. IsPrefix ps (paths_come_to main (statements_read (opened_in all left) site (said_in u.most lines).statements (said_in u.most lines).fault u.now))) listed (statements-come main all left site (said_in u.most lines).statements (said_in u.most lines).fault u.now)) });
+    stops = inl (record { answered = none; failures = u.reads.failures; came_to = λ all ext. subst (λ r. IsPrefix (paths_of u.files) (paths_come_to main r)) (sym (u.goes_on all ext)) (subst (λ ps. IsPrefix ps (paths_come_to main (statements_read (opened_in all left) site (parsed_in u.most lines).statements (parsed_in u.most lines).fault u.now))) listed (statements-come main all left site (parsed_in u.most lines).statements (parsed_in u.most lines).fault u.now)) });
   }
     where
       listed : paths_read main u.now ≡ paths_of u.files
@@ -153,7 +166,7 @@ module _ (main : List ℕ) (before after : SourceState) (old held : Reader) (lef
       entries = u.now;
       end = reading.Refused (fault_in site.file found);
       answered = (told, u.reads.failures);
-      read = λ all ext lacks. u.goes_on all ext ∙ ap (λ (s : Said). statements_read (opened_in all left) site s.statements s.fault u.now) (said-fault u.most lines found h u.room);
+      read = λ all ext lacks. u.goes_on all ext ∙ ap (λ (s : Parsed). statements_read (opened_in all left) site s.statements s.fault u.now) (parsed-fault u.most lines found h u.room);
       came_to = ap (with_named (paths_read main u.now)) (syntax-names site.file found) ∙ sym u.holds.paths_are ∙ ap paths_of u.reads.held_is;
     });
   }
@@ -162,17 +175,17 @@ module _ (main : List ℕ) (before after : SourceState) (old held : Reader) (lef
 
   module _ (last : SourceState) (later : Reader) (s : PlacedText) (rest : List Line) (next : next_statement lines ≡ Ok (Some s, rest)) where
     abbrev behind : (fewer : ℕ) → List Reading → List Entry → ReadingText
-    behind fewer all es = statements_read (opened_in all left) site (said_in fewer rest).statements (said_in fewer rest).fault es
+    behind fewer all es = statements_read (opened_in all left) site (parsed_in fewer rest).statements (parsed_in fewer rest).fault es
 
-    first : (u : Underway main before after old held left site text entries lines) (fewer : ℕ) → said_in u.most lines ≡ said_first s (said_in fewer rest)
-        → (all : List Reading) → IsPrefix u.files all → reading_of_text all ≡ and_then (statement_read (opened_in all left) site u.now s) (behind fewer all)
+    first : (u : Underway main before after old held left site text entries lines) (fewer : ℕ) → parsed_in u.most lines ≡ and_parsed s (parsed_in fewer rest)
+        → (all : List Reading) → IsPrefix u.files all → reading_of_text all ≡ and_then (statement_read (opened_in all left) (entry_at site s) u.now) (behind fewer all)
     unfolding statements_read
-    first u fewer is all ext = u.goes_on all ext ∙ ap (λ (x : Said). statements_read (opened_in all left) site x.statements x.fault u.now) is
+    first u fewer is all ext = u.goes_on all ext ∙ ap (λ (x : Parsed). statements_read (opened_in all left) site x.statements x.fault u.now) is
 
-    pub turn : (u : Underway main before after old held left site text entries lines) → ReadsText main after last held later (λ all. statement_read (opened_in all left) site u.now s)
+    pub turn : (u : Underway main before after old held left site text entries lines) → ReadsText main after last held later (λ all. statement_read (opened_in all left) (entry_at site s) u.now)
         → Underway main before last old later left site text entries rest
     turn u r =
-        let step = said-step u.most lines rest s next u.room in
+        let step = parsed-step u.most lines rest s next u.room in
         let there = subst (λ fs. ReadsAll after last fs r.files later.files) u.reads.held_is r.reads in
         record {
           files = r.files;
@@ -184,13 +197,13 @@ module _ (main : List ℕ) (before after : SourceState) (old held : Reader) (lef
           goes_on = λ all ext. first u step.0 step.1 all (extends-trans all r.files u.files ext (read-extends after last u.files r.files there.reads)) ∙ ap (λ x. and_then x (behind step.0 all)) (r.read all ext);
         }
 
-    pub turn-stops : (fault : GraphFault) (u : Underway main before after old held left site text entries lines) → StopsAt main after last held.files (λ all. statement_read (opened_in all left) site u.now s) fault
+    pub turn-stops : (fault : GraphFault) (u : Underway main before after old held left site text entries lines) → StopsAt main after last held.files (λ all. statement_read (opened_in all left) (entry_at site s) u.now) fault
         → StopsAt main before last old.files reading_of_text fault
     turn-stops fault u stops =
-        let step = said-step u.most lines rest s next u.room in
-        stops-then main before after last old.files u.files held.files (λ all. statement_read (opened_in all left) site u.now s) reading_of_text u.reads (record {
+        let step = parsed-step u.most lines rest s next u.room in
+        stops-then main before after last old.files u.files held.files (λ all. statement_read (opened_in all left) (entry_at site s) u.now) reading_of_text u.reads (record {
           comes = λ all ext front h. subst (λ r. IsPrefix front (paths_come_to main r)) (sym (first u step.0 step.1 all ext))
-              (and_then-comes main front (statement_read (opened_in all left) site u.now s) (behind step.0 all) h (λ es. statements-come main all left site (said_in step.0 rest).statements (said_in step.0 rest).fault es));
+              (and_then-comes main front (statement_read (opened_in all left) (entry_at site s) u.now) (behind step.0 all) h (λ es. statements-come main all left site (parsed_in step.0 rest).statements (parsed_in step.0 rest).fault es));
           ends = λ all ext es end stopped h. first u step.0 step.1 all ext ∙ ap (λ x. and_then x (behind step.0 all)) h ∙ stays es end (behind step.0 all) stopped;
         }) fault stops
       where
@@ -231,5 +244,6 @@ grows-then before mid after p q =
     let second = q.count in
     record { count = omega (arith, first, second); parents = λ n h. q.parents n (omega (arith, h, first)) ∙ p.parents n h }
 
-pub site-same : (inner : Site) (file : List ℕ) (number : ℕ) → inner.file ≡ file → inner.number ≡ number → inner ≡ record { file = file; number = number; around = inner.around }
-site-same inner file number is at = ap (λ f. record { file = f; number = inner.number; around = inner.around }) is ∙ ap (λ n. record { file = file; number = n; around = inner.around }) at
+pub site-same : (inner : Site) (file : List ℕ) (number : ℕ) → inner.file ≡ file → inner.number ≡ number → inner ≡ record { file = file; depth = inner.depth; number = number; around = inner.around }
+site-same inner file number is at =
+    ap (λ f. record { file = f; depth = inner.depth; number = inner.number; around = inner.around }) is ∙ ap (λ n. record { file = file; depth = inner.depth; number = n; around = inner.around }) at

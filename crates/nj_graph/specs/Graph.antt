@@ -1,24 +1,21 @@
 -- The graph of a run, and the rules that it lists.
-use Rattle.std.specs.Prelude.{◌≡◌, ◌⊎◌, ◌↔◌, ℕ, Bool, if◌then◌else◌, Option, Some, None, option_map, unwrap_or, is_some, List, [], ◌∷◌, map, slice_get, slice_index_or, codes, bytes_eq}
+use Rattle.std.specs.Prelude.{◌≡◌, ◌↔◌, ℕ, Bool, if◌then◌else◌, Option, option_map, unwrap_or, is_some, List, [], ◌∷◌, map, slice_index_or, codes, bytes_eq}
 use Rattle.std.specs.List.{Contains, IsDistinct}
 use Rattle.std.specs.List.Sorted.{IsStrictlySortedBy}
 use Rattle.std.specs.Cmp.Lexicographic.{slice_cmp}
 use Rattle.std.specs.Ordering.{is_lt, nat_cmp}
 use Rattle.nj_text.specs.Words.{PartText}
+use Rattle.nj_scope.specs.Declarations.{DeclarationsText}
 use Rattle.nj_scope.specs.Late.{parts_written}
-use Rattle.nj_scope.specs.Rules.{RuleText, RuleLineText, rules_in, rule_names, given}
-use Rattle.nj_graph.specs.declared.graph.MainRule.{MainRule}
+use Rattle.nj_scope.specs.Rules.{RuleText, phony_rule, rules_in, rule_names, given}
 
--- the rules of all scopes in the order in which they were declared, which is that of their numbers
+-- what the statements of its files declare, at the end of all reading
 pub record GraphText : Type 0 where
-  pub rules : List RuleText
-
-abbrev pub graph_of : List RuleText → GraphText
-graph_of rules = record { rules = rules }
+  pub declarations : DeclarationsText
 
 -- ---- the rules that are listed
 
--- an element more in a sorted list: it stands behind those that come before it, and ahead of the others
+-- an element more in a sorted list: it stands after those that come before it, and ahead of the others
 unfoldable pub insert_by : {X : Type 0} → (comes_before : X → X → Bool) → X → List X → List X
 insert_by comes_before x [] = x ∷ []
 insert_by comes_before x (y ∷ ys) = if comes_before y x then y ∷ insert_by comes_before x ys else x ∷ y ∷ ys
@@ -31,17 +28,17 @@ sorted_by comes_before (x ∷ xs) = insert_by comes_before x (sorted_by comes_be
 abbrev pub is_before : (name other : List ℕ) → Bool
 is_before name other = is_lt (slice_cmp nat_cmp name other)
 
--- `phony` is always there, and has no lines
-abbrev pub phony_rule : RuleText
-phony_rule = record { scope = 0; name = codes "phony"; lines = [] }
-
--- `phony` and the rules of the main file's scope, by name; those of included files are among them, and those of subninja files are not
+-- The rules of the main file's scope, by name: `phony` and those of included files are among them, and those of subninja files
+-- are not.
 unfoldable pub main_rules_of : List RuleText → List RuleText
-main_rules_of rules = sorted_by (λ r s. is_before r.name s.name) (phony_rule ∷ rules_in rules 0)
+main_rules_of rules = sorted_by (λ r s. is_before r.name s.name) (rules_in rules 0)
+
+abbrev pub main_rules : GraphText → List RuleText
+main_rules g = main_rules_of g.declarations.rules
 
 -- the one at this index
 abbrev pub main_rule_at : GraphText → ℕ → RuleText
-main_rule_at g index = slice_index_or (main_rules_of g.rules) index phony_rule
+main_rule_at g index = slice_index_or (main_rules g) index phony_rule
 
 -- ---- its description
 
@@ -58,23 +55,12 @@ description_text r = unwrap_or (option_map parts_written (description r)) []
 
 -- ---- laws
 
--- Where no two rules of the main scope have one name and none is called `phony`, the names rise by their bytes, so that each stands once.
+-- Where no two rules of the main scope have one name, the names rise by their bytes, so that each stands once.
 abbrev pub NamesRise : Type 0
-NamesRise = (rules : List RuleText) → IsDistinct bytes_eq (rule_names rules 0) → IsStrictlySortedBy (slice_cmp nat_cmp) (map (λ r. r.name) (main_rules_of rules))
+NamesRise = (rules : List RuleText) → IsDistinct bytes_eq (rule_names rules 0)
+    → IsStrictlySortedBy (slice_cmp nat_cmp) (map (λ r. r.name) (main_rules_of rules))
 
--- A rule is in the list exactly when it is `phony` or one of the main scope.
+-- A rule is listed exactly when it is one of the main scope.
 abbrev pub ListsMainRules : Type 0
-ListsMainRules = (rules : List RuleText) (rule : RuleText) → Contains (main_rules_of rules) rule ↔ ((rule ≡ phony_rule) ⊎ ((rule.scope ≡ 0) × Contains rules rule))
-
--- ---- how a graph holds them
-
--- the lines of the rule of this number
-abbrev pub lines_at : List RuleText → Option ℕ → List RuleLineText
-lines_at rules None = []
-lines_at rules (Some number) = unwrap_or (option_map (λ r. r.lines) (slice_get rules number)) []
-
-abbrev pub main_rule_text : List RuleText → MainRule → RuleText
-main_rule_text rules m = record { scope = 0; name = m.name.items; lines = lines_at rules m.rule }
-
-abbrev pub HoldMainRules : List RuleText → List MainRule → Type 0
-HoldMainRules rules held = map (main_rule_text rules) held ≡ main_rules_of rules
+ListsMainRules = (rules : List RuleText) (rule : RuleText)
+    → Contains (main_rules_of rules) rule ↔ ((rule.scope ≡ 0) × Contains rules rule)

@@ -1,6 +1,7 @@
 pub mod FaultLines
 pub mod Faults
 pub mod Graph
+pub mod GraphHeld
 pub mod Laws
 pub mod Loads
 pub mod ReaderContracts

@@ -2,9 +2,10 @@
 use Rattle.std.specs.Prelude.{◌≡◌, Result, Ok, Err, ℕ, List, []}
 use Rattle.nj_scope.specs.Readings.{Reading, paths_of}
 use Rattle.nj_scope.specs.Sources.{SourceState}
-use Rattle.nj_scope.specs.ReadingList.{Entry, rule_texts}
+use Rattle.nj_scope.specs.Declarations.{DeclaredBy}
+use Rattle.nj_scope.specs.ReadingList.{Entry}
 use Rattle.nj_graph.specs.declared.fault.GraphFault.{GraphFault}
-use Rattle.nj_graph.specs.Graph.{GraphText, graph_of}
+use Rattle.nj_graph.specs.Graph.{GraphText}
 use Rattle.nj_graph.specs.Reading.{Whole, main_read, paths_read}
 use Rattle.nj_graph.specs.Runs.{IsRead, Stops}
 
@@ -14,12 +15,12 @@ pub record LoadedText : Type 0 where
   pub graph : GraphText
 
 -- The main file and all that it includes were read by these files, without a fault. The files are those that the statements
--- name, each at its first occurrence. The source did not fail.
+-- name, each at its first occurrence, and the graph has what the statements declare. The source did not fail.
 pub record IsLoaded (main : List ℕ) (before after : SourceState) (files : List Reading) (loaded : LoadedText) : Type 0 where
   pub files_are : loaded.files ≡ files
   pub entries : List Entry
   pub read : main_read files main ≡ record { entries = entries; end = Whole }
-  pub graph_is : loaded.graph ≡ graph_of (rule_texts entries)
+  pub graph_is : DeclaredBy loaded.graph.declarations entries
   pub came_to : paths_read main entries ≡ paths_of files
   pub failures : after.failures ≡ before.failures
 

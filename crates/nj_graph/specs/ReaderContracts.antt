@@ -6,40 +6,43 @@ use Rattle.std.specs.Rc.{rc_slice_items}
 use Rattle.std.specs.declared.rc.RcSlice.{RcSlice}
 use Rattle.nj_text.specs.declared.spot.Spot.{Spot}
 use Rattle.nj_text.specs.Lines.{Line}
+use Rattle.nj_text.specs.Words.{WordText}
 use Rattle.nj_manifest.specs.declared.statement.Placed.{Placed}
 use Rattle.nj_manifest.specs.declared.statement.Statement.{Statement}
 use Rattle.nj_manifest.specs.Faults.{Fault}
 use Rattle.nj_manifest.specs.Held.{placed_text}
-use Rattle.nj_manifest.specs.Statements.{PlacedText, next_statement, Left, Lines, Refused}
+use Rattle.nj_manifest.specs.Statements.{StatementText, IncludeText, SubninjaText, next_statement, Left, Lines, Refused}
 use Rattle.nj_scope.specs.Readings.{Reading, EachPathOnce, paths_of, IsPrefix}
 use Rattle.nj_scope.specs.Sources.{SourceState}
 use Rattle.nj_scope.specs.Opening as table
 use Rattle.nj_scope.specs.Scopes.{IsScope}
 use Rattle.nj_scope.specs.ScopesHeld.{ScopeText, parent_at}
-use Rattle.nj_scope.specs.Follows.{Follows}
+use Rattle.nj_scope.specs.Declarations.{DeclaredBy}
 use Rattle.nj_scope.specs.ReadingList.{Entry, files_opened}
 use Rattle.nj_graph.specs.declared.fault.Place.{Place}
 use Rattle.nj_graph.specs.declared.fault.GraphFault.{GraphFault}
 use Rattle.nj_graph.specs.declared.fault.Cause.TheVariants.{Missing, Io}
+use Rattle.nj_graph.specs.declared.opening.Naming.{Naming}
+use Rattle.nj_graph.specs.declared.opening.Naming.TheVariants as naming
 use Rattle.nj_graph.specs.declared.reader.Reader.{Reader}
 use Rattle.nj_graph.specs.declared.reader.OpenFile.{OpenFile}
 use Rattle.nj_graph.specs.declared.reader.Opened.{Opened}
 use Rattle.nj_graph.specs.Faults.{fault_in, no_memory}
-use Rattle.nj_graph.specs.Reading.{Site, entry_at, Whole, ReadingText, Opens, opened_in, statement_read, text_read, path_named, with_new, paths_read}
+use Rattle.nj_graph.specs.Reading.{Site, included_site, subninja_site, own_fault, Whole, ReadingText, Opens, opened_in, statement_read, text_read, path_named, with_new, paths_read}
 use Rattle.nj_graph.specs.Runs.{IsRead, Stops}
 
 -- ---- what is held
 
 -- nothing was read
 pub record IsNew (held : Reader) : Type 0 where
-  pub follows : Follows held.declared []
-  pub outermost : parent_at held.declared.scopes 0 ≡ None
+  pub declares : DeclaredBy held.declarations []
+  pub outermost : parent_at held.declarations.scopes 0 ≡ None
   pub files : held.files ≡ []
   pub opened : held.opened ≡ 1
 
 -- It holds what these statements say, of which the last read stands first.
 pub record Holds (main : List ℕ) (held : Reader) (entries : List Entry) : Type 0 where
-  pub follows : Follows held.declared entries
+  pub declares : DeclaredBy held.declarations entries
   pub opened : held.opened ≡ files_opened entries
   pub paths_are : paths_of held.files ≡ paths_read main entries
   pub once : EachPathOnce held.files
@@ -49,23 +52,26 @@ pub record Grows (before after : List ScopeText) : Type 0 where
   pub count : length before ≤ length after
   pub parents : (n : ℕ) → n < length before → parent_at after n ≡ parent_at before n
 
-abbrev pub site_of : OpenFile → (around : List ℕ) → Site
-site_of file around = record { file = file.name.now; number = file.scope; around = around }
+abbrev pub ScopesGrow : (old held : Reader) → Type 0
+ScopesGrow old held = Grows old.declarations.scopes held.declarations.scopes
+
+abbrev pub site_of : OpenFile → (around : List ℕ) → (depth : ℕ) → Site
+site_of file around depth = record { file = file.name.now; depth = depth; number = file.scope; around = around }
 
 -- a scope with those around it, which were all opened
-pub record Stands (scopes : List ScopeText) (number : ℕ) (around : List ℕ) : Type 0 where
+pub record IsOpenScope (scopes : List ScopeText) (number : ℕ) (around : List ℕ) : Type 0 where
   pub within : IsScope (parent_at scopes) number (number ∷ around)
   pub there : AllByRecursion (λ n. n < length scopes) (number ∷ around)
 
 -- the scope of an open file
-abbrev pub StandsIn : Reader → OpenFile → (around : List ℕ) → Type 0
-StandsIn held file around = Stands held.declared.scopes file.scope around
+abbrev pub IsOpenIn : Reader → OpenFile → (around : List ℕ) → Type 0
+IsOpenIn held file around = IsOpenScope held.declarations.scopes file.scope around
 
 -- It holds of the main file, of the site at which the file is open, and of the statements that were read, whichever they are.
 abbrev pub InFile : Reader → OpenFile → ((main : List ℕ) → Site → List Entry → Type 0) → Type 0
 InFile held file P =
-    (main : List ℕ) (entries : List Entry) (around : List ℕ) → Holds main held entries → StandsIn held file around
-    → P main (site_of file around) entries
+    (main : List ℕ) (entries : List Entry) (around : List ℕ) (depth : ℕ) → Holds main held entries → IsOpenIn held file around
+    → P main (site_of file around depth) entries
 
 -- ---- a statement that names no file
 
@@ -79,9 +85,9 @@ Checks expected (Ok done) = expected ≡ None
 Checks expected (Err fault) = IsFault expected fault
 
 -- the statement has no fault and is held, or its fault is answered
-abbrev pub Declares : (main : List ℕ) → (after : Reader) → Option GraphFault → List Entry → Result (Unit {0}) GraphFault → Type 0
-Declares main after expected entries (Ok done) = (expected ≡ None) × Holds main after entries
-Declares main after expected entries (Err fault) = IsFault expected fault
+abbrev pub Declares : (main : List ℕ) → (after : Reader) → Entry → (before : List Entry) → Result (Unit {0}) GraphFault → Type 0
+Declares main after e before (Ok done) = (own_fault e before ≡ None) × Holds main after (e ∷ before)
+Declares main after e before (Err fault) = IsFault (own_fault e before) fault
 
 -- ---- files
 
@@ -138,47 +144,62 @@ OpensPath main before after old held left place path entries (Err fault) =
 
 -- ---- a statement
 
+abbrev pub named_item : Naming → WordText → StatementText
+named_item naming.Include word = IncludeText word
+named_item naming.Subninja word = SubninjaText word
+
+-- where the statements of the file stand that a statement names
+abbrev pub named_site : Naming → Entry → (before : List Entry) → WordText → Site
+named_site naming.Include e before word = included_site e before word
+named_site naming.Subninja e before word = subninja_site e before word
+
+-- The statement that names a file is held, and the scope of that file is open.
+pub record EntersScope (held : Reader) (number : ℕ) (inner : Site) (e : Entry) (entries : List Entry) : Type 0 where
+  pub number_is : inner.number ≡ number
+  pub scope : IsOpenScope held.declarations.scopes number inner.around
+  pub declares : DeclaredBy held.declarations (e ∷ entries)
+
 -- a statement was read that names no file
-pub record ReadsOne (main : List ℕ) (before after : SourceState) (old held : Reader) (site : Site) (entries : List Entry)
-    (s : PlacedText) : Type 0 where
+pub record ReadsOne (main : List ℕ) (before after : SourceState) (old held : Reader) (e : Entry) (entries : List Entry)
+    : Type 0 where
   pub reads : ReadsAll before after old.files old.files held.files
-  pub holds : Holds main held (entry_at site s.item ∷ entries)
-  pub read : (opens : Opens) → statement_read opens site entries s ≡ record { entries = entry_at site s.item ∷ entries; end = Whole }
+  pub holds : Holds main held (e ∷ entries)
+  pub read : (opens : Opens) → statement_read opens e entries ≡ record { entries = e ∷ entries; end = Whole }
 
 -- What a statement names is open: what is read from here on is the text of the file, and what was read before that is held.
-pub record OpensFile (main : List ℕ) (before after : SourceState) (old held : Reader) (left : ℕ) (inner : Site) (text : List ℕ)
-    (e : Entry) (entries : List Entry) (reading : List Reading → ReadingText) : Type 0 where
+pub record OpensNamed (main : List ℕ) (before after : SourceState) (old held : Reader) (left : ℕ) (inner : Site) (text : List ℕ)
+    (e : Entry) (entries : List Entry) : Type 0 where
   pub files : List Reading
   pub reads : ReadsAll before after old.files files held.files
   pub holds : Holds main held (e ∷ entries)
   pub within : ℕ
   pub left_is : left ≡ suc within
-  pub read : (all : List Reading) → IsPrefix files all → reading all ≡ text_read (opened_in all within) inner text (e ∷ entries)
+  pub read : (all : List Reading) → IsPrefix files all
+      → statement_read (opened_in all left) e entries ≡ text_read (opened_in all within) inner text (e ∷ entries)
 
 -- the file that a statement names, by the scope in which its statements stand
 pub record IsOpened (held : Reader) (opened : Opened) (inner : Site) : Type 0 where
   pub file : inner.file ≡ string_bytes opened.path
   pub number : inner.number ≡ opened.scope
-  pub stands : Stands held.declared.scopes opened.scope inner.around
+  pub scope : IsOpenScope held.declarations.scopes opened.scope inner.around
 
--- what a statement reads, or the file that it opens
-abbrev pub ReadsItem : (main : List ℕ) → (before after : SourceState) → (old held : Reader) → (left : ℕ) → Site → List Entry
-    → PlacedText → Result (Option Opened) GraphFault → Type 0
-ReadsItem main before after old held left site entries s (Ok None) = ReadsOne main before after old held site entries s
-ReadsItem main before after old held left site entries s (Ok (Some opened)) =
+-- a file is opened that the statement names, or the run stops there
+abbrev pub OpensOrStops : (main : List ℕ) → (before after : SourceState) → (old held : Reader) → (left : ℕ) → Entry → List Entry
+    → Result Opened GraphFault → Type 0
+OpensOrStops main before after old held left e entries (Ok opened) =
     (inner : Site) × IsOpened held opened inner
-    × OpensFile main before after old held left inner (rc_slice_items opened.text) (entry_at site s.item) entries
-    (λ all. statement_read (opened_in all left) site entries s)
-ReadsItem main before after old held left site entries s (Err fault) =
-    StopsAt main before after old.files (λ all. statement_read (opened_in all left) site entries s) fault
+    × OpensNamed main before after old held left inner (rc_slice_items opened.text) e entries
+OpensOrStops main before after old held left e entries (Err fault) =
+    StopsAt main before after old.files (λ all. statement_read (opened_in all left) e entries) fault
 
--- what a statement opens that names a file
-abbrev pub OpensAt : (main : List ℕ) → (before after : SourceState) → (old held : Reader) → (left : ℕ) → Site → List Entry
-    → PlacedText → Result Opened GraphFault → Type 0
-OpensAt main before after old held left site entries s (Ok opened) =
-    ReadsItem main before after old held left site entries s (Ok (Some opened))
-OpensAt main before after old held left site entries s (Err fault) =
-    ReadsItem main before after old held left site entries s (Err fault)
+-- a statement is read, or the file is opened that it names, or the run stops there
+abbrev pub ReadsItem : (main : List ℕ) → (before after : SourceState) → (old held : Reader) → (left : ℕ) → Entry → List Entry
+    → Result (Option Opened) GraphFault → Type 0
+ReadsItem main before after old held left e entries (Ok None) = ReadsOne main before after old held e entries
+ReadsItem main before after old held left e entries (Ok (Some opened)) =
+    OpensOrStops main before after old held left e entries (Ok opened)
+ReadsItem main before after old held left e entries (Err fault) =
+    OpensOrStops main before after old held left e entries (Err fault)
 
 -- ---- texts
 
@@ -191,10 +212,10 @@ pub record ReadsText (main : List ℕ) (before after : SourceState) (old held : 
   pub holds : Holds main held entries
   pub read : (all : List Reading) → IsPrefix files all → reading all ≡ record { entries = entries; end = Whole }
 
-abbrev pub Reads : (main : List ℕ) → (before after : SourceState) → (old held : Reader) → (reading : List Reading → ReadingText)
+abbrev pub ReadsOrStops : (main : List ℕ) → (before after : SourceState) → (old held : Reader) → (reading : List Reading → ReadingText)
     → Result (Unit {0}) GraphFault → Type 0
-Reads main before after old held reading (Ok done) = ReadsText main before after old held reading
-Reads main before after old held reading (Err fault) = StopsAt main before after old.files reading fault
+ReadsOrStops main before after old held reading (Ok done) = ReadsText main before after old held reading
+ReadsOrStops main before after old held reading (Err fault) = StopsAt main before after old.files reading fault
 
 -- ---- the next statement
 

@@ -13,28 +13,40 @@ use Rattle.nj_scope.specs.Readings.{reading_of}
 use Rattle.nj_scope.specs.Scopes.{expanded}
 use Rattle.nj_scope.specs.Limits.{is_depth, is_newer}
 use Rattle.nj_scope.specs.Pools.{is_pool}
-use Rattle.nj_scope.specs.ReadingList.{Entry, value_after, rules, is_declared, pools, scopes_opened, files_opened}
+use Rattle.nj_scope.specs.ReadingList.{Entry, scope_of, value_after, rules, is_declared, pools, scopes_opened, files_opened}
 use Rattle.nj_graph.specs.declared.fault.Place.{Place}
 use Rattle.nj_graph.specs.declared.fault.Cause.{Cause}
 use Rattle.nj_graph.specs.declared.fault.GraphFault.{GraphFault}
 use Rattle.nj_graph.specs.declared.fault.Cause.TheVariants.{EmptyPath, BadDepth, DuplicateRule, DuplicatePool, VersionTooNew, Missing, PathNotText, TooDeep, TooManyOpenings, NotYet}
 use Rattle.nj_graph.specs.Faults.{fault_at, fault_in}
-use Rattle.nj_graph.specs.Statements.{said}
+use Rattle.nj_graph.specs.Statements.{parsed}
 
 -- ---- where a statement stands
 
--- the file, by the name under which it was opened, and the scope: its number, and those around it, the nearest first
+-- Where the statements of an open file stand: the file, by the name under which it was opened; how many files are open around
+-- it; and the scope: its number, and those around it, the nearest first.
 pub record Site : Type 0 where
   pub file : List ℕ
+  pub depth : ℕ
   pub number : ℕ
   pub around : List ℕ
 
-abbrev pub entry_at : Site → StatementText → Entry
-entry_at site item = record { number = site.number; around = site.around; item = item }
+abbrev pub site_scope : Site → List ℕ
+site_scope site = site.number ∷ site.around
 
--- what a word says, by the statements before it, of which the last read stands first
-abbrev pub word_says : Site → (before : List Entry) → WordText → List ℕ
-word_says site before word = expanded (value_after before (site.number ∷ site.around)) word.parts
+abbrev pub entry_at : Site → PlacedText → Entry
+entry_at site s = record {
+  file = site.file;
+  spot = s.spot;
+  depth = site.depth;
+  number = site.number;
+  around = site.around;
+  item = s.item;
+}
+
+-- a word that is expanded in a scope, by the statements before it, of which the last read stands first
+abbrev pub expanded_in : (scope : List ℕ) → (before : List Entry) → WordText → List ℕ
+expanded_in scope before word = expanded (value_after before scope) word.parts
 
 -- ---- what is wrong with a statement by itself
 
@@ -42,35 +54,44 @@ abbrev pub fault_if : Bool → GraphFault → Option GraphFault
 fault_if true fault = Some fault
 fault_if false fault = None
 
-abbrev pub binding_fault : Site → List Entry → Spot → (name : List ℕ) → (value : List ℕ) → Option GraphFault
-binding_fault site before spot name value = fault_if (bytes_eq name (codes "ninja_required_version") && is_newer value) (fault_at site.file spot (VersionTooNew value))
-
-abbrev pub rule_fault : Site → List Entry → NameText → Option GraphFault
-rule_fault site before name = fault_if (is_declared (rules before site.number name.name) name.name) (fault_at site.file name.spot (DuplicateRule name.name))
-
--- each depth of a pool's block counts, also one that a later line overrides
-abbrev pub depth_fault : Site → List Entry → List LineText → Option GraphFault
-depth_fault site before lines = option_map (λ l. fault_at site.file l.spot BadDepth) (find (λ l. not (is_depth (word_says site before l.value))) lines)
-
 abbrev pub or_then : {A : Type 0} → Option A → Option A → Option A
 or_then (Some first) others = Some first
 or_then None others = others
 
-abbrev pub pool_fault : Site → List Entry → NameText → List LineText → Option GraphFault
-pool_fault site before name lines = or_then (fault_if (is_pool (pools before) name.name) (fault_at site.file name.spot (DuplicatePool name.name))) (depth_fault site before lines)
+abbrev pub binding_fault : (file : List ℕ) → Spot → (name value : List ℕ) → Option GraphFault
+binding_fault file spot name value =
+    fault_if (bytes_eq name (codes "ninja_required_version") && is_newer value) (fault_at file spot (VersionTooNew value))
 
-abbrev pub path_fault : Site → Spot → (path : List ℕ) → Option GraphFault
-path_fault site spot path = or_then (fault_if (is_empty path) (fault_at site.file spot EmptyPath)) (fault_if (not (is_utf8 path)) (fault_at site.file spot PathNotText))
+abbrev pub rule_fault : (file : List ℕ) → (number : ℕ) → (before : List Entry) → NameText → Option GraphFault
+rule_fault file number before name =
+    fault_if (is_declared (rules before number name.name) name.name) (fault_at file name.spot (DuplicateRule name.name))
+
+-- each depth of a pool's block counts, also one that a later line overrides
+abbrev pub depth_fault : (file scope : List ℕ) → (before : List Entry) → List LineText → Option GraphFault
+depth_fault file scope before lines =
+    option_map (λ l. fault_at file l.spot BadDepth) (find (λ l. not (is_depth (expanded_in scope before l.value))) lines)
+
+abbrev pub pool_fault : (file scope : List ℕ) → (before : List Entry) → NameText → List LineText → Option GraphFault
+pool_fault file scope before name lines =
+    or_then (fault_if (is_pool (pools before) name.name) (fault_at file name.spot (DuplicatePool name.name)))
+    (depth_fault file scope before lines)
+
+abbrev pub path_fault : (file : List ℕ) → Spot → (path : List ℕ) → Option GraphFault
+path_fault file spot path =
+    or_then (fault_if (is_empty path) (fault_at file spot EmptyPath)) (fault_if (not (is_utf8 path)) (fault_at file spot PathNotText))
+
+abbrev pub item_fault : Entry → (before : List Entry) → StatementText → Option GraphFault
+item_fault e before (BindingText name value) = binding_fault e.file e.spot name (expanded_in (scope_of e) before value)
+item_fault e before (RuleText name lines) = rule_fault e.file e.number before name
+item_fault e before (PoolText name lines) = pool_fault e.file (scope_of e) before name lines
+item_fault e before (BuildText outputs rule inputs lines) = Some (fault_at e.file e.spot NotYet)
+item_fault e before (DefaultText words) = Some (fault_at e.file e.spot NotYet)
+item_fault e before (IncludeText word) = path_fault e.file word.spot (expanded_in (scope_of e) before word)
+item_fault e before (SubninjaText word) = path_fault e.file word.spot (expanded_in (scope_of e) before word)
 
 -- the first fault of a statement that is none of its syntax and none of the file that it names
-abbrev pub own_fault : Site → (before : List Entry) → (spot : Spot) → StatementText → Option GraphFault
-own_fault site before spot (BindingText name value) = binding_fault site before spot name (word_says site before value)
-own_fault site before spot (RuleText name lines) = rule_fault site before name
-own_fault site before spot (PoolText name lines) = pool_fault site before name lines
-own_fault site before spot (BuildText outputs rule inputs lines) = Some (fault_at site.file spot NotYet)
-own_fault site before spot (DefaultText words) = Some (fault_at site.file spot NotYet)
-own_fault site before spot (IncludeText word) = path_fault site word.spot (word_says site before word)
-own_fault site before spot (SubninjaText word) = path_fault site word.spot (word_says site before word)
+abbrev pub own_fault : Entry → (before : List Entry) → Option GraphFault
+own_fault e before = item_fault e before e.item
 
 -- ---- a reading
 
@@ -102,40 +123,51 @@ and_then r others = go_on r.end r.entries others
 abbrev pub Opens : Type 0
 Opens = Site → Place → Entry → (before : List Entry) → ReadingText
 
-abbrev pub place_at : Site → Spot → Place
-place_at site spot = record { file = site.file; spot = spot }
+abbrev pub place_at : Entry → Spot → Place
+place_at e spot = record { file = e.file; spot = spot }
 
--- The statements of a file that is included stand in the scope of the `include`, those of one behind `subninja` in a new
+-- The statements of a file that is included stand in the scope of the `include`, those of a file after `subninja` in a new
 -- scope within that of the statement.
-abbrev pub item_read : Opens → Site → (before : List Entry) → StatementText → ReadingText
-item_read opens site before (IncludeText word) =
-    opens (record { file = word_says site before word; number = site.number; around = site.around }) (place_at site word.spot) (entry_at site (IncludeText word)) before
-item_read opens site before (SubninjaText word) =
-    opens (record { file = word_says site before word; number = scopes_opened before; around = site.number ∷ site.around }) (place_at site word.spot) (entry_at site (SubninjaText word)) before
-item_read opens site before (BindingText name value) = record { entries = entry_at site (BindingText name value) ∷ before; end = Whole }
-item_read opens site before (RuleText name lines) = record { entries = entry_at site (RuleText name lines) ∷ before; end = Whole }
-item_read opens site before (PoolText name lines) = record { entries = entry_at site (PoolText name lines) ∷ before; end = Whole }
-item_read opens site before (BuildText outputs rule inputs lines) = record { entries = entry_at site (BuildText outputs rule inputs lines) ∷ before; end = Whole }
-item_read opens site before (DefaultText words) = record { entries = entry_at site (DefaultText words) ∷ before; end = Whole }
+abbrev pub included_site : Entry → (before : List Entry) → WordText → Site
+included_site e before word = record {
+  file = expanded_in (scope_of e) before word;
+  depth = suc e.depth;
+  number = e.number;
+  around = e.around;
+}
 
-abbrev pub unless_fault : Option GraphFault → Opens → Site → (before : List Entry) → StatementText → ReadingText
-unless_fault (Some fault) opens site before item = record { entries = before; end = Refused fault }
-unless_fault None opens site before item = item_read opens site before item
+abbrev pub subninja_site : Entry → (before : List Entry) → WordText → Site
+subninja_site e before word = record {
+  file = expanded_in (scope_of e) before word;
+  depth = suc e.depth;
+  number = scopes_opened before;
+  around = scope_of e;
+}
 
-abbrev pub statement_read : Opens → Site → (before : List Entry) → PlacedText → ReadingText
-statement_read opens site before s = unless_fault (own_fault site before s.spot s.item) opens site before s.item
+abbrev pub item_read : Opens → Entry → (before : List Entry) → StatementText → ReadingText
+item_read opens e before (IncludeText word) = opens (included_site e before word) (place_at e word.spot) e before
+item_read opens e before (SubninjaText word) = opens (subninja_site e before word) (place_at e word.spot) e before
+item_read opens e before item = record { entries = e ∷ before; end = Whole }
+
+abbrev pub unless_fault : Option GraphFault → Opens → Entry → (before : List Entry) → ReadingText
+unless_fault (Some fault) opens e before = record { entries = before; end = Refused fault }
+unless_fault None opens e before = item_read opens e before e.item
+
+abbrev pub statement_read : Opens → Entry → (before : List Entry) → ReadingText
+statement_read opens e before = unless_fault (own_fault e before) opens e before
 
 abbrev pub end_by : (file : List ℕ) → Option Fault → End
 end_by file None = Whole
 end_by file (Some fault) = Refused (fault_in file fault)
 
--- the statements of a file, one behind the other
+-- the statements of a file, one after the other
 unfoldable pub statements_read : Opens → Site → (statements : List PlacedText) → Option Fault → (before : List Entry) → ReadingText
 statements_read opens site [] fault before = record { entries = before; end = end_by site.file fault }
-statements_read opens site (s ∷ others) fault before = and_then (statement_read opens site before s) (λ entries. statements_read opens site others fault entries)
+statements_read opens site (s ∷ others) fault before =
+    and_then (statement_read opens (entry_at site s) before) (λ entries. statements_read opens site others fault entries)
 
 abbrev pub text_read : Opens → Site → (text : List ℕ) → (before : List Entry) → ReadingText
-text_read opens site text before = statements_read opens site (said text).statements (said text).fault before
+text_read opens site text before = statements_read opens site (parsed text).statements (parsed text).fault before
 
 -- how many files may be opened in a run, the main file and repeated ones among them
 abbrev pub most_opened : ℕ
@@ -164,22 +196,27 @@ if_room true within files site place e before = answer_read within site place (e
 -- what is read of a file by these files, where so many more may be open
 unfoldable pub opened_in : (files : List table.Reading) → (left : ℕ) → Opens
 opened_in files zero site place e before = stopped before place TooDeep
-opened_in files (suc left) site place e before = if_room (nat_lt (files_opened before) most_opened) (opened_in files left) files site place e before
+opened_in files (suc left) site place e before =
+    if_room (nat_lt (files_opened before) most_opened) (opened_in files left) files site place e before
 
 -- ---- a run
 
 abbrev pub main_site : (main : List ℕ) → Site
-main_site main = record { file = main; number = 0; around = [] }
+main_site main = record { file = main; depth = 0; number = 0; around = [] }
+
+abbrev pub main_place : (main : List ℕ) → Place
+main_place main = record { file = main; spot = record { line = 1; column = 1 } }
 
 -- the main file, and all that it includes
 unfoldable pub main_read : (files : List table.Reading) → (main : List ℕ) → ReadingText
-main_read files main = answer_read (opened_in files most_within) (main_site main) (record { file = main; spot = record { line = 1; column = 1 } }) [] [] (reading_of files main)
+main_read files main =
+    answer_read (opened_in files most_within) (main_site main) (main_place main) [] [] (reading_of files main)
 
 -- ---- the paths that a reading comes to
 
 abbrev pub path_named : Entry → (before : List Entry) → StatementText → List (List ℕ)
-path_named e before (IncludeText word) = expanded (value_after before (e.number ∷ e.around)) word.parts ∷ []
-path_named e before (SubninjaText word) = expanded (value_after before (e.number ∷ e.around)) word.parts ∷ []
+path_named e before (IncludeText word) = expanded_in (scope_of e) before word ∷ []
+path_named e before (SubninjaText word) = expanded_in (scope_of e) before word ∷ []
 path_named e before item = []
 
 -- a path in the list of those before it, unless it is there

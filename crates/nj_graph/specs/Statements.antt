@@ -5,23 +5,23 @@ use Rattle.nj_manifest.specs.Faults.{Fault}
 use Rattle.nj_manifest.specs.Statements.{Reading, PlacedText, next_statement}
 
 -- the statements up to the end, or up to the first that has a fault of syntax
-pub record Said : Type 0 where
+pub record Parsed : Type 0 where
   pub statements : List PlacedText
   pub fault : Option Fault
 
-abbrev pub said_first : PlacedText → Said → Said
-said_first s others = record { statements = s ∷ others.statements; fault = others.fault }
+abbrev pub and_parsed : PlacedText → Parsed → Parsed
+and_parsed s others = record { statements = s ∷ others.statements; fault = others.fault }
 
-abbrev pub said_by : Reading (Option PlacedText) → (List Line → Said) → Said
-said_by (Ok (Some s, rest)) others = said_first s (others rest)
-said_by (Ok (None, rest)) others = record { statements = []; fault = None }
-said_by (Err fault) others = record { statements = []; fault = Some fault }
+abbrev pub parsed_by : Reading (Option PlacedText) → (List Line → Parsed) → Parsed
+parsed_by (Ok (Some s, rest)) others = and_parsed s (others rest)
+parsed_by (Ok (None, rest)) others = record { statements = []; fault = None }
+parsed_by (Err fault) others = record { statements = []; fault = Some fault }
 
 -- the statements of the lines, where there are fewer of them than this number
-unfoldable pub said_in : (most : ℕ) → List Line → Said
-said_in zero lines = record { statements = []; fault = None }
-said_in (suc most) lines = said_by (next_statement lines) (said_in most)
+unfoldable pub parsed_in : (most : ℕ) → List Line → Parsed
+parsed_in zero lines = record { statements = []; fault = None }
+parsed_in (suc most) lines = parsed_by (next_statement lines) (parsed_in most)
 
 -- A statement has a byte at least.
-abbrev pub said : (text : List ℕ) → Said
-said text = said_in (suc (length text)) (text_lines text)
+abbrev pub parsed : (text : List ℕ) → Parsed
+parsed text = parsed_in (suc (length text)) (text_lines text)

@@ -1,76 +1,79 @@
 //! The graph of a run.
 
-ghost use Rattle.std.specs.Prelude.{◌≡◌, ◌<◌, length, option_copied, IfOk};
-ghost use Rattle.nj_graph.specs.Graph.{graph_of, main_rules_of, main_rule_at, description, has_description, description_text, NamesRise, ListsMainRules, HoldMainRules};
+ghost use Rattle.std.specs.Prelude.{◌≡◌, ◌<◌, None, length, option_copied, option_and_then, slice_get, IfOk};
+ghost use Rattle.nj_scope.specs.ScopesHeld.{parent_at};
+ghost use Rattle.nj_graph.specs.Graph.{main_rules, main_rule_at, description, has_description, description_text, NamesRise, ListsMainRules};
+ghost use Rattle.nj_graph.specs.GraphHeld.{HoldsMainRules, rule_name};
 
-use nj_scope::{LateValue, Rule};
+use nj_scope::{Declarations, LateValue, Rule};
 use std::alloc::{AllocError, Global};
 use std::marker::Model;
 
 // The number of the main file's scope.
 const MAIN_SCOPE: usize = 0;
 
-// A rule that the graph lists: its name, and its number; `phony` has no number.
-#[derive(Drop)]
-struct MainRule {
-    name: Vec<u8>,
-    rule: Option<usize>,
-}
-
-/// The graph of a run: so far the rules of its files ("Rules" in the Ninja manual).
+/// The graph of a run: so far what its files declare ("Rules" and "Variables" in the Ninja manual).
 #[derive(Drop)]
 pub struct Graph {
-    rules: Vec<Rule>,
-    main_rules: Vec<MainRule>,
+    declarations: Declarations,
+    // The numbers of the rules that are listed.
+    main_rules: Vec<usize>,
 }
 
 impl Model for Graph {
-    ghost use Rattle.nj_graph.specs.Graph.{GraphText, HoldMainRules};
+    ghost use Rattle.nj_graph.specs.Graph.{GraphText};
+    ghost use Rattle.nj_graph.specs.GraphHeld.{IsGraph};
 
     ghost Value = { GraphText };
 
-    ghost view = { λ g. record { rules = g.rules.items } };
+    ghost view = { λ g. record { declarations = g.declarations } };
 
-    ghost invariant = { λ g. HoldMainRules g.rules.items g.main_rules.items };
+    ghost invariant = { λ g. IsGraph g.declarations g.main_rules.items };
 }
 
 impl Graph {
-    /// The graph of these rules, which are those of all scopes in the order of their numbers.
-    pub fn new(alloc: Global, rules: Vec<Rule>) -> Result<Graph, AllocError>
-        ensures { IfOk result (λ g. g ≡ graph_of rules.items) }
+    /// The graph of what the files of a run declare.
+    pub(crate) fn new(alloc: Global, declarations: Declarations) -> Result<Graph, AllocError>
+        requires { parent_at declarations.scopes 0 ≡ None }
+        ensures { IfOk result (λ g. g.declarations ≡ declarations) }
     {
-        let main_rules = main_rules(alloc, &rules)?;
-        Ok(Graph { rules, main_rules })
+        let main_rules = rules_of_main(alloc, declarations.rules())?;
+        Ok(Graph {
+            declarations,
+            main_rules,
+        })
     }
 
-    /// How many rules are listed: `phony`, and those of the main file's scope.
+    /// How many rules are listed: those of the main file's scope, `phony` among them.
     pub fn main_rule_count(&self) -> usize
-        ensures { result ≡ length (main_rules_of self.now.rules) }
+        ensures { result ≡ length (main_rules self.now) }
     {
         self.main_rules.len()
     }
 
     /// The name of the rule at this index. They stand in the order of the bytes of their names.
     pub fn main_rule(&self, index: usize) -> &[u8]
-        requires { index < length (main_rules_of self.now.rules) }
+        requires { index < length (main_rules self.now) }
         ensures { result.now ≡ (main_rule_at self.now index).name }
     {
-        self.main_rules[index].name.as_slice()
+        rule_name(self.declarations.rules(), self.main_rules[index])
     }
 
     /// Whether the rule at this index has a `description` line.
     pub fn has_description(&self, index: usize) -> bool
-        requires { index < length (main_rules_of self.now.rules) }
+        requires { index < length (main_rules self.now) }
         ensures { result ≡ has_description (main_rule_at self.now index) }
     {
         self.description(index).is_some()
     }
 
-    /// What the last `description` line of the rule at this index says, not expanded: `${name}` stands for a reference, and
-    /// an escape is the byte that it stands for. It is empty where there is no such line.
+    /// What the last `description` line of the rule at this index says, not expanded: `${name}`
+    /// stands for a reference, and an escape is the byte that it stands for. It is empty if there
+    /// is no such line.
     pub fn description_text(&self, alloc: Global, index: usize) -> Result<Vec<u8>, AllocError>
-        requires { index < length (main_rules_of self.now.rules) }
-        ensures { IfOk result (λ text. text.items ≡ description_text (main_rule_at self.now index)) }
+        requires { index < length (main_rules self.now) }
+        ensures { IfOk result (λ text.
+            text.items ≡ description_text (main_rule_at self.now index)) }
     {
         match self.description(index) {
             Some(value) => value.written(alloc),
@@ -80,118 +83,50 @@ impl Graph {
 
     // The value of the last `description` line of the rule at this index.
     fn description(&self, index: usize) -> Option<&LateValue>
-        requires { index < length (main_rules_of self.now.rules) }
+        requires { index < length (main_rules self.now) }
         ensures { option_copied result ≡ description (main_rule_at self.now index) }
     {
-        let number = self.main_rules[index].rule?;
-        let rule = self.rules.get(number)?;
-        rule.value(b"description")
+        description_of(self.declarations.rules(), self.main_rules[index])
     }
 }
 
-// The rules that a graph lists, by name.
-fn main_rules(alloc: Global, rules: &[Rule]) -> Result<Vec<MainRule>, AllocError>
-    ensures { IfOk result (λ held. HoldMainRules rules.now held.items) }
+// The numbers of the rules of the main file's scope, by name.
+fn rules_of_main(alloc: Global, rules: &[Rule]) -> Result<Vec<usize>, AllocError>
+    ensures { IfOk result (λ numbers. HoldsMainRules rules.now numbers.items) }
 {
-    let mut listed = Vec::new(alloc);
-    listed.push(MainRule {
-        name: Vec::from_slice(alloc, b"phony")?,
-        rule: None,
-    })?;
+    let mut numbers = Vec::new(alloc);
     'rules: for (number, rule) in rules.iter().enumerate() {
         if rule.scope() == MAIN_SCOPE {
-            listed.push(MainRule {
-                name: Vec::from_slice(alloc, rule.name())?,
-                rule: Some(number),
-            })?;
+            numbers.push(number)?;
         }
     }
-    listed.sort_by(|one, other| one.name.cmp(&other.name))?;
-    Ok(listed)
+    numbers.sort_by(|one, other| rule_name(rules, *one).cmp(rule_name(rules, *other)))?;
+    Ok(numbers)
 }
 
-/// Which rules are listed: `phony` and those of the main file's scope, and no others. Where no two of them have one name,
-/// their names rise by their bytes, so that each stands once.
+// The name of the rule of this number; empty if there is none.
+fn rule_name(rules: &[Rule], number: usize) -> &[u8]
+    ensures { result.now ≡ rule_name rules.now number }
+{
+    match rules.get(number) {
+        Some(rule) => rule.name(),
+        None => b"",
+    }
+}
+
+// The value of the last `description` line of the rule of this number; `None` if there is none.
+fn description_of(rules: &[Rule], number: usize) -> Option<&LateValue>
+    ensures { option_copied result ≡ option_and_then description (slice_get rules.now number) }
+{
+    match rules.get(number) {
+        Some(rule) => rule.value(b"description"),
+        None => None,
+    }
+}
+
+/// Which rules are listed: those of the main file's scope, and no others. Where no two of them have
+/// one name, their names rise by their bytes, so that each stands once.
 pub fn rules_by_name()
     ensures rise { NamesRise }
     ensures listed { ListsMainRules }
 {}
-
-#[cfg(test)]
-mod tests {
-    use super::*;
-    use nj_manifest::{Parser, Statement};
-    use std::test::*;
-
-    /// Puts the rule that the text declares behind the others.
-    fn push_rule(
-        alloc: Global,
-        rules: &mut Vec<Rule>,
-        scope: usize,
-        text: &[u8],
-    ) -> Result<(), Fail> {
-        let mut parser = Parser::new(text);
-        let found = parser.next_statement(alloc).ok().ok_or("it is read")?;
-        let statement = found.ok_or("it declares a rule")?;
-        if let Statement::Rule { name, lines, .. } = &statement.item {
-            rules.push(Rule::new(alloc, scope, name, lines)?)?;
-        }
-        Ok(())
-    }
-
-    /// The graph of the rules that the texts declare, each in the scope of its number.
-    fn graph_of(alloc: Global, texts: &[(usize, &[u8])]) -> Result<Graph, Fail> {
-        let mut rules = Vec::new(alloc);
-        'texts: for (scope, text) in texts {
-            push_rule(alloc, &mut rules, *scope, text)?;
-        }
-        Ok(Graph::new(alloc, rules)?)
-    }
-
-    /// The rules that the graph lists, a line each, with their descriptions.
-    fn listing(alloc: Global, graph: &Graph) -> Result<Vec<u8>, Fail> {
-        let mut text = Vec::new(alloc);
-        'rules: for index in 0..graph.main_rule_count() {
-            text.extend_from_slice(graph.main_rule(index))?;
-            if graph.has_description(index) {
-                text.extend_from_slice(b" = ")?;
-                text.extend_from_slice(&graph.description_text(alloc, index)?)?;
-            }
-            text.push(b'\n')?;
-        }
-        Ok(text)
-    }
-
-    #[test]
-    fn rules_are_listed_by_name(rt: HostRuntime) -> Result<(), Fail> {
-        let texts: [(usize, &[u8]); 4] = [
-            (0, b"rule ld\n  command = l\n"),
-            (1, b"rule ar\n  command = a\n"),
-            (0, b"rule cc2\n  command = c\n"),
-            (0, b"rule Zip\n  command = z\n"),
-        ];
-        let graph = graph_of(rt.alloc(), &texts)?;
-        assert_eq!(rt;
-            listing(rt.alloc(), &graph)?.as_slice(),
-            b"Zip\ncc2\nld\nphony\n".as_slice()
-        );
-        Ok(())
-    }
-
-    #[test]
-    fn the_last_description_counts(rt: HostRuntime) -> Result<(), Fail> {
-        let texts: [(usize, &[u8]); 2] = [
-            (
-                0,
-                b"rule cc\n  command = c\n  description = x\n  description = CC $out$$ done\n",
-            ),
-            (0, b"rule quiet\n  description =\n  command = q\n"),
-        ];
-        let graph = graph_of(rt.alloc(), &texts)?;
-        assert_eq!(rt;
-            listing(rt.alloc(), &graph)?.as_slice(),
-            b"cc = CC ${out}$ done\nphony\nquiet = \n".as_slice()
-        );
-        Ok(())
-    }
-}

@@ -1,12 +1,14 @@
 //! Laws of the reading of files.
 
-ghost use Rattle.nj_graph.specs.Laws.{ReadIsFaultless, OpeningsAreBounded, OthersAreNotRead, MainRulesRise};
+ghost use Rattle.nj_graph.specs.Laws.{ReadIsFaultless, OpenFilesAreBounded, OpeningsAreBounded, OthersAreNotRead, MainRulesRise};
 
-/// What holds of the statements that are read of a run's files up to the first fault: none of them has a fault by those
-/// before it, so that the rules of the main scope have names of their own; no more files are opened than may be; and files
-/// to which the reading does not come count for nothing.
+/// What holds of the statements that are read of a run's files up to the first fault: none of them
+/// has a fault by those before it, so that the rules of the main scope have names of their own; at
+/// most 32 files are open at any of them, and no more are opened than may be; and files to which
+/// the reading does not come count for nothing.
 pub fn statements_up_to_the_first_fault()
     ensures faultless { ReadIsFaultless }
+    ensures open_files { OpenFilesAreBounded }
     ensures openings { OpeningsAreBounded }
     ensures others { OthersAreNotRead }
     ensures rules { MainRulesRise }

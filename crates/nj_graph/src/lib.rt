@@ -1,11 +1,13 @@
 //! The graph of a run's build statements, from the files that it reads.
 #![tactic(auto)]
 
+mod declaring;
 mod fault;
 mod fault_line;
 mod graph;
 mod laws;
 mod loading;
+mod opening;
 mod reader;
 
 pub use fault::{Cause, GraphFault, Name, Place};

@@ -1,4 +1,4 @@
-use Rattle.nj_graph.proofs.ReadingLaws.{read_is_faultless, openings_are_bounded, main_rules_rise}
+use Rattle.nj_graph.proofs.ReadingLaws.{read_is_faultless, open_files_are_bounded, openings_are_bounded, main_rules_rise}
 use Rattle.nj_graph.proofs.OtherFiles.{others_are_not_read}
 use Rattle.nj_graph.proofs.laws.statements_up_to_the_first_fault.Goals as goal
 
@@ -13,3 +13,6 @@ returns-clause-others c = others_are_not_read
 
 pub returns-clause-rules : goal.returns-clause-rules
 returns-clause-rules c = main_rules_rise
+
+pub returns-clause-open_files : goal.returns-clause-open_files
+returns-clause-open_files c = open_files_are_bounded

@@ -3,7 +3,7 @@ use Rattle.nj_graph.specs.Faults.{no_memory}
 use Rattle.nj_graph.specs.Reading.{main_read}
 use Rattle.nj_graph.specs.ReaderContracts.{StopsAt}
 use Rattle.nj_graph.proofs.Naming.{handed, handed-as}
-use Rattle.nj_graph.proofs.MainFiles.{main-nothing, reads-memory}
+use Rattle.nj_graph.proofs.MainFiles.{main-nothing, reads-memory, is-loaded}
 use Rattle.nj_graph.proofs.loading.load.Goals as goal
 
 pub returns-in_err-reader : goal.returns-in_err-reader
@@ -18,7 +18,7 @@ returns-in_err-read_main g c =
     let told = g.S.FileSource.state c.args.source.now in
     let after = g.S.FileSource.state c.read_main.new.source in
     let fault = c.in_err-read_main.field-0.0 in
-    let s = subst (λ fs. StopsAt c.args.main.now told after fs (λ all. main_read all c.args.main.now) fault) c.in_ok-reader.ensures.files c.in_err-read_main.ensures in
+    let s = subst (λ fs. StopsAt c.args.main.now told after fs (λ all. main_read all c.args.main.now) fault) c.in_ok-reader.ensures.files c.in_err-read_main.ensures.reads in
     rw (handed fault c.from_residual-in_err-read_main.result c.from_residual-in_err-read_main.ensures) (s.files, s.reads, s.stops)
 
 pub returns-in_err-graph : goal.returns-in_err-graph
@@ -27,6 +27,11 @@ returns-in_err-graph g c =
     let told = g.S.FileSource.state c.args.source.now in
     let after = g.S.FileSource.state c.read_main.new.source in
     let fault = handed-as (λ e. e ≡ no_memory) c.from_residual-in_err-graph.result c.from_residual-in_err-graph.ensures in
-    let stops = reads-memory main told after c.in_ok-reader.reader c.read_main.new.self fault.0 c.in_ok-read_main.ensures fault.2 in
+    let stops = reads-memory main told after c.in_ok-reader.reader c.read_main.new.self fault.0 c.in_ok-read_main.ensures.reads fault.2 in
     let s = subst (λ fs. StopsAt main told after fs (λ all. main_read all main) fault.0) c.in_ok-reader.ensures.files stops in
     rw fault.1 (s.files, s.reads, s.stops)
+
+pub returns : goal.returns
+returns g c =
+    is-loaded c.args.main.now (g.S.FileSource.state c.args.source.now) (g.S.FileSource.state c.read_main.new.source) c.in_ok-reader.reader c.read_main.new.self
+    (record { files = c.read_main.new.self.files; graph = c.in_ok-graph.graph }) c.in_ok-reader.ensures.files c.in_ok-read_main.ensures.reads refl c.in_ok-graph.ensures

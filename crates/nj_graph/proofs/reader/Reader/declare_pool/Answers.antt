@@ -1,24 +1,26 @@
-use Rattle.std.proofs.Common.{◌≡◌, true, ◌∷◌, refl, sym, subst, ◌∙◌}
+use Rattle.std.proofs.Common.{◌≡◌, true, ◌∷◌, refl, sym, ◌∙◌}
 use Rattle.nj_manifest.specs.Steps.{NameText}
 use Rattle.nj_manifest.specs.Statements.{PoolText}
 use Rattle.nj_manifest.specs.Held.{lines_text}
 use Rattle.nj_graph.specs.declared.reader.Reader.{Reader}
-use Rattle.nj_graph.specs.Reading.{entry_at, depth_fault, pool_fault}
-use Rattle.nj_graph.specs.ReaderContracts.{Stands, site_of}
-use Rattle.nj_graph.proofs.Holding.{holds-next, pool-new, depths-same, pool-declares}
+use Rattle.nj_graph.specs.Reading.{entry_at, site_scope, depth_fault}
+use Rattle.nj_graph.specs.ReaderContracts.{site_of}
+use Rattle.nj_graph.proofs.Holding.{holds-next, pool-new, depths-same, pool-declares, same-grows}
+use Rattle.nj_graph.proofs.Naming.{open-grown}
 use Rattle.nj_graph.proofs.reader.Reader.declare_pool.Goals as goal
 
 pub returns-clause-declares : goal.returns-clause-declares
-returns-clause-declares c = λ main entries around holds stands.
-    let site = site_of c.args.file around in
+returns-clause-declares c = λ start main entries around depth holds inside.
+    let site = site_of c.args.file around depth in
     let name : NameText = record { spot = c.args.spot; name = c.args.name.now } in
     let lines = lines_text c.args.lines.now in
-    let e = entry_at site (PoolText name lines) in
-    let held : Reader = record { declared = c.declare_pool.new.self; files = c.args.self.now.files; opened = c.args.self.now.opened } in
+    let e = entry_at site (record { spot = start; item = PoolText name lines }) in
+    let scope = site_scope site in
+    let held : Reader = record { declarations = c.declare_pool.new.self; files = c.args.self.now.files; opened = c.args.self.now.opened } in
     let is_new : c.in_ok-declare_pool.field-0 ≡ true = c.if-not-branch.false in
-    let follows = c.in_ok-declare_pool.ensures.follows entries c.args.file.scope around c.args.spot lines holds.follows is_new in
-    let there = holds-next main c.args.self.now held entries e holds follows refl refl refl refl in
-    pool-declares main held (pool_fault site entries name lines) (depth_fault site (e ∷ entries) lines) (e ∷ entries) c.check_depths.result
-    (pool-new main c.args.self.now entries site name lines holds (sym is_new ∙ c.in_ok-declare_pool.ensures.is_new)
-    ∙ sym (depths-same site c.args.self.now.declared held.declared entries (e ∷ entries) holds.follows follows c.in_ok-declare_pool.ensures.scopes lines))
-    (c.check_depths.ensures main (e ∷ entries) around there (subst (λ ss. Stands ss c.args.file.scope around) (sym c.in_ok-declare_pool.ensures.scopes) stands)) there
+    let declares = c.in_ok-declare_pool.ensures.declared c.args.file.scope around c.args.spot lines is_new entries site.file start depth holds.declares in
+    let there = holds-next main c.args.self.now held entries e holds declares refl refl refl refl in
+    pool-declares main held e (depth_fault site.file scope (e ∷ entries) lines) entries c.check_depths.result
+    (pool-new main c.args.self.now entries site.file scope name lines holds (sym is_new ∙ c.in_ok-declare_pool.ensures.is_new)
+    ∙ sym (depths-same site.file e entries (λ value x. refl) scope lines))
+    (c.check_depths.ensures main (e ∷ entries) around depth there (open-grown c.args.self.now.declarations.scopes held.declarations.scopes c.args.file.scope around (same-grows c.args.self.now.declarations held.declarations c.in_ok-declare_pool.ensures.scopes) inside)) there

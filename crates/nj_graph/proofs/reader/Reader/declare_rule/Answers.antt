@@ -7,9 +7,11 @@ use Rattle.nj_graph.proofs.Holding.{holds-next, rule-new}
 use Rattle.nj_graph.proofs.reader.Reader.declare_rule.Goals as goal
 
 pub returns-then-branch-clause-declares : goal.returns-then-branch-clause-declares
-returns-then-branch-clause-declares c = λ main entries around holds stands. (
-  rule-new main c.args.self.now entries (site_of c.args.file around) (record { spot = c.args.spot; name = c.args.name.now }) holds (sym c.if-branch.true ∙ c.in_ok-declare_rule.ensures.is_new),
-  holds-next main c.args.self.now (record { declared = c.declare_rule.new.self; files = c.args.self.now.files; opened = c.args.self.now.opened }) entries
-      (entry_at (site_of c.args.file around) (RuleText (record { spot = c.args.spot; name = c.args.name.now }) (lines_text c.args.lines.now))) holds
-      (c.in_ok-declare_rule.ensures.follows entries around c.args.spot holds.follows c.if-branch.true) refl refl refl refl,
-)
+returns-then-branch-clause-declares c = λ start main entries around depth holds inside.
+    let site = site_of c.args.file around depth in
+    let item = RuleText (record { spot = c.args.spot; name = c.args.name.now }) (lines_text c.args.lines.now) in (
+      rule-new main c.args.self.now entries site.file site.number (record { spot = c.args.spot; name = c.args.name.now }) holds (sym c.if-branch.true ∙ c.in_ok-declare_rule.ensures.is_new),
+      holds-next main c.args.self.now (record { declarations = c.declare_rule.new.self; files = c.args.self.now.files; opened = c.args.self.now.opened }) entries
+          (entry_at site (record { spot = start; item = item })) holds
+          (c.in_ok-declare_rule.ensures.declared around c.args.spot c.if-branch.true entries site.file start depth holds.declares) refl refl refl refl,
+    )

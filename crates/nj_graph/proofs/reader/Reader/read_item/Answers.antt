@@ -1,69 +1,94 @@
-use Rattle.std.proofs.Common.{◌∷◌, refl, ap, subst}
+use Rattle.std.proofs.Common.{◌∷◌, Ok, refl, ap, subst}
 use Rattle.nj_text.specs.Words.{word_text}
 use Rattle.nj_manifest.specs.Steps.{NameText}
-use Rattle.nj_manifest.specs.Statements.{BindingText, RuleText, PoolText}
+use Rattle.nj_manifest.specs.Statements.{StatementText, BindingText, RuleText, PoolText}
 use Rattle.nj_manifest.specs.declared.statement.Statement.TheVariants as statement
 use Rattle.nj_manifest.specs.Held.{statement_text, lines_text}
-use Rattle.nj_graph.specs.Reading.{entry_at, pool_fault}
-use Rattle.nj_graph.specs.ReaderContracts.{Holds, IsFault, site_of}
+use Rattle.nj_scope.specs.ReadingList.{Entry}
+use Rattle.nj_graph.specs.Reading.{entry_at, own_fault}
+use Rattle.nj_graph.specs.ReaderContracts.{Holds, IsFault, Declares, site_of}
 use Rattle.nj_graph.proofs.Naming.{handed, stops-own, reads-one}
 use Rattle.nj_graph.proofs.reader.Reader.read_item.Goals as goal
 
 pub returns-in_err-bind-in-Binding-clause-reads : goal.returns-in_err-bind-in-Binding-clause-reads
-returns-in_err-bind-in-Binding-clause-reads g c = λ main entries around holds stands.
+returns-in_err-bind-in-Binding-clause-reads g c = λ main entries around depth holds inside.
     let item = BindingText c.in-Binding.name.now (word_text c.in-Binding.value) in
-    let told = g.S.FileSource.state c.args.source.now in
+    let e : Entry = entry_at (site_of c.args.file around depth) (record { spot = c.args.statement.now.spot; item = item }) in
+    let source = g.S.FileSource.state c.args.source.now in
     let fault = c.in_err-bind-in-Binding.field-0.0 in
     rw (handed fault c.from_residual.result c.from_residual.ensures, ap statement_text c.in-Binding.is)
-    (stops-own main told told c.args.self.now entries holds refl c.args.file.left (site_of c.args.file around) (record { spot = c.args.statement.now.spot; item = item })
-    _ fault refl (c.in_err-bind-in-Binding.ensures.declares main entries around holds stands))
+    (stops-own main source source c.args.self.now entries holds refl c.args.file.left e fault (c.in_err-bind-in-Binding.ensures.declares main entries around depth holds inside))
 
 pub returns-in_err-declare_rule-in-Rule-clause-reads : goal.returns-in_err-declare_rule-in-Rule-clause-reads
-returns-in_err-declare_rule-in-Rule-clause-reads g c = λ main entries around holds stands.
+returns-in_err-declare_rule-in-Rule-clause-reads g c = λ main entries around depth holds inside.
     let name : NameText = record { spot = c.in-Rule.name_spot; name = c.in-Rule.name.now } in
-    let told = g.S.FileSource.state c.args.source.now in
+    let start = c.args.statement.now.spot in
+    let e : Entry = entry_at (site_of c.args.file around depth) (record { spot = start; item = RuleText name (lines_text c.in-Rule.lines.items) }) in
+    let source = g.S.FileSource.state c.args.source.now in
     let fault = c.in_err-declare_rule-in-Rule.field-0.0 in
     rw (handed fault c.from_residual-in_err-declare_rule-in-Rule.result c.from_residual-in_err-declare_rule-in-Rule.ensures, ap statement_text c.in-Rule.is)
-    (stops-own main told told c.args.self.now entries holds refl c.args.file.left (site_of c.args.file around) (record { spot = c.args.statement.now.spot; item = RuleText name (lines_text c.in-Rule.lines.items) })
-    _ fault refl (c.in_err-declare_rule-in-Rule.ensures.declares main entries around holds stands))
+    (stops-own main source source c.args.self.now entries holds refl c.args.file.left e fault (c.in_err-declare_rule-in-Rule.ensures.declares start main entries around depth holds inside))
 
 pub returns-in_err-declare_pool-in-Pool-clause-reads : goal.returns-in_err-declare_pool-in-Pool-clause-reads
-returns-in_err-declare_pool-in-Pool-clause-reads g c = λ main entries around holds stands.
+returns-in_err-declare_pool-in-Pool-clause-reads g c = λ main entries around depth holds inside.
     let name : NameText = record { spot = c.in-Pool.name_spot; name = c.in-Pool.name.now } in
-    let told = g.S.FileSource.state c.args.source.now in
+    let start = c.args.statement.now.spot in
+    let e : Entry = entry_at (site_of c.args.file around depth) (record { spot = start; item = PoolText name (lines_text c.in-Pool.lines.items) }) in
+    let source = g.S.FileSource.state c.args.source.now in
     let fault = c.in_err-declare_pool-in-Pool.field-0.0 in
     rw (handed fault c.from_residual-in_err-declare_pool-in-Pool.result c.from_residual-in_err-declare_pool-in-Pool.ensures, ap statement_text c.in-Pool.is)
-    (stops-own main told told c.args.self.now entries holds refl c.args.file.left (site_of c.args.file around) (record { spot = c.args.statement.now.spot; item = PoolText name (lines_text c.in-Pool.lines.items) })
-    (pool_fault (site_of c.args.file around) entries name (lines_text c.in-Pool.lines.items)) fault refl
-    (subst (λ ls. IsFault (pool_fault (site_of c.args.file around) entries name (lines_text ls)) fault) c.deref-in-Pool.ensures.value (c.in_err-declare_pool-in-Pool.ensures.declares main entries around holds stands)))
+    (stops-own main source source c.args.self.now entries holds refl c.args.file.left e fault
+    (subst (λ ls. IsFault (own_fault (entry_at (site_of c.args.file around depth) (record { spot = start; item = PoolText name (lines_text ls) })) entries) fault) c.deref-in-Pool.ensures.value
+    (c.in_err-declare_pool-in-Pool.ensures.declares start main entries around depth holds inside)))
 
 pub returns-in_ok-declare_rule-in-Rule-clause-reads : goal.returns-in_ok-declare_rule-in-Rule-clause-reads
-returns-in_ok-declare_rule-in-Rule-clause-reads g c = λ main entries around holds stands.
+returns-in_ok-declare_rule-in-Rule-clause-reads g c = λ main entries around depth holds inside.
     let name : NameText = record { spot = c.in-Rule.name_spot; name = c.in-Rule.name.now } in
-    let told = g.S.FileSource.state c.args.source.now in
-    let declares = c.in_ok-declare_rule-in-Rule.ensures.declares main entries around holds stands in
+    let start = c.args.statement.now.spot in
+    let e : Entry = entry_at (site_of c.args.file around depth) (record { spot = start; item = RuleText name (lines_text c.in-Rule.lines.items) }) in
+    let source = g.S.FileSource.state c.args.source.now in
+    let declares = c.in_ok-declare_rule-in-Rule.ensures.declares start main entries around depth holds inside in
     rw (ap statement_text c.in-Rule.is)
-    (reads-one main told c.args.self.now c.declare_rule.new.self (site_of c.args.file around) entries (record { spot = c.args.statement.now.spot; item = RuleText name (lines_text c.in-Rule.lines.items) })
-    holds (subst (λ ls. Holds main c.declare_rule.new.self (entry_at (site_of c.args.file around) (RuleText name (lines_text ls)) ∷ entries)) c.deref.ensures.value declares.1) declares.0 c.in_ok-declare_rule-in-Rule.ensures.files (λ opens. refl))
+    (reads-one main source c.args.self.now c.declare_rule.new.self e entries
+    holds (subst (λ ls. Holds main c.declare_rule.new.self (entry_at (site_of c.args.file around depth) (record { spot = start; item = RuleText name (lines_text ls) }) ∷ entries)) c.deref.ensures.value declares.1)
+    declares.0 c.in_ok-declare_rule-in-Rule.ensures.files (λ opens. refl))
 
 pub returns-in-Build-clause-reads : goal.returns-in-Build-clause-reads
-returns-in-Build-clause-reads g c = λ main entries around holds stands.
-    let told = g.S.FileSource.state c.args.source.now in
+returns-in-Build-clause-reads g c = λ main entries around depth holds inside.
+    let source = g.S.FileSource.state c.args.source.now in
+    let item : StatementText = statement_text (statement.Build c.in-Build.explicit_outs c.in-Build.implicit_outs c.in-Build.rule c.in-Build.rule_spot c.in-Build.explicit c.in-Build.implicit c.in-Build.order_only c.in-Build.validations c.in-Build.lines) in
     rw (ap statement_text c.in-Build.is)
-    (stops-own main told told c.args.self.now entries holds refl c.args.file.left (site_of c.args.file around) (record { spot = c.args.statement.now.spot; item = statement_text (statement.Build c.in-Build.explicit_outs c.in-Build.implicit_outs c.in-Build.rule c.in-Build.rule_spot c.in-Build.explicit c.in-Build.implicit c.in-Build.order_only c.in-Build.validations c.in-Build.lines) })
-    _ c.fault.result refl c.fault.ensures)
+    (stops-own main source source c.args.self.now entries holds refl c.args.file.left (entry_at (site_of c.args.file around depth) (record { spot = c.args.statement.now.spot; item = item })) c.fault.result c.fault.ensures)
 
 pub returns-in-Default-clause-reads : goal.returns-in-Default-clause-reads
-returns-in-Default-clause-reads g c = λ main entries around holds stands.
-    let told = g.S.FileSource.state c.args.source.now in
+returns-in-Default-clause-reads g c = λ main entries around depth holds inside.
+    let source = g.S.FileSource.state c.args.source.now in
+    let item : StatementText = statement_text (statement.Default c.in-Default.words) in
     rw (ap statement_text c.in-Default.is)
-    (stops-own main told told c.args.self.now entries holds refl c.args.file.left (site_of c.args.file around) (record { spot = c.args.statement.now.spot; item = statement_text (statement.Default c.in-Default.words) })
-    _ c.fault-in-Default.result refl c.fault-in-Default.ensures)
+    (stops-own main source source c.args.self.now entries holds refl c.args.file.left (entry_at (site_of c.args.file around depth) (record { spot = c.args.statement.now.spot; item = item })) c.fault-in-Default.result c.fault-in-Default.ensures)
 
 pub returns-in_ok-named-in-Include-clause-reads : goal.returns-in_ok-named-in-Include-clause-reads
-returns-in_ok-named-in-Include-clause-reads g c = λ main entries around holds stands.
-    rw (ap statement_text c.in-Include.is) (c.in_ok-named-in-Include.ensures.opens c.args.statement.now.spot main entries around holds stands)
+returns-in_ok-named-in-Include-clause-reads g c = λ main entries around depth holds inside.
+    rw (ap statement_text c.in-Include.is) (c.in_ok-named-in-Include.ensures.opens c.args.statement.now.spot main entries around depth holds inside)
 
 pub returns-in_ok-named-in-Subninja-clause-reads : goal.returns-in_ok-named-in-Subninja-clause-reads
-returns-in_ok-named-in-Subninja-clause-reads g c = λ main entries around holds stands.
-    rw (ap statement_text c.in-Subninja.is) (c.in_ok-named-in-Subninja.ensures.opens c.args.statement.now.spot main entries around holds stands)
+returns-in_ok-named-in-Subninja-clause-reads g c = λ main entries around depth holds inside.
+    rw (ap statement_text c.in-Subninja.is) (c.in_ok-named-in-Subninja.ensures.opens c.args.statement.now.spot main entries around depth holds inside)
+
+pub returns-in_ok-bind-in-Binding-clause-reads : goal.returns-in_ok-bind-in-Binding-clause-reads
+returns-in_ok-bind-in-Binding-clause-reads g c = λ main entries around depth holds inside.
+    let item = BindingText c.in-Binding.name.now (word_text c.in-Binding.value) in
+    let e : Entry = entry_at (site_of c.args.file around depth) (record { spot = c.args.statement.now.spot; item = item }) in
+    let declares = c.in_ok-bind-in-Binding.ensures.declares main entries around depth holds inside in
+    rw (ap statement_text c.in-Binding.is)
+    (reads-one main (g.S.FileSource.state c.args.source.now) c.args.self.now c.bind.new.self e entries holds declares.1 declares.0 c.in_ok-bind-in-Binding.ensures.files (λ opens. refl))
+
+pub returns-in_ok-declare_pool-in-Pool-clause-reads : goal.returns-in_ok-declare_pool-in-Pool-clause-reads
+returns-in_ok-declare_pool-in-Pool-clause-reads g c = λ main entries around depth holds inside.
+    let name : NameText = record { spot = c.in-Pool.name_spot; name = c.in-Pool.name.now } in
+    let start = c.args.statement.now.spot in
+    let e : Entry = entry_at (site_of c.args.file around depth) (record { spot = start; item = PoolText name (lines_text c.in-Pool.lines.items) }) in
+    let declares = subst (λ ls. Declares main c.declare_pool.new.self (entry_at (site_of c.args.file around depth) (record { spot = start; item = PoolText name (lines_text ls) })) entries (Ok tt)) c.deref-in-Pool.ensures.value
+    (c.in_ok-declare_pool-in-Pool.ensures.declares start main entries around depth holds inside) in
+    rw (ap statement_text c.in-Pool.is)
+    (reads-one main (g.S.FileSource.state c.args.source.now) c.args.self.now c.declare_pool.new.self e entries holds declares.1 declares.0 c.in_ok-declare_pool-in-Pool.ensures.files (λ opens. refl))

@@ -2,31 +2,31 @@ use Rattle.std.proofs.Common.{[], sym, subst, refl}
 use Rattle.std.specs.Rc.{rc_slice_items}
 use Rattle.nj_scope.specs.Readings.{EachPathOnce}
 use Rattle.nj_graph.specs.declared.reader.Reader.{Reader}
-use Rattle.nj_graph.specs.Reading.{opened_in, text_read, most_within, main_site}
-use Rattle.nj_graph.specs.ReaderContracts.{Reads}
+use Rattle.nj_graph.specs.Reading.{opened_in, text_read, most_within, main_site, main_place}
+use Rattle.nj_graph.specs.ReaderContracts.{ReadsOrStops}
 use Rattle.nj_graph.proofs.Found.{found-text, unfound}
 use Rattle.nj_graph.proofs.Naming.{handed}
-use Rattle.nj_graph.proofs.MainFiles.{front_of, main-fault, main-stands, main-holds, main-reads}
+use Rattle.nj_graph.proofs.MainFiles.{main-fault, main-stands, main-holds, main-reads}
 use Rattle.nj_graph.proofs.reader.Reader.read_main.Goals as goal
 
-pub returns-in_err-text : goal.returns-in_err-text
-returns-in_err-text g c =
+pub returns-in_err-text-clause-reads : goal.returns-in_err-text-clause-reads
+returns-in_err-text-clause-reads g c =
     let before = g.S.FileSource.state c.args.source.now in
     let after = g.S.FileSource.state c.text_at.new.source in
     rw (handed c.in_err-text.field-0.0 c.from_residual.result c.from_residual.ensures)
     (main-fault c.args.main.now before after c.in_err-text.field-0.0 c.args.self.now.files c.requires.files
-    (unfound before after c.args.self.now.files c.text_at.new.files c.args.main.now (subst EachPathOnce (sym c.requires.files) tt) (front_of c.args.main.now) c.in_err-text.field-0.0 c.in_err-text.ensures))
+    (unfound before after c.args.self.now.files c.text_at.new.files c.args.main.now (subst EachPathOnce (sym c.requires.files) tt) (main_place c.args.main.now) c.in_err-text.field-0.0 c.in_err-text.ensures))
 
-pub returns : goal.returns
-returns g c =
+pub returns-clause-reads : goal.returns-clause-reads
+returns-clause-reads g c =
     let main = c.args.main.now in
     let before = g.S.FileSource.state c.args.source.now in
     let mid = g.S.FileSource.state c.text_at.new.source in
     let after = g.S.FileSource.state c.read_text.new.source in
-    let opened : Reader = record { declared = c.args.self.now.declared; files = c.text_at.new.files; opened = c.args.self.now.opened } in
-    let found = found-text before mid c.args.self.now.files c.text_at.new.files main (subst EachPathOnce (sym c.requires.files) tt) (front_of main) c.in_ok-text.text c.in_ok-text.ensures in
+    let opened : Reader = record { declarations = c.args.self.now.declarations; files = c.text_at.new.files; opened = c.args.self.now.opened } in
+    let found = found-text before mid c.args.self.now.files c.text_at.new.files main (subst EachPathOnce (sym c.requires.files) tt) (main_place main) c.in_ok-text.text c.in_ok-text.ensures in
     let text = rc_slice_items c.in_ok-text.text in
     let holds = main-holds main before mid after c.args.self.now opened c.read_text.new.self text c.requires found refl refl in
-    let nested = c.read_text.ensures.reads main [] [] holds (main-stands c.args.self.now c.requires) in
+    let nested = c.read_text.ensures.reads main [] [] 0 holds (main-stands c.args.self.now c.requires) in
     main-reads main before mid after c.args.self.now opened c.read_text.new.self text c.requires found c.read_text.result
-    (subst (λ t. Reads main mid after opened c.read_text.new.self (λ all. text_read (opened_in all most_within) (main_site main) t []) c.read_text.result) c.as_slice.ensures.value nested)
+    (subst (λ t. ReadsOrStops main mid after opened c.read_text.new.self (λ all. text_read (opened_in all most_within) (main_site main) t []) c.read_text.result) c.as_slice.ensures.value nested)

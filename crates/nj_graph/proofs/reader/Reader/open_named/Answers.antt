@@ -1,0 +1,73 @@
+use Rattle.std.proofs.Common.{◌≡◌, [], ◌∷◌, refl, sym, ap, subst, ◌∙◌}
+use Rattle.nj_text.specs.Words.{word_text}
+use Rattle.nj_scope.specs.Declarations.{DeclaredBy}
+use Rattle.nj_scope.specs.ReadingList.{Entry}
+use Rattle.nj_graph.specs.Faults.{no_memory}
+use Rattle.nj_graph.specs.Reading.{Site, entry_at, site_scope, expanded_in, path_fault, own_fault, opened_in, statement_read, unless_fault}
+use Rattle.nj_graph.specs.ReaderContracts.{IsOpenScope, IsFault, site_of, place_in, named_item, named_site}
+use Rattle.nj_graph.proofs.Naming.{handed, handed-as, stops-own, stops-same, stops-open, opens-file, named-fault, named-path, named-file, named-opens, named-read}
+use Rattle.nj_graph.proofs.reader.Reader.open_named.Goals as goal
+
+pub returns-in_err-path-clause-opens : goal.returns-in_err-path-clause-opens
+returns-in_err-path-clause-opens g c = λ start main entries around depth holds inside.
+    let site = site_of c.args.file around depth in
+    let word = word_text c.args.word.now in
+    let e : Entry = entry_at site (record { spot = start; item = named_item c.args.naming word }) in
+    let fault = c.in_err-path.field-0.0 in
+    let source = g.S.FileSource.state c.args.source.now in
+    rw (handed fault c.from_residual.result c.from_residual.ensures)
+    (stops-own main source source c.args.self.now entries holds refl c.args.file.left e fault
+    (subst (λ expected. IsFault expected fault) (sym (named-fault c.args.naming site start entries word)) (c.in_err-path.ensures main entries around depth holds inside)))
+
+pub returns-in_err-text-clause-opens : goal.returns-in_err-text-clause-opens
+returns-in_err-text-clause-opens g c = λ start main entries around depth holds inside.
+    let site = site_of c.args.file around depth in
+    let word = word_text c.args.word.now in
+    let e : Entry = entry_at site (record { spot = start; item = named_item c.args.naming word }) in
+    let inner : Site = named_site c.args.naming e entries word in
+    let path = c.in_ok-path.ensures main entries around depth holds inside in
+    let is : expanded_in (site_scope site) entries word ≡ c.deref.result.now = sym (c.deref.ensures ∙ path.1) in
+    let fault = c.in_err-text.field-0.0 in
+    let before = g.S.FileSource.state c.args.source.now in
+    let after = g.S.FileSource.state c.open_file.new.source in
+    rw (handed fault c.from_residual-in_err-text.result c.from_residual-in_err-text.ensures)
+    (stops-same main before after c.args.self.now.files
+    (λ all. opened_in all c.args.file.left inner (place_in c.args.file c.args.word.now.spot) e entries) (λ all. statement_read (opened_in all c.args.file.left) e entries) fault
+    (λ all. named-read c.args.naming site start entries word path.0 (opened_in all c.args.file.left))
+    (c.in_err-text.ensures.opens main entries holds inner e (named-file c.args.naming site start entries word ∙ is) (named-path c.args.naming site start entries word ∙ ap (λ p. p ∷ []) is)))
+
+pub returns-in_err-scope-clause-opens : goal.returns-in_err-scope-clause-opens
+returns-in_err-scope-clause-opens g c = λ start main entries around depth holds inside.
+    let site = site_of c.args.file around depth in
+    let word = word_text c.args.word.now in
+    let e : Entry = entry_at site (record { spot = start; item = named_item c.args.naming word }) in
+    let inner : Site = named_site c.args.naming e entries word in
+    let path = c.in_ok-path.ensures main entries around depth holds inside in
+    let is : expanded_in (site_scope site) entries word ≡ c.deref.result.now = sym (c.deref.ensures ∙ path.1) in
+    let before = g.S.FileSource.state c.args.source.now in
+    let after = g.S.FileSource.state c.open_file.new.source in
+    let fault = handed-as (λ f. f ≡ no_memory) c.from_residual-in_err-scope.result c.from_residual-in_err-scope.ensures in
+    rw fault.1
+    (stops-open main before after c.args.self.now c.open_file.new.self c.open_file.new.self c.args.file.left (place_in c.args.file c.args.word.now.spot) c.deref.result.now e entries _
+    inner fault.0 holds (c.in_ok-text.ensures.opens main entries holds) (named-file c.args.naming site start entries word ∙ is) (named-path c.args.naming site start entries word ∙ ap (λ p. p ∷ []) is)
+    (named-read c.args.naming site start entries word path.0) fault.2)
+
+pub returns-clause-opens : goal.returns-clause-opens
+returns-clause-opens g c = λ start main entries around depth holds inside.
+    let site = site_of c.args.file around depth in
+    let word = word_text c.args.word.now in
+    let e : Entry = entry_at site (record { spot = start; item = named_item c.args.naming word }) in
+    let inner : Site = named_site c.args.naming e entries word in
+    let path = c.in_ok-path.ensures main entries around depth holds inside in
+    let is : expanded_in (site_scope site) entries word ≡ c.deref.result.now = sym (c.deref.ensures ∙ path.1) in
+    let before = g.S.FileSource.state c.args.source.now in
+    let after = g.S.FileSource.state c.open_file.new.source in
+    let same : c.open_file.new.self.declarations ≡ c.args.self.now.declarations = c.in_ok-text.ensures.declarations in
+    let enters = c.in_ok-scope.ensures.enters start word entries around depth (subst (λ d. DeclaredBy d entries) (sym same) holds.declares) (subst (λ d. IsOpenScope d.scopes c.args.file.scope around) (sym same) inside) in (
+      inner,
+      record { file = named-file c.args.naming site start entries word ∙ sym path.1; number = enters.number_is; scope = enters.scope },
+      opens-file main before after c.args.self.now c.open_file.new.self c.scope_for.new.self c.args.file.left (place_in c.args.file c.args.word.now.spot) c.deref.result.now e entries _
+          inner holds (c.in_ok-text.ensures.opens main entries holds) c.in_ok-scope.ensures.files (c.in_ok-scope.ensures.opened ∙ c.in_ok-text.ensures.opened)
+          enters.declares (named-opens c.args.naming site start entries word) (named-file c.args.naming site start entries word ∙ is) (named-path c.args.naming site start entries word ∙ ap (λ p. p ∷ []) is)
+          (named-read c.args.naming site start entries word path.0),
+    )

@@ -1,0 +1,23 @@
+-- How a graph holds the rules that it lists.
+use Rattle.std.specs.Prelude.{◌≡◌, ℕ, Option, Some, None, List, [], map, slice_get}
+use Rattle.nj_scope.specs.Declarations.{DeclarationsText}
+use Rattle.nj_scope.specs.Rules.{RuleText}
+use Rattle.nj_scope.specs.ScopesHeld.{parent_at}
+use Rattle.nj_graph.specs.Graph.{main_rules_of}
+
+-- their numbers, in the order in which they are listed
+abbrev pub HoldsMainRules : List RuleText → (numbers : List ℕ) → Type 0
+HoldsMainRules rules numbers = map (slice_get rules) numbers ≡ map (λ r. Some r) (main_rules_of rules)
+
+-- the name of a rule, if there is one
+abbrev pub name_of : Option RuleText → List ℕ
+name_of (Some rule) = rule.name
+name_of None = []
+
+abbrev pub rule_name : List RuleText → (number : ℕ) → List ℕ
+rule_name rules number = name_of (slice_get rules number)
+
+-- what holds of the fields of a graph
+pub record IsGraph (declarations : DeclarationsText) (numbers : List ℕ) : Type 0 where
+  pub listed : HoldsMainRules declarations.rules numbers
+  pub outermost : parent_at declarations.scopes 0 ≡ None

@@ -1,0 +1,148 @@
+//! The statements that name a file, and how it is opened.
+
+ghost use Rattle.std.specs.Prelude.{◌≡◌, ℕ, ◌<◌, List, length, suc, IfOk, OnOk};
+ghost use Rattle.nj_text.specs.declared.spot.Spot.{Spot};
+ghost use Rattle.nj_text.specs.Words.{WordText, word_text};
+ghost use Rattle.nj_scope.specs.Declarations.{DeclaredBy};
+ghost use Rattle.nj_scope.specs.ReadingList.{Entry};
+ghost use Rattle.nj_graph.specs.Reading.{entry_at, site_scope, expanded_in, path_fault};
+ghost use Rattle.nj_graph.specs.ReaderContracts.{Holds, InFile, IsOpenIn, ScopesGrow, site_of, place_in, named_item, named_site, EntersScope, AnswersText, OpensOrStops, SaysPath, OpensPath};
+
+use crate::fault::{Cause, GraphFault, Name, Place};
+use crate::reader::{OpenFile, Opened, Reader};
+use nj_manifest::{Spot, Word};
+use nj_scope::{FileSource, FileTable, SourceFault};
+use std::alloc::{AllocError, Global};
+use std::rc::RcSlice;
+
+// How many files may be opened in one run, the main file and repeated ones among them.
+const MOST_OPENED: usize = 65536;
+
+/// How a statement names a file: the statements of one that is included stand in the scope of the
+/// `include`, those of another in a new scope within that of the `subninja`.
+#[derive(Clone, Copy)]
+pub(crate) enum Naming {
+    Include,
+    Subninja,
+}
+
+impl Reader {
+    /// Opens the file that the word of a statement names.
+    pub(crate) fn open_named<S: FileSource>(
+        &mut self,
+        alloc: Global,
+        source: &mut S,
+        file: OpenFile<'_>,
+        naming: Naming,
+        word: &Word<'_>,
+    ) -> Result<Opened, GraphFault>
+        requires { file.scope < length self.old.declarations.scopes }
+        ensures opens { (start : Spot) → InFile self.old file.entry (λ main site entries.
+            let item = named_item naming (word_text word.now) in
+            OpensOrStops main (S.state source.old) (S.state source.new) self.old self.new
+            file.entry.left (entry_at site (record { spot = start; item = item })) entries result) }
+        ensures left { OnOk result (0 < file.entry.left) }
+        ensures there { IfOk result (λ o. o.scope < length self.new.declarations.scopes) }
+        ensures grows { OnOk result (ScopesGrow self.old self.new) }
+    {
+        let path = self.path(alloc, file, word)?;
+        let text = self.open_file(alloc, source, file, word.spot, &path)?;
+        let scope = self.scope_for(file, naming)?;
+        Ok(Opened { path, scope, text })
+    }
+
+    // The path that a word says.
+    fn path(&self, alloc: Global, file: OpenFile<'_>, word: &Word<'_>) -> Result<String, GraphFault>
+        requires { file.scope < length self.now.declarations.scopes }
+        ensures { InFile self.now file.entry (λ main site entries.
+            let path = expanded_in (site_scope site) entries (word_text word.now) in
+            SaysPath (path_fault site.file word.now.spot path) path result) }
+    {
+        let path = self.declarations.expand(alloc, file.scope, word)?;
+        if path.as_slice().is_empty() {
+            return Err(file.fault(alloc, word.spot, Cause::EmptyPath));
+        }
+        match String::from_utf8(path) {
+            Ok(path) => Ok(path),
+            Err(_) => Err(file.fault(alloc, word.spot, Cause::PathNotText)),
+        }
+    }
+
+    // Opens the file at the path for the word at this place.
+    fn open_file<S: FileSource>(
+        &mut self,
+        alloc: Global,
+        source: &mut S,
+        file: OpenFile<'_>,
+        spot: Spot,
+        path: &str,
+    ) -> Result<RcSlice<u8>, GraphFault>
+        ensures opens { (main : List ℕ) (entries : List Entry) → Holds main self.old entries
+            → OpensPath main (S.state source.old) (S.state source.new) self.old self.new
+            file.entry.left (place_in file.entry spot) path.now entries result }
+        ensures left { OnOk result (0 < file.entry.left) }
+        ensures declarations { self.new.declarations ≡ self.old.declarations }
+        ensures opened { OnOk result (self.new.opened ≡ suc self.old.opened) }
+    {
+        if file.left == 0 {
+            return Err(file.fault(alloc, spot, Cause::TooDeep));
+        }
+        if self.opened >= MOST_OPENED {
+            return Err(file.fault(alloc, spot, Cause::TooManyOpenings));
+        }
+        let text = text_at(alloc, source, &mut self.files, file.name, spot, path)?;
+        self.opened += 1;
+        Ok(text)
+    }
+
+    // The number of the scope in which the statements of a named file stand.
+    fn scope_for(&mut self, file: OpenFile<'_>, naming: Naming) -> Result<usize, AllocError>
+        requires { file.scope < length self.old.declarations.scopes }
+        ensures enters { (start : Spot) (word : WordText)
+            (entries : List Entry) (around : List ℕ) (depth : ℕ)
+            → DeclaredBy self.old.declarations entries → IsOpenIn self.old file.entry around
+            → let site = site_of file.entry around depth in
+            let e = entry_at site (record { spot = start; item = named_item naming word }) in
+            IfOk result (λ n. EntersScope self.new n (named_site naming e entries word) e entries) }
+        ensures there { IfOk result (λ n. n < length self.new.declarations.scopes) }
+        ensures grows { OnOk result (ScopesGrow self.old self.new) }
+        ensures files { self.new.files ≡ self.old.files }
+        ensures opened { self.new.opened ≡ self.old.opened }
+    {
+        match naming {
+            Naming::Include => Ok(file.scope),
+            Naming::Subninja => self.declarations.open(file.scope),
+        }
+    }
+}
+
+// The text of the file at the path, which is read unless the table has it; a fault is that of the
+// word at this place. What the fault names is copied before the file is read, so that a reading
+// that fails is answered as such.
+pub(crate) fn text_at<S: FileSource>(
+    alloc: Global,
+    source: &mut S,
+    files: &mut FileTable,
+    file: &str,
+    spot: Spot,
+    path: &str,
+) -> Result<RcSlice<u8>, GraphFault>
+    ensures { AnswersText (S.state source.old) (S.state source.new) files.old files.new
+        (record { file = file.now; spot = spot }) path.now result }
+{
+    let name = Name::new(alloc, path.as_bytes())?;
+    let file = Name::new(alloc, file.as_bytes())?;
+    let place = Some(Place { file, spot });
+    match files.open(alloc, source, path) {
+        Ok(Some(text)) => Ok(text),
+        Ok(None) => Err(GraphFault {
+            place,
+            cause: Cause::Missing(name),
+        }),
+        Err(SourceFault::Io) => Err(GraphFault {
+            place,
+            cause: Cause::Io(name),
+        }),
+        Err(SourceFault::OutOfMemory) => Err(GraphFault::out_of_memory()),
+    }
+}
