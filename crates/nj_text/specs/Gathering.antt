@@ -1,7 +1,7 @@
 -- What the lexer gathers of a word or a value.
 use Rattle.std.specs.Prelude.{◌≡◌, ℕ, ◌<◌, ◌≤◌, Bool, true, false, Option, Some, None, Result, Ok, Err, List, [], ◌∷◌, ◌++◌, length, map}
 use Rattle.std.specs.List.{take_while}
-use Rattle.std.specs.Global.{Vec}
+use Rattle.smallvec.specs.SmallVec.{SmallVec}
 use Rattle.nj_text.specs.declared.fault.UnitFault.{UnitFault}
 use Rattle.nj_text.specs.declared.fault.LexFault.{LexFault}
 use Rattle.nj_text.specs.declared.fault.LexFault.TheVariants as lex
@@ -78,6 +78,6 @@ abbrev pub FailsText : LexFault → Option UnitFault → Type 0
 FailsText lex.OutOfMemory next = Unit {0}
 FailsText (lex.Unit f) next = next ≡ Some f
 
-abbrev pub Gathers : TextKind → List TextUnit → Result (Vec Part × Cursor) LexFault → Type 0
+abbrev pub Gathers : TextKind → List TextUnit → Result (SmallVec Part × Cursor) LexFault → Type 0
 Gathers kind us (Ok r) = (map part_text r.0.items ≡ gathered kind us) × (units_at r.1 ≡ behind_text kind us) × (next_fault (behind_text kind us) ≡ None)
 Gathers kind us (Err f) = FailsText f (next_fault (behind_text kind us))

@@ -17,6 +17,7 @@ use crate::stand::Stand;
 use crate::starts::{Begun, begin_line};
 use crate::word::Word;
 use crate::words::{identifier, value, word};
+use smallvec::SmallVec;
 use std::alloc::Global;
 use std::marker::Model;
 
@@ -184,7 +185,7 @@ impl<'a> Lexer<'a> {
             Stand::Failed(fault) => Err(LexFault::Unit(fault)),
             Stand::Between => {
                 let spot = cursor.spot;
-                let parts = Vec::new(alloc);
+                let parts = SmallVec::new(alloc);
                 Ok(Word { spot, parts })
             }
             Stand::Opening(_, _) => self.settle(value(alloc, cursor)),

@@ -11,6 +11,7 @@ use crate::fault::{LexFault, UnitFault};
 use crate::next::{Next, next_unit};
 use crate::runs::{Run, is_in};
 use crate::word::Part;
+use smallvec::SmallVec;
 use std::alloc::Global;
 
 /// A text with references.
@@ -68,7 +69,7 @@ fn special_piece(kind: TextKind, cursor: Cursor<'_>) -> Piece<'_>
 /// Appends the run of ordinary bytes that stands next, if there is one, and skips it.
 #[inline(always)]
 fn take_run<'a>(
-    parts: &mut Vec<Part<'a>>,
+    parts: &mut SmallVec<Part<'a>, 1>,
     kind: TextKind,
     cursor: Cursor<'a>,
 ) -> Result<Cursor<'a>, LexFault>
@@ -88,10 +89,10 @@ pub fn gather<'a>(
     alloc: Global,
     kind: TextKind,
     start: Cursor<'a>,
-) -> Result<(Vec<Part<'a>>, Cursor<'a>), LexFault>
+) -> Result<(SmallVec<Part<'a>, 1>, Cursor<'a>), LexFault>
     ensures { Gathers kind (units_within start.entry.spot start.entry.rest.now) result }
 {
-    let mut parts = Vec::new(alloc);
+    let mut parts = SmallVec::new(alloc);
     let mut cursor = start;
     'pieces: loop {
         let behind = match take_run(&mut parts, kind, cursor) {

@@ -1,6 +1,8 @@
 //! Words and values: texts with references.
 
 use crate::spot::Spot;
+use smallvec::SmallVec;
+use std::default::Default;
 
 /// A part of a word or of a value.
 #[derive(Clone, Copy, Debug, PartialEq, Eq)]
@@ -11,11 +13,19 @@ pub enum Part<'a> {
     Name(&'a [u8]),
 }
 
+impl Default for Part<'_> {
+    /// No bytes: what a place for a part holds that is not used.
+    fn default() -> Self {
+        Part::Bytes(b"")
+    }
+}
+
 /// A word of a line, or the value of a binding, not yet expanded.
 #[derive(Debug, Drop)]
 pub struct Word<'a> {
     /// Where it begins; of a value without parts, where its line ends.
     pub spot: Spot,
     /// Its parts from left to right, each a slice of the text. A run of ordinary bytes is one part.
-    pub parts: Vec<Part<'a>>,
+    /// Nearly all words are one part, which takes no memory of its own.
+    pub parts: SmallVec<Part<'a>, 1>,
 }
