@@ -32,6 +32,7 @@ pub fn name_next<'a>(lexer: &mut Lexer<'a>, wanted: Wanted) -> Result<Name<'a>, 
 
 /// Takes a sign that has to stand there.
 #[tactic(auto, unfolding(crate::specs::LineSteps::expect_sign))]
+#[inline(always)]
 pub fn expect_sign<'a>(
     lexer: &mut Lexer<'a>,
     want: Sign,
@@ -59,6 +60,7 @@ pub fn words_next<'a>(alloc: Global, lexer: &mut Lexer<'a>) -> Result<Vec<Word<'
 
 /// The words of a section that begins with this sign; none if the sign is not there.
 #[tactic(auto, unfolding(crate::specs::LineSteps::section_next))]
+#[inline(always)]
 pub fn section_next<'a>(
     alloc: Global,
     lexer: &mut Lexer<'a>,
