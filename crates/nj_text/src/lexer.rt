@@ -86,6 +86,7 @@ impl<'a> Lexer<'a> {
     }
 
     /// Passes blanks, so that [`Lexer::spot`] gives the place of what stands behind them. Between lines nothing is passed.
+    #[inline(always)]
     pub fn skip_blanks(&mut self)
         ensures { self.new ≡ skip_blanks_of self.old }
     {
@@ -101,6 +102,7 @@ impl<'a> Lexer<'a> {
     ///
     /// # Errors
     /// The fault of a bad unit that stands next.
+    #[inline(always)]
     pub fn ident(&mut self) -> Result<Option<&'a [u8]>, LexFault>
         ensures { Answers (option_map (λ bytes. bytes.now)) result self.new (ident_of self.old) }
     {
@@ -123,6 +125,7 @@ impl<'a> Lexer<'a> {
     ///
     /// # Errors
     /// The fault of a bad unit that stands next.
+    #[inline(always)]
     pub fn sign(&mut self, want: Sign) -> Result<bool, LexFault>
         ensures { Answers (λ there. there) result self.new (sign_of want self.old) }
     {
@@ -177,6 +180,7 @@ impl<'a> Lexer<'a> {
     ///
     /// # Errors
     /// The fault of the first bad unit of the line; [`LexFault::OutOfMemory`], which leaves the lexer where it stood.
+    #[inline(always)]
     pub fn value(&mut self, alloc: Global) -> Result<Word<'a>, LexFault>
         ensures { AnswersOrLacksMemory word_text result self.old self.new (value_of self.old) }
     {
@@ -194,6 +198,7 @@ impl<'a> Lexer<'a> {
     }
 
     /// Stands behind a value that was read in the line, or at its fault, or where it stood.
+    #[inline(always)]
     fn settle(
         &mut self,
         step: Result<(Word<'a>, Cursor<'a>), LexFault>,

@@ -33,6 +33,7 @@ pub fn bad_unit(cursor: Cursor<'_>) -> Option<UnitFault>
 }
 
 /// Behind the line end that stands next; None where none does. The end of the text ends its line, and stays.
+#[inline(always)]
 pub fn past_line_end(cursor: Cursor<'_>) -> Option<Cursor<'_>>
     ensures { EndsLine cursor.entry result }
 {
@@ -59,6 +60,7 @@ fn begins_with(byte: u8, bytes: &[u8]) -> bool
 }
 
 /// How many bytes the sign takes, which is no line end, where it stands next; else 0.
+#[inline(always)]
 pub fn sign_length(want: Sign, bytes: &[u8]) -> usize
     ensures { result ≡ sign_length want bytes.now }
 {
@@ -92,6 +94,7 @@ pub enum SignTaken<'a> {
 }
 
 /// Takes the line end that stands next, if one does.
+#[inline(always)]
 fn take_line_end(cursor: Cursor<'_>) -> SignTaken<'_>
     requires { next_fault (units_within cursor.spot cursor.rest.now) ≡ None }
     ensures { SignIs (sign_at Sign.LineEnd (line_at cursor.entry) (lines_after cursor.entry)) result }
@@ -103,6 +106,7 @@ fn take_line_end(cursor: Cursor<'_>) -> SignTaken<'_>
 }
 
 /// Takes the wanted sign behind the blanks, where it stands there.
+#[inline(always)]
 pub fn take_sign(want: Sign, start: Cursor<'_>) -> SignTaken<'_>
     ensures { SignIs (sign_at want (behind_blanks (line_at start.entry)) (lines_after start.entry)) result }
 {

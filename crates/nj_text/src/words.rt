@@ -16,6 +16,7 @@ use crate::word::Word;
 use std::alloc::Global;
 
 /// The identifier behind the blanks, if one stands there.
+#[inline(always)]
 pub fn identifier(start: Cursor<'_>) -> Result<(Option<&[u8]>, Cursor<'_>), UnitFault>
     ensures { Steps (option_map (λ bytes. bytes.now)) (ident_at (behind_blanks (line_at start.entry)) (lines_after start.entry)) result }
 {
@@ -31,6 +32,7 @@ pub fn identifier(start: Cursor<'_>) -> Result<(Option<&[u8]>, Cursor<'_>), Unit
 }
 
 /// The word behind the blanks, if one begins there.
+#[inline(always)]
 pub fn word<'a>(
     alloc: Global,
     start: Cursor<'a>,
@@ -52,6 +54,7 @@ pub fn word<'a>(
 }
 
 /// The value behind the blanks, which goes up to the line's end.
+#[inline(always)]
 pub fn value<'a>(alloc: Global, start: Cursor<'a>) -> Result<(Word<'a>, Cursor<'a>), LexFault>
     ensures { StepsOrLacksMemory word_text (value_at (behind_blanks (line_at start.entry)) (lines_after start.entry)) result }
 {
