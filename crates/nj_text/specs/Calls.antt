@@ -15,8 +15,8 @@ use Rattle.nj_text.specs.Units.{TextUnit, first_spot}
 use Rattle.nj_text.specs.Lines.{Line, text_lines, line_spot, with_units, lines_behind, Kind, CommentLine, TabLine, BlankLine, IndentedLine, PlainLine, kind_of, is_space_unit}
 use Rattle.nj_text.specs.Words.{is_blank, behind_opening, in_identifier, opens_word, in_word, begins_with_byte, next_fault, first_fault, parts_of, WordText}
 
--- Where a lexer stands: between lines, before those that are left; inside a line, before what is left of it, and then
--- the lines behind it; or at a fault, for good.
+-- Where a lexer is: between lines, before those that are left; inside a line, before what is left of it and the lines
+-- after it; or at a fault, for good.
 pub data State : Type 0 where
   Between : (lines : List Line) → State
   Inside : (line : Line) (lines : List Line) → State
@@ -196,7 +196,7 @@ abbrev pub FailsOrLacksMemory : {Y : Type 0} → LexFault → (before after : St
 FailsOrLacksMemory (lex.Unit f) before after expected = (expected.answer ≡ Err f) × (after ≡ expected.after)
 FailsOrLacksMemory lex.OutOfMemory before after expected = (is_inside before ≡ true) × (after ≡ before)
 
--- The same of a call that takes memory, which it does inside a line only: out of memory leaves the lexer where it stood.
+-- The same of a call that takes memory, which it does inside a line only: out of memory leaves the lexer as it was.
 abbrev pub AnswersOrLacksMemory : {X Y : Type 0} → (X → Y) → Result X LexFault → (before after : State) → Reply Y → Type 0
 AnswersOrLacksMemory view (Ok x) before after expected = (expected.answer ≡ Ok (view x)) × (after ≡ expected.after)
 AnswersOrLacksMemory view (Err f) before after expected = FailsOrLacksMemory f before after expected

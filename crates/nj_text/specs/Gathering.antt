@@ -39,32 +39,32 @@ in_text kind.Value u = in_value_meaning u.means
 abbrev pub units_at : Cursor → List TextUnit
 units_at c = units_within c.spot c.rest.now
 
--- the parts of the text that the units begin with, and the units behind it
+-- the parts of the text that the units begin with, and the units after it
 abbrev pub gathered : TextKind → List TextUnit → List PartText
 gathered kind us = parts_of (take_while (in_text kind) us)
 
 abbrev pub behind_text : TextKind → List TextUnit → List TextUnit
 behind_text kind us = drop_while (in_text kind) us
 
--- what stands next in a text
+-- what comes next in a text
 abbrev pub PieceIs : TextKind → List TextUnit → Piece → Type 0
 PieceIs kind us (piece.Part p after) = (gathered kind us ≡ part_text p ∷ gathered kind (units_at after)) × (behind_text kind us ≡ behind_text kind (units_at after))
 PieceIs kind us (piece.Join after) = (gathered kind us ≡ gathered kind (units_at after)) × (behind_text kind us ≡ behind_text kind (units_at after))
 PieceIs kind us piece.End = (gathered kind us ≡ []) × (behind_text kind us ≡ us) × (next_fault us ≡ None)
 PieceIs kind us (piece.Bad f) = next_fault (behind_text kind us) ≡ Some f
 
--- what was passed had bytes
+-- what was skipped had bytes
 abbrev pub IsShorter : ℕ → Piece → Type 0
 IsShorter n (piece.Part p after) = length after.rest.now < n
 IsShorter n (piece.Join after) = length after.rest.now < n
 IsShorter n other = Unit {0}
 
--- the first byte, if there is one, does not pass
+-- the first byte, if there is one, fails the test
 abbrev pub NoneInRun : (ℕ → Bool) → List ℕ → Type 0
 NoneInRun p [] = Unit {0}
 NoneInRun p (b ∷ bs) = p b ≡ false
 
--- The run of ordinary bytes at the front is taken, and behind it stands none.
+-- The run of ordinary bytes at the front is taken, and none follows it.
 abbrev pub TakesRun : TextKind → (old new : List Part) → Cursor → Result Cursor LexFault → Type 0
 TakesRun kind old new c (Ok after) =
     (map part_text new ++ gathered kind (units_at after) ≡ map part_text old ++ gathered kind (units_at c))

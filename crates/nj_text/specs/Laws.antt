@@ -13,11 +13,11 @@ use Rattle.nj_text.specs.Calls.{bytes_of}
 abbrev pub UnitsAreTheText : Type 0
 UnitsAreTheText = (text : List ℕ) → bytes_of (units text) ≡ text
 
--- the place behind some bytes: one more than their line feeds, and one more than the bytes behind the last of these
+-- the place after some bytes: one more than their line feeds, and one more than the bytes after the last of these
 abbrev pub counted_spot : List ℕ → Spot
 counted_spot bytes = record { line = count_by is_line_feed bytes + 1; column = suffix_len (λ b. not (is_line_feed b)) bytes + 1 }
 
--- each unit stands behind the bytes of those before it
+-- each unit is at the place after the bytes of those before it
 abbrev pub UnitsStandInPlace : Type 0
 UnitsStandInPlace = (text : List ℕ) (us vs : List TextUnit) (u : TextUnit) → units text ≡ us ++ u ∷ vs → u.spot ≡ counted_spot (bytes_of us)
 

@@ -1,17 +1,19 @@
+-- what must be believed, in the order in which to read it
 pub mod Bytes
 pub mod Units
 pub mod Lines
 pub mod Words
-pub mod Numbers
 pub mod Calls
+pub mod Numbers
+pub mod Laws
+pub mod Paths
+pub mod PathLaws
+pub mod Quotes
+pub mod QuoteLaws
+-- how the scans and states of the code are that: no public contract cites it
 pub mod Runs
 pub mod Scans
 pub mod Gathering
 pub mod Standing
-pub mod Laws
-pub mod Paths
-pub mod PathLaws
 pub mod Cleaning
-pub mod Quotes
-pub mod QuoteLaws
 pub mod Quoting

@@ -1,4 +1,4 @@
--- The logical lines of a text: its units, cut behind each line end.
+-- The logical lines of a text: its units, cut after each line end.
 use Rattle.std.specs.Prelude.{ℕ, Bool, true, false, if◌then◌else◌, Option, Some, None, List, [], ◌∷◌}
 use Rattle.nj_text.specs.declared.spot.Spot.{Spot}
 use Rattle.nj_text.specs.Bytes.{is_space, drop_while}
@@ -29,7 +29,7 @@ abbrev pub lines_of : List TextUnit → List Line
 lines_of [] = []
 lines_of (u ∷ us) = lines_before (ending_of u.means) u (lines_of us)
 
--- the lines of a whole text; behind its last line end stands one more, which may have no units
+-- the lines of a whole text; after its last line end comes one more, which may have no units
 abbrev pub text_lines : List ℕ → List Line
 text_lines text = lines_of (units text)
 
@@ -46,7 +46,7 @@ line_spot l = spot_of_first l.units l.end
 abbrev pub with_units : List TextUnit → Line → Line
 with_units us l = record { units = us; end = l.end; is_last = l.is_last }
 
--- the lines behind one; behind the last stays its empty end
+-- the lines after one; after the last one its empty end is left
 abbrev pub lines_behind : Line → List Line → List Line
 lines_behind l ls = if l.is_last then with_units [] l ∷ ls else ls
 
@@ -71,7 +71,7 @@ abbrev pub text_kind : (indented : Bool) → Kind
 text_kind true = IndentedLine
 text_kind false = PlainLine
 
--- a line with this unit behind its leading spaces, which may be none
+-- a line with this unit after its leading spaces, which may be none
 abbrev pub kind_with : Meaning → Spot → (indented : Bool) → Kind
 kind_with Comment spot indented = CommentLine
 kind_with LeadingTab spot indented = TabLine spot

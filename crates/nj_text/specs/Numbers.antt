@@ -7,11 +7,11 @@ unfoldable pub value_of_digits : List ℕ → ℕ
 value_of_digits [] = 0
 value_of_digits (digit ∷ digits) = (digit - 48) * 10 ^ length digits + value_of_digits digits
 
--- the greatest number that is told: 2 ^ 64 - 1
+-- the greatest number that is reported: 2 ^ 64 - 1
 abbrev pub greatest : ℕ
 greatest = 18446744073709551615
 
--- the number that digits write, told as the greatest where it is greater; none where there is no digit
+-- the number that digits write, or the greatest if it is greater than that; none if there is no digit
 abbrev pub number_of : List ℕ → Option ℕ
 number_of [] = None
 number_of (digit ∷ digits) = Some (min (value_of_digits (digit ∷ digits)) greatest)
@@ -23,18 +23,18 @@ leading_number_of text = number_of (take_while is_digit text)
 abbrev pub is_dot : ℕ → Bool
 is_dot b = b == 46
 
--- what stands before the first `.`; the whole text where there is none
+-- what comes before the first `.`; the whole text if there is none
 abbrev pub before_dot : List ℕ → List ℕ
 before_dot text = take_while (λ b. not (is_dot b)) text
 
--- what stands behind the first `.`; nothing where there is none
+-- what follows the first `.`; nothing if there is none
 abbrev pub behind_dot : List ℕ → List ℕ
 behind_dot text = drop 1 (drop_while (λ b. not (is_dot b)) text)
 
--- a part of a version: the number at its front, 0 where there is none
+-- a part of a version: the number at its front, 0 if there is none
 abbrev pub version_part : List ℕ → ℕ
 version_part text = unwrap_or (leading_number_of text) 0
 
--- major and minor: the parts before and behind the first `.`
+-- major and minor: the parts before and after the first `.`
 abbrev pub version_pair_of : List ℕ → ℕ × ℕ
 version_pair_of text = (version_part (before_dot text), version_part (behind_dot text))

@@ -1,4 +1,4 @@
--- The runs of bytes that the lexer passes as one.
+-- The runs of bytes that the lexer skips as one.
 use Rattle.std.specs.Prelude.{ℕ, Bool, not}
 use Rattle.nj_text.specs.declared.runs.Run.{Run}
 use Rattle.nj_text.specs.declared.runs.Run.TheVariants as run

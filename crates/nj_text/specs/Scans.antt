@@ -14,22 +14,22 @@ use Rattle.nj_text.specs.Units.{Meaning, Ordinary, Escape, Reference, Join, Line
 abbrev pub along : ℕ → Spot → Spot
 along n spot = record { line = spot.line; column = spot.column + n }
 
--- behind a line end and some spaces
+-- after a line end and some spaces
 abbrev pub on_next_line : ℕ → Spot → Spot
 on_next_line spaces spot = record { line = spot.line + 1; column = spaces + 1 }
 
--- how many bytes of a line end stand at the front
+-- the length of the line end at the front
 abbrev pub line_end_length : List ℕ → ℕ
 line_end_length bytes = if begins_with 10 bytes then 1 else (if begins_with 13 bytes && begins_with 10 (drop 1 bytes) then 2 else 0)
 
--- the unit that was found behind a `$`
+-- the unit that was found after a `$`
 abbrev pub dollar_found : Dollar → Found
 dollar_found (dollar.Join end spaces) = (Join, end + spaces)
 dollar_found (dollar.Escape byte) = (Escape byte, 1)
 dollar_found (dollar.Reference name len) = (Reference name.now, len)
 dollar_found dollar.Bad = (BadEscape, 0)
 
--- A join's bytes lead to the next line, behind its spaces. No other unit has more bytes than there are.
+-- A join's bytes lead to the next line, after its spaces. No other unit has more bytes than there are.
 abbrev pub LandsIn : Dollar → List ℕ → Type 0
 LandsIn (dollar.Join end spaces) bytes = (spot : Spot) → spots_after (take (end + spaces) bytes) spot ≡ on_next_line spaces spot
 LandsIn (dollar.Escape byte) bytes = (take 1 bytes ≡ byte ∷ []) × ((spot : Spot) → spots_after (take 1 bytes) spot ≡ along 1 spot)
@@ -48,7 +48,7 @@ Begins spot bytes m n behind = units_within spot bytes ≡ record { spot = spot;
 abbrev pub BeginsBadly : Spot → List ℕ → Meaning → Type 0
 BeginsBadly spot bytes m = (n : ℕ) × (behind : List TextUnit) × Begins spot bytes m n behind
 
--- what stands at the front of the bytes, within a line, wherever that is
+-- what is at the front of the bytes, within a line, at any place
 abbrev pub NextIs : Next → List ℕ → Type 0
 NextIs next.End bytes = bytes ≡ []
 NextIs (next.Ordinary b) bytes =
@@ -61,7 +61,7 @@ NextIs (next.LineEnd n) bytes = (spot : Spot) → Begins spot bytes LineEnd n (c
 NextIs next.BadByte bytes = (spot : Spot) → BeginsBadly spot bytes BadByte
 NextIs next.BadEscape bytes = (spot : Spot) → BeginsBadly spot bytes BadEscape
 
--- how many bytes it takes, where it is passed
+-- how many bytes it takes, if it is skipped
 abbrev pub next_length : Next → ℕ
 next_length (next.Ordinary b) = 1
 next_length (next.Join n spaces) = n

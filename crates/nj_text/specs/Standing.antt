@@ -1,4 +1,4 @@
--- The state of a lexer, of where it stands in the text.
+-- The state of a lexer, by its position in the text.
 use Rattle.std.specs.Prelude.{◌≡◌, ℕ, Bool, true, false, Option, Some, None, is_some, Result, Ok, Err, List, [], ◌∷◌, ◌++◌}
 use Rattle.std.specs.List.{AllByRecursion}
 use Rattle.nj_text.specs.declared.spot.Spot.{Spot}
@@ -36,7 +36,7 @@ lines_from spot bytes = lines_of (cut AtStart 0 spot bytes)
 abbrev pub lines_within : Spot → List ℕ → List Line
 lines_within spot bytes = lines_of (cut Within 0 spot bytes)
 
--- the lines that stand at a cursor, before the first of them
+-- the lines at a cursor, before the first of them
 abbrev pub lines_at : Cursor → List Line
 lines_at c = lines_from c.spot c.rest.now
 
@@ -52,12 +52,12 @@ abbrev pub BegunIs : List Line → Begun → Type 0
 BegunIs ls (starts.As start stand cursor) = begun ls ≡ reply start (state_at stand cursor.spot cursor.rest.now)
 BegunIs ls (starts.Fault f) = begun ls ≡ failing f
 
--- some spaces that stand at a place
+-- some spaces at a place
 abbrev pub space_units : Spot → List ℕ → List TextUnit
 space_units spot [] = []
 space_units spot (b ∷ bs) = record { spot = spot; bytes = b ∷ []; means = Ordinary b } ∷ space_units (along 1 spot) bs
 
--- how the first line begins, of which the leading spaces were passed
+-- how the first line begins, of which the leading spaces were skipped
 abbrev pub BegunBehindSpaces : Cursor → Begun → Type 0
 BegunBehindSpaces c begun =
     (spot : Spot) (b : ℕ) (bs : List ℕ) → AllByRecursion (λ x. x ≡ 32) (b ∷ bs) → BegunIs (lines_of (space_units spot (b ∷ bs) ++ cut AfterSpaces 0 c.spot c.rest.now)) begun
@@ -67,7 +67,7 @@ abbrev pub ends_next : List TextUnit → Bool
 ends_next [] = true
 ends_next (u ∷ us) = is_some (ending_of u.means)
 
--- behind the end of the line, where that stands next
+-- the cursor after the end of the line, if that comes next
 abbrev pub EndsLine : Cursor → Option Cursor → Type 0
 EndsLine c None = ends_next (units_within c.spot c.rest.now) ≡ false
 EndsLine c (Some after) =
@@ -88,21 +88,21 @@ abbrev pub StepsOrLacksMemory : {X Y : Type 0} → (X → Y) → Reply Y → Res
 StepsOrLacksMemory view expected (Ok step) = expected ≡ reply (view step.0) (inside (lines_within step.1.spot step.1.rest.now))
 StepsOrLacksMemory view expected (Err f) = FailsStep expected f
 
--- the line that stands at a cursor, and the lines behind it
+-- the line at a cursor, and the lines after it
 abbrev pub line_at : Cursor → Line
 line_at c = first_line (lines_within c.spot c.rest.now)
 
 abbrev pub lines_after : Cursor → List Line
 lines_after c = other_lines (lines_within c.spot c.rest.now)
 
--- what became of a wanted sign
+-- whether a wanted sign was there
 abbrev pub SignIs : Reply Bool → SignTaken → Type 0
 SignIs expected (taken.No after) = expected ≡ reply false (inside (lines_within after.spot after.rest.now))
 SignIs expected (taken.InLine after) = expected ≡ reply true (inside (lines_within after.spot after.rest.now))
 SignIs expected (taken.LineEnd after) = expected ≡ reply true (Between (lines_from after.spot after.rest.now))
 SignIs expected (taken.Fault f) = expected ≡ failing f
 
--- what became of a value that was read in a line
+-- what a value that was read in a line makes of the lexer
 abbrev pub SettlesFault : LexFault → (old new : State) → Result Word LexFault → Type 0
 SettlesFault lex.OutOfMemory old new result = (result ≡ Err lex.OutOfMemory) × (new ≡ old)
 SettlesFault (lex.Unit f) old new result = (result ≡ Err (lex.Unit f)) × (new ≡ Failed f)

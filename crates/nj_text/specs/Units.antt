@@ -35,7 +35,7 @@ pub record TextUnit : Type 0 where
   pub bytes : List ℕ
   pub means : Meaning
 
--- whether a unit is an ordinary byte that passes
+-- whether a unit is an ordinary byte that passes the test
 abbrev pub is_ordinary_in : (ℕ → Bool) → Meaning → Bool
 is_ordinary_in p (Ordinary b) = p b
 is_ordinary_in p m = false
@@ -48,7 +48,7 @@ pub data Position : Type 0 where
 
 -- ---- one unit
 
--- what a unit says, and how many bytes it has behind its first
+-- what a unit says, and how many bytes it has after its first
 abbrev pub Found : Type 0
 Found = Meaning × ℕ
 
@@ -56,7 +56,7 @@ Found = Meaning × ℕ
 abbrev pub spaces_in : List ℕ → ℕ
 spaces_in bytes = length (take_while is_space bytes)
 
--- a reference in braces: behind `${`, a name, and then `}`
+-- a reference in braces: after `${` a name, and then `}`
 abbrev pub named : List ℕ → Bool → Found
 named [] closed = (BadEscape, 0)
 named (b ∷ bs) false = (BadEscape, 0)
@@ -132,7 +132,7 @@ found_at Within b bs = unit_at b bs
 
 -- ---- the cut
 
--- the position behind a unit
+-- the position after a unit
 abbrev pub after_space : Position → Position
 after_space Within = Within
 after_space AtStart = AfterSpaces
@@ -143,11 +143,11 @@ position_after position (Ordinary b) = if is_space b then after_space position e
 position_after position LineEnd = AtStart
 position_after position m = Within
 
--- the place behind a byte
+-- the place after a byte
 abbrev pub spot_after : ℕ → Spot → Spot
 spot_after b spot = if is_line_feed b then record { line = spot.line + 1; column = 1 } else record { line = spot.line; column = spot.column + 1 }
 
--- the place behind some bytes
+-- the place after some bytes
 abbrev pub spots_after : List ℕ → Spot → Spot
 spots_after [] spot = spot
 spots_after (b ∷ bs) spot = spots_after bs (spot_after b spot)

@@ -24,7 +24,7 @@ abbrev pub is_opening_meaning : Meaning → Bool
 is_opening_meaning OpeningJoin = true
 is_opening_meaning m = false
 
--- the units behind a join that opens their line, if one does
+-- the units after a join that opens their line, if one does
 abbrev pub behind_opening : List TextUnit → List TextUnit
 behind_opening [] = []
 behind_opening (u ∷ us) = if is_opening_meaning u.means then us else u ∷ us

@@ -9,7 +9,7 @@ use crate::cursor::Cursor;
 use crate::next::{Next, next_unit};
 use crate::runs::Run;
 
-/// Behind the join that stands next; None where none does.
+/// The cursor after the join that comes next; `None` if there is none.
 #[inline(always)]
 fn past_join(cursor: Cursor<'_>) -> Option<Cursor<'_>>
     ensures blanks { MatchOption result
@@ -29,7 +29,7 @@ fn past_join(cursor: Cursor<'_>) -> Option<Cursor<'_>>
     }
 }
 
-/// Behind the blanks that stand next.
+/// The cursor after the blanks that come next.
 #[inline(always)]
 pub fn skip_blanks(start: Cursor<'_>) -> Cursor<'_>
     ensures { units_within result.spot result.rest.now ≡ drop_while is_blank (units_within start.entry.spot start.entry.rest.now) }

@@ -1,4 +1,4 @@
-//! Where a reading of a text stands.
+//! A position in a text.
 
 ghost use Rattle.std.specs.Prelude.{◌≡◌, ◌≤◌, ◌<◌, ◌+◌, ◌^◌, length, drop};
 
@@ -33,7 +33,7 @@ impl<'a> Cursor<'a> {
         }
     }
 
-    /// Behind `count` bytes, none of which is a line feed.
+    /// The cursor after `count` bytes, none of which is a line feed.
     pub fn along(self, count: usize) -> Cursor<'a>
         requires { count ≤ length self.rest.now }
         ensures rest { result.rest.now ≡ drop count self.entry.rest.now }
@@ -48,7 +48,7 @@ impl<'a> Cursor<'a> {
         }
     }
 
-    /// Behind `end` bytes that end the line, and `spaces` spaces on the next.
+    /// The cursor after `end` bytes that end the line and `spaces` spaces on the next.
     pub fn on_next_line(self, end: usize, spaces: usize) -> Cursor<'a>
         requires some { 0 < end }
         requires within { end + spaces ≤ length self.rest.now }
@@ -64,7 +64,7 @@ impl<'a> Cursor<'a> {
         }
     }
 
-    /// The run of bytes that stands next, which may be empty and has no line feed, and where it ends.
+    /// The run of bytes that comes next, which may be empty and has no line feed, and the cursor after it.
     pub fn run(self, run: Run) -> (&'a [u8], Cursor<'a>)
         ensures run { result.0.now ≡ take_while (in_run run) self.entry.rest.now }
         ensures behind { result.1.rest.now ≡ drop_while (in_run run) self.entry.rest.now }

@@ -1,4 +1,4 @@
-//! What a `$` and the bytes behind it are: a join, an escape or a reference.
+//! What a `$` and the bytes after it are: a join, an escape or a reference.
 
 ghost use Rattle.std.specs.Prelude.{◌≡◌, ◌≤◌, ◌+◌, ℕ, false, ◌∷◌, length};
 ghost use Rattle.nj_text.specs.Bytes.{is_line_feed};
@@ -7,7 +7,7 @@ ghost use Rattle.nj_text.specs.Scans.{line_end_length, dollar_found, LandsIn};
 
 use crate::runs::{Run, first_byte, run_length, split_run};
 
-/// What the bytes behind a `$` make of it.
+/// What the bytes after a `$` make of it.
 #[derive(Clone, Copy)]
 pub enum Dollar<'a> {
     /// A join: how many bytes of its line end, and how many spaces after that.
@@ -16,11 +16,11 @@ pub enum Dollar<'a> {
     Escape(u8),
     /// The name of a reference, and how many bytes it takes with its braces.
     Reference(&'a [u8], usize),
-    /// Nothing that may stand behind a `$`.
+    /// Nothing that may follow a `$`.
     Bad,
 }
 
-/// How many bytes of a line end stand at the front: of a line feed, or of a carriage return and a line feed.
+/// The length of the line end at the front, a line feed or a carriage return and a line feed; 0 if there is none.
 pub fn line_end_length(bytes: &[u8]) -> usize
     ensures length { result ≡ line_end_length bytes.now }
     ensures within { result ≤ length bytes.now }
@@ -44,7 +44,7 @@ fn braced(bytes: &[u8]) -> Dollar<'_>
     }
 }
 
-/// What the bytes behind a `$` make of it.
+/// What the bytes after a `$` make of it.
 pub fn behind_dollar(bytes: &[u8]) -> Dollar<'_>
     ensures found { dollar_found result ≡ behind_dollar bytes.now }
     ensures lands { LandsIn result bytes.now }

@@ -7,7 +7,7 @@ ghost use Rattle.nj_text.specs.Calls.{fault_spot};
 use crate::spot::Spot;
 use std::alloc::{AllocError, AllocFailed};
 
-/// A unit that no line goes on after, with the place of its first byte.
+/// A unit that may not stand in a text, with the place of its first byte.
 #[derive(Clone, Copy, Debug, PartialEq, Eq)]
 pub enum UnitFault {
     /// A NUL, or a carriage return that no line feed follows, outside comments.

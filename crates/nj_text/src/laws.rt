@@ -7,7 +7,7 @@ pub fn units_are_the_text()
     ensures { UnitsAreTheText }
 {}
 
-/// Each unit stands at the line and the column that the bytes before it make.
+/// Each unit is at the line and the column that the bytes before it make.
 pub fn units_stand_in_place()
     ensures { UnitsStandInPlace }
 {}
@@ -17,7 +17,7 @@ pub fn lines_are_the_units()
     ensures { LinesAreTheUnits }
 {}
 
-/// The parts of a word or a value stand at rising ranges of the text.
+/// The parts of a word or a value are at rising ranges of the text.
 pub fn parts_stand_in_order()
     ensures { PartsStandInOrder }
 {}

@@ -24,8 +24,8 @@ use std::marker::Model;
 /// Reads a text line by line ("Lexical syntax" in the Ninja manual).
 ///
 /// Each line is begun by [`Lexer::start_line`] and ended by [`Lexer::sign`] with [`Sign::LineEnd`]. A bad unit is
-/// answered by the call that meets it, and by every call but [`Lexer::spot`] from then on. A call that answers out of
-/// memory leaves the lexer where it stood; only [`Lexer::path_word`] and [`Lexer::value`] do, inside a line.
+/// reported by the call that meets it, and by every call but [`Lexer::spot`] from then on. Only [`Lexer::path_word`] and
+/// [`Lexer::value`] allocate, inside a line: out of memory leaves the lexer as it was.
 #[derive(Drop)]
 pub struct Lexer<'a> {
     cursor: Cursor<'a>,
@@ -53,11 +53,11 @@ impl<'a> Lexer<'a> {
         }
     }
 
-    /// Begins the next line that is no comment: a blank line is passed, of an indented one its spaces.
-    /// At the end of the text the answer is [`LineStart::End`], and inside a line [`LineStart::Middle`].
+    /// Begins the next line that is no comment. Skips a blank line, and the leading spaces of an indented one.
+    /// Returns [`LineStart::End`] at the end of the text, and [`LineStart::Middle`] inside a line.
     ///
     /// # Errors
-    /// [`UnitFault::Tab`] where a tab is the first byte behind the line's leading spaces.
+    /// [`UnitFault::Tab`] if a tab is the first byte after the line's leading spaces.
     pub fn start_line(&mut self) -> Result<LineStart, LexFault>
         ensures { Answers (λ start. start) result self.new (start_line_of self.old) }
     {
@@ -76,7 +76,7 @@ impl<'a> Lexer<'a> {
         }
     }
 
-    /// Stands at a fault from now on.
+    /// Makes every later call report this fault.
     fn fail(&mut self, fault: UnitFault) -> LexFault
         ensures fault { result ≡ BadUnit fault }
         ensures failed { self.new ≡ Failed fault }
@@ -85,7 +85,7 @@ impl<'a> Lexer<'a> {
         LexFault::Unit(fault)
     }
 
-    /// Passes blanks, so that [`Lexer::spot`] gives the place of what stands behind them. Between lines nothing is passed.
+    /// Skips blanks, so that [`Lexer::spot`] is the place of what follows them. Skips nothing between lines.
     #[inline(always)]
     pub fn skip_blanks(&mut self)
         ensures { self.new ≡ skip_blanks_of self.old }
@@ -98,10 +98,10 @@ impl<'a> Lexer<'a> {
         }
     }
 
-    /// Passes blanks, and takes the longest identifier; None where none stands there. Between lines nothing is passed.
+    /// Skips blanks and takes the longest identifier; `None` if there is none. Skips nothing between lines.
     ///
     /// # Errors
-    /// The fault of a bad unit that stands next.
+    /// The fault of a bad unit that comes next.
     #[inline(always)]
     pub fn ident(&mut self) -> Result<Option<&'a [u8]>, LexFault>
         ensures { Answers (option_map (λ bytes. bytes.now)) result self.new (ident_of self.old) }
@@ -120,11 +120,11 @@ impl<'a> Lexer<'a> {
         }
     }
 
-    /// Passes blanks, and takes the wanted sign where it stands there. [`Sign::LineEnd`] ends the line; at the end of
-    /// the text it stands for a line that was begun. Between lines nothing is passed.
+    /// Skips blanks and takes the wanted sign, and returns whether it was there. [`Sign::LineEnd`] ends the line; the
+    /// end of the text ends a line too. Skips nothing between lines.
     ///
     /// # Errors
-    /// The fault of a bad unit that stands next.
+    /// The fault of a bad unit that comes next.
     #[inline(always)]
     pub fn sign(&mut self, want: Sign) -> Result<bool, LexFault>
         ensures { Answers (λ there. there) result self.new (sign_of want self.old) }
@@ -152,11 +152,11 @@ impl<'a> Lexer<'a> {
         }
     }
 
-    /// Passes blanks, and takes a word; None where none begins there. Between lines nothing is passed.
+    /// Skips blanks and takes a word; `None` if none begins there. Skips nothing between lines.
     ///
     /// # Errors
-    /// The fault of a bad unit that stands next, or of the first one before the word is closed;
-    /// [`LexFault::OutOfMemory`], which leaves the lexer where it stood.
+    /// The fault of a bad unit that comes next, or of the one at which the word stops; [`LexFault::OutOfMemory`], which
+    /// leaves the lexer as it was.
     pub fn path_word(&mut self, alloc: Global) -> Result<Option<Word<'a>>, LexFault>
         ensures { AnswersOrLacksMemory (option_map word_text) result self.old self.new (path_word_of self.old) }
     {
@@ -176,10 +176,10 @@ impl<'a> Lexer<'a> {
         }
     }
 
-    /// Passes blanks, and takes all up to the line's end. Between lines nothing is passed, and the value has no parts.
+    /// Skips blanks and takes all up to the line's end. Between lines it skips nothing, and the value has no parts.
     ///
     /// # Errors
-    /// The fault of the first bad unit of the line; [`LexFault::OutOfMemory`], which leaves the lexer where it stood.
+    /// The fault of the first bad unit of the line; [`LexFault::OutOfMemory`], which leaves the lexer as it was.
     #[inline(always)]
     pub fn value(&mut self, alloc: Global) -> Result<Word<'a>, LexFault>
         ensures { AnswersOrLacksMemory word_text result self.old self.new (value_of self.old) }
@@ -197,7 +197,7 @@ impl<'a> Lexer<'a> {
         }
     }
 
-    /// Stands behind a value that was read in the line, or at its fault, or where it stood.
+    /// Moves to the end of a value that was read, or to its fault; out of memory leaves the lexer as it was.
     #[inline(always)]
     fn settle(
         &mut self,

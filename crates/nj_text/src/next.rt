@@ -15,7 +15,7 @@ pub enum Next<'a> {
     Ordinary(u8),
     /// A join: how many bytes it takes, and how many of them are spaces of the next line.
     Join(usize, usize),
-    /// An escape: the byte behind its `$`.
+    /// An escape: the byte after its `$`.
     Escape(&'a [u8]),
     /// A reference: its name, and how many bytes it takes.
     Reference(&'a [u8], usize),
@@ -27,7 +27,7 @@ pub enum Next<'a> {
     BadEscape,
 }
 
-/// The unit of a `$` and the bytes behind it.
+/// The unit of a `$` and the bytes after it.
 fn dollar_unit(bytes: &[u8]) -> Next<'_>
     ensures unit { NextIs result (36 ∷ bytes.now) }
     ensures within { next_length result ≤ length bytes.now + 1 }

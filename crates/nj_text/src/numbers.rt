@@ -5,7 +5,7 @@ ghost use Rattle.nj_text.specs.Bytes.{is_digit};
 ghost use Rattle.nj_text.specs.Numbers.{greatest, leading_number_of, behind_dot, version_pair_of};
 
 /// The number that the digits at the front of the text write, in base ten; `None` where the text does not begin with a
-/// digit. A number above 18446744073709551615 is told as that one.
+/// digit. A number above 18446744073709551615 is reported as that one.
 pub fn leading_number(text: &[u8]) -> Option<u64>
     ensures { result ≡ leading_number_of text.now }
 {
@@ -19,9 +19,9 @@ pub fn leading_number(text: &[u8]) -> Option<u64>
     number
 }
 
-/// The major and the minor number of a version, as `ninja_required_version` gives it ("Version requirements" in the
-/// Ninja manual): the numbers at the front of what stands before the first `.` and of what stands behind it, each 0
-/// where no digit stands there. Of `1.8.2` that is `(1, 8)`.
+/// The major and the minor number of a version, as `ninja_required_version` states it ("Version requirements" in the
+/// Ninja manual): the numbers at the front of what comes before the first `.` and after it, each 0
+/// if there is no digit. Of `1.8.2` that is `(1, 8)`.
 pub fn version_of(text: &[u8]) -> (u64, u64)
     ensures { result ≡ version_pair_of text.now }
 {
@@ -36,7 +36,7 @@ fn is_digit(byte: u8) -> bool
     matches!(byte, b'0'..=b'9')
 }
 
-/// The number with one digit more behind it, or the greatest number where it is greater than that.
+/// The number with one more digit at its end, or the greatest number if it is greater than that.
 fn with_digit(number: u64, digit: u8) -> u64
     requires { is_digit digit ≡ true }
     ensures { result ≡ min (number * 10 + (digit - 48)) greatest }
@@ -46,7 +46,7 @@ fn with_digit(number: u64, digit: u8) -> u64
         .saturating_add(u64::from(digit - b'0'))
 }
 
-/// What stands behind the first `.`; nothing where there is none.
+/// What follows the first `.`; nothing if there is none.
 fn behind_dot(text: &[u8]) -> &[u8]
     ensures { result.now ≡ behind_dot text.now }
 {

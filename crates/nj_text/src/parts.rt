@@ -23,7 +23,7 @@ pub enum TextKind {
     Value,
 }
 
-/// What stands next in a text.
+/// What comes next in a text.
 #[derive(Clone, Copy)]
 pub enum Piece<'a> {
     /// A part of it, and where that ends.
@@ -47,7 +47,7 @@ impl TextKind {
     }
 }
 
-/// What stands next in a text that has no ordinary byte of its own next.
+/// What comes next in a text, where no ordinary byte of it does.
 #[inline(always)]
 fn special_piece(kind: TextKind, cursor: Cursor<'_>) -> Piece<'_>
     requires { NoneInRun (in_run (run_of kind)) cursor.rest.now }
@@ -66,7 +66,7 @@ fn special_piece(kind: TextKind, cursor: Cursor<'_>) -> Piece<'_>
     }
 }
 
-/// Appends the run of ordinary bytes that stands next, if there is one, and skips it.
+/// Appends the run of ordinary bytes that comes next, if there is one, and returns the cursor after it.
 #[inline(always)]
 fn take_run<'a>(
     parts: &mut SmallVec<Part<'a>, 1>,
@@ -83,7 +83,7 @@ fn take_run<'a>(
     Ok(after)
 }
 
-/// The parts of the text that stands next, and where it ends.
+/// The parts of the text that comes next, and the cursor after it.
 #[inline(always)]
 pub fn gather<'a>(
     alloc: Global,

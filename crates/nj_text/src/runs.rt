@@ -8,7 +8,7 @@ ghost use Rattle.nj_text.specs.Runs.{in_run};
 use crate::lanes::{LANES, stops};
 use std::simd::prelude::*;
 
-/// The kinds of bytes that are passed as one run.
+/// The kinds of bytes that are skipped as one run.
 #[derive(Clone, Copy)]
 pub enum Run {
     /// Spaces.
@@ -55,7 +55,7 @@ pub fn is_in(run: Run, byte: u8) -> bool
     }
 }
 
-/// How many bytes of the run stand at the front, tested one by one.
+/// The length of the run at the front, tested byte by byte.
 #[inline(always)]
 fn length_by_bytes(run: Run, bytes: &[u8]) -> usize
     ensures length { result ≡ prefix_len (in_run run) bytes.now }
@@ -71,7 +71,7 @@ fn length_by_bytes(run: Run, bytes: &[u8]) -> usize
     length
 }
 
-/// How many bytes of the run stand at the front, tested sixteen at a time.
+/// The length of the run at the front, tested sixteen bytes at a time.
 #[inline(always)]
 fn length_by_lanes(run: Run, bytes: &[u8]) -> usize
     ensures length { result ≡ prefix_len (in_run run) bytes.now }
@@ -88,7 +88,7 @@ fn length_by_lanes(run: Run, bytes: &[u8]) -> usize
     passed + length_by_bytes(run, &bytes[passed..])
 }
 
-/// How many bytes of the run stand at the front. Spaces and names after a `$` are few: sixteen at once gain nothing.
+/// The length of the run at the front. Runs of spaces and names after a `$` are short: sixteen at once gain nothing.
 #[inline(always)]
 pub fn run_length(run: Run, bytes: &[u8]) -> usize
     ensures length { result ≡ prefix_len (in_run run) bytes.now }
@@ -104,7 +104,7 @@ pub fn run_length(run: Run, bytes: &[u8]) -> usize
     }
 }
 
-/// The run at the front, which may be empty, and the bytes behind it.
+/// The run at the front, which may be empty, and the bytes after it.
 #[inline(always)]
 pub fn split_run(run: Run, bytes: &[u8]) -> (&[u8], &[u8])
     ensures run { result.0.now ≡ take_while (in_run run) bytes.now }
@@ -114,7 +114,7 @@ pub fn split_run(run: Run, bytes: &[u8]) -> (&[u8], &[u8])
     bytes.split_at(run_length(run, bytes))
 }
 
-/// The first byte, and those behind it.
+/// The first byte and those after it; `None` if there is none.
 #[inline(always)]
 pub fn first_byte(bytes: &[u8]) -> Option<(u8, &[u8])>
     ensures { MatchOption result (bytes.now ≡ []) (λ first. bytes.now ≡ first.0 ∷ first.1.now) }

@@ -5,9 +5,9 @@
 pub enum LineStart {
     /// The end of the text.
     End,
-    /// A line with nothing but spaces, which was passed.
+    /// A line with nothing but spaces, which was skipped.
     Blank,
-    /// A line that begins with spaces, which were passed: a line of the block above it.
+    /// A line that begins with spaces, which were skipped: a line of the block above it.
     Indented,
     /// A line that begins with something else.
     Plain,

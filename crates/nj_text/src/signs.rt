@@ -15,7 +15,7 @@ use crate::next::{Next, next_unit};
 use crate::runs::first_byte;
 use crate::sign::Sign;
 
-/// The fault of the unit that stands next, where it is a bad one.
+/// The fault of the unit that comes next, if it is a bad one.
 #[inline(always)]
 pub fn bad_unit(cursor: Cursor<'_>) -> Option<UnitFault>
     ensures { result ≡ next_fault (units_within cursor.entry.spot cursor.entry.rest.now) }
@@ -32,7 +32,7 @@ pub fn bad_unit(cursor: Cursor<'_>) -> Option<UnitFault>
     }
 }
 
-/// Behind the line end that stands next; None where none does. The end of the text ends its line, and stays.
+/// The cursor after the line end that comes next; `None` if there is none. The end of the text ends its line, and stays.
 #[inline(always)]
 pub fn past_line_end(cursor: Cursor<'_>) -> Option<Cursor<'_>>
     ensures { EndsLine cursor.entry result }
@@ -59,7 +59,7 @@ fn begins_with(byte: u8, bytes: &[u8]) -> bool
     }
 }
 
-/// How many bytes the sign takes, which is no line end, where it stands next; else 0.
+/// The length of the sign, which is no line end, if it comes next; else 0.
 #[inline(always)]
 pub fn sign_length(want: Sign, bytes: &[u8]) -> usize
     ensures { result ≡ sign_length want bytes.now }
@@ -80,20 +80,20 @@ pub fn sign_length(want: Sign, bytes: &[u8]) -> usize
     }
 }
 
-/// What became of a wanted sign.
+/// Whether a wanted sign was there.
 #[derive(Clone, Copy)]
 pub enum SignTaken<'a> {
-    /// It does not stand behind the blanks, which end here.
+    /// It does not follow the blanks, which end here.
     No(Cursor<'a>),
-    /// It stood there, and the line goes on here.
+    /// It was there, and the line goes on here.
     InLine(Cursor<'a>),
     /// It ended the line, and the next one begins here.
     LineEnd(Cursor<'a>),
-    /// A bad unit stands behind the blanks.
+    /// A bad unit follows the blanks.
     Fault(UnitFault),
 }
 
-/// Takes the line end that stands next, if one does.
+/// Takes the line end that comes next, if there is one.
 #[inline(always)]
 fn take_line_end(cursor: Cursor<'_>) -> SignTaken<'_>
     requires { next_fault (units_within cursor.spot cursor.rest.now) ≡ None }
@@ -105,7 +105,7 @@ fn take_line_end(cursor: Cursor<'_>) -> SignTaken<'_>
     SignTaken::LineEnd(after)
 }
 
-/// Takes the wanted sign behind the blanks, where it stands there.
+/// Takes the wanted sign after the blanks, if it is there.
 #[inline(always)]
 pub fn take_sign(want: Sign, start: Cursor<'_>) -> SignTaken<'_>
     ensures { SignIs (sign_at want (behind_blanks (line_at start.entry)) (lines_after start.entry)) result }

@@ -1,17 +1,17 @@
-//! Where a lexer stands.
+//! The state of a lexer.
 
 use crate::fault::UnitFault;
 use crate::spot::Spot;
 
-/// Where a lexer stands.
+/// The state of a lexer.
 #[derive(Clone, Copy)]
 pub enum Stand<'a> {
     /// Before a line.
     Between,
-    /// Behind the join that opens a line, which was not passed yet: its place, and its bytes.
+    /// After the join that opens a line, which no call has skipped yet: its place and its bytes.
     Opening(Spot, &'a [u8]),
     /// In a line.
     Inside,
-    /// At a fault, for good.
+    /// At a fault, which every later call reports.
     Failed(UnitFault),
 }

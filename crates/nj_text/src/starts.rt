@@ -22,7 +22,7 @@ pub enum Begun<'a> {
     Fault(UnitFault),
 }
 
-/// Behind the comment that stands next, and its line end; None where none does.
+/// The cursor after the comment that comes next and its line end; `None` if there is none.
 fn past_comment(cursor: Cursor<'_>) -> Option<Cursor<'_>>
     ensures comment { MatchOption result (opens_comment cursor.entry.rest.now ≡ false)
         (λ after. without_comments (lines_at cursor.entry) ≡ without_comments (lines_at after)) }
@@ -69,7 +69,7 @@ fn begin_at_once(cursor: Cursor<'_>) -> Begun<'_>
     }
 }
 
-/// How a line begins, from behind its leading spaces on.
+/// How a line begins, after its leading spaces.
 fn begin_behind_spaces(cursor: Cursor<'_>) -> Begun<'_>
     requires { begins_with_space_byte cursor.rest.now ≡ false }
     ensures { BegunBehindSpaces cursor.entry result }
@@ -94,7 +94,7 @@ fn begin_behind_spaces(cursor: Cursor<'_>) -> Begun<'_>
     }
 }
 
-/// How the line that stands next begins, which is no comment.
+/// How the next line begins, which is no comment.
 fn begin_text_line(cursor: Cursor<'_>) -> Begun<'_>
     requires { opens_comment cursor.rest.now ≡ false }
     ensures { BegunIs (lines_at cursor.entry) result }

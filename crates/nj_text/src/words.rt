@@ -15,7 +15,7 @@ use crate::signs::bad_unit;
 use crate::word::Word;
 use std::alloc::Global;
 
-/// The identifier behind the blanks, if one stands there.
+/// The identifier after the blanks; `None` if there is none.
 #[inline(always)]
 pub fn identifier(start: Cursor<'_>) -> Result<(Option<&[u8]>, Cursor<'_>), UnitFault>
     ensures { Steps (option_map (λ bytes. bytes.now)) (ident_at (behind_blanks (line_at start.entry)) (lines_after start.entry)) result }
@@ -31,7 +31,7 @@ pub fn identifier(start: Cursor<'_>) -> Result<(Option<&[u8]>, Cursor<'_>), Unit
     Ok((Some(name), after))
 }
 
-/// The word behind the blanks, if one begins there.
+/// The word after the blanks; `None` if none begins there.
 #[inline(always)]
 pub fn word<'a>(
     alloc: Global,
@@ -53,7 +53,7 @@ pub fn word<'a>(
     }
 }
 
-/// The value behind the blanks, which goes up to the line's end.
+/// The value after the blanks, which goes up to the line's end.
 #[inline(always)]
 pub fn value<'a>(alloc: Global, start: Cursor<'a>) -> Result<(Word<'a>, Cursor<'a>), LexFault>
     ensures { StepsOrLacksMemory word_text (value_at (behind_blanks (line_at start.entry)) (lines_after start.entry)) result }
