@@ -6,7 +6,7 @@ use Rattle.std.proofs.lemmas.List.{take_at, length-append}
 use Rattle.std.proofs.lemmas.Bool.{eqb-true, false≢true}
 use Rattle.nj_text.specs.declared.spot.Spot.{Spot}
 use Rattle.nj_text.specs.Bytes.{is_space, is_line_feed, is_ordinary_byte, is_name_byte, is_identifier_byte}
-use Rattle.nj_text.specs.Units.{Ordinary, Reference, TextUnit, Position, Within, Dollar, LineFeed, CarriageReturn, Nul, Plain, class_of, unit_by, unit_at, position_after, spot_after, spots_after, cut, Found, NameByte, follows_of, behind_dollar}
+use Rattle.nj_text.specs.Units.{Ordinary, Reference, TextUnit, Position, Within, Dollar, LineFeed, CarriageReturn, Nul, Plain, class_of, unit_by, unit_at, position_after, spot_after, spots_after, cut, Found, NameByte, follows_of, after_dollar}
 use Rattle.nj_text.specs.Scans.{along, on_next_line}
 use Rattle.nj_text.proofs.Lists.{take_while-cons_yes, take_while-cons_no, AllIn, AllIn-take_while, AllIn-weaker, length-take_while}
 
@@ -161,7 +161,7 @@ first_passes p b bs h = by_test (p b) refl
     by_test true e = refl
     by_test false e = absurd (false≢true (sym h ∙ ap (λ xs. eqb (length xs) 0) (take_while-cons_no p b bs e)))
 
-pub name_found : (b : ℕ) (bs bytes name : List ℕ) → bytes ≡ b ∷ bs → name ≡ take_while is_name_byte bytes → eqb (length name) 0 ≡ false → ◌≡◌ {A = Found} (Reference name, length name) (behind_dollar bytes)
+pub name_found : (b : ℕ) (bs bytes name : List ℕ) → bytes ≡ b ∷ bs → name ≡ take_while is_name_byte bytes → eqb (length name) 0 ≡ false → ◌≡◌ {A = Found} (Reference name, length name) (after_dollar bytes)
 name_found b bs bytes name e n h =
     let here : name ≡ take_while is_name_byte (b ∷ bs) = n ∙ ap (take_while is_name_byte) e in
     let passes : is_name_byte b ≡ true = first_passes is_name_byte b bs (rw (← here) h) in

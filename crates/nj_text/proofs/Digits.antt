@@ -8,7 +8,7 @@ use Rattle.std.proofs.Math.Seq.{drop-cons}
 use Rattle.std.proofs.lemmas.List.{take_more, take-append-drop, take_all, append-nil}
 use Rattle.std.proofs.lemmas.Bool.Decides.{nat_tests}
 use Rattle.nj_text.specs.Bytes.{is_digit}
-use Rattle.nj_text.specs.Numbers.{value_of_digits, greatest, number_of, leading_number_of, is_dot, before_dot, behind_dot}
+use Rattle.nj_text.specs.Numbers.{value_of_digits, greatest, number_of, leading_number_of, is_dot, before_dot, after_dot}
 use Rattle.nj_text.proofs.Lists.{AllIn, take_while-append, take_while-cons_yes, take_while-cons_no, drop_while-cons_yes, drop_while-cons_no}
 
 weigh : (c n v d : ℕ) → c * 10 ^ (n + 1) + (v * 10 + d) ≡ (c * 10 ^ n + v) * 10 + d
@@ -74,11 +74,11 @@ read-all text i number h read =
 -- ---- the first `.`
 
 -- a byte that is no `.` stands before it
-pub behind_dot-other : (b : ℕ) (text : List ℕ) → (b == 46) ≡ false → behind_dot (b ∷ text) ≡ behind_dot text
-behind_dot-other b text e = ap (drop 1) (drop_while-cons_yes (λ b. not (is_dot b)) b text (ap not e))
+pub after_dot-other : (b : ℕ) (text : List ℕ) → (b == 46) ≡ false → after_dot (b ∷ text) ≡ after_dot text
+after_dot-other b text e = ap (drop 1) (drop_while-cons_yes (λ b. not (is_dot b)) b text (ap not e))
 
-pub behind_dot-dot : (b : ℕ) (text : List ℕ) → (b == 46) ≡ true → behind_dot (b ∷ text) ≡ text
-behind_dot-dot b text e = ap (drop 1) (drop_while-cons_no (λ b. not (is_dot b)) b text (ap not e))
+pub after_dot-dot : (b : ℕ) (text : List ℕ) → (b == 46) ≡ true → after_dot (b ∷ text) ≡ text
+after_dot-dot b text e = ap (drop 1) (drop_while-cons_no (λ b. not (is_dot b)) b text (ap not e))
 
 -- a `.` is no digit
 no_dot : (b : ℕ) → is_digit b ≡ true → not (is_dot b) ≡ true

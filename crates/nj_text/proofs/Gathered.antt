@@ -9,27 +9,27 @@ use Rattle.nj_text.specs.declared.fault.UnitFault.TheVariants as fault
 use Rattle.nj_text.specs.declared.parts.TextKind.{TextKind}
 use Rattle.nj_text.specs.declared.parts.TextKind.TheVariants as kind
 use Rattle.nj_text.specs.Bytes.{is_ordinary_byte, is_identifier_byte, begins_with, drop_while}
-use Rattle.nj_text.specs.Units.{Meaning, Ordinary, LineEnd, BadByte, BadEscape, TextUnit, is_ordinary_in, Within, position_after, spot_after, Class, Dollar, LineFeed, CarriageReturn, Nul, Plain, unit_by, class_of, unit_at, behind_dollar, named, Follows, Feed, Return, Brace, Itself, NameByte, Nothing, behind_dollar_by, Found, follows_of, cut}
+use Rattle.nj_text.specs.Units.{Meaning, Ordinary, LineEnd, BadByte, BadEscape, TextUnit, is_ordinary_in, Within, position_after, spot_after, Class, Dollar, LineFeed, CarriageReturn, Nul, Plain, unit_by, class_of, unit_at, after_dollar, named, Follows, Feed, Return, Brace, Itself, NameByte, Nothing, after_dollar_by, Found, follows_of, cut}
 use Rattle.nj_text.specs.declared.runs.Run.{Run}
 use Rattle.nj_text.specs.Runs.{in_run}
 use Rattle.nj_text.specs.Scans.{along, units_within, Begins, BeginsBadly}
 use Rattle.nj_text.specs.Words.{fault_of_meaning, next_fault, parts_of, PartText, Text, begins_with_ordinary, longer_run}
-use Rattle.nj_text.specs.Gathering.{run_of, in_text, gathered, behind_text, NoneInRun}
+use Rattle.nj_text.specs.Gathering.{run_of, in_text, gathered, after_text, NoneInRun}
 use Rattle.nj_text.proofs.Lists.{AllIn, AllIn-weaker, AllIn-take_while, drop_while-append, take_while-append, take_while-cons_yes, take_while-cons_no, drop_while-cons_no}
 use Rattle.nj_text.proofs.Cuts.{plain_units, cut-run, unit-ordinary}
 
 -- ---- what ends a text
 
-pub text_ends : (k : TextKind) (u : TextUnit) (us : List TextUnit) → in_text k u ≡ false → (gathered k (u ∷ us) ≡ []) × (behind_text k (u ∷ us) ≡ u ∷ us)
+pub text_ends : (k : TextKind) (u : TextUnit) (us : List TextUnit) → in_text k u ≡ false → (gathered k (u ∷ us) ≡ []) × (after_text k (u ∷ us) ≡ u ∷ us)
 text_ends k u us h = (ap parts_of (take_while-cons_no (in_text k) u us h), drop_while-cons_no (in_text k) u us h)
 
 -- a unit that is none of a text's, at the place of a cursor
 pub ends_by : (k : TextKind) (spot : Spot) (bytes : List ℕ) (m : Meaning) (n : ℕ) (behind : List TextUnit) → Begins spot bytes m n behind → in_text k (record { spot = spot; bytes = take n bytes; means = m }) ≡ false
-    → (gathered k (units_within spot bytes) ≡ []) × (behind_text k (units_within spot bytes) ≡ units_within spot bytes)
+    → (gathered k (units_within spot bytes) ≡ []) × (after_text k (units_within spot bytes) ≡ units_within spot bytes)
 ends_by k spot bytes m n behind e h = rw e (text_ends k (record { spot = spot; bytes = take n bytes; means = m }) behind h)
 
 pub bad_at : (k : TextKind) (spot : Spot) (bytes : List ℕ) (m : Meaning) (n : ℕ) (behind : List TextUnit) (f : UnitFault) → Begins spot bytes m n behind → in_text k (record { spot = spot; bytes = take n bytes; means = m }) ≡ false → fault_of_meaning m spot ≡ Some f
-    → next_fault (behind_text k (units_within spot bytes)) ≡ Some f
+    → next_fault (after_text k (units_within spot bytes)) ≡ Some f
 bad_at k spot bytes m n behind f e h g = ap next_fault (ends_by k spot bytes m n behind e h).1 ∙ ap next_fault e ∙ g
 
 bad_byte_is_no_text : (k : TextKind) (spot : Spot) (bytes : List ℕ) → in_text k (record { spot = spot; bytes = bytes; means = BadByte }) ≡ false
@@ -44,14 +44,14 @@ line_end_is_no_text : (k : TextKind) (spot : Spot) (bytes : List ℕ) → in_tex
 line_end_is_no_text kind.Word spot bytes = refl
 line_end_is_no_text kind.Value spot bytes = refl
 
-pub bad_byte_piece : (k : TextKind) (spot : Spot) (bytes : List ℕ) → BeginsBadly spot bytes BadByte → next_fault (behind_text k (units_within spot bytes)) ≡ Some (fault.BadByte spot)
+pub bad_byte_piece : (k : TextKind) (spot : Spot) (bytes : List ℕ) → BeginsBadly spot bytes BadByte → next_fault (after_text k (units_within spot bytes)) ≡ Some (fault.BadByte spot)
 bad_byte_piece k spot bytes b = bad_at k spot bytes BadByte b.0 b.1 (fault.BadByte spot) b.2 (bad_byte_is_no_text k spot (take b.0 bytes)) refl
 
-pub bad_escape_piece : (k : TextKind) (spot : Spot) (bytes : List ℕ) → BeginsBadly spot bytes BadEscape → next_fault (behind_text k (units_within spot bytes)) ≡ Some (fault.BadEscape spot)
+pub bad_escape_piece : (k : TextKind) (spot : Spot) (bytes : List ℕ) → BeginsBadly spot bytes BadEscape → next_fault (after_text k (units_within spot bytes)) ≡ Some (fault.BadEscape spot)
 bad_escape_piece k spot bytes b = bad_at k spot bytes BadEscape b.0 b.1 (fault.BadEscape spot) b.2 (bad_escape_is_no_text k spot (take b.0 bytes)) refl
 
 abbrev EndsText : TextKind → List TextUnit → Type 0
-EndsText k us = (gathered k us ≡ []) × (behind_text k us ≡ us) × (next_fault us ≡ None)
+EndsText k us = (gathered k us ≡ []) × (after_text k us ≡ us) × (next_fault us ≡ None)
 
 end_at : (k : TextKind) (spot : Spot) → EndsText k (units_within spot [])
 unfolding cut
@@ -92,7 +92,7 @@ choice_is_no_byte : (t : Bool) (x y : Found) → is_byte x ≡ false → is_byte
 choice_is_no_byte true x y h k = h
 choice_is_no_byte false x y h k = k
 
-follower_is_no_byte : (f : Follows) (b : ℕ) (bs : List ℕ) → is_byte (behind_dollar_by f b bs) ≡ false
+follower_is_no_byte : (f : Follows) (b : ℕ) (bs : List ℕ) → is_byte (after_dollar_by f b bs) ≡ false
 follower_is_no_byte Feed b bs = refl
 follower_is_no_byte Return b bs = choice_is_no_byte (begins_with 10 bs) _ _ refl refl
 follower_is_no_byte Brace b bs = named_is_no_byte (take_while is_identifier_byte bs) (begins_with 125 (drop_while is_identifier_byte bs))
@@ -100,7 +100,7 @@ follower_is_no_byte Itself b bs = refl
 follower_is_no_byte NameByte b bs = refl
 follower_is_no_byte Nothing b bs = refl
 
-dollar_is_no_byte : (bs : List ℕ) → is_byte (behind_dollar bs) ≡ false
+dollar_is_no_byte : (bs : List ℕ) → is_byte (after_dollar bs) ≡ false
 dollar_is_no_byte [] = refl
 dollar_is_no_byte (b ∷ bs) = follower_is_no_byte (follows_of b) b bs
 
@@ -151,7 +151,7 @@ run_parts spot x [] us h = rw h refl
 run_parts spot x (y ∷ ys) us h = ap (λ ps. longer_run x ps) (run_parts (along 1 spot) y ys us h)
 
 pub run_piece : (k : TextKind) (spot : Spot) (bytes xs ys : List ℕ) → bytes ≡ xs ++ ys → AllIn (in_run (run_of k)) xs → NoneInRun (in_run (run_of k)) ys → (xs ≡ [] → ⊥)
-    → (gathered k (units_within spot bytes) ≡ Text xs ∷ gathered k (units_within (along (length xs) spot) ys)) × (behind_text k (units_within spot bytes) ≡ behind_text k (units_within (along (length xs) spot) ys))
+    → (gathered k (units_within spot bytes) ≡ Text xs ∷ gathered k (units_within (along (length xs) spot) ys)) × (after_text k (units_within spot bytes) ≡ after_text k (units_within (along (length xs) spot) ys))
 run_piece k spot bytes [] ys e h n f = absurd (f refl)
 run_piece k spot bytes (x ∷ xs) ys e h n f =
     let there = units_within (along (length (x ∷ xs)) spot) ys in
@@ -162,9 +162,9 @@ run_piece k spot bytes (x ∷ xs) ys e h n f =
       ap (λ us. drop_while (in_text k) us) cut_is ∙ drop_while-append (in_text k) front there all,
     )
 
-pub none_behind : (p : ℕ → Bool) (bs : List ℕ) → NoneInRun p (drop_while p bs)
-none_behind p [] = tt
-none_behind p (b ∷ bs) = by_test (p b) refl (none_behind p bs)
+pub none_after : (p : ℕ → Bool) (bs : List ℕ) → NoneInRun p (drop_while p bs)
+none_after p [] = tt
+none_after p (b ∷ bs) = by_test (p b) refl (none_after p bs)
   where
     by_test : (t : Bool) → p b ≡ t → NoneInRun p (drop_while p bs) → NoneInRun p (cond t (drop_while p bs) (b ∷ bs))
     by_test true e h = h
@@ -172,15 +172,15 @@ none_behind p (b ∷ bs) = by_test (p b) refl (none_behind p bs)
 
 -- the run that stands at a place, read off
 pub run_read : (k : TextKind) (r : Run) (spot there : Spot) (bytes xs ys : List ℕ) → r ≡ run_of k → xs ≡ take_while (in_run r) bytes → ys ≡ drop_while (in_run r) bytes → bytes ≡ xs ++ ys → there ≡ along (length xs) spot → eqb (length xs) 0 ≡ false
-    → (gathered k (units_within spot bytes) ≡ Text xs ∷ gathered k (units_within there ys)) × (behind_text k (units_within spot bytes) ≡ behind_text k (units_within there ys))
+    → (gathered k (units_within spot bytes) ≡ Text xs ∷ gathered k (units_within there ys)) × (after_text k (units_within spot bytes) ≡ after_text k (units_within there ys))
 run_read k r spot there bytes xs ys is_r run behind whole e nonempty =
     let all : AllIn (in_run (run_of k)) xs = rw (← is_r, run) (AllIn-take_while (in_run r) bytes) in
-    let none : NoneInRun (in_run (run_of k)) ys = rw (← is_r, behind) (none_behind (in_run r) bytes) in
+    let none : NoneInRun (in_run (run_of k)) ys = rw (← is_r, behind) (none_after (in_run r) bytes) in
     rw e (run_piece k spot bytes xs ys whole all none (λ h. false≢true (sym nonempty ∙ ap (λ zs. eqb (length zs) 0) h)))
 
 -- behind the run that stands at a place none of its bytes stands
 pub run_over : (k : TextKind) (r : Run) (bytes ys : List ℕ) → r ≡ run_of k → ys ≡ drop_while (in_run r) bytes → NoneInRun (in_run (run_of k)) ys
-run_over k r bytes ys is_r behind = rw (← is_r, behind) (none_behind (in_run r) bytes)
+run_over k r bytes ys is_r behind = rw (← is_r, behind) (none_after (in_run r) bytes)
 
 -- ---- turns of the loop
 

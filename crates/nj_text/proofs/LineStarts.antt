@@ -8,17 +8,17 @@ use Rattle.nj_text.specs.declared.spot.Spot.{Spot}
 use Rattle.nj_text.specs.declared.sign.LineStart.TheVariants as start
 use Rattle.nj_text.specs.declared.fault.UnitFault.TheVariants as fault
 use Rattle.nj_text.specs.Bytes.{is_space, is_line_feed, is_ordinary_byte, is_name_byte, is_identifier_byte, begins_with, drop_while}
-use Rattle.nj_text.specs.Units.{Meaning, Ordinary, Escape, Reference, Join, OpeningJoin, Comment, LeadingTab, LineEnd, TextEnd, BadByte, BadEscape, TextUnit, is_ordinary_in, Position, AtStart, AfterSpaces, Within, Follows, Feed, Return, Brace, Itself, NameByte, Nothing, follows_of, behind_dollar_by, behind_dollar, named, Found, Class, Dollar, LineFeed, CarriageReturn, Nul, Plain, class_of, unit_by, unit_at, found_at, opening, opens_comment, position_after, spot_after, spots_after, cut}
+use Rattle.nj_text.specs.Units.{Meaning, Ordinary, Escape, Reference, Join, OpeningJoin, Comment, LeadingTab, LineEnd, TextEnd, BadByte, BadEscape, TextUnit, is_ordinary_in, Position, AtStart, AfterSpaces, Within, Follows, Feed, Return, Brace, Itself, NameByte, Nothing, follows_of, after_dollar_by, after_dollar, named, Found, Class, Dollar, LineFeed, CarriageReturn, Nul, Plain, class_of, unit_by, unit_at, found_at, opening, opens_comment, position_after, spot_after, spots_after, cut}
 use Rattle.nj_text.specs.Lines.{Line, ending_of, before_first_line, lines_before, lines_of, with_units, Kind, IndentedLine, PlainLine, is_space_unit, text_kind, kind_with, kind_behind_spaces, begins_with_space, kind_of}
 use Rattle.nj_text.specs.Scans.{along, on_next_line, units_within, Begins, BeginsBadly, begins_with_space_byte}
 use Rattle.nj_text.specs.Calls.{Between, Inside, reply, failing, begun, begun_by, is_comment, without_comments}
 use Rattle.nj_text.specs.declared.cursor.Cursor.{Cursor}
 use Rattle.nj_text.specs.declared.starts.Begun.{Begun}
-use Rattle.nj_text.specs.Standing.{BegunIs, BegunBehindSpaces, first_line, other_lines, inside, lines_from, lines_within, space_units}
+use Rattle.nj_text.specs.Standing.{BegunIs, BegunAfterSpaces, first_line, other_lines, inside, lines_from, lines_within, space_units}
 use Rattle.nj_text.proofs.Lists.{AllIn, AllIn-take_while, drop_while-cons_no, drop_while-cons_yes, drop_while-append, take_while-cons_yes, length-take_while, drop-prefix_len}
 use Rattle.nj_text.proofs.Cuts.{cut-skip, spots_along, along-along, along-zero, unit-ordinary}
 use Rattle.std.proofs.lemmas.List.{nil_from_length}
-use Rattle.nj_text.proofs.Gathered.{not_ordinary, none_behind}
+use Rattle.nj_text.proofs.Gathered.{not_ordinary, none_after}
 use Rattle.nj_text.proofs.Passed.{first_is_no_space}
 use Rattle.nj_text.specs.Gathering.{NoneInRun}
 
@@ -347,7 +347,7 @@ pub over_comment : (spot there : Spot) (bs rest : List ℕ) → opens_comment bs
 unfolding cut
 over_comment spot there bs rest h t r e =
     let c = comment_cut spot bs h in
-    let feed : rest ≡ 10 ∷ drop 1 rest = feed_first rest (rw r (none_behind no_feed bs)) e in
+    let feed : rest ≡ 10 ∷ drop 1 rest = feed_first rest (rw r (none_after no_feed bs)) e in
     let found = c.1 ∙ ap (cut_from c.0) (sym r ∙ feed) in
     ap (λ us. without_comments (lines_of us)) found ∙ rw t refl
   where
@@ -401,7 +401,7 @@ plain_ordinary b bs e s = rw (first_is_no_space b bs e s) refl
 
 -- how a line begins, of which the leading spaces were read
 pub begun_behind_spaces : (spot : Spot) (bytes xs : List ℕ) (c : Cursor) (found : Begun) → bytes ≡ xs ++ c.rest.now → xs ≡ take_while is_space bytes → c.spot ≡ along (length xs) spot → opens_comment bytes ≡ false → eqb (length xs) 0 ≡ false
-    → BegunBehindSpaces c found → BegunIs (lines_from spot bytes) found
+    → BegunAfterSpaces c found → BegunIs (lines_from spot bytes) found
 begun_behind_spaces spot bytes xs c found whole run there no_comment some h =
     let s = spaces_cut spot bytes xs c.rest.now c.spot whole run there no_comment some in
     subst (λ us. BegunIs (lines_of us) found) (sym s.3) (h spot s.0 s.1 s.2)
@@ -439,7 +439,7 @@ module _ (q : Meaning → Bool) (unsaid : IsUnsaid q) where
   named_is_unsaid (b ∷ bs) false = unsaid.bad_escape
   named_is_unsaid (b ∷ bs) true = unsaid.reference (b ∷ bs)
 
-  follower_is_unsaid : (f : Follows) (b : ℕ) (bs : List ℕ) → q (behind_dollar_by f b bs).0 ≡ false
+  follower_is_unsaid : (f : Follows) (b : ℕ) (bs : List ℕ) → q (after_dollar_by f b bs).0 ≡ false
   follower_is_unsaid Feed b bs = unsaid.join
   follower_is_unsaid Return b bs = choice_is_unsaid (begins_with 10 bs) _ _ unsaid.join unsaid.bad_escape
   follower_is_unsaid Brace b bs = named_is_unsaid (take_while is_identifier_byte bs) (begins_with 125 (drop_while is_identifier_byte bs))
@@ -447,7 +447,7 @@ module _ (q : Meaning → Bool) (unsaid : IsUnsaid q) where
   follower_is_unsaid NameByte b bs = unsaid.reference (b ∷ take_while is_name_byte bs)
   follower_is_unsaid Nothing b bs = unsaid.bad_escape
 
-  dollar_is_unsaid : (bs : List ℕ) → q (behind_dollar bs).0 ≡ false
+  dollar_is_unsaid : (bs : List ℕ) → q (after_dollar bs).0 ≡ false
   dollar_is_unsaid [] = unsaid.bad_escape
   dollar_is_unsaid (b ∷ bs) = follower_is_unsaid (follows_of b) b bs
 

@@ -4,16 +4,16 @@ use Rattle.std.proofs.Math.Numerals.{one-add}
 use Rattle.std.proofs.lemmas.Bool.{eqb-true, false≢true}
 use Rattle.nj_text.specs.declared.spot.Spot.{Spot}
 use Rattle.nj_text.specs.Bytes.{is_ordinary_byte, begins_with}
-use Rattle.nj_text.specs.Units.{Meaning, Ordinary, Escape, Reference, Join, LineEnd, BadByte, BadEscape, Found, AtStart, Within, position_after, spot_after, spots_after, behind_dollar, Dollar, LineFeed, CarriageReturn, Nul, Plain, unit_by, unit_at, cut}
+use Rattle.nj_text.specs.Units.{Meaning, Ordinary, Escape, Reference, Join, LineEnd, BadByte, BadEscape, Found, AtStart, Within, position_after, spot_after, spots_after, after_dollar, Dollar, LineFeed, CarriageReturn, Nul, Plain, unit_by, unit_at, cut}
 use Rattle.nj_text.specs.Scans.{along, on_next_line, line_end_length, units_within, Begins, BeginsBadly}
 use Rattle.nj_text.proofs.Cuts.{cut-skip, cut-ordinary}
 
-pub cut-dollar : (spot : Spot) (bs : List ℕ) (m : Meaning) (n : ℕ) → ◌≡◌ {A = Found} (m, n) (behind_dollar bs) → n ≤ length bs
+pub cut-dollar : (spot : Spot) (bs : List ℕ) (m : Meaning) (n : ℕ) → ◌≡◌ {A = Found} (m, n) (after_dollar bs) → n ≤ length bs
     → cut Within 0 spot (36 ∷ bs) ≡ record { spot = spot; bytes = 36 ∷ take n bs; means = m } ∷ cut (position_after Within m) 0 (spots_after (take n bs) (along 1 spot)) (drop n bs)
 unfolding cut
 cut-dollar spot bs m n e h = rw (← e) (ap (λ us. record { spot = spot; bytes = 36 ∷ take n bs; means = m } ∷ us) (cut-skip (position_after Within m) n (along 1 spot) bs h))
 
-pub join_next : (end spaces : ℕ) (bs : List ℕ) → ◌≡◌ {A = Found} (Join, end + spaces) (behind_dollar bs) → ((spot : Spot) → spots_after (take (end + spaces) bs) spot ≡ on_next_line spaces spot) → end + spaces ≤ length bs
+pub join_next : (end spaces : ℕ) (bs : List ℕ) → ◌≡◌ {A = Found} (Join, end + spaces) (after_dollar bs) → ((spot : Spot) → spots_after (take (end + spaces) bs) spot ≡ on_next_line spaces spot) → end + spaces ≤ length bs
     → (spot : Spot) → Begins spot (36 ∷ bs) Join (1 + end + spaces) (units_within (on_next_line spaces spot) (drop (1 + end + spaces) (36 ∷ bs)))
 join_next end spaces bs e lands h spot =
     let n : 1 + end + spaces ≡ suc (end + spaces) = omega arith in
@@ -22,17 +22,17 @@ join_next end spaces bs e lands h spot =
 along-two : (n : ℕ) (spot : Spot) → along n (along 1 spot) ≡ along (suc n) spot
 along-two n spot = ap (λ c. record { line = spot.line; column = c }) (omega arith)
 
-pub reference_next : (name : List ℕ) (n : ℕ) (bs : List ℕ) → ◌≡◌ {A = Found} (Reference name, n) (behind_dollar bs) → ((spot : Spot) → spots_after (take n bs) spot ≡ along n spot) → n ≤ length bs
+pub reference_next : (name : List ℕ) (n : ℕ) (bs : List ℕ) → ◌≡◌ {A = Found} (Reference name, n) (after_dollar bs) → ((spot : Spot) → spots_after (take n bs) spot ≡ along n spot) → n ≤ length bs
     → (spot : Spot) → Begins spot (36 ∷ bs) (Reference name) (1 + n) (units_within (along (1 + n) spot) (drop (1 + n) (36 ∷ bs)))
 reference_next name n bs e lands h spot =
     rw (one-add n) (cut-dollar spot bs (Reference name) n e h ∙ ap (λ p. record { spot = spot; bytes = 36 ∷ take n bs; means = Reference name } ∷ cut Within 0 p (drop n bs)) (lands (along 1 spot) ∙ along-two n spot))
 
-pub escape_next : (b : ℕ) (bs : List ℕ) → ◌≡◌ {A = Found} (Escape b, 1) (behind_dollar bs) → ((spot : Spot) → spots_after (take 1 bs) spot ≡ along 1 spot) → 1 ≤ length bs
+pub escape_next : (b : ℕ) (bs : List ℕ) → ◌≡◌ {A = Found} (Escape b, 1) (after_dollar bs) → ((spot : Spot) → spots_after (take 1 bs) spot ≡ along 1 spot) → 1 ≤ length bs
     → (spot : Spot) → Begins spot (36 ∷ bs) (Escape b) 2 (units_within (along 2 spot) (drop 2 (36 ∷ bs)))
 escape_next b bs e lands h spot =
     cut-dollar spot bs (Escape b) 1 e h ∙ ap (λ p. record { spot = spot; bytes = 36 ∷ take 1 bs; means = Escape b } ∷ cut Within 0 p (drop 1 bs)) (lands (along 1 spot) ∙ along-two 1 spot)
 
-pub bad_escape_next : (bs : List ℕ) → ◌≡◌ {A = Found} (BadEscape, 0) (behind_dollar bs) → (spot : Spot) → BeginsBadly spot (36 ∷ bs) BadEscape
+pub bad_escape_next : (bs : List ℕ) → ◌≡◌ {A = Found} (BadEscape, 0) (after_dollar bs) → (spot : Spot) → BeginsBadly spot (36 ∷ bs) BadEscape
 bad_escape_next bs e spot = (1, cut Within 0 (along 1 spot) bs, cut-dollar spot bs BadEscape 0 e (omega arith))
 
 feed_next : (bs : List ℕ) (spot : Spot) → Begins spot (10 ∷ bs) LineEnd 1 (cut AtStart 0 (on_next_line 0 spot) (drop 1 (10 ∷ bs)))

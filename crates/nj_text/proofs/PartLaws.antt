@@ -5,7 +5,7 @@ use Rattle.std.proofs.Math.Seq.{take-append-add, take-append_seam}
 use Rattle.std.proofs.lemmas.List.{append-nil}
 use Rattle.nj_text.specs.declared.spot.Spot.{Spot}
 use Rattle.nj_text.specs.Bytes.{is_identifier_byte, is_name_byte, begins_with, drop_while}
-use Rattle.nj_text.specs.Units.{Meaning, Ordinary, Escape, Reference, Join, TextUnit, is_ordinary_in, Found, named, Follows, Feed, Return, Brace, Itself, NameByte, Nothing, follows_of, behind_dollar_by, behind_dollar, Class, Dollar, LineFeed, CarriageReturn, Nul, Plain, class_of, unit_by, unit_at, opening, opens_comment, Position, AtStart, AfterSpaces, Within, found_at, position_after, spot_after, first_spot, cut}
+use Rattle.nj_text.specs.Units.{Meaning, Ordinary, Escape, Reference, Join, TextUnit, is_ordinary_in, Found, named, Follows, Feed, Return, Brace, Itself, NameByte, Nothing, follows_of, after_dollar_by, after_dollar, Class, Dollar, LineFeed, CarriageReturn, Nul, Plain, class_of, unit_by, unit_at, opening, opens_comment, Position, AtStart, AfterSpaces, Within, found_at, position_after, spot_after, first_spot, cut}
 use Rattle.nj_text.specs.Words.{PartText, Text, longer_run, part_before, begins_with_ordinary, parts_of}
 use Rattle.nj_text.specs.Calls.{bytes_of}
 use Rattle.nj_text.specs.Laws.{part_bytes, StandInOrder, PartsStandInOrder}
@@ -46,7 +46,7 @@ named_says b c cs (x ∷ xs) rest true e =
     ap (λ zs. take (length (x ∷ xs) + 2) (c ∷ zs)) e ∙ ap (λ n. take n ((c ∷ x ∷ xs) ++ rest)) long ∙ take-append-add (c ∷ x ∷ xs) rest 1 in
     (b ∷ c ∷ [], take 1 rest, ap (λ zs. b ∷ zs) whole)
 
-follower_says : (f : Follows) (b c : ℕ) (cs : List ℕ) → SaysFound b (c ∷ cs) (behind_dollar_by f c cs)
+follower_says : (f : Follows) (b c : ℕ) (cs : List ℕ) → SaysFound b (c ∷ cs) (after_dollar_by f c cs)
 follower_says Feed b c cs = tt
 follower_says Return b c cs = choice b (c ∷ cs) (begins_with 10 cs) _ _ tt tt
 follower_says Brace b c cs = named_says b c cs (take_while is_identifier_byte cs) (drop_while is_identifier_byte cs) (begins_with 125 (drop_while is_identifier_byte cs)) (run_and_rest is_identifier_byte cs)
@@ -57,7 +57,7 @@ follower_says NameByte b c cs =
     (b ∷ [], [], ap (λ zs. b ∷ c ∷ zs) (whole ∙ sym (append-nil name)))
 follower_says Nothing b c cs = tt
 
-dollar_says : (b : ℕ) (bs : List ℕ) → SaysFound b bs (behind_dollar bs)
+dollar_says : (b : ℕ) (bs : List ℕ) → SaysFound b bs (after_dollar bs)
 dollar_says b [] = tt
 dollar_says b (c ∷ cs) = follower_says (follows_of c) b c cs
 

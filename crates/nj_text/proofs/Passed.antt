@@ -43,9 +43,9 @@ blanks_over_spaces spot bytes xs ys e h =
     ∙ ap (drop_while is_blank) (cut-run spot xs ys (AllIn-weaker is_space is_ordinary_byte xs space_is_ordinary h))
     ∙ drop_while-append is_blank (plain_units spot xs) (units_within (along (length xs) spot) ys) (spaces_are_blanks spot xs h)
 
-pub no_space_behind : (bytes : List ℕ) → begins_with_space_byte (drop_while is_space bytes) ≡ false
-no_space_behind [] = refl
-no_space_behind (b ∷ bs) = by_test (is_space b) refl (no_space_behind bs)
+pub no_space_after : (bytes : List ℕ) → begins_with_space_byte (drop_while is_space bytes) ≡ false
+no_space_after [] = refl
+no_space_after (b ∷ bs) = by_test (is_space b) refl (no_space_after bs)
   where
     by_test : (t : Bool) → is_space b ≡ t → begins_with_space_byte (drop_while is_space bs) ≡ false → begins_with_space_byte (cond t (drop_while is_space bs) (b ∷ bs)) ≡ false
     by_test true e h = h

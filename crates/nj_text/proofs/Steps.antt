@@ -14,11 +14,11 @@ use Rattle.nj_text.specs.Lines.{Line, lines_of, with_units, line_spot}
 use Rattle.nj_text.specs.Scans.{along, units_within, BeginsBadly}
 use Rattle.nj_text.specs.Words.{is_blank, in_identifier, in_word, opens_word_meaning, next_fault, parts_of, PartText, WordText}
 use Rattle.nj_text.specs.Calls.{State, Inside, Reply, reply, failing, unless_fault, behind_blanks, bytes_of, some_bytes, ident_at, begins_word, word_here, word_at, value_at}
-use Rattle.nj_text.specs.Gathering.{gathered, behind_text, FailsText}
+use Rattle.nj_text.specs.Gathering.{gathered, after_text, FailsText}
 use Rattle.nj_text.specs.Standing.{first_line, other_lines, inside, lines_within, FailsStep}
 use Rattle.nj_text.proofs.Lists.{AllIn, AllIn-weaker, AllIn-take_while, take_while-append, take_while-cons_no, drop_while-append, drop_while-cons_no}
 use Rattle.nj_text.proofs.Cuts.{plain_units, cut-run, unit-ordinary}
-use Rattle.nj_text.proofs.Gathered.{not_ordinary, none_behind}
+use Rattle.nj_text.proofs.Gathered.{not_ordinary, none_after}
 use Rattle.nj_text.proofs.LineStarts.{cut_has_line, fails_if_no_byte}
 use Rattle.nj_text.proofs.Bridges.{passed_by, front_of, blanks_end, identifiers_end, words_end, next_fault_of_line, begins_word_of_line, spot_of_line, value_of_line, passed_has_line}
 use Rattle.nj_text.specs.Gathering.{NoneInRun}
@@ -110,7 +110,7 @@ pub identifier_here : (spot there : Spot) (bytes xs ys : List ℕ) → bytes ≡
     → ident_at (line spot bytes) (others spot bytes) ≡ reply (some_bytes xs) (inside (lines_within there ys))
 identifier_here spot there bytes xs ys whole run behind t f =
     let us = units_within spot bytes in
-    let parts = identifier_units spot bytes xs ys whole (subst (AllIn is_identifier_byte) (sym run) (AllIn-take_while is_identifier_byte bytes)) (subst (NoneInRun is_identifier_byte) (sym behind) (none_behind is_identifier_byte bytes)) in
+    let parts = identifier_units spot bytes xs ys whole (subst (AllIn is_identifier_byte) (sym run) (AllIn-take_while is_identifier_byte bytes)) (subst (NoneInRun is_identifier_byte) (sym behind) (none_after is_identifier_byte bytes)) in
     let front = front_of in_identifier identifiers_end us (cut_has_line Within 0 spot bytes) ∙ parts.0 in
     goes_on_here spot bytes (reply (some_bytes (bytes_of (take_while in_identifier (line spot bytes).units))) (Inside (with_units (drop_while in_identifier (line spot bytes).units) (line spot bytes)) (others spot bytes))) f
     ∙ ap (λ vs. reply (some_bytes (bytes_of vs)) (Inside (with_units (drop_while in_identifier (line spot bytes).units) (line spot bytes)) (others spot bytes))) front
@@ -146,14 +146,14 @@ pub no_word_here : (spot : Spot) (bytes : List ℕ) → None ≡ next_fault (uni
 no_word_here spot bytes f b =
     goes_on_here spot bytes (word_or_none spot bytes (begins_word (line spot bytes).units)) f ∙ ap (word_or_none spot bytes) (begins_here spot bytes ∙ b)
 
-pub word_fails_here : (spot : Spot) (bytes : List ℕ) (f : UnitFault) → None ≡ next_fault (units_within spot bytes) → begins_word (units_within spot bytes) ≡ true → next_fault (behind_text kind.Word (units_within spot bytes)) ≡ Some f
+pub word_fails_here : (spot : Spot) (bytes : List ℕ) (f : UnitFault) → None ≡ next_fault (units_within spot bytes) → begins_word (units_within spot bytes) ≡ true → next_fault (after_text kind.Word (units_within spot bytes)) ≡ Some f
     → word_at (line spot bytes) (others spot bytes) ≡ failing f
 word_fails_here spot bytes f n b e =
     goes_on_here spot bytes (word_or_none spot bytes (begins_word (line spot bytes).units)) n ∙ ap (word_or_none spot bytes) (begins_here spot bytes ∙ b)
     ∙ ap (λ o. unless_fault o (reply (Some (word_here (line spot bytes))) (Inside (with_units (drop_while in_word (line spot bytes).units) (line spot bytes)) (others spot bytes)))) (fault_behind_word spot bytes ∙ e)
 
 pub word_is_here : (spot : Spot) (bytes : List ℕ) (parts : List PartText) (there : Spot) (rest : List ℕ) → None ≡ next_fault (units_within spot bytes) → begins_word (units_within spot bytes) ≡ true
-    → next_fault (behind_text kind.Word (units_within spot bytes)) ≡ None → parts ≡ gathered kind.Word (units_within spot bytes) → units_within there rest ≡ behind_text kind.Word (units_within spot bytes)
+    → next_fault (after_text kind.Word (units_within spot bytes)) ≡ None → parts ≡ gathered kind.Word (units_within spot bytes) → units_within there rest ≡ after_text kind.Word (units_within spot bytes)
     → word_at (line spot bytes) (others spot bytes) ≡ reply (Some (record { spot = spot; parts = parts })) (inside (lines_within there rest))
 word_is_here spot bytes parts there rest n b e p r =
     let us = units_within spot bytes in
@@ -168,13 +168,13 @@ word_is_here spot bytes parts there rest n b e p r =
 
 -- ---- values
 
-pub value_fails_here : (spot : Spot) (bytes : List ℕ) (f : UnitFault) → next_fault (behind_text kind.Value (units_within spot bytes)) ≡ Some f → value_at (line spot bytes) (others spot bytes) ≡ failing f
+pub value_fails_here : (spot : Spot) (bytes : List ℕ) (f : UnitFault) → next_fault (after_text kind.Value (units_within spot bytes)) ≡ Some f → value_at (line spot bytes) (others spot bytes) ≡ failing f
 value_fails_here spot bytes f e =
     let v = value_of_line (units_within spot bytes) (cut_has_line Within 0 spot bytes) in
     ap (λ o. unless_fault o (reply (record { spot = line_spot (line spot bytes); parts = parts_of (line spot bytes).units }) (Inside (with_units [] (line spot bytes)) (others spot bytes)))) (v.fault ∙ e)
 
-pub value_is_here : (spot : Spot) (bytes : List ℕ) (parts : List PartText) (there : Spot) (rest : List ℕ) → next_fault (behind_text kind.Value (units_within spot bytes)) ≡ None → parts ≡ gathered kind.Value (units_within spot bytes)
-    → units_within there rest ≡ behind_text kind.Value (units_within spot bytes)
+pub value_is_here : (spot : Spot) (bytes : List ℕ) (parts : List PartText) (there : Spot) (rest : List ℕ) → next_fault (after_text kind.Value (units_within spot bytes)) ≡ None → parts ≡ gathered kind.Value (units_within spot bytes)
+    → units_within there rest ≡ after_text kind.Value (units_within spot bytes)
     → value_at (line spot bytes) (others spot bytes) ≡ reply (record { spot = spot; parts = parts }) (inside (lines_within there rest))
 value_is_here spot bytes parts there rest e p r =
     let us = units_within spot bytes in
@@ -203,11 +203,11 @@ identifier_fails spot bytes f e =
 pub word_fails_at_once : (spot : Spot) (bytes : List ℕ) (f : UnitFault) → Some f ≡ next_fault (units_within spot bytes) → word_at (line spot bytes) (others spot bytes) ≡ failing f
 word_fails_at_once spot bytes f e = fails_here spot bytes f (word_or_none spot bytes (begins_word (line spot bytes).units)) e
 
-pub word_fails_or_lacks : (spot : Spot) (bytes : List ℕ) (f : LexFault) → None ≡ next_fault (units_within spot bytes) → begins_word (units_within spot bytes) ≡ true → FailsText f (next_fault (behind_text kind.Word (units_within spot bytes)))
+pub word_fails_or_lacks : (spot : Spot) (bytes : List ℕ) (f : LexFault) → None ≡ next_fault (units_within spot bytes) → begins_word (units_within spot bytes) ≡ true → FailsText f (next_fault (after_text kind.Word (units_within spot bytes)))
     → FailsStep (word_at (line spot bytes) (others spot bytes)) f
 word_fails_or_lacks spot bytes (lex.Unit f) n b e = word_fails_here spot bytes f n b e
 word_fails_or_lacks spot bytes lex.OutOfMemory n b e = tt
 
-pub value_fails_or_lacks : (spot : Spot) (bytes : List ℕ) (f : LexFault) → FailsText f (next_fault (behind_text kind.Value (units_within spot bytes))) → FailsStep (value_at (line spot bytes) (others spot bytes)) f
+pub value_fails_or_lacks : (spot : Spot) (bytes : List ℕ) (f : LexFault) → FailsText f (next_fault (after_text kind.Value (units_within spot bytes))) → FailsStep (value_at (line spot bytes) (others spot bytes)) f
 value_fails_or_lacks spot bytes (lex.Unit f) e = value_fails_here spot bytes f e
 value_fails_or_lacks spot bytes lex.OutOfMemory e = tt

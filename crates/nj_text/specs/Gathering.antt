@@ -43,15 +43,15 @@ units_at c = units_within c.spot c.rest.now
 abbrev pub gathered : TextKind → List TextUnit → List PartText
 gathered kind us = parts_of (take_while (in_text kind) us)
 
-abbrev pub behind_text : TextKind → List TextUnit → List TextUnit
-behind_text kind us = drop_while (in_text kind) us
+abbrev pub after_text : TextKind → List TextUnit → List TextUnit
+after_text kind us = drop_while (in_text kind) us
 
 -- what comes next in a text
 abbrev pub PieceIs : TextKind → List TextUnit → Piece → Type 0
-PieceIs kind us (piece.Part p after) = (gathered kind us ≡ part_text p ∷ gathered kind (units_at after)) × (behind_text kind us ≡ behind_text kind (units_at after))
-PieceIs kind us (piece.Join after) = (gathered kind us ≡ gathered kind (units_at after)) × (behind_text kind us ≡ behind_text kind (units_at after))
-PieceIs kind us piece.End = (gathered kind us ≡ []) × (behind_text kind us ≡ us) × (next_fault us ≡ None)
-PieceIs kind us (piece.Bad f) = next_fault (behind_text kind us) ≡ Some f
+PieceIs kind us (piece.Part p after) = (gathered kind us ≡ part_text p ∷ gathered kind (units_at after)) × (after_text kind us ≡ after_text kind (units_at after))
+PieceIs kind us (piece.Join after) = (gathered kind us ≡ gathered kind (units_at after)) × (after_text kind us ≡ after_text kind (units_at after))
+PieceIs kind us piece.End = (gathered kind us ≡ []) × (after_text kind us ≡ us) × (next_fault us ≡ None)
+PieceIs kind us (piece.Bad f) = next_fault (after_text kind us) ≡ Some f
 
 -- what was skipped had bytes
 abbrev pub IsShorter : ℕ → Piece → Type 0
@@ -68,7 +68,7 @@ NoneInRun p (b ∷ bs) = p b ≡ false
 abbrev pub TakesRun : TextKind → (old new : List Part) → Cursor → Result Cursor LexFault → Type 0
 TakesRun kind old new c (Ok after) =
     (map part_text new ++ gathered kind (units_at after) ≡ map part_text old ++ gathered kind (units_at c))
-    × (behind_text kind (units_at after) ≡ behind_text kind (units_at c))
+    × (after_text kind (units_at after) ≡ after_text kind (units_at c))
     × NoneInRun (in_run (run_of kind)) after.rest.now
     × (length after.rest.now ≤ length c.rest.now)
 TakesRun kind old new c (Err f) = f ≡ lex.OutOfMemory
@@ -79,5 +79,5 @@ FailsText lex.OutOfMemory next = Unit {0}
 FailsText (lex.Unit f) next = next ≡ Some f
 
 abbrev pub Gathers : TextKind → List TextUnit → Result (SmallVec Part × Cursor) LexFault → Type 0
-Gathers kind us (Ok r) = (map part_text r.0.items ≡ gathered kind us) × (units_at r.1 ≡ behind_text kind us) × (next_fault (behind_text kind us) ≡ None)
-Gathers kind us (Err f) = FailsText f (next_fault (behind_text kind us))
+Gathers kind us (Ok r) = (map part_text r.0.items ≡ gathered kind us) × (units_at r.1 ≡ after_text kind us) × (next_fault (after_text kind us) ≡ None)
+Gathers kind us (Err f) = FailsText f (next_fault (after_text kind us))

@@ -28,8 +28,8 @@ abbrev pub before_dot : List ℕ → List ℕ
 before_dot text = take_while (λ b. not (is_dot b)) text
 
 -- what follows the first `.`; nothing if there is none
-abbrev pub behind_dot : List ℕ → List ℕ
-behind_dot text = drop 1 (drop_while (λ b. not (is_dot b)) text)
+abbrev pub after_dot : List ℕ → List ℕ
+after_dot text = drop 1 (drop_while (λ b. not (is_dot b)) text)
 
 -- a part of a version: the number at its front, 0 if there is none
 abbrev pub version_part : List ℕ → ℕ
@@ -37,4 +37,4 @@ version_part text = unwrap_or (leading_number_of text) 0
 
 -- major and minor: the parts before and after the first `.`
 abbrev pub version_pair_of : List ℕ → ℕ × ℕ
-version_pair_of text = (version_part (before_dot text), version_part (behind_dot text))
+version_pair_of text = (version_part (before_dot text), version_part (after_dot text))

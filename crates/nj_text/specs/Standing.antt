@@ -58,8 +58,8 @@ space_units spot [] = []
 space_units spot (b ∷ bs) = record { spot = spot; bytes = b ∷ []; means = Ordinary b } ∷ space_units (along 1 spot) bs
 
 -- how the first line begins, of which the leading spaces were skipped
-abbrev pub BegunBehindSpaces : Cursor → Begun → Type 0
-BegunBehindSpaces c begun =
+abbrev pub BegunAfterSpaces : Cursor → Begun → Type 0
+BegunAfterSpaces c begun =
     (spot : Spot) (b : ℕ) (bs : List ℕ) → AllByRecursion (λ x. x ≡ 32) (b ∷ bs) → BegunIs (lines_of (space_units spot (b ∷ bs) ++ cut AfterSpaces 0 c.spot c.rest.now)) begun
 
 -- whether the units begin with the end of a line

@@ -78,18 +78,18 @@ abbrev pub follows_of : ℕ → Follows
 follows_of b =
     if b == 10 then Feed else (if b == 13 then Return else (if b == 123 then Brace else (if is_escapable b then Itself else (if is_name_byte b then NameByte else Nothing))))
 
-abbrev pub behind_dollar_by : Follows → ℕ → List ℕ → Found
-behind_dollar_by Feed b bs = (Join, suc (spaces_in bs))
-behind_dollar_by Return b bs = if begins_with 10 bs then (Join, suc (suc (spaces_in (drop 1 bs)))) else (BadEscape, 0)
-behind_dollar_by Brace b bs = in_braces bs
-behind_dollar_by Itself b bs = (Escape b, 1)
-behind_dollar_by NameByte b bs = (Reference (b ∷ take_while is_name_byte bs), suc (length (take_while is_name_byte bs)))
-behind_dollar_by Nothing b bs = (BadEscape, 0)
+abbrev pub after_dollar_by : Follows → ℕ → List ℕ → Found
+after_dollar_by Feed b bs = (Join, suc (spaces_in bs))
+after_dollar_by Return b bs = if begins_with 10 bs then (Join, suc (suc (spaces_in (drop 1 bs)))) else (BadEscape, 0)
+after_dollar_by Brace b bs = in_braces bs
+after_dollar_by Itself b bs = (Escape b, 1)
+after_dollar_by NameByte b bs = (Reference (b ∷ take_while is_name_byte bs), suc (length (take_while is_name_byte bs)))
+after_dollar_by Nothing b bs = (BadEscape, 0)
 
 -- the unit of a `$` and what follows it
-abbrev pub behind_dollar : List ℕ → Found
-behind_dollar [] = (BadEscape, 0)
-behind_dollar (b ∷ bs) = behind_dollar_by (follows_of b) b bs
+abbrev pub after_dollar : List ℕ → Found
+after_dollar [] = (BadEscape, 0)
+after_dollar (b ∷ bs) = after_dollar_by (follows_of b) b bs
 
 -- the bytes that begin a unit of their own kind; any other is ordinary
 pub data Class : Type 0 where
@@ -103,7 +103,7 @@ abbrev pub class_of : ℕ → Class
 class_of b = if b == 36 then Dollar else (if b == 10 then LineFeed else (if b == 13 then CarriageReturn else (if b == 0 then Nul else Plain)))
 
 abbrev pub unit_by : Class → ℕ → List ℕ → Found
-unit_by Dollar b bs = behind_dollar bs
+unit_by Dollar b bs = after_dollar bs
 unit_by LineFeed b bs = (LineEnd, 0)
 unit_by CarriageReturn b bs = if begins_with 10 bs then (LineEnd, 1) else (BadByte, 0)
 unit_by Nul b bs = (BadByte, 0)

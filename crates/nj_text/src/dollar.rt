@@ -2,7 +2,7 @@
 
 ghost use Rattle.std.specs.Prelude.{◌≡◌, ◌≤◌, ◌+◌, ℕ, false, ◌∷◌, length};
 ghost use Rattle.nj_text.specs.Bytes.{is_line_feed};
-ghost use Rattle.nj_text.specs.Units.{behind_dollar, in_braces};
+ghost use Rattle.nj_text.specs.Units.{after_dollar, in_braces};
 ghost use Rattle.nj_text.specs.Scans.{line_end_length, dollar_found, LandsIn};
 
 use crate::runs::{Run, first_byte, run_length, split_run};
@@ -45,8 +45,8 @@ fn braced(bytes: &[u8]) -> Dollar<'_>
 }
 
 /// What the bytes after a `$` make of it.
-pub fn behind_dollar(bytes: &[u8]) -> Dollar<'_>
-    ensures found { dollar_found result ≡ behind_dollar bytes.now }
+pub fn after_dollar(bytes: &[u8]) -> Dollar<'_>
+    ensures found { dollar_found result ≡ after_dollar bytes.now }
     ensures lands { LandsIn result bytes.now }
     ensures within { (dollar_found result).1 ≤ length bytes.now }
 {

@@ -3,7 +3,7 @@
 ghost use Rattle.std.specs.Prelude.{◌≡◌, ◌≤◌, ◌<◌, ◌+◌, ◌∷◌, length};
 ghost use Rattle.nj_text.specs.Scans.{NextIs, next_length, HasLength};
 
-use crate::dollar::{Dollar, behind_dollar, line_end_length};
+use crate::dollar::{Dollar, after_dollar, line_end_length};
 use crate::runs::{first_byte, is_ordinary};
 
 /// The next unit of a line, and how many bytes it takes where that is not plain.
@@ -33,7 +33,7 @@ fn dollar_unit(bytes: &[u8]) -> Next<'_>
     ensures within { next_length result ≤ length bytes.now + 1 }
     ensures joined { HasLength result }
 {
-    match behind_dollar(bytes) {
+    match after_dollar(bytes) {
         Dollar::Join(end, spaces) => Next::Join(1 + end + spaces, spaces),
         Dollar::Escape(_) => Next::Escape(&bytes[..1]),
         Dollar::Reference(name, length) => Next::Reference(name, 1 + length),

@@ -2,7 +2,7 @@
 
 ghost use Rattle.std.specs.Prelude.{◌≡◌, ◌+◌, ◌-◌, ◌*◌, true, min};
 ghost use Rattle.nj_text.specs.Bytes.{is_digit};
-ghost use Rattle.nj_text.specs.Numbers.{greatest, leading_number_of, behind_dot, version_pair_of};
+ghost use Rattle.nj_text.specs.Numbers.{greatest, leading_number_of, after_dot, version_pair_of};
 
 /// The number that the digits at the front of the text write, in base ten; `None` where the text does not begin with a
 /// digit. A number above 18446744073709551615 is reported as that one.
@@ -26,7 +26,7 @@ pub fn version_of(text: &[u8]) -> (u64, u64)
     ensures { result ≡ version_pair_of text.now }
 {
     let major = leading_number(text).unwrap_or(0);
-    let minor = leading_number(behind_dot(text)).unwrap_or(0);
+    let minor = leading_number(after_dot(text)).unwrap_or(0);
     (major, minor)
 }
 
@@ -47,8 +47,8 @@ fn with_digit(number: u64, digit: u8) -> u64
 }
 
 /// What follows the first `.`; nothing if there is none.
-fn behind_dot(text: &[u8]) -> &[u8]
-    ensures { result.now ≡ behind_dot text.now }
+fn after_dot(text: &[u8]) -> &[u8]
+    ensures { result.now ≡ after_dot text.now }
 {
     let mut rest = text;
     'bytes: while let [byte, behind @ ..] = rest {

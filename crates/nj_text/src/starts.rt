@@ -4,7 +4,7 @@ ghost use Rattle.std.specs.Prelude.{◌≡◌, ◌<◌, false, length, MatchOpti
 ghost use Rattle.nj_text.specs.Units.{opens_comment};
 ghost use Rattle.nj_text.specs.Scans.{begins_with_space_byte};
 ghost use Rattle.nj_text.specs.Calls.{without_comments};
-ghost use Rattle.nj_text.specs.Standing.{lines_at, BegunIs, BegunBehindSpaces};
+ghost use Rattle.nj_text.specs.Standing.{lines_at, BegunIs, BegunAfterSpaces};
 
 use crate::cursor::Cursor;
 use crate::fault::UnitFault;
@@ -70,9 +70,9 @@ fn begin_at_once(cursor: Cursor<'_>) -> Begun<'_>
 }
 
 /// How a line begins, after its leading spaces.
-fn begin_behind_spaces(cursor: Cursor<'_>) -> Begun<'_>
+fn begin_after_spaces(cursor: Cursor<'_>) -> Begun<'_>
     requires { begins_with_space_byte cursor.rest.now ≡ false }
-    ensures { BegunBehindSpaces cursor.entry result }
+    ensures { BegunAfterSpaces cursor.entry result }
 {
     match next_unit(cursor.rest) {
         Next::End => Begun::As(LineStart::Blank, Stand::Between, cursor),
@@ -103,7 +103,7 @@ fn begin_text_line(cursor: Cursor<'_>) -> Begun<'_>
     if spaces.is_empty() {
         return begin_at_once(cursor);
     }
-    begin_behind_spaces(behind)
+    begin_after_spaces(behind)
 }
 
 /// How the next line begins that is no comment.

@@ -1,12 +1,12 @@
 use Rattle.std.proofs.Common.{◌≡◌, ◌++◌, length, map}
-use Rattle.nj_text.specs.Gathering.{gathered, behind_text, units_at}
+use Rattle.nj_text.specs.Gathering.{gathered, after_text, units_at}
 use Rattle.nj_text.specs.Words.{part_text}
 use Rattle.nj_text.proofs.parts.gather.Given as goal
 
 abbrev pub invariant-pieces : goal.invariant-pieces
 invariant-pieces l =
     (map part_text l.parts.items ++ gathered l.kind (units_at l.cursor) ≡ gathered l.kind (units_at l.fn.start))
-    × (behind_text l.kind (units_at l.cursor) ≡ behind_text l.kind (units_at l.fn.start))
+    × (after_text l.kind (units_at l.cursor) ≡ after_text l.kind (units_at l.fn.start))
 
 abbrev pub decreases-pieces : goal.decreases-pieces
 decreases-pieces l = length l.cursor.rest.now

@@ -4,7 +4,7 @@ use Rattle.nj_text.specs.Units.{Ordinary, Escape, Reference, Join, BadByte, BadE
 use Rattle.nj_text.specs.Scans.{units_within, along, on_next_line}
 use Rattle.nj_text.specs.Calls.{Between, reply}
 use Rattle.nj_text.proofs.LineStarts.{behind_end, behind_line_end, behind_tab, behind_plain, behind_badly, not_nine, lines_moved, plain_ordinary}
-use Rattle.nj_text.proofs.starts.begin_behind_spaces.Goals as goal
+use Rattle.nj_text.proofs.starts.begin_after_spaces.Goals as goal
 
 pub returns-in-End : goal.returns-in-End
 returns-in-End c = λ spot b bs h. behind_end spot b bs c.args.cursor.spot c.args.cursor.rest.now h c.in-End.ensures.unit

@@ -1,6 +1,6 @@
 use Rattle.std.proofs.Common.{length, refl, sym, ◌∙◌}
 use Rattle.nj_text.proofs.Cuts.{feed_lands, return_lands, lands, names_no_feed, name_found}
-use Rattle.nj_text.proofs.dollar.behind_dollar.Goals as goal
+use Rattle.nj_text.proofs.dollar.after_dollar.Goals as goal
 
 pub returns-in-10-clause-lands : goal.returns-in-10-clause-lands
 returns-in-10-clause-lands c = λ spot.
