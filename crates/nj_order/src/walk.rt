@@ -86,7 +86,7 @@ impl Walk {
         Ok(Walk {
             stages,
             next,
-            path: Vec::new(alloc),
+            path: Vec::with_capacity(alloc, inputs.edge_count())?,
             order: Vec::with_capacity(alloc, inputs.edge_count())?,
             meets_open: false,
         })
