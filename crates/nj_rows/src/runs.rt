@@ -78,8 +78,8 @@ fn statuses_have_codes(rt: HostRuntime) {
     }
 }
 
-/// The run tells these commands and no fault.
-fn assert_tells(
+/// The run writes these commands and reports nothing.
+fn assert_writes(
     rt: &(impl Abort + AllocGlobal),
     text: &[u8],
     words: &[&str],
@@ -92,7 +92,7 @@ fn assert_tells(
     Ok(())
 }
 
-/// The run tells this fault and no command.
+/// The run reports this fault and writes nothing.
 fn assert_faulty(
     rt: &(impl Abort + AllocGlobal),
     text: &[u8],
@@ -107,42 +107,42 @@ fn assert_faulty(
 }
 
 #[test]
-fn tells_the_commands_of_an_object(rt: HostRuntime) -> Result<(), Fail> {
+fn writes_the_commands_of_an_object(rt: HostRuntime) -> Result<(), Fail> {
     let text = b"rule cc\n  command = cc -c $in -o $out\nbuild a.o: cc a.c\n";
     let line = b"cc -c a.c -o a.o\n";
-    assert_tells(&rt, text, &["-t", "commands", "a.o"], line)?;
-    assert_tells(&rt, text, &["-t", "commands", "a.c"], b"")?;
-    assert_tells(&rt, text, &["-t", "commands"], line)?;
-    assert_tells(&rt, text, &[], line)?;
-    assert_tells(&rt, b"", &[], b"")
+    assert_writes(&rt, text, &["-t", "commands", "a.o"], line)?;
+    assert_writes(&rt, text, &["-t", "commands", "a.c"], b"")?;
+    assert_writes(&rt, text, &["-t", "commands"], line)?;
+    assert_writes(&rt, text, &[], line)?;
+    assert_writes(&rt, b"", &[], b"")
 }
 
 #[test]
-fn tells_the_commands_of_a_diamond(rt: HostRuntime) -> Result<(), Fail> {
-    assert_tells(&rt, DIAMOND, &["-t", "commands", "d"], ALL)?;
-    assert_tells(&rt, DIAMOND, &["-t", "commands"], ALL)?;
-    assert_tells(&rt, DIAMOND, &["-t", "commands", "d", "d"], ALL)?;
-    assert_tells(&rt, DIAMOND, &[], ALL)?;
+fn writes_the_commands_of_a_diamond(rt: HostRuntime) -> Result<(), Fail> {
+    assert_writes(&rt, DIAMOND, &["-t", "commands", "d"], ALL)?;
+    assert_writes(&rt, DIAMOND, &["-t", "commands"], ALL)?;
+    assert_writes(&rt, DIAMOND, &["-t", "commands", "d", "d"], ALL)?;
+    assert_writes(&rt, DIAMOND, &[], ALL)?;
     let words = ["-t", "commands", "b2", "b1"];
-    assert_tells(&rt, DIAMOND, &words, b"mk a\nmk b2\nmk b1\n")
+    assert_writes(&rt, DIAMOND, &words, b"mk a\nmk b2\nmk b1\n")
 }
 
 #[test]
-fn tells_a_repeated_command_twice(rt: HostRuntime) -> Result<(), Fail> {
+fn writes_a_repeated_command_twice(rt: HostRuntime) -> Result<(), Fail> {
     let text = b"rule r\n  command = x\nbuild a: r\nbuild b: r\n";
-    assert_tells(&rt, text, &["-t", "commands"], b"x\nx\n")?;
-    assert_tells(&rt, text, &["-t", "commands", "b", "a"], b"x\nx\n")
+    assert_writes(&rt, text, &["-t", "commands"], b"x\nx\n")?;
+    assert_writes(&rt, text, &["-t", "commands", "b", "a"], b"x\nx\n")
 }
 
 #[test]
-fn tells_paths_in_commands(rt: HostRuntime) -> Result<(), Fail> {
+fn writes_paths_in_commands(rt: HostRuntime) -> Result<(), Fail> {
     let text =
         b"# one\nrule cp\n  command = cp $in -- ${out} $$\n\nbuild x y: cp s t\nbuild z: cp y\n";
     let first = b"cp s t -- x y $\n";
     let both = b"cp s t -- x y $\ncp y -- z $\n";
-    assert_tells(&rt, text, &[], both)?;
-    assert_tells(&rt, text, &["-t", "commands", "x"], first)?;
-    assert_tells(&rt, text, &["-t", "commands", "z", "t"], both)
+    assert_writes(&rt, text, &[], both)?;
+    assert_writes(&rt, text, &["-t", "commands", "x"], first)?;
+    assert_writes(&rt, text, &["-t", "commands", "z", "t"], both)
 }
 
 #[test]
@@ -180,7 +180,7 @@ fn refuses_words(rt: HostRuntime) -> Result<(), Fail> {
 }
 
 #[test]
-fn tells_faults_of_targets(rt: HostRuntime) -> Result<(), Fail> {
+fn reports_faults_of_targets(rt: HostRuntime) -> Result<(), Fail> {
     let unknown = b"ninja-explain: unknown target 'q'\n";
     let unread = b"ninja-explain: not read yet\n";
     assert_faulty(&rt, DIAMOND, &["-t", "commands", "q"], unknown)?;
@@ -202,7 +202,7 @@ fn tells_faults_of_targets(rt: HostRuntime) -> Result<(), Fail> {
 }
 
 #[test]
-fn tells_faults_of_the_main_file(rt: HostRuntime) -> Result<(), Fail> {
+fn reports_faults_of_the_main_file(rt: HostRuntime) -> Result<(), Fail> {
     let mut files = MemoryFiles::new(rt.alloc());
     files.add("Build.ninja", DIAMOND)?;
     let ran = run(rt.alloc(), &mut files, &[], NO_LIMITS)?;
