@@ -47,9 +47,9 @@ impl LateValue {
     {
         let mut value = LateValue {
             text: Vec::with_capacity(alloc, written_len(word))?,
-            parts: Vec::with_capacity(alloc, word.parts.len())?,
+            parts: Vec::with_capacity(alloc, word.parts.as_slice().len())?,
         };
-        'parts: for part in word.parts.iter() {
+        'parts: for part in word.parts.as_slice() {
             value.push(part)?;
         }
         Ok(value)
@@ -119,7 +119,7 @@ impl LateValue {
 /// The number of bytes of the word's parts, a reference counted as long as its name.
 pub(crate) fn written_len(word: &Word<'_>) -> usize {
     let mut len: usize = 0;
-    'parts: for part in word.parts.iter() {
+    'parts: for part in word.parts.as_slice() {
         let (Part::Bytes(bytes) | Part::Name(bytes)) = part;
         len = len.saturating_add(bytes.len());
     }

@@ -191,7 +191,7 @@ impl Scopes {
             ≡ expanded (value_in (bound_at self.now) around) (word_text word.now).parts) }
     {
         let mut text = Vec::with_capacity(alloc, written_len(word))?;
-        'parts: for part in word.parts.iter() {
+        'parts: for part in word.parts.as_slice() {
             match part {
                 Part::Bytes(bytes) => text.extend_from_slice(bytes)?,
                 Part::Name(name) => text.extend_from_slice(self.value(scope, name))?,
