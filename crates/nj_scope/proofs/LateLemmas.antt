@@ -22,7 +22,7 @@ range-front xs more s e h k =
     ap (take (e - s)) (drop-append-le s xs more (le_trans h k))
     ∙ take-append-le (e - s) (drop s xs) more (subst (λ n. e - s ≤ n) (sym (length-drop s xs)) (sub_smaller e (length xs) s k))
 
--- the range of what is behind it
+-- the range of what follows
 range-back : {X : Type 0} (xs ys : List X) → slice_range (xs ++ ys) (length xs) (length (xs ++ ys)) ≡ ys
 range-back xs ys =
     ap (take (length (xs ++ ys) - length xs)) (drop-append_seam xs ys)

@@ -14,7 +14,7 @@ value_of_line : (o : Option RuleLine) → option_map (λ l. l.value) (option_map
 value_of_line None = refl
 value_of_line (Some l) = refl
 
--- the value that the last line of a key gives
+-- the value of the last line of a key
 pub given-held : (lines : List RuleLine) (key : List ℕ) (r : Option RuleLine) → r ≡ find (λ l. bytes_eq key l.key.items) (reverse lines) → option_map (λ l. l.value) r ≡ given (map line_held lines) key
 given-held lines key r is =
     ap (option_map (λ l. l.value)) is ∙ sym (value_of_line (find (λ l. bytes_eq key l.key.items) (reverse lines)))

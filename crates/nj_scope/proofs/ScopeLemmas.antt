@@ -50,7 +50,7 @@ past : {X : Type 0} (xs : List X) → slice_get xs (length xs) ≡ None
 past [] = refl
 past (x ∷ xs) = past xs
 
--- what a comparison of numbers tells
+-- what a comparison of numbers means
 abbrev Told : ℕ → ℕ → Type 0
 Told n m = ((nat_eq n m ≡ true) × (n ≡ m)) ⊎ ((nat_eq n m ≡ false) × (n ≢ m))
 
@@ -149,7 +149,7 @@ module _ {V X : Type 0} (g : V → X) where
       by true same differ rest = ap (λ q. cond (bytes_eq x q) (Some (g v)) (lookup (bytes_eq x) (entries_text es))) (sym (same refl)) ∙ taken (bytes_eq x k.items) (bytes_eq x e.0.items) (ap (bytes_eq x) (same refl))
       by false same differ rest = ap (cond (bytes_eq x e.0.items) (Some (g e.1))) rest ∙ among (bytes_eq x k.items) (bytes_eq x e.0.items) (λ p q. true≢false (sym (differ (sym ((bytes_eq-Decides x k.items).0 p) ∙ (bytes_eq-Decides x e.0.items).0 q)))) (lookup (bytes_eq x) (entries_text es))
 
-  -- another value in the place of the one that is there
+  -- another value in place of the one that is there
   pub lookup-set : (es : List (Vec ℕ × V)) (name : List ℕ) (v : V) (x : List ℕ) → is_some (lookup (λ k. bytes_eq name k.items) es) ≡ true
       → lookup (bytes_eq x) (entries_text (set_value (λ k. bytes_eq name k.items) es v)) ≡ cond (bytes_eq x name) (Some (g v)) (lookup (bytes_eq x) (entries_text es))
   lookup-set [] name v x there = absurd (true≢false (sym there))
@@ -199,7 +199,7 @@ module _ (items : List Scope) (i : ℕ) (s t : Scope) (inside : i < length (map 
   pub at_scope-text : {X : Type 0} (f : ScopeText → Option X) → at_scope f (map scope_text items) i ≡ f (scope_text s)
   at_scope-text f = ap (option_and_then f) here-text
 
-  -- another scope in the place of this one
+  -- another scope in place of this one
   pub earlier-set_text : t.parent ≡ s.parent → ParentsAreEarlier (map scope_text items) → ParentsAreEarlier (map scope_text (slice_set items i t))
   earlier-set_text within earlier =
       subst ParentsAreEarlier (sym (map-set scope_text items i t)) (earlier-set (map scope_text items) i (scope_text s) (scope_text t) here-text within earlier)

@@ -25,7 +25,7 @@ left-falls n None earlier = zero-lt-suc n
 left-falls n (Some p) earlier = suc-lt_of_lt-pred {n = p} {m = suc n} earlier
 
 module _ {X : Type 0} where
-  -- what is still to be looked through gives what all of it gives
+  -- a look-up in the scopes that are left finds what a look-up in all of them finds
   abbrev pub LooksFrom : (own : ℕ → Option X) → List ScopeText → (found : Option X) → Option ℕ → Type 0
   LooksFrom own scopes found None = found ≡ None
   LooksFrom own scopes found (Some n) = (around : List ℕ) × IsScope (parent_at scopes) n around × (found ≡ nearest own around)

@@ -20,6 +20,6 @@ pub record Memory : Type 0 where
 abbrev pub bytes_added : List Added → List ℕ → Option (List ℕ)
 bytes_added added name = option_map (λ a. a.bytes) (find (λ a. bytes_eq name a.name) (reverse added))
 
--- it tells all readings, and says what it would answer
+-- it reports all readings, and says what it would answer
 abbrev pub memory_state : Memory → SourceState
 memory_state m = record { readings = Some m.readings; failures = m.failures; files = λ path. Some (bytes_added m.added path) }

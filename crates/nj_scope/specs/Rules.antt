@@ -34,6 +34,6 @@ rules_in rules scope = filter (λ r. scope == r.scope) rules
 abbrev pub rule_names : List RuleText → (scope : ℕ) → List (List ℕ)
 rule_names rules scope = map (λ r. r.name) (rules_in rules scope)
 
--- the value that the last line of this key gives
+-- the value of the last line of this key
 abbrev pub given : List RuleLineText → (key : List ℕ) → Option (List PartText)
 given lines key = option_map (λ l. l.value) (find (λ l. bytes_eq key l.key) (reverse lines))

@@ -1,4 +1,4 @@
--- What can be told of a source of files, and what a reading does to it.
+-- The state of a source of files, and what a reading does to it.
 use Rattle.std.specs.Prelude.{◌≡◌, ℕ, ◌-◌, ◌^◌, ◌<◌, ◌≤◌, Option, option_map, List, [], ◌∷◌, ◌++◌, IfSome, Result, Ok, Err}
 use Rattle.std.specs.Global.{Vec}
 use Rattle.std.specs.List.{AllByRecursion}
@@ -6,9 +6,9 @@ use Rattle.nj_scope.specs.Readings.{Reading}
 use Rattle.nj_scope.specs.declared.source.SourceFault.{SourceFault}
 use Rattle.nj_scope.specs.declared.source.SourceFault.TheVariants.{Io, OutOfMemory}
 
--- what can be told of a source
+-- the state of a source, as far as it can be known
 pub record SourceState : Type 0 where
-  -- the readings so far, of a source that tells them
+  -- the readings so far, if the source reports them
   pub readings : Option (List Reading)
   -- how often a reading has failed
   pub failures : ℕ
@@ -19,7 +19,8 @@ pub record SourceState : Type 0 where
 abbrev pub IsAsSaid : SourceState → Reading → Type 0
 IsAsSaid source r = IfSome (source.files r.path) (λ said. r.bytes ≡ said)
 
--- These were read of the source: it tells just that, it found what it said, and it goes on saying the same of its files.
+-- These were read of the source: it reports just them after those of before, it found what it said that it would, and it says
+-- the same of its files as before.
 pub record HasRead (before after : SourceState) (readings : List Reading) : Type 0 where
   pub told : after.readings ≡ option_map (λ rs. rs ++ readings) before.readings
   pub as_said : AllByRecursion (IsAsSaid before) readings

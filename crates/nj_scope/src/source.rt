@@ -53,7 +53,7 @@ impl<T: Drop> From<AllocFailed<T>> for SourceFault {
 pub trait FileSource {
     ghost use Rattle.nj_scope.specs.Sources.{SourceState, ReadsPath};
 
-    // What can be told of the source.
+    // The state of the source, as far as it can be known.
     ghost state: { Self → SourceState };
 
     /// The bytes of the file at `path`, or `None` if no file is there.
