@@ -18,7 +18,7 @@ use Rattle.nj_manifest.specs.declared.fault.ParseFault.TheVariants as fault
 use Rattle.nj_manifest.specs.Faults.{Fault, Bad}
 use Rattle.nj_manifest.specs.LineSteps.{Step, ◌>>=◌}
 use Rattle.nj_manifest.specs.Parsers.{Fails}
-use Rattle.nj_manifest.specs.Statements.{LineText, line_next, lines_from, Parsed, or_last, no_lines, without_spaces, block_by, block}
+use Rattle.nj_manifest.specs.Statements.{LineText, line_next, lines_from, Parse, or_last, no_lines, without_spaces, block_by, block}
 use Rattle.nj_manifest.specs.ParserContracts.{IsBetweenStatements, ParsesFrom}
 use Rattle.nj_manifest.proofs.Framing.{line-inside}
 
@@ -47,19 +47,19 @@ weight-behind l ls = by_last l.is_last refl
 -- ---- the start of a line
 
 -- The lexer stands at the first line of the block that is left.
-abbrev pub BeginsLine : Keys → ℕ → Parsed (List LineText) → State → Type 0
+abbrev pub BeginsLine : Keys → ℕ → Parse (List LineText) → State → Type 0
 BeginsLine allowed limit whole s =
     (l : Line) × (ls : List Line) × (s ≡ Inside (without_spaces l) ls) × (whole ≡ block_by allowed IndentedLine l ls (block allowed ls)) × (lines_weight ls < limit)
 
 -- What the start of a line says of the block, and where the lexer stands then. The limit is the weight of the lines
 -- that were left.
-abbrev pub Begins : Keys → (limit : ℕ) → Parsed (List LineText) → Result LineStart UnitFault → State → Type 0
+abbrev pub Begins : Keys → (limit : ℕ) → Parse (List LineText) → Result LineStart UnitFault → State → Type 0
 Begins allowed limit whole (Ok start.Indented) s = BeginsLine allowed limit whole s
 Begins allowed limit whole (Ok start.Middle) s = ⊥
 Begins allowed limit whole (Ok other) s = (whole ≡ no_lines (lines_from s)) × IsBetweenStatements s
 Begins allowed limit whole (Err f) s = whole ≡ Err (Bad f)
 
-abbrev BeginsAs : Keys → ℕ → Parsed (List LineText) → calls.Reply LineStart → Type 0
+abbrev BeginsAs : Keys → ℕ → Parse (List LineText) → calls.Reply LineStart → Type 0
 BeginsAs allowed limit whole r = Begins allowed limit whole r.answer r.after
 
 behind-last : (l : Line) (ls : List Line) → l.is_last ≡ true → lines_behind l ls ≡ with_units [] l ∷ ls
@@ -99,7 +99,7 @@ begun-kind allowed limit IndentedLine l ls e h g = let w = indented-weight l e i
 begun-kind allowed limit PlainLine l ls e h g = (refl, e)
 
 -- a comment says nothing
-block-comment : (allowed : Keys) (k : Kind) (l : Line) (ls : List Line) (others : Parsed (List LineText)) → is_comment k ≡ true → block_by allowed k l ls others ≡ or_last l (no_lines (lines_behind l (without_comments ls))) others
+block-comment : (allowed : Keys) (k : Kind) (l : Line) (ls : List Line) (others : Parse (List LineText)) → is_comment k ≡ true → block_by allowed k l ls others ≡ or_last l (no_lines (lines_behind l (without_comments ls))) others
 block-comment allowed CommentLine l ls others h = refl
 block-comment allowed (TabLine tab) l ls others h = absurd cc
 block-comment allowed BlankLine l ls others h = absurd cc
@@ -120,7 +120,7 @@ begun-begins allowed limit (l ∷ ls) h = by_comment (is_comment (kind_of l)) re
         → BeginsAs allowed limit (block_by allowed (kind_of l) l ls (block allowed ls)) (begun (cond t (lines_behind l (without_comments ls)) (l ∷ ls)))
     by_comment false e rest = begun-kind allowed limit (kind_of l) l ls refl e h
     by_comment true e rest =
-        subst (λ (whole : Parsed (List LineText)). BeginsAs allowed limit whole (begun (lines_behind l (without_comments ls)))) (sym (block-comment allowed (kind_of l) l ls (block allowed ls) e)) (by_last l.is_last refl rest)
+        subst (λ (whole : Parse (List LineText)). BeginsAs allowed limit whole (begun (lines_behind l (without_comments ls)))) (sym (block-comment allowed (kind_of l) l ls (block allowed ls) e)) (by_last l.is_last refl rest)
 
 -- what the lexer answers at the start of a line
 start-begins : (allowed : Keys) (ls : List Line) (answer : Result LineStart UnitFault) (s : State) → ((start_line_of (Between ls)).answer ≡ answer) × (s ≡ (start_line_of (Between ls)).after) → Begins allowed (lines_weight ls) (block allowed ls) answer s
@@ -139,7 +139,7 @@ block-behind allowed l ls = by_last l.is_last refl
 -- ---- the turns of the loop
 
 -- what is read before is put in front
-abbrev pub in_front : List LineText → Parsed (List LineText) → Parsed (List LineText)
+abbrev pub in_front : List LineText → Parse (List LineText) → Parse (List LineText)
 in_front front others = others >>= λ o. Ok (front ++ o.0, o.1)
 
 -- What was read in front of what is still to be read is the whole.
@@ -150,7 +150,7 @@ StillReads allowed front other now = Unit {0}
 pub still-begins : (allowed : Keys) (before : State) → StillReads allowed [] before before
 still-begins allowed (Between ls) = (ls, refl, nothing-in_front (block allowed ls))
   where
-    nothing-in_front : (others : Parsed (List LineText)) → in_front [] others ≡ others
+    nothing-in_front : (others : Parse (List LineText)) → in_front [] others ≡ others
     nothing-in_front (Ok o) = refl
     nothing-in_front (Err f) = refl
 still-begins allowed (Inside l ls) = tt
@@ -186,16 +186,16 @@ lines_left-line allowed s middle line after h e =
     let behind = weight-behind b.2.0 b.2.1 in
     omega arith
 
-in_front-more : (front : List LineText) (line : LineText) (after : State) (l : Line) (last others : Parsed (List LineText)) (x : Step LineText) → x ≡ Ok (line, after)
+in_front-more : (front : List LineText) (line : LineText) (after : State) (l : Line) (last others : Parse (List LineText)) (x : Step LineText) → x ≡ Ok (line, after)
     → in_front front (x >>= λ line. (or_last l last others >>= λ more. Ok (line.0 ∷ more.0, more.1))) ≡ in_front (front ++ line ∷ []) (or_last l last others)
 in_front-more front line after l last others x h = rw h (with_more (or_last l last others))
   where
-    with_more : (more : Parsed (List LineText)) → in_front front (more >>= λ more. Ok (line ∷ more.0, more.1)) ≡ in_front (front ++ line ∷ []) more
+    with_more : (more : Parse (List LineText)) → in_front front (more >>= λ more. Ok (line ∷ more.0, more.1)) ≡ in_front (front ++ line ∷ []) more
     with_more (Err f) = refl
     with_more (Ok o) = ap (λ (x : List LineText). Ok (x, o.1)) (sym (append_assoc front (line ∷ []) o.0))
 
 -- the block behind a line
-behind-turn : (allowed : Keys) (front : List LineText) (l : Line) (ms : List Line) (middle : State) (line : LineText) (after : State) (left whole : Parsed (List LineText)) → middle ≡ Inside (without_spaces l) ms
+behind-turn : (allowed : Keys) (front : List LineText) (l : Line) (ms : List Line) (middle : State) (line : LineText) (after : State) (left whole : Parse (List LineText)) → middle ≡ Inside (without_spaces l) ms
     → left ≡ block_by allowed IndentedLine l ms (block allowed ms) → in_front front left ≡ whole → line_next allowed middle ≡ Ok (line, after) → in_front (front ++ line ∷ []) (block allowed (lines_behind l ms)) ≡ whole
 behind-turn allowed front l ms middle line after left whole i b w e =
     let more = in_front-more front line after l (no_lines (lines_behind l ms)) (block allowed ms) (line_next allowed (Inside (without_spaces l) ms)) (ap (line_next allowed) (sym i) ∙ e) in
@@ -210,7 +210,7 @@ block-turn allowed front (Inside l ls) s middle line after still h e = tt
 block-turn allowed front (Failed f) s middle line after still h e = tt
 
 -- a line of another kind ends the block
-ends-block : (allowed : Keys) (limit : ℕ) (whole : Parsed (List LineText)) (x : LineStart) (s : State) → (x ≡ start.Indented → ⊥) → Begins allowed limit whole (Ok x) s → (whole ≡ no_lines (lines_from s)) × IsBetweenStatements s
+ends-block : (allowed : Keys) (limit : ℕ) (whole : Parse (List LineText)) (x : LineStart) (s : State) → (x ≡ start.Indented → ⊥) → Begins allowed limit whole (Ok x) s → (whole ≡ no_lines (lines_from s)) × IsBetweenStatements s
 ends-block allowed limit whole start.Indented s other h = absurd (other refl)
 ends-block allowed limit whole start.Middle s other h = absurd h
 ends-block allowed limit whole start.End s other h = h
@@ -237,11 +237,11 @@ fails-so (fault.UnknownKey spot key) x y so h = so _ h
 fails-so (fault.MissingDepth spot) x y so h = so _ h
 
 -- a whole that fails, as it is answered
-abbrev pub FailsFrom : State → (List Line → Parsed (List LineText)) → ParseFault → Type 0
+abbrev pub FailsFrom : State → (List Line → Parse (List LineText)) → ParseFault → Type 0
 FailsFrom (Between ls) reading f = Fails f (reading ls)
 FailsFrom other reading f = Unit {0}
 
-pub fails-from : {X : Type 0} (view : X → List LineText) (before after : State) (reading : List Line → Parsed (List LineText)) (r : Result X ParseFault) (f : ParseFault) → IsErr r × IsErrAnd r (λ e. e ≡ f) → FailsFrom before reading f
+pub fails-from : {X : Type 0} (view : X → List LineText) (before after : State) (reading : List Line → Parse (List LineText)) (r : Result X ParseFault) (f : ParseFault) → IsErr r × IsErrAnd r (λ e. e ≡ f) → FailsFrom before reading f
     → ParsesFrom view before after reading r
 fails-from view before after reading (Ok x) f h so = absurd cc
 fails-from view (Between ls) after reading (Err e) f h so = rw h.1 so

@@ -9,7 +9,7 @@ use Rattle.nj_manifest.specs.declared.block.Keys.{Keys}
 use Rattle.nj_manifest.specs.declared.block.Keys.TheVariants as keys
 use Rattle.nj_manifest.specs.Faults.{Fault}
 use Rattle.nj_manifest.specs.LineSteps.{◌>>=◌}
-use Rattle.nj_manifest.specs.Statements.{LineText, lines_from, Parsed, or_last, no_lines, without_spaces, line_next, block_by, block, PlacedText, HeadText, Alone, RuleHead, PoolHead, BuildHead, RuleText, PoolText, head_next, whole_rule, whole_pool, with_block, statement_at, nothing_more, next_by, next_statement}
+use Rattle.nj_manifest.specs.Statements.{LineText, lines_from, Parse, or_last, no_lines, without_spaces, line_next, block_by, block, PlacedText, HeadText, Alone, RuleHead, PoolHead, BuildHead, RuleText, PoolText, head_next, whole_rule, whole_pool, with_block, statement_at, nothing_more, next_by, next_statement}
 use Rattle.nj_manifest.proofs.Framing.{head-inside}
 use Rattle.nj_manifest.proofs.Starts.{ahead}
 
@@ -19,17 +19,17 @@ bind-ok : {A B : Type 0} (r : Result A Fault) (k : A → Result B Fault) (y : B)
 bind-ok (Ok x) k y h = (x, refl, h)
 bind-ok (Err e) k y h = absurd cc
 
-rest-is : {A : Type 0} (x y : A) (r rest : List Line) → ◌≡◌ {A = Parsed A} (Ok (x, r)) (Ok (y, rest)) → r ≡ rest
+rest-is : {A : Type 0} (x y : A) (r rest : List Line) → ◌≡◌ {A = Parse A} (Ok (x, r)) (Ok (y, rest)) → r ≡ rest
 rest-is {A} x y r rest h = ap (λ p. p.1) (read-is (x, r) (y, rest) h)
   where
-    read-is : (p q : A × List Line) → ◌≡◌ {A = Parsed A} (Ok p) (Ok q) → p ≡ q
+    read-is : (p q : A × List Line) → ◌≡◌ {A = Parse A} (Ok p) (Ok q) → p ≡ q
     read-is p q e = cc
 
 -- the end of the lines is no statement
 no_statement : {A : Type 0} (ended : List Line) (s : PlacedText) (rest : List Line) → nothing_more ended ≡ Ok (Some s, rest) → A
-no_statement ended s rest h = absurd (apart (ap (λ (r : Parsed (Option PlacedText)). found r) h))
+no_statement ended s rest h = absurd (apart (ap (λ (r : Parse (Option PlacedText)). found r) h))
   where
-    found : Parsed (Option PlacedText) → Option PlacedText
+    found : Parse (Option PlacedText) → Option PlacedText
     found (Ok p) = p.0
     found (Err f) = None
 
@@ -63,17 +63,17 @@ plain-units l h = by_units l.units h
 -- ---- a block
 
 -- what is read of lines, without its value, leaves no more of them
-abbrev Within : {A : Type 0} → List Line → Parsed A → Type 0
+abbrev Within : {A : Type 0} → List Line → Parse A → Type 0
 Within {A} ls reading = (x : A) (rest : List Line) → reading ≡ Ok (x, rest) → ahead rest ≤ ahead ls
 
-comment-within : {A : Type 0} (l : Line) (ls : List Line) (x : A) (others : Parsed A) → Within ls others → Within (l ∷ ls) (or_last l (Ok (x, lines_behind l (without_comments ls))) others)
+comment-within : {A : Type 0} (l : Line) (ls : List Line) (x : A) (others : Parse A) → Within ls others → Within (l ∷ ls) (or_last l (Ok (x, lines_behind l (without_comments ls))) others)
 comment-within {A} l ls x others ih = by_last l.is_last refl
   where
     by_last : (t : Bool) → l.is_last ≡ t → (y : A) (rest : List Line) → cond t (Ok (x, cond t (with_units [] l ∷ without_comments ls) (without_comments ls))) others ≡ Ok (y, rest) → ahead rest ≤ cond t (cond (is_empty l.units) 0 1) (suc (ahead ls))
     by_last true e y rest h = let r = rest-is x y _ rest h in rw (sym r, e) (omega arith)
     by_last false e y rest h = let i = ih y rest h in omega arith
 
-line-within : {A : Type 0} (l : Line) (ls : List Line) (x : A) (others : Parsed A) → Within ls others → Within (l ∷ ls) (or_last l (Ok (x, lines_behind l ls)) others)
+line-within : {A : Type 0} (l : Line) (ls : List Line) (x : A) (others : Parse A) → Within ls others → Within (l ∷ ls) (or_last l (Ok (x, lines_behind l ls)) others)
 line-within {A} l ls x others ih = by_last l.is_last refl
   where
     by_last : (t : Bool) → l.is_last ≡ t → (y : A) (rest : List Line) → cond t (Ok (x, cond t (with_units [] l ∷ ls) ls)) others ≡ Ok (y, rest) → ahead rest ≤ cond t (cond (is_empty l.units) 0 1) (suc (ahead ls))
@@ -124,10 +124,10 @@ statement-takes l ls s rest e h =
     omega arith
 
 -- what is not read is no statement
-abbrev Takes : List Line → Parsed (Option PlacedText) → Type 0
+abbrev Takes : List Line → Parse (Option PlacedText) → Type 0
 Takes ls reading = (s : PlacedText) (rest : List Line) → reading ≡ Ok (Some s, rest) → ahead rest < ahead ls
 
-last-takes : (l : Line) (ls : List Line) (rest : List Line) (others : Parsed (Option PlacedText)) → Takes ls others → Takes (l ∷ ls) (or_last l (nothing_more rest) others)
+last-takes : (l : Line) (ls : List Line) (rest : List Line) (others : Parse (Option PlacedText)) → Takes ls others → Takes (l ∷ ls) (or_last l (nothing_more rest) others)
 last-takes l ls rest others ih = by_last l.is_last
   where
     by_last : (t : Bool) (s : PlacedText) (r : List Line) → cond t (nothing_more rest) others ≡ Ok (Some s, r) → ahead r < cond t (cond (is_empty l.units) 0 1) (suc (ahead ls))

@@ -10,7 +10,7 @@ use Rattle.nj_manifest.specs.declared.fault.Wanted.TheVariants as wanted
 use Rattle.nj_manifest.specs.declared.block.Keys.{Keys}
 use Rattle.nj_manifest.specs.Faults.{Fault}
 use Rattle.nj_manifest.specs.LineSteps.{Step, ◌>>=◌, NameText, name_next}
-use Rattle.nj_manifest.specs.Statements.{LineText, allows, if_allowed, equals_value, line_next, Parsed, or_last, no_lines, block_by, block}
+use Rattle.nj_manifest.specs.Statements.{LineText, allows, if_allowed, equals_value, line_next, Parse, or_last, no_lines, block_by, block}
 use Rattle.nj_manifest.specs.Grammar.{BindingForm, BlockForm}
 use Rattle.nj_manifest.proofs.Framing.{bind-ok}
 use Rattle.nj_manifest.proofs.BlockLines.{block-behind}
@@ -84,7 +84,7 @@ line-read allowed l ls us line f =
 -- ---- blocks
 
 -- a reading that gives a value and lines
-pub reads-it : {A : Type 0} (x : A) (ls : List Line) (y : A) (rest : List Line) → ◌≡◌ {A = Parsed A} (Ok (x, ls)) (Ok (y, rest)) → (x ≡ y) × (ls ≡ rest)
+pub reads-it : {A : Type 0} (x : A) (ls : List Line) (y : A) (rest : List Line) → ◌≡◌ {A = Parse A} (Ok (x, ls)) (Ok (y, rest)) → (x ≡ y) × (ls ≡ rest)
 reads-it {A} x ls y rest e =
     let same : ◌≡◌ {A = A × List Line} (x, ls) (y, rest) = cc in
     (ap (λ (r : A × List Line). r.0) same, ap (λ (r : A × List Line). r.1) same)

@@ -11,7 +11,7 @@ use Rattle.nj_manifest.specs.declared.block.Keys.{Keys}
 use Rattle.nj_manifest.specs.declared.block.Keys.TheVariants as keys
 use Rattle.nj_manifest.specs.Faults.{Fault, Bad, Expected, UnexpectedIndent, MissingCommand, RspPair, UnknownKey, MissingDepth, OutOfMemory, is_syntax}
 use Rattle.nj_manifest.specs.LineSteps.{◌>>=◌, NameText}
-use Rattle.nj_manifest.specs.Statements.{LineText, StatementText, RuleText, PoolText, BuildText, PlacedText, HeadText, Alone, RuleHead, PoolHead, BuildHead, Parsed, gives, names, agree, unless_missing, block, whole_rule, whole_pool, head_next, with_block, front_of, nothing_more, next_statement}
+use Rattle.nj_manifest.specs.Statements.{LineText, StatementText, RuleText, PoolText, BuildText, PlacedText, HeadText, Alone, RuleHead, PoolHead, BuildHead, Parse, gives, names, agree, unless_missing, block, whole_rule, whole_pool, head_next, with_block, front_of, nothing_more, next_statement}
 use Rattle.nj_manifest.specs.Grammar.{HeadForm, BlockForm, Gives, LackForm, NextLacks}
 use Rattle.nj_manifest.specs.Laws.{MissingLinesAreLacking}
 use Rattle.nj_manifest.specs.Leftmost.{NamesThePlaceOf}
@@ -75,12 +75,12 @@ errs e = cc
 no_err : {A P : Type 0} {x : A} {f : Fault} → ◌≡◌ {A = Result A Fault} (Ok x) (Err f) → P
 no_err e = absurd cc
 
-rule-lacks : (spot : Spot) (name : NameText) (ls rest : List Line) (lines : List LineText) (f : Fault) → BlockForm keys.OfRule ls lines rest → ◌≡◌ {A = Parsed StatementText} (whole_rule spot lines >>= λ whole. Ok (RuleText name whole, rest)) (Err f)
+rule-lacks : (spot : Spot) (name : NameText) (ls rest : List Line) (lines : List LineText) (f : Fault) → BlockForm keys.OfRule ls lines rest → ◌≡◌ {A = Parse StatementText} (whole_rule spot lines >>= λ whole. Ok (RuleText name whole, rest)) (Err f)
     → LackForm spot (RuleHead name) ls f
 unfolding whole_rule
 rule-lacks spot name ls rest lines f b h = by_pair (rsp_agree lines) refl h
   where
-    then : Result (List LineText) Fault → Parsed StatementText
+    then : Result (List LineText) Fault → Parse StatementText
     then r = r >>= λ whole. Ok (RuleText name whole, rest)
 
     by_command : (t : Bool) → gives (codes "command") lines ≡ t → rsp_agree lines ≡ true → then (unless_missing t (MissingCommand spot) (Ok lines)) ≡ Err f → LackForm spot (RuleHead name) ls f
@@ -91,12 +91,12 @@ rule-lacks spot name ls rest lines f b h = by_pair (rsp_agree lines) refl h
     by_pair true p g = by_command (gives (codes "command") lines) refl p g
     by_pair false p g = subst (λ (x : Fault). LackForm spot (RuleHead name) ls x) (errs g) (LackForm.pair b (λ both. false_is_true _ p (pair_agrees lines both)))
 
-pool-lacks : (spot : Spot) (name : NameText) (ls rest : List Line) (lines : List LineText) (f : Fault) → BlockForm keys.OfPool ls lines rest → ◌≡◌ {A = Parsed StatementText} (whole_pool spot lines >>= λ whole. Ok (PoolText name whole, rest)) (Err f)
+pool-lacks : (spot : Spot) (name : NameText) (ls rest : List Line) (lines : List LineText) (f : Fault) → BlockForm keys.OfPool ls lines rest → ◌≡◌ {A = Parse StatementText} (whole_pool spot lines >>= λ whole. Ok (PoolText name whole, rest)) (Err f)
     → LackForm spot (PoolHead name) ls f
 unfolding whole_pool
 pool-lacks spot name ls rest lines f b h = by_depth (names (codes "depth") lines) refl h
   where
-    by_depth : (t : Bool) → names (codes "depth") lines ≡ t → ◌≡◌ {A = Parsed StatementText} (unless_missing t (MissingDepth spot) (Ok lines) >>= λ whole. Ok (PoolText name whole, rest)) (Err f) → LackForm spot (PoolHead name) ls f
+    by_depth : (t : Bool) → names (codes "depth") lines ≡ t → ◌≡◌ {A = Parse StatementText} (unless_missing t (MissingDepth spot) (Ok lines) >>= λ whole. Ok (PoolText name whole, rest)) (Err f) → LackForm spot (PoolHead name) ls f
     by_depth true d g = no_err g
     by_depth false d g = subst (λ (x : Fault). LackForm spot (PoolHead name) ls x) (errs g) (LackForm.depth b d)
 
@@ -104,7 +104,7 @@ pool-lacks spot name ls rest lines f b h = by_depth (names (codes "depth") lines
 with_lines : {A P : Type 0} (allowed : Keys) (ls : List Line) (k : List LineText × List Line → Result A Fault) (f : Fault) → is_syntax f ≡ false → (block allowed ls >>= k) ≡ Err f → ((lines : List LineText) (rest : List Line) → BlockForm allowed ls lines rest → k (lines, rest) ≡ Err f → P) → P
 with_lines {A = A} {P = P} allowed ls k f n h go = by_block (block allowed ls) refl h
   where
-    by_block : (r : Parsed (List LineText)) → block allowed ls ≡ r → (r >>= k) ≡ Err f → P
+    by_block : (r : Parse (List LineText)) → block allowed ls ≡ r → (r >>= k) ≡ Err f → P
     by_block (Ok x) e g = go x.0 x.1 (block-form allowed ls x.0 x.1 e) g
     by_block (Err y) e g = block_syntax allowed ls f (e ∙ ap Err (errs g)) n
 

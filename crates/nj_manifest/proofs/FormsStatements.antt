@@ -4,7 +4,7 @@ use Rattle.nj_text.specs.declared.spot.Spot.{Spot}
 use Rattle.nj_text.specs.Lines.{Line, line_spot, lines_behind, Kind, CommentLine, TabLine, BlankLine, IndentedLine, PlainLine, kind_of}
 use Rattle.nj_text.specs.Calls.{State, Between, Inside, without_comments}
 use Rattle.nj_manifest.specs.declared.block.Keys.TheVariants as keys
-use Rattle.nj_manifest.specs.Statements.{StatementText, RuleText, PoolText, BuildText, PlacedText, HeadText, Alone, RuleHead, PoolHead, BuildHead, Parsed, lines_from, block, whole_rule, whole_pool, head_next, with_block, statement_at, nothing_more, next_by, next_statement}
+use Rattle.nj_manifest.specs.Statements.{StatementText, RuleText, PoolText, BuildText, PlacedText, HeadText, Alone, RuleHead, PoolHead, BuildHead, Parse, lines_from, block, whole_rule, whole_pool, head_next, with_block, statement_at, nothing_more, next_by, next_statement}
 use Rattle.nj_manifest.specs.Grammar.{BlockForm, StatementForm, NextForm}
 use Rattle.nj_manifest.specs.Laws.{StatementsAreTheForms}
 use Rattle.nj_manifest.proofs.Framing.{bind-ok}
@@ -48,7 +48,7 @@ with_block-read spot (StatementForm.build f) = rw (block-read f) refl
 
 -- ---- the next statement
 
-next-is : (ls ms rest : List Line) (one found : Option PlacedText) → ◌≡◌ {A = Parsed (Option PlacedText)} (Ok (one, ms)) (Ok (found, rest)) → NextForm ls one ms → NextForm ls found rest
+next-is : (ls ms rest : List Line) (one found : Option PlacedText) → ◌≡◌ {A = Parse (Option PlacedText)} (Ok (one, ms)) (Ok (found, rest)) → NextForm ls one ms → NextForm ls found rest
 next-is ls ms rest one found h f =
     let same = reads-it one ms found rest h in
     subst (λ (o : Option PlacedText). NextForm ls o rest) same.0 (subst (NextForm ls one) same.1 f)

@@ -9,7 +9,7 @@ use Rattle.nj_text.proofs.Lists.{AllIn}
 use Rattle.nj_manifest.specs.declared.block.Keys.{Keys}
 use Rattle.nj_manifest.specs.Faults.{Fault, Bad}
 use Rattle.nj_manifest.specs.LineSteps.{Step, ◌>>=◌}
-use Rattle.nj_manifest.specs.Statements.{LineText, line_next, Parsed, or_last, no_lines, block_by, block}
+use Rattle.nj_manifest.specs.Statements.{LineText, line_next, Parse, or_last, no_lines, block_by, block}
 use Rattle.nj_manifest.specs.Leftmost.{goes_on, element, written_unit, written, are_plain, NamesThePlaceOf, met_before, offers}
 use Rattle.nj_manifest.proofs.BlockLines.{in_front}
 use Rattle.nj_manifest.proofs.LeftmostFronts.{front, element-front}
@@ -48,7 +48,7 @@ line_outcome allowed l h = line_turn l allowed (behind_spaces l.units) (begin (S
     by_fit x e ms (inr f) = (kind_replaced l.units x f ∙ h, unspaced (spaces_of l.units) x (spaces_pass l.units) (no_space_same l.units x f), refl)
 
 -- what an indented line adds to a block
-abbrev block_line : Keys → (us : List TextUnit) → Line → List Line → (others : Parsed (List LineText)) → Parsed (List LineText)
+abbrev block_line : Keys → (us : List TextUnit) → Line → List Line → (others : Parse (List LineText)) → Parse (List LineText)
 block_line allowed us e ms others =
     line_next allowed (at (behind_spaces us) e ms) >>= λ line. or_last e (no_lines (lines_behind e ms)) others >>= λ more. Ok (line.0 ∷ more.0, more.1)
 
@@ -56,7 +56,7 @@ indented_block : (allowed : Keys) (l : Line) (ms : List Line) → kind_of l ≡ 
 unfolding block
 indented_block allowed l ms h = ap (λ (k : Kind). block_by allowed k l ms (block allowed ms)) h
 
-abbrev line_then : (others : Parsed (List LineText)) → LineText × State → Parsed (List LineText)
+abbrev line_then : (others : Parse (List LineText)) → LineText × State → Parse (List LineText)
 line_then others line = others >>= λ more. Ok (line.0 ∷ more.0, more.1)
 
 -- a line that is read, and is not the last
@@ -69,15 +69,15 @@ bad_block : (allowed : Keys) (l : Line) (ms : List Line) (f : Fault) → kind_of
 bad_block allowed l ms f h r =
     indented_block allowed l ms h ∙ ap (λ (y : Step LineText). y >>= λ line. or_last l (no_lines (lines_behind l ms)) (block allowed ms) >>= λ more. Ok (line.0 ∷ more.0, more.1)) r
 
-one_in_front : (v : LineText) (s : State) (others : Parsed (List LineText)) → line_then others (v, s) ≡ in_front (v ∷ []) others
+one_in_front : (v : LineText) (s : State) (others : Parse (List LineText)) → line_then others (v, s) ≡ in_front (v ∷ []) others
 one_in_front v s (Ok o) = refl
 one_in_front v s (Err f) = refl
 
-more_in_front : (v : LineText) (s : State) (front : List LineText) (others : Parsed (List LineText)) → line_then (in_front front others) (v, s) ≡ in_front (v ∷ front) others
+more_in_front : (v : LineText) (s : State) (front : List LineText) (others : Parse (List LineText)) → line_then (in_front front others) (v, s) ≡ in_front (v ∷ front) others
 more_in_front v s front (Ok o) = refl
 more_in_front v s front (Err f) = refl
 
-bad_then : (others : Parsed (List LineText)) (line : LineText × State) (f : Fault) → others ≡ Err f → line_then others line ≡ Err f
+bad_then : (others : Parse (List LineText)) (line : LineText × State) (f : Fault) → others ≡ Err f → line_then others line ≡ Err f
 bad_then others line f h = rw h refl
 
 same_fault : {A : Type 0} (r : Result A Fault) (f g : Fault) → r ≡ Err f → r ≡ Err g → g ≡ f
@@ -193,14 +193,14 @@ stuck_behind_line allowed l ls fault v reads r = record {
   read = v ∷ r.read;
   some = λ ms.
       let xs = goes_on r.before r.begun (written r.bytes) ms in
-      reads xs ∙ (ap (λ (y : Parsed (List LineText)). line_then y (v, Between (lines_behind l xs))) (r.some ms) ∙ more_in_front v (Between (lines_behind l xs)) r.read (block allowed ms));
+      reads xs ∙ (ap (λ (y : Parse (List LineText)). line_then y (v, Between (lines_behind l xs))) (r.some ms) ∙ more_in_front v (Between (lines_behind l xs)) r.read (block allowed ms));
 }
 
-not_last : (t : Bool) (a : List LineText × List Line) (others : Parsed (List LineText)) (f : Fault) → cond t (Ok a) others ≡ Err f → (t ≡ false) × (others ≡ Err f)
+not_last : (t : Bool) (a : List LineText × List Line) (others : Parse (List LineText)) (f : Fault) → cond t (Ok a) others ≡ Err f → (t ≡ false) × (others ≡ Err f)
 not_last true a others f h = absurd cc
 not_last false a others f h = (refl, h)
 
-then_fault : (others : Parsed (List LineText)) (line : LineText × State) (f : Fault) → line_then others line ≡ Err f → others ≡ Err f
+then_fault : (others : Parse (List LineText)) (line : LineText × State) (f : Fault) → line_then others line ≡ Err f → others ≡ Err f
 then_fault (Ok o) line f h = absurd cc
 then_fault (Err g) line f h = ap Err (errs h)
   where

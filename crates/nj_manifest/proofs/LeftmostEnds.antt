@@ -11,7 +11,7 @@ use Rattle.nj_manifest.specs.declared.block.Keys.{Keys}
 use Rattle.nj_manifest.specs.declared.block.Keys.TheVariants as keys
 use Rattle.nj_manifest.specs.Faults.{Fault, MissingCommand, RspPair, MissingDepth, is_syntax}
 use Rattle.nj_manifest.specs.LineSteps.{◌>>=◌, NameText, name_next, expect_sign}
-use Rattle.nj_manifest.specs.Statements.{LineText, equals_value, line_next, Parsed, block, OutputsText, InputsText, StatementText, RuleText, PoolText, BuildText, HeadText, Alone, RuleHead, PoolHead, BuildHead, gives, names, unless_missing, agree, whole_rule, whole_pool, with_block}
+use Rattle.nj_manifest.specs.Statements.{LineText, equals_value, line_next, Parse, block, OutputsText, InputsText, StatementText, RuleText, PoolText, BuildText, HeadText, Alone, RuleHead, PoolHead, BuildHead, gives, names, unless_missing, agree, whole_rule, whole_pool, with_block}
 use Rattle.nj_manifest.specs.Leftmost.{written, are_plain}
 use Rattle.nj_manifest.proofs.BlockLines.{in_front}
 
@@ -86,15 +86,15 @@ closed spot (Alone item) ls front e = (item, ls, refl)
 closed spot (RuleHead name) ls front e =
     let lines = front ++ closing_text (RuleHead name) in
     let read : block keys.OfRule ls ≡ Ok (lines, []) = e ∙ ap (in_front front) (closing_block (RuleHead name)) in
-    (RuleText name lines, [], ap (λ (r : Parsed (List LineText)). r >>= λ ls. whole_rule spot ls.0 >>= λ whole. Ok (RuleText name whole, ls.1)) read ∙ ap (λ (r : Result (List LineText) Fault). r >>= λ whole. Ok (RuleText name whole, [])) (rule_whole spot name front))
+    (RuleText name lines, [], ap (λ (r : Parse (List LineText)). r >>= λ ls. whole_rule spot ls.0 >>= λ whole. Ok (RuleText name whole, ls.1)) read ∙ ap (λ (r : Result (List LineText) Fault). r >>= λ whole. Ok (RuleText name whole, [])) (rule_whole spot name front))
 closed spot (PoolHead name) ls front e =
     let lines = front ++ closing_text (PoolHead name) in
     let read : block keys.OfPool ls ≡ Ok (lines, []) = e ∙ ap (in_front front) (closing_block (PoolHead name)) in
-    (PoolText name lines, [], ap (λ (r : Parsed (List LineText)). r >>= λ ls. whole_pool spot ls.0 >>= λ whole. Ok (PoolText name whole, ls.1)) read ∙ ap (λ (r : Result (List LineText) Fault). r >>= λ whole. Ok (PoolText name whole, [])) (pool_whole spot name front))
+    (PoolText name lines, [], ap (λ (r : Parse (List LineText)). r >>= λ ls. whole_pool spot ls.0 >>= λ whole. Ok (PoolText name whole, ls.1)) read ∙ ap (λ (r : Result (List LineText) Fault). r >>= λ whole. Ok (PoolText name whole, [])) (pool_whole spot name front))
 closed spot (BuildHead outputs rule inputs) ls front e =
     let lines = front ++ [] in
     let read : block keys.All ls ≡ Ok (lines, []) = e ∙ ap (in_front front) (closing_block (BuildHead outputs rule inputs)) in
-    (BuildText outputs rule inputs lines, [], ap (λ (r : Parsed (List LineText)). r >>= λ ls. Ok (BuildText outputs rule inputs ls.0, ls.1)) read)
+    (BuildText outputs rule inputs lines, [], ap (λ (r : Parse (List LineText)). r >>= λ ls. Ok (BuildText outputs rule inputs ls.0, ls.1)) read)
 
 -- ---- where a statement fails behind its first line
 
@@ -124,13 +124,13 @@ same_err {A = A} g f e = ap Err (errs e)
 no_err : {A : Type 0} {x : A} {f : Fault} → ◌≡◌ {A = Result A Fault} (Ok x) (Err f) → ⊥
 no_err e = absurd cc
 
-abbrev rule_then : Spot → NameText → List LineText × List Line → Parsed StatementText
+abbrev rule_then : Spot → NameText → List LineText × List Line → Parse StatementText
 rule_then spot name lines = whole_rule spot lines.0 >>= λ whole. Ok (RuleText name whole, lines.1)
 
-abbrev pool_then : Spot → NameText → List LineText × List Line → Parsed StatementText
+abbrev pool_then : Spot → NameText → List LineText × List Line → Parse StatementText
 pool_then spot name lines = whole_pool spot lines.0 >>= λ whole. Ok (PoolText name whole, lines.1)
 
-abbrev build_then : OutputsText → NameText → InputsText → List LineText × List Line → Parsed StatementText
+abbrev build_then : OutputsText → NameText → InputsText → List LineText × List Line → Parse StatementText
 build_then outputs rule inputs lines = Ok (BuildText outputs rule inputs lines.0, lines.1)
 
 rule_fault : (spot : Spot) (name : NameText) (lines : List LineText × List Line) (f : Fault) → is_syntax f ≡ true → rule_then spot name lines ≡ Err f → ⊥
@@ -143,7 +143,7 @@ pool_fault : (spot : Spot) (name : NameText) (lines : List LineText × List Line
 unfolding whole_pool
 pool_fault spot name lines f s h = no_err (fault_of_missing (names (codes "depth") lines.0) (MissingDepth spot) f _ (λ whole. Ok (PoolText name whole, lines.1)) refl s h)
 
-by_block : {A : Type 0} (r : Parsed (List LineText)) (k : List LineText × List Line → Result A Fault) (f : Fault) → ((lines : List LineText × List Line) → k lines ≡ Err f → ⊥) → (r >>= k) ≡ Err f → r ≡ Err f
+by_block : {A : Type 0} (r : Parse (List LineText)) (k : List LineText × List Line → Result A Fault) (f : Fault) → ((lines : List LineText × List Line) → k lines ≡ Err f → ⊥) → (r >>= k) ≡ Err f → r ≡ Err f
 by_block (Ok lines) k f n h = absurd (n lines h)
 by_block (Err g) k f n h = same_err g f h
 

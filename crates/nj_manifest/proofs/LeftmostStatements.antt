@@ -9,7 +9,7 @@ use Rattle.nj_text.proofs.Lists.{AllIn}
 use Rattle.nj_manifest.specs.declared.block.Keys.{Keys}
 use Rattle.nj_manifest.specs.Faults.{Fault, Bad, UnexpectedIndent, is_syntax}
 use Rattle.nj_manifest.specs.LineSteps.{Step, ◌>>=◌, name_next, expect_sign}
-use Rattle.nj_manifest.specs.Statements.{LineText, PlacedText, StatementText, Alone, HeadText, Parsed, lines_from, head_after, head_next, equals_value, block, with_block, statement_at, nothing_more, front_of, next_by, next_statement}
+use Rattle.nj_manifest.specs.Statements.{LineText, PlacedText, StatementText, Alone, HeadText, Parse, lines_from, head_after, head_next, equals_value, block, with_block, statement_at, nothing_more, front_of, next_by, next_statement}
 use Rattle.nj_manifest.specs.Leftmost.{goes_on, element, written, NamesThePlaceOf, met_before, offers, StandsLeftmost}
 use Rattle.nj_manifest.proofs.BlockLines.{in_front}
 use Rattle.nj_manifest.proofs.LeftmostFronts.{element-front}
@@ -32,7 +32,7 @@ head_outcome l h = head_turn l l.units (begin Plain head_next starts l.units by_
     by_fit x e ms (inr f) = (plain_same l.units x h f, refl)
 
 -- the statement behind its first line
-abbrev placed_then : Spot → HeadText × State → Parsed (Option PlacedText)
+abbrev placed_then : Spot → HeadText × State → Parse (Option PlacedText)
 placed_then spot head = with_block spot head.0 (lines_from head.1) >>= λ item. Ok (Some (record { spot = spot; item = item.0 }), item.1)
 
 plain_next : (l : Line) (ms : List Line) → kind_of l ≡ PlainLine → next_statement (l ∷ ms) ≡ (head_next (Inside l ms) >>= placed_then (line_spot l))
@@ -45,16 +45,16 @@ plain_bad l ms f h r = plain_next l ms h ∙ ap (λ (y : Step HeadText). y >>= p
 pub plain_read : (l : Line) (ms : List Line) (v : HeadText) (s : State) → kind_of l ≡ PlainLine → head_next (Inside l ms) ≡ Ok (v, s) → next_statement (l ∷ ms) ≡ placed_then (line_spot l) (v, s)
 plain_read l ms v s h r = plain_next l ms h ∙ ap (λ (y : Step HeadText). y >>= placed_then (line_spot l)) r
 
-placed_some : (spot : Spot) (r : Parsed StatementText) (item : StatementText) (rest : List Line) → r ≡ Ok (item, rest) → ◌≡◌ {A = Parsed (Option PlacedText)} (r >>= λ item. Ok (Some (record { spot = spot; item = item.0 }), item.1)) (Ok (Some (record { spot = spot; item = item }), rest))
+placed_some : (spot : Spot) (r : Parse StatementText) (item : StatementText) (rest : List Line) → r ≡ Ok (item, rest) → ◌≡◌ {A = Parse (Option PlacedText)} (r >>= λ item. Ok (Some (record { spot = spot; item = item.0 }), item.1)) (Ok (Some (record { spot = spot; item = item }), rest))
 placed_some spot r item rest h = rw h refl
 
-pub placed_bad : (spot : Spot) (r : Parsed StatementText) (f : Fault) → r ≡ Err f → ◌≡◌ {A = Parsed (Option PlacedText)} (r >>= λ item. Ok (Some (record { spot = spot; item = item.0 }), item.1)) (Err f)
+pub placed_bad : (spot : Spot) (r : Parse StatementText) (f : Fault) → r ≡ Err f → ◌≡◌ {A = Parse (Option PlacedText)} (r >>= λ item. Ok (Some (record { spot = spot; item = item.0 }), item.1)) (Err f)
 placed_bad spot r f h = rw h refl
 
 pub errs : {A : Type 0} {x y : Fault} → ◌≡◌ {A = Result A Fault} (Err x) (Err y) → x ≡ y
 errs e = cc
 
-pub placed_fault : (spot : Spot) (r : Parsed StatementText) (f : Fault) → ◌≡◌ {A = Parsed (Option PlacedText)} (r >>= λ item. Ok (Some (record { spot = spot; item = item.0 }), item.1)) (Err f) → r ≡ Err f
+pub placed_fault : (spot : Spot) (r : Parse StatementText) (f : Fault) → ◌≡◌ {A = Parse (Option PlacedText)} (r >>= λ item. Ok (Some (record { spot = spot; item = item.0 }), item.1)) (Err f) → r ≡ Err f
 placed_fault spot (Ok x) f h = absurd cc
 placed_fault spot (Err g) f h = ap Err (errs h)
 
@@ -68,7 +68,7 @@ some_closed l ms v s read h r b =
     let c = closed (line_spot l) v (lines_from s) read b in
     (record { spot = line_spot l; item = c.0 }, c.1, plain_read l ms v s h r ∙ placed_some (line_spot l) (with_block (line_spot l) v (lines_from s)) c.0 c.1 c.2)
 
-nothing-in_front : {A : Type 0} (r : Parsed (List A)) → (r >>= λ o. Ok ([] ++ o.0, o.1)) ≡ r
+nothing-in_front : {A : Type 0} (r : Parse (List A)) → (r >>= λ o. Ok ([] ++ o.0, o.1)) ≡ r
 nothing-in_front (Ok o) = refl
 nothing-in_front (Err f) = refl
 
@@ -179,7 +179,7 @@ tab_leftmost l ls tab k =
     (λ m ms same. (by_kind_next (with_units (spaces_of l.units ++ m.units) m) ms (TabLine tab) (kind_replaced l.units m.units (element-front m.units (behind_spaces l.units) same) ∙ k)))
 
 -- an indented line whose units behind its spaces these are
-abbrev unexpected_at : Line → Parsed (Option PlacedText)
+abbrev unexpected_at : Line → Parse (Option PlacedText)
 unexpected_at l = Err (UnexpectedIndent (record { line = (line_spot l).line; column = 1 }))
 
 indented_leftmost : (l : Line) (ls : List Line) → kind_of l ≡ IndentedLine → StandsLeftmost (l ∷ ls) (UnexpectedIndent (front_of l))
@@ -203,7 +203,7 @@ leftmost_behind l ls fault same r = record {
   refuses = λ m ms e. same (goes_on r.before r.begun m ms) ∙ r.refuses m ms e;
 }
 
-pub not_last : (t : Bool) (rest : List Line) (others : Parsed (Option PlacedText)) (f : Fault) → cond t (nothing_more rest) others ≡ Err f → (t ≡ false) × (others ≡ Err f)
+pub not_last : (t : Bool) (rest : List Line) (others : Parse (Option PlacedText)) (f : Fault) → cond t (nothing_more rest) others ≡ Err f → (t ≡ false) × (others ≡ Err f)
 not_last true rest others f h = absurd cc
 not_last false rest others f h = (refl, h)
 

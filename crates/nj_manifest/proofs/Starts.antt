@@ -13,11 +13,11 @@ use Rattle.nj_text.specs.Calls.{State, Reply, Between, Inside, Failed, Answers, 
 use Rattle.nj_manifest.specs.declared.fault.ParseFault.TheVariants as fault
 use Rattle.nj_manifest.specs.Faults.{Bad, UnexpectedIndent}
 use Rattle.nj_manifest.specs.Parsers.{Fails}
-use Rattle.nj_manifest.specs.Statements.{PlacedText, Parsed, lines_from, or_last, nothing_more, statement_at, next_by, next_statement}
+use Rattle.nj_manifest.specs.Statements.{PlacedText, Parse, lines_from, or_last, nothing_more, statement_at, next_by, next_statement}
 use Rattle.nj_manifest.specs.ParserContracts.{IsBetweenStatements}
 
 abbrev Next : Type 0
-Next = Parsed (Option PlacedText)
+Next = Parse (Option PlacedText)
 
 abbrev pub front_at : Spot → Spot
 front_at spot = record { line = spot.line; column = 1 }

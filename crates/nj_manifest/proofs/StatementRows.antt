@@ -7,7 +7,7 @@ use Rattle.nj_text.specs.Lines.{Line, text_lines}
 use Rattle.nj_text.specs.Words.{WordText, Text, Name}
 use Rattle.nj_manifest.specs.Faults.{Fault, UnexpectedIndent}
 use Rattle.nj_manifest.specs.LineSteps.{NameText, name_next, expect_sign, words_within, words_next, section_next}
-use Rattle.nj_manifest.specs.Statements.{LineText, Parsed, OutputsText, InputsText, PlacedText, StatementText, BindingText, RuleText, PoolText, BuildText, DefaultText, IncludeText, SubninjaText, equals_value, line_next, name_alone, outputs_next, inputs_next, build_next, targets_next, file_next, head_after, head_next, whole_rule, whole_pool, statement_at, block, next_statement}
+use Rattle.nj_manifest.specs.Statements.{LineText, Parse, OutputsText, InputsText, PlacedText, StatementText, BindingText, RuleText, PoolText, BuildText, DefaultText, IncludeText, SubninjaText, equals_value, line_next, name_alone, outputs_next, inputs_next, build_next, targets_next, file_next, head_after, head_next, whole_rule, whole_pool, statement_at, block, next_statement}
 
 -- what a row unfolds to compute on its text
 unfoldable pub on_texts : ⊤
@@ -17,7 +17,7 @@ on_texts = tt
 -- ---- what a row shows
 
 -- the statement, without the lines behind it
-abbrev pub item_of : Parsed (Option PlacedText) → Result (Option PlacedText) Fault
+abbrev pub item_of : Parse (Option PlacedText) → Result (Option PlacedText) Fault
 item_of (Ok r) = Ok r.0
 item_of (Err f) = Err f
 
@@ -26,7 +26,7 @@ abbrev pub first_of : List ℕ → Result (Option PlacedText) Fault
 first_of text = item_of (next_statement (text_lines text))
 
 -- an answer before those that follow it; a fault ends them
-abbrev answers_from : Parsed (Option PlacedText) → (List Line → List (Result (Option PlacedText) Fault)) → List (Result (Option PlacedText) Fault)
+abbrev answers_from : Parse (Option PlacedText) → (List Line → List (Result (Option PlacedText) Fault)) → List (Result (Option PlacedText) Fault)
 answers_from (Ok r) others = Ok r.0 ∷ others r.1
 answers_from (Err f) others = Err f ∷ []
 

@@ -5,7 +5,7 @@ use Rattle.nj_text.specs.Calls.{State, Between, Inside, Failed}
 use Rattle.nj_manifest.specs.declared.fault.ParseFault.{ParseFault}
 use Rattle.nj_manifest.specs.Faults.{Fault, fault_text}
 use Rattle.nj_manifest.specs.LineSteps.{Step}
-use Rattle.nj_manifest.specs.Statements.{LineText, Parsed, lines_from, Left, Lines, Refused}
+use Rattle.nj_manifest.specs.Statements.{LineText, Parse, lines_from, Left, Lines, Refused}
 use Rattle.nj_manifest.specs.Parsers.{Fails}
 
 -- ---- along a line
@@ -29,20 +29,20 @@ IsBetweenStatements (Inside l ls) = lines.kind_of l ≡ lines.PlainLine
 IsBetweenStatements (Failed f) = ⊥
 
 -- what is read of the lines before which the lexer stands, with the lexer before the lines after it
-abbrev pub ParsesFrom : {X Y : Type 0} → (X → Y) → (before after : State) → (List lines.Line → Parsed Y) → Result X ParseFault → Type 0
+abbrev pub ParsesFrom : {X Y : Type 0} → (X → Y) → (before after : State) → (List lines.Line → Parse Y) → Result X ParseFault → Type 0
 ParsesFrom view (Between ls) after parse (Ok x) = (parse ls ≡ Ok (view x, lines_from after)) × IsBetweenStatements after
 ParsesFrom view (Between ls) after parse (Err f) = Fails f (parse ls)
 ParsesFrom view other after parse result = Unit {0}
 
 -- the same of a line at whose first unit the lexer stands
 abbrev pub ParsesAt : {X Y : Type 0}
-    → (X → Y) → (before after : State) → (lines.Line → List lines.Line → Parsed Y) → Result X ParseFault → Type 0
+    → (X → Y) → (before after : State) → (lines.Line → List lines.Line → Parse Y) → Result X ParseFault → Type 0
 ParsesAt view (Inside l ls) after parse (Ok x) = (parse l ls ≡ Ok (view x, lines_from after)) × IsBetweenStatements after
 ParsesAt view (Inside l ls) after parse (Err f) = Fails f (parse l ls)
 ParsesAt view other after parse result = Unit {0}
 
 -- what is read of the lines that are left, with the lexer before the lines after it
-abbrev pub ParsesNext : {X Y : Type 0} → (X → Y) → (before after : State) → (List lines.Line → Parsed Y) → Result X ParseFault → Type 0
+abbrev pub ParsesNext : {X Y : Type 0} → (X → Y) → (before after : State) → (List lines.Line → Parse Y) → Result X ParseFault → Type 0
 ParsesNext view before after parse (Ok x) = (parse (lines_from before) ≡ Ok (view x, lines_from after)) × IsBetweenStatements after
 ParsesNext view before after parse (Err f) = Fails f (parse (lines_from before))
 

@@ -7,7 +7,7 @@ use Rattle.nj_manifest.specs.declared.fault.ParseFault.TheVariants as fault
 use Rattle.nj_manifest.specs.declared.statement.Placed.{Placed}
 use Rattle.nj_manifest.specs.declared.statement.Statement.{Statement}
 use Rattle.nj_manifest.specs.Faults.{Fault, fault_text}
-use Rattle.nj_manifest.specs.Statements.{Parsed, PlacedText, next_statement, Left, Lines, Refused}
+use Rattle.nj_manifest.specs.Statements.{Parse, PlacedText, next_statement, Left, Lines, Refused}
 use Rattle.nj_manifest.specs.Contents.{placed_text}
 
 -- the expected fault; or out of memory, which says nothing of the text
@@ -16,7 +16,7 @@ Fails (fault.Lex lex.OutOfMemory) expected = Unit {0}
 Fails f expected = expected ≡ Err (fault_text f)
 
 -- what a parser answers where this is read of the lines
-abbrev pub AnswersNext : Parsed (Option PlacedText) → (after : Left) → Result (Option (Placed Statement)) ParseFault → Type 0
+abbrev pub AnswersNext : Parse (Option PlacedText) → (after : Left) → Result (Option (Placed Statement)) ParseFault → Type 0
 AnswersNext expected after (Ok found) =
     (rest : List lines.Line) × (expected ≡ Ok (option_map placed_text found, rest)) × (after ≡ Lines rest)
 AnswersNext expected after (Err f) = Fails f expected × (after ≡ Refused (fault_text f))

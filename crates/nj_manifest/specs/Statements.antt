@@ -61,20 +61,20 @@ lines_from (Inside l ls) = l ∷ ls
 lines_from (Failed f) = []
 
 -- what is read of lines, and the lines after it
-abbrev pub Parsed : Type 0 → Type 0
-Parsed A = Result (A × List Line) Fault
+abbrev pub Parse : Type 0 → Type 0
+Parse A = Result (A × List Line) Fault
 
 -- after the last line of a text nothing is read
 abbrev pub or_last : {A : Type 0} → Line → (last others : A) → A
 or_last l last others = if l.is_last then last else others
 
-abbrev pub no_lines : List Line → Parsed (List LineText)
+abbrev pub no_lines : List Line → Parse (List LineText)
 no_lines rest = Ok ([], rest)
 
 abbrev pub without_spaces : Line → Line
 without_spaces l = with_units (drop_while is_space_unit l.units) l
 
-abbrev pub block_by : Keys → Kind → Line → List Line → Parsed (List LineText) → Parsed (List LineText)
+abbrev pub block_by : Keys → Kind → Line → List Line → Parse (List LineText) → Parse (List LineText)
 block_by allowed CommentLine l ls others = or_last l (no_lines (lines_behind l (without_comments ls))) others
 block_by allowed (TabLine tab) l ls others = Err (Bad (lex.Tab tab))
 block_by allowed IndentedLine l ls others = do
@@ -86,7 +86,7 @@ block_by allowed PlainLine l ls others = no_lines (l ∷ ls)
 
 -- The lines of a block: those that are indented, and comments among them, up to the first line of another kind. A
 -- blank line that ends them is skipped.
-unfoldable pub block : Keys → List Line → Parsed (List LineText)
+unfoldable pub block : Keys → List Line → Parse (List LineText)
 block allowed [] = no_lines []
 block allowed (l ∷ ls) = block_by allowed (kind_of l) l ls (block allowed ls)
 
@@ -234,7 +234,7 @@ whole_pool spot lines = unless_missing (names (codes "depth") lines) (MissingDep
 -- ---- the next statement
 
 -- a statement with its block
-abbrev pub with_block : Spot → HeadText → List Line → Parsed StatementText
+abbrev pub with_block : Spot → HeadText → List Line → Parse StatementText
 with_block spot (Alone item) ls = Ok (item, ls)
 with_block spot (RuleHead name) ls = do
   lines ← block keys.OfRule ls
@@ -248,20 +248,20 @@ with_block spot (BuildHead outputs rule inputs) ls = do
   lines ← block keys.All ls
   Ok (BuildText outputs rule inputs lines.0, lines.1)
 
-unfoldable pub statement_at : Line → List Line → Parsed (Option PlacedText)
+unfoldable pub statement_at : Line → List Line → Parse (Option PlacedText)
 statement_at l ls = do
   head ← head_next (Inside l ls)
   item ← with_block (line_spot l) head.0 (lines_from head.1)
   Ok (Some (record { spot = line_spot l; item = item.0 }), item.1)
 
-abbrev pub nothing_more : List Line → Parsed (Option PlacedText)
+abbrev pub nothing_more : List Line → Parse (Option PlacedText)
 nothing_more rest = Ok (None, rest)
 
 -- the first column of an indented line
 abbrev pub front_of : Line → Spot
 front_of l = record { line = (line_spot (without_spaces l)).line; column = 1 }
 
-abbrev pub next_by : Kind → Line → List Line → Parsed (Option PlacedText) → Parsed (Option PlacedText)
+abbrev pub next_by : Kind → Line → List Line → Parse (Option PlacedText) → Parse (Option PlacedText)
 next_by CommentLine l ls others = or_last l (nothing_more (lines_behind l (without_comments ls))) others
 next_by (TabLine tab) l ls others = Err (Bad (lex.Tab tab))
 next_by IndentedLine l ls others = Err (UnexpectedIndent (front_of l))
@@ -269,7 +269,7 @@ next_by BlankLine l ls others = or_last l (nothing_more (lines_behind l ls)) oth
 next_by PlainLine l ls others = statement_at l ls
 
 -- the next statement of the lines, if there is one, and the lines after it
-unfoldable pub next_statement : List Line → Parsed (Option PlacedText)
+unfoldable pub next_statement : List Line → Parse (Option PlacedText)
 next_statement [] = nothing_more []
 next_statement (l ∷ ls) = next_by (kind_of l) l ls (next_statement ls)
 
