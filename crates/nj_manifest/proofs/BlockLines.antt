@@ -123,7 +123,7 @@ begun-begins allowed limit (l ∷ ls) h = by_comment (is_comment (kind_of l)) re
         subst (λ (whole : Parse (List LineText)). BeginsAs allowed limit whole (begun (lines_behind l (without_comments ls)))) (sym (block-comment allowed (kind_of l) l ls (block allowed ls) e)) (by_last l.is_last refl rest)
 
 -- what the lexer answers at the start of a line
-start-begins : (allowed : Keys) (ls : List Line) (answer : Result LineStart UnitFault) (s : State) → ((start_line_of (Between ls)).answer ≡ answer) × (s ≡ (start_line_of (Between ls)).after) → Begins allowed (lines_weight ls) (block allowed ls) answer s
+pub start-begins : (allowed : Keys) (ls : List Line) (answer : Result LineStart UnitFault) (s : State) → ((start_line_of (Between ls)).answer ≡ answer) × (s ≡ (start_line_of (Between ls)).after) → Begins allowed (lines_weight ls) (block allowed ls) answer s
 start-begins allowed ls answer s h =
     subst (λ a. Begins allowed (lines_weight ls) (block allowed ls) a s) h.0 (subst (Begins allowed (lines_weight ls) (block allowed ls) (begun (without_comments ls)).answer) (sym h.1) (begun-begins allowed (lines_weight ls) ls (omega arith)))
 
@@ -235,6 +235,8 @@ fails-so (fault.MissingCommand spot) x y so h = so _ h
 fails-so (fault.RspPair spot) x y so h = so _ h
 fails-so (fault.UnknownKey spot key) x y so h = so _ h
 fails-so (fault.MissingDepth spot) x y so h = so _ h
+fails-so (fault.DyndepVersion spot) x y so h = so _ h
+fails-so (fault.DyndepShape spot) x y so h = so _ h
 
 -- a whole that fails, as it is answered
 abbrev pub FailsFrom : State → (List Line → Parse (List LineText)) → ParseFault → Type 0

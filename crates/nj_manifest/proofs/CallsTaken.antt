@@ -38,6 +38,8 @@ fails-so (fault.MissingCommand s) whole h = h
 fails-so (fault.RspPair s) whole h = h
 fails-so (fault.UnknownKey s k) whole h = h
 fails-so (fault.MissingDepth s) whole h = h
+fails-so (fault.DyndepVersion s) whole h = h
+fails-so (fault.DyndepShape s) whole h = h
 
 pub handed : {X : Type 0} (f : ParseFault) (r : Result X ParseFault) → IsErr r × IsErrAnd r (λ e. e ≡ f) → r ≡ Err f
 handed f (Ok x) h = absurd cc

@@ -54,7 +54,7 @@ gives-read key lines g = ap (gives key) g.cut ∙ gives_at key g.before g.after 
 
 -- ---- whole blocks
 
-unless_missing-ok : {A : Type 0} (there : Bool) (fault : Fault) (others : Result A Fault) (x : A) → unless_missing there fault others ≡ Ok x → (there ≡ true) × (others ≡ Ok x)
+pub unless_missing-ok : {A : Type 0} (there : Bool) (fault : Fault) (others : Result A Fault) (x : A) → unless_missing there fault others ≡ Ok x → (there ≡ true) × (others ≡ Ok x)
 unless_missing-ok true fault others x h = (refl, h)
 unless_missing-ok false fault others x h = absurd cc
 

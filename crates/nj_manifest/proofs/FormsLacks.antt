@@ -1,24 +1,24 @@
 -- Missing lines of rules and pools: the faults that are read, and the forms of the grammar.
-use Rattle.std.proofs.Common.{◌≡◌, Bool, true, false, cond, Option, Result, Ok, Err, List, [], ◌∷◌, refl, sym, ap, subst, ◌∙◌, codes}
+use Rattle.std.proofs.Common.{◌≡◌, Bool, true, false, cond, Result, Ok, Err, List, [], ◌∷◌, refl, sym, ap, subst, ◌∙◌, codes}
 use Rattle.std.specs.Prelude.{◌↔◌}
 use Rattle.std.specs.List.{list_any}
 use Rattle.std.specs.Str.{bytes_eq}
 use Rattle.nj_text.specs.declared.fault.UnitFault.TheVariants as lex
 use Rattle.nj_text.specs.declared.spot.Spot.{Spot}
 use Rattle.nj_text.specs.Lines.{Line, line_spot, lines_behind, Kind, CommentLine, TabLine, BlankLine, IndentedLine, PlainLine, kind_of}
-use Rattle.nj_text.specs.Calls.{State, Between, Inside, without_comments}
+use Rattle.nj_text.specs.Calls.{Between, without_comments}
 use Rattle.nj_manifest.specs.declared.block.Keys.{Keys}
 use Rattle.nj_manifest.specs.declared.block.Keys.TheVariants as keys
-use Rattle.nj_manifest.specs.Faults.{Fault, Bad, Expected, UnexpectedIndent, MissingCommand, RspPair, UnknownKey, MissingDepth, OutOfMemory, is_syntax}
+use Rattle.nj_manifest.specs.Faults.{Fault, Bad, Expected, UnexpectedIndent, MissingCommand, RspPair, UnknownKey, MissingDepth, DyndepVersion, DyndepShape, OutOfMemory, is_syntax}
 use Rattle.nj_manifest.specs.LineSteps.{◌>>=◌, NameText}
-use Rattle.nj_manifest.specs.Statements.{LineText, StatementText, RuleText, PoolText, BuildText, PlacedText, HeadText, Alone, RuleHead, PoolHead, BuildHead, Parse, gives, names, agree, unless_missing, block, whole_rule, whole_pool, head_next, with_block, front_of, nothing_more, next_statement}
-use Rattle.nj_manifest.specs.Grammar.{HeadForm, BlockForm, Gives, LackForm, NextLacks}
+use Rattle.nj_manifest.specs.Statements.{LineText, StatementText, RuleText, PoolText, BuildText, HeadText, Alone, RuleHead, PoolHead, BuildHead, Parse, gives, names, agree, unless_missing, block, whole_rule, whole_pool, with_block, front_of, nothing_more, next_statement}
+use Rattle.nj_manifest.specs.Grammar.{BlockForm, Gives, LackForm, NextLacks}
 use Rattle.nj_manifest.specs.Laws.{MissingLinesAreLacking}
 use Rattle.nj_manifest.specs.Leftmost.{NamesThePlaceOf}
 use Rattle.nj_manifest.proofs.FormsLines.{head-form, head-read}
 use Rattle.nj_manifest.proofs.FormsBlocks.{block-form, block-read}
 use Rattle.nj_manifest.proofs.FormsKeys.{gives-form, gives-read, agree-forms, forms-agree}
-use Rattle.nj_manifest.proofs.LeftmostSteps.{Stuck, Outcome, stuck, through}
+use Rattle.nj_manifest.proofs.LeftmostSteps.{Outcome, stuck, through}
 use Rattle.nj_manifest.proofs.LeftmostBlocks.{block_stuck}
 use Rattle.nj_manifest.proofs.LeftmostStatements.{Plain, head_outcome, plain_bad, plain_read, placed_bad, placed_fault, by_kind_next, same_fault, not_last, nothing_no_fault, no_lines_next}
 
@@ -38,6 +38,8 @@ names_syntax (MissingCommand spot) l h = absurd h
 names_syntax (RspPair spot) l h = absurd h
 names_syntax (UnknownKey spot key) l h = refl
 names_syntax (MissingDepth spot) l h = absurd h
+names_syntax (DyndepVersion spot) l h = absurd h
+names_syntax (DyndepShape spot) l h = absurd h
 names_syntax OutOfMemory l h = absurd h
 
 block_syntax : {P : Type 0} (allowed : Keys) (ls : List Line) (f : Fault) → block allowed ls ≡ Err f → is_syntax f ≡ false → P

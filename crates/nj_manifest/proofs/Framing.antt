@@ -33,11 +33,11 @@ called-fault (Some f) r y h = absurd cc
 -- ---- where the lexer stands then
 
 -- within the line, with some units left
-abbrev On : Line → List Line → State → Type 0
+abbrev pub On : Line → List Line → State → Type 0
 On l ls s = (us : List TextUnit) × (s ≡ Inside (with_units us l) ls)
 
 -- behind the line
-abbrev Ended : Line → List Line → State → Type 0
+abbrev pub Ended : Line → List Line → State → Type 0
 Ended l ls s = s ≡ Between (lines_behind l ls)
 
 pub after-is : {A : Type 0} (x : A) (s : State) (y : A × State) → ◌≡◌ {A = Step A} (Ok (x, s)) (Ok y) → s ≡ y.1
@@ -72,16 +72,16 @@ behind-inside want miss l ls s h =
     let e = called-fault (next_fault (behind_blanks l).units) _ b.0 b.1 in
     sign-there miss (is_sign want (behind_blanks l).units) _ _ b.0 s e b.2
 
-line_end-inside : (miss : Wanted) (l : Line) (ls : List Line) (s s' : State) → On l ls s → expect_sign sign.LineEnd miss s ≡ Ok s' → Ended l ls s'
+pub line_end-inside : (miss : Wanted) (l : Line) (ls : List Line) (s s' : State) → On l ls s → expect_sign sign.LineEnd miss s ≡ Ok s' → Ended l ls s'
 line_end-inside miss l ls s s' o h = behind-inside sign.LineEnd miss (with_units o.0 l) ls s' (ap (expect_sign sign.LineEnd miss) (sym o.1) ∙ h)
 
-colon-inside : (miss : Wanted) (l : Line) (ls : List Line) (s s' : State) → On l ls s → expect_sign sign.Colon miss s ≡ Ok s' → On l ls s'
+pub colon-inside : (miss : Wanted) (l : Line) (ls : List Line) (s s' : State) → On l ls s → expect_sign sign.Colon miss s ≡ Ok s' → On l ls s'
 colon-inside miss l ls s s' o h = (_, behind-inside sign.Colon miss (with_units o.0 l) ls s' (ap (expect_sign sign.Colon miss) (sym o.1) ∙ h))
 
 equals-inside : (miss : Wanted) (l : Line) (ls : List Line) (s s' : State) → On l ls s → expect_sign sign.Equals miss s ≡ Ok s' → On l ls s'
 equals-inside miss l ls s s' o h = (_, behind-inside sign.Equals miss (with_units o.0 l) ls s' (ap (expect_sign sign.Equals miss) (sym o.1) ∙ h))
 
-name-inside : (want : Wanted) (l : Line) (ls : List Line) (s : State) (y : NameText × State) → On l ls s → name_next want s ≡ Ok y → On l ls y.1
+pub name-inside : (want : Wanted) (l : Line) (ls : List Line) (s : State) (y : NameText × State) → On l ls s → name_next want s ≡ Ok y → On l ls y.1
 name-inside want l ls s y o h = name_next-inside want (with_units o.0 l) ls y (ap (name_next want) (sym o.1) ∙ h)
 
 value-inside : (l : Line) (ls : List Line) (s : State) (y : WordText × State) → On l ls s → called (value_of s) ≡ Ok y → On l ls y.1
@@ -98,7 +98,7 @@ word_here-inside l ls true y e =
     (drop_while in_word l.units, sym (after-is _ _ y f))
 word_here-inside l ls false y e = (l.units, sym (after-is _ _ y e))
 
-word-inside : (l : Line) (ls : List Line) (s : State) (y : Option WordText × State) → On l ls s → called (path_word_of s) ≡ Ok y → On l ls y.1
+pub word-inside : (l : Line) (ls : List Line) (s : State) (y : Option WordText × State) → On l ls s → called (path_word_of s) ≡ Ok y → On l ls y.1
 word-inside l ls s y o h =
     let m = behind_blanks (with_units o.0 l) in
     let e = called-fault (next_fault m.units) _ y (ap (λ s. called (path_word_of s)) (sym o.1) ∙ h) in
@@ -128,21 +128,21 @@ words_if-inside l ls true s y o h = words-inside l ls s y o h
 words_if-inside l ls false s y o h = subst (On l ls) (after-is _ _ y h) o
 
 -- a sign that does not end the line
-abbrev InLine : Sign → Type 0
+abbrev pub InLine : Sign → Type 0
 InLine want = (l : Line) (ls : List Line) → On l ls (behind_sign want l ls)
 
 sign-on : (want : Sign) (l : Line) (ls : List Line) (t : Bool) (y : Bool × State) → InLine want → called (cond t (calls.reply true (behind_sign want l ls)) (calls.reply false (Inside l ls))) ≡ Ok y → On l ls y.1
 sign-on want l ls true y i e = subst (On l ls) (after-is _ _ y e) (i l ls)
 sign-on want l ls false y i e = (l.units, sym (after-is _ _ y e))
 
-sign-inside : (want : Sign) (l : Line) (ls : List Line) (s : State) (y : Bool × State) → InLine want → On l ls s → called (sign_of want s) ≡ Ok y → On l ls y.1
+pub sign-inside : (want : Sign) (l : Line) (ls : List Line) (s : State) (y : Bool × State) → InLine want → On l ls s → called (sign_of want s) ≡ Ok y → On l ls y.1
 sign-inside want l ls s y i o h =
     let m = behind_blanks (with_units o.0 l) in
     let e = called-fault (next_fault m.units) _ y (ap (λ s. called (sign_of want s)) (sym o.1) ∙ h) in
     let p = sign-on want m ls (is_sign want m.units) y i e in
     (p.0, p.1)
 
-section-inside : (want : Sign) (l : Line) (ls : List Line) (s : State) (y : List WordText × State) → InLine want → On l ls s → section_next want s ≡ Ok y → On l ls y.1
+pub section-inside : (want : Sign) (l : Line) (ls : List Line) (s : State) (y : List WordText × State) → InLine want → On l ls s → section_next want s ≡ Ok y → On l ls y.1
 unfolding section_next
 section-inside want l ls s y i o h =
     let there = bind-ok (called (sign_of want s)) (λ t. words_if t.0 t.1) y h in
@@ -151,12 +151,12 @@ section-inside want l ls s y i o h =
 -- ---- lines
 
 -- What ends its line leaves the lexer behind it.
-ends-line : {A : Type 0} (l : Line) (ls : List Line) (x : A) (s : State) (y : A × State) → On l ls s → (expect_sign sign.LineEnd wanted.Newline s >>= λ end. Ok (x, end)) ≡ Ok y → Ended l ls y.1
+pub ends-line : {A : Type 0} (l : Line) (ls : List Line) (x : A) (s : State) (y : A × State) → On l ls s → (expect_sign sign.LineEnd wanted.Newline s >>= λ end. Ok (x, end)) ≡ Ok y → Ended l ls y.1
 ends-line l ls x s y o h =
     let end = bind-ok (expect_sign sign.LineEnd wanted.Newline s) (λ end. Ok (x, end)) y h in
     sym (after-is x end.0 y end.2) ∙ line_end-inside wanted.Newline l ls s end.0 o end.1
 
-equals_value-inside : (l : Line) (ls : List Line) (s : State) (y : WordText × State) → On l ls s → equals_value s ≡ Ok y → Ended l ls y.1
+pub equals_value-inside : (l : Line) (ls : List Line) (s : State) (y : WordText × State) → On l ls s → equals_value s ≡ Ok y → Ended l ls y.1
 unfolding equals_value
 equals_value-inside l ls s y o h =
     let equals = bind-ok (expect_sign sign.Equals wanted.Equals s) _ y h in

@@ -21,7 +21,7 @@ at-head : (l : Line) (ls : List Line) (h : HeadText) (after : State) → head_ne
 unfolding statement_at
 at-head l ls h after e = rw e refl
 
-fails-on : {A B : Type 0} (f : ParseFault) (x : Result A Fault) (k : A → Result B Fault) → Fails f x → Fails f (x >>= k)
+pub fails-on : {A B : Type 0} (f : ParseFault) (x : Result A Fault) (k : A → Result B Fault) → Fails f x → Fails f (x >>= k)
 fails-on (fault.Lex lex.OutOfMemory) x k h = tt
 fails-on (fault.Lex (lex.Unit f)) x k h = rw h refl
 fails-on (fault.Expected s w) x k h = rw h refl
@@ -30,6 +30,8 @@ fails-on (fault.MissingCommand s) x k h = rw h refl
 fails-on (fault.RspPair s) x k h = rw h refl
 fails-on (fault.UnknownKey s key) x k h = rw h refl
 fails-on (fault.MissingDepth s) x k h = rw h refl
+fails-on (fault.DyndepVersion s) x k h = rw h refl
+fails-on (fault.DyndepShape s) x k h = rw h refl
 
 pub here-ok : (before middle after : State) (h : HeadText) (spot : Spot) (item : Statement) → spot ≡ spot_of before → head_next before ≡ Ok (h, middle)
     → ParsesFrom statement_text middle after (with_block spot h) (Ok item) → ParsesAt (option_map placed_text) before after statement_at (Ok (Some (record { spot = spot; item = item })))

@@ -1,6 +1,10 @@
 pub mod BlockLines
 pub mod CallsTaken
 pub mod Consumed
+pub mod DyndepCalls
+pub mod DyndepEnds
+pub mod DyndepRows
+pub mod DyndepValues
 pub mod FaultRows
 pub mod FormRows
 pub mod FormsBlocks

@@ -1,18 +1,61 @@
--- The next statement, by the statement that begins where a line was begun.
-use Rattle.std.proofs.Common.{◌≡◌, Option, Result, Ok, Err, subst, ◌∙◌}
-use Rattle.nj_text.specs.Calls.{State, Inside}
+-- What is read where the next statement begins.
+use Rattle.std.proofs.Common.{◌≡◌, Bool, true, false, cond, Option, None, Result, Ok, Err, List, [], ◌∷◌, refl, sym, ap, subst, ◌∙◌}
+use Rattle.nj_text.specs.Lines.{Line, lines_behind, Kind, CommentLine, TabLine, BlankLine, IndentedLine, PlainLine, kind_of}
+use Rattle.nj_text.specs.Calls.{State, Between, Inside, Failed, without_comments}
 use Rattle.nj_manifest.specs.declared.fault.ParseFault.{ParseFault}
-use Rattle.nj_manifest.specs.Statements.{PlacedText, lines_from, statement_at, next_statement}
-use Rattle.nj_manifest.specs.ParserContracts.{ParsesAt, ParsesNext}
-use Rattle.nj_manifest.proofs.Starts.{BeginsHere}
+use Rattle.nj_manifest.specs.LineSteps.{◌>>=◌}
+use Rattle.nj_manifest.specs.Statements.{PlacedText, Parse, lines_from, nothing_more, statement_at, next_by, next_statement}
+use Rattle.nj_manifest.specs.Openings.{Opening, Begun, Ended, ended, opening_by, opening}
+use Rattle.nj_manifest.specs.Parsers.{Fails}
+use Rattle.nj_manifest.specs.ParserContracts.{ParsesAt, ParsesNext, FindsOpening}
+use Rattle.nj_manifest.proofs.Heres.{fails-on}
 
-pub here-next : {X : Type 0} (view : X → Option PlacedText) (before middle after : State) (result : Result X ParseFault) → BeginsHere (next_statement (lines_from before)) middle → ParsesAt view middle after statement_at result
-    → ParsesNext view before after next_statement result
-here-next {X = X} view before middle after result b h = by_state middle b.2 b.4 h
+-- ---- the next statement begins where the next opening is
+
+abbrev pub statement_from : Opening → Parse (Option PlacedText)
+statement_from (Begun l ls) = statement_at l ls
+statement_from (Ended ls) = nothing_more ls
+
+pub next-opens : (ls : List Line) → next_statement ls ≡ (opening ls >>= statement_from)
+unfolding next_statement opening
+next-opens [] = refl
+next-opens (l ∷ ls) = by_kind (kind_of l) (next-opens ls)
   where
-    by_state : (s : State) → s ≡ Inside b.0 b.1 → next_statement (lines_from before) ≡ statement_at b.0 b.1 → ParsesAt view s after statement_at result → ParsesNext view before after next_statement result
-    by_state s e n h = by_result result (subst (λ s. ParsesAt view s after statement_at result) e h) n
-      where
-        by_result : (r : Result X ParseFault) → ParsesAt view (Inside b.0 b.1) after statement_at r → next_statement (lines_from before) ≡ statement_at b.0 b.1 → ParsesNext view before after next_statement r
-        by_result (Ok x) h n = (n ∙ h.0, h.1)
-        by_result (Err f) h n = rw n h
+    by_last : (t : Bool) (rest : List Line) → next_statement ls ≡ (opening ls >>= statement_from) → cond t (nothing_more rest) (next_statement ls) ≡ (cond t (ended rest) (opening ls) >>= statement_from)
+    by_last true rest h = refl
+    by_last false rest h = h
+
+    by_kind : (k : Kind) → next_statement ls ≡ (opening ls >>= statement_from) → next_by k l ls (next_statement ls) ≡ (opening_by k l ls (opening ls) >>= statement_from)
+    by_kind CommentLine h = by_last l.is_last (lines_behind l (without_comments ls)) h
+    by_kind (TabLine tab) h = refl
+    by_kind IndentedLine h = refl
+    by_kind BlankLine h = by_last l.is_last (lines_behind l ls) h
+    by_kind PlainLine h = refl
+
+-- ---- reading on from there
+
+-- what is read from an opening on
+module _ {A : Type 0} (from : Opening → Parse (Option A)) (whole : List Line → Parse (Option A)) (is : (ls : List Line) → whole ls ≡ (opening ls >>= from)) where
+  pub fails-opening : (f : ParseFault) (before after : State) → FindsOpening before after (Err f) → Fails f (whole (lines_from before))
+  fails-opening f before after h = subst (Fails f) (sym (is (lines_from before))) (fails-on f (opening (lines_from before)) from h)
+
+  pub none-left : ((ls : List Line) → from (Ended ls) ≡ Ok (None, ls)) → (before after : State) → FindsOpening before after (Ok false) → whole (lines_from before) ≡ Ok (None, lines_from after)
+  none-left n before (Between ls) h = is (lines_from before) ∙ (ap (λ o. o >>= from) h.0 ∙ n ls)
+  none-left n before (Inside l ls) h = absurd (apart h.2)
+    where
+      apart : true ≡ false → ⊥
+      apart e = absurd cc
+  none-left n before (Failed f) h = absurd h.1
+
+  pub read-on : {X : Type 0} (view : X → Option A) (at : Line → List Line → Parse (Option A)) → ((l : Line) (ls : List Line) → from (Begun l ls) ≡ at l ls) → (before middle after : State) (result : Result X ParseFault)
+      → FindsOpening before middle (Ok true) → ParsesAt view middle after at result → ParsesNext view before after whole result
+  read-on view at n before (Between ls) after result h p = absurd (apart h.2)
+    where
+      apart : false ≡ true → ⊥
+      apart e = absurd cc
+  read-on view at n before (Failed f) after result h p = absurd h.1
+  read-on {X = X} view at n before (Inside l ls) after result h p = by_result result p (is (lines_from before) ∙ (ap (λ o. o >>= from) h.0 ∙ n l ls))
+    where
+      by_result : (r : Result X ParseFault) → ParsesAt view (Inside l ls) after at r → whole (lines_from before) ≡ at l ls → ParsesNext view before after whole r
+      by_result (Ok x) p e = (e ∙ p.0, p.1)
+      by_result (Err f) p e = subst (Fails f) (sym e) p

@@ -1,5 +1,5 @@
--- The next statement of lines, by what the lexer answers at their start.
-use Rattle.std.proofs.Common.{◌≡◌, ℕ, suc, ◌<◌, ◌≤◌, Bool, true, false, cond, ◌&&◌, Option, Result, Ok, Err, List, [], ◌∷◌, refl, sym, ap, subst, arith}
+-- Where the next statement of lines begins, by what the lexer answers at their start.
+use Rattle.std.proofs.Common.{◌≡◌, ℕ, suc, ◌<◌, ◌≤◌, Bool, true, false, cond, ◌&&◌, Result, Ok, Err, List, [], ◌∷◌, refl, sym, ap, subst, arith}
 use Rattle.nj_text.specs.declared.fault.UnitFault.{UnitFault}
 use Rattle.nj_text.specs.declared.fault.LexFault.{LexFault}
 use Rattle.nj_text.specs.declared.fault.LexFault.TheVariants as lex
@@ -11,33 +11,34 @@ use Rattle.nj_text.specs.Lines.{Line, with_units, lines_behind, Kind, CommentLin
 use Rattle.nj_text.specs.Calls as calls
 use Rattle.nj_text.specs.Calls.{State, Reply, Between, Inside, Failed, Answers, start_line_of, begun, begun_by, is_comment, is_empty, without_comments, spot_of}
 use Rattle.nj_manifest.specs.declared.fault.ParseFault.TheVariants as fault
-use Rattle.nj_manifest.specs.Faults.{Bad, UnexpectedIndent}
+use Rattle.nj_manifest.specs.Faults.{Fault, Bad, UnexpectedIndent}
 use Rattle.nj_manifest.specs.Parsers.{Fails}
-use Rattle.nj_manifest.specs.Statements.{PlacedText, Parse, lines_from, or_last, nothing_more, statement_at, next_by, next_statement}
-use Rattle.nj_manifest.specs.ParserContracts.{IsBetweenStatements}
+use Rattle.nj_manifest.specs.Statements.{lines_from, or_last}
+use Rattle.nj_manifest.specs.Openings.{Opening, Begun, ended, opening_by, opening}
+use Rattle.nj_manifest.specs.ParserContracts.{IsBetweenStatements, FindsOpening}
 
 abbrev Next : Type 0
-Next = Parse (Option PlacedText)
+Next = Result Opening Fault
 
 abbrev pub front_at : Spot → Spot
 front_at spot = record { line = spot.line; column = 1 }
 
 -- The lexer stands at the first unit of a line with which a statement begins.
 abbrev pub BeginsHere : Next → State → Type 0
-BeginsHere next s = (l : Line) × (ls : List Line) × (s ≡ Inside l ls) × (kind_of l ≡ PlainLine) × (next ≡ statement_at l ls)
+BeginsHere next s = (l : Line) × (ls : List Line) × (s ≡ Inside l ls) × (kind_of l ≡ PlainLine) × (next ≡ Ok (Begun l ls))
 
--- what the start of a line tells of the next statement
+-- what the start of a line says of the next statement
 abbrev pub Begins : Next → Result LineStart UnitFault → State → Type 0
-Begins next (Ok start.End) s = (next ≡ nothing_more (lines_from s)) × (ls : List Line) × (s ≡ Between ls)
-Begins next (Ok start.Blank) s = (ls : List Line) × (s ≡ Between ls) × (next ≡ next_statement ls)
+Begins next (Ok start.End) s = (next ≡ ended (lines_from s)) × (ls : List Line) × (s ≡ Between ls)
+Begins next (Ok start.Blank) s = (ls : List Line) × (s ≡ Between ls) × (next ≡ opening ls)
 Begins next (Ok start.Indented) s = next ≡ Err (UnexpectedIndent (front_at (spot_of s)))
 Begins next (Ok start.Plain) s = BeginsHere next s
 Begins next (Ok start.Middle) s = BeginsHere next s
 Begins next (Err f) s = next ≡ Err (Bad f)
 
 -- a last line without units is blank, and nothing comes behind it
-next-empty : (l : Line) (ls : List Line) → l.is_last ≡ true → next_statement (with_units [] l ∷ ls) ≡ nothing_more (with_units [] l ∷ ls)
-unfolding next_statement
+next-empty : (l : Line) (ls : List Line) → l.is_last ≡ true → opening (with_units [] l ∷ ls) ≡ ended (with_units [] l ∷ ls)
+unfolding opening
 next-empty l ls e = rw e refl
 
 no-units : (us : List TextUnit) → is_empty us ≡ true → us ≡ []
@@ -50,14 +51,14 @@ without-units l h = ap (λ (us : List TextUnit). with_units us l) (sym (no-units
 abbrev BeginsBlank : Line → List Line → (last empty : Bool) → Type 0
 BeginsBlank l ls last empty =
     let r = cond (last && empty) (calls.reply start.End (Between (l ∷ ls))) (calls.reply start.Blank (Between (cond last (with_units [] l ∷ ls) ls))) in
-    Begins (cond last (nothing_more (cond last (with_units [] l ∷ ls) ls)) (next_statement ls)) r.answer r.after
+    Begins (cond last (ended (cond last (with_units [] l ∷ ls) ls)) (opening ls)) r.answer r.after
 
 begun-blank : (l : Line) (ls : List Line) (last empty : Bool) → l.is_last ≡ last → is_empty l.units ≡ empty → BeginsBlank l ls last empty
 begun-blank l ls false empty e h = (ls, refl, refl)
-begun-blank l ls true true e h = (ap (λ (m : Line). nothing_more (m ∷ ls)) (without-units l h), l ∷ ls, refl)
+begun-blank l ls true true e h = (ap (λ (m : Line). ended (m ∷ ls)) (without-units l h), l ∷ ls, refl)
 begun-blank l ls true false e h = (with_units [] l ∷ ls, refl, sym (next-empty l ls e))
 
-begun-kind : (k : Kind) (l : Line) (ls : List Line) → kind_of l ≡ k → is_comment k ≡ false → Begins (next_by k l ls (next_statement ls)) (begun_by k l ls).answer (begun_by k l ls).after
+begun-kind : (k : Kind) (l : Line) (ls : List Line) → kind_of l ≡ k → is_comment k ≡ false → Begins (opening_by k l ls (opening ls)) (begun_by k l ls).answer (begun_by k l ls).after
 begun-kind CommentLine l ls e h = absurd cc
 begun-kind (TabLine tab) l ls e h = refl
 begun-kind BlankLine l ls e h = begun-blank l ls l.is_last (is_empty l.units) refl refl
@@ -67,50 +68,50 @@ begun-kind PlainLine l ls e h = (l, ls, refl, e, refl)
 abbrev BeginsAt : Next → List Line → Type 0
 BeginsAt next ls = Begins next (begun ls).answer (begun ls).after
 
-next-comment : (k : Kind) (l : Line) (ls : List Line) (others : Next) → is_comment k ≡ true → next_by k l ls others ≡ or_last l (nothing_more (lines_behind l (without_comments ls))) others
+next-comment : (k : Kind) (l : Line) (ls : List Line) (others : Next) → is_comment k ≡ true → opening_by k l ls others ≡ or_last l (ended (lines_behind l (without_comments ls))) others
 next-comment CommentLine l ls others h = refl
 next-comment (TabLine tab) l ls others h = absurd cc
 next-comment BlankLine l ls others h = absurd cc
 next-comment IndentedLine l ls others h = absurd cc
 next-comment PlainLine l ls others h = absurd cc
 
-begun-next : (ls : List Line) → BeginsAt (next_statement ls) (without_comments ls)
-unfolding next_statement
+begun-next : (ls : List Line) → BeginsAt (opening ls) (without_comments ls)
+unfolding opening
 begun-next [] = (refl, [], refl)
 begun-next (l ∷ ls) = by_comment (is_comment (kind_of l)) refl (begun-next ls)
   where
-    by_last : (t : Bool) → l.is_last ≡ t → BeginsAt (next_statement ls) (without_comments ls)
-        → BeginsAt (cond t (nothing_more (cond t (with_units [] l ∷ without_comments ls) (without_comments ls))) (next_statement ls)) (cond t (with_units [] l ∷ without_comments ls) (without_comments ls))
+    by_last : (t : Bool) → l.is_last ≡ t → BeginsAt (opening ls) (without_comments ls)
+        → BeginsAt (cond t (ended (cond t (with_units [] l ∷ without_comments ls) (without_comments ls))) (opening ls)) (cond t (with_units [] l ∷ without_comments ls) (without_comments ls))
     by_last true e rest = rw e (refl, _, refl)
     by_last false e rest = rest
 
-    by_comment : (t : Bool) → is_comment (kind_of l) ≡ t → BeginsAt (next_statement ls) (without_comments ls) → BeginsAt (next_by (kind_of l) l ls (next_statement ls)) (cond t (lines_behind l (without_comments ls)) (l ∷ ls))
+    by_comment : (t : Bool) → is_comment (kind_of l) ≡ t → BeginsAt (opening ls) (without_comments ls) → BeginsAt (opening_by (kind_of l) l ls (opening ls)) (cond t (lines_behind l (without_comments ls)) (l ∷ ls))
     by_comment false e rest = begun-kind (kind_of l) l ls refl e
-    by_comment true e rest = rw (next-comment (kind_of l) l ls (next_statement ls) e) (by_last l.is_last refl rest)
+    by_comment true e rest = rw (next-comment (kind_of l) l ls (opening ls) e) (by_last l.is_last refl rest)
 
 -- what the lexer answers at the start of a line
 abbrev Answered : Result LineStart UnitFault → (after : State) → Reply LineStart → Type 0
 Answered answer after r = (r.answer ≡ answer) × (after ≡ r.after)
 
-start-begins : (ls : List Line) (answer : Result LineStart UnitFault) (s : State) → Answered answer s (start_line_of (Between ls)) → Begins (next_statement ls) answer s
-start-begins ls answer s h = subst (λ a. Begins (next_statement ls) a s) h.0 (subst (Begins (next_statement ls) (begun (without_comments ls)).answer) (sym h.1) (begun-next ls))
+start-begins : (ls : List Line) (answer : Result LineStart UnitFault) (s : State) → Answered answer s (start_line_of (Between ls)) → Begins (opening ls) answer s
+start-begins ls answer s h = subst (λ a. Begins (opening ls) a s) h.0 (subst (Begins (opening ls) (begun (without_comments ls)).answer) (sym h.1) (begun-next ls))
 
 -- The line that was begun is a plain one.
-middle-begins : (l : Line) (ls : List Line) (answer : Result LineStart UnitFault) (s : State) → kind_of l ≡ PlainLine → Answered answer s (start_line_of (Inside l ls)) → Begins (next_statement (l ∷ ls)) answer s
-unfolding next_statement
+middle-begins : (l : Line) (ls : List Line) (answer : Result LineStart UnitFault) (s : State) → kind_of l ≡ PlainLine → Answered answer s (start_line_of (Inside l ls)) → Begins (opening (l ∷ ls)) answer s
+unfolding opening
 middle-begins l ls (Ok x) s e h =
-    let here : next_by (kind_of l) l ls (next_statement ls) ≡ statement_at l ls = rw e refl in
-    let begun : BeginsHere (next_by (kind_of l) l ls (next_statement ls)) (Inside l ls) = (l, ls, refl, e, here) in
-    subst (λ a. Begins (next_by (kind_of l) l ls (next_statement ls)) a s) h.0 (subst (BeginsHere (next_by (kind_of l) l ls (next_statement ls))) (sym h.1) begun)
+    let here : opening_by (kind_of l) l ls (opening ls) ≡ Ok (Begun l ls) = rw e refl in
+    let begun : BeginsHere (opening_by (kind_of l) l ls (opening ls)) (Inside l ls) = (l, ls, refl, e, here) in
+    subst (λ a. Begins (opening_by (kind_of l) l ls (opening ls)) a s) h.0 (subst (BeginsHere (opening_by (kind_of l) l ls (opening ls))) (sym h.1) begun)
 middle-begins l ls (Err f) s e h = absurd cc
 
-pub begins : (before after : State) (answer : Result LineStart UnitFault) → IsBetweenStatements before → Answered answer after (start_line_of before) → Begins (next_statement (lines_from before)) answer after
+pub begins : (before after : State) (answer : Result LineStart UnitFault) → IsBetweenStatements before → Answered answer after (start_line_of before) → Begins (opening (lines_from before)) answer after
 begins (Between ls) after answer stands h = start-begins ls answer after h
 begins (Inside l ls) after answer stands h = middle-begins l ls answer after stands h
 begins (Failed f) after answer stands h = absurd stands
 
 -- the fault at a line's start, as it is answered
-pub begins-badly : (before after : State) (f : LexFault) → IsBetweenStatements before → Answers {X = LineStart} (λ start. start) (Err f) after (start_line_of before) → Fails (fault.Lex f) (next_statement (lines_from before))
+pub begins-badly : (before after : State) (f : LexFault) → IsBetweenStatements before → Answers {X = LineStart} (λ start. start) (Err f) after (start_line_of before) → Fails (fault.Lex f) (opening (lines_from before))
 begins-badly before after lex.OutOfMemory stands h = tt
 begins-badly before after (lex.Unit f) stands h = begins before after (Err f) stands h
 
@@ -171,8 +172,18 @@ blank-falls (Between ls) after h =
 blank-falls (Inside l ls) after h = absurd cc
 blank-falls (Failed f) after h = absurd cc
 
-pub begins-as : (before after : State) (got want : LineStart) → got ≡ want → IsBetweenStatements before → Answers (λ start. start) (Ok got) after (start_line_of before) → Begins (next_statement (lines_from before)) (Ok want) after
-begins-as before after got want e stands h = subst (λ x. Begins (next_statement (lines_from before)) (Ok x) after) e (begins before after (Ok got) stands h)
+pub begins-as : (before after : State) (got want : LineStart) → got ≡ want → IsBetweenStatements before → Answers (λ start. start) (Ok got) after (start_line_of before) → Begins (opening (lines_from before)) (Ok want) after
+begins-as before after got want e stands h = subst (λ x. Begins (opening (lines_from before)) (Ok x) after) e (begins before after (Ok got) stands h)
 
 pub blank-falls-as : (before after : State) (got : LineStart) → got ≡ start.Blank → Answers (λ start. start) (Ok got) after (start_line_of before) → lines_ahead after < lines_ahead before
 blank-falls-as before after got e h = blank-falls before after (subst (λ x. Answers (λ start. start) (Ok x) after (start_line_of before)) e h)
+
+-- ---- as it is found
+
+pub found-end : (before after : State) → opening (lines_from before) ≡ ended (lines_from after) × (ls : List Line) × (after ≡ Between ls) → FindsOpening before after (Ok false)
+found-end before (Between ls) h = (h.0, tt, refl)
+found-end before (Inside l ls) h = absurd cc
+found-end before (Failed f) h = absurd cc
+
+pub found-line : (before after : State) → BeginsHere (opening (lines_from before)) after → FindsOpening before after (Ok true)
+found-line before after h = subst (λ s. FindsOpening before s (Ok true)) (sym h.2) (h.4, h.3, refl)

@@ -22,6 +22,9 @@ pub data Fault : Type 0 where
   RspPair : (spot : Spot) → Fault
   UnknownKey : (spot : Spot) (key : List ℕ) → Fault
   MissingDepth : (spot : Spot) → Fault
+  -- of dyndep files alone
+  DyndepVersion : (spot : Spot) → Fault
+  DyndepShape : (spot : Spot) → Fault
   -- none of a text: the program's own
   OutOfMemory : Fault
 
@@ -34,8 +37,10 @@ fault_text (fault.MissingCommand spot) = MissingCommand spot
 fault_text (fault.RspPair spot) = RspPair spot
 fault_text (fault.UnknownKey spot key) = UnknownKey spot key.now
 fault_text (fault.MissingDepth spot) = MissingDepth spot
+fault_text (fault.DyndepVersion spot) = DyndepVersion spot
+fault_text (fault.DyndepShape spot) = DyndepShape spot
 
--- A fault of syntax; the others say what a whole block lacks.
+-- A fault of the syntax of statements; the others say what a whole block lacks, or are of dyndep files.
 abbrev pub is_syntax : Fault → Bool
 is_syntax (Bad unit) = true
 is_syntax (Expected spot wanted) = true
@@ -44,6 +49,8 @@ is_syntax (MissingCommand spot) = false
 is_syntax (RspPair spot) = false
 is_syntax (UnknownKey spot key) = true
 is_syntax (MissingDepth spot) = false
+is_syntax (DyndepVersion spot) = false
+is_syntax (DyndepShape spot) = false
 is_syntax OutOfMemory = false
 
 -- the text of what is wanted
@@ -70,6 +77,8 @@ place_of (MissingCommand spot) = Some spot
 place_of (RspPair spot) = Some spot
 place_of (UnknownKey spot key) = Some spot
 place_of (MissingDepth spot) = Some spot
+place_of (DyndepVersion spot) = Some spot
+place_of (DyndepShape spot) = Some spot
 place_of OutOfMemory = None
 
 abbrev pub unit_text : UnitFault → List ℕ
@@ -85,4 +94,6 @@ text_of (MissingCommand spot) = codes "expected 'command =' line"
 text_of (RspPair spot) = codes "rspfile and rspfile_content need to be both specified"
 text_of (UnknownKey spot key) = codes "unexpected variable '" ++ key ++ codes "'"
 text_of (MissingDepth spot) = codes "expected 'depth =' line"
+text_of (DyndepVersion spot) = codes "expected 'ninja_dyndep_version = 1'"
+text_of (DyndepShape spot) = codes "not a dyndep statement"
 text_of OutOfMemory = codes "out of memory"

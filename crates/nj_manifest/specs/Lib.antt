@@ -1,9 +1,12 @@
 pub mod Contents
+pub mod DyndepParsers
+pub mod Dyndeps
 pub mod Faults
 pub mod Grammar
 pub mod Laws
 pub mod Leftmost
 pub mod LineSteps
+pub mod Openings
 pub mod ParserContracts
 pub mod Parsers
 pub mod Statements

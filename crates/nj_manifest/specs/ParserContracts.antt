@@ -1,11 +1,12 @@
 -- What the private functions of a parser answer, and where they leave its lexer.
 use Rattle.std.specs.Prelude.{◌≡◌, Bool, true, false, Option, Some, None, Result, Ok, Err, List}
 use Rattle.nj_text.specs.Lines as lines
-use Rattle.nj_text.specs.Calls.{State, Between, Inside, Failed}
+use Rattle.nj_text.specs.Calls.{State, Between, Inside, Failed, is_inside}
 use Rattle.nj_manifest.specs.declared.fault.ParseFault.{ParseFault}
 use Rattle.nj_manifest.specs.Faults.{Fault, fault_text}
 use Rattle.nj_manifest.specs.LineSteps.{Step}
 use Rattle.nj_manifest.specs.Statements.{LineText, Parse, lines_from, Left, Lines, Refused}
+use Rattle.nj_manifest.specs.Openings.{Opening, Begun, Ended, opening}
 use Rattle.nj_manifest.specs.Parsers.{Fails}
 
 -- ---- along a line
@@ -40,6 +41,17 @@ abbrev pub ParsesAt : {X Y : Type 0}
 ParsesAt view (Inside l ls) after parse (Ok x) = (parse l ls ≡ Ok (view x, lines_from after)) × IsBetweenStatements after
 ParsesAt view (Inside l ls) after parse (Err f) = Fails f (parse l ls)
 ParsesAt view other after parse result = Unit {0}
+
+-- where the next statement begins, if the lexer stands there
+abbrev pub opening_at : State → Opening
+opening_at (Inside l ls) = Begun l ls
+opening_at s = Ended (lines_from s)
+
+-- It finds where the next statement begins, and leaves the lexer there: whether there is one.
+abbrev pub FindsOpening : (before after : State) → Result Bool ParseFault → Type 0
+FindsOpening before after (Ok found) =
+    (opening (lines_from before) ≡ Ok (opening_at after)) × IsBetweenStatements after × (is_inside after ≡ found)
+FindsOpening before after (Err f) = Fails f (opening (lines_from before))
 
 -- what is read of the lines that are left, with the lexer before the lines after it
 abbrev pub ParsesNext : {X Y : Type 0} → (X → Y) → (before after : State) → (List lines.Line → Parse Y) → Result X ParseFault → Type 0

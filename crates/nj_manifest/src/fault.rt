@@ -72,6 +72,11 @@ pub enum ParseFault<'a> {
     UnknownKey(Spot, &'a [u8]),
     /// A pool without `depth`; the place is that of the statement.
     MissingDepth(Spot),
+    /// A dyndep file that does not begin with its version; the place is that of the first statement, or the end of the
+    /// text.
+    DyndepVersion(Spot),
+    /// A statement of a dyndep file that is no dyndep statement, at the first unit that departs from its form.
+    DyndepShape(Spot),
 }
 
 impl<'a> ParseFault<'a> {
@@ -88,6 +93,8 @@ impl<'a> ParseFault<'a> {
             ParseFault::RspPair(spot) => Some(spot),
             ParseFault::UnknownKey(spot, _) => Some(spot),
             ParseFault::MissingDepth(spot) => Some(spot),
+            ParseFault::DyndepVersion(spot) => Some(spot),
+            ParseFault::DyndepShape(spot) => Some(spot),
         }
     }
 
@@ -106,6 +113,8 @@ impl<'a> ParseFault<'a> {
             }
             ParseFault::UnknownKey(_, key) => FaultText::naming("unexpected variable '", key, "'"),
             ParseFault::MissingDepth(_) => FaultText::fixed("expected 'depth =' line"),
+            ParseFault::DyndepVersion(_) => FaultText::fixed("expected 'ninja_dyndep_version = 1'"),
+            ParseFault::DyndepShape(_) => FaultText::fixed("not a dyndep statement"),
         }
     }
 }

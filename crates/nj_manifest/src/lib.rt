@@ -4,15 +4,20 @@
 #![tactic(auto)]
 
 mod block;
+mod dyndep;
+mod entries;
 mod fault;
 mod fault_text;
 mod heads;
 mod laws;
 mod next;
+mod opening;
 mod parser;
 mod statement;
 mod steps;
 
+pub use dyndep::DyndepParser;
+pub use entries::Entry;
 pub use fault::{ParseFault, Wanted};
 pub use fault_text::FaultText;
 pub use laws::{faults_are_leftmost, missing_lines_are_lacking, statements_are_the_forms};

@@ -11,9 +11,10 @@ ghost use Rattle.nj_manifest.specs.ParserContracts.{ParsesFrom, ParsesAt, Parses
 use crate::block::{Keys, block, whole_pool, whole_rule};
 use crate::fault::ParseFault;
 use crate::heads::{Head, Inputs, Outputs, head_next};
+use crate::opening::find_statement;
 use crate::statement::{Placed, Statement};
 use crate::steps::Name;
-use nj_text::{Lexer, LineStart, Spot};
+use nj_text::{Lexer, Spot};
 use std::alloc::Global;
 
 /// A rule with its block.
@@ -128,25 +129,8 @@ pub fn next_statement<'a>(
     requires { IsBetweenStatements lexer.old }
     ensures { ParsesNext (option_map placed_text) lexer.old lexer.new next_statement result }
 {
-    'lines: loop {
-        match lexer.start_line()? {
-            LineStart::End => return Ok(None),
-            LineStart::Blank => {}
-            LineStart::Indented => return Err(ParseFault::UnexpectedIndent(line_front(
-                lexer.spot(),
-            ))),
-            LineStart::Plain => return statement_at(alloc, lexer),
-            LineStart::Middle => return statement_at(alloc, lexer),
-        }
+    if find_statement(lexer)? {
+        return statement_at(alloc, lexer);
     }
-}
-
-/// The first column of a line.
-fn line_front(spot: Spot) -> Spot
-    ensures { result ≡ record { line = spot.line; column = 1 } }
-{
-    Spot {
-        line: spot.line,
-        column: 1,
-    }
+    Ok(None)
 }

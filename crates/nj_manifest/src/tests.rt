@@ -496,3 +496,73 @@ fn wanted_has_a_text(rt: HostRuntime) {
         assert_eq!(rt; wanted.text(), text);
     }
 }
+
+/// The first entries of a dyndep file, a line each, and the fault after them.
+fn listed_entries<'a>(
+    alloc: Global,
+    parser: &mut DyndepParser<'a>,
+) -> Result<(String, Option<ParseFault<'a>>), AllocError> {
+    let mut text = String::new(alloc);
+    for _ in 0..9 {
+        match parser.next_entry(alloc) {
+            Ok(Some(entry)) => {
+                put_word(&mut text, &entry.out)?;
+                put_words(&mut text, " |", entry.outs.as_slice())?;
+                text.push_str(" :")?;
+                put_words(&mut text, " |", entry.ins.as_slice())?;
+                text.push('\n')?;
+            }
+            Ok(None) => break,
+            Err(fault) => return Ok((text, Some(fault))),
+        }
+    }
+    Ok((text, None))
+}
+
+#[test]
+fn dyndep_entries(rt: HostRuntime) -> Result<(), Fail> {
+    let text =
+        b"# c\nninja_dyndep_version = 1.0\n\nbuild o | o2: dyndep | extra $x\nbuild p$:q: dyndep\n  restat = 1\n";
+    let mut parser = DyndepParser::new(text);
+    let (found, fault) = listed_entries(rt.alloc(), &mut parser)?;
+    assert_eq!(rt;
+        found.as_str(),
+        " 4:7[o] | 4:11[o2] : | 4:24[extra] 4:30${x}\n 5:7[p][:][q] :\n"
+    );
+    assert_eq!(rt; fault, None);
+    for _ in 0..2 {
+        assert!(rt; matches!(parser.next_entry(rt.alloc()), Ok(None)));
+    }
+    Ok(())
+}
+
+#[test]
+fn dyndep_refusals(rt: HostRuntime) -> Result<(), Fail> {
+    for (text, want, fault) in [
+        (b"".as_slice(), "", ParseFault::DyndepVersion(spot(1, 1))),
+        (
+            b"ninja_dyndep_version = 1.1\nbuild o: dyndep\n",
+            "",
+            ParseFault::DyndepVersion(spot(1, 1)),
+        ),
+        (
+            b"ninja_dyndep_version = 1\nbuild o: dyndep\nbuild p q$!\n",
+            " 2:7[o] :\n",
+            ParseFault::DyndepShape(spot(3, 9)),
+        ),
+        (
+            b"ninja_dyndep_version = 1\nbuild o$!: dyndep\n",
+            "",
+            bad_escape(2, 8),
+        ),
+    ] {
+        let mut parser = DyndepParser::new(text);
+        let (found, first) = listed_entries(rt.alloc(), &mut parser)?;
+        assert_eq!(rt; found.as_str(), want);
+        assert_eq!(rt; first, Some(fault));
+        for _ in 0..2 {
+            assert_eq!(rt; parser.next_entry(rt.alloc()).err(), Some(fault));
+        }
+    }
+    Ok(())
+}

@@ -1,0 +1,200 @@
+-- Worked rows of dyndep files, computed on the definitions.
+use Rattle.std.proofs.Common.{◌≡◌, ℕ, Option, Some, None, Result, Ok, Err, List, [], ◌∷◌, refl}
+use Rattle.std.specs.Prelude.{⊤, codes}
+use Rattle.nj_text.specs.declared.fault.UnitFault.TheVariants as unit_fault
+use Rattle.nj_text.specs.Units.{cut}
+use Rattle.nj_text.specs.Lines.{text_lines}
+use Rattle.nj_text.specs.Words.{WordText, Text, Name}
+use Rattle.nj_manifest.specs.declared.fault.Wanted.TheVariants as wanted
+use Rattle.nj_manifest.specs.Faults.{Fault, Bad, Expected, UnexpectedIndent, DyndepVersion, DyndepShape}
+use Rattle.nj_manifest.specs.LineSteps.{name_next, expect_sign, words_within, words_next, section_next}
+use Rattle.nj_manifest.specs.Statements.{Parse, equals_value}
+use Rattle.nj_manifest.specs.Openings.{opening}
+use Rattle.nj_manifest.specs.Dyndeps.{EntryText, version_line, version_next, word_of_form, no_path, no_section, output_next, added_inputs, entry_line, restat_line, line_too_many, restat_block, entry_at, next_entry, WholeFile, entry_of}
+use Rattle.nj_text.specs.Numbers.{value_of_digits}
+use Rattle.nj_manifest.proofs.StatementRows.{at}
+
+-- what a row unfolds to compute on its text
+unfoldable on_dyndeps : ⊤
+unfolding cut value_of_digits opening next_entry entry_at restat_block line_too_many restat_line entry_line added_inputs output_next no_section no_path word_of_form version_next version_line equals_value name_next expect_sign words_next words_within section_next
+on_dyndeps = tt
+
+-- ---- what a row shows
+
+-- the first answer, without the lines after it
+abbrev answer_of : Parse (Option EntryText) → Result (Option EntryText) Fault
+answer_of (Ok r) = Ok r.0
+answer_of (Err f) = Err f
+
+abbrev first_of : List ℕ → Result (Option EntryText) Fault
+first_of text = answer_of (entry_of (WholeFile (text_lines text)))
+
+-- the first answer after a version
+abbrev entry_in : List ℕ → Result (Option EntryText) Fault
+entry_in text = answer_of (next_entry (text_lines text))
+
+-- the second answer
+abbrev second_by : Parse (Option EntryText) → Result (Option EntryText) Fault
+second_by (Ok r) = answer_of (next_entry r.1)
+second_by (Err f) = Err f
+
+abbrev second_of : List ℕ → Result (Option EntryText) Fault
+second_of text = second_by (entry_of (WholeFile (text_lines text)))
+
+abbrev word : (line column : ℕ) → List ℕ → WordText
+word line column bytes = record { spot = at line column; parts = Text bytes ∷ [] }
+
+abbrev entry : WordText → (outs ins : List WordText) → Result (Option EntryText) Fault
+entry out outs ins = Ok (Some (record { out = out; outs = outs; ins = ins }))
+
+-- ---- entries
+
+whole_file : first_of (codes "ninja_dyndep_version = 1\nbuild o | o2: dyndep | extra\n") ≡ entry (word 2 7 (codes "o")) (word 2 11 (codes "o2") ∷ []) (word 2 24 (codes "extra") ∷ [])
+unfolding on_dyndeps
+whole_file = refl
+
+the_end : second_of (codes "ninja_dyndep_version = 1.0\nbuild o: dyndep\n  restat = 1\n\n") ≡ Ok None
+unfolding on_dyndeps
+the_end = refl
+
+version_alone : first_of (codes "ninja_dyndep_version = 1\n") ≡ Ok None
+unfolding on_dyndeps
+version_alone = refl
+
+empty_sections : entry_in (codes "build o | : dyndep |") ≡ entry (word 1 7 (codes "o")) [] []
+unfolding on_dyndeps
+empty_sections = refl
+
+restat_is_read : entry_in (codes "build o: dyndep\n# c\n  restat = 1") ≡ entry (word 1 7 (codes "o")) [] []
+unfolding on_dyndeps
+restat_is_read = refl
+
+reference_is_a_part : entry_in (codes "build $x: dyndep") ≡ entry (record { spot = at 1 7; parts = Name (codes "x") ∷ [] }) [] []
+unfolding on_dyndeps
+reference_is_a_part = refl
+
+-- ---- versions
+
+patch_is_ignored : first_of (codes "\n# c\nninja_dyndep_version = 1.0.7-x") ≡ Ok None
+unfolding on_dyndeps
+patch_is_ignored = refl
+
+empty_file : first_of [] ≡ Err (DyndepVersion (at 1 1))
+unfolding on_dyndeps
+empty_file = refl
+
+comments_alone : first_of (codes "# c\n\n  ") ≡ Err (DyndepVersion (at 3 3))
+unfolding on_dyndeps
+comments_alone = refl
+
+newer_version : first_of (codes "ninja_dyndep_version = 1.1\nbuild o p") ≡ Err (DyndepVersion (at 1 1))
+unfolding on_dyndeps
+newer_version = refl
+
+version_of_a_reference : first_of (codes "ninja_dyndep_version = ${one}") ≡ Err (DyndepVersion (at 1 1))
+unfolding on_dyndeps
+version_of_a_reference = refl
+
+other_statement_first : first_of (codes "build o$!: dyndep") ≡ Err (DyndepVersion (at 1 1))
+unfolding on_dyndeps
+other_statement_first = refl
+
+version_without_sign : first_of (codes "ninja_dyndep_version 1") ≡ Err (Expected (at 1 22) wanted.Equals)
+unfolding on_dyndeps
+version_without_sign = refl
+
+bad_version : first_of (codes "ninja_dyndep_version = $!") ≡ Err (Bad (unit_fault.BadEscape (at 1 24)))
+unfolding on_dyndeps
+bad_version = refl
+
+no_identifier : first_of (codes "= 1") ≡ Err (Expected (at 1 1) wanted.Statement)
+unfolding on_dyndeps
+no_identifier = refl
+
+indented_version : first_of (codes "  ninja_dyndep_version = 1") ≡ Err (UnexpectedIndent (at 1 1))
+unfolding on_dyndeps
+indented_version = refl
+
+tab_first : first_of (codes "\tx") ≡ Err (Bad (unit_fault.Tab (at 1 1)))
+unfolding on_dyndeps
+tab_first = refl
+
+-- ---- what departs from the form
+
+other_kind : entry_in (codes "rule $!") ≡ Err (DyndepShape (at 1 1))
+unfolding on_dyndeps
+other_kind = refl
+
+second_output : entry_in (codes "build o p") ≡ Err (DyndepShape (at 1 9))
+unfolding on_dyndeps
+second_output = refl
+
+broken_second_output : entry_in (codes "build o p$!: dyndep") ≡ Err (DyndepShape (at 1 9))
+unfolding on_dyndeps
+broken_second_output = refl
+
+bad_unit_after_output : entry_in (codes "build o $!: dyndep") ≡ Err (Bad (unit_fault.BadEscape (at 1 9)))
+unfolding on_dyndeps
+bad_unit_after_output = refl
+
+no_explicit_output : entry_in (codes "build | x: dyndep") ≡ Err (DyndepShape (at 1 7))
+unfolding on_dyndeps
+no_explicit_output = refl
+
+no_output : entry_in (codes "build : dyndep") ≡ Err (Expected (at 1 7) wanted.Path)
+unfolding on_dyndeps
+no_output = refl
+
+no_colon : entry_in (codes "build o") ≡ Err (Expected (at 1 8) wanted.Colon)
+unfolding on_dyndeps
+no_colon = refl
+
+other_rule : entry_in (codes "build o: cc") ≡ Err (DyndepShape (at 1 10))
+unfolding on_dyndeps
+other_rule = refl
+
+no_rule : entry_in (codes "build o: ") ≡ Err (Expected (at 1 10) wanted.CommandName)
+unfolding on_dyndeps
+no_rule = refl
+
+explicit_input : entry_in (codes "build o: dyndep i") ≡ Err (DyndepShape (at 1 17))
+unfolding on_dyndeps
+explicit_input = refl
+
+order_only : entry_in (codes "build o: dyndep | i || j") ≡ Err (DyndepShape (at 1 21))
+unfolding on_dyndeps
+order_only = refl
+
+validation : entry_in (codes "build o: dyndep |@ v") ≡ Err (DyndepShape (at 1 17))
+unfolding on_dyndeps
+validation = refl
+
+second_colon : entry_in (codes "build o: dyndep :") ≡ Err (Expected (at 1 17) wanted.Newline)
+unfolding on_dyndeps
+second_colon = refl
+
+second_pipe : entry_in (codes "build o: dyndep | i | j") ≡ Err (Expected (at 1 21) wanted.Newline)
+unfolding on_dyndeps
+second_pipe = refl
+
+-- ---- blocks
+
+other_key : entry_in (codes "build o: dyndep\n  foo") ≡ Err (DyndepShape (at 2 3))
+unfolding on_dyndeps
+other_key = refl
+
+second_line : entry_in (codes "build o: dyndep\n  restat = 1\n  restat = 1") ≡ Err (DyndepShape (at 3 3))
+unfolding on_dyndeps
+second_line = refl
+
+second_line_without_key : entry_in (codes "build o: dyndep\n  restat = 1\n  = 1") ≡ Err (Expected (at 3 3) wanted.VariableName)
+unfolding on_dyndeps
+second_line_without_key = refl
+
+tab_in_block : entry_in (codes "build o: dyndep\n\trestat = 1") ≡ Err (Bad (unit_fault.Tab (at 2 1)))
+unfolding on_dyndeps
+tab_in_block = refl
+
+indent_after_blank : second_of (codes "ninja_dyndep_version = 1\nbuild o: dyndep\n\n  restat = 1") ≡ Err (UnexpectedIndent (at 4 1))
+unfolding on_dyndeps
+indent_after_blank = refl

@@ -1,0 +1,184 @@
+//! The lines of a dyndep file.
+
+ghost use Rattle.std.specs.Prelude.{◌≡◌, IfOk, map};
+ghost use Rattle.nj_text.specs.Words.{word_text, part_text};
+ghost use Rattle.nj_manifest.specs.Contents.{words_text};
+ghost use Rattle.nj_manifest.specs.ParserContracts.{TakesStep, LeadsTo};
+ghost use Rattle.nj_manifest.specs.Dyndeps.{value_bytes, version_line, word_of_form, no_path, no_section, output_next, added_inputs, entry_line, restat_line, line_too_many, restat_block};
+ghost use Rattle.nj_manifest.specs.DyndepParsers.{entry_text};
+
+use crate::block::equals_value;
+use crate::fault::{ParseFault, Wanted};
+use crate::steps::{expect_sign, name_next, section_next};
+use nj_text::{LexFault, Lexer, LineStart, Part, Sign, Word, version_of};
+use std::alloc::{AllocError, Global};
+
+/// A statement of a dyndep file: `build OUT | OUTS: dyndep | INS`.
+#[derive(Debug, Drop)]
+pub struct Entry<'a> {
+    /// An output of the build statement that is meant.
+    pub out: Word<'a>,
+    /// The outputs that it has besides.
+    pub outs: Vec<Word<'a>>,
+    /// The inputs that it has besides.
+    pub ins: Vec<Word<'a>>,
+}
+
+/// The bytes of a value in which each reference is empty.
+fn value_bytes(alloc: Global, parts: &[Part]) -> Result<Vec<u8>, AllocError>
+    ensures { IfOk result (λ bytes. bytes.items ≡ value_bytes (map part_text parts.now)) }
+{
+    let mut bytes = Vec::new(alloc);
+    'parts: for part in parts {
+        match part {
+            Part::Bytes(run) => bytes.extend_from_slice(run)?,
+            Part::Name(_) => {}
+        }
+    }
+    Ok(bytes)
+}
+
+/// `ninja_dyndep_version = 1`
+#[tactic(auto, unfolding(crate::specs::Dyndeps::version_line))]
+pub fn version_line<'a>(alloc: Global, lexer: &mut Lexer<'a>) -> Result<(), ParseFault<'a>>
+    ensures { LeadsTo result lexer.new (version_line lexer.old) }
+{
+    let name = name_next(lexer, Wanted::Statement)?;
+    if name.name != b"ninja_dyndep_version".as_slice() {
+        return Err(ParseFault::DyndepVersion(name.spot));
+    }
+    let value = equals_value(alloc, lexer)?;
+    let bytes = value_bytes(alloc, value.parts.as_slice())?;
+    let (major, minor) = version_of(&bytes);
+    if major == 1 && minor == 0 {
+        return Ok(());
+    }
+    Err(ParseFault::DyndepVersion(name.spot))
+}
+
+/// Takes this identifier.
+#[tactic(auto, unfolding(crate::specs::Dyndeps::word_of_form))]
+fn word_of_form<'a>(
+    lexer: &mut Lexer<'a>,
+    word: &[u8],
+    wanted: Wanted,
+) -> Result<(), ParseFault<'a>>
+    ensures { LeadsTo result lexer.new (word_of_form word.now wanted lexer.old) }
+{
+    let name = name_next(lexer, wanted)?;
+    if name.name != word {
+        return Err(ParseFault::DyndepShape(name.spot));
+    }
+    Ok(())
+}
+
+/// Refuses a path that stands here, at its first unit.
+#[tactic(auto, unfolding(crate::specs::Dyndeps::no_path))]
+fn no_path<'a>(alloc: Global, lexer: &mut Lexer<'a>) -> Result<(), ParseFault<'a>>
+    ensures { LeadsTo result lexer.new (no_path lexer.old) }
+{
+    lexer.skip_blanks();
+    let spot = lexer.spot();
+    match lexer.path_word(alloc) {
+        Ok(None) => Ok(()),
+        Ok(Some(_)) => Err(ParseFault::DyndepShape(spot)),
+        Err(LexFault::OutOfMemory) => Err(ParseFault::Lex(LexFault::OutOfMemory)),
+        Err(LexFault::Unit(unit)) => {
+            if unit.spot() == spot {
+                Err(ParseFault::Lex(LexFault::Unit(unit)))
+            } else {
+                Err(ParseFault::DyndepShape(spot))
+            }
+        }
+    }
+}
+
+/// Refuses a section that begins here with this sign.
+#[tactic(auto, unfolding(crate::specs::Dyndeps::no_section))]
+fn no_section<'a>(lexer: &mut Lexer<'a>, want: Sign) -> Result<(), ParseFault<'a>>
+    ensures { LeadsTo result lexer.new (no_section want lexer.old) }
+{
+    lexer.skip_blanks();
+    let spot = lexer.spot();
+    if lexer.sign(want)? {
+        return Err(ParseFault::DyndepShape(spot));
+    }
+    Ok(())
+}
+
+/// After `build`: the one explicit output.
+#[tactic(auto, unfolding(crate::specs::Dyndeps::output_next))]
+fn output_next<'a>(alloc: Global, lexer: &mut Lexer<'a>) -> Result<Word<'a>, ParseFault<'a>>
+    ensures { TakesStep word_text result lexer.new (output_next lexer.old) }
+{
+    match lexer.path_word(alloc)? {
+        Some(out) => {
+            no_path(alloc, lexer)?;
+            Ok(out)
+        }
+        None => {
+            let spot = lexer.spot();
+            if lexer.sign(Sign::Pipe)? {
+                return Err(ParseFault::DyndepShape(spot));
+            }
+            Err(ParseFault::Expected(spot, Wanted::Path))
+        }
+    }
+}
+
+/// After the rule's name: the implicit inputs, up to the end of the line.
+#[tactic(auto, unfolding(crate::specs::Dyndeps::added_inputs))]
+fn added_inputs<'a>(alloc: Global, lexer: &mut Lexer<'a>) -> Result<Vec<Word<'a>>, ParseFault<'a>>
+    ensures { TakesStep (λ words. words_text words.items) result lexer.new
+        (added_inputs lexer.old) }
+{
+    no_path(alloc, lexer)?;
+    let ins = section_next(alloc, lexer, Sign::Pipe)?;
+    no_section(lexer, Sign::Pipe2)?;
+    no_section(lexer, Sign::PipeAt)?;
+    expect_sign(lexer, Sign::LineEnd, Wanted::Newline)?;
+    Ok(ins)
+}
+
+/// `build OUT | OUTS: dyndep | INS`
+#[tactic(auto, unfolding(crate::specs::Dyndeps::entry_line))]
+pub fn entry_line<'a>(alloc: Global, lexer: &mut Lexer<'a>) -> Result<Entry<'a>, ParseFault<'a>>
+    ensures { TakesStep entry_text result lexer.new (entry_line lexer.old) }
+{
+    word_of_form(lexer, b"build", Wanted::Statement)?;
+    let out = output_next(alloc, lexer)?;
+    let outs = section_next(alloc, lexer, Sign::Pipe)?;
+    expect_sign(lexer, Sign::Colon, Wanted::Colon)?;
+    word_of_form(lexer, b"dyndep", Wanted::CommandName)?;
+    let ins = added_inputs(alloc, lexer)?;
+    Ok(Entry { out, outs, ins })
+}
+
+/// `restat = VALUE`
+#[tactic(auto, unfolding(crate::specs::Dyndeps::restat_line))]
+fn restat_line<'a>(alloc: Global, lexer: &mut Lexer<'a>) -> Result<(), ParseFault<'a>>
+    ensures { LeadsTo result lexer.new (restat_line lexer.old) }
+{
+    word_of_form(lexer, b"restat", Wanted::VariableName)?;
+    let _value = equals_value(alloc, lexer)?;
+    Ok(())
+}
+
+/// The block: a line at most.
+#[tactic(auto, unfolding(crate::specs::Dyndeps::restat_block, crate::specs::Dyndeps::line_too_many))]
+pub fn restat_block<'a>(alloc: Global, lexer: &mut Lexer<'a>) -> Result<(), ParseFault<'a>>
+    ensures { LeadsTo result lexer.new (restat_block lexer.old) }
+{
+    match lexer.start_line()? {
+        LineStart::Indented => {}
+        _ => return Ok(()),
+    }
+    restat_line(alloc, lexer)?;
+    match lexer.start_line()? {
+        LineStart::Indented => {
+            let key = name_next(lexer, Wanted::VariableName)?;
+            Err(ParseFault::DyndepShape(key.spot))
+        }
+        _ => Ok(()),
+    }
+}
