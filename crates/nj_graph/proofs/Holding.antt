@@ -2,7 +2,7 @@
 use Rattle.std.proofs.Common.{◌≡◌, ℕ, ◌+◌, ◌==◌, ◌&&◌, if◌then◌else◌, Bool, true, false, not, cond, inl, inr, Option, Some, None, option_map, Result, Ok, Err, List, [], ◌∷◌, find, refl, sym, ap, subst, ◌∙◌, add-zero, true≢false, arith}
 use mathlib.Core.Path.{fun_ext}
 use Rattle.nj_text.specs.Words.{WordText}
-use Rattle.nj_manifest.specs.Steps.{NameText}
+use Rattle.nj_manifest.specs.LineSteps.{NameText}
 use Rattle.nj_manifest.specs.Statements.{LineText}
 use Rattle.nj_scope.specs.Readings.{EachPathOnce, paths_of}
 use Rattle.nj_scope.specs.Scopes.{or_else, Bounds, value_in, expanded}

@@ -5,7 +5,7 @@ use Rattle.nj_text.specs.Lines.{Line}
 use Rattle.nj_manifest.specs.Faults.{Fault}
 use Rattle.nj_manifest.specs.declared.statement.Placed.{Placed}
 use Rattle.nj_manifest.specs.declared.statement.Statement.{Statement}
-use Rattle.nj_manifest.specs.Held.{placed_text}
+use Rattle.nj_manifest.specs.Contents.{placed_text}
 use Rattle.nj_manifest.specs.Statements.{PlacedText, next_statement, Left, Lines, Refused}
 use Rattle.nj_manifest.proofs.Starts.{ahead}
 use Rattle.nj_manifest.proofs.Consumed.{statement_takes}

@@ -10,7 +10,7 @@ use Rattle.nj_text.specs.Words.{WordText}
 use Rattle.nj_manifest.specs.declared.statement.Placed.{Placed}
 use Rattle.nj_manifest.specs.declared.statement.Statement.{Statement}
 use Rattle.nj_manifest.specs.Faults.{Fault}
-use Rattle.nj_manifest.specs.Held.{placed_text}
+use Rattle.nj_manifest.specs.Contents.{placed_text}
 use Rattle.nj_manifest.specs.Statements.{StatementText, IncludeText, SubninjaText, next_statement, Left, Lines, Refused}
 use Rattle.nj_scope.specs.Readings.{Reading, EachPathOnce, paths_of, IsPrefix}
 use Rattle.nj_scope.specs.Sources.{SourceState}

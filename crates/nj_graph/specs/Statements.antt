@@ -1,8 +1,8 @@
 -- The statements of a text.
-use Rattle.std.specs.Prelude.{ℕ, zero, suc, Option, Some, None, Ok, Err, List, [], ◌∷◌, length}
+use Rattle.std.specs.Prelude.{ℕ, zero, suc, Option, Some, None, Result, Ok, Err, List, [], ◌∷◌, length}
 use Rattle.nj_text.specs.Lines.{Line, text_lines}
 use Rattle.nj_manifest.specs.Faults.{Fault}
-use Rattle.nj_manifest.specs.Statements.{Reading, PlacedText, next_statement}
+use Rattle.nj_manifest.specs.Statements.{PlacedText, next_statement}
 
 -- the statements up to the end, or up to the first that has a fault of syntax
 pub record Parsed : Type 0 where
@@ -12,7 +12,7 @@ pub record Parsed : Type 0 where
 abbrev pub and_parsed : PlacedText → Parsed → Parsed
 and_parsed s others = record { statements = s ∷ others.statements; fault = others.fault }
 
-abbrev pub parsed_by : Reading (Option PlacedText) → (List Line → Parsed) → Parsed
+abbrev pub parsed_by : Result (Option PlacedText × List Line) Fault → (List Line → Parsed) → Parsed
 parsed_by (Ok (Some s, rest)) others = and_parsed s (others rest)
 parsed_by (Ok (None, rest)) others = record { statements = []; fault = None }
 parsed_by (Err fault) others = record { statements = []; fault = Some fault }

@@ -4,7 +4,7 @@ ghost use Rattle.std.specs.Prelude.{◌≡◌, ◌<◌, length, OnOk};
 ghost use Rattle.nj_text.specs.declared.spot.Spot.{Spot};
 ghost use Rattle.nj_text.specs.Words.{word_text};
 ghost use Rattle.nj_manifest.specs.Statements.{BindingText, RuleText, PoolText};
-ghost use Rattle.nj_manifest.specs.Held.{lines_text};
+ghost use Rattle.nj_manifest.specs.Contents.{lines_text};
 ghost use Rattle.nj_graph.specs.Reading.{entry_at, site_scope, depth_fault};
 ghost use Rattle.nj_graph.specs.ReaderContracts.{InFile, ScopesGrow, Checks, Declares};
 

@@ -52,7 +52,7 @@ impl Loaded {
 pub fn load<S: FileSource>(alloc: Global, source: &mut S, main: &str) -> Result<Loaded, GraphFault>
     ensures { Loads main.now (S.state source.old) (S.state source.new) result }
 {
-    let mut reader = Reader::new(alloc)?;
+    let mut reader = Reader::new(alloc, source.hash_keys())?;
     reader.read_main(alloc, source, main)?;
     let graph = Graph::new(alloc, reader.declarations)?;
     Ok(Loaded {

@@ -1,7 +1,7 @@
 //! The reading of a run's files: texts, and their statements one after the other.
 
 ghost use Rattle.std.specs.Prelude.{◌≡◌, ◌<◌, Some, None, length, IfOk, OnOk, IfSome};
-ghost use Rattle.nj_manifest.specs.Held.{placed_text};
+ghost use Rattle.nj_manifest.specs.Contents.{placed_text};
 ghost use Rattle.nj_scope.specs.ScopesHeld.{parent_at};
 ghost use Rattle.nj_graph.specs.Faults.{fault_at};
 ghost use Rattle.nj_graph.specs.Reading.{entry_at, opened_in, text_read, statement_read, main_read};
@@ -10,7 +10,7 @@ ghost use Rattle.nj_graph.specs.ReaderContracts.{IsNew, InFile, ScopesGrow, IsFa
 use crate::fault::{Cause, GraphFault};
 use crate::opening::{Naming, text_at};
 use nj_manifest::{Parser, Placed, Spot, Statement};
-use nj_scope::{Declarations, FileSource, FileTable};
+use nj_scope::{Declarations, FileSource, FileTable, HashKeys};
 use std::alloc::{AllocError, Global};
 use std::rc::RcSlice;
 use std::str;
@@ -57,13 +57,13 @@ pub(crate) struct Reader {
 }
 
 impl Reader {
-    /// Nothing is read.
-    pub(crate) fn new(alloc: Global) -> Result<Reader, AllocError>
+    /// Nothing is read. Names and paths are hashed by these keys.
+    pub(crate) fn new(alloc: Global, keys: HashKeys) -> Result<Reader, AllocError>
         ensures { IfOk result (λ r. IsNew r) }
     {
         Ok(Reader {
-            declarations: Declarations::new(alloc)?,
-            files: FileTable::new(alloc),
+            declarations: Declarations::new(alloc, keys)?,
+            files: FileTable::new(alloc, keys),
             opened: 1,
         })
     }

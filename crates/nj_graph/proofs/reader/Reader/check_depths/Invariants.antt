@@ -1,5 +1,5 @@
 use Rattle.std.proofs.Common.{◌≡◌, ℕ, List, ◌∷◌, drop}
-use Rattle.nj_manifest.specs.Held.{lines_text}
+use Rattle.nj_manifest.specs.Contents.{lines_text}
 use Rattle.nj_scope.specs.ReadingList.{Entry}
 use Rattle.nj_graph.specs.Reading.{depth_fault}
 use Rattle.nj_graph.specs.ReaderContracts.{Holds, IsOpenIn}

@@ -1,7 +1,7 @@
 use Rattle.std.proofs.Common.{◌≡◌, true, ◌∷◌, refl, sym, ◌∙◌}
-use Rattle.nj_manifest.specs.Steps.{NameText}
+use Rattle.nj_manifest.specs.LineSteps.{NameText}
 use Rattle.nj_manifest.specs.Statements.{PoolText}
-use Rattle.nj_manifest.specs.Held.{lines_text}
+use Rattle.nj_manifest.specs.Contents.{lines_text}
 use Rattle.nj_graph.specs.declared.reader.Reader.{Reader}
 use Rattle.nj_graph.specs.Reading.{entry_at, site_scope, depth_fault}
 use Rattle.nj_graph.specs.ReaderContracts.{site_of}

@@ -1,6 +1,6 @@
 use Rattle.std.proofs.Common.{refl, sym, ◌∙◌}
 use Rattle.nj_manifest.specs.Statements.{RuleText}
-use Rattle.nj_manifest.specs.Held.{lines_text}
+use Rattle.nj_manifest.specs.Contents.{lines_text}
 use Rattle.nj_graph.specs.Reading.{entry_at}
 use Rattle.nj_graph.specs.ReaderContracts.{site_of}
 use Rattle.nj_graph.proofs.Holding.{holds-next, rule-new}

@@ -1,9 +1,9 @@
 use Rattle.std.proofs.Common.{◌∷◌, Ok, refl, ap, subst}
 use Rattle.nj_text.specs.Words.{word_text}
-use Rattle.nj_manifest.specs.Steps.{NameText}
+use Rattle.nj_manifest.specs.LineSteps.{NameText}
 use Rattle.nj_manifest.specs.Statements.{StatementText, BindingText, RuleText, PoolText}
 use Rattle.nj_manifest.specs.declared.statement.Statement.TheVariants as statement
-use Rattle.nj_manifest.specs.Held.{statement_text, lines_text}
+use Rattle.nj_manifest.specs.Contents.{statement_text, lines_text}
 use Rattle.nj_scope.specs.ReadingList.{Entry}
 use Rattle.nj_graph.specs.Reading.{entry_at, own_fault}
 use Rattle.nj_graph.specs.ReaderContracts.{Holds, IsFault, Declares, site_of}
