@@ -92,6 +92,8 @@ syntax-names file (text.MissingCommand spot) = refl
 syntax-names file (text.RspPair spot) = refl
 syntax-names file (text.UnknownKey spot key) = refl
 syntax-names file (text.MissingDepth spot) = refl
+syntax-names file (text.DyndepVersion spot) = refl
+syntax-names file (text.DyndepShape spot) = refl
 syntax-names file text.OutOfMemory = refl
 
 -- ---- the two kinds of statements that name a file

@@ -31,4 +31,6 @@ fault_in file (text.MissingCommand spot) = fault_at file spot cause.MissingComma
 fault_in file (text.RspPair spot) = fault_at file spot cause.RspPair
 fault_in file (text.UnknownKey spot key) = fault_at file spot (cause.UnknownKey key)
 fault_in file (text.MissingDepth spot) = fault_at file spot cause.MissingDepth
+fault_in file (text.DyndepVersion spot) = fault_at file spot cause.DyndepVersion
+fault_in file (text.DyndepShape spot) = fault_at file spot cause.DyndepShape
 fault_in file text.OutOfMemory = no_memory

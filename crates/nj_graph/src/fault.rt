@@ -93,6 +93,10 @@ pub enum Cause {
     UnknownKey(Name),
     /// A pool without `depth`.
     MissingDepth,
+    /// A dyndep file that does not begin with a version that is read.
+    DyndepVersion,
+    /// A statement that no dyndep file may have.
+    DyndepShape,
     /// A path that is empty once its variables are expanded.
     EmptyPath,
     /// A depth that is no number, or greater than 2147483647.
@@ -158,6 +162,8 @@ impl GraphFault {
             ParseFault::RspPair(spot) => (spot, Cause::RspPair),
             ParseFault::UnknownKey(spot, key) => (spot, Cause::UnknownKey(Name::new(alloc, key)?)),
             ParseFault::MissingDepth(spot) => (spot, Cause::MissingDepth),
+            ParseFault::DyndepVersion(spot) => (spot, Cause::DyndepVersion),
+            ParseFault::DyndepShape(spot) => (spot, Cause::DyndepShape),
         };
         GraphFault::at(alloc, file, spot, cause)
     }

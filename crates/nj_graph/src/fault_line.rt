@@ -64,6 +64,8 @@ fn cause_text(cause: &Cause) -> CauseText<'_>
         Cause::RspPair => alone("rspfile and rspfile_content need to be both specified"),
         Cause::UnknownKey(key) => quoted("unexpected variable '", key),
         Cause::MissingDepth => alone("expected 'depth =' line"),
+        Cause::DyndepVersion => alone("expected 'ninja_dyndep_version = 1'"),
+        Cause::DyndepShape => alone("not a dyndep statement"),
         Cause::EmptyPath => alone("empty path"),
         Cause::BadDepth => alone("invalid pool depth"),
         Cause::DuplicateRule(name) => quoted("duplicate rule '", name),
