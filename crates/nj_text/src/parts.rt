@@ -1,6 +1,7 @@
 //! The parts of words and values.
 
-ghost use Rattle.std.specs.Prelude.{◌≡◌, ◌<◌, ◌+◌, length, map, IfSome};
+ghost use Rattle.std.specs.Prelude.{◌≡◌, ◌<◌, ◌+◌, [], ◌∷◌, ◌++◌, length, map, IfSome, OnOk, IfErr};
+ghost use Rattle.nj_text.specs.declared.fault.LexFault.TheVariants.{OutOfMemory};
 ghost use Rattle.nj_text.specs.Scans.{units_within};
 ghost use Rattle.nj_text.specs.Runs.{in_run};
 ghost use Rattle.nj_text.specs.Calls.{begins_word};
@@ -13,6 +14,9 @@ use crate::runs::{Run, is_in};
 use crate::word::Part;
 use smallvec::SmallVec;
 use std::alloc::Global;
+
+/// How many parts get room at once, after the first.
+const MORE_PARTS: usize = 7;
 
 /// A text with references.
 #[derive(Clone, Copy)]
@@ -66,6 +70,19 @@ fn special_piece(kind: TextKind, cursor: Cursor<'_>) -> Piece<'_>
     }
 }
 
+/// Appends a part. Nearly all words have one; where a second one comes, more will.
+#[inline(always)]
+fn append<'a>(parts: &mut SmallVec<Part<'a>, 1>, part: Part<'a>) -> Result<(), LexFault>
+    ensures items { OnOk result (parts.new.items ≡ parts.old.items ++ part.entry ∷ []) }
+    ensures refused { IfErr result (λ f. f ≡ OutOfMemory) }
+{
+    if parts.len() == 1 {
+        parts.reserve(MORE_PARTS)?;
+    }
+    parts.push(part)?;
+    Ok(())
+}
+
 /// Appends the run of ordinary bytes that comes next, if there is one, and returns the cursor after it.
 #[inline(always)]
 fn take_run<'a>(
@@ -79,7 +96,7 @@ fn take_run<'a>(
     if bytes.is_empty() {
         return Ok(after);
     }
-    parts.push(Part::Bytes(bytes))?;
+    append(parts, Part::Bytes(bytes))?;
     Ok(after)
 }
 
@@ -101,7 +118,7 @@ pub fn gather<'a>(
         };
         match special_piece(kind, behind) {
             Piece::Part(part, after) => {
-                parts.push(part)?;
+                append(&mut parts, part)?;
                 cursor = after;
             }
             Piece::Join(after) => cursor = after,
