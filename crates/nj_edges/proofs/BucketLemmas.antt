@@ -1,6 +1,6 @@
 -- Lemmas on lists with room of their own.
-use Rattle.std.proofs.Common.{◌≡◌, ◌≤◌, ◌<◌, ◌-◌, ◌+◌, ℕ, zero, suc, List, [], ◌∷◌, ◌++◌, Some, length, take, drop, slice_get, slice_index, slice_index_or, slice_range, slice_set, set, map, sum, refl, ap, ◌∙◌, sym, subst, get_or, ◌^◌, arith, length-drop, drop-cons, append_assoc, add-one}
-use Rattle.std.proofs.lemmas.List.{drop-set-lt, drop-set-add, take-set-le, length-set, length-take-le}
+use Rattle.std.proofs.Common.{◌≡◌, ◌≤◌, ◌<◌, ◌-◌, ◌+◌, ℕ, zero, suc, List, [], ◌∷◌, ◌++◌, Some, length, take, drop, slice_get, slice_index, slice_index_or, slice_range, set, map, sum, refl, ap, ◌∙◌, sym, subst, get_or, ◌^◌, arith, length-drop, drop-cons, append_assoc, add-one}
+use Rattle.std.proofs.lemmas.List.{drop-set-lt, drop-set-add, take-set-le, length-take-le}
 use Rattle.std.proofs.Math.Seq.{take-suc-set}
 use Rattle.std.proofs.Math.ListN.{drop_of_length-le}
 use Rattle.std.proofs.lemmas.List.{append-nil}

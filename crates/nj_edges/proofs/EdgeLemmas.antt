@@ -1,5 +1,5 @@
 -- Lemmas on edges that are held by the numbers of files.
-use Rattle.std.proofs.Common.{◌≡◌, ◌≢◌, ◌<◌, ◌≤◌, ◌+◌, ◌-◌, ◌==◌, ◌||◌, ◌⊎◌, inl, inr, ℕ, zero, suc, Bool, true, false, cond, List, [], ◌∷◌, ◌++◌, map, length, take, drop, slice_get, slice_range, slice_set, get_or, Option, Some, None, is_some, option_map, unwrap_or, bytes_eq, refl, sym, ap, subst, ◌∙◌, true≢false, arith, length-append, length-drop, add-one, set}
+use Rattle.std.proofs.Common.{◌≡◌, ◌≢◌, ◌<◌, ◌≤◌, ◌+◌, ◌-◌, ◌==◌, ◌||◌, ◌⊎◌, inl, inr, ℕ, zero, suc, Bool, true, false, cond, List, [], ◌∷◌, ◌++◌, map, length, take, drop, slice_get, get_or, Option, Some, None, is_some, option_map, unwrap_or, bytes_eq, refl, sym, ap, subst, ◌∙◌, true≢false, arith, length-append, length-drop, add-one, set}
 use Rattle.std.specs.List.{AllByRecursion, IsDistinct, list_any}
 use Rattle.std.proofs.lemmas.Bool.Decides.{eqb_tells}
 use Rattle.std.proofs.lemmas.List.{map_push, drop-append-le, take-append-drop, length-map, length-set}
@@ -11,9 +11,9 @@ use Rattle.nj_edges.specs.declared.edges.Span.{Span}
 use Rattle.nj_edges.specs.declared.edges.EdgeRow.{EdgeRow}
 use Rattle.nj_edges.specs.declared.edges.OpenStarts.{OpenStarts}
 use Rattle.nj_edges.specs.declared.edges.KindEnds.{KindEnds}
-use Rattle.nj_edges.specs.Edges.{EdgePaths, first_edge, maker_of, is_among, outputs_of}
-use Rattle.nj_edges.specs.EdgesHeld.{edge_read, path_at, paths_at, within, edge_of, edges_of, table_of, EdgeTable, naming, plus_output, plus_input, plus_validation, is_made, row_between, no_files, EndWithin, has_number, AreNumbers, IsWithin, RowIsWithin, output_rows, HoldMakers, EdgesAreHeld}
-use Rattle.nj_edges.specs.Files.{with_path}
+use Rattle.nj_edges.specs.Edges.{first_edge, maker_of, is_among, outputs_of}
+use Rattle.nj_edges.specs.EdgesHeld.{edge_read, paths_at, within, edge_of, edges_of, table_of, EdgeTable, naming, plus_output, plus_input, plus_validation, is_made, row_between, no_files, EndWithin, has_number, AreNumbers, IsWithin, RowIsWithin, output_rows, HoldMakers, EdgesAreHeld}
+use Rattle.nj_edges.specs.Files.{with_path, path_at}
 use Rattle.nj_edges.proofs.ListLemmas.{slice_range-append, slice_range-rest}
 
 -- ---- lists
@@ -57,7 +57,7 @@ path_at-more files others f below = ap (λ o. unwrap_or o []) (get-append files 
 pub paths_at-more : (files others : List (List ℕ)) (ns : List FileNo) → AreNumbers (length files) ns → paths_at (files ++ others) ns ≡ paths_at files ns
 paths_at-more files others ns are = map-same (λ f. f.0 < length files) (path_at (files ++ others)) (path_at files) (path_at-more files others) ns are
 
-within-numbers : (count : ℕ) (ns : List FileNo) (span : Span) → AreNumbers count ns → AreNumbers count (within ns span)
+pub within-numbers : (count : ℕ) (ns : List FileNo) (span : Span) → AreNumbers count ns → AreNumbers count (within ns span)
 within-numbers count ns span are = all-take (λ f. f.0 < count) (span.end - span.start) (drop span.start ns) (all-drop (λ f. f.0 < count) span.start ns are)
 
 pub edge_of-more : (files others : List (List ℕ)) (outputs inputs validations : List FileNo) → AreNumbers (length files) outputs → AreNumbers (length files) inputs → AreNumbers (length files) validations
@@ -278,7 +278,7 @@ module _ (files : List (List ℕ)) (makers : List (Option ℕ)) (outputs inputs 
 
 -- ---- the end of an edge
 
-first-more : {E : Type 0} (test : E → Bool) (es : List E) (e : E) → test e ≡ false → first_edge test (es ++ e ∷ []) ≡ first_edge test es
+pub first-more : {E : Type 0} (test : E → Bool) (es : List E) (e : E) → test e ≡ false → first_edge test (es ++ e ∷ []) ≡ first_edge test es
 first-more test [] e fails = ap (λ b. cond b (Some 0) None) fails
 first-more test (x ∷ es) e fails = ap (λ o. cond (test x) (Some 0) (option_map (λ n. n + 1) o)) (first-more test es e fails)
 
@@ -341,7 +341,7 @@ module _ (files : List (List ℕ)) (makers : List (Option ℕ)) (outputs inputs 
 
 -- ---- numbers and paths
 
-all-get : {X : Type 0} (P : X → Type 0) (xs : List X) (i : ℕ) (x : X) → AllByRecursion P xs → slice_get xs i ≡ Some x → P x
+pub all-get : {X : Type 0} (P : X → Type 0) (xs : List X) (i : ℕ) (x : X) → AllByRecursion P xs → slice_get xs i ≡ Some x → P x
 all-get P [] i x all h = absurd (true≢false (sym (ap is_some h)))
 all-get P (y ∷ xs) zero x all h = subst P (ap (λ o. unwrap_or o y) h) all.0
 all-get P (y ∷ xs) (suc i) x all h = all-get P xs i x all.1 h
@@ -364,7 +364,7 @@ distinct-get (p ∷ files) distinct (suc i) zero x y a b apart =
     differ-back y x (subst (λ q. bytes_eq q x ≡ false) (ap (λ o. unwrap_or o p) b) (all-get (λ q. bytes_eq p q ≡ false) files i x distinct.0 a))
 distinct-get (p ∷ files) distinct (suc i) (suc j) x y a b apart = distinct-get files distinct.1 i j x y a b (λ e. apart (ap suc e))
 
-get-path : (files : List (List ℕ)) (f : FileNo) → f.0 < length files → slice_get files f.0 ≡ Some (path_at files f)
+pub get-path : (files : List (List ℕ)) (f : FileNo) → f.0 < length files → slice_get files f.0 ≡ Some (path_at files f)
 get-path files f below = slice_get-get_or files f.0 [] below ∙ ap Some (sym (unwrap_or-slice_get files f.0 []))
 
 pub same-number : (files : List (List ℕ)) → IsDistinct bytes_eq files → (n : ℕ) (path : List ℕ) → slice_get files n ≡ Some path → (f : FileNo) → f.0 < length files → (n == f.0) ≡ bytes_eq path (path_at files f)

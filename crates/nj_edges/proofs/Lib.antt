@@ -1,4 +1,7 @@
 pub mod BucketLemmas
 pub mod EdgeLemmas
 pub mod FileLemmas
+pub mod FlatLemmas
+pub mod FlatRows
+pub mod GraphLemmas
 pub mod ListLemmas

@@ -1,5 +1,5 @@
 -- Lemmas on lists of lists that are held flat.
-use Rattle.std.proofs.Common.{◌≡◌, ◌≤◌, ◌<◌, ◌-◌, ◌+◌, ℕ, zero, suc, List, [], ◌∷◌, ◌++◌, Some, length, take, drop, slice_get, slice_index, slice_range, refl, ap, ◌∙◌, sym, arith, length-drop, length-append, add-one}
+use Rattle.std.proofs.Common.{◌≡◌, ◌≤◌, ◌<◌, ◌-◌, ℕ, zero, suc, List, [], ◌∷◌, ◌++◌, Some, length, drop, slice_get, slice_index, slice_range, refl, ap, arith, length-drop}
 use Rattle.std.proofs.lemmas.List.{take-append-le, drop-append-le}
 use Rattle.std.proofs.Math.Seq.{drop-length, take-length}
 use Rattle.nj_edges.specs.Lists.{rows_between, after_ends, start_of, Rise}

@@ -1,5 +1,5 @@
 -- Build statements as edges: the files that they name, by their paths.
-use Rattle.std.specs.Prelude.{ℕ, ◌+◌, Bool, false, ◌||◌, not, if◌then◌else◌, Option, Some, None, option_map, List, [], ◌∷◌, ◌++◌, length, nat_lt, bytes_eq}
+use Rattle.std.specs.Prelude.{ℕ, ◌+◌, Bool, false, ◌||◌, not, if◌then◌else◌, Option, Some, None, option_map, List, [], ◌∷◌, ◌++◌, length, slice_index_or, nat_lt, bytes_eq}
 use Rattle.std.specs.List.{list_any, filter, flat_map}
 use Rattle.nj_edges.specs.declared.edges.InputKind.{InputKind}
 use Rattle.nj_edges.specs.declared.edges.InputKind.TheVariants.{Explicit, Implicit, OrderOnly}
@@ -13,6 +13,18 @@ pub record EdgePaths : Type 0 where
   pub order_only_inputs : List (List ℕ)
   pub validations : List (List ℕ)
   pub is_phony : Bool
+
+-- the edge of a number; there are no files past the last one
+abbrev pub edge_at : List EdgePaths → (number : ℕ) → EdgePaths
+edge_at edges number = slice_index_or edges number (record {
+  explicit_outputs = [];
+  implicit_outputs = [];
+  explicit_inputs = [];
+  implicit_inputs = [];
+  order_only_inputs = [];
+  validations = [];
+  is_phony = false;
+})
 
 abbrev pub outputs_of : EdgePaths → List (List ℕ)
 outputs_of e = e.explicit_outputs ++ e.implicit_outputs

@@ -1,5 +1,5 @@
 -- How the edges of a graph are held: by the numbers of files.
-use Rattle.std.specs.Prelude.{◌≡◌, ℕ, ◌<◌, ◌≤◌, ◌-◌, ◌==◌, ◌||◌, Bool, Option, Some, None, is_some, unwrap_or, List, [], ◌∷◌, ◌++◌, map, length, take, drop, slice_get, slice_range, bytes_eq}
+use Rattle.std.specs.Prelude.{◌≡◌, ℕ, ◌<◌, ◌≤◌, ◌-◌, ◌==◌, ◌||◌, Bool, Option, Some, is_some, List, [], ◌∷◌, ◌++◌, map, length, take, drop, slice_get, slice_range, bytes_eq}
 use Rattle.std.specs.List.{list_any, AllByRecursion, IsDistinct}
 use Rattle.nj_edges.specs.declared.files.FileNo.{FileNo}
 use Rattle.nj_edges.specs.declared.edges.Span.{Span}
@@ -7,7 +7,7 @@ use Rattle.nj_edges.specs.declared.edges.EdgeRow.{EdgeRow}
 use Rattle.nj_edges.specs.declared.edges.KindEnds.{KindEnds}
 use Rattle.nj_edges.specs.declared.edges.OpenStarts.{OpenStarts}
 use Rattle.nj_edges.specs.Edges.{EdgePaths, first_edge, maker_of, is_among}
-use Rattle.nj_edges.specs.Files.{with_path}
+use Rattle.nj_edges.specs.Files.{with_path, path_at}
 
 -- ---- the edges, and the one that is being read
 
@@ -70,9 +70,6 @@ pub record EndWithin (ends : KindEnds) (outputs inputs : ℕ) : Type 0 where
   pub implicit_inputs : ends.implicit_inputs ≤ inputs
 
 -- ---- by numbers
-
-abbrev pub path_at : (files : List (List ℕ)) → FileNo → List ℕ
-path_at files file = unwrap_or (slice_get files file.0) []
 
 abbrev pub paths_at : (files : List (List ℕ)) → List FileNo → List (List ℕ)
 paths_at files numbers = map (path_at files) numbers

@@ -3,4 +3,9 @@ pub mod BucketsHeld
 pub mod Edges
 pub mod EdgesHeld
 pub mod Files
+pub mod EdgeGraphs
+pub mod FlatInputs
+pub mod Graph
+pub mod GraphHeld
 pub mod Lists
+pub mod Needs

@@ -33,39 +33,39 @@ pub struct KindEnds {
 
 // A part of a list.
 #[derive(Clone, Copy)]
-struct Span {
-    start: usize,
-    end: usize,
+pub(crate) struct Span {
+    pub(crate) start: usize,
+    pub(crate) end: usize,
 }
 
 // Where the files of an edge are.
 #[derive(Clone, Copy)]
-struct EdgeRow {
-    outputs: Span,
-    inputs: Span,
-    validations: Span,
-    kinds: KindEnds,
-    is_phony: bool,
+pub(crate) struct EdgeRow {
+    pub(crate) outputs: Span,
+    pub(crate) inputs: Span,
+    pub(crate) validations: Span,
+    pub(crate) kinds: KindEnds,
+    pub(crate) is_phony: bool,
 }
 
 // Where the files of the edge that is being read begin.
 #[derive(Clone, Copy)]
-struct OpenStarts {
-    outputs: usize,
-    inputs: usize,
-    validations: usize,
+pub(crate) struct OpenStarts {
+    pub(crate) outputs: usize,
+    pub(crate) inputs: usize,
+    pub(crate) validations: usize,
 }
 
 /// The edges of a graph, and the one that is being read.
 #[derive(Drop)]
 pub struct Edges {
-    files: Files,
-    makers: Vec<Option<usize>>,
-    outputs: Vec<FileNo>,
-    inputs: Vec<FileNo>,
-    validations: Vec<FileNo>,
-    rows: Vec<EdgeRow>,
-    starts: OpenStarts,
+    pub(crate) files: Files,
+    pub(crate) makers: Vec<Option<usize>>,
+    pub(crate) outputs: Vec<FileNo>,
+    pub(crate) inputs: Vec<FileNo>,
+    pub(crate) validations: Vec<FileNo>,
+    pub(crate) rows: Vec<EdgeRow>,
+    pub(crate) starts: OpenStarts,
 }
 
 impl Model for Edges {

@@ -4,8 +4,11 @@
 mod buckets;
 mod edges;
 mod files;
+mod flat;
+mod graph;
 mod lists;
 
 pub use edges::{EdgeNo, Edges, InputKind, KindEnds};
 pub use files::{FileNo, Files};
+pub use graph::{EdgeGraph, Finished};
 pub use lists::FlatLists;

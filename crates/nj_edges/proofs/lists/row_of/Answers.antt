@@ -1,6 +1,4 @@
-use Rattle.std.proofs.Common.{◌≡◌, ◌≤◌, slice_index, refl}
-use Rattle.nj_edges.specs.Lists.{start_of}
-use Rattle.nj_edges.proofs.ListLemmas.{row_at, IsRow}
+use Rattle.nj_edges.proofs.ListLemmas.{row_at}
 use Rattle.nj_edges.proofs.lists.row_of.Goals as goal
 
 pub part-requires-clause-rises : goal.part-requires-clause-rises

@@ -1,6 +1,6 @@
-use Rattle.std.proofs.Common.{◌≡◌, ◌≤◌, ◌<◌, subst, length, sym, ap, ◌∙◌, Some, slice_index, slice_range}
+use Rattle.std.proofs.Common.{◌≡◌, ◌<◌, subst, sym, ◌∙◌, slice_index}
 use Rattle.std.proofs.lemmas.Grind.{get_or_default_zero}
-use Rattle.nj_edges.proofs.BucketLemmas.{list_at, length-contents, length-ends, list-there}
+use Rattle.nj_edges.proofs.BucketLemmas.{list-there}
 use Rattle.nj_edges.proofs.buckets.Buckets.list.Goals as goal
 
 pub index-requires : goal.index-requires

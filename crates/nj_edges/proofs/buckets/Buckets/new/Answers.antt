@@ -1,5 +1,5 @@
-use Rattle.std.proofs.Common.{◌≡◌, ◌∙◌, ap, sym, length, arith}
-use Rattle.nj_edges.proofs.BucketLemmas.{apart-starts, rooms-starts, contents-starts, makes-first, makes-next, makes-fits, makes-all, made-apart, made-rooms, made-contents}
+use Rattle.std.proofs.Common.{◌∙◌, sym, length, arith}
+use Rattle.nj_edges.proofs.BucketLemmas.{makes-first, makes-next, makes-fits, makes-all, made-apart, made-rooms, made-contents}
 use Rattle.nj_edges.proofs.buckets.Buckets.new.Goals as goal
 
 pub rooms-init : goal.rooms-init

@@ -1,7 +1,7 @@
-use Rattle.std.proofs.Common.{◌≡◌, ◌<◌, ◌∙◌, ◌+◌, ◌++◌, ◌∷◌, [], ap, sym, subst, suc, add-one, arith, length, set, slice_index, refl}
+use Rattle.std.proofs.Common.{◌≡◌, ◌<◌, ◌∙◌, ◌+◌, ap, sym, subst, suc, add-one, arith, length, slice_index}
 use Rattle.std.proofs.lemmas.List.{length-set}
 use Rattle.std.proofs.lemmas.Grind.{get_or_default_zero}
-use Rattle.nj_edges.specs.BucketsHeld.{AreApart, contents_of, rooms_of}
+use Rattle.nj_edges.specs.BucketsHeld.{rooms_of}
 use Rattle.nj_edges.proofs.BucketLemmas.{can-push, push-contents, push-apart}
 use Rattle.nj_edges.proofs.buckets.Buckets.push.Goals as goal
 

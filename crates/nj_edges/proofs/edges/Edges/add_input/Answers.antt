@@ -1,4 +1,4 @@
-use Rattle.std.proofs.Common.{◌≡◌, ◌∙◌, ap}
+use Rattle.std.proofs.Common.{◌∙◌, ap}
 use Rattle.nj_edges.specs.EdgesHeld.{plus_input}
 use Rattle.nj_edges.proofs.EdgeLemmas.{table-input, number-named}
 use Rattle.nj_edges.proofs.edges.Edges.add_input.Goals as goal

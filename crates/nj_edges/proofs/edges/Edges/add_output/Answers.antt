@@ -1,4 +1,4 @@
-use Rattle.std.proofs.Common.{◌≡◌, ◌∙◌, ◌<◌, ap, sym, subst, not}
+use Rattle.std.proofs.Common.{◌∙◌, ◌<◌, ap, sym, subst, not}
 use Rattle.std.proofs.lemmas.Option.{slice_get_within}
 use Rattle.nj_edges.specs.EdgesHeld.{is_made, plus_output}
 use Rattle.nj_edges.proofs.EdgeLemmas.{made-at, number-named, within-makers, unmade, held-output, table-output}

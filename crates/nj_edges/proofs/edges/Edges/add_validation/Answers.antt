@@ -1,4 +1,4 @@
-use Rattle.std.proofs.Common.{◌≡◌, ◌∙◌, ap}
+use Rattle.std.proofs.Common.{◌∙◌, ap}
 use Rattle.nj_edges.specs.EdgesHeld.{plus_validation}
 use Rattle.nj_edges.proofs.EdgeLemmas.{table-validation, number-named}
 use Rattle.nj_edges.proofs.edges.Edges.add_validation.Goals as goal

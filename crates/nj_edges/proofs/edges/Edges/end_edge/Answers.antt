@@ -1,4 +1,4 @@
-use Rattle.std.proofs.Common.{◌≡◌, ◌∙◌, ap}
+use Rattle.std.proofs.Common.{◌∙◌, ap}
 use Rattle.nj_edges.proofs.EdgeLemmas.{table-ended, held-ended, end-value, ended-within}
 use Rattle.nj_edges.proofs.edges.Edges.end_edge.Goals as goal
 

@@ -1,4 +1,4 @@
-use Rattle.std.proofs.Common.{◌≡◌, ◌∙◌, length, ap, sym}
+use Rattle.std.proofs.Common.{◌∙◌, length, ap, sym}
 use Rattle.nj_edges.proofs.EdgeLemmas.{table-named, held-then, held-else}
 use Rattle.nj_edges.proofs.edges.Edges.name.Goals as goal
 

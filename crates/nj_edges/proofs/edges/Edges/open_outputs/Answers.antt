@@ -1,4 +1,4 @@
-use Rattle.std.proofs.Common.{◌≡◌, ◌∙◌, ◌-◌, ap, length, sym}
+use Rattle.std.proofs.Common.{◌∙◌, ◌-◌, ap, length, sym}
 use Rattle.nj_edges.proofs.EdgeLemmas.{length-open}
 use Rattle.nj_edges.proofs.edges.Edges.open_outputs.Goals as goal
 

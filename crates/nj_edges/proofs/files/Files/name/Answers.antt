@@ -1,4 +1,4 @@
-use Rattle.std.proofs.Common.{◌≡◌, ◌∙◌, sym, ap, cond, ◌++◌, ◌∷◌, []}
+use Rattle.std.proofs.Common.{sym, ap, cond, ◌++◌, ◌∷◌, []}
 use Rattle.nj_edges.proofs.FileLemmas.{distinct-held, held-insert_key, found-at, named-last}
 use Rattle.nj_edges.proofs.files.Files.name.Goals as goal
 

@@ -1,4 +1,4 @@
-use Rattle.std.proofs.Common.{refl, ◌≡◌, ◌+◌, ◌≤◌, length, length-append, arith}
+use Rattle.std.proofs.Common.{refl, length-append, arith}
 use Rattle.nj_edges.proofs.ListLemmas.{rows_between-append, after_ends-append, Rise-within}
 use Rattle.nj_edges.proofs.lists.FlatLists.push.Goals as goal
 

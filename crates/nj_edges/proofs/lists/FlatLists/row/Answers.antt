@@ -1,4 +1,3 @@
-use Rattle.std.proofs.Common.{◌≡◌, ◌<◌, ap, length}
 use Rattle.nj_edges.proofs.ListLemmas.{length-rows_between}
 use Rattle.nj_edges.proofs.lists.FlatLists.row.Goals as goal
 

@@ -1,0 +1,7 @@
+-- A graph of edges: the paths of its files, each once, and its edges in reading order.
+use Rattle.std.specs.Prelude.{ℕ, List}
+use Rattle.nj_edges.specs.Edges.{EdgePaths}
+
+pub record EdgeGraph : Type 0 where
+  pub files : List (List ℕ)
+  pub edges : List EdgePaths

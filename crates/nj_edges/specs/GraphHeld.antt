@@ -1,0 +1,16 @@
+-- How a graph of edges is held.
+use Rattle.std.specs.Prelude.{ℕ, Option, List, length}
+use Rattle.nj_order.specs.Cycles.{IsAcyclic}
+use Rattle.nj_edges.specs.declared.files.FileNo.{FileNo}
+use Rattle.nj_edges.specs.declared.edges.EdgeRow.{EdgeRow}
+use Rattle.nj_edges.specs.declared.edges.OpenStarts.{OpenStarts}
+use Rattle.nj_edges.specs.EdgesHeld.{EdgesAreHeld, edges_of}
+use Rattle.nj_edges.specs.Needs.{makers_of_inputs}
+
+-- no edge is being read
+abbrev pub ends_of : (outputs inputs validations : List FileNo) → OpenStarts
+ends_of outputs inputs validations = record { outputs = length outputs; inputs = length inputs; validations = length validations }
+
+pub record GraphIsHeld (files : List (List ℕ)) (makers : List (Option ℕ)) (outputs inputs validations : List FileNo) (rows : List EdgeRow) : Type 0 where
+  pub edges_are : EdgesAreHeld files makers outputs inputs validations rows (ends_of outputs inputs validations)
+  pub acyclic : IsAcyclic (makers_of_inputs (edges_of files outputs inputs validations rows)) (length rows)

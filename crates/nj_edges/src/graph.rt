@@ -1,0 +1,225 @@
+//! The graph of all edges of a run.
+
+ghost use Rattle.std.specs.Prelude.{◌≡◌, ℕ, ◌<◌, None, Some, length, slice_index_or, slice_get, option_map, position, bytes_eq, IfOk, All, IfSome, if◌then◌else◌, nat_lt};
+ghost use Rattle.std.specs.List.{AllByRecursion, IsDistinct};
+ghost use Rattle.nj_order.specs.Cycles.{IsFirstOnCycle, IsAcyclic};
+ghost use Rattle.nj_edges.specs.Edges.{edge_at, outputs_of, inputs_of, kind_at, maker_of};
+ghost use Rattle.nj_edges.specs.EdgesHeld.{IsWithin, within, no_files};
+ghost use Rattle.nj_edges.specs.Files.{path_at, AreFiles};
+ghost use Rattle.nj_edges.specs.FlatInputs.{makers_in_row};
+ghost use Rattle.nj_edges.specs.Graph.{FinishesAs};
+ghost use Rattle.nj_edges.specs.Needs.{makers_of_inputs};
+
+use crate::edges::{EdgeNo, EdgeRow, Edges, InputKind, KindEnds, Span};
+use crate::files::{FileNo, Files};
+use crate::flat::flat_inputs;
+use crate::lists::part;
+use nj_order::{EdgeInputs, first_on_cycle};
+use std::alloc::{AllocError, Global};
+use std::marker::Model;
+
+/// The edges of a run and the files that they name, without a dependency cycle.
+#[derive(Drop)]
+pub struct EdgeGraph {
+    files: Files,
+    makers: Vec<Option<usize>>,
+    outputs: Vec<FileNo>,
+    inputs: Vec<FileNo>,
+    validations: Vec<FileNo>,
+    rows: Vec<EdgeRow>,
+}
+
+impl Model for EdgeGraph {
+    ghost use Rattle.nj_edges.specs.EdgesHeld.{edges_of};
+    ghost use Rattle.nj_edges.specs.EdgeGraphs as spec;
+    ghost use Rattle.nj_edges.specs.GraphHeld.{GraphIsHeld};
+
+    ghost Value = { spec.EdgeGraph };
+
+    ghost view = { λ g. record {
+      files = g.files;
+      edges = edges_of g.files g.outputs.items g.inputs.items g.validations.items g.rows.items;
+    } };
+
+    ghost invariant = { λ g. GraphIsHeld g.files g.makers.items g.outputs.items g.inputs.items
+        g.validations.items g.rows.items };
+}
+
+/// What all edges of a run come to.
+#[derive(Drop)]
+pub enum Finished {
+    /// A graph.
+    Graph(EdgeGraph),
+    /// A dependency cycle; this edge lies on one, and none of a smaller number does.
+    Cycle(EdgeNo),
+}
+
+impl EdgeGraph {
+    /// How many edges there are.
+    pub fn edge_count(&self) -> usize
+        ensures count { result ≡ length self.now.edges }
+        ensures acyclic { IsAcyclic (makers_of_inputs self.now.edges) (length self.now.edges) }
+    {
+        self.rows.as_slice().len()
+    }
+
+    /// How many files there are.
+    pub fn file_count(&self) -> usize
+        ensures count { result ≡ length self.now.files }
+        ensures each_path_once { IsDistinct bytes_eq self.now.files }
+    {
+        self.files.count()
+    }
+
+    /// The number of the file at this path, which must be clean; `None` if no edge names it.
+    pub fn file_named(&self, path: &[u8]) -> Option<FileNo>
+        ensures index { option_map (λ file. file.0) result ≡ position (bytes_eq path.now) self.now.files }
+        ensures known { IfSome result (λ file. file.0 < length self.now.files) }
+    {
+        self.files.number(path)
+    }
+
+    /// The path of the file of this number.
+    pub fn path(&self, file: FileNo) -> &[u8]
+        requires { file.0 < length self.now.files }
+        ensures { slice_get self.now.files file.0 ≡ Some result.now }
+    {
+        self.files.path(file)
+    }
+
+    /// The edge that makes this file; `None` for a source.
+    pub fn maker(&self, file: FileNo) -> Option<EdgeNo>
+        requires { file.0 < length self.now.files }
+        ensures maker { option_map (λ edge. edge.0) result
+            ≡ maker_of self.now.edges (path_at self.now.files file) }
+        ensures known { IfSome result (λ edge. edge.0 < length self.now.edges) }
+    {
+        match self.makers[file.0] {
+            Some(edge) => Some(EdgeNo(edge)),
+            None => None,
+        }
+    }
+
+    /// The outputs of an edge, the explicit ones first.
+    pub fn outputs(&self, edge: EdgeNo) -> &[FileNo]
+        requires { edge.0 < length self.now.edges }
+        ensures { AreFiles self.now.files result.now (outputs_of (edge_at self.now.edges edge.0)) }
+    {
+        let row = row_at(&self.rows, edge.0);
+        part(&self.outputs, row.outputs.start, row.outputs.end)
+    }
+
+    /// The inputs of an edge: the explicit, the implicit and then the order-only ones.
+    pub fn inputs(&self, edge: EdgeNo) -> &[FileNo]
+        requires { edge.0 < length self.now.edges }
+        ensures { AreFiles self.now.files result.now (inputs_of (edge_at self.now.edges edge.0)) }
+    {
+        let row = row_at(&self.rows, edge.0);
+        part(&self.inputs, row.inputs.start, row.inputs.end)
+    }
+
+    /// The validations of an edge.
+    pub fn validations(&self, edge: EdgeNo) -> &[FileNo]
+        requires { edge.0 < length self.now.edges }
+        ensures { AreFiles self.now.files result.now (edge_at self.now.edges edge.0).validations }
+    {
+        let row = row_at(&self.rows, edge.0);
+        part(
+            &self.validations,
+            row.validations.start,
+            row.validations.end,
+        )
+    }
+
+    /// How many outputs of an edge are explicit.
+    pub fn explicit_outputs(&self, edge: EdgeNo) -> usize
+        requires { edge.0 < length self.now.edges }
+        ensures { result ≡ length (edge_at self.now.edges edge.0).explicit_outputs }
+    {
+        row_at(&self.rows, edge.0).kinds.explicit_outputs
+    }
+
+    /// The kind of the input at an index.
+    pub fn input_kind(&self, edge: EdgeNo, index: usize) -> InputKind
+        requires { edge.0 < length self.now.edges }
+        ensures { result ≡ kind_at (edge_at self.now.edges edge.0) index }
+    {
+        kind_before(row_at(&self.rows, edge.0).kinds, index)
+    }
+
+    /// Whether the rule of an edge is `phony`, so that it has no command.
+    pub fn is_phony(&self, edge: EdgeNo) -> bool
+        requires { edge.0 < length self.now.edges }
+        ensures { result ≡ (edge_at self.now.edges edge.0).is_phony }
+    {
+        row_at(&self.rows, edge.0).is_phony
+    }
+}
+
+// The row of an edge.
+fn row_at(rows: &[EdgeRow], edge: usize) -> EdgeRow
+    requires { edge < length rows.now }
+    ensures { slice_get rows.now edge ≡ Some result }
+{
+    rows[edge]
+}
+
+// The kind of the input at an index, where the kinds end so.
+fn kind_before(ends: KindEnds, index: usize) -> InputKind
+    ensures { result ≡ (if nat_lt index ends.explicit_inputs then InputKind.Explicit
+        else (if nat_lt index ends.implicit_inputs then InputKind.Implicit else InputKind.OrderOnly)) }
+{
+    if index < ends.explicit_inputs {
+        InputKind::Explicit
+    } else if index < ends.implicit_inputs {
+        InputKind::Implicit
+    } else {
+        InputKind::OrderOnly
+    }
+}
+
+impl Edges {
+    /// The graph of all edges, or the least edge on a dependency cycle. Takes time in proportion to the edges and
+    /// their inputs.
+    pub fn finish(self, alloc: Global) -> Result<Finished, AllocError>
+        requires { self.«open» ≡ no_files }
+        ensures { IfOk result (λ finished. FinishesAs self.files self.edges finished) }
+    {
+        let Edges {
+            files,
+            makers,
+            outputs,
+            inputs,
+            validations,
+            rows,
+            ..
+        } = self;
+        match least_on_cycle(alloc, &inputs, &rows, &makers)? {
+            Some(edge) => Ok(Finished::Cycle(EdgeNo(edge))),
+            None => Ok(Finished::Graph(EdgeGraph {
+                files,
+                makers,
+                outputs,
+                inputs,
+                validations,
+                rows,
+            })),
+        }
+    }
+}
+
+// The least edge on a cycle, of edges with these inputs and files with these makers.
+fn least_on_cycle(
+    alloc: Global,
+    inputs: &[FileNo],
+    rows: &[EdgeRow],
+    makers: &[Option<usize>],
+) -> Result<Option<usize>, AllocError>
+    requires rows { AllByRecursion (λ row. IsWithin row.inputs (length inputs.now)) rows.now }
+    requires files { AllByRecursion (λ file. file.0 < length makers.now) inputs.now }
+    requires makers { (file e : ℕ) → slice_index_or makers.now file None ≡ Some e → e < length rows.now }
+    ensures { IfOk result (λ first. IsFirstOnCycle (makers_in_row inputs.now rows.now makers.now) (length rows.now) first) }
+{
+    let flat = flat_inputs(alloc, inputs, rows)?;
+    first_on_cycle(alloc, &EdgeInputs::new(&flat.starts, &flat.numbers, makers))
+}
