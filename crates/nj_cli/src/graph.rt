@@ -87,11 +87,9 @@ impl<'a> Graph<'a> {
     {
         let name = rule.name;
         let place = self.rules.len();
-        self.rules.push(rule)?;
-        if let Err(_) = self.places.insert(name, place) {
-            self.rules.pop();
-            return Err(AllocError);
-        }
+        self.rules.reserve(1)?;
+        self.places.insert(name, place)?;
+        self.rules.push_reserved(rule);
         Ok(())
     }
 
@@ -232,7 +230,7 @@ impl<'a> Graph<'a> {
     {
         let edge = &self.edges[edge];
         let rule = &self.rules[edge.rule];
-        put_parts(out, edge, &rule.command.parts)?;
+        put_parts(out, edge, rule.command.parts.as_slice())?;
         out.push(b'\n')?;
         Ok(())
     }

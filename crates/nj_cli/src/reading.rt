@@ -46,7 +46,7 @@ fn is_read_part(part: &Part) -> bool
 fn is_read_command(command: &Word) -> bool
     ensures { result ≡ is_read_command (parts_view command.now) }
 {
-    for part in &command.parts {
+    for part in command.parts.as_slice() {
         if !is_read_part(part) {
             return false;
         }
