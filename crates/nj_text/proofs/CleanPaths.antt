@@ -1,4 +1,4 @@
--- The clean paths: what cleaning gives, and what it leaves as it is.
+-- The clean paths: what cleaning makes, and what it leaves as it is.
 use Rattle.std.proofs.Common.{◌≡◌, ◌≢◌, ℕ, zero, suc, ◌+◌, ◌<◌, Bool, true, false, eqb, List, [], ◌∷◌, ◌++◌, length, drop, replicate, refl, sym, ap, ◌∙◌, subst, arith, append_assoc, length-append}
 use Rattle.std.specs.Prelude.{◌||◌, ◌↔◌, IsTrue}
 use Rattle.std.specs.List.{slice_split, AllByRecursion}
@@ -7,7 +7,7 @@ use Rattle.std.proofs.lemmas.List.Elements.{All-from_recursion, recursion_from_A
 use Rattle.std.proofs.lemmas.List.Splits.{length-slice_split, join_with_byte-slice_split}
 use Rattle.nj_text.specs.Bytes.{drop_while}
 use Rattle.nj_text.specs.Paths.{is_slash, is_up, leads_nowhere, is_absolute, IsName, without_leftmost_pair, relative_text, absolute_text, clean_path_of}
-use Rattle.nj_text.specs.PathLaws.{IsCleanPath, IsHere, IsRoot, IsRelative, IsAbsolute, CleaningGivesCleanPaths, CleanPathsStay, CleaningTwiceIsCleaningOnce}
+use Rattle.nj_text.specs.PathLaws.{IsCleanPath, IsHere, IsRoot, IsRelative, IsAbsolute, CleanedPathsAreClean, CleanPathsStay, CleaningIsIdempotent}
 use Rattle.nj_text.specs.Cleaning.{parts_kept, nothing_kept, text_kept, all_stay, is_here, stays_clean}
 use Rattle.nj_text.proofs.KeptParts.{down_from_names, parts_after, kept-ups, drop-kept}
 use Rattle.nj_text.proofs.SlashPieces.{slash_is}
@@ -91,7 +91,7 @@ clean-stays path h = by_front (is_absolute path) refl
     by_front true e = ap clean_path_of (absolute_is path e) ∙ rooted (drop 1 path) (rw e at h) ∙ sym (absolute_is path e)
     by_front false e = relative (is_here path) refl (rw e at h) e
 
--- ---- what cleaning gives
+-- ---- a cleaned path
 
 names_push : (ns : List (List ℕ)) (n : List ℕ) → AllByRecursion IsName ns → IsName n → AllByRecursion IsName (ns ++ n ∷ [])
 names_push [] n h i = (i, tt)
@@ -110,7 +110,7 @@ is_rooted : (ns : List (List ℕ)) → AllByRecursion IsName ns → IsCleanPath 
 is_rooted [] h = IsRoot refl
 is_rooted (n ∷ ns) h = IsAbsolute (n ∷ ns) (omega arith) (All-from_recursion IsName (n ∷ ns) h) refl
 
-pub cleaning-clean : CleaningGivesCleanPaths
+pub cleaning-clean : CleanedPathsAreClean
 cleaning-clean path = by_front (is_absolute path) refl
   where
     by_front : (t : Bool) → is_absolute path ≡ t → IsCleanPath (clean_path_of path)
@@ -164,7 +164,7 @@ stays-clean path e = stays_if_clean path (subst IsCleanPath e (cleaning-clean pa
 pub clean-path : CleanPathsStay
 clean-path path clean = clean-stays path (stays_if_clean path clean)
 
-pub clean-twice : CleaningTwiceIsCleaningOnce
+pub clean-twice : CleaningIsIdempotent
 clean-twice path = clean-path (clean_path_of path) (cleaning-clean path)
 
 pub clean-iff : (path : List ℕ) (b : Bool) → b ≡ stays_clean path → IsTrue b ↔ (clean_path_of path ≡ path)

@@ -11,14 +11,14 @@ pub data IsCleanPath (path : List ℕ) : Type 0 where
       → path ≡ join_with_byte 47 (replicate ups (46 ∷ 46 ∷ []) ++ names) → IsCleanPath path
   IsAbsolute : (names : List (List ℕ)) → 0 < length names → All IsName names → path ≡ 47 ∷ join_with_byte 47 names → IsCleanPath path
 
--- what cleaning gives is clean: no part is empty or `.`, and `..` stands only before all names, and in no absolute path
-abbrev pub CleaningGivesCleanPaths : Type 0
-CleaningGivesCleanPaths = (path : List ℕ) → IsCleanPath (clean_path_of path)
+-- a cleaned path is clean: no part is empty or `.`, and `..` stands only before all names, and in no absolute path
+abbrev pub CleanedPathsAreClean : Type 0
+CleanedPathsAreClean = (path : List ℕ) → IsCleanPath (clean_path_of path)
 
 -- cleaning leaves a clean path as it is
 abbrev pub CleanPathsStay : Type 0
 CleanPathsStay = (path : List ℕ) → IsCleanPath path → clean_path_of path ≡ path
 
 -- cleaning twice is cleaning once
-abbrev pub CleaningTwiceIsCleaningOnce : Type 0
-CleaningTwiceIsCleaningOnce = (path : List ℕ) → clean_path_of (clean_path_of path) ≡ clean_path_of path
+abbrev pub CleaningIsIdempotent : Type 0
+CleaningIsIdempotent = (path : List ℕ) → clean_path_of (clean_path_of path) ≡ clean_path_of path

@@ -34,9 +34,7 @@ pub use laws::{
 };
 pub use lexer::Lexer;
 pub use numbers::{leading_number, version_of};
-pub use path_laws::{
-    clean_paths_stay, cleaning_gives_clean_paths, cleaning_twice_is_cleaning_once,
-};
+pub use path_laws::{clean_paths_stay, cleaned_paths_are_clean, cleaning_is_idempotent};
 pub use paths::{TextFault, clean_into, clean_path, is_clean};
 pub use quote_laws::shells_take_the_path;
 pub use quotes::quote_into;

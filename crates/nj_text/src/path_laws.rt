@@ -1,11 +1,11 @@
 //! Laws of clean paths.
 
-ghost use Rattle.nj_text.specs.PathLaws.{CleaningGivesCleanPaths, CleanPathsStay, CleaningTwiceIsCleaningOnce};
+ghost use Rattle.nj_text.specs.PathLaws.{CleanedPathsAreClean, CleanPathsStay, CleaningIsIdempotent};
 
-/// What cleaning gives is clean: it is `.` or `/`, or no part of it is empty or `.`, and `..` stands only before all
+/// A cleaned path is clean: it is `.` or `/`, or no part of it is empty or `.`, and `..` stands only before all
 /// other parts, and in no absolute path.
-pub fn cleaning_gives_clean_paths()
-    ensures { CleaningGivesCleanPaths }
+pub fn cleaned_paths_are_clean()
+    ensures { CleanedPathsAreClean }
 {}
 
 /// Cleaning leaves a clean path as it is.
@@ -14,6 +14,6 @@ pub fn clean_paths_stay()
 {}
 
 /// Cleaning a path twice is cleaning it once.
-pub fn cleaning_twice_is_cleaning_once()
-    ensures { CleaningTwiceIsCleaningOnce }
+pub fn cleaning_is_idempotent()
+    ensures { CleaningIsIdempotent }
 {}

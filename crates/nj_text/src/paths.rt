@@ -14,7 +14,7 @@ use std::alloc::{AllocError, AllocFailed, Global};
 pub enum TextFault {
     /// The path is empty.
     EmptyPath,
-    /// Memory was refused.
+    /// Out of memory.
     OutOfMemory,
 }
 

@@ -1,5 +1,5 @@
 use Rattle.nj_text.proofs.CleanPaths.{cleaning-clean}
-use Rattle.nj_text.proofs.path_laws.cleaning_gives_clean_paths.Goals as goal
+use Rattle.nj_text.proofs.path_laws.cleaned_paths_are_clean.Goals as goal
 
 pub returns : goal.returns
 returns c = cleaning-clean

@@ -1,5 +1,5 @@
 use Rattle.nj_text.proofs.CleanPaths.{clean-twice}
-use Rattle.nj_text.proofs.path_laws.cleaning_twice_is_cleaning_once.Goals as goal
+use Rattle.nj_text.proofs.path_laws.cleaning_is_idempotent.Goals as goal
 
 pub returns : goal.returns
 returns c = clean-twice
