@@ -31,7 +31,7 @@ pub prefix-named : (before paths : List (List ℕ)) → IsPrefix before (with_na
 prefix-named before [] = prefix-self before
 prefix-named before (path ∷ paths) = prefix-new before path
 
--- ---- one reading behind the other
+-- ---- one reading after the other
 
 pub and_then-comes : (main : List ℕ) (front : List (List ℕ)) (r : ReadingText) (k : List Entry → ReadingText)
     → IsPrefix front (paths_come_to main r)

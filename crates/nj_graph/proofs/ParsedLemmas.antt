@@ -1,4 +1,4 @@
--- The statements of a text, one behind the other.
+-- The statements of a text, one after the other.
 use Rattle.std.proofs.Common.{◌≡◌, ℕ, zero, suc, ◌<◌, Some, None, Ok, Err, List, [], length, refl, ap, arith}
 use Rattle.nj_text.specs.Lines.{Line, text_lines}
 use Rattle.nj_manifest.specs.Faults.{Fault}
@@ -7,7 +7,7 @@ use Rattle.nj_manifest.proofs.Starts.{ahead}
 use Rattle.nj_manifest.proofs.Consumed.{statement_takes, text_has_bytes}
 use Rattle.nj_graph.specs.Statements.{and_parsed, parsed_in, parsed_by}
 
--- A statement is the first of what is said; behind it there are fewer lines.
+-- A statement is the first of those that are parsed; after it there are fewer lines.
 pub parsed-step : (most : ℕ) (ls rest : List Line) (s : PlacedText) → next_statement ls ≡ Ok (Some s, rest) → ahead ls < most
     → (fewer : ℕ) × (parsed_in most ls ≡ and_parsed s (parsed_in fewer rest)) × (ahead rest < fewer)
 unfolding parsed_in

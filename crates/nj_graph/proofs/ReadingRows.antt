@@ -185,7 +185,7 @@ openings_within_itself : length (read_of (codes "include build.ninja\n") []).ent
 unfolding on_files
 openings_within_itself = refl
 
--- the name of the file with so many others behind it
+-- the name of the file with so many others after it
 abbrev name_behind : ℕ → List ℕ
 name_behind zero = codes "x"
 name_behind (suc n) = codes "a" ++ name_behind n
@@ -206,7 +206,7 @@ missing_without_room = refl
 
 -- ---- paths
 
--- what is read where the main file has this text, and the others are these, comes to these paths behind the main file's
+-- what is read where the main file has this text, and the others are these, comes to these paths after the main file's
 abbrev comes_to : (text : List ℕ) → (others : List Reading) → (paths : List (List ℕ)) → Type 0
 comes_to text others paths = paths_come_to main_file (read_of text others) ≡ main_file ∷ paths
 
@@ -224,7 +224,7 @@ paths_to_lacking : comes_to (codes "subninja s\ninclude x\ninclude y\n") (a_rule
 unfolding on_files
 paths_to_lacking = refl
 
--- none behind a fault
+-- none after a fault
 paths_before_fault : comes_to (codes "subninja s\ninclude $e\ninclude y\n") (a_rule ∷ []) (codes "s" ∷ [])
 unfolding on_files
 paths_before_fault = refl
@@ -247,7 +247,7 @@ path_by_outer_name = refl
 abbrev binds_b : List Reading
 binds_b = file (codes "s") (codes "v = b\n") ∷ missing (codes "a") ∷ missing (codes "b") ∷ []
 
--- what stands behind `subninja` binds in its own scope
+-- the file after `subninja` binds in its own scope
 bound_within : refuses (codes "v = a\nsubninja s\ninclude $v\n") binds_b main_file (at 3 9) (Missing (codes "a"))
 unfolding on_files
 bound_within = refl

@@ -1,4 +1,4 @@
--- Sorted lists: what a stable sort gives, and what a list that is sorted by name has.
+-- Sorted lists: what a stable sort leaves, and what a list that is sorted by name has.
 use Rattle.std.proofs.Common.{◌≡◌, suc, ◌+◌, Bool, true, false, cond, ◌&&◌, not, if◌then◌else◌, List, [], ◌∷◌, map, get_or, refl, sym, ap, ◌∙◌, true≢false, arith}
 use Rattle.std.specs.List.{AllByRecursion, filter}
 use Rattle.std.specs.List.Sorted.{IsSortedBy, IsStableBy, ties}
@@ -42,7 +42,7 @@ module _ {X : Type 0} (lt : X → X → Bool) (P : X → Type 0) where
   all-sorted [] all = tt
   all-sorted (x ∷ xs) all = all-insert x (sorted_by lt xs) all.0 (all-sorted xs all.1)
 
--- ---- a stable sort gives the list that is sorted so
+-- ---- a stable sort leaves the list that is sorted so
 
 module _ {X : Type 0} (lt : X → X → Bool) (order : IsStrictWeakOrder lt) where
   -- none is less than one before it

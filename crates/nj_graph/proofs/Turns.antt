@@ -1,4 +1,4 @@
--- The turns of reading a text: the next statement, the file that it names, and what stands behind it.
+-- The turns of reading a text: the next statement, the file that it names, and what comes after it.
 use Rattle.std.proofs.Common.{◌≡◌, ℕ, ◌-◌, ◌<◌, inl, inr, Option, Some, None, Result, Ok, Err, List, ◌∷◌, refl, sym, ap, subst, ◌∙◌, arith}
 use Rattle.std.specs.Prelude.{⊤}
 use Rattle.nj_text.specs.Lines.{Line}
@@ -26,7 +26,7 @@ use Rattle.nj_graph.proofs.Tables.{extends-trans, read-extends, reads-then, read
 use Rattle.nj_graph.proofs.ParsedLemmas.{parsed-step, parsed-end, parsed-fault}
 use Rattle.nj_graph.proofs.Naming.{syntax-names}
 
--- ---- one reading behind the other
+-- ---- one reading after the other
 
 -- another reading ends where this one stops
 abbrev pub IsStopped : End → Type 0

@@ -1,4 +1,4 @@
--- The line that tells of a fault.
+-- The line that reports a fault.
 use Rattle.std.specs.Prelude.{ℕ, Option, Some, None, List, ◌++◌, codes}
 use Rattle.std.specs.Fmt.{decimal}
 use Rattle.nj_manifest.specs.Faults.{wanted_text}

@@ -1,10 +1,12 @@
+-- what must be believed
 pub mod FaultLines
 pub mod Faults
 pub mod Graph
-pub mod GraphHeld
 pub mod Laws
 pub mod Loads
-pub mod ReaderContracts
 pub mod Reading
 pub mod Runs
 pub mod Statements
+-- how what the code holds is that
+pub mod GraphHeld
+pub mod ReaderContracts

@@ -219,7 +219,7 @@ ReadsOrStops main before after old held reading (Err fault) = StopsAt main befor
 
 -- ---- the next statement
 
--- what a parser answers, where its faults are told in a file
+-- what a parser answers; its faults are reported in a file
 abbrev pub NextOf : (file : List ℕ) → List Line → (after : Left) → Result (Option (Placed Statement)) GraphFault → Type 0
 NextOf file lines after (Ok (Some s)) =
     (rest : List Line) × (next_statement lines ≡ Ok (Some (placed_text s), rest)) × (after ≡ Lines rest)

@@ -1,4 +1,4 @@
-//! The line that tells of a fault.
+//! The line that reports a fault.
 
 ghost use Rattle.std.specs.Prelude.{◌≡◌, ◌++◌, IfOk, codes};
 ghost use Rattle.nj_graph.specs.FaultLines.{fault_line, place_text, cause_text};
@@ -15,7 +15,7 @@ struct CauseText<'a> {
 }
 
 impl GraphFault {
-    /// The line that tells of the fault, without a line end: `FILE:LINE:COLUMN: TEXT`, or
+    /// The line that reports the fault, without a line end: `FILE:LINE:COLUMN: TEXT`, or
     /// `ninja-explain: TEXT` where the fault has no place. Names and paths are written as they are.
     ///
     /// # Errors

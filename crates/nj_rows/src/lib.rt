@@ -4,6 +4,8 @@
 #[cfg(test)]
 mod disk;
 #[cfg(test)]
+mod loads;
+#[cfg(test)]
 mod runs;
 #[cfg(test)]
 mod sinks;
