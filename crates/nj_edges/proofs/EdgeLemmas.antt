@@ -1,18 +1,19 @@
 -- Lemmas on edges that are held by the numbers of files.
-use Rattle.std.proofs.Common.{◌≡◌, ◌≢◌, ◌<◌, ◌≤◌, ◌+◌, ◌-◌, ◌==◌, ◌||◌, ◌⊎◌, inl, inr, ℕ, zero, suc, Bool, true, false, cond, List, [], ◌∷◌, ◌++◌, map, length, take, drop, slice_get, get_or, Option, Some, None, is_some, option_map, unwrap_or, bytes_eq, refl, sym, ap, subst, ◌∙◌, true≢false, arith, length-append, length-drop, add-one, set}
-use Rattle.std.specs.List.{AllByRecursion, IsDistinct, list_any}
+use Rattle.std.proofs.Common.{◌≡◌, ◌≢◌, ◌<◌, ◌≤◌, ◌+◌, ◌-◌, ◌==◌, ◌||◌, ◌⊎◌, inl, inr, ℕ, zero, suc, Bool, true, false, cond, List, [], ◌∷◌, ◌++◌, map, length, take, drop, slice_get, slice_range, get_or, Option, Some, None, is_some, option_map, unwrap_or, bytes_eq, refl, sym, ap, subst, ◌∙◌, true≢false, arith, length-append, length-drop, add-one, set}
+use Rattle.std.specs.List.{AllByRecursion, IsDistinct, list_any, flat_map}
 use Rattle.std.proofs.lemmas.Bool.Decides.{eqb_tells}
-use Rattle.std.proofs.lemmas.List.{map_push, drop-append-le, take-append-drop, length-map, length-set}
+use Rattle.std.proofs.lemmas.List.{map_push, append-nil, drop-append-le, take-append-le, take-append-drop, length-map, length-set}
 use Rattle.std.proofs.lemmas.Option.{slice_get_within, slice_get-get_or, unwrap_or-slice_get, get_or_from_slice_get}
 use Rattle.std.proofs.lemmas.Slice.Eq.{bytes_eq-Decides}
-use Rattle.std.proofs.Math.Seq.{drop-length}
+use Rattle.std.proofs.lemmas.Grind.{flat_map-append}
+use Rattle.std.proofs.Math.Seq.{drop-length, take-length}
 use Rattle.nj_edges.specs.declared.files.FileNo.{FileNo}
 use Rattle.nj_edges.specs.declared.edges.Span.{Span}
 use Rattle.nj_edges.specs.declared.edges.EdgeRow.{EdgeRow}
 use Rattle.nj_edges.specs.declared.edges.OpenStarts.{OpenStarts}
 use Rattle.nj_edges.specs.declared.edges.KindEnds.{KindEnds}
 use Rattle.nj_edges.specs.Edges.{first_edge, maker_of, is_among, outputs_of}
-use Rattle.nj_edges.specs.EdgesHeld.{edge_read, paths_at, within, edge_of, edges_of, table_of, EdgeTable, naming, plus_output, plus_input, plus_validation, is_made, row_between, no_files, EndWithin, has_number, AreNumbers, IsWithin, RowIsWithin, output_rows, HoldMakers, EdgesAreHeld}
+use Rattle.nj_edges.specs.EdgesHeld.{edge_read, paths_at, within, edge_of, edges_of, table_of, EdgeTable, naming, plus_output, plus_input, plus_validation, is_made, row_between, no_files, EndWithin, has_number, AreNumbers, IsWithin, RowIsWithin, output_rows, HoldMakers, AreJoined, EdgesAreHeld}
 use Rattle.nj_edges.specs.Files.{with_path, path_at}
 use Rattle.nj_edges.proofs.ListLemmas.{slice_range-append, slice_range-rest}
 
@@ -89,6 +90,28 @@ paths_at-push files ns f path here = map_push (path_at files) ns f ∙ ap (λ p.
 
 pub open-push : (files : List (List ℕ)) (ns : List FileNo) (start : ℕ) (f : FileNo) (path : List ℕ) → start ≤ length ns → slice_get files f.0 ≡ Some path → paths_at files (drop start (ns ++ f ∷ [])) ≡ paths_at files (drop start ns) ++ path ∷ []
 open-push files ns start f path le here = rw (drop-append-le start ns (f ∷ []) le) (paths_at-push files (drop start ns) f path here)
+
+-- ---- the parts of a list one after the other
+
+parts-same : (ns : List FileNo) (f : FileNo) (start : ℕ) → start ≤ length ns → (spans : List Span) → AllByRecursion (λ span. IsWithin span start) spans → flat_map (within (ns ++ f ∷ [])) spans ≡ flat_map (within ns) spans
+parts-same ns f start le [] all = refl
+parts-same ns f start le (span ∷ spans) all =
+    let first = within-append ns (f ∷ []) span start all.0 le in
+    let more = parts-same ns f start le spans all.1 in cc
+
+pub joined-push : (ns : List FileNo) (f : FileNo) (start : ℕ) → start ≤ length ns → (spans : List Span) → AllByRecursion (λ span. IsWithin span start) spans → AreJoined spans start ns → AreJoined spans start (ns ++ f ∷ [])
+joined-push ns f start le spans all joined = parts-same ns f start le spans all ∙ joined ∙ sym (take-append-le start ns (f ∷ []) le)
+
+pub joined-end : (ns : List FileNo) (start : ℕ) → start ≤ length ns → (spans : List Span) → AreJoined spans start ns → AreJoined (spans ++ record { start = start; end = length ns } ∷ []) (length ns) ns
+joined-end ns start le spans joined =
+    flat_map-append (within ns) spans (record { start = start; end = length ns } ∷ [])
+    ∙ ap (λ xs. xs ++ (slice_range ns start (length ns) ++ [])) joined
+    ∙ ap (λ xs. take start ns ++ xs) (append-nil (slice_range ns start (length ns)) ∙ slice_range-rest ns start le)
+    ∙ take-append-drop start ns ∙ sym (take-length ns)
+
+pub all-map : {X Y : Type 0} (f : X → Y) (P : Y → Type 0) (xs : List X) → AllByRecursion (λ x. P (f x)) xs → AllByRecursion P (map f xs)
+all-map f P [] all = tt
+all-map f P (x ∷ xs) all = (all.0, all-map f P xs all.1)
 
 -- each edge that was read stays
 module _ (files : List (List ℕ)) (outputs inputs validations : List FileNo) (starts : OpenStarts) (f : FileNo) where
@@ -228,6 +251,9 @@ module _ (files : List (List ℕ)) (makers : List (Option ℕ)) (outputs inputs 
         inputs_are = AreNumbers-more (length files) (length (files ++ path ∷ [])) inputs more held.inputs_are;
         validations_are = AreNumbers-more (length files) (length (files ++ path ∷ [])) validations more held.validations_are;
         rows_are = held.rows_are;
+        outputs_joined = held.outputs_joined;
+        inputs_joined = held.inputs_joined;
+        validations_joined = held.validations_joined;
         outputs_start = held.outputs_start;
         inputs_start = held.inputs_start;
         validations_start = held.validations_start;
@@ -334,6 +360,9 @@ module _ (files : List (List ℕ)) (makers : List (Option ℕ)) (outputs inputs 
           validations = record { rises = held.validations_start; ends = omega arith };
           kinds = fits;
         });
+    outputs_joined = rw (map-append (λ (row : EdgeRow). row.outputs) rows next_row) (joined-end outputs starts.outputs held.outputs_start (map (λ (row : EdgeRow). row.outputs) rows) held.outputs_joined);
+    inputs_joined = rw (map-append (λ (row : EdgeRow). row.inputs) rows next_row) (joined-end inputs starts.inputs held.inputs_start (map (λ (row : EdgeRow). row.inputs) rows) held.inputs_joined);
+    validations_joined = rw (map-append (λ (row : EdgeRow). row.validations) rows next_row) (joined-end validations starts.validations held.validations_start (map (λ (row : EdgeRow). row.validations) rows) held.validations_joined);
     outputs_start = omega arith;
     inputs_start = omega arith;
     validations_start = omega arith;
@@ -544,6 +573,9 @@ module _ (files : List (List ℕ)) (makers : List (Option ℕ)) (outputs inputs 
     inputs_are = held.inputs_are;
     validations_are = held.validations_are;
     rows_are = held.rows_are;
+    outputs_joined = joined-push outputs f starts.outputs held.outputs_start (map (λ (row : EdgeRow). row.outputs) rows) (all-map (λ (row : EdgeRow). row.outputs) (λ span. IsWithin span starts.outputs) rows (all-of (RowIsWithin starts.outputs starts.inputs starts.validations) (λ row. IsWithin row.outputs starts.outputs) (λ row h. h.outputs) rows held.rows_are)) held.outputs_joined;
+    inputs_joined = held.inputs_joined;
+    validations_joined = held.validations_joined;
     outputs_start = let start = held.outputs_start in simp length-append (omega arith);
     inputs_start = held.inputs_start;
     validations_start = held.validations_start;
@@ -555,6 +587,40 @@ module _ (files : List (List ℕ)) (makers : List (Option ℕ)) (outputs inputs 
       let below : f.0 < length makers = subst (λ n. f.0 < n) (sym held.makers_count) room in
       let same = is ∙ get_or_from_slice_get makers f.0 (first_edge (has_number f.0) (output_rows outputs starts.outputs rows)) found (held.makers_are f.0 below) in
       sym same ∙ absent found none
+
+  pub held-input : f.0 < length files → EdgesAreHeld files makers outputs (inputs ++ f ∷ []) validations rows starts
+  held-input room = record {
+    distinct = held.distinct;
+    makers_count = held.makers_count;
+    makers_are = held.makers_are;
+    outputs_are = held.outputs_are;
+    inputs_are = all-push (λ g. g.0 < length files) inputs f held.inputs_are room;
+    validations_are = held.validations_are;
+    rows_are = held.rows_are;
+    outputs_joined = held.outputs_joined;
+    inputs_joined = joined-push inputs f starts.inputs held.inputs_start (map (λ (row : EdgeRow). row.inputs) rows) (all-map (λ (row : EdgeRow). row.inputs) (λ span. IsWithin span starts.inputs) rows (all-of (RowIsWithin starts.outputs starts.inputs starts.validations) (λ row. IsWithin row.inputs starts.inputs) (λ row h. h.inputs) rows held.rows_are)) held.inputs_joined;
+    validations_joined = held.validations_joined;
+    outputs_start = held.outputs_start;
+    inputs_start = let start = held.inputs_start in simp length-append (omega arith);
+    validations_start = held.validations_start;
+  }
+
+  pub held-validation : f.0 < length files → EdgesAreHeld files makers outputs inputs (validations ++ f ∷ []) rows starts
+  held-validation room = record {
+    distinct = held.distinct;
+    makers_count = held.makers_count;
+    makers_are = held.makers_are;
+    outputs_are = held.outputs_are;
+    inputs_are = held.inputs_are;
+    validations_are = all-push (λ g. g.0 < length files) validations f held.validations_are room;
+    rows_are = held.rows_are;
+    outputs_joined = held.outputs_joined;
+    inputs_joined = held.inputs_joined;
+    validations_joined = joined-push validations f starts.validations held.validations_start (map (λ (row : EdgeRow). row.validations) rows) (all-map (λ (row : EdgeRow). row.validations) (λ span. IsWithin span starts.validations) rows (all-of (RowIsWithin starts.outputs starts.inputs starts.validations) (λ row. IsWithin row.validations starts.validations) (λ row h. h.validations) rows held.rows_are)) held.validations_joined;
+    outputs_start = held.outputs_start;
+    inputs_start = held.inputs_start;
+    validations_start = let start = held.validations_start in simp length-append (omega arith);
+  }
 
 -- how many files the edge that is being read has
 pub length-open : (files : List (List ℕ)) (ns : List FileNo) (start : ℕ) → length (paths_at files (drop start ns)) ≡ length ns - start

@@ -39,7 +39,7 @@ module _ (files : List (List ℕ)) (makers : List (Option ℕ)) (outputs inputs 
 -- ---- the makers of inputs
 
 -- the kinds of inputs one after the other
-kinds-joined : (paths : List (List ℕ)) (explicit implicit : ℕ) → explicit ≤ implicit → (take explicit paths ++ slice_range paths explicit implicit) ++ drop implicit paths ≡ paths
+pub kinds-joined : (paths : List (List ℕ)) (explicit implicit : ℕ) → explicit ≤ implicit → (take explicit paths ++ slice_range paths explicit implicit) ++ drop implicit paths ≡ paths
 kinds-joined paths explicit implicit le =
     append_assoc (take explicit paths) (slice_range paths explicit implicit) (drop implicit paths) ∙ ap (λ ps. take explicit paths ++ ps) (sym (drop_split paths explicit implicit le)) ∙ take-append-drop explicit paths
 

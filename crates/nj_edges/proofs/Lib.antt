@@ -5,3 +5,4 @@ pub mod FlatLemmas
 pub mod FlatRows
 pub mod GraphLemmas
 pub mod ListLemmas
+pub mod RootLemmas

@@ -1,6 +1,6 @@
 -- How the edges of a graph are held: by the numbers of files.
 use Rattle.std.specs.Prelude.{◌≡◌, ℕ, ◌<◌, ◌≤◌, ◌-◌, ◌==◌, ◌||◌, Bool, Option, Some, is_some, List, [], ◌∷◌, ◌++◌, map, length, take, drop, slice_get, slice_range, bytes_eq}
-use Rattle.std.specs.List.{list_any, AllByRecursion, IsDistinct}
+use Rattle.std.specs.List.{list_any, flat_map, AllByRecursion, IsDistinct}
 use Rattle.nj_edges.specs.declared.files.FileNo.{FileNo}
 use Rattle.nj_edges.specs.declared.edges.Span.{Span}
 use Rattle.nj_edges.specs.declared.edges.EdgeRow.{EdgeRow}
@@ -121,6 +121,10 @@ pub record IsWithin (span : Span) (end : ℕ) : Type 0 where
   pub rises : span.start ≤ span.end
   pub ends : span.end ≤ end
 
+-- these parts one after the other are the list up to an index
+abbrev pub AreJoined : List Span → (end : ℕ) → List FileNo → Type 0
+AreJoined spans end files = flat_map (within files) spans ≡ take end files
+
 -- the files of an edge stand before those of the edge that is being read
 pub record RowIsWithin (open_outputs open_inputs open_validations : ℕ) (row : EdgeRow) : Type 0 where
   pub outputs : IsWithin row.outputs open_outputs
@@ -144,6 +148,9 @@ pub record EdgesAreHeld (files : List (List ℕ)) (makers : List (Option ℕ)) (
   pub inputs_are : AreNumbers (length files) inputs
   pub validations_are : AreNumbers (length files) validations
   pub rows_are : AllByRecursion (RowIsWithin starts.outputs starts.inputs starts.validations) rows
+  pub outputs_joined : AreJoined (map (λ row. row.outputs) rows) starts.outputs outputs
+  pub inputs_joined : AreJoined (map (λ row. row.inputs) rows) starts.inputs inputs
+  pub validations_joined : AreJoined (map (λ row. row.validations) rows) starts.validations validations
   pub outputs_start : starts.outputs ≤ length outputs
   pub inputs_start : starts.inputs ≤ length inputs
   pub validations_start : starts.validations ≤ length validations

@@ -4,13 +4,16 @@ use Rattle.nj_order.specs.Cycles.{IsAcyclic}
 use Rattle.nj_edges.specs.declared.files.FileNo.{FileNo}
 use Rattle.nj_edges.specs.declared.edges.EdgeRow.{EdgeRow}
 use Rattle.nj_edges.specs.declared.edges.OpenStarts.{OpenStarts}
+use Rattle.nj_edges.specs.Edges.{roots_of}
 use Rattle.nj_edges.specs.EdgesHeld.{EdgesAreHeld, edges_of}
+use Rattle.nj_edges.specs.Files.{AreFiles}
 use Rattle.nj_edges.specs.Needs.{makers_of_inputs}
 
 -- no edge is being read
 abbrev pub ends_of : (outputs inputs validations : List FileNo) → OpenStarts
 ends_of outputs inputs validations = record { outputs = length outputs; inputs = length inputs; validations = length validations }
 
-pub record GraphIsHeld (files : List (List ℕ)) (makers : List (Option ℕ)) (outputs inputs validations : List FileNo) (rows : List EdgeRow) : Type 0 where
+pub record GraphIsHeld (files : List (List ℕ)) (makers : List (Option ℕ)) (outputs inputs validations : List FileNo) (rows : List EdgeRow) (roots : List FileNo) : Type 0 where
   pub edges_are : EdgesAreHeld files makers outputs inputs validations rows (ends_of outputs inputs validations)
   pub acyclic : IsAcyclic (makers_of_inputs (edges_of files outputs inputs validations rows)) (length rows)
+  pub roots_are : AreFiles files roots (roots_of (edges_of files outputs inputs validations rows))

@@ -9,3 +9,4 @@ pub mod Graph
 pub mod GraphHeld
 pub mod Lists
 pub mod Needs
+pub mod RootsHeld

@@ -3,7 +3,7 @@
 ghost use Rattle.std.specs.Prelude.{◌≡◌, ℕ, ◌<◌, None, Some, length, slice_index_or, slice_get, option_map, position, bytes_eq, IfOk, All, IfSome, if◌then◌else◌, nat_lt};
 ghost use Rattle.std.specs.List.{AllByRecursion, IsDistinct};
 ghost use Rattle.nj_order.specs.Cycles.{IsFirstOnCycle, IsAcyclic};
-ghost use Rattle.nj_edges.specs.Edges.{edge_at, outputs_of, inputs_of, kind_at, maker_of};
+ghost use Rattle.nj_edges.specs.Edges.{edge_at, outputs_of, inputs_of, kind_at, maker_of, roots_of};
 ghost use Rattle.nj_edges.specs.EdgesHeld.{IsWithin, within, no_files};
 ghost use Rattle.nj_edges.specs.Files.{path_at, AreFiles};
 ghost use Rattle.nj_edges.specs.FlatInputs.{makers_in_row};
@@ -14,6 +14,7 @@ use crate::edges::{EdgeNo, EdgeRow, Edges, InputKind, KindEnds, Span};
 use crate::files::{FileNo, Files};
 use crate::flat::flat_inputs;
 use crate::lists::part;
+use crate::roots::roots;
 use nj_order::{EdgeInputs, first_on_cycle};
 use std::alloc::{AllocError, Global};
 use std::marker::Model;
@@ -27,6 +28,7 @@ pub struct EdgeGraph {
     inputs: Vec<FileNo>,
     validations: Vec<FileNo>,
     rows: Vec<EdgeRow>,
+    roots: Vec<FileNo>,
 }
 
 impl Model for EdgeGraph {
@@ -42,7 +44,7 @@ impl Model for EdgeGraph {
     } };
 
     ghost invariant = { λ g. GraphIsHeld g.files g.makers.items g.outputs.items g.inputs.items
-        g.validations.items g.rows.items };
+        g.validations.items g.rows.items g.roots.items };
 }
 
 /// What all edges of a run come to.
@@ -131,6 +133,13 @@ impl EdgeGraph {
         )
     }
 
+    /// The roots: the outputs that no edge has as an input, by edge and then by output.
+    pub fn roots(&self) -> &[FileNo]
+        ensures { AreFiles self.now.files result.now (roots_of self.now.edges) }
+    {
+        self.roots.as_slice()
+    }
+
     /// How many outputs of an edge are explicit.
     pub fn explicit_outputs(&self, edge: EdgeNo) -> usize
         requires { edge.0 < length self.now.edges }
@@ -194,17 +203,19 @@ impl Edges {
             rows,
             ..
         } = self;
-        match least_on_cycle(alloc, &inputs, &rows, &makers)? {
-            Some(edge) => Ok(Finished::Cycle(EdgeNo(edge))),
-            None => Ok(Finished::Graph(EdgeGraph {
-                files,
-                makers,
-                outputs,
-                inputs,
-                validations,
-                rows,
-            })),
+        if let Some(edge) = least_on_cycle(alloc, &inputs, &rows, &makers)? {
+            return Ok(Finished::Cycle(EdgeNo(edge)));
         }
+        let roots = roots(alloc, files.count(), &outputs, &inputs)?;
+        Ok(Finished::Graph(EdgeGraph {
+            files,
+            makers,
+            outputs,
+            inputs,
+            validations,
+            rows,
+            roots,
+        }))
     }
 }
 

@@ -7,6 +7,7 @@ mod files;
 mod flat;
 mod graph;
 mod lists;
+mod roots;
 
 pub use edges::{EdgeNo, Edges, InputKind, KindEnds};
 pub use files::{FileNo, Files};
