@@ -23,7 +23,7 @@ use Rattle.nj_manifest.proofs.BlockLines.{lines_weight, Begins, start-begins}
 use Rattle.nj_manifest.proofs.Framing.{bind-ok, after-is, On, InLine, line_end-inside, colon-inside, name-inside, word-inside, sign-inside, section-inside, ends-line, equals_value-inside}
 use Rattle.nj_manifest.proofs.Framing as framing
 
-oks : {A : Type 0} {x y : A} → ◌≡◌ {A = Result A Fault} (Ok x) (Ok y) → x ≡ y
+pub oks : {A : Type 0} {x y : A} → ◌≡◌ {A = Result A Fault} (Ok x) (Ok y) → x ≡ y
 oks e = cc
 
 no_ok : {A P : Type 0} {f : Fault} {y : A} → ◌≡◌ {A = Result A Fault} (Err f) (Ok y) → P
@@ -51,7 +51,7 @@ module _ (l : Line) (ls : List Line) where
       let k = unless_missing-ok _ _ (Ok n.0.1) s' n.2 in
       subst (On l ls) (oks k.1) (name-inside want l ls s n.0 o n.1)
 
-  no_path-answered : (spot : Spot) (a : Result (Option WordText) UnitFault) (after s' : State) → no_path_by spot a after ≡ Ok s' → answered a after ≡ Ok (None, s')
+  pub no_path-answered : (spot : Spot) (a : Result (Option WordText) UnitFault) (after s' : State) → no_path_by spot a after ≡ Ok s' → answered a after ≡ Ok (None, s')
   no_path-answered spot (Ok None) after s' h = ap (λ (s : State). Ok (None, s)) (oks h)
   no_path-answered spot (Ok (Some word)) after s' h = no_ok h
   no_path-answered spot (Err unit) after s' h = by_test (is_same_spot (fault_spot unit) spot) h
@@ -73,7 +73,7 @@ module _ (l : Line) (ls : List Line) where
       let k = unless_missing-ok _ _ (Ok there.0.1) s' there.2 in
       subst (On l ls) (oks k.1) (sign-inside want l ls (skip_blanks_of s) there.0 i (skip-inside s o) there.1)
 
-  first_output-after : (found : Option WordText) (after : State) (y : WordText × State) → first_output found after ≡ Ok y → after ≡ y.1
+  pub first_output-after : (found : Option WordText) (after : State) (y : WordText × State) → first_output found after ≡ Ok y → after ≡ y.1
   first_output-after (Some word) after y h = after-is word after y h
   first_output-after None after y h =
       let pipe = bind-ok (called (sign_of sign.Pipe after)) _ y h in
@@ -141,7 +141,7 @@ version-ends l ls s h = version_line-inside l ls (Inside l ls) s (l.units, refl)
 
 -- ---- blocks
 
-called-ok : {A : Type 0} (a : Result A UnitFault) (after : State) (x : A) (s : State) → answered a after ≡ Ok (x, s) → (a ≡ Ok x) × (s ≡ after)
+pub called-ok : {A : Type 0} (a : Result A UnitFault) (after : State) (x : A) (s : State) → answered a after ≡ Ok (x, s) → (a ≡ Ok x) × (s ≡ after)
 called-ok {A = A} (Ok y) after x s h =
     let both : ◌≡◌ {A = A × State} (y, after) (x, s) = oks h in
     (ap (λ (r : A × State). Ok r.0) both, sym (ap (λ (r : A × State). r.1) both))

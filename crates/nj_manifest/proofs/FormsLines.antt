@@ -34,7 +34,7 @@ leads_to one s t e f = sym e ∙ f
 end_behind-form : (miss : Wanted) (l : Line) (ls : List Line) (us : List TextUnit) (s : State) → expect_sign sign.LineEnd miss (within l ls (skip us)) ≡ Ok s → AreBlanks us × (s ≡ Between (lines_behind l ls))
 end_behind-form miss l ls us s h = end-form miss l ls us s (sym (behind_skips sign.LineEnd miss l ls us) ∙ h)
 
-end_behind-read : (miss : Wanted) (l : Line) (ls : List Line) (us : List TextUnit) → AreBlanks us → expect_sign sign.LineEnd miss (within l ls (skip us)) ≡ Ok (Between (lines_behind l ls))
+pub end_behind-read : (miss : Wanted) (l : Line) (ls : List Line) (us : List TextUnit) → AreBlanks us → expect_sign sign.LineEnd miss (within l ls (skip us)) ≡ Ok (Between (lines_behind l ls))
 end_behind-read miss l ls us h = behind_skips sign.LineEnd miss l ls us ∙ end-read miss l ls us h
 
 -- ---- a name alone
@@ -114,28 +114,28 @@ at_order_only : {us rest : List TextUnit} {words : List WordText} {at : Bool} �
 at_order_only {at = at} left_out stops = (false, at, stops)
 at_order_only {us} (there {after = behind} s ws) stops = (true, false, pipe2_stops us behind s)
 
-at_implicit : {us rest : List TextUnit} {words : List WordText} {two at : Bool} → SectionForm sign.Pipe us words rest → Stops rest false two at → (one two at : Bool) × Stops us one two at
+pub at_implicit : {us rest : List TextUnit} {words : List WordText} {two at : Bool} → SectionForm sign.Pipe us words rest → Stops rest false two at → (one two at : Bool) × Stops us one two at
 at_implicit {two = two} {at = at} left_out stops = (false, two, at, stops)
 at_implicit {us} (there {after = behind} s ws) stops = (true, false, false, pipe_stops us behind s)
 
-pipe_is_no_end : sign.Pipe ≡ sign.LineEnd → ⊥
+pub pipe_is_no_end : sign.Pipe ≡ sign.LineEnd → ⊥
 pipe_is_no_end e = absurd cc
 
-pipe2_is_no_end : sign.Pipe2 ≡ sign.LineEnd → ⊥
+pub pipe2_is_no_end : sign.Pipe2 ≡ sign.LineEnd → ⊥
 pipe2_is_no_end e = absurd cc
 
-pipe_at_is_no_end : sign.PipeAt ≡ sign.LineEnd → ⊥
+pub pipe_at_is_no_end : sign.PipeAt ≡ sign.LineEnd → ⊥
 pipe_at_is_no_end e = absurd cc
 
-colon_is_no_end : sign.Colon ≡ sign.LineEnd → ⊥
+pub colon_is_no_end : sign.Colon ≡ sign.LineEnd → ⊥
 colon_is_no_end e = absurd cc
 
 -- a section behind blanks that are passed already
-section_behind-form : (want : Sign) (l : Line) (ls : List Line) (us : List TextUnit) (s s' : State) (words : List WordText) → (want ≡ sign.LineEnd → ⊥) → s ≡ within l ls (skip us) → section_next want s ≡ Ok (words, s')
+pub section_behind-form : (want : Sign) (l : Line) (ls : List Line) (us : List TextUnit) (s s' : State) (words : List WordText) → (want ≡ sign.LineEnd → ⊥) → s ≡ within l ls (skip us) → section_next want s ≡ Ok (words, s')
     → (rest : List TextUnit) × SectionForm want us words rest × (s' ≡ within l ls (skip rest))
 section_behind-form want l ls us s s' words n e h = section-form want l ls us words s' n (sym (section_skips want l ls us) ∙ sym (ap (section_next want) e) ∙ h)
 
-section_behind-read : (want : Sign) (l : Line) (ls : List Line) {us rest : List TextUnit} {words : List WordText} → (want ≡ sign.LineEnd → ⊥) → SectionForm want us words rest
+pub section_behind-read : (want : Sign) (l : Line) (ls : List Line) {us rest : List TextUnit} {words : List WordText} → (want ≡ sign.LineEnd → ⊥) → SectionForm want us words rest
     → next_fault (skip rest) ≡ None → begins_word (skip rest) ≡ false → is_sign want (skip rest) ≡ false → section_next want (within l ls (skip us)) ≡ Ok (words, within l ls (skip rest))
 section_behind-read want l ls {us = us} n f a b c = section_skips want l ls us ∙ section-read want l ls n f a b c
 
@@ -221,7 +221,7 @@ abbrev PartsRead : Line → List Line → List TextUnit → HeadText → State �
 PartsRead l ls us head s = (outputs : OutputsText) × (rule : NameText) × (inputs : InputsText) × PartsForm us outputs rule inputs × (head ≡ BuildHead outputs rule inputs) × (s ≡ Between (lines_behind l ls))
 
 -- each step of it, where the lexer stands as the step before left it
-colon_behind-form : (l : Line) (ls : List Line) (us : List TextUnit) (s s' : State) → s ≡ within l ls (skip us) → expect_sign sign.Colon wanted.Colon s ≡ Ok s' → (rest : List TextUnit) × SignForm sign.Colon us rest × (s' ≡ within l ls rest)
+pub colon_behind-form : (l : Line) (ls : List Line) (us : List TextUnit) (s s' : State) → s ≡ within l ls (skip us) → expect_sign sign.Colon wanted.Colon s ≡ Ok s' → (rest : List TextUnit) × SignForm sign.Colon us rest × (s' ≡ within l ls rest)
 colon_behind-form l ls us s s' e h = behind-form sign.Colon wanted.Colon l ls us s' colon_is_no_end (sym (behind_skips sign.Colon wanted.Colon l ls us) ∙ sym (ap (expect_sign sign.Colon wanted.Colon) e) ∙ h)
 
 name_at-form : (want : Wanted) (l : Line) (ls : List Line) (us : List TextUnit) (s : State) (y : NameText × State) → s ≡ within l ls us → name_next want s ≡ Ok y → (rest : List TextUnit) × IdentifierForm us y.0 rest × (y.1 ≡ within l ls rest)
@@ -230,7 +230,7 @@ name_at-form want l ls us s y e h = name-form want l ls us y (ap (name_next want
 inputs_at-form : (l : Line) (ls : List Line) (us : List TextUnit) (s s' : State) (inputs : InputsText) → s ≡ within l ls us → inputs_next s ≡ Ok (inputs, s') → (rest : List TextUnit) × InputsForm us inputs rest × (s' ≡ within l ls (skip rest))
 inputs_at-form l ls us s s' inputs e h = inputs-form l ls us inputs s' (ap inputs_next (sym e) ∙ h)
 
-end_behind_at-form : (l : Line) (ls : List Line) (us : List TextUnit) (s s' : State) → s ≡ within l ls (skip us) → expect_sign sign.LineEnd wanted.Newline s ≡ Ok s' → AreBlanks us × (s' ≡ Between (lines_behind l ls))
+pub end_behind_at-form : (l : Line) (ls : List Line) (us : List TextUnit) (s s' : State) → s ≡ within l ls (skip us) → expect_sign sign.LineEnd wanted.Newline s ≡ Ok s' → AreBlanks us × (s' ≡ Between (lines_behind l ls))
 end_behind_at-form l ls us s s' e h = end_behind-form wanted.Newline l ls us s' (ap (expect_sign sign.LineEnd wanted.Newline) (sym e) ∙ h)
 
 build-form : (l : Line) (ls : List Line) (us : List TextUnit) (head : HeadText) (s : State) → build_next (within l ls us) ≡ Ok (head, s) → PartsRead l ls us head s
@@ -272,7 +272,7 @@ build-read l ls us outputs rule inputs f =
 pub same_bytes : (xs ys : List ℕ) → bytes_eq xs ys ≡ true → xs ≡ ys
 same_bytes xs ys h = (bytes_eq-Decides xs ys).0 h
 
-keyword_of : (word : List ℕ) (us rest : List TextUnit) (name : NameText) → IdentifierForm us name rest → bytes_eq name.name word ≡ true → KeywordForm word us rest
+pub keyword_of : (word : List ℕ) (us rest : List TextUnit) (name : NameText) → IdentifierForm us name rest → bytes_eq name.name word ≡ true → KeywordForm word us rest
 keyword_of word us rest name f h =
     record { spot = name.spot; here = subst (λ (bs : List ℕ). IdentifierForm us (record { spot = name.spot; name = bs }) rest) (same_bytes name.name word h) f }
 

@@ -3,6 +3,7 @@ pub mod CallsTaken
 pub mod Consumed
 pub mod DyndepCalls
 pub mod DyndepEnds
+pub mod DyndepEntries
 pub mod DyndepRows
 pub mod DyndepValues
 pub mod FaultRows

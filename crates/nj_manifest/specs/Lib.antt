@@ -1,4 +1,5 @@
 pub mod Contents
+pub mod DyndepForms
 pub mod DyndepParsers
 pub mod Dyndeps
 pub mod Faults

@@ -1,6 +1,7 @@
 //! Laws of the grammar of statements.
 
 ghost use Rattle.nj_manifest.specs.Laws.{StatementsAreTheForms, MissingLinesAreLacking};
+ghost use Rattle.nj_manifest.specs.DyndepForms.{EntriesAreTheForms};
 ghost use Rattle.nj_manifest.specs.Leftmost.{FaultsAreLeftmost};
 
 /// A statement is read from lines, or none at their end, exactly where the forms of Ninja's manual say so.
@@ -18,4 +19,9 @@ pub fn missing_lines_are_lacking()
 /// fault. From what is before that element a statement does go on, with what the fault says is expected.
 pub fn faults_are_leftmost()
     ensures { FaultsAreLeftmost }
+{}
+
+/// A line of a dyndep file is read as an entry exactly where it has the form of one.
+pub fn dyndep_entries_are_the_forms()
+    ensures { EntriesAreTheForms }
 {}

@@ -20,7 +20,10 @@ pub use dyndep::DyndepParser;
 pub use entries::Entry;
 pub use fault::{ParseFault, Wanted};
 pub use fault_text::FaultText;
-pub use laws::{faults_are_leftmost, missing_lines_are_lacking, statements_are_the_forms};
+pub use laws::{
+    dyndep_entries_are_the_forms, faults_are_leftmost, missing_lines_are_lacking,
+    statements_are_the_forms,
+};
 pub use nj_text::{LexFault, Part, Spot, UnitFault, Word};
 pub use parser::Parser;
 pub use statement::{Line, Placed, Statement};
