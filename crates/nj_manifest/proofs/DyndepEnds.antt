@@ -124,7 +124,7 @@ module _ (l : Line) (ls : List Line) where
       let k = unless_missing-ok _ _ (Ok value.0.1) s' value.2 in
       sym (oks k.1) ∙ equals_value-inside l ls name.0.1 value.0 (name-inside wanted.Statement l ls s name.0 o name.1) read.1
 
-  restat_line-inside : (s s' : State) → On l ls s → restat_line s ≡ Ok s' → framing.Ended l ls s'
+  pub restat_line-inside : (s s' : State) → On l ls s → restat_line s ≡ Ok s' → framing.Ended l ls s'
   unfolding restat_line
   restat_line-inside s s' o h =
       let key = bind-ok (word_of_form (codes "restat") wanted.VariableName s) _ s' h in
@@ -159,7 +159,7 @@ settled ls x m s k h g indented = by_start x (start-begins keys.All ls (Ok x) m 
     by_start start.Blank b g = subst IsBetweenStatements (oks g) b.1
     by_start start.Plain b g = subst IsBetweenStatements (oks g) b.1
 
-too_many-fails : {P : Type 0} (m s : State) → line_too_many m ≡ Ok s → P
+pub too_many-fails : {P : Type 0} (m s : State) → line_too_many m ≡ Ok s → P
 unfolding line_too_many
 too_many-fails m s h = no_ok (bind-ok (name_next wanted.VariableName m) _ s h).2
 

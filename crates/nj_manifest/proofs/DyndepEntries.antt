@@ -1,11 +1,9 @@
 -- Lines of dyndep files: what is read of them, and their form.
-use Rattle.std.proofs.Common.{◌≡◌, ℕ, Bool, true, false, not, Option, Some, None, Result, Ok, Err, List, [], ◌∷◌, refl, sym, ap, subst, ◌∙◌, codes}
-use Rattle.std.specs.Str.{bytes_eq}
+use Rattle.std.proofs.Common.{◌≡◌, ℕ, Bool, true, false, not, Option, Some, None, Result, Ok, Err, List, [], refl, sym, ap, subst, ◌∙◌, codes}
 use Rattle.std.proofs.lemmas.Slice.Eq.{bytes_eq-Decides}
 use Rattle.nj_text.specs.declared.fault.UnitFault.{UnitFault}
 use Rattle.nj_text.specs.declared.sign.Sign.{Sign}
 use Rattle.nj_text.specs.declared.sign.Sign.TheVariants as sign
-use Rattle.nj_text.specs.Bytes.{drop_while}
 use Rattle.nj_text.specs.Units.{TextUnit}
 use Rattle.nj_text.specs.Lines.{Line, with_units, lines_behind}
 use Rattle.nj_text.specs.Words.{WordText, is_blank, next_fault}
@@ -13,15 +11,14 @@ use Rattle.nj_text.specs.Calls.{State, Between, Inside, Failed, is_sign, begins_
 use Rattle.nj_manifest.specs.declared.fault.Wanted.{Wanted}
 use Rattle.nj_manifest.specs.declared.fault.Wanted.TheVariants as wanted
 use Rattle.nj_manifest.specs.Faults.{Expected}
-use Rattle.nj_manifest.specs.LineSteps.{Step, ◌>>=◌, called, NameText, name_next, expect_sign, words_next, section_next}
-use Rattle.nj_manifest.specs.Statements.{unless_missing}
-use Rattle.nj_manifest.specs.Grammar.{AreBlanks, KeywordForm, WordForm, WordsForm, SignForm, SectionForm, none}
+use Rattle.nj_manifest.specs.LineSteps.{Step, called, name_next, expect_sign, words_next, section_next}
+use Rattle.nj_manifest.specs.Grammar.{AreBlanks, KeywordForm, WordForm, WordsForm, SectionForm}
 use Rattle.nj_manifest.specs.Dyndeps.{EntryText, word_of_form, no_path_by, no_path, no_section, first_output, output_next, added_inputs, entry_line}
 use Rattle.nj_manifest.specs.DyndepForms.{EntryForm, EntriesAreTheForms}
-use Rattle.nj_manifest.proofs.Framing.{bind-ok, after-is}
+use Rattle.nj_manifest.proofs.Framing.{bind-ok}
 use Rattle.nj_manifest.proofs.WordLimits.{words_next-ends}
 use Rattle.nj_manifest.proofs.FormsKeys.{unless_missing-ok}
-use Rattle.nj_manifest.proofs.FormsTokens.{within, Stops, end_stops, colon_stops, behind_skips, behind-read, name-form, name-read, sign-left_out}
+use Rattle.nj_manifest.proofs.FormsTokens.{within, end_stops, colon_stops, behind_skips, behind-read, name-form, name-read, sign-left_out}
 use Rattle.nj_manifest.proofs.FormsWords.{fault_behind_blanks, word-form, word-read, no_word-read, words-form}
 use Rattle.nj_manifest.proofs.FormsLines.{section_behind-form, section_behind-read, colon_behind-form, end_behind_at-form, end_behind-read, keyword_of, at_implicit, pipe_is_no_end, colon_is_no_end}
 use Rattle.nj_manifest.proofs.LeftmostRuns.{none_passed, skip, skip_stops}

@@ -4,6 +4,7 @@ pub mod Consumed
 pub mod DyndepCalls
 pub mod DyndepEnds
 pub mod DyndepEntries
+pub mod DyndepNexts
 pub mod DyndepRows
 pub mod DyndepValues
 pub mod FaultRows

@@ -1,7 +1,7 @@
 //! Laws of the grammar of statements.
 
 ghost use Rattle.nj_manifest.specs.Laws.{StatementsAreTheForms, MissingLinesAreLacking};
-ghost use Rattle.nj_manifest.specs.DyndepForms.{EntriesAreTheForms};
+ghost use Rattle.nj_manifest.specs.DyndepForms.{EntriesAreTheForms, NextEntriesAreTheForms};
 ghost use Rattle.nj_manifest.specs.Leftmost.{FaultsAreLeftmost};
 
 /// A statement is read from lines, or none at their end, exactly where the forms of Ninja's manual say so.
@@ -24,4 +24,10 @@ pub fn faults_are_leftmost()
 /// A line of a dyndep file is read as an entry exactly where it has the form of one.
 pub fn dyndep_entries_are_the_forms()
     ensures { EntriesAreTheForms }
+{}
+
+/// An entry of a dyndep file is read from lines, or none at their end, exactly where the forms say
+/// so.
+pub fn next_entries_are_the_forms()
+    ensures { NextEntriesAreTheForms }
 {}
