@@ -7,6 +7,5 @@ pub mod EdgeGraphs
 pub mod FlatInputs
 pub mod Graph
 pub mod GraphHeld
-pub mod Lists
 pub mod Needs
 pub mod RootsHeld

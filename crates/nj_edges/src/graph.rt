@@ -1,6 +1,6 @@
 //! The graph of all edges of a run.
 
-ghost use Rattle.std.specs.Prelude.{◌≡◌, ℕ, ◌<◌, None, Some, length, slice_index_or, slice_get, option_map, position, bytes_eq, IfOk, All, IfSome, if◌then◌else◌, nat_lt};
+ghost use Rattle.std.specs.Prelude.{◌≡◌, ℕ, ◌<◌, None, Some, length, slice_index_or, slice_get, option_map, position, bytes_eq, IfOk, OnOk, All, IfSome, if◌then◌else◌, nat_lt};
 ghost use Rattle.std.specs.List.{AllByRecursion, IsDistinct};
 ghost use Rattle.nj_order.specs.Cycles.{IsFirstOnCycle, IsAcyclic};
 ghost use Rattle.nj_edges.specs.Edges.{edge_at, outputs_of, inputs_of, kind_at, maker_of, roots_of};
@@ -233,4 +233,57 @@ fn least_on_cycle(
 {
     let flat = flat_inputs(alloc, inputs, rows)?;
     first_on_cycle(alloc, &EdgeInputs::new(&flat.starts, &flat.numbers, makers))
+}
+
+#[cfg(test)]
+mod tests {
+    use super::*;
+    use std::test::Fail;
+
+    // Ends an edge whose first inputs, so many, are not order-only.
+    fn end(edges: &mut Edges, ordered_after: usize) -> Result<(), AllocError>
+        ensures { OnOk result (edges.new.«open» ≡ no_files) }
+    {
+        let outputs = edges.open_outputs();
+        let inputs = ordered_after.min(edges.open_inputs());
+        let kinds = KindEnds {
+            explicit_outputs: outputs,
+            explicit_inputs: inputs,
+            implicit_inputs: inputs,
+        };
+        edges.end_edge(kinds, false)
+    }
+
+    // The edge of a cycle among these, if there is one.
+    fn cycle_of(alloc: Global, edges: Edges) -> Result<Option<usize>, AllocError>
+        requires { edges.«open» ≡ no_files }
+    {
+        match edges.finish(alloc)? {
+            Finished::Cycle(edge) => Ok(Some(edge.0)),
+            Finished::Graph(_graph) => Ok(None),
+        }
+    }
+
+    #[test]
+    fn order_only_inputs_count(rt: HostRuntime) -> Result<(), Fail> {
+        let mut edges = Edges::new(rt.alloc());
+        edges.add_output(b"a")?;
+        edges.add_input(b"b")?;
+        end(&mut edges, 0)?;
+        edges.add_output(b"b")?;
+        edges.add_input(b"a")?;
+        end(&mut edges, 1)?;
+        assert_eq!(rt; cycle_of(rt.alloc(), edges)?, Some(0));
+        Ok(())
+    }
+
+    #[test]
+    fn validations_do_not_count(rt: HostRuntime) -> Result<(), Fail> {
+        let mut edges = Edges::new(rt.alloc());
+        edges.add_output(b"a")?;
+        edges.add_validation(b"a")?;
+        end(&mut edges, 0)?;
+        assert_eq!(rt; cycle_of(rt.alloc(), edges)?, None);
+        Ok(())
+    }
 }

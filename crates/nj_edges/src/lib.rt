@@ -12,4 +12,3 @@ mod roots;
 pub use edges::{EdgeNo, Edges, InputKind, KindEnds};
 pub use files::{FileNo, Files};
 pub use graph::{EdgeGraph, Finished};
-pub use lists::FlatLists;
