@@ -1,4 +1,3 @@
-pub mod BucketLemmas
 pub mod EdgeLemmas
 pub mod FileLemmas
 pub mod FlatLemmas

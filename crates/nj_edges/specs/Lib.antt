@@ -1,5 +1,3 @@
-pub mod Buckets
-pub mod BucketsHeld
 pub mod Edges
 pub mod EdgesHeld
 pub mod Files

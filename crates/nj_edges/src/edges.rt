@@ -22,8 +22,8 @@ pub enum InputKind {
     OrderOnly,
 }
 
-/// Where the kinds of an edge's files end: its outputs begin with the explicit ones, its inputs with the explicit
-/// and then the implicit ones. What is left is implicit, and order-only.
+/// Where the kinds of an edge's files end: its outputs begin with the explicit ones, its inputs
+/// with the explicit and then the implicit ones. What is left is implicit, and order-only.
 #[derive(Clone, Copy)]
 pub struct KindEnds {
     pub explicit_outputs: usize,
@@ -114,8 +114,8 @@ impl Edges {
         Ok(file)
     }
 
-    /// Appends an output to the edge that is being read. Returns `false` if the file has a maker; the edges must not
-    /// be used again then.
+    /// Appends an output to the edge that is being read. Returns `false` if the file has a maker;
+    /// the edges must not be used again then.
     pub fn add_output(&mut self, path: &[u8]) -> Result<bool, AllocError>
         ensures is_new { IfOk result (λ is_new. is_new ≡ not (is_made self.old path.now)) }
         ensures added { result ≡ Ok true → self.new ≡ with_output self.old path.now }
@@ -163,7 +163,8 @@ impl Edges {
 
     /// Ends the edge that is being read, whose kinds end so, and begins another.
     pub fn end_edge(&mut self, kinds: KindEnds, is_phony: bool) -> Result<(), AllocError>
-        requires { EndWithin kinds (length self.old.«open».outputs) (length self.old.«open».inputs) }
+        requires { EndWithin kinds (length self.old.«open».outputs)
+            (length self.old.«open».inputs) }
         ensures { OnOk result (self.new ≡ record {
           files = self.old.files;
           edges = self.old.edges ++ edge_read self.old.«open» kinds is_phony ∷ [];

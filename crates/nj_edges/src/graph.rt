@@ -75,7 +75,8 @@ impl EdgeGraph {
 
     /// The number of the file at this path, which must be clean; `None` if no edge names it.
     pub fn file_named(&self, path: &[u8]) -> Option<FileNo>
-        ensures index { option_map (λ file. file.0) result ≡ position (bytes_eq path.now) self.now.files }
+        ensures index { option_map (λ file. file.0) result
+            ≡ position (bytes_eq path.now) self.now.files }
         ensures known { IfSome result (λ file. file.0 < length self.now.files) }
     {
         self.files.number(path)
@@ -176,7 +177,8 @@ fn row_at(rows: &[EdgeRow], edge: usize) -> EdgeRow
 // The kind of the input at an index, where the kinds end so.
 fn kind_before(ends: KindEnds, index: usize) -> InputKind
     ensures { result ≡ (if nat_lt index ends.explicit_inputs then InputKind.Explicit
-        else (if nat_lt index ends.implicit_inputs then InputKind.Implicit else InputKind.OrderOnly)) }
+        else (if nat_lt index ends.implicit_inputs then InputKind.Implicit
+        else InputKind.OrderOnly)) }
 {
     if index < ends.explicit_inputs {
         InputKind::Explicit
@@ -188,8 +190,8 @@ fn kind_before(ends: KindEnds, index: usize) -> InputKind
 }
 
 impl Edges {
-    /// The graph of all edges, or the least edge on a dependency cycle. Takes time in proportion to the edges and
-    /// their inputs.
+    /// The graph of all edges, or the least edge on a dependency cycle. Takes time in proportion to
+    /// the edges and their inputs.
     pub fn finish(self, alloc: Global) -> Result<Finished, AllocError>
         requires { self.«open» ≡ no_files }
         ensures { IfOk result (λ finished. FinishesAs self.files self.edges finished) }
@@ -228,8 +230,10 @@ fn least_on_cycle(
 ) -> Result<Option<usize>, AllocError>
     requires rows { AllByRecursion (λ row. IsWithin row.inputs (length inputs.now)) rows.now }
     requires files { AllByRecursion (λ file. file.0 < length makers.now) inputs.now }
-    requires makers { (file e : ℕ) → slice_index_or makers.now file None ≡ Some e → e < length rows.now }
-    ensures { IfOk result (λ first. IsFirstOnCycle (makers_in_row inputs.now rows.now makers.now) (length rows.now) first) }
+    requires makers { (file e : ℕ) → slice_index_or makers.now file None ≡ Some e
+        → e < length rows.now }
+    ensures { IfOk result (λ first.
+        IsFirstOnCycle (makers_in_row inputs.now rows.now makers.now) (length rows.now) first) }
 {
     let flat = flat_inputs(alloc, inputs, rows)?;
     first_on_cycle(alloc, &EdgeInputs::new(&flat.starts, &flat.numbers, makers))

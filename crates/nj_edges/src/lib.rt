@@ -1,7 +1,6 @@
 //! The files and edges of a graph of build statements, by their numbers.
 #![tactic(auto)]
 
-mod buckets;
 mod edges;
 mod files;
 mod flat;
