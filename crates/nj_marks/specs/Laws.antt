@@ -1,0 +1,12 @@
+-- Laws of the texts of marks.
+use Rattle.std.specs.Prelude.{◌≡◌, ◌<◌, ◌^◌, ℕ, List, Some}
+use Rattle.std.specs.List.{All}
+use Rattle.nj_marks.specs.Marks.{mark_text, said_mark}
+
+-- the text that was written of a mark says that mark
+abbrev pub WrittenMarksAreSaid : Type 0
+WrittenMarksAreSaid = (numbers : List ℕ) → All (λ n. n < 2 ^ 64) numbers → said_mark (mark_text numbers) ≡ Some numbers
+
+-- no other text says it
+abbrev pub SaidMarksAreWritten : Type 0
+SaidMarksAreWritten = (text numbers : List ℕ) → said_mark text ≡ Some numbers → mark_text numbers ≡ text

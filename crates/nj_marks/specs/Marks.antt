@@ -1,0 +1,38 @@
+-- Marks and their texts. A mark is the numbers of an address; at the start of a walk it is none.
+use Rattle.std.specs.Prelude.{ℕ, ◌==◌, ◌&&◌, Bool, false, not, nat_le, if◌then◌else◌, Option, Some, None, List, [], ◌∷◌, map, codes, decimal}
+use Rattle.std.specs.List.{slice_split, join_with_byte}
+use Rattle.std.specs.Char.{is_ascii_digit}
+use Rattle.std.specs.Str.{bytes_eq, all_ascii_digits}
+use Rattle.std.specs.Str.Parse.{digits_value}
+
+-- the text of a mark: `start`, or its numbers, joined by `.`
+abbrev pub mark_text : List ℕ → List ℕ
+mark_text [] = codes "start"
+mark_text (number ∷ numbers) = join_with_byte 46 (map decimal (number ∷ numbers))
+
+-- digits without leading zeros
+abbrev pub is_numeral : List ℕ → Bool
+is_numeral [] = false
+is_numeral (digit ∷ []) = is_ascii_digit digit
+is_numeral (digit ∷ next ∷ digits) = not (digit == 48) && all_ascii_digits (digit ∷ next ∷ digits)
+
+-- the number that a part of an address writes
+abbrev pub number_of : List ℕ → Option ℕ
+number_of part = if is_numeral part && nat_le (digits_value 10 part) 18446744073709551615 then Some (digits_value 10 part) else None
+
+abbrev pub and_then : Option ℕ → Option (List ℕ) → Option (List ℕ)
+and_then None numbers = None
+and_then (Some number) None = None
+and_then (Some number) (Some numbers) = Some (number ∷ numbers)
+
+-- the numbers that all parts write
+abbrev pub numbers_in : List (List ℕ) → Option (List ℕ)
+numbers_in [] = Some []
+numbers_in (part ∷ parts) = and_then (number_of part) (numbers_in parts)
+
+abbrev pub is_dot : ℕ → Bool
+is_dot b = b == 46
+
+-- the numbers of the mark that a text says, if it says one
+unfoldable pub said_mark : List ℕ → Option (List ℕ)
+said_mark text = if bytes_eq text (codes "start") then Some [] else numbers_in (slice_split is_dot text)

@@ -1,0 +1,15 @@
+-- How the code reads a number. Nothing here has to be believed.
+use Rattle.std.specs.Prelude.{ℕ, ◌==◌, ◌&&◌, Bool, false, not, Option, Some, None, List, [], ◌∷◌}
+use Rattle.std.specs.List.{slice_split}
+use Rattle.nj_marks.specs.Marks.{is_dot}
+
+-- neither a sign nor a leading zero stands in front
+abbrev pub has_plain_front : List ℕ → Bool
+has_plain_front [] = false
+has_plain_front (digit ∷ []) = not (digit == 43)
+has_plain_front (digit ∷ next ∷ digits) = not (digit == 43) && not (digit == 48)
+
+-- the parts of what is left of a text
+abbrev pub parts_left : Option (List ℕ) → List (List ℕ)
+parts_left None = []
+parts_left (Some text) = slice_split is_dot text

@@ -1,0 +1,12 @@
+//! Marks: where a walk over the needed edges goes on, and their texts.
+#![tactic(auto)]
+
+mod laws;
+mod marks;
+mod numbers;
+
+pub use laws::{said_marks_are_written, written_marks_are_said};
+pub use marks::{Mark, MarkTextFault};
+
+#[cfg(test)]
+mod tests;

@@ -1,0 +1,66 @@
+//! The numbers of an address.
+
+ghost use Rattle.std.specs.Prelude.{◌≡◌, ◌∷◌, ◌<◌, [], Some, None, Err, IfOk, IfSome, length};
+ghost use Rattle.std.specs.Option.{option_copied};
+ghost use Rattle.std.specs.List.{slice_split};
+ghost use Rattle.nj_marks.specs.declared.marks.MarkTextFault.TheVariants.{BadMark};
+ghost use Rattle.nj_marks.specs.Marks.{number_of, numbers_in, is_dot};
+ghost use Rattle.nj_marks.specs.Scanning.{has_plain_front, parts_left};
+
+use crate::marks::MarkTextFault;
+use std::alloc::Global;
+
+/// The number that a part writes, without leading zeros.
+pub fn number_in(part: &str) -> Result<u64, MarkTextFault>
+    ensures ok { IfOk result (λ number. number_of part.now ≡ Some number) }
+    ensures bad { result ≡ Err BadMark → number_of part.now ≡ None }
+{
+    if !has_plain_front(part.as_bytes()) {
+        return Err(MarkTextFault::BadMark);
+    }
+    match part.parse::<u64>() {
+        Ok(number) => Ok(number),
+        Err(_no_number) => Err(MarkTextFault::BadMark),
+    }
+}
+
+/// Whether there are bytes that begin neither with a sign nor with a leading zero.
+fn has_plain_front(part: &[u8]) -> bool
+    ensures { result ≡ has_plain_front part.now }
+{
+    match part {
+        [] => false,
+        [digit] => *digit != b'+',
+        [first, _second, ..] => *first != b'+' && *first != b'0',
+    }
+}
+
+/// The part before the first `.`, and what is after it; the whole text and `None` if there is none.
+pub fn first_part(text: &str) -> (&str, Option<&str>)
+    ensures parts { slice_split is_dot text.now
+        ≡ result.0.now ∷ parts_left (option_copied result.1) }
+    ensures shorter { IfSome result.1 (λ after. length after.now < length text.now) }
+{
+    match text.split_once('.') {
+        Some((part, after)) => (part, Some(after)),
+        None => (text, None),
+    }
+}
+
+/// The numbers that the parts write, which are joined by `.`.
+pub fn numbers_in(alloc: Global, text: &str) -> Result<Vec<u64>, MarkTextFault>
+    ensures ok { IfOk result (λ numbers.
+        numbers_in (slice_split is_dot text.now) ≡ Some numbers.items) }
+    ensures bad { result ≡ Err BadMark → numbers_in (slice_split is_dot text.now) ≡ None }
+{
+    let mut numbers = Vec::new(alloc);
+    let mut rest = text;
+    'parts: loop {
+        let (part, after) = first_part(rest);
+        numbers.push(number_in(part)?)?;
+        match after {
+            Some(left) => rest = left,
+            None => return Ok(numbers),
+        }
+    }
+}
