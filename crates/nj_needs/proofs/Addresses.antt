@@ -1,0 +1,28 @@
+-- The address of an open edge, and what it stands for.
+use Rattle.std.proofs.Common.{◌≡◌, ℕ, ◌+◌, Option, Some, None, List, [], ◌∷◌, ◌++◌, get_or, take, refl, ap, ◌∙◌}
+use Rattle.std.specs.Prelude.{slice_get}
+use Rattle.std.proofs.lemmas.Option.{get_or_from_slice_get}
+use Rattle.nj_needs.specs.Order.{unfolded_row}
+use Rattle.nj_needs.specs.Marks.{inputs_of, edge_at, done}
+use Rattle.nj_needs.specs.Paths.{IsLinked, done_at, places}
+use Rattle.nj_needs.specs.declared.frame.Frame.{Frame}
+
+module _ (makers : ℕ → List (Option ℕ)) (count : ℕ) where
+  inputs-at : (row : List (Option ℕ)) (f : Frame) → slice_get row f.at ≡ Some (Some f.edge) → inputs_of makers (get_or row f.at None) ≡ makers f.edge
+  inputs-at row f at = ap (inputs_of makers) (get_or_from_slice_get row f.at (Some f.edge) None at)
+
+  -- what is done at the address of an edge is what is done once it is closed
+  pub done-places : (row : List (Option ℕ)) (path : List Frame) (f : Frame) → IsLinked makers row (path ++ f ∷ [])
+      → done makers count row (places (path ++ f ∷ [])) ≡ done_at makers count row path (f.at + 1)
+  done-places row [] f h = refl
+  done-places row (g ∷ []) f h =
+      ap (λ (r : List (Option ℕ)). unfolded_row makers count (take g.at row) ++ done makers count r (f.at ∷ [])) (inputs-at row g h.0)
+  done-places row (g ∷ k ∷ path) f h =
+      ap (λ (r : List (Option ℕ)). unfolded_row makers count (take g.at row) ++ done makers count r (places (k ∷ path ++ f ∷ []))) (inputs-at row g h.0)
+      ∙ ap (λ (us : List ℕ). unfolded_row makers count (take g.at row) ++ us) (done-places (makers g.edge) (k ∷ path) f h.1)
+
+  pub edge_at-places : (row : List (Option ℕ)) (path : List Frame) (f : Frame) → IsLinked makers row (path ++ f ∷ []) → edge_at makers row (places (path ++ f ∷ [])) ≡ Some f.edge
+  edge_at-places row [] f h = get_or_from_slice_get row f.at (Some f.edge) None h.0
+  edge_at-places row (g ∷ []) f h = ap (λ (r : List (Option ℕ)). edge_at makers r (f.at ∷ [])) (inputs-at row g h.0) ∙ edge_at-places (makers g.edge) [] f h.1
+  edge_at-places row (g ∷ k ∷ path) f h =
+      ap (λ (r : List (Option ℕ)). edge_at makers r (places (k ∷ path ++ f ∷ []))) (inputs-at row g h.0) ∙ edge_at-places (makers g.edge) (k ∷ path) f h.1

@@ -1,0 +1,15 @@
+pub mod Addresses
+pub mod Bridges
+pub mod Members
+pub mod NeedsLemmas
+pub mod OrderLaws
+pub mod PlaceLaws
+pub mod RebuildLemmas
+pub mod ResumeLemmas
+pub mod Rows
+pub mod Steps
+pub mod Striking
+pub mod Turning
+pub mod TurnLemmas
+pub mod Unfolding
+pub mod Walking

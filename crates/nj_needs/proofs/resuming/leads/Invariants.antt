@@ -1,0 +1,15 @@
+use Rattle.std.proofs.Common.{◌≡◌, ◌<◌, ℕ, Some, drop}
+use Rattle.nj_needs.specs.Counts.{saturated}
+use Rattle.nj_needs.specs.Graphs.{makers_of, count_of, row_of, row_in}
+use Rattle.nj_needs.specs.Marks.{is_valid}
+use Rattle.nj_needs.proofs.resuming.leads.Given as goal
+
+abbrev pub invariant-steps : goal.invariant-steps
+invariant-steps l = record {
+  edge_in : (e : ℕ) → l.edge ≡ Some e → e < count_of l.fn.looks.graph.now;
+  rest : is_valid (makers_of l.fn.looks.graph.now) (row_in l.fn.looks.graph.now l.fn.looks.targets.now l.edge) (drop l.number-index l.numbers)
+      ≡ is_valid (makers_of l.fn.looks.graph.now) (row_of l.fn.looks.graph.now l.fn.looks.targets.now) l.numbers;
+  turns : l.looks.turns ≡ saturated l.number-index;
+  graph : l.looks.graph ≡ l.fn.looks.graph;
+  targets : l.looks.targets ≡ l.fn.looks.targets;
+}

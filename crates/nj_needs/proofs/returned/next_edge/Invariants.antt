@@ -1,0 +1,17 @@
+use Rattle.std.proofs.Common.{◌≡◌}
+use Rattle.nj_needs.specs.Standing.{left_of, turns_left_of}
+use Rattle.nj_needs.specs.Views.{IsNeeds}
+use Rattle.nj_needs.proofs.returned.next_edge.Given as goal
+
+abbrev pub invariant-turns : goal.invariant-turns
+invariant-turns l = record {
+  needs : IsNeeds l.walk l.saved;
+  graph : l.walk.looks.graph ≡ l.fn.walk.looks.graph;
+  targets : l.walk.looks.targets ≡ l.fn.walk.looks.targets;
+  begun : l.walk.begun ≡ l.fn.walk.begun;
+  left : left_of l.walk.looks.graph.now l.walk.looks.targets.now l.walk.path.items l.walk.place ≡ left_of l.fn.walk.looks.graph.now l.fn.walk.looks.targets.now l.fn.walk.path.items l.fn.walk.place;
+  mark : l.saved.numbers ≡ l.fn.saved.numbers;
+}
+
+abbrev pub decreases-turns : goal.decreases-turns
+decreases-turns l = turns_left_of l.walk.looks.graph.now l.walk.looks.targets.now l.walk.path.items l.walk.place

@@ -1,0 +1,128 @@
+use Rattle.std.proofs.Common.{◌≡◌, ℕ, ◌+◌, ◌<◌, Bool, true, false, Option, Some, None, List, length, get_or, refl, sym, ap, subst, ◌∙◌, arith}
+use Rattle.std.specs.Prelude.{slice_get}
+use Rattle.std.proofs.lemmas.List.{get_or_read}
+use Rattle.std.proofs.lemmas.Option.{same_Some}
+use Rattle.nj_needs.specs.Graphs.{row_in}
+use Rattle.nj_needs.specs.Counts.{counted}
+use Rattle.nj_needs.specs.Standing.{IsWalkAt, top_of, done_of}
+use Rattle.nj_needs.specs.Tops.{IsTop}
+use Rattle.nj_needs.specs.declared.frame.Frame.{Frame}
+use Rattle.nj_needs.specs.declared.walk.Walk.{Walk}
+use Rattle.nj_needs.proofs.Members.{In}
+use Rattle.nj_needs.proofs.TurnLemmas.{walk-pass, turn-pass, walk-open, turn-open, room-open, row-top, top-is_edge, top-edge_within}
+use Rattle.nj_needs.proofs.walk.Walk.take_turn.Goals as goal
+
+-- what was found stands in the row on top
+stands : (w : Walk) (path : List Frame) (edge : Option ℕ) (found : Option (Option ℕ)) → path ≡ w.path.items → IsTop path edge
+    → found ≡ slice_get (row_in w.looks.graph.now w.looks.targets.now edge) w.place → slice_get (top_of w.looks.graph.now w.looks.targets.now w.path.items) w.place ≡ found
+stands w path edge found same top is =
+    ap (λ (r : List (Option ℕ)). slice_get r w.place) (sym (row-top w.looks.graph.now w.looks.targets.now w.path.items edge (subst (λ p. IsTop p edge) same top))) ∙ sym is
+
+pub look-requires : goal.look-requires
+look-requires c =
+    let w = c.args.self.now in
+    top-is_edge w.looks.graph.now w.looks.targets.now w.looks.turns w.path w.place w.flags.items w.begun c.requires c.top_edge-edge.result
+    (subst (λ p. IsTop p c.top_edge-edge.result) c.deref.ensures.value c.top_edge-edge.ensures)
+
+pub close-requires-clause-past : goal.close-requires-clause-past
+close-requires-clause-past c =
+    let w = c.args.self.now in
+    rw (c.look.ensures.graph, c.look.ensures.targets) (stands w c.deref.result.now c.top_edge-edge.result None c.deref.ensures.value c.top_edge-edge.ensures c.in_default.ensures.found)
+
+-- a source
+pub returns-in_default-found-clause-walk : goal.returns-in_default-found-clause-walk
+returns-in_default-found-clause-walk c =
+    let w = c.args.self.now in
+    let at = stands w c.deref.result.now c.top_edge-edge.result (Some c.in-Some.found) c.deref.ensures.value c.top_edge-edge.ensures c.in-Some.ensures.found in
+    let base : IsWalkAt w.looks.graph.now w.looks.targets.now (counted w.looks.turns) w.path (w.place + 1) w.flags.items w.begun =
+    walk-pass w.looks.graph.now w.looks.targets.now w.looks.turns w.path w.place w.flags.items w.begun c.requires c.in-Some.found at
+    (λ m is. absurd (c.in_default-found.not-Some m is)) in
+    rw (c.look.ensures.graph, c.look.ensures.targets, c.in-Some.ensures.turn) base
+
+pub returns-in_default-found-clause-turn : goal.returns-in_default-found-clause-turn
+returns-in_default-found-clause-turn c =
+    let w = c.args.self.now in
+    let at = stands w c.deref.result.now c.top_edge-edge.result (Some c.in-Some.found) c.deref.ensures.value c.top_edge-edge.ensures c.in-Some.ensures.found in
+    turn-pass w.looks.graph.now w.looks.targets.now w.looks.turns w.path w.place w.flags.items w.begun c.requires c.in-Some.found at
+    (λ m is. absurd (c.in_default-found.not-Some m is))
+
+-- a maker
+maker_at : (w : Walk) (path : List Frame) (edge : Option ℕ) (found : Option ℕ) (maker : ℕ) → path ≡ w.path.items → IsTop path edge
+    → Some found ≡ slice_get (row_in w.looks.graph.now w.looks.targets.now edge) w.place → found ≡ Some maker
+    → slice_get (top_of w.looks.graph.now w.looks.targets.now w.path.items) w.place ≡ Some (Some maker)
+maker_at w path edge found maker same top is made = stands w path edge (Some found) same top is ∙ ap Some made
+
+maker_in : (w : Walk) → IsWalkAt w.looks.graph.now w.looks.targets.now w.looks.turns w.path w.place w.flags.items w.begun → (maker : ℕ)
+    → slice_get (top_of w.looks.graph.now w.looks.targets.now w.path.items) w.place ≡ Some (Some maker) → maker < length w.flags.items
+maker_in w h maker at =
+    let low = top-edge_within w.looks.graph.now w.looks.targets.now w.looks.turns w.path w.place w.flags.items w.begun h w.place maker at in
+    omega (arith, low, h.standing.flags_len)
+
+pub index-requires : goal.index-requires
+index-requires c =
+    let w = c.args.self.now in
+    let low = maker_in w c.requires c.in-Some-found.maker
+    (maker_at w c.deref.result.now c.top_edge-edge.result c.in-Some.found c.in-Some-found.maker c.deref.ensures.value c.top_edge-edge.ensures c.in-Some.ensures.found c.in-Some-found.is) in
+    omega (arith, low)
+
+-- the flag of the maker tells whether it is done
+is_done : (w : Walk) (h : IsWalkAt w.looks.graph.now w.looks.targets.now w.looks.turns w.path w.place w.flags.items w.begun) (maker : ℕ) (flag : Bool)
+    → slice_get (top_of w.looks.graph.now w.looks.targets.now w.path.items) w.place ≡ Some (Some maker) → flag ≡ get_or w.flags.items maker flag → get_or w.flags.items maker false ≡ flag
+is_done w h maker flag at is = sym (get_or_read w.flags.items maker flag (maker_in w h maker at) is false)
+
+-- a maker whose flag is set is done
+all_done : (w : Walk) (h : IsWalkAt w.looks.graph.now w.looks.targets.now w.looks.turns w.path w.place w.flags.items w.begun) (maker : ℕ)
+    → slice_get (top_of w.looks.graph.now w.looks.targets.now w.path.items) w.place ≡ Some (Some maker) → get_or w.flags.items maker false ≡ true
+    → (m : ℕ) → Some maker ≡ Some m → In (done_of w.looks.graph.now w.looks.targets.now w.path.items w.place) m
+all_done w h maker at done m is =
+    let low = top-edge_within w.looks.graph.now w.looks.targets.now w.looks.turns w.path w.place w.flags.items w.begun h w.place maker at in
+    subst (In (done_of w.looks.graph.now w.looks.targets.now w.path.items w.place)) (same_Some maker m is) (sym (h.standing.flagged maker low) ∙ done)
+
+-- a maker that is done
+pub returns-then-index-clause-walk : goal.returns-then-index-clause-walk
+returns-then-index-clause-walk c =
+    let w = c.args.self.now in
+    let m = c.in-Some-found.maker in
+    let at = maker_at w c.deref.result.now c.top_edge-edge.result c.in-Some.found m c.deref.ensures.value c.top_edge-edge.ensures c.in-Some.ensures.found c.in-Some-found.is in
+    let done : get_or w.flags.items m false ≡ true = is_done w c.requires m c.index.result.now at c.index.ensures ∙ c.if-index.true in
+    let base : IsWalkAt w.looks.graph.now w.looks.targets.now (counted w.looks.turns) w.path (w.place + 1) w.flags.items w.begun =
+    walk-pass w.looks.graph.now w.looks.targets.now w.looks.turns w.path w.place w.flags.items w.begun c.requires (Some m) at
+    (all_done w c.requires m at done) in
+    rw (c.look.ensures.graph, c.look.ensures.targets, c.in-Some.ensures.turn) base
+
+pub returns-then-index-clause-turn : goal.returns-then-index-clause-turn
+returns-then-index-clause-turn c =
+    let w = c.args.self.now in
+    let m = c.in-Some-found.maker in
+    let at = maker_at w c.deref.result.now c.top_edge-edge.result c.in-Some.found m c.deref.ensures.value c.top_edge-edge.ensures c.in-Some.ensures.found c.in-Some-found.is in
+    let done : get_or w.flags.items m false ≡ true = is_done w c.requires m c.index.result.now at c.index.ensures ∙ c.if-index.true in
+    turn-pass w.looks.graph.now w.looks.targets.now w.looks.turns w.path w.place w.flags.items w.begun c.requires (Some m) at (all_done w c.requires m at done)
+
+-- a maker that is not done
+pub push_within-requires : goal.push_within-requires
+push_within-requires c =
+    let w = c.args.self.now in
+    let m = c.in-Some-found.maker in
+    let at = maker_at w c.deref.result.now c.top_edge-edge.result c.in-Some.found m c.deref.ensures.value c.top_edge-edge.ensures c.in-Some.ensures.found c.in-Some-found.is in
+    let room = room-open w.looks.graph.now w.looks.targets.now w.looks.turns w.path w.place w.flags.items w.begun c.requires w.place m at in
+    omega (arith, room)
+
+pub returns-clause-walk : goal.returns-clause-walk
+returns-clause-walk c =
+    let w = c.args.self.now in
+    let m = c.in-Some-found.maker in
+    let at = maker_at w c.deref.result.now c.top_edge-edge.result c.in-Some.found m c.deref.ensures.value c.top_edge-edge.ensures c.in-Some.ensures.found c.in-Some-found.is in
+    let fresh : get_or w.flags.items m false ≡ false = is_done w c.requires m c.index.result.now at c.index.ensures ∙ c.if-index.false in
+    let base : IsWalkAt w.looks.graph.now w.looks.targets.now (counted w.looks.turns) c.push_within.new.path 0 w.flags.items w.begun =
+    walk-open w.looks.graph.now w.looks.targets.now w.looks.turns w.path w.place w.flags.items w.begun c.requires _ c.push_within.new.path
+    c.push_within.ensures.items c.push_within.ensures.room refl at fresh in
+    rw (c.look.ensures.graph, c.look.ensures.targets, c.in-Some.ensures.turn) base
+
+pub returns-clause-turn : goal.returns-clause-turn
+returns-clause-turn c =
+    let w = c.args.self.now in
+    let m = c.in-Some-found.maker in
+    let at = maker_at w c.deref.result.now c.top_edge-edge.result c.in-Some.found m c.deref.ensures.value c.top_edge-edge.ensures c.in-Some.ensures.found c.in-Some-found.is in
+    let fresh : get_or w.flags.items m false ≡ false = is_done w c.requires m c.index.result.now at c.index.ensures ∙ c.if-index.false in
+    turn-open w.looks.graph.now w.looks.targets.now w.looks.turns w.path w.place w.flags.items w.begun c.requires _ c.push_within.new.path
+    c.push_within.ensures.items c.push_within.ensures.room refl at fresh

@@ -1,0 +1,34 @@
+-- What the order of the needed commands is for.
+use Rattle.std.specs.Prelude.{◌≡◌, ℕ, ◌<◌, ◌↔◌, Bool, false, Option, List, Some, slice_get, Contains, nat_eq}
+use Rattle.std.specs.List.{IsDistinct}
+use Rattle.nj_needs.specs.Needs.{IsAcyclic, AreWithin, NeedsByChain, Reached}
+use Rattle.nj_needs.specs.Order.{needed_commands}
+use Rattle.nj_needs.specs.Marks.{IsFirstPlace}
+
+-- f stands at a place of the list before one of e
+abbrev pub StandsBefore : List ℕ → ℕ → ℕ → Type 0
+StandsBefore es f e = (i : ℕ) × (j : ℕ) × (i < j) × (slice_get es i ≡ Some f) × (slice_get es j ≡ Some e)
+
+-- the commands are exactly those of the edges without which the targets cannot be made; a phony edge has none
+abbrev pub CommandsAreTheReached : Type 0
+CommandsAreTheReached = (makers : ℕ → List (Option ℕ)) (count : ℕ) (phony : ℕ → Bool) (targets : List (Option ℕ))
+    → IsAcyclic makers count → AreWithin targets count
+    → (e : ℕ) → Contains (needed_commands makers count phony targets) e ↔ (Reached makers targets e × (phony e ≡ false))
+
+-- none of them stands twice
+abbrev pub CommandsStandOnce : Type 0
+CommandsStandOnce = (makers : ℕ → List (Option ℕ)) (count : ℕ) (phony : ℕ → Bool) (targets : List (Option ℕ))
+    → IsDistinct nat_eq (needed_commands makers count phony targets)
+
+-- each stands after all others that its edge needs, directly or through any edges
+abbrev pub CommandsStandAfterNeeds : Type 0
+CommandsStandAfterNeeds = (makers : ℕ → List (Option ℕ)) (count : ℕ) (phony : ℕ → Bool) (targets : List (Option ℕ))
+    → IsAcyclic makers count → AreWithin targets count
+    → (e f : ℕ) → Contains (needed_commands makers count phony targets) e → NeedsByChain makers e f → phony f ≡ false
+    → StandsBefore (needed_commands makers count phony targets) f e
+
+-- an edge has one first place
+abbrev pub FirstPlacesAreOne : Type 0
+FirstPlacesAreOne = (makers : ℕ → List (Option ℕ)) (count : ℕ) (targets : List (Option ℕ))
+    → IsAcyclic makers count → AreWithin targets count
+    → (mark other : List ℕ) (e : ℕ) → IsFirstPlace makers count targets mark e → IsFirstPlace makers count targets other e → mark ≡ other

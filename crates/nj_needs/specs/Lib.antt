@@ -1,0 +1,15 @@
+pub mod Counts
+pub mod Graphs
+pub mod Heading
+pub mod Laws
+pub mod Marks
+pub mod Needs
+pub mod Order
+pub mod Paths
+pub mod Resuming
+pub mod Saved
+pub mod Standing
+pub mod Tops
+pub mod Turns
+pub mod Views
+pub mod Walks

@@ -1,0 +1,31 @@
+-- The needed edges in the order in which they are first completed, from left to right.
+use Rattle.std.specs.Prelude.{ℕ, zero, suc, Bool, not, Option, Some, None, List, [], ◌∷◌, ◌++◌, nat_eq, filter}
+use Rattle.std.specs.List.{flat_map}
+
+-- what stands for an input: nothing for a source
+abbrev pub made_by : (ℕ → List ℕ) → Option ℕ → List ℕ
+made_by edges None = []
+made_by edges (Some e) = edges e
+
+-- edge e after all that it needs, with repeats: the same of each of its makers in turn, and then e.
+-- Along needs a rank falls, so a fuel of the rank or more is enough.
+abbrev pub unfolded : (makers : ℕ → List (Option ℕ)) → (fuel : ℕ) → ℕ → List ℕ
+unfolded makers zero e = e ∷ []
+unfolded makers (suc fuel) e = flat_map (made_by (unfolded makers fuel)) (makers e) ++ e ∷ []
+
+-- the same of each maker of a row, in a graph of `count` edges
+abbrev pub unfolded_row : (makers : ℕ → List (Option ℕ)) → (count : ℕ) → List (Option ℕ) → List ℕ
+unfolded_row makers count row = flat_map (made_by (unfolded makers count)) row
+
+-- the list without its repeats: of each element the first is kept
+abbrev pub first_occurrences : List ℕ → List ℕ
+first_occurrences [] = []
+first_occurrences (e ∷ es) = e ∷ filter (λ x. not (nat_eq x e)) (first_occurrences es)
+
+-- the targets' makers and what they need, each edge once, where it is first completed
+abbrev pub order : (makers : ℕ → List (Option ℕ)) → (count : ℕ) → (targets : List (Option ℕ)) → List ℕ
+order makers count targets = first_occurrences (unfolded_row makers count targets)
+
+-- those of them that have a command
+abbrev pub needed_commands : (makers : ℕ → List (Option ℕ)) → (count : ℕ) → (phony : ℕ → Bool) → (targets : List (Option ℕ)) → List ℕ
+needed_commands makers count phony targets = filter (λ e. not (phony e)) (order makers count targets)

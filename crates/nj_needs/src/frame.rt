@@ -1,0 +1,12 @@
+//! An open edge.
+
+ghost use Rattle.std.specs.Prelude.{◌+◌, ◌<◌, ◌^◌};
+
+/// An open edge, and the index at which it was found in the row below: in the inputs of the edge
+/// that was opened before it, or in the list of targets.
+#[derive(Clone, Copy)]
+pub(crate) struct Frame {
+    pub edge: usize,
+    pub at: usize,
+    ghost fits: { at + 1 < 2 ^ 64 },
+}

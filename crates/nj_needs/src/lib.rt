@@ -1,0 +1,20 @@
+//! The commands that targets need, each after what it needs, with stopping and resuming.
+#![tactic(auto)]
+
+mod fault;
+mod frame;
+mod laws;
+mod looks;
+mod needs;
+mod resuming;
+mod returned;
+mod saved;
+mod walk;
+
+pub use fault::MarkFault;
+pub use laws::{order_law, place_law};
+pub use needs::Needs;
+pub use nj_marks::{Mark, MarkTextFault};
+
+#[cfg(test)]
+mod tests;

@@ -1,0 +1,97 @@
+//! The walk's only way to the graph. Each look at a place of a row, and each closing of an edge, is
+//! one turn, and is counted.
+
+ghost use Rattle.std.specs.Prelude.{◌≡◌, ◌+◌, ◌^◌, ◌<◌, length, true, All, IfSome, is_some, slice_get, slice_set, if◌then◌else◌};
+ghost use Rattle.std.specs.Option.{ForSome};
+ghost use Rattle.nj_needs.specs.Graphs.{makers_of, count_of, is_phony, row_of, row_in};
+ghost use Rattle.nj_needs.specs.Needs.{IsAcyclic, AreWithin};
+ghost use Rattle.nj_needs.specs.Counts.{counted};
+
+use nj_edges::{EdgeGraph, EdgeNo, FileNo};
+
+/// The graph and the targets, and how many turns were taken. The count stays at the greatest `u64`.
+#[derive(Drop)]
+pub(crate) struct Looks<'g> {
+    graph: &'g EdgeGraph,
+    targets: &'g [FileNo],
+    turns: u64,
+    ghost targets_in: { All (λ f. f.0 < length graph.now.files) targets.now },
+}
+
+impl<'g> Looks<'g> {
+    /// No turn was taken yet.
+    pub fn new(graph: &'g EdgeGraph, targets: &'g [FileNo]) -> Looks<'g>
+        requires { All (λ f. f.0 < length graph.now.files) targets.now }
+        ensures graph { result.graph ≡ graph.entry }
+        ensures targets { result.targets ≡ targets.entry }
+        ensures turns { result.turns ≡ 0 }
+    {
+        Looks {
+            graph,
+            targets,
+            turns: 0,
+        }
+    }
+
+    /// How many edges there are.
+    pub fn edge_count(&self) -> usize
+        ensures count { result ≡ count_of self.now.graph.now }
+        ensures acyclic { IsAcyclic (makers_of self.now.graph.now) (count_of self.now.graph.now) }
+        ensures within { AreWithin (row_of self.now.graph.now self.now.targets.now)
+            (count_of self.now.graph.now) }
+    {
+        self.graph.edge_count()
+    }
+
+    /// A look at a place: in the inputs of an edge, or in the targets if there is none. `None` past
+    /// the end, which takes no turn, and `Some(None)` at a source.
+    pub fn look(&mut self, edge: Option<usize>, place: usize) -> Option<Option<usize>>
+        requires { ForSome edge (λ e. e < count_of self.old.graph.now) }
+        ensures found { result
+            ≡ slice_get (row_in self.old.graph.now self.old.targets.now edge) place }
+        ensures fits { IfSome result (λ _. place + 1 < 2 ^ 64) }
+        ensures graph { self.new.graph ≡ self.old.graph }
+        ensures targets { self.new.targets ≡ self.old.targets }
+        ensures turn { self.new.turns
+            ≡ (if is_some result then counted self.old.turns else self.old.turns) }
+    {
+        let file = *self.files(edge).get(place)?;
+        self.turns = self.turns.saturating_add(1);
+        Some(self.graph.maker(file).map(|maker| maker.0))
+    }
+
+    // The inputs of an edge, or the targets if there is none.
+    fn files(&self, edge: Option<usize>) -> &[FileNo]
+        requires { ForSome edge (λ e. e < count_of self.now.graph.now) }
+        ensures row { row_of self.now.graph.now result.now
+            ≡ row_in self.now.graph.now self.now.targets.now edge }
+        ensures files { All (λ f. f.0 < length self.now.graph.now.files) result.now }
+    {
+        match edge {
+            Some(edge) => self.graph.inputs(EdgeNo(edge)),
+            None => self.targets,
+        }
+    }
+
+    /// Closes an edge: sets its flag. Whether it is phony.
+    pub fn close(&mut self, edge: usize, flags: &mut [bool]) -> bool
+        requires edge_in { edge < count_of self.old.graph.now }
+        requires flag_in { edge < length flags.old }
+        ensures phony { result ≡ is_phony self.old.graph.now edge }
+        ensures flag { flags.new ≡ slice_set flags.old edge true }
+        ensures graph { self.new.graph ≡ self.old.graph }
+        ensures targets { self.new.targets ≡ self.old.targets }
+        ensures turn { self.new.turns ≡ counted self.old.turns }
+    {
+        self.turns = self.turns.saturating_add(1);
+        flags[edge] = true;
+        self.graph.is_phony(EdgeNo(edge))
+    }
+
+    /// How many turns were taken.
+    pub fn turns(&self) -> u64
+        ensures { result ≡ self.now.turns }
+    {
+        self.turns
+    }
+}

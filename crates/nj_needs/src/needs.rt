@@ -1,0 +1,111 @@
+//! The walk over the commands that targets need.
+
+ghost use Rattle.std.specs.Prelude.{◌≡◌, ◌<◌, [], length, All, IfOk};
+ghost use Rattle.nj_needs.specs.Counts.{saturated};
+ghost use Rattle.nj_needs.specs.Resuming.{ResumeIs};
+ghost use Rattle.nj_needs.specs.Walks.{BeginsAt, commands_of, IsSound, IsSameWalk, NextIs, number_of};
+
+use crate::fault::MarkFault;
+use crate::looks::Looks;
+use crate::resuming::{leads, rebuild};
+use crate::returned::next_edge;
+use crate::saved::Saved;
+use crate::walk::Walk;
+use nj_edges::{EdgeGraph, EdgeNo, FileNo};
+use nj_marks::Mark;
+use std::alloc::{AllocError, Global};
+use std::marker::Model;
+
+/// The edges with commands that targets need, each after all that it needs, in the order in which
+/// they are first completed from left to right.
+#[derive(Drop)]
+pub struct Needs<'g> {
+    walk: Walk<'g>,
+    saved: Saved,
+}
+
+impl<'g> Model for Needs<'g> {
+    ghost use Rattle.nj_needs.specs.Walks.{WalkState};
+
+    ghost Value = { WalkState };
+
+    ghost use Rattle.nj_needs.specs.Views.{state_of, IsNeeds};
+
+    ghost view = { λ n. state_of n.walk n.saved };
+
+    ghost invariant = { λ n. IsNeeds n.walk n.saved };
+}
+
+impl<'g> Needs<'g> {
+    /// A walk from the start. It reserves all the memory that the walk needs, and fails only where
+    /// memory runs out.
+    pub fn new(
+        graph: &'g EdgeGraph,
+        targets: &'g [FileNo],
+        alloc: Global,
+    ) -> Result<Needs<'g>, AllocError>
+        requires { All (λ f. f.0 < length graph.now.files) targets.now }
+        ensures begins { IfOk result (λ n. BeginsAt graph.now targets.now [] n) }
+        ensures commands { IfOk result (λ n. n.left ≡ commands_of graph.now targets.now) }
+        ensures turns { IfOk result (λ n. n.turns ≡ 0) }
+    {
+        let looks = Looks::new(graph, targets);
+        let room = looks.edge_count();
+        let walk = Walk::new(alloc, looks, 0)?;
+        let saved = Saved::new(alloc, &[], room)?;
+        Ok(Needs { walk, saved })
+    }
+
+    /// The walk that goes on at a mark: the edges left are those that were left there, in the same
+    /// order. Every mark that leads to an edge at each step will do, also one that no walk gave;
+    /// for another the fault is *out of range*, which is decided before any memory is taken. Then
+    /// all the memory that the walk needs is reserved.
+    pub fn resume(
+        alloc: Global,
+        graph: &'g EdgeGraph,
+        targets: &'g [FileNo],
+        mark: &Mark,
+    ) -> Result<Needs<'g>, MarkFault>
+        requires { All (λ f. f.0 < length graph.now.files) targets.now }
+        ensures { ResumeIs graph.now targets.now mark.now result }
+    {
+        let mut looks = Looks::new(graph, targets);
+        let room = looks.edge_count();
+        let numbers = mark.numbers();
+        if !leads(&mut looks, numbers) {
+            return Err(MarkFault::OutOfRange);
+        }
+        let mut walk = Walk::new(alloc, looks, numbers.len())?;
+        let saved = Saved::new(alloc, numbers, room)?;
+        rebuild(&mut walk, numbers);
+        Ok(Needs { walk, saved })
+    }
+
+    /// The next edge that is needed and is not phony. After `None` it always returns `None`. It
+    /// takes no memory.
+    pub fn next(&mut self) -> Option<EdgeNo>
+        ensures next { NextIs self.old (number_of result) self.new }
+        ensures same { IsSameWalk self.old self.new }
+    {
+        let edge = next_edge(&mut self.walk, &mut self.saved)?;
+        Some(EdgeNo(edge))
+    }
+
+    /// The address of the edge that `next` returned last, also after `None`; before any, the mark
+    /// that the walk began with. Fails only where memory runs out.
+    pub fn mark(&self, alloc: Global) -> Result<Mark, AllocError>
+        ensures mark { IfOk result (λ m. m ≡ self.now.mark) }
+        ensures sound { IsSound self.now }
+    {
+        Mark::from_numbers(alloc, &self.saved.numbers)
+    }
+
+    /// How many turns were taken, those of resuming included: looks at a place of the target list
+    /// or of a list of inputs, and closings of an edge. The count stays at the greatest `u64`.
+    pub fn turns(&self) -> u64
+        ensures turns { result ≡ saturated self.now.turns }
+        ensures sound { IsSound self.now }
+    {
+        self.walk.looks.turns()
+    }
+}

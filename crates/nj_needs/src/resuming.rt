@@ -1,0 +1,96 @@
+//! The way to a mark: whether it leads to an edge, and the turns up to there.
+
+ghost use Rattle.std.specs.Prelude.{◌≡◌, ◌≤◌, [], length, true, take};
+ghost use Rattle.std.specs.Bool.{OnTrue};
+ghost use Rattle.nj_needs.specs.Counts.{saturated};
+ghost use Rattle.nj_needs.specs.Graphs.{makers_of, count_of, row_of};
+ghost use Rattle.nj_needs.specs.Heading.{IsHeading};
+ghost use Rattle.nj_needs.specs.Marks.{is_valid};
+ghost use Rattle.nj_needs.specs.Needs.{IsAcyclic, AreWithin};
+ghost use Rattle.nj_needs.specs.Standing.{IsWalk, left_of, top_of};
+ghost use Rattle.nj_needs.specs.Walks.{rest_of};
+
+use crate::looks::Looks;
+use crate::walk::Walk;
+
+/// Whether each step of a mark leads to an edge. It takes no memory, and a look for each number.
+pub(crate) fn leads(looks: &mut Looks, numbers: &[u64]) -> bool
+    requires turns { looks.old.turns ≡ 0 }
+    requires acyclic { IsAcyclic (makers_of looks.old.graph.now) (count_of looks.old.graph.now) }
+    requires within { AreWithin (row_of looks.old.graph.now looks.old.targets.now)
+        (count_of looks.old.graph.now) }
+    ensures valid { result ≡ is_valid (makers_of looks.old.graph.now)
+        (row_of looks.old.graph.now looks.old.targets.now) numbers.now }
+    ensures turns_after { OnTrue result (looks.new.turns ≡ saturated (length numbers.now)) }
+    ensures graph { looks.new.graph ≡ looks.old.graph }
+    ensures targets { looks.new.targets ≡ looks.old.targets }
+{
+    let mut edge = None;
+    'steps: for number in numbers {
+        let Some(found) = looks.look(edge, *number as usize) else {
+            return false;
+        };
+        if found.is_none() {
+            return false;
+        }
+        edge = found;
+    }
+    true
+}
+
+/// Takes turns from the start until all is done that is done at a mark. An edge on the way that is
+/// done already ends it.
+pub(crate) fn rebuild(walk: &mut Walk, numbers: &[u64])
+    requires walk { IsWalk walk.old }
+    requires path { walk.old.path.items ≡ [] }
+    requires place { walk.old.place ≡ 0 }
+    requires valid { is_valid (makers_of walk.old.looks.graph.now)
+        (row_of walk.old.looks.graph.now walk.old.looks.targets.now) numbers.now ≡ true }
+    ensures walk_after { IsWalk walk.new }
+    ensures rest { left_of walk.new.looks.graph.now walk.new.looks.targets.now
+        walk.new.path.items walk.new.place
+        ≡ rest_of walk.new.looks.graph.now walk.new.looks.targets.now numbers.now }
+    ensures graph { walk.new.looks.graph ≡ walk.old.looks.graph }
+    ensures targets { walk.new.looks.targets ≡ walk.old.looks.targets }
+    ensures begun { walk.new.begun ≡ walk.old.begun }
+{
+    'steps: for number in numbers {
+        let before = walk.path.len();
+        reach(walk, before, *number as usize);
+        walk.take_turn();
+        if walk.path.len() == before {
+            return;
+        }
+    }
+    if numbers.is_empty() {
+        return;
+    }
+    let depth = numbers.len() - 1;
+    let after = walk.path[depth].at + 1;
+    reach(walk, depth, after);
+}
+
+/// Takes turns until the walk stands at a place of the row above so many open edges.
+fn reach(walk: &mut Walk, depth: usize, place: usize)
+    requires walk { IsWalk walk.old }
+    requires depth { depth ≤ length walk.old.path.items }
+    requires heading { IsHeading (take depth walk.old.path.items) place
+        walk.old.path.items walk.old.place }
+    requires place_in { place ≤ length (top_of walk.old.looks.graph.now walk.old.looks.targets.now
+        (take depth walk.old.path.items)) }
+    ensures walk_after { IsWalk walk.new }
+    ensures path { walk.new.path.items ≡ take depth walk.old.path.items }
+    ensures place { walk.new.place ≡ place }
+    ensures graph { walk.new.looks.graph ≡ walk.old.looks.graph }
+    ensures targets { walk.new.looks.targets ≡ walk.old.looks.targets }
+    ensures begun { walk.new.begun ≡ walk.old.begun }
+{
+    'turns: loop {
+        if walk.path.len() == depth {
+            if walk.place == place {
+                return;
+            }
+        }
+        walk.take_turn();
+    }
+}

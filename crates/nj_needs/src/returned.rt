@@ -1,0 +1,33 @@
+//! The loop of `next`.
+
+ghost use Rattle.std.specs.Prelude.{◌≡◌};
+ghost use Rattle.nj_needs.specs.Views.{state_of, IsNeeds};
+ghost use Rattle.nj_needs.specs.Walks.{NextIs};
+
+use crate::saved::Saved;
+use crate::walk::{Turn, Walk};
+
+/// Takes turns up to the closing of an edge that is not phony, and saves its address; `None` if
+/// nothing is left.
+pub(crate) fn next_edge(walk: &mut Walk, saved: &mut Saved) -> Option<usize>
+    requires { IsNeeds walk.old saved.old }
+    ensures after { IsNeeds walk.new saved.new }
+    ensures next { NextIs (state_of walk.old saved.old) result (state_of walk.new saved.new) }
+    ensures graph { walk.new.looks.graph ≡ walk.old.looks.graph }
+    ensures targets { walk.new.looks.targets ≡ walk.old.looks.targets }
+    ensures begun { walk.new.begun ≡ walk.old.begun }
+{
+    'turns: loop {
+        match walk.take_turn() {
+            Turn::Looked => {}
+            Turn::Closed(edge, phony) => {
+                saved.back_to(walk.path.len());
+                if !phony {
+                    saved.save(&walk.path, walk.place - 1);
+                    return Some(edge);
+                }
+            }
+            Turn::Ended => return None,
+        }
+    }
+}

@@ -1,0 +1,73 @@
+//! The address of the edge that a walk returned last.
+
+ghost use Rattle.std.specs.Prelude.{◌≡◌, ◌+◌, ◌<◌, ◌≤◌, List, [], ◌∷◌, ◌++◌, length, min, take, vec_len, vec_capacity, IfOk};
+ghost use Rattle.nj_needs.specs.Paths.{places};
+ghost use Rattle.nj_needs.specs.Saved.{KeepsFront};
+
+use crate::frame::Frame;
+use std::alloc::{AllocError, Global};
+
+/// The address, or the mark that the walk began with, and how many of its numbers are still those
+/// of the path of open edges.
+#[derive(Drop)]
+pub(crate) struct Saved {
+    pub numbers: Vec<u64>,
+    pub kept: usize,
+}
+
+impl Saved {
+    /// These numbers, with room for so many.
+    pub fn new(alloc: Global, numbers: &[u64], room: usize) -> Result<Saved, AllocError>
+        requires { length numbers.now ≤ room }
+        ensures numbers { IfOk result (λ s. s.numbers.items ≡ numbers.now) }
+        ensures kept { IfOk result (λ s. s.kept ≡ 0) }
+        ensures room { IfOk result (λ s. room ≤ vec_capacity s.numbers) }
+    {
+        let mut held = Vec::with_capacity(alloc, room)?;
+        'copied: for number in numbers {
+            held.push(*number)?;
+        }
+        Ok(Saved {
+            numbers: held,
+            kept: 0,
+        })
+    }
+
+    /// An edge was closed, and so many are open.
+    pub fn back_to(&mut self, len: usize)
+        ensures numbers { self.new.numbers ≡ self.old.numbers }
+        ensures kept { self.new.kept ≡ min self.old.kept len }
+    {
+        self.kept = self.kept.min(len);
+    }
+
+    /// Takes the address of the edge that was closed last, and stood at this index in the row on
+    /// top of the path. Only what changed since the address before is written, into room that is
+    /// there.
+    pub fn save(&mut self, path: &[Frame], at: usize)
+        requires front { KeepsFront self.old path.now }
+        requires room { length path.now < vec_capacity self.old.numbers }
+        ensures numbers { self.new.numbers.items ≡ places path.now ++ at ∷ [] }
+        ensures kept { KeepsFront self.new path.now }
+        ensures whole { self.new.kept ≡ length path.now }
+        ensures room { vec_capacity self.old.numbers ≤ vec_capacity self.new.numbers }
+    {
+        self.numbers.truncate(self.kept);
+        'changed: for frame in &path[self.kept..] {
+            push_within(&mut self.numbers, frame.at as u64);
+        }
+        push_within(&mut self.numbers, at as u64);
+        self.kept = path.len();
+    }
+}
+
+// Writes into room that is there.
+fn push_within(numbers: &mut Vec<u64>, number: u64)
+    requires { vec_len numbers.old < vec_capacity numbers.old }
+    ensures items { numbers.new.items ≡ numbers.old.items ++ number ∷ [] }
+    ensures room { vec_capacity numbers.old ≤ vec_capacity numbers.new }
+{
+    if numbers.push(number).is_err() {
+        unreachable!();
+    }
+}

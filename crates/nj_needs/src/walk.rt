@@ -1,0 +1,128 @@
+//! The walk: depth first over the needed edges, by a stack of its own, with a flag for each edge
+//! that is done.
+
+ghost use Rattle.std.specs.Prelude.{◌≡◌, ◌+◌, ◌-◌, ◌^◌, ◌<◌, ◌≤◌, [], ◌∷◌, ◌++◌, length, MatchOption, None, slice_get, slice_index_or, vec_len, vec_capacity, IfOk};
+ghost use Rattle.nj_needs.specs.Counts.{saturated};
+ghost use Rattle.nj_needs.specs.Standing.{IsWalk, TurnIs, top_of};
+ghost use Rattle.nj_needs.specs.Tops.{IsTop};
+
+use crate::frame::Frame;
+use crate::looks::Looks;
+use std::alloc::{AllocError, Global};
+
+/// Where a walk stands: the open edges, the first that was opened first; the next place in the
+/// inputs of the last of them, or in the targets where none is open; and for each edge whether it
+/// is done.
+#[derive(Drop)]
+pub(crate) struct Walk<'g> {
+    pub looks: Looks<'g>,
+    pub path: Vec<Frame>,
+    pub place: usize,
+    pub flags: Vec<bool>,
+    /// How many numbers the mark has with which the walk began.
+    pub begun: usize,
+}
+
+/// What one turn did: it looked at a place, it closed an edge, or there was nothing left to do.
+#[derive(Drop)]
+pub(crate) enum Turn {
+    Looked,
+    Closed(usize, bool),
+    Ended,
+}
+
+impl<'g> Walk<'g> {
+    /// A walk from the start, with room for every path. Fails only where memory runs out.
+    pub fn new(alloc: Global, looks: Looks<'g>, begun: usize) -> Result<Walk<'g>, AllocError>
+        requires { looks.turns ≡ saturated begun }
+        ensures walk { IfOk result (λ w. IsWalk w) }
+        ensures looks { IfOk result (λ w. w.looks ≡ looks.entry) }
+        ensures path { IfOk result (λ w. w.path.items ≡ []) }
+        ensures place { IfOk result (λ w. w.place ≡ 0) }
+        ensures begun { IfOk result (λ w. w.begun ≡ begun) }
+    {
+        let count = looks.edge_count();
+        let path = Vec::with_capacity(alloc, count)?;
+        let flags = vec![in alloc; false; count]?;
+        Ok(Walk {
+            looks,
+            path,
+            place: 0,
+            flags,
+            begun,
+        })
+    }
+
+    /// One turn: the next place is looked at, and an edge that is not done is opened there; or,
+    /// past the end of a row, the last open edge is closed.
+    pub fn take_turn(&mut self) -> Turn
+        requires { IsWalk self.old }
+        ensures walk { IsWalk self.new }
+        ensures turn { TurnIs self.old result self.new }
+        ensures graph { self.new.looks.graph ≡ self.old.looks.graph }
+        ensures targets { self.new.looks.targets ≡ self.old.looks.targets }
+        ensures begun { self.new.begun ≡ self.old.begun }
+    {
+        let edge = top_edge(&self.path);
+        let Some(found) = self.looks.look(edge, self.place) else {
+            return self.close();
+        };
+        let Some(maker) = found else {
+            self.place += 1;
+            return Turn::Looked;
+        };
+        if self.flags[maker] {
+            self.place += 1;
+            return Turn::Looked;
+        }
+        push_within(
+            &mut self.path,
+            Frame {
+                edge: maker,
+                at: self.place,
+            },
+        );
+        self.place = 0;
+        Turn::Looked
+    }
+
+    // Past the end of a row: closes the last open edge.
+    fn close(&mut self) -> Turn
+        requires walk { IsWalk self.old }
+        requires past { slice_get (top_of self.old.looks.graph.now self.old.looks.targets.now
+            self.old.path.items) self.old.place ≡ None }
+        ensures walk { IsWalk self.new }
+        ensures turn { TurnIs self.old result self.new }
+        ensures graph { self.new.looks.graph ≡ self.old.looks.graph }
+        ensures targets { self.new.looks.targets ≡ self.old.looks.targets }
+        ensures begun { self.new.begun ≡ self.old.begun }
+    {
+        let Some(frame) = self.path.pop() else {
+            return Turn::Ended;
+        };
+        let phony = self.looks.close(frame.edge, &mut self.flags);
+        self.place = frame.at + 1;
+        Turn::Closed(frame.edge, phony)
+    }
+}
+
+// The last open edge.
+fn top_edge(path: &[Frame]) -> Option<usize>
+    ensures { IsTop path.now result }
+{
+    match path {
+        [] => None,
+        [.., frame] => Some(frame.edge),
+    }
+}
+
+// Opens an edge, in room that is there.
+fn push_within(path: &mut Vec<Frame>, frame: Frame)
+    requires { vec_len path.old < vec_capacity path.old }
+    ensures items { path.new.items ≡ path.old.items ++ frame ∷ [] }
+    ensures room { vec_capacity path.old ≤ vec_capacity path.new }
+{
+    if path.push(frame).is_err() {
+        unreachable!();
+    }
+}
