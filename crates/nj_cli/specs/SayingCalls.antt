@@ -42,7 +42,7 @@ abbrev pub FailsAs : {A : Type 0} → LineFault → Option A → Type 0
 FailsAs why.OutOfMemory expected = Unit {0}
 FailsAs why.Departs expected = expected ≡ None
 
--- It answers what is read next and leaves the lexer behind that, or departs where nothing is read; memory may run out.
+-- It answers what is read next and leaves the lexer after that, or departs where nothing is read; memory may run out.
 abbrev pub Gives : {X Y : Type 0} → (X → Y) → Result X LineFault → (after : State) → of.Next Y → Type 0
 Gives view (Ok x) after expected = expected ≡ Some (view x, after)
 Gives view (Err f) after expected = FailsAs f expected
@@ -54,7 +54,7 @@ GivesPlace (Err f) after expected = FailsAs f expected
 
 -- ---- lines
 
--- It is said, with the lexer behind it; or the other, where nothing is read.
+-- It is said, with the lexer after it; or the other, where nothing is read.
 abbrev pub IsSaid : of.Saying → (after : State) → (otherwise : of.Saying) → of.Next of.Saying → Type 0
 IsSaid said after otherwise None = said ≡ otherwise
 IsSaid said after otherwise (Some next) = (said ≡ next.0) × (after ≡ next.1)

@@ -33,7 +33,7 @@ abbrev pub byte_before : ℕ → List (List ℕ) → List (List ℕ)
 byte_before b [] = (b ∷ []) ∷ []
 byte_before b (part ∷ parts) = (b ∷ part) ∷ parts
 
--- the parts of a path: what stands before, between and behind its slashes
+-- the parts of a path: what stands before, between and after its slashes
 abbrev pub path_parts : List ℕ → List (List ℕ)
 path_parts [] = [] ∷ []
 path_parts (b ∷ bs) = if b == 47 then [] ∷ path_parts bs else byte_before b (path_parts bs)
@@ -55,7 +55,7 @@ path_in parts = None
 
 -- ---- reading on within a line
 
--- what is read next and the lexer behind it; nothing, where the line departs from what is read
+-- what is read next and the lexer after it; nothing, where the line departs from what is read
 abbrev pub Next : Type 0 → Type 0
 Next A = Option (A × State)
 
@@ -86,7 +86,7 @@ abbrev pub if_there : Bool → State → Option State
 if_there true after = Some after
 if_there false after = None
 
--- the lexer behind a sign that has to stand there
+-- the lexer after a sign that has to stand there
 abbrev pub behind : Sign → State → Option State
 behind want s = do
   there ← called (sign_of want s)
@@ -128,7 +128,7 @@ paths_next s = paths_within (suc (units_left s)) s
 
 -- ---- lines
 
--- behind `rule`: `NAME`
+-- after `rule`: `NAME`
 abbrev pub rule_next : State → Next (List ℕ)
 rule_next s = do
   name ← name_next s
@@ -139,7 +139,7 @@ rule_next s = do
 abbrev pub Build : Type 0
 Build = List (List ℕ) × List ℕ × List (List ℕ)
 
--- behind `build`: `OUTPUTS: NAME INPUTS`
+-- after `build`: `OUTPUTS: NAME INPUTS`
 abbrev pub build_next : State → Next Build
 build_next s = do
   outputs ← paths_next s
@@ -158,7 +158,7 @@ command_next s = do
   end ← behind sign.LineEnd value.1
   if bytes_eq key.0 (codes "command") then Some (value.0.parts, end) else None
 
--- what stands behind the keyword of a statement
+-- what stands after the keyword of a statement
 abbrev pub statement_by : (line : ℕ) → (keyword : List ℕ) → State → Next Saying
 statement_by line keyword s =
     if bytes_eq keyword (codes "rule")
@@ -192,11 +192,11 @@ number_at s = (spot_of s).line
 abbrev pub plain_saying : State → Saying
 plain_saying s = saying_or (Other (number_at s)) (statement_next (number_at s) s)
 
--- what an indented line says, behind its leading spaces
+-- what an indented line says, after its leading spaces
 abbrev pub block_saying : State → Saying
 block_saying s = saying_or (BlockLine (number_at s) None) (block_next (number_at s) s)
 
--- behind the last line nothing is said
+-- after the last line nothing is said
 abbrev pub unless_last : Line → List Saying → List Saying
 unless_last l others = if l.is_last then [] else others
 
