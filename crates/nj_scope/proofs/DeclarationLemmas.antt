@@ -179,6 +179,10 @@ pub value-listed : (held : DeclarationsText) (entries : List Entry) → Declared
 value-listed held entries follows scope parts =
     expanded-same (value_in (bound_at held.scopes) scope) (value_after entries scope) (value-same (bound_at held.scopes) (bounds entries) follows.bound scope) parts
 
+pub name-listed : (held : DeclarationsText) (entries : List Entry) → DeclaredBy held entries → (scope name : List ℕ)
+    → value_in (bound_at held.scopes) scope name ≡ value_after entries scope name
+name-listed held entries follows scope name = value-same (bound_at held.scopes) (bounds entries) follows.bound scope name
+
 pub rule-listed : (held : DeclarationsText) (entries : List Entry) → DeclaredBy held entries → (scope name : List ℕ)
     → nearest (λ s. rule_at held.scopes s name) scope ≡ nearest (λ s. rules entries s name) scope
 rule-listed held entries follows scope name = nearest-same (λ s. rule_at held.scopes s name) (λ s. rules entries s name) (λ s. follows.declared s name) scope

@@ -160,6 +160,23 @@ impl Declarations {
         self.scopes.expand(alloc, scope, word)
     }
 
+    /// The value of the name in this scope, by what is bound so far. An unknown name is empty.
+    pub fn value(&self, scope: usize, name: &[u8]) -> &[u8]
+        requires { scope < length self.now.scopes }
+        ensures { (entries : List Entry) (around : List ℕ) → DeclaredBy self.now entries
+            → IsScope (parent_at self.now.scopes) scope (scope ∷ around)
+            → result.now ≡ value_after entries (scope ∷ around) name.now }
+    {
+        self.scopes.value(scope, name)
+    }
+
+    /// Whether there is a pool of this name; `console` is always there.
+    pub fn has_pool(&self, name: &[u8]) -> bool
+        ensures { result ≡ is_pool self.now.pools name.now }
+    {
+        self.pools.has(name)
+    }
+
     /// The number of the rule that is in force under the name in this scope: its own, else that of
     /// the nearest scope around it that declares one. `phony` is always there. `None` if there is
     /// none.
