@@ -8,10 +8,10 @@ use Rattle.nj_text.specs.declared.sign.Sign.{Sign}
 use Rattle.nj_text.specs.declared.sign.Sign.TheVariants as sign
 use Rattle.nj_text.specs.Bytes.{drop_while}
 use Rattle.nj_text.specs.Units.{Meaning, TextUnit, Ordinary, Escape, Reference, Join}
-use Rattle.nj_text.specs.Lines.{Line, with_units, lines_behind}
-use Rattle.nj_text.specs.Words.{PartText, WordText, in_identifier, is_blank, behind_opening, in_word, in_word_meaning, opens_word_meaning, next_fault, first_fault}
+use Rattle.nj_text.specs.Lines.{Line, with_units, lines_after}
+use Rattle.nj_text.specs.Words.{PartText, WordText, in_identifier, is_blank, after_opening, in_word, in_word_meaning, opens_word_meaning, next_fault, first_fault}
 use Rattle.nj_text.specs.Calls as calls
-use Rattle.nj_text.specs.Calls.{State, Between, Inside, Failed, Reply, ident_of, sign_of, path_word_of, value_of, behind_blanks, behind_sign, is_sign, begins_word, word_here}
+use Rattle.nj_text.specs.Calls.{State, Between, Inside, Failed, Reply, ident_of, sign_of, path_word_of, value_of, after_blanks, state_after_sign, is_sign, begins_word, word_here}
 use Rattle.nj_cli.specs.Sayings.{Saying, RuleLine, BuildLine, Next, Build, ◌>>=◌, called, required, name_next, if_there, behind, path_in, path_or_none, path_next, path_before, paths_within, units_left, paths_next, rule_next, build_next, command_next, statement_by, statement_next, block_next}
 
 -- ---- steps
@@ -47,8 +47,8 @@ value-is x s y h = cc
 name_next-inside : (l : Line) (ls : List Line) (y : List ℕ × State) → name_next (Inside l ls) ≡ Some y → On l ls y.1
 name_next-inside l ls y h =
     let b = bind-some (called (ident_of (Inside l ls))) (λ n. required n.0 n.1) y h in
-    let e = called-fault (next_fault (behind_blanks l).units) _ b.0 b.1 in
-    (drop_while in_identifier (behind_blanks l).units, sym (after-is _ _ b.0 e ∙ required-after b.0.0 b.0.1 y b.2))
+    let e = called-fault (next_fault (after_blanks l).units) _ b.0 b.1 in
+    (drop_while in_identifier (after_blanks l).units, sym (after-is _ _ b.0 e ∙ required-after b.0.0 b.0.1 y b.2))
 
 if_there-after : (t : Bool) (s s' : State) → if_there t s ≡ Some s' → (t ≡ true) × (s ≡ s')
 if_there-after true s s' h = (refl, cc)
@@ -58,15 +58,15 @@ sign-there : (t : Bool) (there other : State) (y : Bool × State) (s : State) �
 sign-there true there other y s e h = sym (after-is _ _ y e ∙ (if_there-after y.0 y.1 s h).1)
 sign-there false there other y s e h = absurd (false≢true (value-is _ _ y e ∙ (if_there-after y.0 y.1 s h).0))
 
-pub behind-inside : (want : Sign) (l : Line) (ls : List Line) (s : State) → behind want (Inside l ls) ≡ Some s → s ≡ behind_sign want (behind_blanks l) ls
+pub behind-inside : (want : Sign) (l : Line) (ls : List Line) (s : State) → behind want (Inside l ls) ≡ Some s → s ≡ state_after_sign want (after_blanks l) ls
 behind-inside want l ls s h =
     let b = bind-some (called (sign_of want (Inside l ls))) (λ t. if_there t.0 t.1) s h in
-    let e = called-fault (next_fault (behind_blanks l).units) _ b.0 b.1 in
-    sign-there (is_sign want (behind_blanks l).units) _ _ b.0 s e b.2
+    let e = called-fault (next_fault (after_blanks l).units) _ b.0 b.1 in
+    sign-there (is_sign want (after_blanks l).units) _ _ b.0 s e b.2
 
 -- behind the line
 abbrev pub Ended : Line → List Line → State → Type 0
-Ended l ls s = s ≡ Between (lines_behind l ls)
+Ended l ls s = s ≡ Between (lines_after l ls)
 
 line_end-inside : (l : Line) (ls : List Line) (s s' : State) → On l ls s → behind sign.LineEnd s ≡ Some s' → Ended l ls s'
 line_end-inside l ls s s' o h = behind-inside sign.LineEnd (with_units o.0 l) ls s' (ap (behind sign.LineEnd) (sym o.1) ∙ h)
@@ -82,7 +82,7 @@ name-inside l ls s y o h = name_next-inside (with_units o.0 l) ls y (ap name_nex
 
 value-inside : (l : Line) (ls : List Line) (s : State) (y : WordText × State) → On l ls s → called (value_of s) ≡ Some y → On l ls y.1
 value-inside l ls s y o h =
-    let e = called-fault (first_fault (drop_while is_blank (behind_opening o.0))) _ y (ap (λ s. called (value_of s)) (sym o.1) ∙ h) in
+    let e = called-fault (first_fault (drop_while is_blank (after_opening o.0))) _ y (ap (λ s. called (value_of s)) (sym o.1) ∙ h) in
     ([], sym (after-is _ _ y e))
 
 -- ---- words
@@ -143,8 +143,8 @@ word-inside l ls false z y b e h =
 pub path-inside : (l : Line) (ls : List Line) (s : State) (y : Option (List ℕ) × State) → s ≡ Inside l ls → path_next s ≡ Some y → Passes l ls y
 path-inside l ls s y i h =
     let b = bind-some (called (path_word_of (Inside l ls))) (λ w. path_or_none w.0 w.1) y (ap path_next (sym i) ∙ h) in
-    let e = called-fault (next_fault (behind_blanks l).units) _ b.0 b.1 in
-    let p = word-inside (behind_blanks l) ls (begins_word (behind_blanks l).units) b.0 y refl e b.2 in
+    let e = called-fault (next_fault (after_blanks l).units) _ b.0 b.1 in
+    let p = word-inside (after_blanks l) ls (begins_word (after_blanks l).units) b.0 y refl e b.2 in
     let shorter = length-drop_while is_blank l.units in
     (p.0, p.1, omega (arith, p.2))
 
@@ -214,13 +214,13 @@ statement_by-inside l ls line keyword s y o h = by_rule (bytes_eq keyword (codes
     by_rule false false h = absurd cc
 
 -- A statement's line is read to its end.
-pub statement-inside : (l : Line) (ls : List Line) (line : ℕ) (s : State) (y : Saying × State) → s ≡ Inside l ls → statement_next line s ≡ Some y → y.1 ≡ Between (lines_behind l ls)
+pub statement-inside : (l : Line) (ls : List Line) (line : ℕ) (s : State) (y : Saying × State) → s ≡ Inside l ls → statement_next line s ≡ Some y → y.1 ≡ Between (lines_after l ls)
 statement-inside l ls line s y i h =
     let keyword = bind-some (name_next s) _ y h in
     statement_by-inside l ls line keyword.0.0 keyword.0.1 y (name-inside l ls s keyword.0 (l.units, i) keyword.1) keyword.2
 
 -- So is that of a block.
-pub block-inside : (l : Line) (ls : List Line) (line : ℕ) (s : State) (y : Saying × State) → s ≡ Inside l ls → block_next line s ≡ Some y → y.1 ≡ Between (lines_behind l ls)
+pub block-inside : (l : Line) (ls : List Line) (line : ℕ) (s : State) (y : Saying × State) → s ≡ Inside l ls → block_next line s ≡ Some y → y.1 ≡ Between (lines_after l ls)
 block-inside l ls line s y i h =
     let command = bind-some (command_next s) _ y h in
     sym (after-is _ _ y command.2) ∙ command-inside l ls s command.0 (l.units, i) command.1

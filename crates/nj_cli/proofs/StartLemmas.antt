@@ -6,7 +6,7 @@ use Rattle.nj_text.specs.declared.fault.LexFault.{LexFault}
 use Rattle.nj_text.specs.declared.fault.LexFault.TheVariants as lex
 use Rattle.nj_text.specs.declared.sign.LineStart.{LineStart}
 use Rattle.nj_text.specs.declared.sign.LineStart.TheVariants as start
-use Rattle.nj_text.specs.Lines.{Line, with_units, lines_behind, Kind, CommentLine, TabLine, BlankLine, IndentedLine, PlainLine, kind_of}
+use Rattle.nj_text.specs.Lines.{Line, with_units, lines_after, Kind, CommentLine, TabLine, BlankLine, IndentedLine, PlainLine, kind_of}
 use Rattle.nj_text.specs.Calls as calls
 use Rattle.nj_text.specs.Calls.{State, Between, Inside, Failed, Answers, start_line_of, begun, begun_by, is_comment, is_empty, without_comments}
 use Rattle.nj_cli.specs.Sayings.{Saying, Blank, BlockLine, Other, Next, number_at, statement_next, block_next, saying_or, plain_saying, block_saying, unless_last, said_before, sayings}
@@ -14,7 +14,7 @@ use Rattle.nj_cli.specs.SayingCalls.{IsSaid, sayings_left, goes_on, IsFirst}
 use Rattle.nj_cli.proofs.LineLemmas.{statement-inside, block-inside}
 
 -- behind a line stand the sayings that follow it
-sayings-behind : (l : Line) (ls : List Line) → sayings (lines_behind l ls) ≡ unless_last l (sayings ls)
+sayings-behind : (l : Line) (ls : List Line) → sayings (lines_after l ls) ≡ unless_last l (sayings ls)
 sayings-behind l ls = by_last l.is_last refl
   where
     by_last : (t : Bool) → l.is_last ≡ t → sayings (cond t (with_units [] l ∷ ls) ls) ≡ cond t [] (sayings ls)
@@ -23,7 +23,7 @@ sayings-behind l ls = by_last l.is_last refl
 
 -- The lexer stands at the first unit of a line that says this, before the others.
 abbrev BeginsLine : (State → Saying) → List Saying → State → Type 0
-BeginsLine say ss s = (l : Line) × (ls : List Line) × (others : List Saying) × (s ≡ Inside l ls) × (ss ≡ say s ∷ others) × (sayings_left (Between (lines_behind l ls)) ≡ Some others)
+BeginsLine say ss s = (l : Line) × (ls : List Line) × (others : List Saying) × (s ≡ Inside l ls) × (ss ≡ say s ∷ others) × (sayings_left (Between (lines_after l ls)) ≡ Some others)
 
 -- what the start of a line says of the sayings, and where the lexer stands then
 abbrev Begins : List Saying → Result LineStart UnitFault → State → Type 0
@@ -34,7 +34,7 @@ Begins ss (Ok start.Plain) s = BeginsLine plain_saying ss s
 Begins ss (Ok start.Middle) s = ⊥
 Begins ss (Err f) s = (others : List Saying) × (ss ≡ BlockLine (number_at s) None ∷ others)
 
-left-behind : (l : Line) (ls : List Line) → sayings_left (Between (lines_behind l ls)) ≡ Some (unless_last l (sayings ls))
+left-behind : (l : Line) (ls : List Line) → sayings_left (Between (lines_after l ls)) ≡ Some (unless_last l (sayings ls))
 left-behind l ls = ap Some (sayings-behind l ls)
 
 begun-kind : (k : Kind) (l : Line) (ls : List Line) → is_comment k ≡ false → Begins (said_before k l ls (unless_last l (sayings ls))) (begun_by k l ls).answer (begun_by k l ls).after
@@ -42,7 +42,7 @@ begun-kind CommentLine l ls h = absurd cc
 begun-kind (TabLine tab) l ls h = (unless_last l (sayings ls), refl)
 begun-kind BlankLine l ls h = by_end (l.is_last && is_empty l.units)
   where
-    by_end : (t : Bool) → let r = cond t (calls.reply start.End (Between (l ∷ ls))) (calls.reply start.Blank (Between (lines_behind l ls))) in Begins (cond t [] (Blank ∷ unless_last l (sayings ls))) r.answer r.after
+    by_end : (t : Bool) → let r = cond t (calls.reply start.End (Between (l ∷ ls))) (calls.reply start.Blank (Between (lines_after l ls))) in Begins (cond t [] (Blank ∷ unless_last l (sayings ls))) r.answer r.after
     by_end true = refl
     by_end false = (unless_last l (sayings ls), refl, left-behind l ls)
 begun-kind IndentedLine l ls h = (_, ls, unless_last l (sayings ls), refl, refl, left-behind l ls)
@@ -67,9 +67,9 @@ begun-says (l ∷ ls) = by_comment (is_comment (kind_of l)) refl (begun-says ls)
     by_last true e rest = rw e refl
     by_last false e rest = rest
 
-    by_comment : (t : Bool) → is_comment (kind_of l) ≡ t → BeginsAt (sayings ls) (without_comments ls) → BeginsAt (sayings (l ∷ ls)) (cond t (lines_behind l (without_comments ls)) (l ∷ ls))
+    by_comment : (t : Bool) → is_comment (kind_of l) ≡ t → BeginsAt (sayings ls) (without_comments ls) → BeginsAt (sayings (l ∷ ls)) (cond t (lines_after l (without_comments ls)) (l ∷ ls))
     by_comment false e rest = begun-kind (kind_of l) l ls e
-    by_comment true e rest = subst (λ ss. BeginsAt ss (lines_behind l (without_comments ls))) (sym (said_before-comment (kind_of l) l ls (unless_last l (sayings ls)) e)) (by_last l.is_last refl rest)
+    by_comment true e rest = subst (λ ss. BeginsAt ss (lines_after l (without_comments ls))) (sym (said_before-comment (kind_of l) l ls (unless_last l (sayings ls)) e)) (by_last l.is_last refl rest)
 
 -- what the lexer answers at the start of a line
 start-begins : (ls : List Line) (answer : Result LineStart UnitFault) (s : State) → ((start_line_of (Between ls)).answer ≡ answer) × (s ≡ (start_line_of (Between ls)).after) → Begins (sayings ls) answer s
@@ -95,10 +95,10 @@ fault-first (Failed g) after f line h e = tt
 
 -- what is read of a line ends behind it
 abbrev ReadsLine : (ℕ → State → Next Saying) → Type 0
-ReadsLine next = (l : Line) (ls : List Line) (line : ℕ) (s : State) (y : Saying × State) → s ≡ Inside l ls → next line s ≡ Some y → y.1 ≡ Between (lines_behind l ls)
+ReadsLine next = (l : Line) (ls : List Line) (line : ℕ) (s : State) (y : Saying × State) → s ≡ Inside l ls → next line s ≡ Some y → y.1 ≡ Between (lines_after l ls)
 
 line-first : (otherwise : Saying) (next : ℕ → State → Next Saying) (said : Saying) (l : Line) (ls : List Line) (others : List Saying) (line : ℕ) (s after : State) → ReadsLine next → goes_on otherwise ≡ false → s ≡ Inside l ls
-    → sayings_left (Between (lines_behind l ls)) ≡ Some others → (x : Next Saying) → next line s ≡ x → IsSaid said after otherwise x → IsFirst (Some said) (Some (saying_or otherwise x ∷ others)) (sayings_left after)
+    → sayings_left (Between (lines_after l ls)) ≡ Some others → (x : Next Saying) → next line s ≡ x → IsSaid said after otherwise x → IsFirst (Some said) (Some (saying_or otherwise x ∷ others)) (sayings_left after)
 line-first otherwise next said l ls others line s after reads stops i left None e h = (ap Some h, λ g. absurd (false≢true (sym stops ∙ g)))
 line-first otherwise next said l ls others line s after reads stops i left (Some y) e h = (ap Some h.0, λ g. ap sayings_left (h.1 ∙ reads l ls line s y i e) ∙ left)
 

@@ -9,7 +9,7 @@ use Rattle.nj_text.specs.declared.sign.LineStart.{LineStart}
 use Rattle.nj_text.specs.declared.sign.LineStart.TheVariants as start
 use Rattle.nj_text.specs.Bytes.{drop_while}
 use Rattle.nj_text.specs.Units.{TextUnit}
-use Rattle.nj_text.specs.Lines.{Line, with_units, lines_behind, Kind, CommentLine, TabLine, BlankLine, IndentedLine, PlainLine, kind_of, is_space_unit, kind_behind_spaces, begins_with_space}
+use Rattle.nj_text.specs.Lines.{Line, with_units, lines_after, Kind, CommentLine, TabLine, BlankLine, IndentedLine, PlainLine, kind_of, is_space_unit, kind_after_spaces, begins_with_space}
 use Rattle.nj_text.specs.Calls as calls
 use Rattle.nj_text.specs.Calls.{State, Between, Inside, Failed, Answers, start_line_of, begun, begun_by, is_comment, is_empty, without_comments}
 use Rattle.nj_manifest.specs.declared.block.Keys.{Keys}
@@ -37,8 +37,8 @@ lines_left (Between ls) = lines_weight ls
 lines_left (Inside l ls) = 0
 lines_left (Failed f) = 0
 
-weight-behind : (l : Line) (ls : List Line) → lines_weight (lines_behind l ls) ≡ lines_weight ls
-weight-behind l ls = by_last l.is_last refl
+weight-after : (l : Line) (ls : List Line) → lines_weight (lines_after l ls) ≡ lines_weight ls
+weight-after l ls = by_last l.is_last refl
   where
     by_last : (t : Bool) → l.is_last ≡ t → lines_weight (cond t (with_units [] l ∷ ls) ls) ≡ lines_weight ls
     by_last true e = rw e (omega arith)
@@ -62,15 +62,15 @@ Begins allowed limit whole (Err f) s = whole ≡ Err (Bad f)
 abbrev BeginsAs : Keys → ℕ → Parse (List LineText) → calls.Reply LineStart → Type 0
 BeginsAs allowed limit whole r = Begins allowed limit whole r.answer r.after
 
-behind-last : (l : Line) (ls : List Line) → l.is_last ≡ true → lines_behind l ls ≡ with_units [] l ∷ ls
-behind-last l ls h = ap (λ t. cond t (with_units [] l ∷ ls) ls) h
+after-last : (l : Line) (ls : List Line) → l.is_last ≡ true → lines_after l ls ≡ with_units [] l ∷ ls
+after-last l ls h = ap (λ t. cond t (with_units [] l ∷ ls) ls) h
 
 -- an empty end of the text stays as it is
-same-end : (l : Line) (ls : List Line) → (l.is_last && is_empty l.units) ≡ true → lines_behind l ls ≡ l ∷ ls
+same-end : (l : Line) (ls : List Line) → (l.is_last && is_empty l.units) ≡ true → lines_after l ls ≡ l ∷ ls
 same-end l ls h = by_units l.is_last l.units refl refl h
   where
-    by_units : (t : Bool) (us : List TextUnit) → l.is_last ≡ t → l.units ≡ us → (t && is_empty us) ≡ true → lines_behind l ls ≡ l ∷ ls
-    by_units true [] e u h = behind-last l ls e ∙ ap (λ (us : List TextUnit). with_units us l ∷ ls) (sym u)
+    by_units : (t : Bool) (us : List TextUnit) → l.is_last ≡ t → l.units ≡ us → (t && is_empty us) ≡ true → lines_after l ls ≡ l ∷ ls
+    by_units true [] e u h = after-last l ls e ∙ ap (λ (us : List TextUnit). with_units us l ∷ ls) (sym u)
     by_units true (u ∷ us) e v h = absurd cc
     by_units false us e u h = absurd cc
 
@@ -81,7 +81,7 @@ blank_is_indented h = absurd cc
 indented-weight : (l : Line) → kind_of l ≡ IndentedLine → line_weight l ≡ 1
 indented-weight l h = by_units l.is_last l.units h
   where
-    by_units : (t : Bool) (us : List TextUnit) → kind_behind_spaces (drop_while is_space_unit us) (begins_with_space us) ≡ IndentedLine → cond (t && is_empty us) 0 1 ≡ suc 0
+    by_units : (t : Bool) (us : List TextUnit) → kind_after_spaces (drop_while is_space_unit us) (begins_with_space us) ≡ IndentedLine → cond (t && is_empty us) 0 1 ≡ suc 0
     by_units t [] h = absurd (blank_is_indented h)
     by_units true (u ∷ us) h = refl
     by_units false (u ∷ us) h = refl
@@ -92,14 +92,14 @@ begun-kind allowed limit CommentLine l ls e h g = absurd cc
 begun-kind allowed limit (TabLine tab) l ls e h g = refl
 begun-kind allowed limit BlankLine l ls e h g = by_end (l.is_last && is_empty l.units) refl
   where
-    by_end : (t : Bool) → (l.is_last && is_empty l.units) ≡ t → BeginsAs allowed limit (no_lines (lines_behind l ls)) (cond t (calls.reply start.End (Between (l ∷ ls))) (calls.reply start.Blank (Between (lines_behind l ls))))
+    by_end : (t : Bool) → (l.is_last && is_empty l.units) ≡ t → BeginsAs allowed limit (no_lines (lines_after l ls)) (cond t (calls.reply start.End (Between (l ∷ ls))) (calls.reply start.Blank (Between (lines_after l ls))))
     by_end true e = (ap no_lines (same-end l ls e), tt)
     by_end false e = (refl, tt)
 begun-kind allowed limit IndentedLine l ls e h g = let w = indented-weight l e in (l, ls, refl, refl, omega arith)
 begun-kind allowed limit PlainLine l ls e h g = (refl, e)
 
 -- a comment says nothing
-block-comment : (allowed : Keys) (k : Kind) (l : Line) (ls : List Line) (others : Parse (List LineText)) → is_comment k ≡ true → block_by allowed k l ls others ≡ or_last l (no_lines (lines_behind l (without_comments ls))) others
+block-comment : (allowed : Keys) (k : Kind) (l : Line) (ls : List Line) (others : Parse (List LineText)) → is_comment k ≡ true → block_by allowed k l ls others ≡ or_last l (no_lines (lines_after l (without_comments ls))) others
 block-comment allowed CommentLine l ls others h = refl
 block-comment allowed (TabLine tab) l ls others h = absurd cc
 block-comment allowed BlankLine l ls others h = absurd cc
@@ -117,10 +117,10 @@ begun-begins allowed limit (l ∷ ls) h = by_comment (is_comment (kind_of l)) re
     by_last false e rest = rest
 
     by_comment : (t : Bool) → is_comment (kind_of l) ≡ t → BeginsAs allowed limit (block allowed ls) (begun (without_comments ls))
-        → BeginsAs allowed limit (block_by allowed (kind_of l) l ls (block allowed ls)) (begun (cond t (lines_behind l (without_comments ls)) (l ∷ ls)))
+        → BeginsAs allowed limit (block_by allowed (kind_of l) l ls (block allowed ls)) (begun (cond t (lines_after l (without_comments ls)) (l ∷ ls)))
     by_comment false e rest = begun-kind allowed limit (kind_of l) l ls refl e h
     by_comment true e rest =
-        subst (λ (whole : Parse (List LineText)). BeginsAs allowed limit whole (begun (lines_behind l (without_comments ls)))) (sym (block-comment allowed (kind_of l) l ls (block allowed ls) e)) (by_last l.is_last refl rest)
+        subst (λ (whole : Parse (List LineText)). BeginsAs allowed limit whole (begun (lines_after l (without_comments ls)))) (sym (block-comment allowed (kind_of l) l ls (block allowed ls) e)) (by_last l.is_last refl rest)
 
 -- what the lexer answers at the start of a line
 pub start-begins : (allowed : Keys) (ls : List Line) (answer : Result LineStart UnitFault) (s : State) → ((start_line_of (Between ls)).answer ≡ answer) × (s ≡ (start_line_of (Between ls)).after) → Begins allowed (lines_weight ls) (block allowed ls) answer s
@@ -128,9 +128,9 @@ start-begins allowed ls answer s h =
     subst (λ a. Begins allowed (lines_weight ls) (block allowed ls) a s) h.0 (subst (Begins allowed (lines_weight ls) (block allowed ls) (begun (without_comments ls)).answer) (sym h.1) (begun-begins allowed (lines_weight ls) ls (omega arith)))
 
 -- behind a line stands the block that follows it
-pub block-behind : (allowed : Keys) (l : Line) (ls : List Line) → block allowed (lines_behind l ls) ≡ or_last l (no_lines (lines_behind l ls)) (block allowed ls)
+pub block-after : (allowed : Keys) (l : Line) (ls : List Line) → block allowed (lines_after l ls) ≡ or_last l (no_lines (lines_after l ls)) (block allowed ls)
 unfolding block
-block-behind allowed l ls = by_last l.is_last refl
+block-after allowed l ls = by_last l.is_last refl
   where
     by_last : (t : Bool) → l.is_last ≡ t → block allowed (cond t (with_units [] l ∷ ls) ls) ≡ cond t (no_lines (cond t (with_units [] l ∷ ls) ls)) (block allowed ls)
     by_last true e = rw e refl
@@ -173,17 +173,17 @@ started-indented allowed (Failed f) middle h = absurd (fault_is_start h.0)
     fault_is_start e = absurd cc
 
 -- where a line that was read leaves the lexer
-line-behind : (allowed : Keys) (l : Line) (ls : List Line) (middle : State) (line : LineText) (after : State) → middle ≡ Inside (without_spaces l) ls → line_next allowed middle ≡ Ok (line, after) → after ≡ Between (lines_behind l ls)
-line-behind allowed l ls middle line after i h = line-inside allowed (without_spaces l) ls line after (ap (line_next allowed) (sym i) ∙ h)
+line-after : (allowed : Keys) (l : Line) (ls : List Line) (middle : State) (line : LineText) (after : State) → middle ≡ Inside (without_spaces l) ls → line_next allowed middle ≡ Ok (line, after) → after ≡ Between (lines_after l ls)
+line-after allowed l ls middle line after i h = line-inside allowed (without_spaces l) ls line after (ap (line_next allowed) (sym i) ∙ h)
 
 -- Behind a line fewer lines are left.
 pub lines_left-line : (allowed : Keys) (s middle : State) (line : LineText) (after : State) → Started start.Indented s middle → line_next allowed middle ≡ Ok (line, after) → lines_left after < lines_left s
 lines_left-line allowed s middle line after h e =
     let b = started-indented allowed s middle h in
     let here : lines_left s ≡ lines_weight b.0 = ap lines_left b.1 in
-    let there : lines_left after ≡ lines_weight (lines_behind b.2.0 b.2.1) = ap lines_left (line-behind allowed b.2.0 b.2.1 middle line after b.2.2 e) in
+    let there : lines_left after ≡ lines_weight (lines_after b.2.0 b.2.1) = ap lines_left (line-after allowed b.2.0 b.2.1 middle line after b.2.2 e) in
     let fewer : lines_weight b.2.1 < lines_weight b.0 = b.2.4 in
-    let behind = weight-behind b.2.0 b.2.1 in
+    let behind = weight-after b.2.0 b.2.1 in
     omega arith
 
 in_front-more : (front : List LineText) (line : LineText) (after : State) (l : Line) (last others : Parse (List LineText)) (x : Step LineText) → x ≡ Ok (line, after)
@@ -195,17 +195,17 @@ in_front-more front line after l last others x h = rw h (with_more (or_last l la
     with_more (Ok o) = ap (λ (x : List LineText). Ok (x, o.1)) (sym (append_assoc front (line ∷ []) o.0))
 
 -- the block behind a line
-behind-turn : (allowed : Keys) (front : List LineText) (l : Line) (ms : List Line) (middle : State) (line : LineText) (after : State) (left whole : Parse (List LineText)) → middle ≡ Inside (without_spaces l) ms
-    → left ≡ block_by allowed IndentedLine l ms (block allowed ms) → in_front front left ≡ whole → line_next allowed middle ≡ Ok (line, after) → in_front (front ++ line ∷ []) (block allowed (lines_behind l ms)) ≡ whole
-behind-turn allowed front l ms middle line after left whole i b w e =
-    let more = in_front-more front line after l (no_lines (lines_behind l ms)) (block allowed ms) (line_next allowed (Inside (without_spaces l) ms)) (ap (line_next allowed) (sym i) ∙ e) in
-    ap (in_front (front ++ line ∷ [])) (block-behind allowed l ms) ∙ sym more ∙ sym (ap (in_front front) b) ∙ w
+after-turn : (allowed : Keys) (front : List LineText) (l : Line) (ms : List Line) (middle : State) (line : LineText) (after : State) (left whole : Parse (List LineText)) → middle ≡ Inside (without_spaces l) ms
+    → left ≡ block_by allowed IndentedLine l ms (block allowed ms) → in_front front left ≡ whole → line_next allowed middle ≡ Ok (line, after) → in_front (front ++ line ∷ []) (block allowed (lines_after l ms)) ≡ whole
+after-turn allowed front l ms middle line after left whole i b w e =
+    let more = in_front-more front line after l (no_lines (lines_after l ms)) (block allowed ms) (line_next allowed (Inside (without_spaces l) ms)) (ap (line_next allowed) (sym i) ∙ e) in
+    ap (in_front (front ++ line ∷ [])) (block-after allowed l ms) ∙ sym more ∙ sym (ap (in_front front) b) ∙ w
 
 pub block-turn : (allowed : Keys) (front : List LineText) (before s middle : State) (line : LineText) (after : State) → StillReads allowed front before s → Started start.Indented s middle → line_next allowed middle ≡ Ok (line, after)
     → StillReads allowed (front ++ line ∷ []) before after
 block-turn allowed front (Between ls) s middle line after still h e =
     let b = start-begins allowed still.0 (Ok start.Indented) middle (rw still.1 at h) in
-    (lines_behind b.0 b.1, line-behind allowed b.0 b.1 middle line after b.2 e, behind-turn allowed front b.0 b.1 middle line after (block allowed still.0) (block allowed ls) b.2 b.3 still.2 e)
+    (lines_after b.0 b.1, line-after allowed b.0 b.1 middle line after b.2 e, after-turn allowed front b.0 b.1 middle line after (block allowed still.0) (block allowed ls) b.2 b.3 still.2 e)
 block-turn allowed front (Inside l ls) s middle line after still h e = tt
 block-turn allowed front (Failed f) s middle line after still h e = tt
 

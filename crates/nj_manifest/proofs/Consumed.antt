@@ -3,7 +3,7 @@ use Rattle.std.proofs.Common.{◌≡◌, ℕ, zero, suc, ◌<◌, ◌≤◌, Boo
 use Rattle.nj_text.specs.declared.spot.Spot.{Spot}
 use Rattle.nj_text.specs.Bytes.{drop_while}
 use Rattle.nj_text.specs.Units.{TextUnit, Position, found_at, position_after, spot_after, cut}
-use Rattle.nj_text.specs.Lines.{Line, ending_of, lines_before, lines_of, text_lines, line_spot, with_units, lines_behind, Kind, CommentLine, TabLine, BlankLine, IndentedLine, PlainLine, kind_behind_spaces, begins_with_space, is_space_unit, kind_of}
+use Rattle.nj_text.specs.Lines.{Line, ending_of, lines_before, lines_of, text_lines, line_spot, with_units, lines_after, Kind, CommentLine, TabLine, BlankLine, IndentedLine, PlainLine, kind_after_spaces, begins_with_space, is_space_unit, kind_of}
 use Rattle.nj_text.specs.Calls.{Inside, is_empty, without_comments}
 use Rattle.nj_manifest.specs.declared.block.Keys.{Keys}
 use Rattle.nj_manifest.specs.declared.block.Keys.TheVariants as keys
@@ -38,14 +38,14 @@ no_statement ended s rest h = absurd (apart (ap (λ (r : Parse (Option PlacedTex
 
 -- ---- behind a line
 
-no_fewer : (l : Line) (ls : List Line) → ahead (lines_behind l ls) ≤ ahead (l ∷ ls)
+no_fewer : (l : Line) (ls : List Line) → ahead (lines_after l ls) ≤ ahead (l ∷ ls)
 no_fewer l ls = by_last l.is_last refl
   where
     by_last : (t : Bool) → l.is_last ≡ t → ahead (cond t (with_units [] l ∷ ls) ls) ≤ cond t (cond (is_empty l.units) 0 1) (suc (ahead ls))
     by_last true e = rw e (omega arith)
     by_last false e = omega arith
 
-fewer : (l : Line) (ls : List Line) → is_empty l.units ≡ false → ahead (lines_behind l ls) < ahead (l ∷ ls)
+fewer : (l : Line) (ls : List Line) → is_empty l.units ≡ false → ahead (lines_after l ls) < ahead (l ∷ ls)
 fewer l ls h = by_last l.is_last refl
   where
     by_last : (t : Bool) → l.is_last ≡ t → ahead (cond t (with_units [] l ∷ ls) ls) < cond t (cond (is_empty l.units) 0 1) (suc (ahead ls))
@@ -56,7 +56,7 @@ fewer l ls h = by_last l.is_last refl
 plain-units : (l : Line) → kind_of l ≡ PlainLine → is_empty l.units ≡ false
 plain-units l h = by_units l.units h
   where
-    by_units : (us : List TextUnit) → kind_behind_spaces (drop_while is_space_unit us) (begins_with_space us) ≡ PlainLine → is_empty us ≡ false
+    by_units : (us : List TextUnit) → kind_after_spaces (drop_while is_space_unit us) (begins_with_space us) ≡ PlainLine → is_empty us ≡ false
     by_units [] e = absurd cc
     by_units (u ∷ us) e = refl
 
@@ -66,14 +66,14 @@ plain-units l h = by_units l.units h
 abbrev Within : {A : Type 0} → List Line → Parse A → Type 0
 Within {A} ls reading = (x : A) (rest : List Line) → reading ≡ Ok (x, rest) → ahead rest ≤ ahead ls
 
-comment-within : {A : Type 0} (l : Line) (ls : List Line) (x : A) (others : Parse A) → Within ls others → Within (l ∷ ls) (or_last l (Ok (x, lines_behind l (without_comments ls))) others)
+comment-within : {A : Type 0} (l : Line) (ls : List Line) (x : A) (others : Parse A) → Within ls others → Within (l ∷ ls) (or_last l (Ok (x, lines_after l (without_comments ls))) others)
 comment-within {A} l ls x others ih = by_last l.is_last refl
   where
     by_last : (t : Bool) → l.is_last ≡ t → (y : A) (rest : List Line) → cond t (Ok (x, cond t (with_units [] l ∷ without_comments ls) (without_comments ls))) others ≡ Ok (y, rest) → ahead rest ≤ cond t (cond (is_empty l.units) 0 1) (suc (ahead ls))
     by_last true e y rest h = let r = rest-is x y _ rest h in rw (sym r, e) (omega arith)
     by_last false e y rest h = let i = ih y rest h in omega arith
 
-line-within : {A : Type 0} (l : Line) (ls : List Line) (x : A) (others : Parse A) → Within ls others → Within (l ∷ ls) (or_last l (Ok (x, lines_behind l ls)) others)
+line-within : {A : Type 0} (l : Line) (ls : List Line) (x : A) (others : Parse A) → Within ls others → Within (l ∷ ls) (or_last l (Ok (x, lines_after l ls)) others)
 line-within {A} l ls x others ih = by_last l.is_last refl
   where
     by_last : (t : Bool) → l.is_last ≡ t → (y : A) (rest : List Line) → cond t (Ok (x, cond t (with_units [] l ∷ ls) ls)) others ≡ Ok (y, rest) → ahead rest ≤ cond t (cond (is_empty l.units) 0 1) (suc (ahead ls))
@@ -85,7 +85,7 @@ block-kind allowed CommentLine l ls ih = comment-within l ls [] (block allowed l
 block-kind allowed (TabLine tab) l ls ih = λ x rest h. absurd cc
 block-kind allowed IndentedLine l ls ih = λ x rest h.
     let line = bind-ok (line_next allowed (Inside (without_spaces l) ls)) _ (x, rest) h in
-    let more = bind-ok (or_last l (no_lines (lines_behind l ls)) (block allowed ls)) _ (x, rest) line.2 in
+    let more = bind-ok (or_last l (no_lines (lines_after l ls)) (block allowed ls)) _ (x, rest) line.2 in
     subst (λ r. ahead r ≤ ahead (l ∷ ls)) (rest-is _ x more.0.1 rest more.2) (line-within l ls [] (block allowed ls) ih more.0.0 more.0.1 more.1)
 block-kind allowed BlankLine l ls ih = λ x rest h. subst (λ r. ahead r ≤ ahead (l ∷ ls)) (rest-is [] x _ rest h) (no_fewer l ls)
 block-kind allowed PlainLine l ls ih = λ x rest h. subst (λ r. ahead r ≤ ahead (l ∷ ls)) (rest-is [] x _ rest h) (omega arith)
@@ -118,7 +118,7 @@ statement-takes l ls s rest e h =
     let item = bind-ok (with_block (line_spot l) head.0.0 (lines_from head.0.1)) _ (Some s, rest) head.2 in
     let there = head-inside l ls head.0.0 head.0.1 head.1 in
     let behind : ahead item.0.1 ≤ ahead (lines_from head.0.1) = with_block-within (line_spot l) head.0.0 (lines_from head.0.1) item.0.0 item.0.1 item.1 in
-    let same : ahead (lines_from head.0.1) ≡ ahead (lines_behind l ls) = ap (λ s. ahead (lines_from s)) there in
+    let same : ahead (lines_from head.0.1) ≡ ahead (lines_after l ls) = ap (λ s. ahead (lines_from s)) there in
     let last : ahead item.0.1 ≡ ahead rest = ap ahead (rest-is _ (Some s) item.0.1 rest item.2) in
     let taken = fewer l ls (plain-units l e) in
     omega arith
@@ -135,10 +135,10 @@ last-takes l ls rest others ih = by_last l.is_last
     by_last false s r h = let i = ih s r h in omega arith
 
 kind-takes : (k : Kind) (l : Line) (ls : List Line) → kind_of l ≡ k → Takes ls (next_statement ls) → Takes (l ∷ ls) (next_by k l ls (next_statement ls))
-kind-takes CommentLine l ls e ih = last-takes l ls (lines_behind l (without_comments ls)) (next_statement ls) ih
+kind-takes CommentLine l ls e ih = last-takes l ls (lines_after l (without_comments ls)) (next_statement ls) ih
 kind-takes (TabLine tab) l ls e ih = λ s rest h. absurd cc
 kind-takes IndentedLine l ls e ih = λ s rest h. absurd cc
-kind-takes BlankLine l ls e ih = last-takes l ls (lines_behind l ls) (next_statement ls) ih
+kind-takes BlankLine l ls e ih = last-takes l ls (lines_after l ls) (next_statement ls) ih
 kind-takes PlainLine l ls e ih = λ s rest h. statement-takes l ls s rest e h
 
 -- A statement takes a line at least.

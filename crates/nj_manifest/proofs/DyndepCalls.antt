@@ -1,7 +1,7 @@
 -- The calls of a parser of dyndep files, by the lines that they read.
 use Rattle.std.proofs.Common.{◌≡◌, true, false, Some, option_map, Result, Ok, Err, List, refl, sym, ap, subst, ◌∙◌}
 use Rattle.nj_text.specs.declared.spot.Spot.{Spot}
-use Rattle.nj_text.specs.Lines.{Line, lines_behind}
+use Rattle.nj_text.specs.Lines.{Line, lines_after}
 use Rattle.nj_text.specs.Calls.{State, Between, Inside, Failed, spot_of}
 use Rattle.nj_manifest.specs.declared.fault.ParseFault.{ParseFault}
 use Rattle.nj_manifest.specs.declared.entries.Entry.{Entry}
@@ -73,4 +73,4 @@ entry-read (Failed g) middle after e h p = tt
 entry-read (Inside l ls) middle after e h p =
     let whole = at-is l ls ∙ ap (λ r. r >>= λ entry. restat_block entry.1 >>= λ end. Ok (Some entry.0, lines_from end)) h in
     let ends = entry-ends l ls (entry_text e, middle) h in
-    (whole ∙ ap (λ r. r >>= λ end. Ok (Some (entry_text e), lines_from end)) p, block-ends (lines_behind l ls) after (ap restat_block (sym ends) ∙ p))
+    (whole ∙ ap (λ r. r >>= λ end. Ok (Some (entry_text e), lines_from end)) p, block-ends (lines_after l ls) after (ap restat_block (sym ends) ∙ p))

@@ -7,7 +7,7 @@ use Rattle.nj_text.specs.declared.sign.LineStart.{LineStart}
 use Rattle.nj_text.specs.declared.sign.LineStart.TheVariants as start
 use Rattle.nj_text.specs.declared.spot.Spot.{Spot}
 use Rattle.nj_text.specs.Bytes.{drop_while}
-use Rattle.nj_text.specs.Lines.{Line, lines_behind}
+use Rattle.nj_text.specs.Lines.{Line, lines_after}
 use Rattle.nj_text.specs.Words.{WordText, is_blank}
 use Rattle.nj_text.specs.Calls.{State, Between, Inside, start_line_of, skip_blanks_of, sign_of, path_word_of, spot_of, fault_spot}
 use Rattle.nj_manifest.specs.declared.block.Keys.TheVariants as keys
@@ -133,10 +133,10 @@ module _ (l : Line) (ls : List Line) where
 
 -- ---- whole lines
 
-pub entry-ends : (l : Line) (ls : List Line) (y : EntryText × State) → entry_line (Inside l ls) ≡ Ok y → y.1 ≡ Between (lines_behind l ls)
+pub entry-ends : (l : Line) (ls : List Line) (y : EntryText × State) → entry_line (Inside l ls) ≡ Ok y → y.1 ≡ Between (lines_after l ls)
 entry-ends l ls y h = entry_line-inside l ls (Inside l ls) y (l.units, refl) h
 
-pub version-ends : (l : Line) (ls : List Line) (s : State) → version_line (Inside l ls) ≡ Ok s → s ≡ Between (lines_behind l ls)
+pub version-ends : (l : Line) (ls : List Line) (s : State) → version_line (Inside l ls) ≡ Ok s → s ≡ Between (lines_after l ls)
 version-ends l ls s h = version_line-inside l ls (Inside l ls) s (l.units, refl) h
 
 -- ---- blocks
@@ -173,6 +173,6 @@ block-ends ls s h =
     in_block l others m is g =
         let restat = bind-ok (restat_line m) _ s g in
         let second = bind-ok (called (start_line_of restat.0)) _ s restat.2 in
-        let end : restat.0 ≡ Between (lines_behind (without_spaces l) others) = restat_line-inside (without_spaces l) others m restat.0 ((without_spaces l).units, is) restat.1 in
+        let end : restat.0 ≡ Between (lines_after (without_spaces l) others) = restat_line-inside (without_spaces l) others m restat.0 ((without_spaces l).units, is) restat.1 in
         let begun = ap (λ (t : State). called (start_line_of t)) (sym end) ∙ second.1 in
-        settled (lines_behind (without_spaces l) others) second.0.0 second.0.1 s line_too_many begun second.2 (λ l others is g. too_many-fails second.0.1 s g)
+        settled (lines_after (without_spaces l) others) second.0.0 second.0.1 s line_too_many begun second.2 (λ l others is g. too_many-fails second.0.1 s g)

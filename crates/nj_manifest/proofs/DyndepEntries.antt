@@ -5,7 +5,7 @@ use Rattle.nj_text.specs.declared.fault.UnitFault.{UnitFault}
 use Rattle.nj_text.specs.declared.sign.Sign.{Sign}
 use Rattle.nj_text.specs.declared.sign.Sign.TheVariants as sign
 use Rattle.nj_text.specs.Units.{TextUnit}
-use Rattle.nj_text.specs.Lines.{Line, with_units, lines_behind}
+use Rattle.nj_text.specs.Lines.{Line, with_units, lines_after}
 use Rattle.nj_text.specs.Words.{WordText, is_blank, next_fault}
 use Rattle.nj_text.specs.Calls.{State, Between, Inside, Failed, is_sign, begins_word, skip_blanks_of, sign_of, path_word_of, word_at, spot_of}
 use Rattle.nj_manifest.specs.declared.fault.Wanted.{Wanted}
@@ -18,9 +18,9 @@ use Rattle.nj_manifest.specs.DyndepForms.{EntryForm, EntriesAreTheForms}
 use Rattle.nj_manifest.proofs.Framing.{bind-ok}
 use Rattle.nj_manifest.proofs.WordLimits.{words_next-ends}
 use Rattle.nj_manifest.proofs.FormsKeys.{unless_missing-ok}
-use Rattle.nj_manifest.proofs.FormsTokens.{within, end_stops, colon_stops, behind_skips, behind-read, name-form, name-read, sign-left_out}
-use Rattle.nj_manifest.proofs.FormsWords.{fault_behind_blanks, word-form, word-read, no_word-read, words-form}
-use Rattle.nj_manifest.proofs.FormsLines.{section_behind-form, section_behind-read, colon_behind-form, end_behind_at-form, end_behind-read, keyword_of, at_implicit, pipe_is_no_end, colon_is_no_end}
+use Rattle.nj_manifest.proofs.FormsTokens.{within, end_stops, colon_stops, after_skips, after-read, name-form, name-read, sign-left_out}
+use Rattle.nj_manifest.proofs.FormsWords.{fault_after_blanks, word-form, word-read, no_word-read, words-form}
+use Rattle.nj_manifest.proofs.FormsLines.{section_after-form, section_after-read, colon_after-form, end_after_at-form, end_after-read, keyword_of, at_implicit, pipe_is_no_end, colon_is_no_end}
 use Rattle.nj_manifest.proofs.LeftmostRuns.{none_passed, skip, skip_stops}
 use Rattle.nj_manifest.proofs.DyndepEnds.{oks, no_path-answered, first_output-after, called-ok}
 
@@ -125,7 +125,7 @@ output-form l ls us s y e h =
         let at_end = no_path-form l ls it.0 first.1 end (sym (first_output-after l ls found.0 found.1 first b) ∙ it.2) c in
         (it.0, subst (λ (r : WordText × State). WordForm us r.0 it.0) d it.1, sym (ap (λ (r : WordText × State). r.1) d) ∙ at_end)
 
-inputs-form : (l : Line) (ls : List Line) (us : List TextUnit) (s : State) (y : List WordText × State) → s ≡ within l ls us → added_inputs s ≡ Ok y → (rest : List TextUnit) × SectionForm sign.Pipe us y.0 rest × AreBlanks rest × (y.1 ≡ Between (lines_behind l ls))
+inputs-form : (l : Line) (ls : List Line) (us : List TextUnit) (s : State) (y : List WordText × State) → s ≡ within l ls us → added_inputs s ≡ Ok y → (rest : List TextUnit) × SectionForm sign.Pipe us y.0 rest × AreBlanks rest × (y.1 ≡ Between (lines_after l ls))
 unfolding added_inputs
 inputs-form l ls us s y e h =
     let bare = bind-ok (no_path s) _ y h in
@@ -136,15 +136,15 @@ inputs-form l ls us s y e h =
     inputs_from bare.0 implicit.0 order_only.0 validations.0 end.0 bare.1 implicit.1 order_only.1 validations.1 end.1 (oks end.2)
   where
     inputs_from : (bare : State) (implicit : List WordText × State) (order_only validations end : State) → no_path s ≡ Ok bare → section_next sign.Pipe bare ≡ Ok implicit → no_section sign.Pipe2 implicit.1 ≡ Ok order_only → no_section sign.PipeAt order_only ≡ Ok validations
-        → expect_sign sign.LineEnd wanted.Newline validations ≡ Ok end → ◌≡◌ {A = List WordText × State} (implicit.0, end) y → (rest : List TextUnit) × SectionForm sign.Pipe us y.0 rest × AreBlanks rest × (y.1 ≡ Between (lines_behind l ls))
+        → expect_sign sign.LineEnd wanted.Newline validations ≡ Ok end → ◌≡◌ {A = List WordText × State} (implicit.0, end) y → (rest : List TextUnit) × SectionForm sign.Pipe us y.0 rest × AreBlanks rest × (y.1 ≡ Between (lines_after l ls))
     inputs_from bare implicit order_only validations end a b c d f g =
-        let six = section_behind-form sign.Pipe l ls us bare implicit.1 implicit.0 pipe_is_no_end (no_path-form l ls us s bare e a) b in
+        let six = section_after-form sign.Pipe l ls us bare implicit.1 implicit.0 pipe_is_no_end (no_path-form l ls us s bare e a) b in
         let seven = no_section-form sign.Pipe2 l ls six.0 implicit.1 order_only six.2 c in
         let eight = no_section-form sign.PipeAt l ls six.0 order_only validations seven d in
-        let nine = end_behind_at-form l ls six.0 validations end eight f in
+        let nine = end_after_at-form l ls six.0 validations end eight f in
         (six.0, subst (λ (r : List WordText × State). SectionForm sign.Pipe us r.0 six.0) g six.1, nine.0, sym (ap (λ (r : List WordText × State). r.1) g) ∙ nine.1)
 
-entry-form : (l : Line) (ls : List Line) (us : List TextUnit) (entry : EntryText) (s : State) → entry_line (within l ls us) ≡ Ok (entry, s) → EntryForm us entry × (s ≡ Between (lines_behind l ls))
+entry-form : (l : Line) (ls : List Line) (us : List TextUnit) (entry : EntryText) (s : State) → entry_line (within l ls us) ≡ Ok (entry, s) → EntryForm us entry × (s ≡ Between (lines_after l ls))
 unfolding entry_line
 entry-form l ls us entry s h =
     let build = bind-ok (word_of_form (codes "build") wanted.Statement (within l ls us)) _ (entry, s) h in
@@ -156,19 +156,19 @@ entry-form l ls us entry s h =
     entry_from build.0 out.0 outs.0 colon.0 rule.0 ins.0 build.1 out.1 outs.1 colon.1 rule.1 ins.1 (oks ins.2)
   where
     entry_from : (build : State) (out : WordText × State) (outs : List WordText × State) (colon rule : State) (ins : List WordText × State) → word_of_form (codes "build") wanted.Statement (within l ls us) ≡ Ok build → output_next build ≡ Ok out → section_next sign.Pipe out.1 ≡ Ok outs
-        → expect_sign sign.Colon wanted.Colon outs.1 ≡ Ok colon → word_of_form (codes "dyndep") wanted.CommandName colon ≡ Ok rule → added_inputs rule ≡ Ok ins → ◌≡◌ {A = EntryText × State} (record { out = out.0; outs = outs.0; ins = ins.0 }, ins.1) (entry, s) → EntryForm us entry × (s ≡ Between (lines_behind l ls))
+        → expect_sign sign.Colon wanted.Colon outs.1 ≡ Ok colon → word_of_form (codes "dyndep") wanted.CommandName colon ≡ Ok rule → added_inputs rule ≡ Ok ins → ◌≡◌ {A = EntryText × State} (record { out = out.0; outs = outs.0; ins = ins.0 }, ins.1) (entry, s) → EntryForm us entry × (s ≡ Between (lines_after l ls))
     entry_from build out outs colon rule ins a b c d e f g =
         let one = word_of_form-form (codes "build") wanted.Statement l ls us (within l ls us) build refl a in
         let two = output-form l ls one.0 build out one.2 b in
-        let three = section_behind-form sign.Pipe l ls two.0 out.1 outs.1 outs.0 pipe_is_no_end two.2 c in
-        let four = colon_behind-form l ls three.0 outs.1 colon three.2 d in
+        let three = section_after-form sign.Pipe l ls two.0 out.1 outs.1 outs.0 pipe_is_no_end two.2 c in
+        let four = colon_after-form l ls three.0 outs.1 colon three.2 d in
         let five = word_of_form-form (codes "dyndep") wanted.CommandName l ls four.0 colon rule four.2 e in
         let six = inputs-form l ls five.0 rule ins five.2 f in
         let form : EntryForm us (record { out = out.0; outs = outs.0; ins = ins.0 }) =
         record { after_build = one.0; after_out = two.0; after_outs = three.0; after_colon = four.0; after_rule = five.0; after_ins = six.0; keyword = one.1; out = two.1; outs = three.1; colon = four.1; rule = five.1; ins = six.1; end = six.2 } in
         (subst (λ (r : EntryText × State). EntryForm us r.0) g form, sym (ap (λ (r : EntryText × State). r.1) g) ∙ six.3)
 
-entry-read : (l : Line) (ls : List Line) (us : List TextUnit) (entry : EntryText) → EntryForm us entry → entry_line (within l ls us) ≡ Ok (entry, Between (lines_behind l ls))
+entry-read : (l : Line) (ls : List Line) (us : List TextUnit) (entry : EntryText) → EntryForm us entry → entry_line (within l ls us) ≡ Ok (entry, Between (lines_after l ls))
 unfolding entry_line output_next added_inputs
 entry-read l ls us entry f =
     let outs = colon_stops f.after_outs f.after_colon f.colon in
@@ -177,17 +177,17 @@ entry-read l ls us entry f =
     let rule = at_implicit f.ins end in
     rw (
       word_of_form-read (codes "build") wanted.Statement l ls us f.after_build f.keyword,
-      word-read l ls f.after_build f.after_out entry.out f.out (fault_behind_blanks f.after_out out.3.no_fault),
+      word-read l ls f.after_build f.after_out entry.out f.out (fault_after_blanks f.after_out out.3.no_fault),
       no_path-read l ls f.after_out out.3.no_fault out.3.no_word,
-      section_behind-read sign.Pipe l ls pipe_is_no_end f.outs outs.no_fault outs.no_word outs.is_pipe,
-      behind_skips sign.Colon wanted.Colon l ls f.after_outs,
-      behind-read sign.Colon wanted.Colon l ls f.after_outs f.after_colon colon_is_no_end f.colon,
+      section_after-read sign.Pipe l ls pipe_is_no_end f.outs outs.no_fault outs.no_word outs.is_pipe,
+      after_skips sign.Colon wanted.Colon l ls f.after_outs,
+      after-read sign.Colon wanted.Colon l ls f.after_outs f.after_colon colon_is_no_end f.colon,
       word_of_form-read (codes "dyndep") wanted.CommandName l ls f.after_colon f.after_rule f.rule,
       no_path-read l ls f.after_rule rule.3.no_fault rule.3.no_word,
-      section_behind-read sign.Pipe l ls pipe_is_no_end f.ins end.no_fault end.no_word end.is_pipe,
+      section_after-read sign.Pipe l ls pipe_is_no_end f.ins end.no_fault end.no_word end.is_pipe,
       no_section-read sign.Pipe2 l ls f.after_ins end.no_fault end.is_pipe2,
       no_section-read sign.PipeAt l ls f.after_ins end.no_fault end.is_pipe_at,
-      end_behind-read wanted.Newline l ls f.after_ins f.end,
+      end_after-read wanted.Newline l ls f.after_ins f.end,
     ) refl
 
 pub entries_are : EntriesAreTheForms

@@ -6,7 +6,7 @@ use Rattle.nj_text.specs.declared.fault.UnitFault.{UnitFault}
 use Rattle.nj_text.specs.declared.sign.LineStart.{LineStart}
 use Rattle.nj_text.specs.declared.sign.LineStart.TheVariants as start
 use Rattle.nj_text.specs.Words.{WordText}
-use Rattle.nj_text.specs.Lines.{Line, lines_behind, Kind, CommentLine, TabLine, BlankLine, IndentedLine, PlainLine, kind_of}
+use Rattle.nj_text.specs.Lines.{Line, lines_after, Kind, CommentLine, TabLine, BlankLine, IndentedLine, PlainLine, kind_of}
 use Rattle.nj_text.specs.Calls.{State, Between, Inside, start_line_of, without_comments}
 use Rattle.nj_manifest.specs.declared.block.Keys.TheVariants as keys
 use Rattle.nj_manifest.specs.declared.fault.Wanted.TheVariants as wanted
@@ -17,7 +17,7 @@ use Rattle.nj_manifest.specs.Openings.{ended, opening_by, opening}
 use Rattle.nj_manifest.specs.Dyndeps.{EntryText, entry_line, word_of_form, restat_line, line_too_many, if_indented, restat_block, entry_at, entry_from, next_entry}
 use Rattle.nj_manifest.specs.DyndepForms.{RestatForm, NextEntryForm, NextEntriesAreTheForms}
 use Rattle.nj_manifest.proofs.Framing.{bind-ok, line-inside}
-use Rattle.nj_manifest.proofs.BlockLines.{lines_weight, Begins, start-begins, block-behind}
+use Rattle.nj_manifest.proofs.BlockLines.{lines_weight, Begins, start-begins, block-after}
 use Rattle.nj_manifest.proofs.FormsKeys.{unless_missing-ok}
 use Rattle.nj_manifest.proofs.FormsBlocks.{block-form, block-read}
 use Rattle.nj_manifest.proofs.DyndepEnds.{oks, called-ok, restat_line-inside, too_many-fails}
@@ -60,8 +60,8 @@ begins ls x m h = start-begins keys.All ls (Ok x) m (called-ok (start_line_of (B
 
 -- a line, and those that follow it
 one_line : (ls : List Line) (l : Line) (others : List Line) (m t : State) (line : LineText) (more : List LineText × List Line) → m ≡ Inside (without_spaces l) others → block keys.All ls ≡ block_by keys.All IndentedLine l others (block keys.All others) → line_next keys.All m ≡ Ok (line, t)
-    → block keys.All (lines_behind l others) ≡ Ok more → block keys.All ls ≡ Ok (line ∷ more.0, more.1)
-one_line ls l others m t line more is reads read rest = reads ∙ rw (ap (line_next keys.All) (sym is) ∙ read, sym (block-behind keys.All l others) ∙ rest) refl
+    → block keys.All (lines_after l others) ≡ Ok more → block keys.All ls ≡ Ok (line ∷ more.0, more.1)
+one_line ls l others m t line more is reads read rest = reads ∙ rw (ap (line_next keys.All) (sym is) ∙ read, sym (block-after keys.All l others) ∙ rest) refl
 
 no_block : (ls : List Line) (m : State) → block keys.All ls ≡ no_lines (lines_from m) → RestatForm ls (lines_from m)
 no_block ls m e = record { lines = []; block = block-form keys.All ls [] (lines_from m) e; one_at_most = inl refl }
@@ -76,15 +76,15 @@ restat-form ls s h =
     then line = restat_line line >>= λ restat. called (start_line_of restat) >>= λ second. if_indented second.0 second.1 line_too_many
 
     by_second : (l : Line) (others : List Line) (m t : State) (line : LineText) → m ≡ Inside (without_spaces l) others → block keys.All ls ≡ block_by keys.All IndentedLine l others (block keys.All others) → line_next keys.All m ≡ Ok (line, t) → line.name ≡ codes "restat"
-        → (y : LineStart) (n : State) → Begins keys.All (lines_weight (lines_behind l others)) (block keys.All (lines_behind l others)) (Ok y) n → if_indented y n line_too_many ≡ Ok s → RestatForm ls (lines_from s)
+        → (y : LineStart) (n : State) → Begins keys.All (lines_weight (lines_after l others)) (block keys.All (lines_after l others)) (Ok y) n → if_indented y n line_too_many ≡ Ok s → RestatForm ls (lines_from s)
     by_second l others m t line is reads read key y n b g = by_kind y b g
       where
-        ended_there : block keys.All (lines_behind l others) ≡ no_lines (lines_from n) → n ≡ s → RestatForm ls (lines_from s)
+        ended_there : block keys.All (lines_after l others) ≡ no_lines (lines_from n) → n ≡ s → RestatForm ls (lines_from s)
         ended_there e same =
             subst (λ (u : State). RestatForm ls (lines_from u)) same
             (record { lines = line ∷ []; block = block-form keys.All ls (line ∷ []) (lines_from n) (one_line ls l others m t line ([], lines_from n) is reads read e); one_at_most = inr (line, refl, key) })
 
-        by_kind : (y : LineStart) → Begins keys.All (lines_weight (lines_behind l others)) (block keys.All (lines_behind l others)) (Ok y) n → if_indented y n line_too_many ≡ Ok s → RestatForm ls (lines_from s)
+        by_kind : (y : LineStart) → Begins keys.All (lines_weight (lines_after l others)) (block keys.All (lines_after l others)) (Ok y) n → if_indented y n line_too_many ≡ Ok s → RestatForm ls (lines_from s)
         by_kind start.Indented b g = too_many-fails n s g
         by_kind start.Middle b g = absurd b
         by_kind start.End b g = ended_there b.0 (oks g)
@@ -95,10 +95,10 @@ restat-form ls s h =
     in_block l others m is reads g =
         let restat = bind-ok (restat_line m) _ s g in
         let second = bind-ok (called (start_line_of restat.0)) _ s restat.2 in
-        let end : restat.0 ≡ Between (lines_behind l others) = restat_line-inside (without_spaces l) others m restat.0 ((without_spaces l).units, is) restat.1 in
+        let end : restat.0 ≡ Between (lines_after l others) = restat_line-inside (without_spaces l) others m restat.0 ((without_spaces l).units, is) restat.1 in
         let line = restat-line m restat.0 restat.1 in
         let begun = ap (λ (t : State). called (start_line_of t)) (sym end) ∙ second.1 in
-        by_second l others m restat.0 line.0 is reads line.2 line.1 second.0.0 second.0.1 (begins (lines_behind l others) second.0.0 second.0.1 begun) second.2
+        by_second l others m restat.0 line.0 is reads line.2 line.1 second.0.0 second.0.1 (begins (lines_after l others) second.0.0 second.0.1 begun) second.2
 
     by_start : (x : LineStart) (m : State) → Begins keys.All (lines_weight ls) (block keys.All ls) (Ok x) m → if_indented x m then ≡ Ok s → RestatForm ls (lines_from s)
     by_start start.Indented m b g = in_block b.0 b.1 m b.2 b.3 g
@@ -124,24 +124,24 @@ record Spoken (ls rest : List Line) (line : LineText) : Type 0 where
   pub starts : called (start_line_of (Between ls)) ≡ Ok (start.Indented, after)
   pub is : after ≡ Inside (without_spaces first) others
   pub reads : line_next keys.All after ≡ Ok (line, end)
-  pub none : block keys.All (lines_behind first others) ≡ Ok ([], rest)
+  pub none : block keys.All (lines_after first others) ≡ Ok ([], rest)
 
 no_more : {P : Type 0} (x : LineText) (xs : List LineText) → ◌≡◌ {A = List LineText} (x ∷ xs) [] → P
 no_more x xs e = absurd cc
 
 -- a line that was begun in a block
 line_there : (l : Line) (others rest : List Line) (lines : List LineText) → block_by keys.All IndentedLine l others (block keys.All others) ≡ Ok (lines, rest)
-    → (line : LineText) × (more : List LineText) × (end : State) × (line_next keys.All (Inside (without_spaces l) others) ≡ Ok (line, end)) × (block keys.All (lines_behind l others) ≡ Ok (more, rest)) × (line ∷ more ≡ lines)
+    → (line : LineText) × (more : List LineText) × (end : State) × (line_next keys.All (Inside (without_spaces l) others) ≡ Ok (line, end)) × (block keys.All (lines_after l others) ≡ Ok (more, rest)) × (line ∷ more ≡ lines)
 line_there l others rest lines h =
     let one = bind-ok (line_next keys.All (Inside (without_spaces l) others)) _ (lines, rest) h in
-    let more = bind-ok (or_last l (no_lines (lines_behind l others)) (block keys.All others)) (λ more. Ok (one.0.0 ∷ more.0, more.1)) (lines, rest) one.2 in
+    let more = bind-ok (or_last l (no_lines (lines_after l others)) (block keys.All others)) (λ more. Ok (one.0.0 ∷ more.0, more.1)) (lines, rest) one.2 in
     let same = oks more.2 in
     let left : more.0.1 ≡ rest = ap (λ (r : List LineText × List Line). r.1) same in (
       one.0.0,
       more.0.0,
       one.0.1,
       one.1,
-      block-behind keys.All l others ∙ more.1 ∙ ap (λ (r : List Line). Ok (more.0.0, r)) left,
+      block-after keys.All l others ∙ more.1 ∙ ap (λ (r : List Line). Ok (more.0.0, r)) left,
       ap (λ (r : List LineText × List Line). r.0) same,
     )
 
@@ -208,9 +208,9 @@ restat-read ls rest f = by_lines f.one_at_most
         (q.after, ap (λ r. r >>= λ first. if_indented first.0 first.1 then) q.starts ∙ q.stays then, q.left)
     by_lines (inr g) =
         let p = spoken ls rest g.0 (block-read f.block ∙ ap (λ (xs : List LineText). Ok (xs, rest)) g.1) in
-        let q = quiet (lines_behind p.first p.others) rest p.none in
+        let q = quiet (lines_after p.first p.others) rest p.none in
         let restat = line-restat p.after p.end g.0 p.reads g.2 in
-        let end : p.end ≡ Between (lines_behind p.first p.others) = line-inside keys.All (without_spaces p.first) p.others g.0 p.end (ap (line_next keys.All) (sym p.is) ∙ p.reads) in
+        let end : p.end ≡ Between (lines_after p.first p.others) = line-inside keys.All (without_spaces p.first) p.others g.0 p.end (ap (line_next keys.All) (sym p.is) ∙ p.reads) in
         let second : called (start_line_of p.end) ≡ Ok (q.begun, q.after) = ap (λ (t : State). called (start_line_of t)) end ∙ q.starts in
         (q.after, ap (λ r. r >>= λ first. if_indented first.0 first.1 then) p.starts ∙ rw (restat, second) (q.stays line_too_many), q.left)
 
@@ -240,19 +240,19 @@ at_form l ls found rest k h =
     let entry = bind-ok (entry_line (Inside l ls)) _ (found, rest) (sym (at_is l ls) ∙ h) in
     let end = bind-ok (restat_block entry.0.1) (λ end. Ok (Some entry.0.0, lines_from end)) (found, rest) entry.2 in
     let form = (entries_are l ls entry.0.0 entry.0.1).0 entry.1 in
-    let block = restat-form (lines_behind l ls) end.0 (ap restat_block (sym form.1) ∙ end.1) in
+    let block = restat-form (lines_after l ls) end.0 (ap restat_block (sym form.1) ∙ end.1) in
     as_found (l ∷ ls) rest (Some entry.0.0) found (lines_from end.0) end.2 (NextEntryForm.statement k form.0 block)
 
 next_form : (ls : List Line) (found : Option EntryText) (rest : List Line) → next_entry ls ≡ Ok (found, rest) → NextEntryForm ls found rest
 next_form [] found rest h = as_found [] rest None found [] (sym nothing_next ∙ h) NextEntryForm.nothing
 next_form (l ∷ ls) found rest h = by_kind (kind_of l) refl (λ e. next_form ls found rest (next_is ls ∙ e))
   where
-    by_last_comment : (t : Bool) → l.is_last ≡ t → kind_of l ≡ CommentLine → ((opening ls >>= entry_from) ≡ Ok (found, rest) → NextEntryForm ls found rest) → (cond t (ended (lines_behind l (without_comments ls))) (opening ls) >>= entry_from) ≡ Ok (found, rest) → NextEntryForm (l ∷ ls) found rest
-    by_last_comment true e k others g = as_found (l ∷ ls) rest None found (lines_behind l (without_comments ls)) g (NextEntryForm.last_comment k e)
+    by_last_comment : (t : Bool) → l.is_last ≡ t → kind_of l ≡ CommentLine → ((opening ls >>= entry_from) ≡ Ok (found, rest) → NextEntryForm ls found rest) → (cond t (ended (lines_after l (without_comments ls))) (opening ls) >>= entry_from) ≡ Ok (found, rest) → NextEntryForm (l ∷ ls) found rest
+    by_last_comment true e k others g = as_found (l ∷ ls) rest None found (lines_after l (without_comments ls)) g (NextEntryForm.last_comment k e)
     by_last_comment false e k others g = NextEntryForm.comment k e (others g)
 
-    by_last_blank : (t : Bool) → l.is_last ≡ t → kind_of l ≡ BlankLine → ((opening ls >>= entry_from) ≡ Ok (found, rest) → NextEntryForm ls found rest) → (cond t (ended (lines_behind l ls)) (opening ls) >>= entry_from) ≡ Ok (found, rest) → NextEntryForm (l ∷ ls) found rest
-    by_last_blank true e k others g = as_found (l ∷ ls) rest None found (lines_behind l ls) g (NextEntryForm.last_blank k e)
+    by_last_blank : (t : Bool) → l.is_last ≡ t → kind_of l ≡ BlankLine → ((opening ls >>= entry_from) ≡ Ok (found, rest) → NextEntryForm ls found rest) → (cond t (ended (lines_after l ls)) (opening ls) >>= entry_from) ≡ Ok (found, rest) → NextEntryForm (l ∷ ls) found rest
+    by_last_blank true e k others g = as_found (l ∷ ls) rest None found (lines_after l ls) g (NextEntryForm.last_blank k e)
     by_last_blank false e k others g = NextEntryForm.blank k e (others g)
 
     by_kind : (k : Kind) → kind_of l ≡ k → ((opening ls >>= entry_from) ≡ Ok (found, rest) → NextEntryForm ls found rest) → NextEntryForm (l ∷ ls) found rest
@@ -264,15 +264,15 @@ next_form (l ∷ ls) found rest h = by_kind (kind_of l) refl (λ e. next_form ls
 
 next_read : {ls rest : List Line} {found : Option EntryText} → NextEntryForm ls found rest → next_entry ls ≡ Ok (found, rest)
 next_read (NextEntryForm.statement {l = l} {ls = ls} {rest = rest} {entry = entry} k f b) =
-    let read = (entries_are l ls entry (Between (lines_behind l ls))).1 (f, refl) in
-    let block = restat-read (lines_behind l ls) rest b in
+    let read = (entries_are l ls entry (Between (lines_after l ls))).1 (f, refl) in
+    let block = restat-read (lines_after l ls) rest b in
     next_by_kind l ls PlainLine k ∙ (at_is l ls ∙ rw (read, block.1) (ap (λ (r : List Line). Ok (Some entry, r)) block.2))
 next_read (NextEntryForm.blank {l = l} {ls = ls} k e others) =
-    next_by_kind l ls BlankLine k ∙ (ap (λ (t : Bool). cond t (ended (lines_behind l ls)) (opening ls) >>= entry_from) e ∙ (sym (next_is ls) ∙ next_read others))
+    next_by_kind l ls BlankLine k ∙ (ap (λ (t : Bool). cond t (ended (lines_after l ls)) (opening ls) >>= entry_from) e ∙ (sym (next_is ls) ∙ next_read others))
 next_read (NextEntryForm.comment {l = l} {ls = ls} k e others) =
-    next_by_kind l ls CommentLine k ∙ (ap (λ (t : Bool). cond t (ended (lines_behind l (without_comments ls))) (opening ls) >>= entry_from) e ∙ (sym (next_is ls) ∙ next_read others))
-next_read (NextEntryForm.last_blank {l = l} {ls = ls} k e) = next_by_kind l ls BlankLine k ∙ ap (λ (t : Bool). cond t (ended (lines_behind l ls)) (opening ls) >>= entry_from) e
-next_read (NextEntryForm.last_comment {l = l} {ls = ls} k e) = next_by_kind l ls CommentLine k ∙ ap (λ (t : Bool). cond t (ended (lines_behind l (without_comments ls))) (opening ls) >>= entry_from) e
+    next_by_kind l ls CommentLine k ∙ (ap (λ (t : Bool). cond t (ended (lines_after l (without_comments ls))) (opening ls) >>= entry_from) e ∙ (sym (next_is ls) ∙ next_read others))
+next_read (NextEntryForm.last_blank {l = l} {ls = ls} k e) = next_by_kind l ls BlankLine k ∙ ap (λ (t : Bool). cond t (ended (lines_after l ls)) (opening ls) >>= entry_from) e
+next_read (NextEntryForm.last_comment {l = l} {ls = ls} k e) = next_by_kind l ls CommentLine k ∙ ap (λ (t : Bool). cond t (ended (lines_after l (without_comments ls))) (opening ls) >>= entry_from) e
 next_read NextEntryForm.nothing = nothing_next
 
 pub next_entries_are : NextEntriesAreTheForms

@@ -124,9 +124,9 @@ unfolding on_texts
 no_command = refl
 
 -- a blank line ends a block
-command_behind_block : refuses (codes "rule r\n\n  command = x") (MissingCommand (at 1 1))
+command_after_block : refuses (codes "rule r\n\n  command = x") (MissingCommand (at 1 1))
 unfolding on_texts
-command_behind_block = refl
+command_after_block = refl
 
 -- the last line of a key counts
 emptied_command : refuses (codes "rule r\n  command = x\n  command =") (MissingCommand (at 1 1))

@@ -25,9 +25,9 @@ front_passes p (u ∷ us) = by_test (p u) refl (front_passes p us)
     by_test true e rest = rw (take_while-cons_yes p u us e, e) rest
     by_test false e rest = rw (take_while-cons_no p u us e) refl
 
-pub behind_stops : (p : TextUnit → Bool) (us : List TextUnit) → begins p (drop_while p us) ≡ false
-behind_stops p [] = refl
-behind_stops p (u ∷ us) = by_test (p u) refl (behind_stops p us)
+pub after_stops : (p : TextUnit → Bool) (us : List TextUnit) → begins p (drop_while p us) ≡ false
+after_stops p [] = refl
+after_stops p (u ∷ us) = by_test (p u) refl (after_stops p us)
   where
     by_test : (t : Bool) → p u ≡ t → begins p (drop_while p us) ≡ false → begins p (cond t (drop_while p us) (u ∷ us)) ≡ false
     by_test true e rest = rest
@@ -65,10 +65,10 @@ abbrev pub skip : List TextUnit → List TextUnit
 skip us = drop_while is_blank us
 
 pub skip_again : (us : List TextUnit) → skip (skip us) ≡ skip us
-skip_again us = none_passed is_blank (skip us) (behind_stops is_blank us)
+skip_again us = none_passed is_blank (skip us) (after_stops is_blank us)
 
 pub skip_stops : (us : List TextUnit) → begins is_blank (skip us) ≡ false
-skip_stops us = behind_stops is_blank us
+skip_stops us = after_stops is_blank us
 
 pub skip_gap : (us gap others : List TextUnit) → us ≡ gap ++ others → AreBlanks gap → begins is_blank others ≡ false → skip us ≡ others
 skip_gap us gap others e h n = ap skip e ∙ run_passed is_blank gap others h n

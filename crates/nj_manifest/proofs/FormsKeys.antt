@@ -21,8 +21,8 @@ key_is_here name key e = (bytes_eq-Decides name key).1 e
 abbrev any_of : (key : List ℕ) → List LineText → Bool
 any_of key lines = list_any (λ (l : LineText). bytes_eq l.name key) lines
 
-gives_behind : (key : List ℕ) (l : LineText) (lines : List LineText) → Gives key lines → Gives key (l ∷ lines)
-gives_behind key l lines g =
+gives_after : (key : List ℕ) (l : LineText) (lines : List LineText) → Gives key lines → Gives key (l ∷ lines)
+gives_after key l lines g =
     record { before = l ∷ g.before; line = g.line; after = g.after; cut = ap (λ (ls : List LineText). l ∷ ls) g.cut; of_key = g.of_key; is_last = g.is_last; some_part = g.some_part }
 
 gives_first : (key : List ℕ) (l : LineText) (lines : List LineText) → bytes_eq l.name key ≡ true → any_of key lines ≡ false → not (is_empty l.value.parts) ≡ true → Gives key (l ∷ lines)
@@ -34,8 +34,8 @@ gives-form key (l ∷ lines) h = by_tests (bytes_eq l.name key) (any_of key line
   where
     by_tests : (t a : Bool) → bytes_eq l.name key ≡ t → any_of key lines ≡ a → cond (t && not a) (not (is_empty l.value.parts)) (gives key lines) ≡ true → (gives key lines ≡ true → Gives key lines) → Gives key (l ∷ lines)
     by_tests true false e n g others = gives_first key l lines e n g
-    by_tests true true e n g others = gives_behind key l lines (others g)
-    by_tests false a e n g others = gives_behind key l lines (others g)
+    by_tests true true e n g others = gives_after key l lines (others g)
+    by_tests false a e n g others = gives_after key l lines (others g)
 
 has_key : (key : List ℕ) (before after : List LineText) (l : LineText) → bytes_eq l.name key ≡ true → any_of key (before ++ (l ∷ after)) ≡ true
 has_key key [] after l e = or_left (bytes_eq l.name key) (any_of key after) e

@@ -5,7 +5,7 @@ use Rattle.std.specs.List.{list_any}
 use Rattle.std.specs.Str.{bytes_eq}
 use Rattle.nj_text.specs.declared.fault.UnitFault.TheVariants as lex
 use Rattle.nj_text.specs.declared.spot.Spot.{Spot}
-use Rattle.nj_text.specs.Lines.{Line, line_spot, lines_behind, Kind, CommentLine, TabLine, BlankLine, IndentedLine, PlainLine, kind_of}
+use Rattle.nj_text.specs.Lines.{Line, line_spot, lines_after, Kind, CommentLine, TabLine, BlankLine, IndentedLine, PlainLine, kind_of}
 use Rattle.nj_text.specs.Calls.{Between, without_comments}
 use Rattle.nj_manifest.specs.declared.block.Keys.{Keys}
 use Rattle.nj_manifest.specs.declared.block.Keys.TheVariants as keys
@@ -148,8 +148,8 @@ plain-lacks l ls f n k h = by_head (head_outcome l k)
         no_syntax f (ap is_syntax (sym same) ∙ names_syntax g _ s.place) n
     by_head (through v so) =
         let read = (so ls).1 in
-        let failed = placed_fault (line_spot l) (with_block (line_spot l) v (lines_behind l ls)) f (sym (plain_read l ls v (Between (lines_behind l ls)) k read) ∙ h) in
-        NextLacks.statement k (head-form l ls v (Between (lines_behind l ls)) read).0 (with_block-lacks (line_spot l) v (lines_behind l ls) f n failed)
+        let failed = placed_fault (line_spot l) (with_block (line_spot l) v (lines_after l ls)) f (sym (plain_read l ls v (Between (lines_after l ls)) k read) ∙ h) in
+        NextLacks.statement k (head-form l ls v (Between (lines_after l ls)) read).0 (with_block-lacks (line_spot l) v (lines_after l ls) f n failed)
 
 next-lacks : (ls : List Line) (f : Fault) → is_syntax f ≡ false → next_statement ls ≡ Err f → NextLacks ls f
 next-lacks [] f n h = absurd (nothing_no_fault [] f (sym no_lines_next ∙ h))
@@ -157,25 +157,25 @@ next-lacks (l ∷ ls) f n h = by_kind (kind_of l) refl (next-lacks ls f n)
   where
     by_kind : (k : Kind) → kind_of l ≡ k → (next_statement ls ≡ Err f → NextLacks ls f) → NextLacks (l ∷ ls) f
     by_kind CommentLine k rest =
-        let last = not_last l.is_last (lines_behind l (without_comments ls)) (next_statement ls) f (sym (by_kind_next l ls CommentLine k) ∙ h) in
+        let last = not_last l.is_last (lines_after l (without_comments ls)) (next_statement ls) f (sym (by_kind_next l ls CommentLine k) ∙ h) in
         NextLacks.comment k last.0 (rest last.1)
     by_kind (TabLine tab) k rest = no_syntax f (ap is_syntax (sym (same_fault (next_statement (l ∷ ls)) f (Bad (lex.Tab tab)) h (by_kind_next l ls (TabLine tab) k)))) n
     by_kind IndentedLine k rest = no_syntax f (ap is_syntax (sym (same_fault (next_statement (l ∷ ls)) f (UnexpectedIndent (front_of l)) h (by_kind_next l ls IndentedLine k)))) n
     by_kind BlankLine k rest =
-        let last = not_last l.is_last (lines_behind l ls) (next_statement ls) f (sym (by_kind_next l ls BlankLine k) ∙ h) in
+        let last = not_last l.is_last (lines_after l ls) (next_statement ls) f (sym (by_kind_next l ls BlankLine k) ∙ h) in
         NextLacks.blank k last.0 (rest last.1)
     by_kind PlainLine k rest = plain-lacks l ls f n k h
 
 next-refuses : {ls : List Line} {f : Fault} → NextLacks ls f → (next_statement ls ≡ Err f) × (is_syntax f ≡ false)
 next-refuses (NextLacks.statement {l = l} {ls = ls} {head = head} {fault = f} k first lacks) =
     let r = lack-refuses lacks in
-    (plain_read l ls head (Between (lines_behind l ls)) k (head-read l ls head first) ∙ placed_bad (line_spot l) (with_block (line_spot l) head (lines_behind l ls)) f r.0, r.1)
+    (plain_read l ls head (Between (lines_after l ls)) k (head-read l ls head first) ∙ placed_bad (line_spot l) (with_block (line_spot l) head (lines_after l ls)) f r.0, r.1)
 next-refuses (NextLacks.blank {l = l} {ls = ls} k e others) =
     let r = next-refuses others in
-    (by_kind_next l ls BlankLine k ∙ (ap (λ (t : Bool). cond t (nothing_more (lines_behind l ls)) (next_statement ls)) e ∙ r.0), r.1)
+    (by_kind_next l ls BlankLine k ∙ (ap (λ (t : Bool). cond t (nothing_more (lines_after l ls)) (next_statement ls)) e ∙ r.0), r.1)
 next-refuses (NextLacks.comment {l = l} {ls = ls} k e others) =
     let r = next-refuses others in
-    (by_kind_next l ls CommentLine k ∙ (ap (λ (t : Bool). cond t (nothing_more (lines_behind l (without_comments ls))) (next_statement ls)) e ∙ r.0), r.1)
+    (by_kind_next l ls CommentLine k ∙ (ap (λ (t : Bool). cond t (nothing_more (lines_after l (without_comments ls))) (next_statement ls)) e ∙ r.0), r.1)
 
 pub are_lacking : MissingLinesAreLacking
 are_lacking ls f = (λ h. next-lacks ls f h.1 h.0, λ l. next-refuses l)

@@ -7,7 +7,7 @@ use Rattle.std.proofs.lemmas.Slice.Eq.{bytes_eq-Decides}
 use Rattle.nj_text.specs.declared.sign.Sign.{Sign}
 use Rattle.nj_text.specs.declared.sign.Sign.TheVariants as sign
 use Rattle.nj_text.specs.Units.{TextUnit}
-use Rattle.nj_text.specs.Lines.{Line, lines_behind}
+use Rattle.nj_text.specs.Lines.{Line, lines_after}
 use Rattle.nj_text.specs.Words.{WordText, next_fault}
 use Rattle.nj_text.specs.Calls.{State, Between, Inside, is_empty, begins_word, is_sign, path_word_of}
 use Rattle.nj_manifest.specs.declared.fault.Wanted.{Wanted}
@@ -18,8 +18,8 @@ use Rattle.nj_manifest.specs.Statements.{OutputsText, InputsText, HeadText, Alon
 use Rattle.nj_manifest.specs.Grammar.{AreBlanks, IdentifierForm, KeywordForm, keywords, WordForm, WordsForm, SignForm, SectionForm, left_out, there, BuildForm, NamedForm, FileForm, HeadForm}
 use Rattle.nj_manifest.proofs.Framing.{bind-ok, after-is, value-is}
 use Rattle.nj_manifest.proofs.FormsGaps.{skip}
-use Rattle.nj_manifest.proofs.FormsTokens.{within, name-form, name-read, Stops, end_stops, colon_stops, pipe_stops, pipe2_stops, pipe_at_stops, behind_skips, behind-form, behind-read, end-form, end-read}
-use Rattle.nj_manifest.proofs.FormsWords.{fault_behind_blanks, word-form, word-read, words-form, words-read, section_skips, section-form, section-read}
+use Rattle.nj_manifest.proofs.FormsTokens.{within, name-form, name-read, Stops, end_stops, colon_stops, pipe_stops, pipe2_stops, pipe_at_stops, after_skips, after-form, after-read, end-form, end-read}
+use Rattle.nj_manifest.proofs.FormsWords.{fault_after_blanks, word-form, word-read, words-form, words-read, section_skips, section-form, section-read}
 use Rattle.nj_manifest.proofs.FormsValues.{equals_value-form, equals_value-read}
 
 -- a step that gives a value ends there
@@ -31,15 +31,15 @@ leads_to : (one s t : State) → one ≡ s → one ≡ t → s ≡ t
 leads_to one s t e f = sym e ∙ f
 
 -- the end of the line behind blanks that are passed already
-end_behind-form : (miss : Wanted) (l : Line) (ls : List Line) (us : List TextUnit) (s : State) → expect_sign sign.LineEnd miss (within l ls (skip us)) ≡ Ok s → AreBlanks us × (s ≡ Between (lines_behind l ls))
-end_behind-form miss l ls us s h = end-form miss l ls us s (sym (behind_skips sign.LineEnd miss l ls us) ∙ h)
+end_after-form : (miss : Wanted) (l : Line) (ls : List Line) (us : List TextUnit) (s : State) → expect_sign sign.LineEnd miss (within l ls (skip us)) ≡ Ok s → AreBlanks us × (s ≡ Between (lines_after l ls))
+end_after-form miss l ls us s h = end-form miss l ls us s (sym (after_skips sign.LineEnd miss l ls us) ∙ h)
 
-pub end_behind-read : (miss : Wanted) (l : Line) (ls : List Line) (us : List TextUnit) → AreBlanks us → expect_sign sign.LineEnd miss (within l ls (skip us)) ≡ Ok (Between (lines_behind l ls))
-end_behind-read miss l ls us h = behind_skips sign.LineEnd miss l ls us ∙ end-read miss l ls us h
+pub end_after-read : (miss : Wanted) (l : Line) (ls : List Line) (us : List TextUnit) → AreBlanks us → expect_sign sign.LineEnd miss (within l ls (skip us)) ≡ Ok (Between (lines_after l ls))
+end_after-read miss l ls us h = after_skips sign.LineEnd miss l ls us ∙ end-read miss l ls us h
 
 -- ---- a name alone
 
-name_alone-form : (want : Wanted) (l : Line) (ls : List Line) (us : List TextUnit) (name : NameText) (s : State) → name_alone want (within l ls us) ≡ Ok (name, s) → (rest : List TextUnit) × IdentifierForm us name rest × AreBlanks rest × (s ≡ Between (lines_behind l ls))
+name_alone-form : (want : Wanted) (l : Line) (ls : List Line) (us : List TextUnit) (name : NameText) (s : State) → name_alone want (within l ls us) ≡ Ok (name, s) → (rest : List TextUnit) × IdentifierForm us name rest × AreBlanks rest × (s ≡ Between (lines_after l ls))
 unfolding name_alone
 name_alone-form want l ls us name s h =
     let read = bind-ok (name_next want (within l ls us)) _ (name, s) h in
@@ -49,7 +49,7 @@ name_alone-form want l ls us name s h =
     let ended = end-form wanted.Newline l ls it.0 end.0 (ap (expect_sign sign.LineEnd wanted.Newline) (sym it.2) ∙ end.1) in
     (it.0, subst (λ (n : NameText). IdentifierForm us n it.0) same.0 it.1, ended.0, sym same.1 ∙ ended.1)
 
-name_alone-read : (want : Wanted) (l : Line) (ls : List Line) (us rest : List TextUnit) (name : NameText) → IdentifierForm us name rest → AreBlanks rest → name_alone want (within l ls us) ≡ Ok (name, Between (lines_behind l ls))
+name_alone-read : (want : Wanted) (l : Line) (ls : List Line) (us rest : List TextUnit) (name : NameText) → IdentifierForm us name rest → AreBlanks rest → name_alone want (within l ls us) ≡ Ok (name, Between (lines_after l ls))
 unfolding name_alone
 name_alone-read want l ls us rest name f e = rw (name-read want l ls us rest name f, end-read wanted.Newline l ls rest e) refl
 
@@ -60,7 +60,7 @@ unless_none-ok true want s others y h = absurd cc
 unless_none-ok false want s others y h = (refl, h)
 
 targets-form : (l : Line) (ls : List Line) (us : List TextUnit) (words : List WordText) (s : State) → targets_next (within l ls us) ≡ Ok (words, s)
-    → (rest : List TextUnit) × WordsForm us words rest × (is_empty words ≡ false) × AreBlanks rest × (s ≡ Between (lines_behind l ls))
+    → (rest : List TextUnit) × WordsForm us words rest × (is_empty words ≡ false) × AreBlanks rest × (s ≡ Between (lines_after l ls))
 unfolding targets_next
 targets-form l ls us words s h =
     let read = bind-ok (words_next (within l ls us)) _ (words, s) h in
@@ -68,20 +68,20 @@ targets-form l ls us words s h =
     let some = unless_none-ok (is_empty read.0.0) wanted.TargetName read.0.1 (expect_sign sign.LineEnd wanted.Newline read.0.1) end.0 end.1 in
     let it = words-form l ls read.0.0 us read.0.1 read.1 in
     let same = gives-it read.0.0 end.0 words s end.2 in
-    let ended = end_behind-form wanted.Newline l ls it.0 end.0 (ap (expect_sign sign.LineEnd wanted.Newline) (sym it.2) ∙ some.1) in
+    let ended = end_after-form wanted.Newline l ls it.0 end.0 (ap (expect_sign sign.LineEnd wanted.Newline) (sym it.2) ∙ some.1) in
     (it.0, subst (λ (ws : List WordText). WordsForm us ws it.0) same.0 it.1, ap is_empty (sym same.0) ∙ some.0, ended.0, sym same.1 ∙ ended.1)
 
-targets-read : (l : Line) (ls : List Line) (us rest : List TextUnit) (words : List WordText) → WordsForm us words rest → is_empty words ≡ false → AreBlanks rest → targets_next (within l ls us) ≡ Ok (words, Between (lines_behind l ls))
+targets-read : (l : Line) (ls : List Line) (us rest : List TextUnit) (words : List WordText) → WordsForm us words rest → is_empty words ≡ false → AreBlanks rest → targets_next (within l ls us) ≡ Ok (words, Between (lines_after l ls))
 unfolding targets_next
 targets-read l ls us rest words f some e =
     let stops = end_stops rest e in
-    rw (words-read l ls f stops.no_fault stops.no_word, some, end_behind-read wanted.Newline l ls rest e) refl
+    rw (words-read l ls f stops.no_fault stops.no_word, some, end_after-read wanted.Newline l ls rest e) refl
 
 -- the end of the line behind a file
 abbrev file_end : WordText × State → Step WordText
 file_end word = expect_sign sign.LineEnd wanted.Newline word.1 >>= λ end. Ok (word.0, end)
 
-file-form : (l : Line) (ls : List Line) (us : List TextUnit) (word : WordText) (s : State) → file_next (within l ls us) ≡ Ok (word, s) → (rest : List TextUnit) × WordForm us word rest × AreBlanks rest × (s ≡ Between (lines_behind l ls))
+file-form : (l : Line) (ls : List Line) (us : List TextUnit) (word : WordText) (s : State) → file_next (within l ls us) ≡ Ok (word, s) → (rest : List TextUnit) × WordForm us word rest × AreBlanks rest × (s ≡ Between (lines_after l ls))
 unfolding file_next
 file-form l ls us word s h =
     let found = bind-ok (called (path_word_of (within l ls us))) _ (word, s) h in
@@ -89,7 +89,7 @@ file-form l ls us word s h =
   where
     by_found : (found : Option WordText) (after : State) → called (path_word_of (within l ls us)) ≡ Ok (found, after)
         → (path_there found after >>= file_end) ≡ Ok (word, s)
-        → (rest : List TextUnit) × WordForm us word rest × AreBlanks rest × (s ≡ Between (lines_behind l ls))
+        → (rest : List TextUnit) × WordForm us word rest × AreBlanks rest × (s ≡ Between (lines_after l ls))
     by_found None after e g = absurd cc
     by_found (Some w) after e g =
         let end = bind-ok (expect_sign sign.LineEnd wanted.Newline after) (λ end. Ok (w, end)) (word, s) g in
@@ -98,10 +98,10 @@ file-form l ls us word s h =
         let ended = end-form wanted.Newline l ls it.0 end.0 (ap (expect_sign sign.LineEnd wanted.Newline) (sym it.2) ∙ end.1) in
         (it.0, subst (λ (v : WordText). WordForm us v it.0) same.0 it.1, ended.0, sym same.1 ∙ ended.1)
 
-file-read : (l : Line) (ls : List Line) (us rest : List TextUnit) (word : WordText) → WordForm us word rest → AreBlanks rest → file_next (within l ls us) ≡ Ok (word, Between (lines_behind l ls))
+file-read : (l : Line) (ls : List Line) (us rest : List TextUnit) (word : WordText) → WordForm us word rest → AreBlanks rest → file_next (within l ls us) ≡ Ok (word, Between (lines_after l ls))
 unfolding file_next
 file-read l ls us rest word f e =
-    rw (word-read l ls us rest word f (fault_behind_blanks rest (end_stops rest e).no_fault), end-read wanted.Newline l ls rest e) refl
+    rw (word-read l ls us rest word f (fault_after_blanks rest (end_stops rest e).no_fault), end-read wanted.Newline l ls rest e) refl
 
 -- ---- the parts of a build statement
 
@@ -131,13 +131,13 @@ pub colon_is_no_end : sign.Colon ≡ sign.LineEnd → ⊥
 colon_is_no_end e = absurd cc
 
 -- a section behind blanks that are passed already
-pub section_behind-form : (want : Sign) (l : Line) (ls : List Line) (us : List TextUnit) (s s' : State) (words : List WordText) → (want ≡ sign.LineEnd → ⊥) → s ≡ within l ls (skip us) → section_next want s ≡ Ok (words, s')
+pub section_after-form : (want : Sign) (l : Line) (ls : List Line) (us : List TextUnit) (s s' : State) (words : List WordText) → (want ≡ sign.LineEnd → ⊥) → s ≡ within l ls (skip us) → section_next want s ≡ Ok (words, s')
     → (rest : List TextUnit) × SectionForm want us words rest × (s' ≡ within l ls (skip rest))
-section_behind-form want l ls us s s' words n e h = section-form want l ls us words s' n (sym (section_skips want l ls us) ∙ sym (ap (section_next want) e) ∙ h)
+section_after-form want l ls us s s' words n e h = section-form want l ls us words s' n (sym (section_skips want l ls us) ∙ sym (ap (section_next want) e) ∙ h)
 
-pub section_behind-read : (want : Sign) (l : Line) (ls : List Line) {us rest : List TextUnit} {words : List WordText} → (want ≡ sign.LineEnd → ⊥) → SectionForm want us words rest
+pub section_after-read : (want : Sign) (l : Line) (ls : List Line) {us rest : List TextUnit} {words : List WordText} → (want ≡ sign.LineEnd → ⊥) → SectionForm want us words rest
     → next_fault (skip rest) ≡ None → begins_word (skip rest) ≡ false → is_sign want (skip rest) ≡ false → section_next want (within l ls (skip us)) ≡ Ok (words, within l ls (skip rest))
-section_behind-read want l ls {us = us} n f a b c = section_skips want l ls us ∙ section-read want l ls n f a b c
+section_after-read want l ls {us = us} n f a b c = section_skips want l ls us ∙ section-read want l ls n f a b c
 
 -- `OUTPUTS | IMPLICIT-OUTPUTS`
 record OutputsForm (us : List TextUnit) (outputs : OutputsText) (rest : List TextUnit) : Type 0 where
@@ -154,14 +154,14 @@ outputs-form l ls us outputs s h =
     let some = unless_none-ok (is_empty explicit.0.0 && is_empty implicit.0.0) wanted.Path implicit.0.1 _ (outputs, s) implicit.2 in
     let same = gives-it (record { explicit = explicit.0.0; implicit = implicit.0.0 }) implicit.0.1 outputs s some.1 in
     let one = words-form l ls explicit.0.0 us explicit.0.1 explicit.1 in
-    let two = section_behind-form sign.Pipe l ls one.0 explicit.0.1 implicit.0.1 implicit.0.0 pipe_is_no_end one.2 implicit.1 in
+    let two = section_after-form sign.Pipe l ls one.0 explicit.0.1 implicit.0.1 implicit.0.0 pipe_is_no_end one.2 implicit.1 in
     (two.0, subst (λ (o : OutputsText). OutputsForm us o two.0) same.0 (record { after_explicit = one.0; explicit = one.1; implicit = two.1; some = some.0 }), leads_to implicit.0.1 s (within l ls (skip two.0)) same.1 two.2)
 
 outputs-read : (l : Line) (ls : List Line) (us rest : List TextUnit) (outputs : OutputsText) → OutputsForm us outputs rest → Stops rest false false false → outputs_next (within l ls us) ≡ Ok (outputs, within l ls (skip rest))
 unfolding outputs_next
 outputs-read l ls us rest outputs f stops =
     let at = at_implicit f.implicit stops in
-    rw (words-read l ls f.explicit at.3.no_fault at.3.no_word, section_behind-read sign.Pipe l ls pipe_is_no_end f.implicit stops.no_fault stops.no_word stops.is_pipe, f.some) refl
+    rw (words-read l ls f.explicit at.3.no_fault at.3.no_word, section_after-read sign.Pipe l ls pipe_is_no_end f.implicit stops.no_fault stops.no_word stops.is_pipe, f.some) refl
 
 -- `INPUTS | IMPLICIT || ORDER-ONLY |@ VALIDATIONS`
 record InputsForm (us : List TextUnit) (inputs : InputsText) (rest : List TextUnit) : Type 0 where
@@ -182,9 +182,9 @@ inputs-form l ls us inputs s h =
     let validations = bind-ok (section_next sign.PipeAt order_only.0.1) _ (inputs, s) order_only.2 in
     let same = gives-it (record { explicit = explicit.0.0; implicit = implicit.0.0; order_only = order_only.0.0; validations = validations.0.0 }) validations.0.1 inputs s validations.2 in
     let one = words-form l ls explicit.0.0 us explicit.0.1 explicit.1 in
-    let two = section_behind-form sign.Pipe l ls one.0 explicit.0.1 implicit.0.1 implicit.0.0 pipe_is_no_end one.2 implicit.1 in
-    let three = section_behind-form sign.Pipe2 l ls two.0 implicit.0.1 order_only.0.1 order_only.0.0 pipe2_is_no_end two.2 order_only.1 in
-    let four = section_behind-form sign.PipeAt l ls three.0 order_only.0.1 validations.0.1 validations.0.0 pipe_at_is_no_end three.2 validations.1 in
+    let two = section_after-form sign.Pipe l ls one.0 explicit.0.1 implicit.0.1 implicit.0.0 pipe_is_no_end one.2 implicit.1 in
+    let three = section_after-form sign.Pipe2 l ls two.0 implicit.0.1 order_only.0.1 order_only.0.0 pipe2_is_no_end two.2 order_only.1 in
+    let four = section_after-form sign.PipeAt l ls three.0 order_only.0.1 validations.0.1 validations.0.0 pipe_at_is_no_end three.2 validations.1 in
     let form : InputsForm us (record { explicit = explicit.0.0; implicit = implicit.0.0; order_only = order_only.0.0; validations = validations.0.0 }) four.0 =
     record { after_explicit = one.0; after_implicit = two.0; after_order_only = three.0; explicit = one.1; implicit = two.1; order_only = three.1; validations = four.1 } in
     (four.0, subst (λ (i : InputsText). InputsForm us i four.0) same.0 form, leads_to validations.0.1 s (within l ls (skip four.0)) same.1 four.2)
@@ -197,9 +197,9 @@ inputs-read l ls us rest inputs f stops =
     let one = at_implicit f.implicit two.2 in
     rw (
       words-read l ls f.explicit one.3.no_fault one.3.no_word,
-      section_behind-read sign.Pipe l ls pipe_is_no_end f.implicit two.2.no_fault two.2.no_word two.2.is_pipe,
-      section_behind-read sign.Pipe2 l ls pipe2_is_no_end f.order_only three.1.no_fault three.1.no_word three.1.is_pipe2,
-      section_behind-read sign.PipeAt l ls pipe_at_is_no_end f.validations stops.no_fault stops.no_word stops.is_pipe_at,
+      section_after-read sign.Pipe l ls pipe_is_no_end f.implicit two.2.no_fault two.2.no_word two.2.is_pipe,
+      section_after-read sign.Pipe2 l ls pipe2_is_no_end f.order_only three.1.no_fault three.1.no_word three.1.is_pipe2,
+      section_after-read sign.PipeAt l ls pipe_at_is_no_end f.validations stops.no_fault stops.no_word stops.is_pipe_at,
     ) refl
 
 -- ---- `build`
@@ -218,11 +218,11 @@ record PartsForm (us : List TextUnit) (outputs : OutputsText) (rule : NameText) 
 
 -- what is read of a build statement
 abbrev PartsRead : Line → List Line → List TextUnit → HeadText → State → Type 0
-PartsRead l ls us head s = (outputs : OutputsText) × (rule : NameText) × (inputs : InputsText) × PartsForm us outputs rule inputs × (head ≡ BuildHead outputs rule inputs) × (s ≡ Between (lines_behind l ls))
+PartsRead l ls us head s = (outputs : OutputsText) × (rule : NameText) × (inputs : InputsText) × PartsForm us outputs rule inputs × (head ≡ BuildHead outputs rule inputs) × (s ≡ Between (lines_after l ls))
 
 -- each step of it, where the lexer stands as the step before left it
-pub colon_behind-form : (l : Line) (ls : List Line) (us : List TextUnit) (s s' : State) → s ≡ within l ls (skip us) → expect_sign sign.Colon wanted.Colon s ≡ Ok s' → (rest : List TextUnit) × SignForm sign.Colon us rest × (s' ≡ within l ls rest)
-colon_behind-form l ls us s s' e h = behind-form sign.Colon wanted.Colon l ls us s' colon_is_no_end (sym (behind_skips sign.Colon wanted.Colon l ls us) ∙ sym (ap (expect_sign sign.Colon wanted.Colon) e) ∙ h)
+pub colon_after-form : (l : Line) (ls : List Line) (us : List TextUnit) (s s' : State) → s ≡ within l ls (skip us) → expect_sign sign.Colon wanted.Colon s ≡ Ok s' → (rest : List TextUnit) × SignForm sign.Colon us rest × (s' ≡ within l ls rest)
+colon_after-form l ls us s s' e h = after-form sign.Colon wanted.Colon l ls us s' colon_is_no_end (sym (after_skips sign.Colon wanted.Colon l ls us) ∙ sym (ap (expect_sign sign.Colon wanted.Colon) e) ∙ h)
 
 name_at-form : (want : Wanted) (l : Line) (ls : List Line) (us : List TextUnit) (s : State) (y : NameText × State) → s ≡ within l ls us → name_next want s ≡ Ok y → (rest : List TextUnit) × IdentifierForm us y.0 rest × (y.1 ≡ within l ls rest)
 name_at-form want l ls us s y e h = name-form want l ls us y (ap (name_next want) (sym e) ∙ h)
@@ -230,8 +230,8 @@ name_at-form want l ls us s y e h = name-form want l ls us y (ap (name_next want
 inputs_at-form : (l : Line) (ls : List Line) (us : List TextUnit) (s s' : State) (inputs : InputsText) → s ≡ within l ls us → inputs_next s ≡ Ok (inputs, s') → (rest : List TextUnit) × InputsForm us inputs rest × (s' ≡ within l ls (skip rest))
 inputs_at-form l ls us s s' inputs e h = inputs-form l ls us inputs s' (ap inputs_next (sym e) ∙ h)
 
-pub end_behind_at-form : (l : Line) (ls : List Line) (us : List TextUnit) (s s' : State) → s ≡ within l ls (skip us) → expect_sign sign.LineEnd wanted.Newline s ≡ Ok s' → AreBlanks us × (s' ≡ Between (lines_behind l ls))
-end_behind_at-form l ls us s s' e h = end_behind-form wanted.Newline l ls us s' (ap (expect_sign sign.LineEnd wanted.Newline) (sym e) ∙ h)
+pub end_after_at-form : (l : Line) (ls : List Line) (us : List TextUnit) (s s' : State) → s ≡ within l ls (skip us) → expect_sign sign.LineEnd wanted.Newline s ≡ Ok s' → AreBlanks us × (s' ≡ Between (lines_after l ls))
+end_after_at-form l ls us s s' e h = end_after-form wanted.Newline l ls us s' (ap (expect_sign sign.LineEnd wanted.Newline) (sym e) ∙ h)
 
 build-form : (l : Line) (ls : List Line) (us : List TextUnit) (head : HeadText) (s : State) → build_next (within l ls us) ≡ Ok (head, s) → PartsRead l ls us head s
 unfolding build_next
@@ -242,29 +242,29 @@ build-form l ls us head s h =
     let inputs = bind-ok (inputs_next rule.0.1) _ (head, s) rule.2 in
     let end = bind-ok (expect_sign sign.LineEnd wanted.Newline inputs.0.1) (λ end. Ok (BuildHead outputs.0.0 rule.0.0 inputs.0.0, end)) (head, s) inputs.2 in
     let one = outputs-form l ls us outputs.0.0 outputs.0.1 outputs.1 in
-    let two = colon_behind-form l ls one.0 outputs.0.1 colon.0 one.2 colon.1 in
+    let two = colon_after-form l ls one.0 outputs.0.1 colon.0 one.2 colon.1 in
     let three = name_at-form wanted.CommandName l ls two.0 colon.0 rule.0 two.2 rule.1 in
     let four = inputs_at-form l ls three.0 rule.0.1 inputs.0.1 inputs.0.0 three.2 inputs.1 in
-    let five = end_behind_at-form l ls four.0 inputs.0.1 end.0 four.2 end.1 in
+    let five = end_after_at-form l ls four.0 inputs.0.1 end.0 four.2 end.1 in
     let same = gives-it (BuildHead outputs.0.0 rule.0.0 inputs.0.0) end.0 head s end.2 in (
       outputs.0.0,
       rule.0.0,
       inputs.0.0,
       record { after_outputs = one.0; after_colon = two.0; after_rule = three.0; after_inputs = four.0; of_outputs = one.1; colon = two.1; of_rule = three.1; of_inputs = four.1; end = five.0 },
       sym same.0,
-      leads_to end.0 s (Between (lines_behind l ls)) same.1 five.1,
+      leads_to end.0 s (Between (lines_after l ls)) same.1 five.1,
     )
 
-build-read : (l : Line) (ls : List Line) (us : List TextUnit) (outputs : OutputsText) (rule : NameText) (inputs : InputsText) → PartsForm us outputs rule inputs → build_next (within l ls us) ≡ Ok (BuildHead outputs rule inputs, Between (lines_behind l ls))
+build-read : (l : Line) (ls : List Line) (us : List TextUnit) (outputs : OutputsText) (rule : NameText) (inputs : InputsText) → PartsForm us outputs rule inputs → build_next (within l ls us) ≡ Ok (BuildHead outputs rule inputs, Between (lines_after l ls))
 unfolding build_next
 build-read l ls us outputs rule inputs f =
     rw (
       outputs-read l ls us f.after_outputs outputs f.of_outputs (colon_stops f.after_outputs f.after_colon f.colon),
-      behind_skips sign.Colon wanted.Colon l ls f.after_outputs,
-      behind-read sign.Colon wanted.Colon l ls f.after_outputs f.after_colon colon_is_no_end f.colon,
+      after_skips sign.Colon wanted.Colon l ls f.after_outputs,
+      after-read sign.Colon wanted.Colon l ls f.after_outputs f.after_colon colon_is_no_end f.colon,
       name-read wanted.CommandName l ls f.after_colon f.after_rule rule f.of_rule,
       inputs-read l ls f.after_rule f.after_inputs inputs f.of_inputs (end_stops f.after_inputs f.end),
-      end_behind-read wanted.Newline l ls f.after_inputs f.end,
+      end_after-read wanted.Newline l ls f.after_inputs f.end,
     ) refl
 
 -- ---- words of the language
@@ -336,7 +336,7 @@ whole_build us rest outputs name inputs k f =
     }
 
 -- A first line that is there is read.
-pub head-read : (l : Line) (ls : List Line) (head : HeadText) → HeadForm l head → head_next (Inside l ls) ≡ Ok (head, Between (lines_behind l ls))
+pub head-read : (l : Line) (ls : List Line) (head : HeadText) → HeadForm l head → head_next (Inside l ls) ≡ Ok (head, Between (lines_after l ls))
 unfolding head_next head_after
 head-read l ls head (HeadForm.binding {name = name} {value = value} f n) =
     rw (name-read wanted.Statement l ls l.units f.after_name name f.of_name, no_keyword name.name (within l ls f.after_name) n, equals_value-read l ls f.after_name f.after_sign value f.equals f.of_value) refl
@@ -355,7 +355,7 @@ head-read l ls head (HeadForm.subninja {file = file} f) =
 
 -- a first line that is read to the end of the line
 abbrev HeadIs : Line → List Line → HeadText → State → Type 0
-HeadIs l ls head s = HeadForm l head × (s ≡ Between (lines_behind l ls))
+HeadIs l ls head s = HeadForm l head × (s ≡ Between (lines_after l ls))
 
 as_head-parts : {A : Type 0} (make : A → HeadText) (step : Step A) (head : HeadText) (s : State) → as_head make step ≡ Ok (head, s) → (x : A) × (step ≡ Ok (x, s)) × (make x ≡ head)
 as_head-parts make step head s h =
@@ -363,7 +363,7 @@ as_head-parts make step head s h =
     let same = gives-it (make b.0.0) b.0.1 head s b.2 in
     (b.0.0, b.1 ∙ ap (λ (t : State). Ok (b.0.0, t)) same.1, same.0)
 
-head-is : (l : Line) (ls : List Line) (one head : HeadText) (s : State) → one ≡ head → HeadForm l one → s ≡ Between (lines_behind l ls) → HeadIs l ls head s
+head-is : (l : Line) (ls : List Line) (one head : HeadText) (s : State) → one ≡ head → HeadForm l one → s ≡ Between (lines_after l ls) → HeadIs l ls head s
 head-is l ls one head s e f g = (subst (HeadForm l) e f, g)
 
 named_is : (word : List ℕ) (l : Line) (ls : List Line) (want : Wanted) (make : NameText → HeadText) (us : List TextUnit) (head : HeadText) (s : State) → KeywordForm word l.units us → ((name : NameText) → NamedForm word l.units name → HeadForm l (make name))
@@ -398,9 +398,9 @@ binding_is l ls us name head s f n h =
     let it = equals_value-form l ls us x.0 s x.1 in
     head-is l ls (Alone (BindingText name.name x.0)) head s x.2 (HeadForm.binding {name = name} (record { after_name = us; after_sign = it.0; of_name = f; equals = it.1; of_value = it.2 }) n) it.3
 
-behind_word : (l : Line) (ls : List Line) (us : List TextUnit) (name : NameText) (head : HeadText) (s : State) → IdentifierForm l.units name us → head_after name.name (within l ls us) ≡ Ok (head, s) → HeadIs l ls head s
+after_the_word : (l : Line) (ls : List Line) (us : List TextUnit) (name : NameText) (head : HeadText) (s : State) → IdentifierForm l.units name us → head_after name.name (within l ls us) ≡ Ok (head, s) → HeadIs l ls head s
 unfolding head_after
-behind_word l ls us name head s f h =
+after_the_word l ls us name head s f h =
     by_word (bytes_eq name.name (codes "build")) (bytes_eq name.name (codes "rule")) (bytes_eq name.name (codes "pool")) (bytes_eq name.name (codes "default")) (bytes_eq name.name (codes "include")) (bytes_eq name.name (codes "subninja"))
     refl refl refl refl refl refl h
   where
@@ -417,9 +417,9 @@ behind_word l ls us name head s f h =
     by_word false false false false false false eb er ep ed ei eu g = binding_is l ls us name head s f (or_from _ _ eb (or_from _ _ er (or_from _ _ ep (or_from _ _ ed (or_from _ _ ei (or_from _ _ eu refl)))))) g
 
 -- A first line that is read is one, read to its end.
-pub head-form : (l : Line) (ls : List Line) (head : HeadText) (s : State) → head_next (Inside l ls) ≡ Ok (head, s) → HeadForm l head × (s ≡ Between (lines_behind l ls))
+pub head-form : (l : Line) (ls : List Line) (head : HeadText) (s : State) → head_next (Inside l ls) ≡ Ok (head, s) → HeadForm l head × (s ≡ Between (lines_after l ls))
 unfolding head_next
 head-form l ls head s h =
     let word = bind-ok (name_next wanted.Statement (Inside l ls)) _ (head, s) h in
     let it = name-form wanted.Statement l ls l.units word.0 word.1 in
-    behind_word l ls it.0 word.0.0 head s it.1 (ap (head_after word.0.0.name) (sym it.2) ∙ word.2)
+    after_the_word l ls it.0 word.0.0 head s it.1 (ap (head_after word.0.0.name) (sym it.2) ∙ word.2)

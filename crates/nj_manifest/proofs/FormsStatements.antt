@@ -1,7 +1,7 @@
 -- Statements: what is read next of lines, and the forms of the grammar.
 use Rattle.std.proofs.Common.{◌≡◌, Bool, true, false, cond, Option, Some, None, Ok, List, [], ◌∷◌, refl, sym, ap, subst, ◌∙◌}
 use Rattle.nj_text.specs.declared.spot.Spot.{Spot}
-use Rattle.nj_text.specs.Lines.{Line, line_spot, lines_behind, Kind, CommentLine, TabLine, BlankLine, IndentedLine, PlainLine, kind_of}
+use Rattle.nj_text.specs.Lines.{Line, line_spot, lines_after, Kind, CommentLine, TabLine, BlankLine, IndentedLine, PlainLine, kind_of}
 use Rattle.nj_text.specs.Calls.{State, Between, Inside, without_comments}
 use Rattle.nj_manifest.specs.declared.block.Keys.TheVariants as keys
 use Rattle.nj_manifest.specs.Statements.{StatementText, RuleText, PoolText, BuildText, PlacedText, HeadText, Alone, RuleHead, PoolHead, BuildHead, Parse, lines_from, block, whole_rule, whole_pool, head_next, with_block, statement_at, nothing_more, next_by, next_statement}
@@ -61,9 +61,9 @@ statement-form l ls found rest k h =
     let first = head-form l ls head.0.0 head.0.1 head.1 in
     let read = ap (λ (s : State). with_block (line_spot l) head.0.0 (lines_from s)) (sym first.1) ∙ item.1 in
     next-is (l ∷ ls) item.0.1 rest (Some (record { spot = line_spot l; item = item.0.0 })) found item.2
-    (NextForm.statement k first.0 (with_block-form (line_spot l) head.0.0 (lines_behind l ls) item.0.0 item.0.1 read))
+    (NextForm.statement k first.0 (with_block-form (line_spot l) head.0.0 (lines_after l ls) item.0.0 item.0.1 read))
 
-statement-read : (l : Line) (ls rest : List Line) (head : HeadText) (item : StatementText) → head_next (Inside l ls) ≡ Ok (head, Between (lines_behind l ls)) → with_block (line_spot l) head (lines_behind l ls) ≡ Ok (item, rest)
+statement-read : (l : Line) (ls rest : List Line) (head : HeadText) (item : StatementText) → head_next (Inside l ls) ≡ Ok (head, Between (lines_after l ls)) → with_block (line_spot l) head (lines_after l ls) ≡ Ok (item, rest)
     → statement_at l ls ≡ Ok (Some (record { spot = line_spot l; item = item }), rest)
 unfolding statement_at
 statement-read l ls rest head item h w = rw (h, w) refl
@@ -74,12 +74,12 @@ unfolding next_statement
 next-form [] found rest h = next-is [] [] rest None found h NextForm.nothing
 next-form (l ∷ ls) found rest h = by_kind (kind_of l) refl h (next-form ls found rest)
   where
-    by_last_comment : (t : Bool) → l.is_last ≡ t → kind_of l ≡ CommentLine → (next_statement ls ≡ Ok (found, rest) → NextForm ls found rest) → cond t (nothing_more (lines_behind l (without_comments ls))) (next_statement ls) ≡ Ok (found, rest) → NextForm (l ∷ ls) found rest
-    by_last_comment true e k others g = next-is (l ∷ ls) (lines_behind l (without_comments ls)) rest None found g (NextForm.last_comment k e)
+    by_last_comment : (t : Bool) → l.is_last ≡ t → kind_of l ≡ CommentLine → (next_statement ls ≡ Ok (found, rest) → NextForm ls found rest) → cond t (nothing_more (lines_after l (without_comments ls))) (next_statement ls) ≡ Ok (found, rest) → NextForm (l ∷ ls) found rest
+    by_last_comment true e k others g = next-is (l ∷ ls) (lines_after l (without_comments ls)) rest None found g (NextForm.last_comment k e)
     by_last_comment false e k others g = NextForm.comment k e (others g)
 
-    by_last_blank : (t : Bool) → l.is_last ≡ t → kind_of l ≡ BlankLine → (next_statement ls ≡ Ok (found, rest) → NextForm ls found rest) → cond t (nothing_more (lines_behind l ls)) (next_statement ls) ≡ Ok (found, rest) → NextForm (l ∷ ls) found rest
-    by_last_blank true e k others g = next-is (l ∷ ls) (lines_behind l ls) rest None found g (NextForm.last_blank k e)
+    by_last_blank : (t : Bool) → l.is_last ≡ t → kind_of l ≡ BlankLine → (next_statement ls ≡ Ok (found, rest) → NextForm ls found rest) → cond t (nothing_more (lines_after l ls)) (next_statement ls) ≡ Ok (found, rest) → NextForm (l ∷ ls) found rest
+    by_last_blank true e k others g = next-is (l ∷ ls) (lines_after l ls) rest None found g (NextForm.last_blank k e)
     by_last_blank false e k others g = NextForm.blank k e (others g)
 
     by_kind : (k : Kind) → kind_of l ≡ k → next_by k l ls (next_statement ls) ≡ Ok (found, rest) → (next_statement ls ≡ Ok (found, rest) → NextForm ls found rest) → NextForm (l ∷ ls) found rest

@@ -8,15 +8,15 @@ use Rattle.nj_text.specs.declared.sign.Sign.TheVariants as sign
 use Rattle.nj_text.specs.declared.spot.Spot.{Spot}
 use Rattle.nj_text.specs.Bytes.{drop_while, is_space, is_identifier_byte}
 use Rattle.nj_text.specs.Units.{Meaning, Ordinary, Escape, Reference, Join, OpeningJoin, Comment, LeadingTab, LineEnd, TextEnd, BadByte, BadEscape, TextUnit, is_ordinary_in}
-use Rattle.nj_text.specs.Lines.{Line, with_units, lines_behind, spot_of_first}
+use Rattle.nj_text.specs.Lines.{Line, with_units, lines_after, spot_of_first}
 use Rattle.nj_text.specs.Words.{is_blank, is_blank_meaning, in_identifier, begins_with_byte, fault_of, fault_of_meaning, next_fault}
 use Rattle.nj_text.specs.Calls as calls
-use Rattle.nj_text.specs.Calls.{State, Between, Inside, Reply, bytes_of, some_bytes, is_empty, begins_word, is_sign, behind_sign, sign_of}
+use Rattle.nj_text.specs.Calls.{State, Between, Inside, Reply, bytes_of, some_bytes, is_empty, begins_word, is_sign, state_after_sign, sign_of}
 use Rattle.nj_manifest.specs.declared.fault.Wanted.{Wanted}
 use Rattle.nj_manifest.specs.LineSteps.{Step, ◌>>=◌, called, NameText, named, name_next, if_there, expect_sign}
 use Rattle.nj_manifest.specs.Grammar.{begins, AreBlanks, IdentifierForm, SignForm}
 use Rattle.nj_manifest.proofs.Framing.{bind-ok, called-fault, after-is, value-is}
-use Rattle.nj_manifest.proofs.FormsGaps.{both_parts, front_passes, behind_stops, run_passed, run_taken, skip, skip_again, skip_gap, gap_of, gap_passes, gap_cut, blanks_end, end_of_blanks}
+use Rattle.nj_manifest.proofs.FormsGaps.{both_parts, front_passes, after_stops, run_passed, run_taken, skip, skip_again, skip_gap, gap_of, gap_passes, gap_cut, blanks_end, end_of_blanks}
 
 -- the lexer within a line, before these units
 abbrev pub within : Line → List Line → List TextUnit → State
@@ -133,7 +133,7 @@ name-form want l ls us y h =
     let run = take_while in_identifier (skip us) in
     let rest = drop_while in_identifier (skip us) in
     let read = name_of-read want (next_fault (skip us)) (spot_of_first (skip us) l.end) run (within l ls rest) y (sym (name_is_here want l ls us) ∙ h) in
-    (rest, form_of_run us run rest l.end y.0 (both_parts in_identifier (skip us)) (front_passes in_identifier (skip us)) (behind_stops in_identifier (skip us)) read.0 read.1, sym read.2)
+    (rest, form_of_run us run rest l.end y.0 (both_parts in_identifier (skip us)) (front_passes in_identifier (skip us)) (after_stops in_identifier (skip us)) read.0 read.1, sym read.2)
 
 same_name : (name : NameText) (spot : Spot) (bs : List ℕ) → name.spot ≡ spot → name.name ≡ bs → record { spot = spot; name = bs } ≡ name
 same_name name spot bs s b = rw (← s, ← b) refl
@@ -173,12 +173,12 @@ unfolding sign_at_units
 sign_skips want l ls us = ap (sign_at_units want l ls) (skip_again us)
 
 -- the lexer behind a sign that stands next
-abbrev behind_it : Sign → Line → List Line → List TextUnit → State
-behind_it want l ls us = behind_sign want (with_units us l) ls
+abbrev after_it : Sign → Line → List Line → List TextUnit → State
+after_it want l ls us = state_after_sign want (with_units us l) ls
 
 -- the sign stands next, and the lexer behind it
 abbrev IsThere : Sign → Line → List Line → List TextUnit → Bool × State → Type 0
-IsThere want l ls us y = (is_sign want us ≡ true) × (y.0 ≡ true) × (y.1 ≡ behind_it want l ls us)
+IsThere want l ls us y = (is_sign want us ≡ true) × (y.0 ≡ true) × (y.1 ≡ after_it want l ls us)
 
 abbrev IsNotThere : Sign → Line → List Line → List TextUnit → Bool × State → Type 0
 IsNotThere want l ls us y = (is_sign want us ≡ false) × (y.0 ≡ false) × (y.1 ≡ within l ls us)
@@ -186,8 +186,8 @@ IsNotThere want l ls us y = (is_sign want us ≡ false) × (y.0 ≡ false) × (y
 sign-cases : (want : Sign) (l : Line) (ls : List Line) (us : List TextUnit) (y : Bool × State) → called (sign_of want (within l ls us)) ≡ Ok y → IsThere want l ls (skip us) y ⊎ IsNotThere want l ls (skip us) y
 sign-cases want l ls us y h = by_test (is_sign want (skip us)) refl (called-fault (next_fault (skip us)) _ y h)
   where
-    by_test : (t : Bool) → is_sign want (skip us) ≡ t → called (cond t (calls.reply true (behind_it want l ls (skip us))) (calls.reply false (within l ls (skip us)))) ≡ Ok y → IsThere want l ls (skip us) y ⊎ IsNotThere want l ls (skip us) y
-    by_test true e g = inl (e, sym (value-is true (behind_it want l ls (skip us)) y g), sym (after-is true (behind_it want l ls (skip us)) y g))
+    by_test : (t : Bool) → is_sign want (skip us) ≡ t → called (cond t (calls.reply true (after_it want l ls (skip us))) (calls.reply false (within l ls (skip us)))) ≡ Ok y → IsThere want l ls (skip us) y ⊎ IsNotThere want l ls (skip us) y
+    by_test true e g = inl (e, sym (value-is true (after_it want l ls (skip us)) y g), sym (after-is true (after_it want l ls (skip us)) y g))
     by_test false e g = inr (e, sym (value-is false (within l ls (skip us)) y g), sym (after-is false (within l ls (skip us)) y g))
 
 -- a sign of one byte, and one of two
@@ -249,7 +249,7 @@ cut_here : (us run rest : List TextUnit) → skip us ≡ run ++ rest → us ≡ 
 cut_here us run rest e = gap_cut us ∙ ap (λ (vs : List TextUnit). gap_of us ++ vs) e ∙ sym (append_assoc (gap_of us) run rest)
 
 -- a sign that stands behind the blanks, and the lexer behind it
-pub form_of_sign : (want : Sign) (l : Line) (ls : List Line) (us vs : List TextUnit) → (want ≡ sign.LineEnd → ⊥) → skip us ≡ vs → is_sign want vs ≡ true → (rest : List TextUnit) × SignForm want us rest × (behind_it want l ls vs ≡ within l ls rest)
+pub form_of_sign : (want : Sign) (l : Line) (ls : List Line) (us vs : List TextUnit) → (want ≡ sign.LineEnd → ⊥) → skip us ≡ vs → is_sign want vs ≡ true → (rest : List TextUnit) × SignForm want us rest × (after_it want l ls vs ≡ within l ls rest)
 form_of_sign sign.LineEnd l ls us vs n e h = absurd (n refl)
 form_of_sign sign.Colon l ls us [] n e h = absurd cc
 form_of_sign sign.Colon l ls us (u ∷ vs) n e h =
@@ -290,7 +290,7 @@ sign-left_out want l ls us s h = by_case (sign-cases want l ls us (false, s) h)
     by_case (inr not_there) = not_there.2
 
 sign_at-gives : (want : Sign) (l : Line) (ls : List Line) (us : List TextUnit) (f : Option UnitFault) (t : Bool) → f ≡ None → is_sign want us ≡ t
-    → called (calls.unless_fault f (cond (is_sign want us) (calls.reply true (behind_it want l ls us)) (calls.reply false (within l ls us)))) ≡ called (cond t (calls.reply true (behind_it want l ls us)) (calls.reply false (within l ls us)))
+    → called (calls.unless_fault f (cond (is_sign want us) (calls.reply true (after_it want l ls us)) (calls.reply false (within l ls us)))) ≡ called (cond t (calls.reply true (after_it want l ls us)) (calls.reply false (within l ls us)))
 sign_at-gives want l ls us f t e h = rw (e, h) refl
 
 pub sign-none : (want : Sign) (l : Line) (ls : List Line) (us : List TextUnit) → next_fault (skip us) ≡ None → is_sign want (skip us) ≡ false → called (sign_of want (within l ls us)) ≡ Ok (false, within l ls (skip us))
@@ -300,72 +300,72 @@ sign-none want l ls us n h = sign_at-gives want l ls (skip us) (next_fault (skip
 pub record IsBetweenStatements (want : Sign) (l : Line) (ls : List Line) (us rest : List TextUnit) : Type 0 where
   pub no_fault : next_fault (skip us) ≡ None
   pub is_there : is_sign want (skip us) ≡ true
-  pub behind_is : behind_it want l ls (skip us) ≡ within l ls rest
+  pub after_is : after_it want l ls (skip us) ≡ within l ls rest
 
 pub sign_stands : (want : Sign) (l : Line) (ls : List Line) (us rest : List TextUnit) → (want ≡ sign.LineEnd → ⊥) → SignForm want us rest → IsBetweenStatements want l ls us rest
 sign_stands sign.LineEnd l ls us rest n f = absurd (n refl)
 sign_stands sign.Colon l ls us rest n f =
     let it = one_byte 58 us f.gap f.run rest refl f.cut f.blanks f.of_sign in
-    record { no_fault = rw (it.1, it.2) refl; is_there = rw (it.1, it.2) refl; behind_is = rw it.1 refl }
+    record { no_fault = rw (it.1, it.2) refl; is_there = rw (it.1, it.2) refl; after_is = rw it.1 refl }
 sign_stands sign.Equals l ls us rest n f =
     let it = one_byte 61 us f.gap f.run rest refl f.cut f.blanks f.of_sign in
-    record { no_fault = rw (it.1, it.2) refl; is_there = rw (it.1, it.2) refl; behind_is = rw it.1 refl }
+    record { no_fault = rw (it.1, it.2) refl; is_there = rw (it.1, it.2) refl; after_is = rw it.1 refl }
 sign_stands sign.Pipe l ls us rest n f =
     let it = one_byte 124 us f.gap f.run rest refl f.cut f.blanks f.of_sign in
-    record { no_fault = rw (it.1, it.2) refl; is_there = (pipe_stops us rest f).is_pipe; behind_is = rw it.1 refl }
+    record { no_fault = rw (it.1, it.2) refl; is_there = (pipe_stops us rest f).is_pipe; after_is = rw it.1 refl }
 sign_stands sign.Pipe2 l ls us rest n f =
     let it = two_bytes 124 124 us f.gap f.run rest refl f.cut f.blanks f.of_sign in
-    record { no_fault = rw (it.2, it.3) refl; is_there = rw (it.2, it.3, it.4) refl; behind_is = rw it.2 refl }
+    record { no_fault = rw (it.2, it.3) refl; is_there = rw (it.2, it.3, it.4) refl; after_is = rw it.2 refl }
 sign_stands sign.PipeAt l ls us rest n f =
     let it = two_bytes 124 64 us f.gap f.run rest refl f.cut f.blanks f.of_sign in
-    record { no_fault = rw (it.2, it.3) refl; is_there = rw (it.2, it.3, it.4) refl; behind_is = rw it.2 refl }
+    record { no_fault = rw (it.2, it.3) refl; is_there = rw (it.2, it.3, it.4) refl; after_is = rw it.2 refl }
 
 -- A sign that stands there is read.
 pub sign-read : (want : Sign) (l : Line) (ls : List Line) (us rest : List TextUnit) → (want ≡ sign.LineEnd → ⊥) → SignForm want us rest → called (sign_of want (within l ls us)) ≡ Ok (true, within l ls rest)
 sign-read want l ls us rest n f =
     let it = sign_stands want l ls us rest n f in
-    sign_at-gives want l ls (skip us) (next_fault (skip us)) true it.no_fault it.is_there ∙ ap (λ (s : State). Ok (true, s)) it.behind_is
+    sign_at-gives want l ls (skip us) (next_fault (skip us)) true it.no_fault it.is_there ∙ ap (λ (s : State). Ok (true, s)) it.after_is
 
 -- ---- signs that have to be there
 
-pub behind_skips : (want : Sign) (miss : Wanted) (l : Line) (ls : List Line) (us : List TextUnit) → expect_sign want miss (within l ls (skip us)) ≡ expect_sign want miss (within l ls us)
+pub after_skips : (want : Sign) (miss : Wanted) (l : Line) (ls : List Line) (us : List TextUnit) → expect_sign want miss (within l ls (skip us)) ≡ expect_sign want miss (within l ls us)
 unfolding expect_sign
-behind_skips want miss l ls us = ap (λ (r : Step Bool). r >>= λ t. if_there miss t.0 t.1) (sign_skips want l ls us)
+after_skips want miss l ls us = ap (λ (r : Step Bool). r >>= λ t. if_there miss t.0 t.1) (sign_skips want l ls us)
 
 if_there-ok : (miss : Wanted) (t : Bool) (s s' : State) → if_there miss t s ≡ Ok s' → (t ≡ true) × (s ≡ s')
 if_there-ok miss true s s' h = (refl, cc)
 if_there-ok miss false s s' h = absurd cc
 
-behind-called : (want : Sign) (miss : Wanted) (s s' : State) → expect_sign want miss s ≡ Ok s' → called (sign_of want s) ≡ Ok (true, s')
+after-called : (want : Sign) (miss : Wanted) (s s' : State) → expect_sign want miss s ≡ Ok s' → called (sign_of want s) ≡ Ok (true, s')
 unfolding expect_sign
-behind-called want miss s s' h =
+after-called want miss s s' h =
     let b = bind-ok (called (sign_of want s)) (λ t. if_there miss t.0 t.1) s' h in
     let there = if_there-ok miss b.0.0 b.0.1 s' b.2 in
     b.1 ∙ ap (λ (t : Bool). Ok (t, b.0.1)) there.0 ∙ ap (λ (s : State). Ok (true, s)) there.1
 
-called-behind : (want : Sign) (miss : Wanted) (s s' : State) → called (sign_of want s) ≡ Ok (true, s') → expect_sign want miss s ≡ Ok s'
+called-after : (want : Sign) (miss : Wanted) (s s' : State) → called (sign_of want s) ≡ Ok (true, s') → expect_sign want miss s ≡ Ok s'
 unfolding expect_sign
-called-behind want miss s s' h = rw h refl
+called-after want miss s s' h = rw h refl
 
-pub behind-form : (want : Sign) (miss : Wanted) (l : Line) (ls : List Line) (us : List TextUnit) (s : State) → (want ≡ sign.LineEnd → ⊥) → expect_sign want miss (within l ls us) ≡ Ok s → (rest : List TextUnit) × SignForm want us rest × (s ≡ within l ls rest)
-behind-form want miss l ls us s n h = sign-form want l ls us s n (behind-called want miss (within l ls us) s h)
+pub after-form : (want : Sign) (miss : Wanted) (l : Line) (ls : List Line) (us : List TextUnit) (s : State) → (want ≡ sign.LineEnd → ⊥) → expect_sign want miss (within l ls us) ≡ Ok s → (rest : List TextUnit) × SignForm want us rest × (s ≡ within l ls rest)
+after-form want miss l ls us s n h = sign-form want l ls us s n (after-called want miss (within l ls us) s h)
 
-pub behind-read : (want : Sign) (miss : Wanted) (l : Line) (ls : List Line) (us rest : List TextUnit) → (want ≡ sign.LineEnd → ⊥) → SignForm want us rest → expect_sign want miss (within l ls us) ≡ Ok (within l ls rest)
-behind-read want miss l ls us rest n f = called-behind want miss (within l ls us) (within l ls rest) (sign-read want l ls us rest n f)
+pub after-read : (want : Sign) (miss : Wanted) (l : Line) (ls : List Line) (us rest : List TextUnit) → (want ≡ sign.LineEnd → ⊥) → SignForm want us rest → expect_sign want miss (within l ls us) ≡ Ok (within l ls rest)
+after-read want miss l ls us rest n f = called-after want miss (within l ls us) (within l ls rest) (sign-read want l ls us rest n f)
 
 nothing_there : (us : List TextUnit) → is_empty us ≡ true → us ≡ []
 nothing_there [] h = refl
 nothing_there (u ∷ us) h = absurd cc
 
 -- The end of a line is read where blanks stand alone.
-pub end-form : (miss : Wanted) (l : Line) (ls : List Line) (us : List TextUnit) (s : State) → expect_sign sign.LineEnd miss (within l ls us) ≡ Ok s → AreBlanks us × (s ≡ Between (lines_behind l ls))
-end-form miss l ls us s h = by_case (sign-cases sign.LineEnd l ls us (true, s) (behind-called sign.LineEnd miss (within l ls us) s h))
+pub end-form : (miss : Wanted) (l : Line) (ls : List Line) (us : List TextUnit) (s : State) → expect_sign sign.LineEnd miss (within l ls us) ≡ Ok s → AreBlanks us × (s ≡ Between (lines_after l ls))
+end-form miss l ls us s h = by_case (sign-cases sign.LineEnd l ls us (true, s) (after-called sign.LineEnd miss (within l ls us) s h))
   where
-    by_case : IsThere sign.LineEnd l ls (skip us) (true, s) ⊎ IsNotThere sign.LineEnd l ls (skip us) (true, s) → AreBlanks us × (s ≡ Between (lines_behind l ls))
+    by_case : IsThere sign.LineEnd l ls (skip us) (true, s) ⊎ IsNotThere sign.LineEnd l ls (skip us) (true, s) → AreBlanks us × (s ≡ Between (lines_after l ls))
     by_case (inl there) = (end_of_blanks us (nothing_there (skip us) there.0), there.2)
     by_case (inr not_there) = absurd (false≢true (sym not_there.1))
 
-pub end-read : (miss : Wanted) (l : Line) (ls : List Line) (us : List TextUnit) → AreBlanks us → expect_sign sign.LineEnd miss (within l ls us) ≡ Ok (Between (lines_behind l ls))
+pub end-read : (miss : Wanted) (l : Line) (ls : List Line) (us : List TextUnit) → AreBlanks us → expect_sign sign.LineEnd miss (within l ls us) ≡ Ok (Between (lines_after l ls))
 end-read miss l ls us h =
     let e = blanks_end us h in
-    called-behind sign.LineEnd miss (within l ls us) (Between (lines_behind l ls)) (sign_at-gives sign.LineEnd l ls (skip us) (next_fault (skip us)) true (rw e refl) (rw e refl))
+    called-after sign.LineEnd miss (within l ls us) (Between (lines_after l ls)) (sign_at-gives sign.LineEnd l ls (skip us) (next_fault (skip us)) true (rw e refl) (rw e refl))

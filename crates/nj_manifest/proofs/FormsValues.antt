@@ -5,8 +5,8 @@ use Rattle.nj_text.specs.declared.fault.UnitFault.{UnitFault}
 use Rattle.nj_text.specs.declared.sign.Sign.TheVariants as sign
 use Rattle.nj_text.specs.declared.spot.Spot.{Spot}
 use Rattle.nj_text.specs.Units.{TextUnit}
-use Rattle.nj_text.specs.Lines.{Line, spot_of_first, lines_behind}
-use Rattle.nj_text.specs.Words.{WordText, is_opening_meaning, behind_opening, first_fault, parts_of}
+use Rattle.nj_text.specs.Lines.{Line, spot_of_first, lines_after}
+use Rattle.nj_text.specs.Words.{WordText, is_opening_meaning, after_opening, first_fault, parts_of}
 use Rattle.nj_text.specs.Calls as calls
 use Rattle.nj_text.specs.Calls.{State, Between, value_of}
 use Rattle.nj_manifest.specs.declared.fault.Wanted.TheVariants as wanted
@@ -15,7 +15,7 @@ use Rattle.nj_manifest.specs.Statements.{equals_value}
 use Rattle.nj_manifest.specs.Grammar.{begins, is_opening, SignForm, ValueForm}
 use Rattle.nj_manifest.proofs.Framing.{bind-ok, after-is, value-is}
 use Rattle.nj_manifest.proofs.FormsGaps.{skip, skip_gap, skip_stops, gap_of, gap_passes, gap_cut}
-use Rattle.nj_manifest.proofs.FormsTokens.{within, behind-form, behind-read, end-form, end-read}
+use Rattle.nj_manifest.proofs.FormsTokens.{within, after-form, after-read, end-form, end-read}
 
 -- whether a unit is a join that opens its line
 abbrev opens_line : TextUnit → Bool
@@ -27,7 +27,7 @@ pub record Opening (us opening others : List TextUnit) : Type 0 where
   pub opens : is_opening opening ≡ true
   pub longest : opening ≡ [] → begins opens_line us ≡ false
 
-opening_here : (us : List TextUnit) → (opening : List TextUnit) × Opening us opening (behind_opening us)
+opening_here : (us : List TextUnit) → (opening : List TextUnit) × Opening us opening (after_opening us)
 opening_here [] = ([], record { cut = refl; opens = refl; longest = λ e. refl })
 opening_here (u ∷ us) = by_test (opens_line u) refl
   where
@@ -38,15 +38,15 @@ opening_here (u ∷ us) = by_test (opens_line u) refl
         some_is_none g = absurd cc
     by_test false e = ([], record { cut = refl; opens = refl; longest = λ g. e })
 
-no_opening : (us : List TextUnit) → begins opens_line us ≡ false → behind_opening us ≡ us
+no_opening : (us : List TextUnit) → begins opens_line us ≡ false → after_opening us ≡ us
 no_opening [] h = refl
 no_opening (u ∷ us) h = rw h refl
 
-opening_passed : (us opening others : List TextUnit) → Opening us opening others → behind_opening us ≡ others
+opening_passed : (us opening others : List TextUnit) → Opening us opening others → after_opening us ≡ others
 opening_passed us [] others o = no_opening us (o.longest refl) ∙ o.cut
-opening_passed us (u ∷ []) others o = ap behind_opening o.cut ∙ passed o.opens
+opening_passed us (u ∷ []) others o = ap after_opening o.cut ∙ passed o.opens
   where
-    passed : is_opening (u ∷ []) ≡ true → behind_opening (u ∷ others) ≡ others
+    passed : is_opening (u ∷ []) ≡ true → after_opening (u ∷ others) ≡ others
     passed h = rw h refl
 opening_passed us (u ∷ v ∷ ws) others o = absurd (false≢true o.opens)
 
@@ -63,7 +63,7 @@ value_by-read l ls None us value s h = (refl, sym (value-is (record { spot = spo
 -- A value that is read is one.
 pub value-form : (l : Line) (ls : List Line) (us : List TextUnit) (value : WordText) (s : State) → called (value_of (within l ls us)) ≡ Ok (value, s) → ValueForm us l.end value × (s ≡ within l ls [])
 value-form l ls us value s h =
-    let vs = behind_opening us in
+    let vs = after_opening us in
     let opening = opening_here us in
     let read = value_by-read l ls (first_fault (skip vs)) (skip vs) value s h in (
       record {
@@ -89,7 +89,7 @@ same_value value spot run s p = rw (← s, ← p) refl
 pub value-read : (l : Line) (ls : List Line) (us : List TextUnit) (value : WordText) → ValueForm us l.end value → called (value_of (within l ls us)) ≡ Ok (value, within l ls [])
 value-read l ls us value f =
     let behind = opening_passed us f.opening (f.gap ++ f.run) (record { cut = f.cut ∙ append_assoc f.opening f.gap f.run; opens = f.opens; longest = f.longest_opening }) in
-    let next = skip_gap (behind_opening us) f.gap f.run behind f.blanks f.longest in
+    let next = skip_gap (after_opening us) f.gap f.run behind f.blanks f.longest in
     ap (λ (vs : List TextUnit). value_by l ls (first_fault vs) vs) next
     ∙ ap (λ (g : Option UnitFault). value_by l ls g f.run) f.good
     ∙ ap (λ (w : WordText). Ok (w, within l ls [])) (same_value value (spot_of_first f.run l.end) f.run f.place f.parts)
@@ -100,19 +100,19 @@ equals_ends : sign.Equals ≡ sign.LineEnd → ⊥
 equals_ends e = absurd cc
 
 pub equals_value-form : (l : Line) (ls : List Line) (us : List TextUnit) (value : WordText) (s : State) → equals_value (within l ls us) ≡ Ok (value, s)
-    → (rest : List TextUnit) × SignForm sign.Equals us rest × ValueForm rest l.end value × (s ≡ Between (lines_behind l ls))
+    → (rest : List TextUnit) × SignForm sign.Equals us rest × ValueForm rest l.end value × (s ≡ Between (lines_after l ls))
 unfolding equals_value
 equals_value-form l ls us value s h =
     let equals = bind-ok (expect_sign sign.Equals wanted.Equals (within l ls us)) _ (value, s) h in
     let read = bind-ok (called (value_of equals.0)) _ (value, s) equals.2 in
     let end = bind-ok (expect_sign sign.LineEnd wanted.Newline read.0.1) (λ end. Ok (read.0.0, end)) (value, s) read.2 in
-    let it = behind-form sign.Equals wanted.Equals l ls us equals.0 equals_ends equals.1 in
+    let it = after-form sign.Equals wanted.Equals l ls us equals.0 equals_ends equals.1 in
     let same = value-is read.0.0 end.0 (value, s) end.2 in
     let there = value-form l ls it.0 read.0.0 read.0.1 (ap (λ (t : State). called (value_of t)) (sym it.2) ∙ read.1) in
     let ended = end-form wanted.Newline l ls [] end.0 (ap (expect_sign sign.LineEnd wanted.Newline) (sym there.1) ∙ end.1) in
     (it.0, it.1, subst (λ (v : WordText). ValueForm it.0 l.end v) same there.0, sym (after-is read.0.0 end.0 (value, s) end.2) ∙ ended.1)
 
-pub equals_value-read : (l : Line) (ls : List Line) (us rest : List TextUnit) (value : WordText) → SignForm sign.Equals us rest → ValueForm rest l.end value → equals_value (within l ls us) ≡ Ok (value, Between (lines_behind l ls))
+pub equals_value-read : (l : Line) (ls : List Line) (us rest : List TextUnit) (value : WordText) → SignForm sign.Equals us rest → ValueForm rest l.end value → equals_value (within l ls us) ≡ Ok (value, Between (lines_after l ls))
 unfolding equals_value
 equals_value-read l ls us rest value e f =
-    rw (behind-read sign.Equals wanted.Equals l ls us rest equals_ends e, value-read l ls rest value f, end-read wanted.Newline l ls [] refl) refl
+    rw (after-read sign.Equals wanted.Equals l ls us rest equals_ends e, value-read l ls rest value f, end-read wanted.Newline l ls [] refl) refl

@@ -16,7 +16,7 @@ use Rattle.nj_manifest.specs.LineSteps.{Step, ◌>>=◌, called, words_from, wor
 use Rattle.nj_manifest.specs.Grammar.{WordForm, WordsForm, none, more, SectionForm, left_out, there}
 use Rattle.nj_manifest.proofs.Framing.{bind-ok, after-is, value-is}
 use Rattle.nj_manifest.proofs.WordLimits.{opening_is_within, words_next-fails, words_next-ends, words_next-more}
-use Rattle.nj_manifest.proofs.FormsGaps.{both_parts, front_passes, behind_stops, run_passed, run_taken, skip, skip_gap, gap_of, gap_passes, gap_cut}
+use Rattle.nj_manifest.proofs.FormsGaps.{both_parts, front_passes, after_stops, run_passed, run_taken, skip, skip_gap, gap_of, gap_passes, gap_cut}
 use Rattle.nj_manifest.proofs.FormsTokens.{within, passes_without_fault, ordinary_no_blank, sign-form, sign-left_out, sign-none, sign-read, sign_skips}
 
 -- ---- tests on a unit
@@ -38,9 +38,9 @@ opening_no_blank BadByte h = refl
 opening_no_blank BadEscape h = refl
 
 -- a blank is no bad unit
-pub fault_behind_blanks : (us : List TextUnit) → next_fault (skip us) ≡ None → next_fault us ≡ None
-fault_behind_blanks [] h = refl
-fault_behind_blanks (u ∷ us) h = by_test (is_blank u) refl h
+pub fault_after_blanks : (us : List TextUnit) → next_fault (skip us) ≡ None → next_fault us ≡ None
+fault_after_blanks [] h = refl
+fault_after_blanks (u ∷ us) h = by_test (is_blank u) refl h
   where
     by_test : (t : Bool) → is_blank u ≡ t → next_fault (cond t (skip us) (u ∷ us)) ≡ None → fault_of u ≡ None
     by_test true e g = passes_without_fault is_blank_meaning refl refl refl u.means u.spot e
@@ -93,7 +93,7 @@ form_of_word us (u ∷ vs) end word e b is =
       blanks = gap_passes us;
       opens = b;
       of_word = ap (list_all in_word) (sym run) ∙ front_passes in_word (u ∷ vs);
-      longest = behind_stops in_word (u ∷ vs);
+      longest = after_stops in_word (u ∷ vs);
       place = ap (λ (w : WordText). w.spot) is;
       parts = ap (λ (w : WordText). w.parts) is ∙ ap parts_of run;
     }
@@ -202,7 +202,7 @@ words_without_fault (more f fs) n = word_without_fault f
 pub words-read : (l : Line) (ls : List Line) {us rest : List TextUnit} {words : List WordText} → WordsForm us words rest → next_fault (skip rest) ≡ None → begins_word (skip rest) ≡ false → words_next (within l ls us) ≡ Ok (words, within l ls (skip rest))
 words-read l ls {us = us} none n b = words_next-ends (within l ls us) (within l ls (skip us)) (no_word-read l ls us n b)
 words-read l ls {us = us} {rest = rest} (more {after = behind} {word = word} f fs) n b =
-    let first = word-read l ls us behind word f (fault_behind_blanks behind (words_without_fault fs n)) in
+    let first = word-read l ls us behind word f (fault_after_blanks behind (words_without_fault fs n)) in
     words_next-more (within l ls us) word (within l ls behind) first ∙ ap (words_from (Some word) (within l ls behind)) (words-read l ls fs n b)
 
 -- ---- sections

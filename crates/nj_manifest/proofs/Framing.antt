@@ -8,10 +8,10 @@ use Rattle.nj_text.specs.declared.sign.Sign.TheVariants as sign
 use Rattle.nj_text.specs.declared.spot.Spot.{Spot}
 use Rattle.nj_text.specs.Bytes.{drop_while}
 use Rattle.nj_text.specs.Units.{TextUnit}
-use Rattle.nj_text.specs.Lines.{Line, with_units, lines_behind}
-use Rattle.nj_text.specs.Words.{WordText, in_identifier, is_blank, behind_opening, in_word, next_fault, first_fault}
+use Rattle.nj_text.specs.Lines.{Line, with_units, lines_after}
+use Rattle.nj_text.specs.Words.{WordText, in_identifier, is_blank, after_opening, in_word, next_fault, first_fault}
 use Rattle.nj_text.specs.Calls as calls
-use Rattle.nj_text.specs.Calls.{State, Between, Inside, Failed, Reply, skip_blanks_of, ident_of, sign_of, path_word_of, value_of, spot_of, behind_blanks, behind_sign, is_sign, is_empty, begins_word, word_here, some_bytes, bytes_of}
+use Rattle.nj_text.specs.Calls.{State, Between, Inside, Failed, Reply, skip_blanks_of, ident_of, sign_of, path_word_of, value_of, spot_of, after_blanks, state_after_sign, is_sign, is_empty, begins_word, word_here, some_bytes, bytes_of}
 use Rattle.nj_manifest.specs.declared.fault.Wanted.{Wanted}
 use Rattle.nj_manifest.specs.declared.fault.Wanted.TheVariants as wanted
 use Rattle.nj_manifest.specs.declared.block.Keys.{Keys}
@@ -38,7 +38,7 @@ On l ls s = (us : List TextUnit) × (s ≡ Inside (with_units us l) ls)
 
 -- behind the line
 abbrev pub Ended : Line → List Line → State → Type 0
-Ended l ls s = s ≡ Between (lines_behind l ls)
+Ended l ls s = s ≡ Between (lines_after l ls)
 
 pub after-is : {A : Type 0} (x : A) (s : State) (y : A × State) → ◌≡◌ {A = Step A} (Ok (x, s)) (Ok y) → s ≡ y.1
 after-is x s y h = cc
@@ -53,9 +53,9 @@ named-after want spot None s y h = absurd cc
 name_next-inside : (want : Wanted) (l : Line) (ls : List Line) (y : NameText × State) → name_next want (Inside l ls) ≡ Ok y → On l ls y.1
 unfolding name_next
 name_next-inside want l ls y h =
-    let b = bind-ok (called (ident_of (Inside (behind_blanks l) ls))) (λ n. named want (spot_of (Inside (behind_blanks l) ls)) n.0 n.1) y h in
-    let e = called-fault (next_fault (behind_blanks (behind_blanks l)).units) _ b.0 b.1 in
-    (drop_while in_identifier (behind_blanks (behind_blanks l)).units, sym (after-is _ _ b.0 e ∙ named-after want _ b.0.0 b.0.1 y b.2))
+    let b = bind-ok (called (ident_of (Inside (after_blanks l) ls))) (λ n. named want (spot_of (Inside (after_blanks l) ls)) n.0 n.1) y h in
+    let e = called-fault (next_fault (after_blanks (after_blanks l)).units) _ b.0 b.1 in
+    (drop_while in_identifier (after_blanks (after_blanks l)).units, sym (after-is _ _ b.0 e ∙ named-after want _ b.0.0 b.0.1 y b.2))
 
 if_there-after : (want : Wanted) (t : Bool) (s s' : State) → if_there want t s ≡ Ok s' → (t ≡ true) × (s ≡ s')
 if_there-after want true s s' h = (refl, cc)
@@ -65,28 +65,28 @@ sign-there : (want : Wanted) (t : Bool) (there other : State) (y : Bool × State
 sign-there want true there other y s e h = sym (after-is _ _ y e ∙ (if_there-after want y.0 y.1 s h).1)
 sign-there want false there other y s e h = absurd (false≢true (value-is _ _ y e ∙ (if_there-after want y.0 y.1 s h).0))
 
-behind-inside : (want : Sign) (miss : Wanted) (l : Line) (ls : List Line) (s : State) → expect_sign want miss (Inside l ls) ≡ Ok s → s ≡ behind_sign want (behind_blanks l) ls
+after-inside : (want : Sign) (miss : Wanted) (l : Line) (ls : List Line) (s : State) → expect_sign want miss (Inside l ls) ≡ Ok s → s ≡ state_after_sign want (after_blanks l) ls
 unfolding expect_sign
-behind-inside want miss l ls s h =
+after-inside want miss l ls s h =
     let b = bind-ok (called (sign_of want (Inside l ls))) (λ t. if_there miss t.0 t.1) s h in
-    let e = called-fault (next_fault (behind_blanks l).units) _ b.0 b.1 in
-    sign-there miss (is_sign want (behind_blanks l).units) _ _ b.0 s e b.2
+    let e = called-fault (next_fault (after_blanks l).units) _ b.0 b.1 in
+    sign-there miss (is_sign want (after_blanks l).units) _ _ b.0 s e b.2
 
 pub line_end-inside : (miss : Wanted) (l : Line) (ls : List Line) (s s' : State) → On l ls s → expect_sign sign.LineEnd miss s ≡ Ok s' → Ended l ls s'
-line_end-inside miss l ls s s' o h = behind-inside sign.LineEnd miss (with_units o.0 l) ls s' (ap (expect_sign sign.LineEnd miss) (sym o.1) ∙ h)
+line_end-inside miss l ls s s' o h = after-inside sign.LineEnd miss (with_units o.0 l) ls s' (ap (expect_sign sign.LineEnd miss) (sym o.1) ∙ h)
 
 pub colon-inside : (miss : Wanted) (l : Line) (ls : List Line) (s s' : State) → On l ls s → expect_sign sign.Colon miss s ≡ Ok s' → On l ls s'
-colon-inside miss l ls s s' o h = (_, behind-inside sign.Colon miss (with_units o.0 l) ls s' (ap (expect_sign sign.Colon miss) (sym o.1) ∙ h))
+colon-inside miss l ls s s' o h = (_, after-inside sign.Colon miss (with_units o.0 l) ls s' (ap (expect_sign sign.Colon miss) (sym o.1) ∙ h))
 
 equals-inside : (miss : Wanted) (l : Line) (ls : List Line) (s s' : State) → On l ls s → expect_sign sign.Equals miss s ≡ Ok s' → On l ls s'
-equals-inside miss l ls s s' o h = (_, behind-inside sign.Equals miss (with_units o.0 l) ls s' (ap (expect_sign sign.Equals miss) (sym o.1) ∙ h))
+equals-inside miss l ls s s' o h = (_, after-inside sign.Equals miss (with_units o.0 l) ls s' (ap (expect_sign sign.Equals miss) (sym o.1) ∙ h))
 
 pub name-inside : (want : Wanted) (l : Line) (ls : List Line) (s : State) (y : NameText × State) → On l ls s → name_next want s ≡ Ok y → On l ls y.1
 name-inside want l ls s y o h = name_next-inside want (with_units o.0 l) ls y (ap (name_next want) (sym o.1) ∙ h)
 
 value-inside : (l : Line) (ls : List Line) (s : State) (y : WordText × State) → On l ls s → called (value_of s) ≡ Ok y → On l ls y.1
 value-inside l ls s y o h =
-    let e = called-fault (first_fault (drop_while is_blank (behind_opening o.0))) _ y (ap (λ s. called (value_of s)) (sym o.1) ∙ h) in
+    let e = called-fault (first_fault (drop_while is_blank (after_opening o.0))) _ y (ap (λ s. called (value_of s)) (sym o.1) ∙ h) in
     ([], sym (after-is _ _ y e))
 
 -- ---- words
@@ -100,7 +100,7 @@ word_here-inside l ls false y e = (l.units, sym (after-is _ _ y e))
 
 pub word-inside : (l : Line) (ls : List Line) (s : State) (y : Option WordText × State) → On l ls s → called (path_word_of s) ≡ Ok y → On l ls y.1
 word-inside l ls s y o h =
-    let m = behind_blanks (with_units o.0 l) in
+    let m = after_blanks (with_units o.0 l) in
     let e = called-fault (next_fault m.units) _ y (ap (λ s. called (path_word_of s)) (sym o.1) ∙ h) in
     let p = word_here-inside m ls (begins_word m.units) y e in
     (p.0, p.1)
@@ -129,15 +129,15 @@ words_if-inside l ls false s y o h = subst (On l ls) (after-is _ _ y h) o
 
 -- a sign that does not end the line
 abbrev pub InLine : Sign → Type 0
-InLine want = (l : Line) (ls : List Line) → On l ls (behind_sign want l ls)
+InLine want = (l : Line) (ls : List Line) → On l ls (state_after_sign want l ls)
 
-sign-on : (want : Sign) (l : Line) (ls : List Line) (t : Bool) (y : Bool × State) → InLine want → called (cond t (calls.reply true (behind_sign want l ls)) (calls.reply false (Inside l ls))) ≡ Ok y → On l ls y.1
+sign-on : (want : Sign) (l : Line) (ls : List Line) (t : Bool) (y : Bool × State) → InLine want → called (cond t (calls.reply true (state_after_sign want l ls)) (calls.reply false (Inside l ls))) ≡ Ok y → On l ls y.1
 sign-on want l ls true y i e = subst (On l ls) (after-is _ _ y e) (i l ls)
 sign-on want l ls false y i e = (l.units, sym (after-is _ _ y e))
 
 pub sign-inside : (want : Sign) (l : Line) (ls : List Line) (s : State) (y : Bool × State) → InLine want → On l ls s → called (sign_of want s) ≡ Ok y → On l ls y.1
 sign-inside want l ls s y i o h =
-    let m = behind_blanks (with_units o.0 l) in
+    let m = after_blanks (with_units o.0 l) in
     let e = called-fault (next_fault m.units) _ y (ap (λ s. called (sign_of want s)) (sym o.1) ∙ h) in
     let p = sign-on want m ls (is_sign want m.units) y i e in
     (p.0, p.1)
@@ -169,7 +169,7 @@ if_allowed-ok true key others y h = h
 if_allowed-ok false key others y h = absurd cc
 
 -- The line of a block is read to its end.
-pub line-inside : (allowed : Keys) (l : Line) (ls : List Line) (line : LineText) (after : State) → line_next allowed (Inside l ls) ≡ Ok (line, after) → after ≡ Between (lines_behind l ls)
+pub line-inside : (allowed : Keys) (l : Line) (ls : List Line) (line : LineText) (after : State) → line_next allowed (Inside l ls) ≡ Ok (line, after) → after ≡ Between (lines_after l ls)
 unfolding line_next
 line-inside allowed l ls line after h =
     let key = bind-ok (name_next wanted.VariableName (Inside l ls)) _ (line, after) h in
@@ -272,7 +272,7 @@ head_after-inside l ls word s y o h =
     by_word false false false false false false h = as_head-inside l ls (λ value. Alone (BindingText word value)) (equals_value s) y (λ x e. equals_value-inside l ls s x o e) h
 
 -- The first line of a statement is read to its end.
-pub head-inside : (l : Line) (ls : List Line) (h : HeadText) (after : State) → head_next (Inside l ls) ≡ Ok (h, after) → after ≡ Between (lines_behind l ls)
+pub head-inside : (l : Line) (ls : List Line) (h : HeadText) (after : State) → head_next (Inside l ls) ≡ Ok (h, after) → after ≡ Between (lines_after l ls)
 unfolding head_next
 head-inside l ls h after e =
     let word = bind-ok (name_next wanted.Statement (Inside l ls)) _ (h, after) e in

@@ -1,7 +1,7 @@
 -- The statement that begins where the lexer stands, by its first line and its block.
 use Rattle.std.proofs.Common.{◌≡◌, Some, option_map, Result, Ok, Err, List, refl, subst, ◌∙◌}
 use Rattle.nj_text.specs.declared.spot.Spot.{Spot}
-use Rattle.nj_text.specs.Lines.{Line, line_spot, lines_behind}
+use Rattle.nj_text.specs.Lines.{Line, line_spot, lines_after}
 use Rattle.nj_text.specs.Calls.{State, Between, Inside, Failed, spot_of}
 use Rattle.nj_manifest.specs.declared.fault.ParseFault.{ParseFault}
 use Rattle.nj_manifest.specs.declared.fault.ParseFault.TheVariants as fault
@@ -41,8 +41,8 @@ here-ok (Inside l ls) middle after h spot item s e r =
     let i = head-inside l ls h middle e in
     let r' = subst (λ m. ParsesFrom statement_text m after (with_block spot h) (Ok item)) i r in
     let e' = subst (λ m. head_next (Inside l ls) ≡ Ok (h, m)) i e in
-    let w = subst (λ p. with_block p h (lines_behind l ls) ≡ Ok (statement_text item, lines_from after)) s r'.0 in
-    (at-head l ls h (Between (lines_behind l ls)) e' ∙ rw (w, s) refl, r'.1)
+    let w = subst (λ p. with_block p h (lines_after l ls) ≡ Ok (statement_text item, lines_from after)) s r'.0 in
+    (at-head l ls h (Between (lines_after l ls)) e' ∙ rw (w, s) refl, r'.1)
 
 pub here-fails : (before middle after : State) (h : HeadText) (spot : Spot) (f : ParseFault) → spot ≡ spot_of before → head_next before ≡ Ok (h, middle)
     → ParsesFrom statement_text middle after (with_block spot h) (Err f) → ParsesAt (option_map placed_text) before after statement_at (Err f)
@@ -52,5 +52,5 @@ here-fails (Inside l ls) middle after h spot f s e r =
     let i = head-inside l ls h middle e in
     let r' = subst (λ m. ParsesFrom statement_text m after (with_block spot h) (Err f)) i r in
     let e' = subst (λ m. head_next (Inside l ls) ≡ Ok (h, m)) i e in
-    let w = subst (λ p. Fails f (with_block p h (lines_behind l ls))) s r' in
-    rw (at-head l ls h (Between (lines_behind l ls)) e') (fails-on f (with_block (line_spot l) h (lines_behind l ls)) (λ item. Ok (Some (record { spot = line_spot l; item = item.0 }), item.1)) w)
+    let w = subst (λ p. Fails f (with_block p h (lines_after l ls))) s r' in
+    rw (at-head l ls h (Between (lines_after l ls)) e') (fails-on f (with_block (line_spot l) h (lines_after l ls)) (λ item. Ok (Some (record { spot = line_spot l; item = item.0 }), item.1)) w)

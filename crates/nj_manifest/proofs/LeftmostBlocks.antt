@@ -3,7 +3,7 @@ use Rattle.std.proofs.Common.{◌≡◌, ℕ, Bool, true, false, cond, inl, inr,
 use Rattle.nj_text.specs.declared.fault.UnitFault.TheVariants as lex
 use Rattle.nj_text.specs.declared.spot.Spot.{Spot}
 use Rattle.nj_text.specs.Units.{TextUnit}
-use Rattle.nj_text.specs.Lines.{Line, with_units, lines_behind, Kind, CommentLine, TabLine, BlankLine, IndentedLine, PlainLine, kind_of, is_space_unit, text_kind, begins_with_space}
+use Rattle.nj_text.specs.Lines.{Line, with_units, lines_after, Kind, CommentLine, TabLine, BlankLine, IndentedLine, PlainLine, kind_of, is_space_unit, text_kind, begins_with_space}
 use Rattle.nj_text.specs.Calls.{State, Between, without_comments}
 use Rattle.nj_text.proofs.Lists.{AllIn}
 use Rattle.nj_manifest.specs.declared.block.Keys.{Keys}
@@ -16,7 +16,7 @@ use Rattle.nj_manifest.proofs.LeftmostFronts.{front, element-front}
 use Rattle.nj_manifest.proofs.LeftmostSteps.{at, text, Fits, Said, begin, Stuck, Outcome, stuck, through}
 use Rattle.nj_manifest.proofs.LeftmostHeads.{starts}
 use Rattle.nj_manifest.proofs.LeftmostLines.{line_turn, key_bytes, key_line, key_plain, key_starts}
-use Rattle.nj_manifest.proofs.LeftmostKinds.{kind_units, spaces_of, behind_spaces, spaces_cut, spaces_pass, unspaced, kind_replaced, no_space_same, identifier_no_space, identifier_spaced, indented_spaces, tab_place}
+use Rattle.nj_manifest.proofs.LeftmostKinds.{kind_units, spaces_of, after_spaces, spaces_cut, spaces_pass, unspaced, kind_replaced, no_space_same, identifier_no_space, identifier_spaced, indented_spaces, tab_place}
 
 -- Where the block of some lines fails: no element like this one helps there, and some text does, with a block behind it.
 pub record BlockStuck (allowed : Keys) (ls : List Line) (fault : Fault) : Type 0 where
@@ -37,12 +37,12 @@ pub record BlockStuck (allowed : Keys) (ls : List Line) (fault : Fault) : Type 0
 
 -- what is said of an indented line, by the units behind its spaces
 abbrev Spaced : Keys → (spaces : List TextUnit) → Said LineText
-Spaced allowed sp x e ms r = (kind_units (sp ++ x) ≡ IndentedLine) × (behind_spaces (sp ++ x) ≡ x) × (line_next allowed (at x e ms) ≡ r)
+Spaced allowed sp x e ms r = (kind_units (sp ++ x) ≡ IndentedLine) × (after_spaces (sp ++ x) ≡ x) × (line_next allowed (at x e ms) ≡ r)
 
-line_outcome : (allowed : Keys) (l : Line) → kind_of l ≡ IndentedLine → Outcome (Spaced allowed (spaces_of l.units)) (behind_spaces l.units) l
-line_outcome allowed l h = line_turn l allowed (behind_spaces l.units) (begin (Spaced allowed (spaces_of l.units)) (line_next allowed) starts (behind_spaces l.units) (λ x e ms fit. by_fit x e ms fit))
+line_outcome : (allowed : Keys) (l : Line) → kind_of l ≡ IndentedLine → Outcome (Spaced allowed (spaces_of l.units)) (after_spaces l.units) l
+line_outcome allowed l h = line_turn l allowed (after_spaces l.units) (begin (Spaced allowed (spaces_of l.units)) (line_next allowed) starts (after_spaces l.units) (λ x e ms fit. by_fit x e ms fit))
   where
-    by_fit : (x : List TextUnit) (e : Line) (ms : List Line) → Fits starts (behind_spaces l.units) x → Spaced allowed (spaces_of l.units) x e ms (line_next allowed (at x e ms))
+    by_fit : (x : List TextUnit) (e : Line) (ms : List Line) → Fits starts (after_spaces l.units) x → Spaced allowed (spaces_of l.units) x e ms (line_next allowed (at x e ms))
     by_fit x e ms (inl f) =
         (identifier_spaced (spaces_of l.units) x (spaces_pass l.units) f ∙ ap text_kind (indented_spaces l.units h), unspaced (spaces_of l.units) x (spaces_pass l.units) (identifier_no_space x f), refl)
     by_fit x e ms (inr f) = (kind_replaced l.units x f ∙ h, unspaced (spaces_of l.units) x (spaces_pass l.units) (no_space_same l.units x f), refl)
@@ -50,7 +50,7 @@ line_outcome allowed l h = line_turn l allowed (behind_spaces l.units) (begin (S
 -- what an indented line adds to a block
 abbrev block_line : Keys → (us : List TextUnit) → Line → List Line → (others : Parse (List LineText)) → Parse (List LineText)
 block_line allowed us e ms others =
-    line_next allowed (at (behind_spaces us) e ms) >>= λ line. or_last e (no_lines (lines_behind e ms)) others >>= λ more. Ok (line.0 ∷ more.0, more.1)
+    line_next allowed (at (after_spaces us) e ms) >>= λ line. or_last e (no_lines (lines_after e ms)) others >>= λ more. Ok (line.0 ∷ more.0, more.1)
 
 indented_block : (allowed : Keys) (l : Line) (ms : List Line) → kind_of l ≡ IndentedLine → block allowed (l ∷ ms) ≡ block_line allowed l.units l ms (block allowed ms)
 unfolding block
@@ -60,14 +60,14 @@ abbrev line_then : (others : Parse (List LineText)) → LineText × State → Pa
 line_then others line = others >>= λ more. Ok (line.0 ∷ more.0, more.1)
 
 -- a line that is read, and is not the last
-read_block : (allowed : Keys) (l : Line) (ms : List Line) (v : LineText) (s : State) → kind_of l ≡ IndentedLine → l.is_last ≡ false → line_next allowed (at (behind_spaces l.units) l ms) ≡ Ok (v, s) → block allowed (l ∷ ms) ≡ line_then (block allowed ms) (v, s)
+read_block : (allowed : Keys) (l : Line) (ms : List Line) (v : LineText) (s : State) → kind_of l ≡ IndentedLine → l.is_last ≡ false → line_next allowed (at (after_spaces l.units) l ms) ≡ Ok (v, s) → block allowed (l ∷ ms) ≡ line_then (block allowed ms) (v, s)
 read_block allowed l ms v s h last r =
-    indented_block allowed l ms h ∙ (ap (λ (y : Step LineText). y >>= λ line. or_last l (no_lines (lines_behind l ms)) (block allowed ms) >>= λ more. Ok (line.0 ∷ more.0, more.1)) r
-    ∙ ap (λ (t : Bool). line_then (cond t (no_lines (lines_behind l ms)) (block allowed ms)) (v, s)) last)
+    indented_block allowed l ms h ∙ (ap (λ (y : Step LineText). y >>= λ line. or_last l (no_lines (lines_after l ms)) (block allowed ms) >>= λ more. Ok (line.0 ∷ more.0, more.1)) r
+    ∙ ap (λ (t : Bool). line_then (cond t (no_lines (lines_after l ms)) (block allowed ms)) (v, s)) last)
 
-bad_block : (allowed : Keys) (l : Line) (ms : List Line) (f : Fault) → kind_of l ≡ IndentedLine → line_next allowed (at (behind_spaces l.units) l ms) ≡ Err f → block allowed (l ∷ ms) ≡ Err f
+bad_block : (allowed : Keys) (l : Line) (ms : List Line) (f : Fault) → kind_of l ≡ IndentedLine → line_next allowed (at (after_spaces l.units) l ms) ≡ Err f → block allowed (l ∷ ms) ≡ Err f
 bad_block allowed l ms f h r =
-    indented_block allowed l ms h ∙ ap (λ (y : Step LineText). y >>= λ line. or_last l (no_lines (lines_behind l ms)) (block allowed ms) >>= λ more. Ok (line.0 ∷ more.0, more.1)) r
+    indented_block allowed l ms h ∙ ap (λ (y : Step LineText). y >>= λ line. or_last l (no_lines (lines_after l ms)) (block allowed ms) >>= λ more. Ok (line.0 ∷ more.0, more.1)) r
 
 one_in_front : (v : LineText) (s : State) (others : Parse (List LineText)) → line_then others (v, s) ≡ in_front (v ∷ []) others
 one_in_front v s (Ok o) = refl
@@ -88,7 +88,7 @@ same_fault r f g h i = errs (sym i ∙ h)
 
 -- ---- where the fault stands in the first line
 
-stuck_here : (allowed : Keys) (l : Line) (ls : List Line) (fault : Fault) → kind_of l ≡ IndentedLine → Stuck (Spaced allowed (spaces_of l.units)) (behind_spaces l.units) l fault → BlockStuck allowed (l ∷ ls) fault
+stuck_here : (allowed : Keys) (l : Line) (ls : List Line) (fault : Fault) → kind_of l ≡ IndentedLine → Stuck (Spaced allowed (spaces_of l.units)) (after_spaces l.units) l fault → BlockStuck allowed (l ∷ ls) fault
 stuck_here allowed l ls fault h s =
     let sp = spaces_of l.units in
     record {
@@ -127,9 +127,9 @@ one_space_begins : (sp : List TextUnit) → AllIn is_space_unit sp → begins_wi
 one_space_begins [] a = refl
 one_space_begins (u ∷ sp) a = a.0
 
-behind_space : (allowed : Keys) (sp : List TextUnit) → AllIn is_space_unit sp → behind_spaces (sp ++ text (32 ∷ key_bytes allowed)) ≡ text (key_bytes allowed)
-behind_space allowed sp a =
-    ap behind_spaces (sym (append_assoc sp (written_unit 32 ∷ []) (text (key_bytes allowed)))) ∙ unspaced (sp ++ written_unit 32 ∷ []) (text (key_bytes allowed)) (one_space sp a) (identifier_no_space (text (key_bytes allowed)) (key_starts allowed))
+after_space : (allowed : Keys) (sp : List TextUnit) → AllIn is_space_unit sp → after_spaces (sp ++ text (32 ∷ key_bytes allowed)) ≡ text (key_bytes allowed)
+after_space allowed sp a =
+    ap after_spaces (sym (append_assoc sp (written_unit 32 ∷ []) (text (key_bytes allowed)))) ∙ unspaced (sp ++ written_unit 32 ∷ []) (text (key_bytes allowed)) (one_space sp a) (identifier_no_space (text (key_bytes allowed)) (key_starts allowed))
 
 spaced_key : (allowed : Keys) (sp : List TextUnit) → AllIn is_space_unit sp → kind_units (sp ++ text (32 ∷ key_bytes allowed)) ≡ IndentedLine
 spaced_key allowed sp a =
@@ -143,26 +143,26 @@ tab_here allowed l ls tab h =
     record {
       before = [];
       begun = sp;
-      line = with_units (behind_spaces l.units) l;
+      line = with_units (after_spaces l.units) l;
       others = ls;
       cut = ap (λ (y : List TextUnit). with_units y l ∷ ls) (spaces_cut l.units);
       place = tab_place l.units tab l.end h;
-      refuses = λ m ms same. tab_block allowed (with_units (sp ++ m.units) m) ms tab (kind_replaced l.units m.units (element-front m.units (behind_spaces l.units) same) ∙ h);
+      refuses = λ m ms same. tab_block allowed (with_units (sp ++ m.units) m) ms tab (kind_replaced l.units m.units (element-front m.units (after_spaces l.units) same) ∙ h);
       bytes = 32 ∷ key_bytes allowed;
       plain = key_plain allowed;
       offered = refl;
       read = d.0 ∷ [];
       some = λ ms.
           read_block allowed (with_units (sp ++ text (32 ∷ key_bytes allowed)) (written [])) ms d.0 (Between ms) (spaced_key allowed sp (spaces_pass l.units)) refl
-          (ap (λ (y : List TextUnit). line_next allowed (at y (written []) ms)) (behind_space allowed sp (spaces_pass l.units)) ∙ d.1 ms)
+          (ap (λ (y : List TextUnit). line_next allowed (at y (written []) ms)) (after_space allowed sp (spaces_pass l.units)) ∙ d.1 ms)
           ∙ one_in_front d.0 (Between ms) (block allowed ms);
     }
 
 -- ---- where it stands behind the first line
 
 -- behind a line that says nothing, and is not the last
-stuck_behind_comment : (allowed : Keys) (l : Line) (ls : List Line) (fault : Fault) → ((ms : List Line) → block allowed (l ∷ ms) ≡ block allowed ms) → BlockStuck allowed ls fault → BlockStuck allowed (l ∷ ls) fault
-stuck_behind_comment allowed l ls fault same r = record {
+stuck_after_comment : (allowed : Keys) (l : Line) (ls : List Line) (fault : Fault) → ((ms : List Line) → block allowed (l ∷ ms) ≡ block allowed ms) → BlockStuck allowed ls fault → BlockStuck allowed (l ∷ ls) fault
+stuck_after_comment allowed l ls fault same r = record {
   before = l ∷ r.before;
   begun = r.begun;
   line = r.line;
@@ -178,22 +178,22 @@ stuck_behind_comment allowed l ls fault same r = record {
 }
 
 -- behind a line that is read, and is not the last
-stuck_behind_line : (allowed : Keys) (l : Line) (ls : List Line) (fault : Fault) (v : LineText) → ((ms : List Line) → block allowed (l ∷ ms) ≡ line_then (block allowed ms) (v, Between (lines_behind l ms))) → BlockStuck allowed ls fault → BlockStuck allowed (l ∷ ls) fault
-stuck_behind_line allowed l ls fault v reads r = record {
+stuck_after_line : (allowed : Keys) (l : Line) (ls : List Line) (fault : Fault) (v : LineText) → ((ms : List Line) → block allowed (l ∷ ms) ≡ line_then (block allowed ms) (v, Between (lines_after l ms))) → BlockStuck allowed ls fault → BlockStuck allowed (l ∷ ls) fault
+stuck_after_line allowed l ls fault v reads r = record {
   before = l ∷ r.before;
   begun = r.begun;
   line = r.line;
   others = r.others;
   cut = ap (λ (y : List Line). l ∷ y) r.cut;
   place = r.place;
-  refuses = λ m ms e. reads (goes_on r.before r.begun m ms) ∙ bad_then (block allowed (goes_on r.before r.begun m ms)) (v, Between (lines_behind l (goes_on r.before r.begun m ms))) (met_before m fault) (r.refuses m ms e);
+  refuses = λ m ms e. reads (goes_on r.before r.begun m ms) ∙ bad_then (block allowed (goes_on r.before r.begun m ms)) (v, Between (lines_after l (goes_on r.before r.begun m ms))) (met_before m fault) (r.refuses m ms e);
   bytes = r.bytes;
   plain = r.plain;
   offered = r.offered;
   read = v ∷ r.read;
   some = λ ms.
       let xs = goes_on r.before r.begun (written r.bytes) ms in
-      reads xs ∙ (ap (λ (y : Parse (List LineText)). line_then y (v, Between (lines_behind l xs))) (r.some ms) ∙ more_in_front v (Between (lines_behind l xs)) r.read (block allowed ms));
+      reads xs ∙ (ap (λ (y : Parse (List LineText)). line_then y (v, Between (lines_after l xs))) (r.some ms) ∙ more_in_front v (Between (lines_after l xs)) r.read (block allowed ms));
 }
 
 not_last : (t : Bool) (a : List LineText × List Line) (others : Parse (List LineText)) (f : Fault) → cond t (Ok a) others ≡ Err f → (t ≡ false) × (others ≡ Err f)
@@ -207,14 +207,14 @@ then_fault (Err g) line f h = ap Err (errs h)
     errs : {A : Type 0} {x y : Fault} → ◌≡◌ {A = Result A Fault} (Err x) (Err y) → x ≡ y
     errs e = cc
 
-comment_block : (allowed : Keys) (l : Line) (ms : List Line) → kind_of l ≡ CommentLine → block allowed (l ∷ ms) ≡ or_last l (no_lines (lines_behind l (without_comments ms))) (block allowed ms)
+comment_block : (allowed : Keys) (l : Line) (ms : List Line) → kind_of l ≡ CommentLine → block allowed (l ∷ ms) ≡ or_last l (no_lines (lines_after l (without_comments ms))) (block allowed ms)
 unfolding block
 comment_block allowed l ms h = ap (λ (k : Kind). block_by allowed k l ms (block allowed ms)) h
 
 comment_not_last : (allowed : Keys) (l : Line) (ms : List Line) → kind_of l ≡ CommentLine → l.is_last ≡ false → block allowed (l ∷ ms) ≡ block allowed ms
-comment_not_last allowed l ms h last = comment_block allowed l ms h ∙ ap (λ (t : Bool). cond t (no_lines (lines_behind l (without_comments ms))) (block allowed ms)) last
+comment_not_last allowed l ms h last = comment_block allowed l ms h ∙ ap (λ (t : Bool). cond t (no_lines (lines_after l (without_comments ms))) (block allowed ms)) last
 
-pub blank_block : (allowed : Keys) (l : Line) (ms : List Line) → kind_of l ≡ BlankLine → block allowed (l ∷ ms) ≡ no_lines (lines_behind l ms)
+pub blank_block : (allowed : Keys) (l : Line) (ms : List Line) → kind_of l ≡ BlankLine → block allowed (l ∷ ms) ≡ no_lines (lines_after l ms)
 unfolding block
 blank_block allowed l ms h = ap (λ (k : Kind). block_by allowed k l ms (block allowed ms)) h
 
@@ -239,19 +239,19 @@ pub block_stuck : (allowed : Keys) (ls : List Line) (fault : Fault) → block al
 block_stuck allowed [] fault h = absurd (no_fault (block allowed []) ([], []) fault (empty_block allowed) h)
 block_stuck allowed (l ∷ ls) fault h = by_kind (kind_of l) refl (block_stuck allowed ls fault)
   where
-    by_line : kind_of l ≡ IndentedLine → Outcome (Spaced allowed (spaces_of l.units)) (behind_spaces l.units) l → (block allowed ls ≡ Err fault → BlockStuck allowed ls fault) → BlockStuck allowed (l ∷ ls) fault
+    by_line : kind_of l ≡ IndentedLine → Outcome (Spaced allowed (spaces_of l.units)) (after_spaces l.units) l → (block allowed ls ≡ Err fault → BlockStuck allowed ls fault) → BlockStuck allowed (l ∷ ls) fault
     by_line k (stuck f s) rest = as_fault allowed (l ∷ ls) fault f (same_fault (block allowed (l ∷ ls)) fault f h (bad_block allowed l ls f k (s.fails ls).2)) (stuck_here allowed l ls f k s)
     by_line k (through v so) rest =
-        let whole = indented_block allowed l ls k ∙ ap (λ (y : Step LineText). y >>= λ line. or_last l (no_lines (lines_behind l ls)) (block allowed ls) >>= λ more. Ok (line.0 ∷ more.0, more.1)) (so ls).2 in
-        let failed = then_fault (or_last l (no_lines (lines_behind l ls)) (block allowed ls)) (v, Between (lines_behind l ls)) fault (sym whole ∙ h) in
-        let last = not_last l.is_last ([], lines_behind l ls) (block allowed ls) fault failed in
-        stuck_behind_line allowed l ls fault v (λ ms. read_block allowed l ms v (Between (lines_behind l ms)) k last.0 (so ms).2) (rest last.1)
+        let whole = indented_block allowed l ls k ∙ ap (λ (y : Step LineText). y >>= λ line. or_last l (no_lines (lines_after l ls)) (block allowed ls) >>= λ more. Ok (line.0 ∷ more.0, more.1)) (so ls).2 in
+        let failed = then_fault (or_last l (no_lines (lines_after l ls)) (block allowed ls)) (v, Between (lines_after l ls)) fault (sym whole ∙ h) in
+        let last = not_last l.is_last ([], lines_after l ls) (block allowed ls) fault failed in
+        stuck_after_line allowed l ls fault v (λ ms. read_block allowed l ms v (Between (lines_after l ms)) k last.0 (so ms).2) (rest last.1)
 
     by_kind : (k : Kind) → kind_of l ≡ k → (block allowed ls ≡ Err fault → BlockStuck allowed ls fault) → BlockStuck allowed (l ∷ ls) fault
     by_kind CommentLine k rest =
-        let last = not_last l.is_last ([], lines_behind l (without_comments ls)) (block allowed ls) fault (sym (comment_block allowed l ls k) ∙ h) in
-        stuck_behind_comment allowed l ls fault (λ ms. comment_not_last allowed l ms k last.0) (rest last.1)
+        let last = not_last l.is_last ([], lines_after l (without_comments ls)) (block allowed ls) fault (sym (comment_block allowed l ls k) ∙ h) in
+        stuck_after_comment allowed l ls fault (λ ms. comment_not_last allowed l ms k last.0) (rest last.1)
     by_kind (TabLine tab) k rest = as_fault allowed (l ∷ ls) fault (Bad (lex.Tab tab)) (same_fault (block allowed (l ∷ ls)) fault (Bad (lex.Tab tab)) h (tab_block allowed l ls tab k)) (tab_here allowed l ls tab k)
     by_kind IndentedLine k rest = by_line k (line_outcome allowed l k) rest
-    by_kind BlankLine k rest = absurd (no_fault (block allowed (l ∷ ls)) ([], lines_behind l ls) fault (blank_block allowed l ls k) h)
+    by_kind BlankLine k rest = absurd (no_fault (block allowed (l ∷ ls)) ([], lines_after l ls) fault (blank_block allowed l ls k) h)
     by_kind PlainLine k rest = absurd (no_fault (block allowed (l ∷ ls)) ([], l ∷ ls) fault (plain_block allowed l ls k) h)

@@ -53,17 +53,17 @@ closing_block (BuildHead outputs rule inputs) = refl
 
 -- ---- the last lines decide
 
-any_behind : (p : LineText → Bool) (front tail : List LineText) → list_any p tail ≡ true → list_any p (front ++ tail) ≡ true
-any_behind p [] tail h = h
-any_behind p (l ∷ front) tail h = by_test (p l) (any_behind p front tail h)
+any_after : (p : LineText → Bool) (front tail : List LineText) → list_any p tail ≡ true → list_any p (front ++ tail) ≡ true
+any_after p [] tail h = h
+any_after p (l ∷ front) tail h = by_test (p l) (any_after p front tail h)
   where
     by_test : (t : Bool) → list_any p (front ++ tail) ≡ true → (t || list_any p (front ++ tail)) ≡ true
     by_test true e = refl
     by_test false e = e
 
-gives_behind : (key : List ℕ) (front tail : List LineText) → names key tail ≡ true → gives key (front ++ tail) ≡ gives key tail
-gives_behind key [] tail h = refl
-gives_behind key (l ∷ front) tail h = by_test (list_any (λ (m : LineText). bytes_eq m.name key) (front ++ tail)) (bytes_eq l.name key) (any_behind (λ (m : LineText). bytes_eq m.name key) front tail h) (gives_behind key front tail h)
+gives_after : (key : List ℕ) (front tail : List LineText) → names key tail ≡ true → gives key (front ++ tail) ≡ gives key tail
+gives_after key [] tail h = refl
+gives_after key (l ∷ front) tail h = by_test (list_any (λ (m : LineText). bytes_eq m.name key) (front ++ tail)) (bytes_eq l.name key) (any_after (λ (m : LineText). bytes_eq m.name key) front tail h) (gives_after key front tail h)
   where
     by_test : (a p : Bool) → a ≡ true → gives key (front ++ tail) ≡ gives key tail → cond (p && not a) (not (is_empty l.value.parts)) (gives key (front ++ tail)) ≡ gives key tail
     by_test false p e rest = absurd cc
@@ -74,11 +74,11 @@ rule_whole : (spot : Spot) (name : NameText) (front : List LineText) → whole_r
 unfolding whole_rule
 rule_whole spot name front =
     let tail = closing_text (RuleHead name) in
-    rw (gives_behind (codes "rspfile") front tail refl, gives_behind (codes "rspfile_content") front tail refl, gives_behind (codes "command") front tail refl) refl
+    rw (gives_after (codes "rspfile") front tail refl, gives_after (codes "rspfile_content") front tail refl, gives_after (codes "command") front tail refl) refl
 
 pool_whole : (spot : Spot) (name : NameText) (front : List LineText) → whole_pool spot (front ++ closing_text (PoolHead name)) ≡ Ok (front ++ closing_text (PoolHead name))
 unfolding whole_pool
-pool_whole spot name front = rw (any_behind (λ (m : LineText). bytes_eq m.name (codes "depth")) front (closing_text (PoolHead name)) refl) refl
+pool_whole spot name front = rw (any_after (λ (m : LineText). bytes_eq m.name (codes "depth")) front (closing_text (PoolHead name)) refl) refl
 
 -- What reads a block up to these lines reads a statement with them.
 pub closed : (spot : Spot) (h : HeadText) (ls : List Line) (front : List LineText) → block (keys_of h) ls ≡ in_front front (block (keys_of h) (map written (closing h))) → (item : StatementText) × (rest : List Line) × (with_block spot h ls ≡ Ok (item, rest))

@@ -13,7 +13,7 @@ use Rattle.nj_manifest.specs.Faults.{Fault, Bad, Expected}
 use Rattle.nj_manifest.specs.LineSteps.{Step, ◌>>=◌}
 use Rattle.nj_manifest.specs.Statements.{path_there}
 use Rattle.nj_manifest.specs.Leftmost.{are_plain, offers}
-use Rattle.nj_manifest.proofs.LeftmostRuns.{begins, both_parts, behind_stops, skip, skip_stops, gap_of, gap_passes, gap_cut}
+use Rattle.nj_manifest.proofs.LeftmostRuns.{begins, both_parts, after_stops, skip, skip_stops, gap_of, gap_passes, gap_cut}
 use Rattle.nj_manifest.proofs.LeftmostFronts.{fault-same, element-front}
 use Rattle.nj_manifest.proofs.LeftmostSteps.{at, text, after_name, after_words, Fits, fits-gap, Passes, FailsAt, fault-place}
 use Rattle.nj_manifest.proofs.LeftmostNames.{no_blank_there}
@@ -82,8 +82,8 @@ none_first us e h = record {
 }
 
 module _ (us : List TextUnit) (u : TextUnit) (run rest : List TextUnit) (e : Line) (o : opens_word u ≡ true) (a : AllIn in_word (u ∷ run)) (c : us ≡ (gap_of us ++ u ∷ run) ++ rest) where
-  bad_behind : (bad : UnitFault) → next_fault rest ≡ Some bad → FileStuck us e (Bad bad)
-  bad_behind bad f = record {
+  bad_after : (bad : UnitFault) → next_fault rest ≡ Some bad → FileStuck us e (Bad bad)
+  bad_after bad f = record {
     used = gap_of us ++ u ∷ run;
     left = rest;
     here = record {
@@ -118,7 +118,7 @@ pub file_seen : (us : List TextUnit) (e : Line) → FileSeen us e
 file_seen us e = by_fault (next_fault (skip us)) refl
   where
     by_end : (u : TextUnit) (run rest : List TextUnit) → opens_word u ≡ true → AllIn in_word (u ∷ run) → begins in_word rest ≡ false → us ≡ (gap_of us ++ u ∷ run) ++ rest → (f : Option UnitFault) → next_fault rest ≡ f → FileSeen us e
-    by_end u run rest o a n c (Some bad) f = ends_here (Bad bad) (bad_behind us u run rest e o a c bad f)
+    by_end u run rest o a n c (Some bad) f = ends_here (Bad bad) (bad_after us u run rest e o a c bad f)
     by_end u run rest o a n c None f = reads_on (file_passes us u run rest e o a c (both_so _ _ (so_not _ n) (is-sound _ f)))
 
     by_run : (run : List TextUnit) → AllIn in_word run → (r : List TextUnit) → skip us ≡ r → begins opens_word r ≡ true → take_while in_word r ≡ run → FileSeen us e
@@ -136,7 +136,7 @@ file_seen us e = by_fault (next_fault (skip us)) refl
         let rest = drop_while in_word (v ∷ vs) in
         let parts : skip us ≡ (u ∷ run) ++ rest = r ∙ (both_parts in_word (v ∷ vs) ∙ ap (λ (y : List TextUnit). y ++ rest) t) in
         let cut : us ≡ (gap_of us ++ u ∷ run) ++ rest = gap_cut us ∙ (ap (λ (y : List TextUnit). gap_of us ++ y) parts ∙ sym (append_assoc (gap_of us) (u ∷ run) rest)) in
-        by_end u run rest (ap opens_word (sym first) ∙ o) a (behind_stops in_word (v ∷ vs)) cut (next_fault rest) refl
+        by_end u run rest (ap opens_word (sym first) ∙ o) a (after_stops in_word (v ∷ vs)) cut (next_fault rest) refl
 
     by_word : (b : Bool) → begins opens_word (skip us) ≡ b → next_fault (skip us) ≡ None → FileSeen us e
     by_word false w f = ends_here _ (first_stuck us e _ refl (none_first us e (settled_so (skip us) (skip_stops us) w f)))

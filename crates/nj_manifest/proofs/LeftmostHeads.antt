@@ -138,9 +138,9 @@ module _ {P : Said HeadText} {whole : List TextUnit} (e : Line) where
           stuck fault (stick (λ s. as_head head (file_next s)) file_word (file_end head) (file_is head) a n.here n.bytes n.plain n.offered d.0 n.fits
           (λ ms. file_is head (at (n.used ++ text n.bytes) (written []) ms) ∙ (ap (λ r. r >>= file_end head) (n.reads (written []) ms) ∙ d.1 ms)))
 
-  behind_turn : (word : List ℕ) (us : List TextUnit) → Along P whole (λ s. head_after word s) after_name us → Outcome P whole e
+  after_turn : (word : List ℕ) (us : List TextUnit) → Along P whole (λ s. head_after word s) after_name us → Outcome P whole e
   unfolding head_after
-  behind_turn word us a =
+  after_turn word us a =
       by_word (bytes_eq word (codes "build")) (bytes_eq word (codes "rule")) (bytes_eq word (codes "pool")) (bytes_eq word (codes "default")) (bytes_eq word (codes "include")) (bytes_eq word (codes "subninja")) a
     where
       by_word : (b r p d i u : Bool)
@@ -158,4 +158,4 @@ module _ {P : Said HeadText} {whole : List TextUnit} (e : Line) where
   pub head_turn : (us : List TextUnit) → Along P whole head_next starts us → Outcome P whole e
   unfolding head_next
   head_turn us a =
-      name_turn e wanted.Statement head_next (λ word. head_after word.0.name word.1) (λ s. refl) a (97 ∷ 61 ∷ 98 ∷ []) refl refl refl ends_binding (λ n b. behind_turn n.passes.value.name n.passes.left b)
+      name_turn e wanted.Statement head_next (λ word. head_after word.0.name word.1) (λ s. refl) a (97 ∷ 61 ∷ 98 ∷ []) refl refl refl ends_binding (λ n b. after_turn n.passes.value.name n.passes.left b)

@@ -4,30 +4,30 @@ use Rattle.std.specs.List.{take_while}
 use Rattle.nj_text.specs.declared.spot.Spot.{Spot}
 use Rattle.nj_text.specs.Bytes.{drop_while, is_space, is_identifier_byte}
 use Rattle.nj_text.specs.Units.{Meaning, Ordinary, Comment, LeadingTab, TextUnit, is_ordinary_in}
-use Rattle.nj_text.specs.Lines.{Kind, TabLine, IndentedLine, PlainLine, is_space_unit, text_kind, kind_with, kind_behind_spaces, begins_with_space, spot_of_first}
+use Rattle.nj_text.specs.Lines.{Kind, TabLine, IndentedLine, PlainLine, is_space_unit, text_kind, kind_with, kind_after_spaces, begins_with_space, spot_of_first}
 use Rattle.nj_text.specs.Words.{in_identifier}
 use Rattle.nj_text.proofs.Lists.{AllIn, AllIn-take_while}
-use Rattle.nj_manifest.proofs.LeftmostRuns.{begins, both_parts, behind_stops, run_passed, none_passed, no_other, not_byte}
+use Rattle.nj_manifest.proofs.LeftmostRuns.{begins, both_parts, after_stops, run_passed, none_passed, no_other, not_byte}
 use Rattle.nj_manifest.proofs.LeftmostFronts.{front, same-head, begins-same}
 
 -- the kind of a line with these units
 abbrev pub kind_units : List TextUnit → Kind
-kind_units us = kind_behind_spaces (drop_while is_space_unit us) (begins_with_space us)
+kind_units us = kind_after_spaces (drop_while is_space_unit us) (begins_with_space us)
 
 abbrev pub spaces_of : List TextUnit → List TextUnit
 spaces_of us = take_while is_space_unit us
 
-abbrev pub behind_spaces : List TextUnit → List TextUnit
-behind_spaces us = drop_while is_space_unit us
+abbrev pub after_spaces : List TextUnit → List TextUnit
+after_spaces us = drop_while is_space_unit us
 
-pub spaces_cut : (us : List TextUnit) → us ≡ spaces_of us ++ behind_spaces us
+pub spaces_cut : (us : List TextUnit) → us ≡ spaces_of us ++ after_spaces us
 spaces_cut us = both_parts is_space_unit us
 
 pub spaces_pass : (us : List TextUnit) → AllIn is_space_unit (spaces_of us)
 spaces_pass us = AllIn-take_while is_space_unit us
 
-pub spaces_stop : (us : List TextUnit) → begins is_space_unit (behind_spaces us) ≡ false
-spaces_stop us = behind_stops is_space_unit us
+pub spaces_stop : (us : List TextUnit) → begins is_space_unit (after_spaces us) ≡ false
+spaces_stop us = after_stops is_space_unit us
 
 no_space_begins : (us : List TextUnit) → begins is_space_unit us ≡ false → begins_with_space us ≡ false
 no_space_begins [] h = refl
@@ -37,31 +37,31 @@ spaced_begins : (sp x : List TextUnit) → begins is_space_unit x ≡ false → 
 spaced_begins [] x h = no_space_begins x h
 spaced_begins (u ∷ sp) x h = refl
 
-pub unspaced : (sp x : List TextUnit) → AllIn is_space_unit sp → begins is_space_unit x ≡ false → behind_spaces (sp ++ x) ≡ x
+pub unspaced : (sp x : List TextUnit) → AllIn is_space_unit sp → begins is_space_unit x ≡ false → after_spaces (sp ++ x) ≡ x
 unspaced sp x a h = run_passed is_space_unit sp x a h
 
 -- behind some spaces, or none
-pub kind_spaced : (sp x : List TextUnit) → AllIn is_space_unit sp → begins is_space_unit x ≡ false → kind_units (sp ++ x) ≡ kind_behind_spaces x (begins_with_space sp)
-kind_spaced sp x a h = ap (λ (y : List TextUnit). kind_behind_spaces y (begins_with_space (sp ++ x))) (unspaced sp x a h) ∙ ap (λ (t : Bool). kind_behind_spaces x t) (spaced_begins sp x h)
+pub kind_spaced : (sp x : List TextUnit) → AllIn is_space_unit sp → begins is_space_unit x ≡ false → kind_units (sp ++ x) ≡ kind_after_spaces x (begins_with_space sp)
+kind_spaced sp x a h = ap (λ (y : List TextUnit). kind_after_spaces y (begins_with_space (sp ++ x))) (unspaced sp x a h) ∙ ap (λ (t : Bool). kind_after_spaces x t) (spaced_begins sp x h)
 
 -- the kind of the whole is that behind its own spaces
-pub kind_here : (us : List TextUnit) → kind_units us ≡ kind_behind_spaces (behind_spaces us) (begins_with_space (spaces_of us))
-kind_here us = ap kind_units (spaces_cut us) ∙ kind_spaced (spaces_of us) (behind_spaces us) (spaces_pass us) (spaces_stop us)
+pub kind_here : (us : List TextUnit) → kind_units us ≡ kind_after_spaces (after_spaces us) (begins_with_space (spaces_of us))
+kind_here us = ap kind_units (spaces_cut us) ∙ kind_spaced (spaces_of us) (after_spaces us) (spaces_pass us) (spaces_stop us)
 
-kind_head : (x : List TextUnit) (t : Bool) → kind_behind_spaces x t ≡ kind_behind_spaces (take 1 x) t
+kind_head : (x : List TextUnit) (t : Bool) → kind_after_spaces x t ≡ kind_after_spaces (take 1 x) t
 kind_head [] t = refl
 kind_head (u ∷ x) t = refl
 
-kind_same : (x y : List TextUnit) (t : Bool) → front x ≡ front y → kind_behind_spaces x t ≡ kind_behind_spaces y t
-kind_same x y t h = kind_head x t ∙ (ap (λ (z : List TextUnit). kind_behind_spaces z t) (same-head x y h) ∙ sym (kind_head y t))
+kind_same : (x y : List TextUnit) (t : Bool) → front x ≡ front y → kind_after_spaces x t ≡ kind_after_spaces y t
+kind_same x y t h = kind_head x t ∙ (ap (λ (z : List TextUnit). kind_after_spaces z t) (same-head x y h) ∙ sym (kind_head y t))
 
-pub no_space_same : (us x : List TextUnit) → front x ≡ front (behind_spaces us) → begins is_space_unit x ≡ false
-no_space_same us x h = begins-same is_space_unit x (behind_spaces us) h ∙ spaces_stop us
+pub no_space_same : (us x : List TextUnit) → front x ≡ front (after_spaces us) → begins is_space_unit x ≡ false
+no_space_same us x h = begins-same is_space_unit x (after_spaces us) h ∙ spaces_stop us
 
 -- units in place of those behind the spaces
-pub kind_replaced : (us x : List TextUnit) → front x ≡ front (behind_spaces us) → kind_units (spaces_of us ++ x) ≡ kind_units us
+pub kind_replaced : (us x : List TextUnit) → front x ≡ front (after_spaces us) → kind_units (spaces_of us ++ x) ≡ kind_units us
 kind_replaced us x h =
-    kind_spaced (spaces_of us) x (spaces_pass us) (no_space_same us x h) ∙ (kind_same x (behind_spaces us) (begins_with_space (spaces_of us)) h ∙ sym (kind_here us))
+    kind_spaced (spaces_of us) x (spaces_pass us) (no_space_same us x h) ∙ (kind_same x (after_spaces us) (begins_with_space (spaces_of us)) h ∙ sym (kind_here us))
 
 -- ---- plain lines
 
@@ -70,7 +70,7 @@ indented_kind Comment spot h = absurd cc
 indented_kind LeadingTab spot h = absurd cc
 indented_kind m spot h = absurd cc
 
-indented_plain : (us : List TextUnit) → kind_behind_spaces us true ≡ PlainLine → ⊥
+indented_plain : (us : List TextUnit) → kind_after_spaces us true ≡ PlainLine → ⊥
 indented_plain [] h = absurd cc
 indented_plain (u ∷ us) h = indented_kind u.means u.spot h
 
@@ -79,11 +79,11 @@ plain_begins [] h = refl
 plain_begins (u ∷ us) h = by_test (is_space_unit u) refl
   where
     by_test : (t : Bool) → is_space_unit u ≡ t → t ≡ false
-    by_test true e = absurd (indented_plain (behind_spaces (u ∷ us)) (ap (λ (t : Bool). kind_behind_spaces (behind_spaces (u ∷ us)) t) (sym e) ∙ h))
+    by_test true e = absurd (indented_plain (after_spaces (u ∷ us)) (ap (λ (t : Bool). kind_after_spaces (after_spaces (u ∷ us)) t) (sym e) ∙ h))
     by_test false e = refl
 
-unspaced_kind : (us : List TextUnit) → begins is_space_unit us ≡ false → kind_units us ≡ kind_behind_spaces us false
-unspaced_kind us h = ap (λ (y : List TextUnit). kind_behind_spaces y (begins_with_space us)) (none_passed is_space_unit us h) ∙ ap (λ (t : Bool). kind_behind_spaces us t) (no_space_begins us h)
+unspaced_kind : (us : List TextUnit) → begins is_space_unit us ≡ false → kind_units us ≡ kind_after_spaces us false
+unspaced_kind us h = ap (λ (y : List TextUnit). kind_after_spaces y (begins_with_space us)) (none_passed is_space_unit us h) ∙ ap (λ (t : Bool). kind_after_spaces us t) (no_space_begins us h)
 
 pub plain_same : (us x : List TextUnit) → kind_units us ≡ PlainLine → front x ≡ front us → kind_units x ≡ PlainLine
 plain_same us x h e =
@@ -100,7 +100,7 @@ pub identifier_no_space : (x : List TextUnit) → begins in_identifier x ≡ tru
 identifier_no_space [] h = refl
 identifier_no_space (u ∷ x) h = no_other is_identifier_byte (is_ordinary_in is_space) (not_byte is_identifier_byte 32 refl) u.means h
 
-identifier_text : (x : List TextUnit) (t : Bool) → begins in_identifier x ≡ true → kind_behind_spaces x t ≡ text_kind t
+identifier_text : (x : List TextUnit) (t : Bool) → begins in_identifier x ≡ true → kind_after_spaces x t ≡ text_kind t
 identifier_text [] t h = absurd cc
 identifier_text (u ∷ x) t h = identifier_kind u.means u.spot t h
 
@@ -116,13 +116,13 @@ unindented_kind Comment spot h = absurd cc
 unindented_kind LeadingTab spot h = absurd cc
 unindented_kind m spot h = absurd cc
 
-unindented : (us : List TextUnit) (t : Bool) → kind_behind_spaces us t ≡ IndentedLine → t ≡ true
+unindented : (us : List TextUnit) (t : Bool) → kind_after_spaces us t ≡ IndentedLine → t ≡ true
 unindented us true h = refl
 unindented [] false h = absurd cc
 unindented (u ∷ us) false h = absurd (unindented_kind u.means u.spot h)
 
 pub indented_spaces : (us : List TextUnit) → kind_units us ≡ IndentedLine → begins_with_space (spaces_of us) ≡ true
-indented_spaces us h = unindented (behind_spaces us) (begins_with_space (spaces_of us)) (sym (kind_here us) ∙ h)
+indented_spaces us h = unindented (after_spaces us) (begins_with_space (spaces_of us)) (sym (kind_here us) ∙ h)
 
 -- ---- tabs
 
@@ -137,9 +137,9 @@ tab_spot (Ordinary b) spot t tab h = absurd (no_tab t tab h)
 tab_spot m spot true tab h = absurd cc
 tab_spot m spot false tab h = absurd cc
 
-tab_first : (us : List TextUnit) (t : Bool) (tab end : Spot) → kind_behind_spaces us t ≡ TabLine tab → tab ≡ spot_of_first us end
+tab_first : (us : List TextUnit) (t : Bool) (tab end : Spot) → kind_after_spaces us t ≡ TabLine tab → tab ≡ spot_of_first us end
 tab_first [] t tab end h = absurd cc
 tab_first (u ∷ us) t tab end h = tab_spot u.means u.spot t tab h
 
-pub tab_place : (us : List TextUnit) (tab end : Spot) → kind_units us ≡ TabLine tab → tab ≡ spot_of_first (behind_spaces us) end
-tab_place us tab end h = tab_first (behind_spaces us) (begins_with_space (spaces_of us)) tab end (sym (kind_here us) ∙ h)
+pub tab_place : (us : List TextUnit) (tab end : Spot) → kind_units us ≡ TabLine tab → tab ≡ spot_of_first (after_spaces us) end
+tab_place us tab end h = tab_first (after_spaces us) (begins_with_space (spaces_of us)) tab end (sym (kind_here us) ∙ h)

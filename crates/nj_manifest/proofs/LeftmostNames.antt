@@ -13,7 +13,7 @@ use Rattle.nj_manifest.specs.declared.fault.Wanted.{Wanted}
 use Rattle.nj_manifest.specs.Faults.{Fault, Bad, Expected}
 use Rattle.nj_manifest.specs.LineSteps.{Step, ◌>>=◌, called, NameText, named, name_next}
 use Rattle.nj_manifest.specs.Leftmost.{element}
-use Rattle.nj_manifest.proofs.LeftmostRuns.{begins, both_parts, behind_stops, none_passed, none_taken, run_passed, run_taken, skip, skip_again, skip_stops, skip_gap, gap_of, gap_passes, gap_cut, no_other, not_byte}
+use Rattle.nj_manifest.proofs.LeftmostRuns.{begins, both_parts, after_stops, none_passed, none_taken, run_passed, run_taken, skip, skip_again, skip_stops, skip_gap, gap_of, gap_passes, gap_cut, no_other, not_byte}
 use Rattle.nj_manifest.proofs.LeftmostFronts.{identifier_no_pipe, begins-same, fault-same, element-front, element-identifier}
 use Rattle.nj_manifest.proofs.LeftmostSteps.{at, blank_no_pipe, Fits, by_fits, fits-alone, Passes, FailsAt, fault-place, opens-none, after_name, is_separator, separator_is, ordinary_no_fault, OfWanted}
 
@@ -37,8 +37,8 @@ unfolding name_next
 name_is_here want us e ms = rw (skip_again us) refl
 
 -- behind blanks
-name_behind : (want : Wanted) (gap x : List TextUnit) (e : Line) (ms : List Line) → AllIn is_blank gap → begins is_blank x ≡ false → name_next want (at (gap ++ x) e ms) ≡ name_here want x e ms
-name_behind want gap x e ms h n = name_is_here want (gap ++ x) e ms ∙ ap (λ (y : List TextUnit). name_here want y e ms) (skip_gap gap x h ∙ none_passed is_blank x n)
+name_after : (want : Wanted) (gap x : List TextUnit) (e : Line) (ms : List Line) → AllIn is_blank gap → begins is_blank x ≡ false → name_next want (at (gap ++ x) e ms) ≡ name_here want x e ms
+name_after want gap x e ms h n = name_is_here want (gap ++ x) e ms ∙ ap (λ (y : List TextUnit). name_here want y e ms) (skip_gap gap x h ∙ none_passed is_blank x n)
 
 -- blanks before a name do not matter
 pub name_skips : (want : Wanted) (gap x : List TextUnit) (e : Line) (ms : List Line) → AllIn is_blank gap → name_next want (at (gap ++ x) e ms) ≡ name_next want (at x e ms)
@@ -58,7 +58,7 @@ pub name_reads : (want : Wanted) (gap run x : List TextUnit) (u : TextUnit) (e :
     → name_next want (at ((gap ++ u ∷ run) ++ x) e ms) ≡ Ok (record { spot = u.spot; name = b ∷ bs }, at x e ms)
 name_reads want gap run x u e ms b bs g i h n =
     ap (λ (y : List TextUnit). name_next want (at y e ms)) (append_assoc gap (u ∷ run) x)
-    ∙ (name_behind want gap ((u ∷ run) ++ x) e ms g (identifier_no_blank u i.0)
+    ∙ (name_after want gap ((u ∷ run) ++ x) e ms g (identifier_no_blank u i.0)
     ∙ named_ok want (next_fault ((u ∷ run) ++ x)) (take_while in_identifier ((u ∷ run) ++ x)) (u ∷ run) u.spot u.spot (at (drop_while in_identifier ((u ∷ run) ++ x)) e ms) (at x e ms) b bs
     (identifier_no_fault u i.0) (run_taken in_identifier (u ∷ run) x i n) refl (ap (λ (y : List TextUnit). at y e ms) (run_passed in_identifier (u ∷ run) x i n)) h)
 
@@ -109,7 +109,7 @@ passes_name want t us e run u b bs r i h =
     let left = drop_while in_identifier (skip us) in
     let parts : skip us ≡ (u ∷ run) ++ left = both_parts in_identifier (skip us) ∙ ap (λ (y : List TextUnit). y ++ left) r in
     let cut : us ≡ (gap_of us ++ u ∷ run) ++ left = gap_cut us ∙ (ap (λ (y : List TextUnit). gap_of us ++ y) parts ∙ sym (append_assoc (gap_of us) (u ∷ run) left)) in
-    let stops = λ (x : List TextUnit) (fit : Fits after_name left x). by_fits left x (begins in_identifier) (λ y o. opens-none is_separator (is_ordinary_in is_identifier_byte) (separator_is (λ c. is_identifier_byte c ≡ false) refl refl refl) y o) (λ y f. begins-same in_identifier y left f) (behind_stops in_identifier (skip us)) fit in
+    let stops = λ (x : List TextUnit) (fit : Fits after_name left x). by_fits left x (begins in_identifier) (λ y o. opens-none is_separator (is_ordinary_in is_identifier_byte) (separator_is (λ c. is_identifier_byte c ≡ false) refl refl refl) y o) (λ y f. begins-same in_identifier y left f) (after_stops in_identifier (skip us)) fit in
     record {
       passes = record {
         used = gap_of us ++ u ∷ run;
@@ -124,7 +124,7 @@ passes_name want t us e run u b bs r i h =
           let x_run = same_run x (skip us) same ∙ r in
           let sees = fault-same x (skip us) (element-front x (skip us) same) in (
             at (drop_while in_identifier x) d ms,
-            name_behind want (gap_of us) x d ms g (no_blank_there us x same)
+            name_after want (gap_of us) x d ms g (no_blank_there us x same)
                 ∙ named_ok want (next_fault x) (take_while in_identifier x) (u ∷ run) (spot_of_first x d.end) u.spot (at (drop_while in_identifier x) d ms) (at (drop_while in_identifier x) d ms) b bs
                 (sees ∙ (ap next_fault parts ∙ identifier_no_fault u i.0)) x_run (same_spot x u run d.end x_run) refl h,
           );
@@ -146,7 +146,7 @@ name_seen want t us e = by_fault (next_fault (skip us)) refl
       fails = λ ms. name_is_here want us e ms ∙ named_none want (next_fault (skip us)) (take_while in_identifier (skip us)) (spot_of_first (skip us) e.end) (at (drop_while in_identifier (skip us)) e ms) f (ap bytes_of r ∙ h);
       refuses = λ x d ms same.
           let sees = fault-same x (skip us) (element-front x (skip us) same) in
-          (name_behind want (gap_of us) x d ms (gap_passes us) (no_blank_there us x same)
+          (name_after want (gap_of us) x d ms (gap_passes us) (no_blank_there us x same)
           ∙ named_none want (next_fault x) (take_while in_identifier x) (spot_of_first x d.end) (at (drop_while in_identifier x) d ms) (sees ∙ f) (ap bytes_of (same_run x (skip us) same ∙ r) ∙ h));
     })
 
@@ -158,6 +158,6 @@ name_seen want t us e = by_fault (next_fault (skip us)) refl
       fails = λ ms. name_is_here want us e ms ∙ named_bad want (next_fault (skip us)) bad (take_while in_identifier (skip us)) (spot_of_first (skip us) e.end) (at (drop_while in_identifier (skip us)) e ms) f;
       refuses = λ x d ms same.
           let sees = fault-same x (skip us) (element-front x (skip us) same) in
-          (name_behind want (gap_of us) x d ms (gap_passes us) (no_blank_there us x same)
+          (name_after want (gap_of us) x d ms (gap_passes us) (no_blank_there us x same)
           ∙ named_bad want (next_fault x) bad (take_while in_identifier x) (spot_of_first x d.end) (at (drop_while in_identifier x) d ms) (sees ∙ f));
     })

@@ -21,9 +21,9 @@ both_parts p (u ∷ us) = by_test (p u) refl (both_parts p us)
     by_test true e rest = rw (take_while-cons_yes p u us e) (ap (λ (vs : List TextUnit). u ∷ vs) rest)
     by_test false e rest = rw (take_while-cons_no p u us e) refl
 
-pub behind_stops : (p : TextUnit → Bool) (us : List TextUnit) → begins p (drop_while p us) ≡ false
-behind_stops p [] = refl
-behind_stops p (u ∷ us) = by_test (p u) refl (behind_stops p us)
+pub after_stops : (p : TextUnit → Bool) (us : List TextUnit) → begins p (drop_while p us) ≡ false
+after_stops p [] = refl
+after_stops p (u ∷ us) = by_test (p u) refl (after_stops p us)
   where
     by_test : (t : Bool) → p u ≡ t → begins p (drop_while p us) ≡ false → begins p (cond t (drop_while p us) (u ∷ us)) ≡ false
     by_test true e rest = rest
@@ -55,7 +55,7 @@ abbrev pub gap_of : List TextUnit → List TextUnit
 gap_of us = take_while is_blank us
 
 pub skip_stops : (us : List TextUnit) → begins is_blank (skip us) ≡ false
-skip_stops us = behind_stops is_blank us
+skip_stops us = after_stops is_blank us
 
 pub skip_again : (us : List TextUnit) → skip (skip us) ≡ skip us
 skip_again us = none_passed is_blank (skip us) (skip_stops us)

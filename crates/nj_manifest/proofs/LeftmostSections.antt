@@ -6,7 +6,7 @@ use Rattle.nj_text.specs.declared.sign.Sign.TheVariants as sign
 use Rattle.nj_text.specs.Units.{Ordinary, TextUnit, is_ordinary_in}
 use Rattle.nj_text.specs.Lines.{Line, with_units}
 use Rattle.nj_text.specs.Words.{is_blank, is_blank_meaning, opens_word_meaning, begins_with_byte, next_fault, WordText}
-use Rattle.nj_text.specs.Calls.{State, reply, unless_fault, is_sign, behind_sign}
+use Rattle.nj_text.specs.Calls.{State, reply, unless_fault, is_sign, state_after_sign}
 use Rattle.nj_manifest.specs.Faults.{Fault}
 use Rattle.nj_manifest.specs.LineSteps.{Step, ◌>>=◌, called, words_next, words_if, section_next}
 use Rattle.nj_manifest.proofs.LeftmostRuns.{begins, none_passed}
@@ -45,9 +45,9 @@ no_and t s h = rw h refl
 abbrev section_by : Option UnitFault → Bool → (on other : State) → Step (List WordText)
 section_by f t on other = called (unless_fault f (cond t (reply true on) (reply false other))) >>= λ so. words_if so.0 so.1
 
-section_is : (want : Sign) (us : List TextUnit) (e : Line) (ms : List Line) → settled us ≡ true → section_next want (at us e ms) ≡ section_by (next_fault us) (is_sign want us) (behind_sign want (with_units us e) ms) (at us e ms)
+section_is : (want : Sign) (us : List TextUnit) (e : Line) (ms : List Line) → settled us ≡ true → section_next want (at us e ms) ≡ section_by (next_fault us) (is_sign want us) (state_after_sign want (with_units us e) ms) (at us e ms)
 unfolding section_next
-section_is want us e ms h = ap (λ (y : List TextUnit). section_by (next_fault y) (is_sign want y) (behind_sign want (with_units y e) ms) (at y e ms)) (none_passed is_blank us (settled_blank us h))
+section_is want us e ms h = ap (λ (y : List TextUnit). section_by (next_fault y) (is_sign want y) (state_after_sign want (with_units y e) ms) (at y e ms)) (none_passed is_blank us (settled_blank us h))
 
 section_there : (f : Option UnitFault) (t : Bool) (on other : State) → f ≡ None → t ≡ true → section_by f t on other ≡ words_next on
 section_there f t on other h g = rw (h, g) refl

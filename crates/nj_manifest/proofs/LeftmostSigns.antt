@@ -4,9 +4,9 @@ use Rattle.nj_text.specs.declared.fault.UnitFault.{UnitFault}
 use Rattle.nj_text.specs.declared.sign.Sign.{Sign}
 use Rattle.nj_text.specs.declared.sign.Sign.TheVariants as sign
 use Rattle.nj_text.specs.Units.{TextUnit, is_ordinary_in}
-use Rattle.nj_text.specs.Lines.{Line, with_units, lines_behind, spot_of_first}
+use Rattle.nj_text.specs.Lines.{Line, with_units, lines_after, spot_of_first}
 use Rattle.nj_text.specs.Words.{is_blank, begins_with_byte, next_fault}
-use Rattle.nj_text.specs.Calls.{State, Between, reply, unless_fault, is_empty, is_sign, behind_sign}
+use Rattle.nj_text.specs.Calls.{State, Between, reply, unless_fault, is_empty, is_sign, state_after_sign}
 use Rattle.nj_text.proofs.Lists.{AllIn}
 use Rattle.nj_manifest.specs.declared.fault.Wanted.{Wanted}
 use Rattle.nj_manifest.specs.declared.fault.Wanted.TheVariants as wanted
@@ -34,18 +34,18 @@ abbrev sign_by : Wanted → Option UnitFault → Bool → (there other : State) 
 sign_by miss f t there other = called (unless_fault f (cond t (reply true there) (reply false other))) >>= λ t. if_there miss t.0 t.1
 
 abbrev sign_here : Sign → Wanted → List TextUnit → Line → List Line → Result State Fault
-sign_here want miss us e ms = sign_by miss (next_fault us) (is_sign want us) (behind_sign want (with_units us e) ms) (at us e ms)
+sign_here want miss us e ms = sign_by miss (next_fault us) (is_sign want us) (state_after_sign want (with_units us e) ms) (at us e ms)
 
-behind_is_here : (want : Sign) (miss : Wanted) (us : List TextUnit) (e : Line) (ms : List Line) → expect_sign want miss (at us e ms) ≡ sign_here want miss (skip us) e ms
+after_is_here : (want : Sign) (miss : Wanted) (us : List TextUnit) (e : Line) (ms : List Line) → expect_sign want miss (at us e ms) ≡ sign_here want miss (skip us) e ms
 unfolding expect_sign
-behind_is_here want miss us e ms = refl
+after_is_here want miss us e ms = refl
 
-sign_behind : (want : Sign) (miss : Wanted) (gap x : List TextUnit) (e : Line) (ms : List Line) → AllIn is_blank gap → skip x ≡ x → expect_sign want miss (at (gap ++ x) e ms) ≡ sign_here want miss x e ms
-sign_behind want miss gap x e ms h n = behind_is_here want miss (gap ++ x) e ms ∙ ap (λ (y : List TextUnit). sign_here want miss y e ms) (skip_gap gap x h ∙ n)
+sign_after : (want : Sign) (miss : Wanted) (gap x : List TextUnit) (e : Line) (ms : List Line) → AllIn is_blank gap → skip x ≡ x → expect_sign want miss (at (gap ++ x) e ms) ≡ sign_here want miss x e ms
+sign_after want miss gap x e ms h n = after_is_here want miss (gap ++ x) e ms ∙ ap (λ (y : List TextUnit). sign_here want miss y e ms) (skip_gap gap x h ∙ n)
 
 -- blanks before a sign do not matter
 pub sign_skips : (want : Sign) (miss : Wanted) (gap x : List TextUnit) (e : Line) (ms : List Line) → AllIn is_blank gap → expect_sign want miss (at (gap ++ x) e ms) ≡ expect_sign want miss (at x e ms)
-sign_skips want miss gap x e ms h = behind_is_here want miss (gap ++ x) e ms ∙ (ap (λ (y : List TextUnit). sign_here want miss y e ms) (skip_gap gap x h) ∙ sym (behind_is_here want miss x e ms))
+sign_skips want miss gap x e ms h = after_is_here want miss (gap ++ x) e ms ∙ (ap (λ (y : List TextUnit). sign_here want miss y e ms) (skip_gap gap x h) ∙ sym (after_is_here want miss x e ms))
 
 sign_ok : (miss : Wanted) (f : Option UnitFault) (t : Bool) (there there' other : State) → f ≡ None → t ≡ true → there ≡ there' → sign_by miss f t there other ≡ Ok there'
 sign_ok miss f t there there' other e g h = rw (e, g, h) refl
@@ -71,19 +71,19 @@ pub bad_before_sign : (want : Sign) (miss : Wanted) (us : List TextUnit) (e : Li
 bad_before_sign want miss us e bad f = record {
   cut = gap_cut us;
   place = fault-place (skip us) e.end bad f;
-  fails = λ ms. step_bad _ _ (behind_is_here want miss us e ms ∙ sign_bad miss _ bad _ _ _ f);
+  fails = λ ms. step_bad _ _ (after_is_here want miss us e ms ∙ sign_bad miss _ bad _ _ _ f);
   refuses = λ x d ms same.
-      step_bad _ _ (sign_behind want miss (gap_of us) x d ms (gap_passes us) (there_too us x same) ∙ sign_bad miss _ bad _ _ _ (fault-same x (skip us) (element-front x (skip us) same) ∙ f));
+      step_bad _ _ (sign_after want miss (gap_of us) x d ms (gap_passes us) (there_too us x same) ∙ sign_bad miss _ bad _ _ _ (fault-same x (skip us) (element-front x (skip us) same) ∙ f));
 }
 
 pub no_sign_there : (want : Sign) (miss : Wanted) (us : List TextUnit) (e : Line) → next_fault (skip us) ≡ None → is_sign want (skip us) ≡ false → FailsAt (sign_step want miss) us e (Expected (spot_of_first (skip us) e.end) miss) (gap_of us) (skip us)
 no_sign_there want miss us e f g = record {
   cut = gap_cut us;
   place = refl;
-  fails = λ ms. step_bad _ _ (behind_is_here want miss us e ms ∙ sign_none miss _ _ _ (skip us) e ms f g);
+  fails = λ ms. step_bad _ _ (after_is_here want miss us e ms ∙ sign_none miss _ _ _ (skip us) e ms f g);
   refuses = λ x d ms same.
       let sees = element-front x (skip us) same in
-      step_bad _ _ (sign_behind want miss (gap_of us) x d ms (gap_passes us) (there_too us x same) ∙ sign_none miss _ _ _ x d ms (fault-same x (skip us) sees ∙ f) (sign-same want x (skip us) sees ∙ g));
+      step_bad _ _ (sign_after want miss (gap_of us) x d ms (gap_passes us) (there_too us x same) ∙ sign_none miss _ _ _ x d ms (fault-same x (skip us) sees ∙ f) (sign-same want x (skip us) sees ∙ g));
 }
 
 -- ---- signs of one unit
@@ -93,7 +93,7 @@ pub record IsSingle (want : Sign) : Type 0 where
   pub no_pipe : eqb 124 byte ≡ false
   pub none : is_sign want [] ≡ false
   pub one : (u : TextUnit) (x : List TextUnit) → is_sign want (u ∷ x) ≡ is_ordinary_in (λ c. eqb c byte) u.means
-  pub behind : (u : TextUnit) (x : List TextUnit) (e : Line) (ms : List Line) → behind_sign want (with_units (u ∷ x) e) ms ≡ at x e ms
+  pub behind : (u : TextUnit) (x : List TextUnit) (e : Line) (ms : List Line) → state_after_sign want (with_units (u ∷ x) e) ms ≡ at x e ms
 
 pub colon_single : IsSingle sign.Colon
 colon_single = record { byte = 58; no_pipe = refl; none = refl; one = λ u x. refl; behind = λ u x e ms. refl }
@@ -123,7 +123,7 @@ passes_sign want miss t t' us s u left r h =
       cut = cut;
       goes = λ x d ms fit.
           step_ok _ _ (ap (λ (y : List TextUnit). expect_sign want miss (at y d ms)) (append_assoc (gap_of us) (u ∷ []) x)
-          ∙ (sign_behind want miss (gap_of us) (u ∷ x) d ms (gap_passes us) (none_passed is_blank (u ∷ x) blank)
+          ∙ (sign_after want miss (gap_of us) (u ∷ x) d ms (gap_passes us) (none_passed is_blank (u ∷ x) blank)
           ∙ sign_ok miss _ _ _ _ _ (ordinary_no_fault (λ c. eqb c s.byte) u.means u.spot is) (s.one u x ∙ is) (s.behind u x d ms)));
       settled = λ x fit. settled_by (gap_of us) (gap_passes us) x cut;
     }
@@ -153,11 +153,11 @@ sign_seen want miss t t' us e s = by_fault (next_fault (skip us)) refl
 -- ---- the end of the line
 
 -- the end where nothing but blanks is left
-end_there : (miss : Wanted) (gap : List TextUnit) (e : Line) (ms : List Line) → AllIn is_blank gap → expect_sign sign.LineEnd miss (at (gap ++ []) e ms) ≡ Ok (Between (lines_behind e ms))
-end_there miss gap e ms h = sign_behind sign.LineEnd miss gap [] e ms h refl
+end_there : (miss : Wanted) (gap : List TextUnit) (e : Line) (ms : List Line) → AllIn is_blank gap → expect_sign sign.LineEnd miss (at (gap ++ []) e ms) ≡ Ok (Between (lines_after e ms))
+end_there miss gap e ms h = sign_after sign.LineEnd miss gap [] e ms h refl
 
-end_here : (miss : Wanted) (us : List TextUnit) (e : Line) (ms : List Line) → skip us ≡ [] → expect_sign sign.LineEnd miss (at us e ms) ≡ Ok (Between (lines_behind e ms))
-end_here miss us e ms h = behind_is_here sign.LineEnd miss us e ms ∙ ap (λ (y : List TextUnit). sign_here sign.LineEnd miss y e ms) h
+end_here : (miss : Wanted) (us : List TextUnit) (e : Line) (ms : List Line) → skip us ≡ [] → expect_sign sign.LineEnd miss (at us e ms) ≡ Ok (Between (lines_after e ms))
+end_here miss us e ms h = after_is_here sign.LineEnd miss us e ms ∙ ap (λ (y : List TextUnit). sign_here sign.LineEnd miss y e ms) h
 
 with_value : {B : Type 0} (r : Result State Fault) (value : B) → ending value r ≡ (led_on r >>= λ x. Ok (value, x.1))
 with_value (Ok s) value = refl

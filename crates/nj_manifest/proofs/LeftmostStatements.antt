@@ -3,7 +3,7 @@ use Rattle.std.proofs.Common.{◌≡◌, Bool, true, false, cond, inl, inr, Opti
 use Rattle.nj_text.specs.declared.fault.UnitFault.TheVariants as lex
 use Rattle.nj_text.specs.declared.spot.Spot.{Spot}
 use Rattle.nj_text.specs.Units.{TextUnit}
-use Rattle.nj_text.specs.Lines.{Line, line_spot, with_units, lines_behind, Kind, CommentLine, TabLine, BlankLine, IndentedLine, PlainLine, kind_of, is_space_unit}
+use Rattle.nj_text.specs.Lines.{Line, line_spot, with_units, lines_after, Kind, CommentLine, TabLine, BlankLine, IndentedLine, PlainLine, kind_of, is_space_unit}
 use Rattle.nj_text.specs.Calls.{State, Between, Inside, without_comments}
 use Rattle.nj_text.proofs.Lists.{AllIn}
 use Rattle.nj_manifest.specs.declared.block.Keys.{Keys}
@@ -17,7 +17,7 @@ use Rattle.nj_manifest.proofs.LeftmostSteps.{at, text, Fits, Said, begin, Stuck,
 use Rattle.nj_manifest.proofs.LeftmostHeads.{starts, head_turn}
 use Rattle.nj_manifest.proofs.LeftmostBlocks.{BlockStuck, block_stuck, blank_block}
 use Rattle.nj_manifest.proofs.LeftmostEnds.{keys_of, closing, closing_plain, closed, block_refuses, fault_of_block}
-use Rattle.nj_manifest.proofs.LeftmostKinds.{kind_units, spaces_of, behind_spaces, spaces_cut, spaces_pass, kind_spaced, kind_replaced, plain_same, identifier_plain, tab_place, unspaced, no_space_same}
+use Rattle.nj_manifest.proofs.LeftmostKinds.{kind_units, spaces_of, after_spaces, spaces_cut, spaces_pass, kind_spaced, kind_replaced, plain_same, identifier_plain, tab_place, unspaced, no_space_same}
 
 -- ---- a line with which a statement begins
 
@@ -92,17 +92,17 @@ stuck_first l ls fault s =
     }
 
 -- the lines behind one that is not the last
-behind_more : (l : Line) (ms : List Line) → l.is_last ≡ false → lines_behind l ms ≡ ms
-behind_more l ms h = ap (λ (t : Bool). cond t (with_units [] l ∷ ms) ms) h
+after_more : (l : Line) (ms : List Line) → l.is_last ≡ false → lines_after l ms ≡ ms
+after_more l ms h = ap (λ (t : Bool). cond t (with_units [] l ∷ ms) ms) h
 
 -- the fault is in the block
-stuck_in_block : (l : Line) (ls : List Line) (fault : Fault) (v : HeadText) → kind_of l ≡ PlainLine → l.is_last ≡ false → ((ms : List Line) → head_next (Inside l ms) ≡ Ok (v, Between (lines_behind l ms))) → ((item : StatementText) → v ≡ Alone item → ⊥)
+stuck_in_block : (l : Line) (ls : List Line) (fault : Fault) (v : HeadText) → kind_of l ≡ PlainLine → l.is_last ≡ false → ((ms : List Line) → head_next (Inside l ms) ≡ Ok (v, Between (lines_after l ms))) → ((item : StatementText) → v ≡ Alone item → ⊥)
     → BlockStuck (keys_of v) ls fault → StandsLeftmost (l ∷ ls) fault
 stuck_in_block l ls fault v k last reads all s =
     let lines = map written (closing v) in
     let xs = goes_on s.before s.begun (written s.bytes) lines in
-    let b : block (keys_of v) (lines_behind l xs) ≡ in_front s.read (block (keys_of v) lines) = ap (block (keys_of v)) (behind_more l xs last) ∙ s.some lines in
-    let c = some_closed l xs v (Between (lines_behind l xs)) s.read k (reads xs) b in
+    let b : block (keys_of v) (lines_after l xs) ≡ in_front s.read (block (keys_of v) lines) = ap (block (keys_of v)) (after_more l xs last) ∙ s.some lines in
+    let c = some_closed l xs v (Between (lines_after l xs)) s.read k (reads xs) b in
     record {
       before = l ∷ s.before;
       begun = s.begun;
@@ -113,8 +113,8 @@ stuck_in_block l ls fault v k last reads all s =
       some = record { bytes = s.bytes; lines = closing v; plain_bytes = s.plain; offered = s.offered; plain_lines = closing_plain v; placed = c.0; rest = c.1; reads = c.2 };
       refuses = λ m ms same.
           let ys = goes_on s.before s.begun m ms in
-          let n : block (keys_of v) (lines_behind l ys) ≡ Err (met_before m fault) = ap (block (keys_of v)) (behind_more l ys last) ∙ s.refuses m ms same in
-          plain_read l ys v (Between (lines_behind l ys)) k (reads ys) ∙ placed_bad (line_spot l) (with_block (line_spot l) v (lines_behind l ys)) (met_before m fault) (block_refuses (line_spot l) v (lines_behind l ys) (met_before m fault) all n);
+          let n : block (keys_of v) (lines_after l ys) ≡ Err (met_before m fault) = ap (block (keys_of v)) (after_more l ys last) ∙ s.refuses m ms same in
+          plain_read l ys v (Between (lines_after l ys)) k (reads ys) ∙ placed_bad (line_spot l) (with_block (line_spot l) v (lines_after l ys)) (met_before m fault) (block_refuses (line_spot l) v (lines_after l ys) (met_before m fault) all n);
     }
 
 no_block_fault : (allowed : Keys) (l : Line) (ls : List Line) (f : Fault) → block allowed (with_units [] l ∷ ls) ≡ Err f → ⊥
@@ -132,15 +132,15 @@ as_fault ls f g e s = subst (λ (h : Fault). StandsLeftmost ls h) e s
 plain_leftmost : (l : Line) (ls : List Line) (fault : Fault) → kind_of l ≡ PlainLine → next_statement (l ∷ ls) ≡ Err fault → is_syntax fault ≡ true → StandsLeftmost (l ∷ ls) fault
 plain_leftmost l ls fault k h syntax = by_head (head_outcome l k)
   where
-    by_last : (v : HeadText) (t : Bool) → l.is_last ≡ t → ((ms : List Line) → head_next (Inside l ms) ≡ Ok (v, Between (lines_behind l ms))) → ((item : StatementText) → v ≡ Alone item → ⊥) → block (keys_of v) (cond t (with_units [] l ∷ ls) ls) ≡ Err fault → StandsLeftmost (l ∷ ls) fault
+    by_last : (v : HeadText) (t : Bool) → l.is_last ≡ t → ((ms : List Line) → head_next (Inside l ms) ≡ Ok (v, Between (lines_after l ms))) → ((item : StatementText) → v ≡ Alone item → ⊥) → block (keys_of v) (cond t (with_units [] l ∷ ls) ls) ≡ Err fault → StandsLeftmost (l ∷ ls) fault
     by_last v true last reads all b = absurd (no_block_fault (keys_of v) l ls fault b)
     by_last v false last reads all b = stuck_in_block l ls fault v k last reads all (block_stuck (keys_of v) ls fault b)
 
     by_head : Outcome Plain l.units l → StandsLeftmost (l ∷ ls) fault
     by_head (stuck f s) = as_fault (l ∷ ls) fault f (same_fault (next_statement (l ∷ ls)) fault f h (plain_bad l ls f k (s.fails ls).1)) (stuck_first l ls f s)
     by_head (through v so) =
-        let failed = placed_fault (line_spot l) (with_block (line_spot l) v (lines_behind l ls)) fault (sym (plain_read l ls v (Between (lines_behind l ls)) k (so ls).1) ∙ h) in
-        let b = fault_of_block (line_spot l) v (lines_behind l ls) fault failed syntax in
+        let failed = placed_fault (line_spot l) (with_block (line_spot l) v (lines_after l ls)) fault (sym (plain_read l ls v (Between (lines_after l ls)) k (so ls).1) ∙ h) in
+        let b = fault_of_block (line_spot l) v (lines_after l ls) fault failed syntax in
         by_last v l.is_last refl (λ ms. (so ms).1) b.0 b.1
 
 -- ---- lines before a statement
@@ -158,14 +158,14 @@ blank_then : (sp : List TextUnit) → AllIn is_space_unit sp → SomeOf (with_un
 blank_then sp a = (one_statement.0, one_statement.1, by_kind_next (with_units (sp ++ []) (written [])) (written (codes "a=b") ∷ []) BlankLine (kind_spaced sp [] a refl) ∙ one_statement.2)
 
 -- The fault is that of the line's kind, whatever is behind its first unit.
-of_kind : (l : Line) (ls : List Line) (fault : Fault) → offers fault [] ≡ true → NamesThePlaceOf fault (with_units (behind_spaces l.units) l)
-    → ((m : Line) (ms : List Line) → element m.units ≡ element (behind_spaces l.units) → next_statement (with_units (spaces_of l.units ++ m.units) m ∷ ms) ≡ Err (met_before m fault)) → StandsLeftmost (l ∷ ls) fault
+of_kind : (l : Line) (ls : List Line) (fault : Fault) → offers fault [] ≡ true → NamesThePlaceOf fault (with_units (after_spaces l.units) l)
+    → ((m : Line) (ms : List Line) → element m.units ≡ element (after_spaces l.units) → next_statement (with_units (spaces_of l.units ++ m.units) m ∷ ms) ≡ Err (met_before m fault)) → StandsLeftmost (l ∷ ls) fault
 of_kind l ls fault offered place refuses =
     let c = blank_then (spaces_of l.units) (spaces_pass l.units) in
     record {
       before = [];
       begun = spaces_of l.units;
-      line = with_units (behind_spaces l.units) l;
+      line = with_units (after_spaces l.units) l;
       others = ls;
       cut = ap (λ (y : List TextUnit). with_units y l ∷ ls) (spaces_cut l.units);
       place = place;
@@ -176,7 +176,7 @@ of_kind l ls fault offered place refuses =
 tab_leftmost : (l : Line) (ls : List Line) (tab : Spot) → kind_of l ≡ TabLine tab → StandsLeftmost (l ∷ ls) (Bad (lex.Tab tab))
 tab_leftmost l ls tab k =
     of_kind l ls (Bad (lex.Tab tab)) refl (tab_place l.units tab l.end k)
-    (λ m ms same. (by_kind_next (with_units (spaces_of l.units ++ m.units) m) ms (TabLine tab) (kind_replaced l.units m.units (element-front m.units (behind_spaces l.units) same) ∙ k)))
+    (λ m ms same. (by_kind_next (with_units (spaces_of l.units ++ m.units) m) ms (TabLine tab) (kind_replaced l.units m.units (element-front m.units (after_spaces l.units) same) ∙ k)))
 
 -- an indented line whose units behind its spaces these are
 abbrev unexpected_at : Line → Parse (Option PlacedText)
@@ -186,13 +186,13 @@ indented_leftmost : (l : Line) (ls : List Line) → kind_of l ≡ IndentedLine �
 indented_leftmost l ls k =
     of_kind l ls (UnexpectedIndent (front_of l)) refl refl
     (λ m ms same.
-    let sees = element-front m.units (behind_spaces l.units) same in
+    let sees = element-front m.units (after_spaces l.units) same in
     by_kind_next (with_units (spaces_of l.units ++ m.units) m) ms IndentedLine (kind_replaced l.units m.units sees ∙ k)
     ∙ ap (λ (y : List TextUnit). unexpected_at (with_units y m)) (unspaced (spaces_of l.units) m.units (spaces_pass l.units) (no_space_same l.units m.units sees)))
 
 -- behind a line that says nothing, and is not the last
-leftmost_behind : (l : Line) (ls : List Line) (fault : Fault) → ((ms : List Line) → next_statement (l ∷ ms) ≡ next_statement ms) → StandsLeftmost ls fault → StandsLeftmost (l ∷ ls) fault
-leftmost_behind l ls fault same r = record {
+leftmost_after : (l : Line) (ls : List Line) (fault : Fault) → ((ms : List Line) → next_statement (l ∷ ms) ≡ next_statement ms) → StandsLeftmost ls fault → StandsLeftmost (l ∷ ls) fault
+leftmost_after l ls fault same r = record {
   before = l ∷ r.before;
   begun = r.begun;
   line = r.line;
@@ -220,11 +220,11 @@ leftmost (l ∷ ls) fault h syntax = by_kind (kind_of l) refl (λ e. leftmost ls
   where
     by_kind : (k : Kind) → kind_of l ≡ k → (next_statement ls ≡ Err fault → StandsLeftmost ls fault) → StandsLeftmost (l ∷ ls) fault
     by_kind CommentLine k rest =
-        let last = not_last l.is_last (lines_behind l (without_comments ls)) (next_statement ls) fault (sym (by_kind_next l ls CommentLine k) ∙ h) in
-        leftmost_behind l ls fault (λ ms. by_kind_next l ms CommentLine k ∙ ap (λ (t : Bool). cond t (nothing_more (lines_behind l (without_comments ms))) (next_statement ms)) last.0) (rest last.1)
+        let last = not_last l.is_last (lines_after l (without_comments ls)) (next_statement ls) fault (sym (by_kind_next l ls CommentLine k) ∙ h) in
+        leftmost_after l ls fault (λ ms. by_kind_next l ms CommentLine k ∙ ap (λ (t : Bool). cond t (nothing_more (lines_after l (without_comments ms))) (next_statement ms)) last.0) (rest last.1)
     by_kind (TabLine tab) k rest = as_fault (l ∷ ls) fault (Bad (lex.Tab tab)) (same_fault (next_statement (l ∷ ls)) fault (Bad (lex.Tab tab)) h (by_kind_next l ls (TabLine tab) k)) (tab_leftmost l ls tab k)
     by_kind IndentedLine k rest = as_fault (l ∷ ls) fault (UnexpectedIndent (front_of l)) (same_fault (next_statement (l ∷ ls)) fault (UnexpectedIndent (front_of l)) h (by_kind_next l ls IndentedLine k)) (indented_leftmost l ls k)
     by_kind BlankLine k rest =
-        let last = not_last l.is_last (lines_behind l ls) (next_statement ls) fault (sym (by_kind_next l ls BlankLine k) ∙ h) in
-        leftmost_behind l ls fault (λ ms. by_kind_next l ms BlankLine k ∙ ap (λ (t : Bool). cond t (nothing_more (lines_behind l ms)) (next_statement ms)) last.0) (rest last.1)
+        let last = not_last l.is_last (lines_after l ls) (next_statement ls) fault (sym (by_kind_next l ls BlankLine k) ∙ h) in
+        leftmost_after l ls fault (λ ms. by_kind_next l ms BlankLine k ∙ ap (λ (t : Bool). cond t (nothing_more (lines_after l ms)) (next_statement ms)) last.0) (rest last.1)
     by_kind PlainLine k rest = plain_leftmost l ls fault k h syntax

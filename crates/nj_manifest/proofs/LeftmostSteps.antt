@@ -6,7 +6,7 @@ use Rattle.nj_text.specs.declared.fault.UnitFault.TheVariants as lex
 use Rattle.nj_text.specs.declared.spot.Spot.{Spot}
 use Rattle.nj_text.specs.Bytes.{is_space, drop_while}
 use Rattle.nj_text.specs.Units.{Meaning, Ordinary, LeadingTab, BadByte, BadEscape, TextUnit, is_ordinary_in}
-use Rattle.nj_text.specs.Lines.{Line, with_units, lines_behind, spot_of_first}
+use Rattle.nj_text.specs.Lines.{Line, with_units, lines_after, spot_of_first}
 use Rattle.nj_text.specs.Words.{is_blank, is_blank_meaning, begins_with_byte, fault_of_meaning, next_fault}
 use Rattle.nj_text.specs.Calls.{State, Between, Inside, fault_spot}
 use Rattle.nj_text.proofs.Lists.{AllIn}
@@ -181,7 +181,7 @@ pub record Stuck {B : Type 0} (P : Said B) (whole : List TextUnit) (e : Line) (f
 
 pub data Outcome {B : Type 0} (P : Said B) (whole : List TextUnit) (e : Line) : Type 0 where
   stuck : (fault : Fault) (here : Stuck P whole e fault) → Outcome P whole e
-  through : (value : B) (so : (ms : List Line) → P whole e ms (Ok (value, Between (lines_behind e ms)))) → Outcome P whole e
+  through : (value : B) (so : (ms : List Line) → P whole e ms (Ok (value, Between (lines_after e ms)))) → Outcome P whole e
 
 pub begin : {B : Type 0} (P : Said B) (k : State → Step B) (t : List TextUnit → Bool) (us : List TextUnit) → ((x : List TextUnit) (e : Line) (ms : List Line) → Fits t us x → P x e ms (k (at x e ms))) → Along P us k t us
 begin P k t us h = record { begun = []; cut = refl; goes = h }
@@ -223,8 +223,8 @@ stick {P = P} {whole = whole} {us = us} {e = e} {fault = fault} {used = used} {l
 }
 
 -- what is read to the end of the line
-pub arrive : {B : Type 0} {P : Said B} {whole : List TextUnit} {t : List TextUnit → Bool} {us : List TextUnit} (e : Line) (k : State → Step B) (value : B) → Along P whole k t us → ((ms : List Line) → k (at us e ms) ≡ Ok (value, Between (lines_behind e ms))) → Outcome P whole e
-arrive {P = P} {us = us} e k value a so = through value (λ ms. subst (λ (y : List TextUnit). P y e ms (Ok (value, Between (lines_behind e ms)))) (sym a.cut) (subst (P (a.begun ++ us) e ms) (so ms) (a.goes us e ms (inr refl))))
+pub arrive : {B : Type 0} {P : Said B} {whole : List TextUnit} {t : List TextUnit → Bool} {us : List TextUnit} (e : Line) (k : State → Step B) (value : B) → Along P whole k t us → ((ms : List Line) → k (at us e ms) ≡ Ok (value, Between (lines_after e ms))) → Outcome P whole e
+arrive {P = P} {us = us} e k value a so = through value (λ ms. subst (λ (y : List TextUnit). P y e ms (Ok (value, Between (lines_after e ms)))) (sym a.cut) (subst (P (a.begun ++ us) e ms) (so ms) (a.goes us e ms (inr refl))))
 
 pub bind-bind : {A B C : Type 0} (r : Result A Fault) (f : A → Result B Fault) (g : B → Result C Fault) → ((r >>= f) >>= g) ≡ (r >>= λ x. f x >>= g)
 bind-bind (Ok x) f g = refl

@@ -4,8 +4,8 @@ use Rattle.nj_text.specs.declared.fault.UnitFault.{UnitFault}
 use Rattle.nj_text.specs.declared.sign.Sign.TheVariants as sign
 use Rattle.nj_text.specs.declared.spot.Spot.{Spot}
 use Rattle.nj_text.specs.Units.{Meaning, Ordinary, Join, OpeningJoin, TextUnit}
-use Rattle.nj_text.specs.Lines.{Line, lines_behind, spot_of_first}
-use Rattle.nj_text.specs.Words.{is_blank, is_blank_meaning, is_opening_meaning, behind_opening, fault_of, fault_of_meaning, next_fault, or_else, first_fault, parts_of, WordText}
+use Rattle.nj_text.specs.Lines.{Line, lines_after, spot_of_first}
+use Rattle.nj_text.specs.Words.{is_blank, is_blank_meaning, is_opening_meaning, after_opening, fault_of, fault_of_meaning, next_fault, or_else, first_fault, parts_of, WordText}
 use Rattle.nj_text.specs.Calls.{State, Between, reply, unless_fault, value_of}
 use Rattle.nj_manifest.specs.declared.fault.Wanted.TheVariants as wanted
 use Rattle.nj_manifest.specs.Faults.{Fault, Bad}
@@ -32,25 +32,25 @@ opening_no_fault m spot h = absurd cc
 first_of_sound : (u : TextUnit) (us : List TextUnit) → fault_of u ≡ None → first_fault us ≡ first_fault (u ∷ us)
 first_of_sound u us h = sym (ap (λ (f : Option UnitFault). or_else f (first_fault us)) h)
 
-first_behind_blanks : (us : List TextUnit) → first_fault (skip us) ≡ first_fault us
-first_behind_blanks [] = refl
-first_behind_blanks (u ∷ us) = by_test (is_blank u) refl (first_behind_blanks us)
+first_after_blanks : (us : List TextUnit) → first_fault (skip us) ≡ first_fault us
+first_after_blanks [] = refl
+first_after_blanks (u ∷ us) = by_test (is_blank u) refl (first_after_blanks us)
   where
     by_test : (t : Bool) → is_blank u ≡ t → first_fault (skip us) ≡ first_fault us → first_fault (cond t (skip us) (u ∷ us)) ≡ first_fault (u ∷ us)
     by_test true e rest = rest ∙ first_of_sound u us (blank_no_fault u.means u.spot e)
     by_test false e rest = refl
 
-first_behind_opening : (us : List TextUnit) → first_fault (behind_opening us) ≡ first_fault us
-first_behind_opening [] = refl
-first_behind_opening (u ∷ us) = by_test (is_opening_meaning u.means) refl
+first_after_opening : (us : List TextUnit) → first_fault (after_opening us) ≡ first_fault us
+first_after_opening [] = refl
+first_after_opening (u ∷ us) = by_test (is_opening_meaning u.means) refl
   where
     by_test : (t : Bool) → is_opening_meaning u.means ≡ t → first_fault (cond t us (u ∷ us)) ≡ first_fault (u ∷ us)
     by_test true e = first_of_sound u us (opening_no_fault u.means u.spot e)
     by_test false e = refl
 
-first_behind_sound : (used x : List TextUnit) → first_fault used ≡ None → first_fault (used ++ x) ≡ first_fault x
-first_behind_sound [] x h = refl
-first_behind_sound (u ∷ used) x h = by_unit (fault_of u) refl h (first_behind_sound used x)
+first_after_sound : (used x : List TextUnit) → first_fault used ≡ None → first_fault (used ++ x) ≡ first_fault x
+first_after_sound [] x h = refl
+first_after_sound (u ∷ used) x h = by_unit (fault_of u) refl h (first_after_sound used x)
   where
     by_unit : (f : Option UnitFault) → fault_of u ≡ f → or_else f (first_fault used) ≡ None → (first_fault used ≡ None → first_fault (used ++ x) ≡ first_fault x) → or_else f (first_fault (used ++ x)) ≡ first_fault x
     by_unit None e g rest = rest g
@@ -85,7 +85,7 @@ value_call s = called (value_of s)
 
 -- where a value begins
 abbrev value_units : List TextUnit → List TextUnit
-value_units us = skip (behind_opening us)
+value_units us = skip (after_opening us)
 
 abbrev value_text : List TextUnit → Line → WordText
 value_text us e = record { spot = spot_of_first (value_units us) e.end; parts = parts_of (value_units us) }
@@ -97,7 +97,7 @@ value_bad_by : (f : Option UnitFault) (w : WordText) (s : State) (bad : UnitFaul
 value_bad_by f w s bad h = rw h refl
 
 first_of_value : (us : List TextUnit) → first_fault (value_units us) ≡ first_fault us
-first_of_value us = first_behind_blanks (behind_opening us) ∙ first_behind_opening us
+first_of_value us = first_after_blanks (after_opening us) ∙ first_after_opening us
 
 value_ok : (us : List TextUnit) (e : Line) (ms : List Line) → first_fault us ≡ None → value_call (at us e ms) ≡ Ok (value_text us e, at [] e ms)
 value_ok us e ms h = value_by _ (value_text us e) (at [] e ms) (first_of_value us ∙ h)
@@ -109,16 +109,16 @@ bad_value : (us : List TextUnit) (e : Line) (bad : UnitFault) → (s : Sound us 
 bad_value us e bad s = record {
   cut = s.cut;
   place = fault-place s.left e.end bad s.next;
-  fails = λ ms. value_bad us e ms bad (ap first_fault s.cut ∙ (first_behind_sound s.used s.left s.sound ∙ first_is_next s.left bad s.next));
+  fails = λ ms. value_bad us e ms bad (ap first_fault s.cut ∙ (first_after_sound s.used s.left s.sound ∙ first_is_next s.left bad s.next));
   refuses = λ x d ms same.
-      value_bad (s.used ++ x) d ms bad (first_behind_sound s.used x s.sound ∙ first_is_next x bad (fault-same x s.left (element-front x s.left same) ∙ s.next));
+      value_bad (s.used ++ x) d ms bad (first_after_sound s.used x s.sound ∙ first_is_next x bad (fault-same x s.left (element-front x s.left same) ∙ s.next));
 }
 
 -- the value, and then the end of the line
 abbrev valued : {B : Type 0} → (WordText → B) → WordText × State → Step B
 valued view v = ending (view v.0) (expect_sign sign.LineEnd wanted.Newline v.1)
 
-value_ended : {B : Type 0} (view : WordText → B) (us : List TextUnit) (e : Line) (ms : List Line) → first_fault us ≡ None → (value_call (at us e ms) >>= valued view) ≡ Ok (view (value_text us e), Between (lines_behind e ms))
+value_ended : {B : Type 0} (view : WordText → B) (us : List TextUnit) (e : Line) (ms : List Line) → first_fault us ≡ None → (value_call (at us e ms) >>= valued view) ≡ Ok (view (value_text us e), Between (lines_after e ms))
 unfolding expect_sign
 value_ended view us e ms h = ap (λ r. r >>= valued view) (value_ok us e ms h)
 
@@ -159,6 +159,6 @@ value_turn {B = B} {P = P} {whole = whole} e view k so a =
         by_fault None h = arrive e (λ s. value_call s >>= valued view) (view (value_text left e)) b (λ ms. value_ended view left e ms h)
         by_fault (Some bad) h =
             let s = before_bad left bad h in
-            let sound = first_behind_sound s.used [] s.sound in
+            let sound = first_after_sound s.used [] s.sound in
             stuck (Bad bad) (stick (λ s. value_call s >>= valued view) value_call (valued view) (λ s. refl) b (bad_value left e bad s) [] refl refl (view (value_text (s.used ++ []) (written []))) (inl refl)
             (λ ms. value_ended view (s.used ++ []) (written []) ms sound))

@@ -14,7 +14,7 @@ use Rattle.nj_manifest.specs.Faults.{Fault, Bad}
 use Rattle.nj_manifest.specs.LineSteps.{Step, called, words_from, words_next}
 use Rattle.nj_manifest.specs.Leftmost.{written_unit, offers}
 use Rattle.nj_manifest.proofs.WordLimits.{words_next-fails, words_next-ends, words_next-more}
-use Rattle.nj_manifest.proofs.LeftmostRuns.{begins, both_parts, behind_stops, none_passed, run_passed, run_taken, skip, skip_stops, skip_gap, gap_of, gap_passes, gap_cut, not_byte}
+use Rattle.nj_manifest.proofs.LeftmostRuns.{begins, both_parts, after_stops, none_passed, run_passed, run_taken, skip, skip_stops, skip_gap, gap_of, gap_passes, gap_cut, not_byte}
 use Rattle.nj_manifest.proofs.LeftmostFronts.{front, begins-same, fault-same, front-append, element-front}
 use Rattle.nj_manifest.proofs.LeftmostSteps.{at, blank_no_pipe, Fits, fits-alone, fits-gap, FailsAt, fault-place}
 use Rattle.nj_manifest.proofs.LeftmostNames.{no_blank_there}
@@ -149,8 +149,8 @@ word_none f t g w there other h i = rw (h, i) refl
 word_bad : (f : Option UnitFault) (t : Bool) (g : Option UnitFault) (w : WordText) (there other : State) (bad : UnitFault) → f ≡ Some bad → word_by f t g w there other ≡ Err (Bad bad)
 word_bad f t g w there other bad h = rw h refl
 
-word_bad_behind : (f : Option UnitFault) (t : Bool) (g : Option UnitFault) (w : WordText) (there other : State) (bad : UnitFault) → f ≡ None → t ≡ true → g ≡ Some bad → word_by f t g w there other ≡ Err (Bad bad)
-word_bad_behind f t g w there other bad h i j = rw (h, i, j) refl
+word_bad_after : (f : Option UnitFault) (t : Bool) (g : Option UnitFault) (w : WordText) (there other : State) (bad : UnitFault) → f ≡ None → t ≡ true → g ≡ Some bad → word_by f t g w there other ≡ Err (Bad bad)
+word_bad_after f t g w there other bad h i j = rw (h, i, j) refl
 
 run_reads : (u : TextUnit) (run x : List TextUnit) (e : Line) (ms : List Line) → opens_word u ≡ true → AllIn in_word (u ∷ run) → ends_word x ≡ true → word_here ((u ∷ run) ++ x) e ms ≡ Ok (Some (word_of u run), at x e ms)
 run_reads u run x e ms o a h =
@@ -161,7 +161,7 @@ run_reads u run x e ms o a h =
 run_fails : (u : TextUnit) (run x : List TextUnit) (e : Line) (ms : List Line) (bad : UnitFault) → opens_word u ≡ true → AllIn in_word (u ∷ run) → next_fault x ≡ Some bad → word_here ((u ∷ run) ++ x) e ms ≡ Err (Bad bad)
 run_fails u run x e ms bad o a h =
     let rest : drop_while in_word ((u ∷ run) ++ x) ≡ x = run_passed in_word (u ∷ run) x a (bad_ends x bad h) in
-    word_bad_behind _ _ _ _ _ _ bad (opening_no_fault u.means u.spot o) o (ap next_fault rest ∙ h)
+    word_bad_after _ _ _ _ _ _ bad (opening_no_fault u.means u.spot o) o (ap next_fault rest ∙ h)
 
 none_reads : (x : List TextUnit) (e : Line) (ms : List Line) → settled x ≡ true → word_here x e ms ≡ Ok (None, at x e ms)
 none_reads x e ms h = word_none _ _ _ _ _ _ (settled_fault x h) (begins_word-is x ∙ settled_word x h)
@@ -284,8 +284,8 @@ module _ (us gap : List TextUnit) (u : TextUnit) (run rest : List TextUnit) (e :
   word_before y d ms h = words_next-more (at ((gap ++ u ∷ run) ++ y) d ms) (word_of u run) (at y d ms) (word_reads gap u run y d ms g o a h)
 
   -- a fault right behind the word
-  broken_behind : (bad : UnitFault) → next_fault rest ≡ Some bad → WordsSeen us e
-  broken_behind bad f = broken (Bad bad) (λ bytes. refl) (record {
+  broken_after : (bad : UnitFault) → next_fault rest ≡ Some bad → WordsSeen us e
+  broken_after bad f = broken (Bad bad) (λ bytes. refl) (record {
     used = gap ++ u ∷ run;
     left = rest;
     cut = c;
@@ -360,7 +360,7 @@ words_seen_in (suc limit) us e h = by_fault (next_fault (skip us)) refl (λ rest
   where
     by_end : (u : TextUnit) (run rest : List TextUnit) → opens_word u ≡ true → AllIn in_word (u ∷ run) → begins in_word rest ≡ false → us ≡ (gap_of us ++ u ∷ run) ++ rest → (f : Option UnitFault) → next_fault rest ≡ f
         → ((rest : List TextUnit) → length rest < limit → WordsSeen rest e) → WordsSeen us e
-    by_end u run rest o a n c (Some bad) f more = broken_behind us (gap_of us) u run rest e (gap_passes us) o a c bad f
+    by_end u run rest o a n c (Some bad) f more = broken_after us (gap_of us) u run rest e (gap_passes us) o a c bad f
     by_end u run rest o a n c None f more =
         let short = shorter us (gap_of us) u run rest c in
         longer us (gap_of us) u run rest e (gap_passes us) o a c (both_so _ _ (so_not _ n) (is-sound _ f)) (more rest (omega arith))
@@ -380,7 +380,7 @@ words_seen_in (suc limit) us e h = by_fault (next_fault (skip us)) refl (λ rest
         let rest = drop_while in_word (v ∷ vs) in
         let parts : skip us ≡ (u ∷ run) ++ rest = r ∙ (both_parts in_word (v ∷ vs) ∙ ap (λ (y : List TextUnit). y ++ rest) t) in
         let cut : us ≡ (gap_of us ++ u ∷ run) ++ rest = gap_cut us ∙ (ap (λ (y : List TextUnit). gap_of us ++ y) parts ∙ sym (append_assoc (gap_of us) (u ∷ run) rest)) in
-        by_end u run rest (ap opens_word (sym first) ∙ o) a (behind_stops in_word (v ∷ vs)) cut (next_fault rest) refl more
+        by_end u run rest (ap opens_word (sym first) ∙ o) a (after_stops in_word (v ∷ vs)) cut (next_fault rest) refl more
 
     by_word : (b : Bool) → begins opens_word (skip us) ≡ b → next_fault (skip us) ≡ None → ((rest : List TextUnit) → length rest < limit → WordsSeen rest e) → WordsSeen us e
     by_word false w f more = no_first us e (settled_so (skip us) (skip_stops us) w f)

@@ -1,6 +1,6 @@
 -- What is read where the next statement begins.
 use Rattle.std.proofs.Common.{◌≡◌, Bool, true, false, cond, Option, None, Result, Ok, Err, List, [], ◌∷◌, refl, sym, ap, subst, ◌∙◌}
-use Rattle.nj_text.specs.Lines.{Line, lines_behind, Kind, CommentLine, TabLine, BlankLine, IndentedLine, PlainLine, kind_of}
+use Rattle.nj_text.specs.Lines.{Line, lines_after, Kind, CommentLine, TabLine, BlankLine, IndentedLine, PlainLine, kind_of}
 use Rattle.nj_text.specs.Calls.{State, Between, Inside, Failed, without_comments}
 use Rattle.nj_manifest.specs.declared.fault.ParseFault.{ParseFault}
 use Rattle.nj_manifest.specs.LineSteps.{◌>>=◌}
@@ -26,10 +26,10 @@ next-opens (l ∷ ls) = by_kind (kind_of l) (next-opens ls)
     by_last false rest h = h
 
     by_kind : (k : Kind) → next_statement ls ≡ (opening ls >>= statement_from) → next_by k l ls (next_statement ls) ≡ (opening_by k l ls (opening ls) >>= statement_from)
-    by_kind CommentLine h = by_last l.is_last (lines_behind l (without_comments ls)) h
+    by_kind CommentLine h = by_last l.is_last (lines_after l (without_comments ls)) h
     by_kind (TabLine tab) h = refl
     by_kind IndentedLine h = refl
-    by_kind BlankLine h = by_last l.is_last (lines_behind l ls) h
+    by_kind BlankLine h = by_last l.is_last (lines_after l ls) h
     by_kind PlainLine h = refl
 
 -- ---- reading on from there

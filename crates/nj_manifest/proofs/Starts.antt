@@ -7,7 +7,7 @@ use Rattle.nj_text.specs.declared.sign.LineStart.{LineStart}
 use Rattle.nj_text.specs.declared.sign.LineStart.TheVariants as start
 use Rattle.nj_text.specs.declared.spot.Spot.{Spot}
 use Rattle.nj_text.specs.Units.{TextUnit}
-use Rattle.nj_text.specs.Lines.{Line, with_units, lines_behind, Kind, CommentLine, TabLine, BlankLine, IndentedLine, PlainLine, kind_of}
+use Rattle.nj_text.specs.Lines.{Line, with_units, lines_after, Kind, CommentLine, TabLine, BlankLine, IndentedLine, PlainLine, kind_of}
 use Rattle.nj_text.specs.Calls as calls
 use Rattle.nj_text.specs.Calls.{State, Reply, Between, Inside, Failed, Answers, start_line_of, begun, begun_by, is_comment, is_empty, without_comments, spot_of}
 use Rattle.nj_manifest.specs.declared.fault.ParseFault.TheVariants as fault
@@ -68,7 +68,7 @@ begun-kind PlainLine l ls e h = (l, ls, refl, e, refl)
 abbrev BeginsAt : Next → List Line → Type 0
 BeginsAt next ls = Begins next (begun ls).answer (begun ls).after
 
-next-comment : (k : Kind) (l : Line) (ls : List Line) (others : Next) → is_comment k ≡ true → opening_by k l ls others ≡ or_last l (ended (lines_behind l (without_comments ls))) others
+next-comment : (k : Kind) (l : Line) (ls : List Line) (others : Next) → is_comment k ≡ true → opening_by k l ls others ≡ or_last l (ended (lines_after l (without_comments ls))) others
 next-comment CommentLine l ls others h = refl
 next-comment (TabLine tab) l ls others h = absurd cc
 next-comment BlankLine l ls others h = absurd cc
@@ -85,7 +85,7 @@ begun-next (l ∷ ls) = by_comment (is_comment (kind_of l)) refl (begun-next ls)
     by_last true e rest = rw e (refl, _, refl)
     by_last false e rest = rest
 
-    by_comment : (t : Bool) → is_comment (kind_of l) ≡ t → BeginsAt (opening ls) (without_comments ls) → BeginsAt (opening_by (kind_of l) l ls (opening ls)) (cond t (lines_behind l (without_comments ls)) (l ∷ ls))
+    by_comment : (t : Bool) → is_comment (kind_of l) ≡ t → BeginsAt (opening ls) (without_comments ls) → BeginsAt (opening_by (kind_of l) l ls (opening ls)) (cond t (lines_after l (without_comments ls)) (l ∷ ls))
     by_comment false e rest = begun-kind (kind_of l) l ls refl e
     by_comment true e rest = rw (next-comment (kind_of l) l ls (opening ls) e) (by_last l.is_last refl rest)
 
@@ -126,8 +126,8 @@ lines_ahead (Between ls) = ahead ls
 lines_ahead (Inside l ls) = 0
 lines_ahead (Failed f) = 0
 
-ahead-behind : (l : Line) (ls : List Line) → (l.is_last && is_empty l.units) ≡ false → ahead (lines_behind l ls) < ahead (l ∷ ls)
-ahead-behind l ls h = by_last l.is_last (is_empty l.units) refl h
+ahead-after : (l : Line) (ls : List Line) → (l.is_last && is_empty l.units) ≡ false → ahead (lines_after l ls) < ahead (l ∷ ls)
+ahead-after l ls h = by_last l.is_last (is_empty l.units) refl h
   where
     by_last : (last empty : Bool) → l.is_last ≡ last → (last && empty) ≡ false → ahead (cond last (with_units [] l ∷ ls) ls) < cond last (cond empty 0 1) (suc (ahead ls))
     by_last true true e g = absurd cc
@@ -142,7 +142,7 @@ ahead-comments (l ∷ ls) = by_comment (is_comment (kind_of l)) (ahead-comments 
     by_last true e h = rw e (omega arith)
     by_last false e h = omega arith
 
-    by_comment : (t : Bool) → ahead (without_comments ls) ≤ ahead ls → ahead (cond t (lines_behind l (without_comments ls)) (l ∷ ls)) ≤ ahead (l ∷ ls)
+    by_comment : (t : Bool) → ahead (without_comments ls) ≤ ahead ls → ahead (cond t (lines_after l (without_comments ls)) (l ∷ ls)) ≤ ahead (l ∷ ls)
     by_comment false h = omega arith
     by_comment true h = by_last l.is_last refl h
 
@@ -154,10 +154,10 @@ blank-kind IndentedLine l ls after a s = absurd cc
 blank-kind PlainLine l ls after a s = absurd cc
 blank-kind BlankLine l ls after a s = by_end (l.is_last && is_empty l.units) refl a s
   where
-    by_end : (t : Bool) → (l.is_last && is_empty l.units) ≡ t → (cond t (calls.reply start.End (Between (l ∷ ls))) (calls.reply start.Blank (Between (lines_behind l ls)))).answer ≡ Ok start.Blank
-        → after ≡ (cond t (calls.reply start.End (Between (l ∷ ls))) (calls.reply start.Blank (Between (lines_behind l ls)))).after → lines_ahead after < ahead (l ∷ ls)
+    by_end : (t : Bool) → (l.is_last && is_empty l.units) ≡ t → (cond t (calls.reply start.End (Between (l ∷ ls))) (calls.reply start.Blank (Between (lines_after l ls)))).answer ≡ Ok start.Blank
+        → after ≡ (cond t (calls.reply start.End (Between (l ∷ ls))) (calls.reply start.Blank (Between (lines_after l ls)))).after → lines_ahead after < ahead (l ∷ ls)
     by_end true e b g = absurd cc
-    by_end false e b g = rw g (ahead-behind l ls e)
+    by_end false e b g = rw g (ahead-after l ls e)
 
 blank-begun : (ls : List Line) (after : State) → (begun ls).answer ≡ Ok start.Blank → after ≡ (begun ls).after → lines_ahead after < ahead ls
 blank-begun [] after a s = absurd cc

@@ -118,9 +118,9 @@ joined_value : first_of (codes "x = $\n  1") ≡ placed 1 1 (BindingText (codes 
 unfolding on_texts
 joined_value = refl
 
-behind_comment : first_of (codes "# c\n\nx = 1\r\n") ≡ placed 3 1 (BindingText (codes "x") (word 3 5 (codes "1")))
+after_comment : first_of (codes "# c\n\nx = 1\r\n") ≡ placed 3 1 (BindingText (codes "x") (word 3 5 (codes "1")))
 unfolding on_texts
-behind_comment = refl
+after_comment = refl
 
 whole_of_pool : first_of (codes "pool p\n  depth = 1") ≡ placed 1 1 (PoolText (name_at 1 6 (codes "p")) (line_at 2 3 (codes "depth") (word 2 11 (codes "1")) ∷ []))
 unfolding on_texts
@@ -145,10 +145,10 @@ unfolding on_texts
 to_the_end = refl
 
 -- a blank line ends a block
-behind_block : answers 2 (text_lines (codes "build a: r\n  x = 1\n\n  y = 2\n")) ≡
+after_block : answers 2 (text_lines (codes "build a: r\n  x = 1\n\n  y = 2\n")) ≡
     placed 1 1 (BuildText (to (word 1 7 (codes "a") ∷ [])) (name_at 1 10 (codes "r")) (from []) (line_at 2 3 (codes "x") (word 2 7 (codes "1")) ∷ [])) ∷ Err (UnexpectedIndent (at 4 1)) ∷ []
 unfolding on_texts
-behind_block = refl
+after_block = refl
 
 -- a comment may end the text, within a block too
 comment_at_end : answers 3 (text_lines (codes "rule r\n  command = x\n  # c")) ≡

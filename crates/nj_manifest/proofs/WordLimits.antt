@@ -6,7 +6,7 @@ use Rattle.nj_text.specs.Bytes.{drop_while}
 use Rattle.nj_text.specs.Units.{Meaning, Ordinary, Escape, Reference, Join, OpeningJoin, Comment, LeadingTab, LineEnd, TextEnd, BadByte, BadEscape, TextUnit}
 use Rattle.nj_text.specs.Lines.{Line, with_units}
 use Rattle.nj_text.specs.Words.{is_blank, in_word, in_word_meaning, opens_word_meaning, next_fault, WordText}
-use Rattle.nj_text.specs.Calls.{State, Between, Inside, Failed, reply, unless_fault, behind_blanks, begins_word, word_here, path_word_of}
+use Rattle.nj_text.specs.Calls.{State, Between, Inside, Failed, reply, unless_fault, after_blanks, begins_word, word_here, path_word_of}
 use Rattle.nj_manifest.specs.Faults.{Fault}
 use Rattle.nj_manifest.specs.LineSteps.{Step, ◌>>=◌, called, words_from, words_within, units_left, words_next}
 
@@ -64,7 +64,7 @@ pub units_left-word : (s : State) (w : WordText) (after : State) → called (pat
 units_left-word (Between ls) w after h = absurd (none_is_no_word (ok_parts None (Some w) (Between ls) after h).0)
 units_left-word (Failed f) w after h = absurd cc
 units_left-word (Inside l ls) w after h =
-    let b = behind_blanks l in
+    let b = after_blanks l in
     let short = drop_while_shortens is_blank l.units in
     let left = word_left b ls w after (next_fault b.units) (next_fault (drop_while in_word b.units)) (begins_word b.units) refl h in
     omega arith

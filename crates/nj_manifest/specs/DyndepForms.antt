@@ -2,7 +2,7 @@
 use Rattle.std.specs.Prelude.{◌≡◌, true, false, Option, Some, None, Ok, List, [], ◌∷◌, codes, ◌↔◌, ◌⊎◌}
 use Rattle.nj_text.specs.declared.sign.Sign.TheVariants as sign
 use Rattle.nj_text.specs.Units.{TextUnit}
-use Rattle.nj_text.specs.Lines.{Line, lines_behind, CommentLine, BlankLine, PlainLine, kind_of}
+use Rattle.nj_text.specs.Lines.{Line, lines_after, CommentLine, BlankLine, PlainLine, kind_of}
 use Rattle.nj_text.specs.Calls.{State, Between, Inside, without_comments}
 use Rattle.nj_manifest.specs.declared.block.Keys.TheVariants as keys
 use Rattle.nj_manifest.specs.Statements.{LineText}
@@ -29,7 +29,7 @@ pub record EntryForm (us : List TextUnit) (entry : EntryText) : Type 0 where
 abbrev pub EntriesAreTheForms : Type 0
 EntriesAreTheForms =
     (l : Line) (ls : List Line) (entry : EntryText) (s : State)
-    → (entry_line (Inside l ls) ≡ Ok (entry, s)) ↔ (EntryForm l.units entry × (s ≡ Between (lines_behind l ls)))
+    → (entry_line (Inside l ls) ≡ Ok (entry, s)) ↔ (EntryForm l.units entry × (s ≡ Between (lines_after l ls)))
 
 -- a block with one line at most, `restat = VALUE`
 pub record RestatForm (ls : List Line) (rest : List Line) : Type 0 where
@@ -40,14 +40,14 @@ pub record RestatForm (ls : List Line) (rest : List Line) : Type 0 where
 -- The next entry of some lines, and the lines after it; or none. Comments and blank lines are skipped.
 pub data NextEntryForm : List Line → Option EntryText → (rest : List Line) → Type 0 where
   statement : {l : Line} {ls rest : List Line} {entry : EntryText} → kind_of l ≡ PlainLine → EntryForm l.units entry
-      → RestatForm (lines_behind l ls) rest → NextEntryForm (l ∷ ls) (Some entry) rest
+      → RestatForm (lines_after l ls) rest → NextEntryForm (l ∷ ls) (Some entry) rest
   blank : {l : Line} {ls rest : List Line} {found : Option EntryText} → kind_of l ≡ BlankLine → l.is_last ≡ false
       → NextEntryForm ls found rest → NextEntryForm (l ∷ ls) found rest
   comment : {l : Line} {ls rest : List Line} {found : Option EntryText} → kind_of l ≡ CommentLine → l.is_last ≡ false
       → NextEntryForm ls found rest → NextEntryForm (l ∷ ls) found rest
-  last_blank : {l : Line} {ls : List Line} → kind_of l ≡ BlankLine → l.is_last ≡ true → NextEntryForm (l ∷ ls) None (lines_behind l ls)
+  last_blank : {l : Line} {ls : List Line} → kind_of l ≡ BlankLine → l.is_last ≡ true → NextEntryForm (l ∷ ls) None (lines_after l ls)
   last_comment : {l : Line} {ls : List Line} → kind_of l ≡ CommentLine → l.is_last ≡ true
-      → NextEntryForm (l ∷ ls) None (lines_behind l (without_comments ls))
+      → NextEntryForm (l ∷ ls) None (lines_after l (without_comments ls))
   nothing : NextEntryForm [] None []
 
 -- An entry is read from lines, or none, exactly where the forms say so.

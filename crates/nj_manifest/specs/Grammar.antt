@@ -7,7 +7,7 @@ use Rattle.nj_text.specs.declared.sign.Sign.{Sign}
 use Rattle.nj_text.specs.declared.sign.Sign.TheVariants as sign
 use Rattle.nj_text.specs.declared.spot.Spot.{Spot}
 use Rattle.nj_text.specs.Units.{Ordinary, TextUnit}
-use Rattle.nj_text.specs.Lines.{Line, line_spot, lines_behind, spot_of_first, CommentLine, BlankLine, IndentedLine, PlainLine, kind_of}
+use Rattle.nj_text.specs.Lines.{Line, line_spot, lines_after, spot_of_first, CommentLine, BlankLine, IndentedLine, PlainLine, kind_of}
 use Rattle.nj_text.specs.Words.{WordText, is_blank, is_opening_meaning, in_identifier, opens_word, in_word, first_fault, parts_of}
 use Rattle.nj_text.specs.Words.{begins_with_byte}
 use Rattle.nj_text.specs.Calls.{bytes_of, is_empty, without_comments}
@@ -203,13 +203,13 @@ pub record BlockLineForm (allowed : Keys) (l : Line) (line : LineText) : Type 0 
 -- indented, but after it if it is a blank one.
 pub data BlockForm (allowed : Keys) : List Line → List LineText → (rest : List Line) → Type 0 where
   line : {l : Line} {ls rest : List Line} {first : LineText} {others : List LineText} → BlockLineForm allowed l first
-      → BlockForm allowed (lines_behind l ls) others rest → BlockForm allowed (l ∷ ls) (first ∷ others) rest
+      → BlockForm allowed (lines_after l ls) others rest → BlockForm allowed (l ∷ ls) (first ∷ others) rest
   comment : {l : Line} {ls rest : List Line} {lines : List LineText} → kind_of l ≡ CommentLine → l.is_last ≡ false
       → BlockForm allowed ls lines rest → BlockForm allowed (l ∷ ls) lines rest
   -- (no line follows the last of a text)
   last_comment : {l : Line} {ls : List Line} → kind_of l ≡ CommentLine → l.is_last ≡ true
-      → BlockForm allowed (l ∷ ls) [] (lines_behind l (without_comments ls))
-  blank : {l : Line} {ls : List Line} → kind_of l ≡ BlankLine → BlockForm allowed (l ∷ ls) [] (lines_behind l ls)
+      → BlockForm allowed (l ∷ ls) [] (lines_after l (without_comments ls))
+  blank : {l : Line} {ls : List Line} → kind_of l ≡ BlankLine → BlockForm allowed (l ∷ ls) [] (lines_after l ls)
   plain : {l : Line} {ls : List Line} → kind_of l ≡ PlainLine → BlockForm allowed (l ∷ ls) [] (l ∷ ls)
   nothing : BlockForm allowed [] [] []
 
@@ -252,21 +252,21 @@ pub data LackForm (spot : Spot) : HeadText → List Line → Fault → Type 0 wh
 -- The next statement of some lines, and the lines after it; or none. Comments and blank lines are skipped.
 pub data NextForm : List Line → Option PlacedText → (rest : List Line) → Type 0 where
   statement : {l : Line} {ls rest : List Line} {head : HeadText} {item : StatementText} → kind_of l ≡ PlainLine → HeadForm l head
-      → StatementForm head (lines_behind l ls) item rest → NextForm (l ∷ ls) (Some (record { spot = line_spot l; item = item })) rest
+      → StatementForm head (lines_after l ls) item rest → NextForm (l ∷ ls) (Some (record { spot = line_spot l; item = item })) rest
   blank : {l : Line} {ls rest : List Line} {found : Option PlacedText} → kind_of l ≡ BlankLine → l.is_last ≡ false
       → NextForm ls found rest → NextForm (l ∷ ls) found rest
   comment : {l : Line} {ls rest : List Line} {found : Option PlacedText} → kind_of l ≡ CommentLine → l.is_last ≡ false
       → NextForm ls found rest → NextForm (l ∷ ls) found rest
-  last_blank : {l : Line} {ls : List Line} → kind_of l ≡ BlankLine → l.is_last ≡ true → NextForm (l ∷ ls) None (lines_behind l ls)
+  last_blank : {l : Line} {ls : List Line} → kind_of l ≡ BlankLine → l.is_last ≡ true → NextForm (l ∷ ls) None (lines_after l ls)
   last_comment : {l : Line} {ls : List Line} → kind_of l ≡ CommentLine → l.is_last ≡ true
-      → NextForm (l ∷ ls) None (lines_behind l (without_comments ls))
+      → NextForm (l ∷ ls) None (lines_after l (without_comments ls))
   nothing : NextForm [] None []
 
 -- The next statement of some lines has its first line, and lacks a line of its block. The fault stands where the
 -- statement begins.
 pub data NextLacks : List Line → Fault → Type 0 where
   statement : {l : Line} {ls : List Line} {head : HeadText} {fault : Fault} → kind_of l ≡ PlainLine → HeadForm l head
-      → LackForm (line_spot l) head (lines_behind l ls) fault → NextLacks (l ∷ ls) fault
+      → LackForm (line_spot l) head (lines_after l ls) fault → NextLacks (l ∷ ls) fault
   blank : {l : Line} {ls : List Line} {fault : Fault} → kind_of l ≡ BlankLine → l.is_last ≡ false → NextLacks ls fault
       → NextLacks (l ∷ ls) fault
   comment : {l : Line} {ls : List Line} {fault : Fault} → kind_of l ≡ CommentLine → l.is_last ≡ false → NextLacks ls fault

@@ -6,7 +6,7 @@ use Rattle.nj_text.specs.declared.fault.UnitFault.TheVariants as lex
 use Rattle.nj_text.specs.declared.sign.Sign.TheVariants as sign
 use Rattle.nj_text.specs.declared.spot.Spot.{Spot}
 use Rattle.nj_text.specs.Bytes.{drop_while}
-use Rattle.nj_text.specs.Lines.{Line, line_spot, with_units, lines_behind, Kind, CommentLine, TabLine, BlankLine, IndentedLine}
+use Rattle.nj_text.specs.Lines.{Line, line_spot, with_units, lines_after, Kind, CommentLine, TabLine, BlankLine, IndentedLine}
 use Rattle.nj_text.specs.Lines.{PlainLine, kind_of, is_space_unit}
 use Rattle.nj_text.specs.Words.{WordText}
 use Rattle.nj_text.specs.Calls.{State, Between, Inside, Failed, is_empty, path_word_of, value_of, spot_of, without_comments}
@@ -75,13 +75,13 @@ abbrev pub without_spaces : Line → Line
 without_spaces l = with_units (drop_while is_space_unit l.units) l
 
 abbrev pub block_by : Keys → Kind → Line → List Line → Parse (List LineText) → Parse (List LineText)
-block_by allowed CommentLine l ls others = or_last l (no_lines (lines_behind l (without_comments ls))) others
+block_by allowed CommentLine l ls others = or_last l (no_lines (lines_after l (without_comments ls))) others
 block_by allowed (TabLine tab) l ls others = Err (Bad (lex.Tab tab))
 block_by allowed IndentedLine l ls others = do
   line ← line_next allowed (Inside (without_spaces l) ls)
-  more ← or_last l (no_lines (lines_behind l ls)) others
+  more ← or_last l (no_lines (lines_after l ls)) others
   Ok (line.0 ∷ more.0, more.1)
-block_by allowed BlankLine l ls others = no_lines (lines_behind l ls)
+block_by allowed BlankLine l ls others = no_lines (lines_after l ls)
 block_by allowed PlainLine l ls others = no_lines (l ∷ ls)
 
 -- The lines of a block: those that are indented, and comments among them, up to the first line of another kind. A
@@ -262,10 +262,10 @@ abbrev pub front_of : Line → Spot
 front_of l = record { line = (line_spot (without_spaces l)).line; column = 1 }
 
 abbrev pub next_by : Kind → Line → List Line → Parse (Option PlacedText) → Parse (Option PlacedText)
-next_by CommentLine l ls others = or_last l (nothing_more (lines_behind l (without_comments ls))) others
+next_by CommentLine l ls others = or_last l (nothing_more (lines_after l (without_comments ls))) others
 next_by (TabLine tab) l ls others = Err (Bad (lex.Tab tab))
 next_by IndentedLine l ls others = Err (UnexpectedIndent (front_of l))
-next_by BlankLine l ls others = or_last l (nothing_more (lines_behind l ls)) others
+next_by BlankLine l ls others = or_last l (nothing_more (lines_after l ls)) others
 next_by PlainLine l ls others = statement_at l ls
 
 -- the next statement of the lines, if there is one, and the lines after it

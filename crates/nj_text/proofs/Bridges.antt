@@ -8,7 +8,7 @@ use Rattle.nj_text.specs.declared.fault.UnitFault.{UnitFault}
 use Rattle.nj_text.specs.declared.fault.UnitFault.TheVariants as fault
 use Rattle.nj_text.specs.Bytes.{is_identifier_byte, drop_while}
 use Rattle.nj_text.specs.Units.{Meaning, Ordinary, Escape, Reference, Join, OpeningJoin, Comment, LeadingTab, LineEnd, TextEnd, BadByte, BadEscape, TextUnit, is_ordinary_in, Position, AtStart, found_at, position_after, spot_after, cut}
-use Rattle.nj_text.specs.Lines.{Line, ending_of, before_first_line, lines_before, lines_of, with_units, lines_behind, line_spot}
+use Rattle.nj_text.specs.Lines.{Line, ending_of, before_first_line, lines_before, lines_of, with_units, lines_after, line_spot}
 use Rattle.nj_text.specs.Scans.{units_within, Begins, BeginsBadly}
 use Rattle.nj_text.specs.Words.{is_blank, is_blank_meaning, in_identifier, in_word, in_word_meaning, opens_word_meaning, next_fault, fault_of, fault_of_meaning, first_fault, or_else, begins_with_byte}
 use Rattle.nj_text.specs.Calls.{Inside, begins_word}
@@ -31,7 +31,7 @@ pub no_line_end_badly : (spot : Spot) (bs : List ℕ) (m : Meaning) → BeginsBa
 no_line_end_badly spot bs m b e = rw b.2 e
 
 abbrev EndsAt : Spot → List ℕ → List Line → Type 0
-EndsAt spot bs after = ((first_line (lines_within spot bs)).units ≡ []) × (lines_behind (first_line (lines_within spot bs)) (other_lines (lines_within spot bs)) ≡ after)
+EndsAt spot bs after = ((first_line (lines_within spot bs)).units ≡ []) × (lines_after (first_line (lines_within spot bs)) (other_lines (lines_within spot bs)) ≡ after)
 
 ends_at_end : (spot : Spot) → EndsAt spot [] (lines_from spot [])
 unfolding cut
@@ -41,7 +41,7 @@ pub line_ends_at_end : (spot : Spot) (bs : List ℕ) → bs ≡ [] → EndsAt sp
 line_ends_at_end spot bs e = rw e (ends_at_end spot)
 
 pub line_ends : (spot there : Spot) (bs : List ℕ) (n : ℕ) → Begins spot bs LineEnd n (cut AtStart 0 there (drop n bs)) → EndsAt spot bs (lines_from there (drop n bs))
-line_ends spot there bs n e = (ap (λ us. (first_line (lines_of us)).units) e, ap (λ us. lines_behind (first_line (lines_of us)) (other_lines (lines_of us))) e)
+line_ends spot there bs n e = (ap (λ us. (first_line (lines_of us)).units) e, ap (λ us. lines_after (first_line (lines_of us)) (other_lines (lines_of us))) e)
 
 abbrev HasLine : List Line → Type 0
 HasLine ls = (l : Line) × (others : List Line) × (ls ≡ l ∷ others)
@@ -52,9 +52,9 @@ nil_has_no_line h = no_cons h.0 h.1 h.2
     no_cons : (l : Line) (others : List Line) → [] ≡ l ∷ others → ⊥
     no_cons l others e = absurd cc
 
-pub line_behind : (u : TextUnit) (ls : List Line) → HasLine (before_first_line u ls) → HasLine ls
-line_behind u [] h = absurd (nil_has_no_line h)
-line_behind u (l ∷ ls) h = (l, ls, refl)
+pub line_after : (u : TextUnit) (ls : List Line) → HasLine (before_first_line u ls) → HasLine ls
+line_after u [] h = absurd (nil_has_no_line h)
+line_after u (l ∷ ls) h = (l, ls, refl)
 
 -- ---- fronts of a line
 
@@ -123,7 +123,7 @@ front_of t ends (u ∷ us) h = by_end (ending_of u.means) refl (front_of t ends 
     by_test false e rest = take_while-cons_no t u (first_line (lines_of us)).units e ∙ sym (take_while-cons_no t u us e)
 
     by_end : (o : Option Bool) → ending_of u.means ≡ o → (HasLine (lines_of us) → take_while t (first_line (lines_of us)).units ≡ take_while t us) → HasLine (lines_before o u (lines_of us)) → take_while t (first_line (lines_before o u (lines_of us))).units ≡ take_while t (u ∷ us)
-    by_end None e rest k = ap (take_while t) (units_are (lines_of us) (line_behind u (lines_of us) k)) ∙ by_test (t u) refl (rest (line_behind u (lines_of us) k))
+    by_end None e rest k = ap (take_while t) (units_are (lines_of us) (line_after u (lines_of us) k)) ∙ by_test (t u) refl (rest (line_after u (lines_of us) k))
     by_end (Some b) e rest k = sym (take_while-cons_no t u us (ends u b e))
 
 -- ---- the first unit of a line
@@ -267,7 +267,7 @@ value_of_line (u ∷ us) h = by_end (ending_of u.means) refl (value_of_line us) 
     by_case has e rest (inr p) = value_fails u us has.0 has.1 p.1.0 has.2 e p.0 p.1.1
 
     by_end : (o : Option Bool) → ending_of u.means ≡ o → (HasLine (lines_of us) → IsValue us) → HasLine (lines_before o u (lines_of us)) → IsValue (u ∷ us)
-    by_end None e rest k = let has = line_behind u (lines_of us) k in by_case has e (rest has) (value_or_bad u.means u.spot e)
+    by_end None e rest k = let has = line_after u (lines_of us) k in by_case has e (rest has) (value_or_bad u.means u.spot e)
     by_end (Some b) e rest k = value_ends u us b e
 
 -- what is left of a line when a front of it was passed has a line too
@@ -276,7 +276,7 @@ passed_has_line t ends [] h = h
 passed_has_line t ends (u ∷ us) h = by_test (t u) refl (passed_has_line t ends us)
   where
     not_end : (o : Option Bool) → ending_of u.means ≡ o → t u ≡ true → HasLine (lines_before o u (lines_of us)) → HasLine (lines_of us)
-    not_end None e k g = line_behind u (lines_of us) g
+    not_end None e k g = line_after u (lines_of us) g
     not_end (Some b) e k g = absurd (false≢true (sym (ends u b e) ∙ k))
 
     by_test : (v : Bool) → t u ≡ v → (HasLine (lines_of us) → HasLine (lines_of (drop_while t us))) → HasLine (lines_of (cond v (drop_while t us) (u ∷ us)))

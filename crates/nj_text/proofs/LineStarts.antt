@@ -9,7 +9,7 @@ use Rattle.nj_text.specs.declared.sign.LineStart.TheVariants as start
 use Rattle.nj_text.specs.declared.fault.UnitFault.TheVariants as fault
 use Rattle.nj_text.specs.Bytes.{is_space, is_line_feed, is_ordinary_byte, is_name_byte, is_identifier_byte, begins_with, drop_while}
 use Rattle.nj_text.specs.Units.{Meaning, Ordinary, Escape, Reference, Join, OpeningJoin, Comment, LeadingTab, LineEnd, TextEnd, BadByte, BadEscape, TextUnit, is_ordinary_in, Position, AtStart, AfterSpaces, Within, Follows, Feed, Return, Brace, Itself, NameByte, Nothing, follows_of, after_dollar_by, after_dollar, named, Found, Class, Dollar, LineFeed, CarriageReturn, Nul, Plain, class_of, unit_by, unit_at, found_at, opening, opens_comment, position_after, spot_after, spots_after, cut}
-use Rattle.nj_text.specs.Lines.{Line, ending_of, before_first_line, lines_before, lines_of, with_units, Kind, IndentedLine, PlainLine, is_space_unit, text_kind, kind_with, kind_behind_spaces, begins_with_space, kind_of}
+use Rattle.nj_text.specs.Lines.{Line, ending_of, before_first_line, lines_before, lines_of, with_units, Kind, IndentedLine, PlainLine, is_space_unit, text_kind, kind_with, kind_after_spaces, begins_with_space, kind_of}
 use Rattle.nj_text.specs.Scans.{along, on_next_line, units_within, Begins, BeginsBadly, begins_with_space_byte}
 use Rattle.nj_text.specs.Calls.{Between, Inside, reply, failing, begun, begun_by, is_comment, without_comments}
 use Rattle.nj_text.specs.declared.cursor.Cursor.{Cursor}
@@ -87,12 +87,12 @@ plain_begun u us h s =
     let p = plainly u.means s in
     rw (p.no_end, h.2) (plain_by u h.0 h.1 p)
 
-HasLine-behind : (u : TextUnit) (ls : List Line) → HasLine (before_first_line u ls) → HasLine ls
-HasLine-behind u [] h = absurd (nil_is_no_cons h.0 h.1 h.2)
+HasLine-after : (u : TextUnit) (ls : List Line) → HasLine (before_first_line u ls) → HasLine ls
+HasLine-after u [] h = absurd (nil_is_no_cons h.0 h.1 h.2)
   where
     nil_is_no_cons : (l : Line) (others : List Line) → [] ≡ l ∷ others → ⊥
     nil_is_no_cons l others e = absurd cc
-HasLine-behind u (l ∷ ls) h = (l, ls, refl)
+HasLine-after u (l ∷ ls) h = (l, ls, refl)
 
 -- ---- the first unit of a line, and of what is within one
 
@@ -193,7 +193,7 @@ at_once_plain spot bs m n behind c s t o p e =
     let same : reopened (u ∷ behind) ≡ u ∷ behind = ap (λ x. record { spot = spot; bytes = take n bs; means = x } ∷ behind) o in
     let found = cut-start spot bs c s (no_tab spot bs m n behind e t) ∙ ap reopened e ∙ same in
     let whole : HasLine (lines_of (u ∷ behind)) = subst (λ us. HasLine (lines_of us)) e (cut_has_line Within 0 spot bs) in
-    let has : HasLine (lines_of behind) = HasLine-behind u (lines_of behind) (rw (plainly m p).no_end at whole) in
+    let has : HasLine (lines_of behind) = HasLine-after u (lines_of behind) (rw (plainly m p).no_end at whole) in
     ap (λ us. begun (lines_of us)) found ∙ plain_begun u behind has p ∙ ap (λ us. reply start.Plain (inside (lines_of us))) (sym e)
 
 pub at_once_badly : (spot : Spot) (bs : List ℕ) (m : Meaning) → opens_comment bs ≡ false → begins_with_space_byte bs ≡ false → (m ≡ Ordinary 9 → ⊥) → opening m ≡ m → starts_plainly m ≡ true
@@ -233,28 +233,28 @@ spaces_are_units spot [] h = tt
 spaces_are_units spot (b ∷ bs) h = (rw h.0 refl, spaces_are_units (along 1 spot) bs h.1)
 
 -- the kind of a line with leading spaces
-kind_behind : (spot : Spot) (b : ℕ) (bs : List ℕ) (us : List TextUnit) (l : Line) → AreSpaces (b ∷ bs) → kind_of (with_units (space_units spot (b ∷ bs) ++ us) l) ≡ kind_behind_spaces (drop_while is_space_unit us) true
-kind_behind spot b bs us l h =
+kind_after : (spot : Spot) (b : ℕ) (bs : List ℕ) (us : List TextUnit) (l : Line) → AreSpaces (b ∷ bs) → kind_of (with_units (space_units spot (b ∷ bs) ++ us) l) ≡ kind_after_spaces (drop_while is_space_unit us) true
+kind_after spot b bs us l h =
     let front : is_space b ≡ true = rw h.0 refl in
-    rw front (ap (λ vs. kind_behind_spaces vs true) (drop_while-append is_space_unit (space_units (along 1 spot) bs) us (spaces_are_units (along 1 spot) bs h.1)))
+    rw front (ap (λ vs. kind_after_spaces vs true) (drop_while-append is_space_unit (space_units (along 1 spot) bs) us (spaces_are_units (along 1 spot) bs h.1)))
 
-begun_behind : (spot : Spot) (b : ℕ) (bs : List ℕ) (us : List TextUnit) (l : Line) (ls : List Line) → AreSpaces (b ∷ bs) → lines_of us ≡ l ∷ ls
-    → begun (lines_of (space_units spot (b ∷ bs) ++ us)) ≡ begun_by (kind_behind_spaces (drop_while is_space_unit l.units) true) (with_units (space_units spot (b ∷ bs) ++ l.units) l) ls
-begun_behind spot b bs us l ls h e =
-    ap begun (spaces_line spot (b ∷ bs) us l ls e) ∙ ap (λ k. begun_by k (with_units (space_units spot (b ∷ bs) ++ l.units) l) ls) (kind_behind spot b bs l.units l h)
+begun_after : (spot : Spot) (b : ℕ) (bs : List ℕ) (us : List TextUnit) (l : Line) (ls : List Line) → AreSpaces (b ∷ bs) → lines_of us ≡ l ∷ ls
+    → begun (lines_of (space_units spot (b ∷ bs) ++ us)) ≡ begun_by (kind_after_spaces (drop_while is_space_unit l.units) true) (with_units (space_units spot (b ∷ bs) ++ l.units) l) ls
+begun_after spot b bs us l ls h e =
+    ap begun (spaces_line spot (b ∷ bs) us l ls e) ∙ ap (λ k. begun_by k (with_units (space_units spot (b ∷ bs) ++ l.units) l) ls) (kind_after spot b bs l.units l h)
 
-pub behind_end : (spot : Spot) (b : ℕ) (bs : List ℕ) (here : Spot) (rest : List ℕ) → AreSpaces (b ∷ bs) → rest ≡ []
+pub after_end : (spot : Spot) (b : ℕ) (bs : List ℕ) (here : Spot) (rest : List ℕ) → AreSpaces (b ∷ bs) → rest ≡ []
     → begun (lines_of (space_units spot (b ∷ bs) ++ cut AfterSpaces 0 here rest)) ≡ reply start.Blank (Between (lines_from here rest))
 unfolding cut
-behind_end spot b bs here rest h e = rw e (begun_behind spot b bs (cut AfterSpaces 0 here []) (record { units = []; end = here; is_last = true }) [] h refl)
+after_end spot b bs here rest h e = rw e (begun_after spot b bs (cut AfterSpaces 0 here []) (record { units = []; end = here; is_last = true }) [] h refl)
 
-pub behind_line_end : (spot : Spot) (b : ℕ) (bs : List ℕ) (here there : Spot) (rest : List ℕ) (n : ℕ) → AreSpaces (b ∷ bs) → begins_with_space_byte rest ≡ false → Begins here rest LineEnd n (cut AtStart 0 there (drop n rest))
+pub after_line_end : (spot : Spot) (b : ℕ) (bs : List ℕ) (here there : Spot) (rest : List ℕ) (n : ℕ) → AreSpaces (b ∷ bs) → begins_with_space_byte rest ≡ false → Begins here rest LineEnd n (cut AtStart 0 there (drop n rest))
     → begun (lines_of (space_units spot (b ∷ bs) ++ cut AfterSpaces 0 here rest)) ≡ reply start.Blank (Between (lines_from there (drop n rest)))
-behind_line_end spot b bs here there rest n h s e =
+after_line_end spot b bs here there rest n h s e =
     let behind = cut AtStart 0 there (drop n rest) in
     let found = cut-spaces here rest s (no_tab here rest LineEnd n behind e (λ k. absurd cc)) ∙ e in
     ap (λ us. begun (lines_of (space_units spot (b ∷ bs) ++ us))) found
-    ∙ begun_behind spot b bs (record { spot = here; bytes = take n rest; means = LineEnd } ∷ behind) (record { units = []; end = here; is_last = false }) (lines_of behind) h refl
+    ∙ begun_after spot b bs (record { spot = here; bytes = take n rest; means = LineEnd } ∷ behind) (record { units = []; end = here; is_last = false }) (lines_of behind) h refl
 
 indented_by : (spot : Spot) (b : ℕ) (bs : List ℕ) (u : TextUnit) (us : List TextUnit) (l : Line) (ls : List Line) → AreSpaces (b ∷ bs) → lines_of us ≡ l ∷ ls → StartsPlainly u.means
     → begun (lines_of (space_units spot (b ∷ bs) ++ (u ∷ us))) ≡ reply start.Indented (inside (lines_of (u ∷ us)))
@@ -263,37 +263,37 @@ indented_by spot b bs u us l ls h e p =
     let first : lines_of (u ∷ us) ≡ line ∷ ls = rw (p.no_end, e) refl in
     let stays : drop_while is_space_unit (u ∷ l.units) ≡ u ∷ l.units = drop_while-cons_no is_space_unit u l.units p.no_space in
     let dropped : drop_while is_space_unit (space_units spot (b ∷ bs) ++ (u ∷ l.units)) ≡ u ∷ l.units = drop_while-append is_space_unit (space_units spot (b ∷ bs)) (u ∷ l.units) (spaces_are_units spot (b ∷ bs) h) ∙ stays in
-    begun_behind spot b bs (u ∷ us) line ls h first
-    ∙ ap (λ k. begun_by k (with_units (space_units spot (b ∷ bs) ++ (u ∷ l.units)) line) ls) (ap (λ vs. kind_behind_spaces vs true) stays ∙ p.indented u.spot)
+    begun_after spot b bs (u ∷ us) line ls h first
+    ∙ ap (λ k. begun_by k (with_units (space_units spot (b ∷ bs) ++ (u ∷ l.units)) line) ls) (ap (λ vs. kind_after_spaces vs true) stays ∙ p.indented u.spot)
     ∙ ap (λ vs. reply start.Indented (Inside (with_units vs line) ls)) dropped
     ∙ ap (λ lines. reply start.Indented (inside lines)) (sym first)
 
-pub behind_plain : (spot : Spot) (b : ℕ) (bs : List ℕ) (here : Spot) (rest : List ℕ) (m : Meaning) (n : ℕ) (behind : List TextUnit) → AreSpaces (b ∷ bs) → begins_with_space_byte rest ≡ false → (m ≡ Ordinary 9 → ⊥) → starts_plainly m ≡ true
+pub after_plain : (spot : Spot) (b : ℕ) (bs : List ℕ) (here : Spot) (rest : List ℕ) (m : Meaning) (n : ℕ) (behind : List TextUnit) → AreSpaces (b ∷ bs) → begins_with_space_byte rest ≡ false → (m ≡ Ordinary 9 → ⊥) → starts_plainly m ≡ true
     → Begins here rest m n behind → begun (lines_of (space_units spot (b ∷ bs) ++ cut AfterSpaces 0 here rest)) ≡ reply start.Indented (inside (lines_within here rest))
-behind_plain spot b bs here rest m n behind h s t p e =
+after_plain spot b bs here rest m n behind h s t p e =
     let u : TextUnit = record { spot = here; bytes = take n rest; means = m } in
     let found = cut-spaces here rest s (no_tab here rest m n behind e t) ∙ e in
     let whole : HasLine (lines_of (u ∷ behind)) = subst (λ us. HasLine (lines_of us)) e (cut_has_line Within 0 here rest) in
-    let has : HasLine (lines_of behind) = HasLine-behind u (lines_of behind) (rw (plainly m p).no_end at whole) in
+    let has : HasLine (lines_of behind) = HasLine-after u (lines_of behind) (rw (plainly m p).no_end at whole) in
     ap (λ us. begun (lines_of (space_units spot (b ∷ bs) ++ us))) found ∙ indented_by spot b bs u behind has.0 has.1 h has.2 (plainly m p)
     ∙ ap (λ us. reply start.Indented (inside (lines_of us))) (sym e)
 
-pub behind_badly : (spot : Spot) (b : ℕ) (bs : List ℕ) (here : Spot) (rest : List ℕ) (m : Meaning) → AreSpaces (b ∷ bs) → begins_with_space_byte rest ≡ false → (m ≡ Ordinary 9 → ⊥) → starts_plainly m ≡ true
+pub after_badly : (spot : Spot) (b : ℕ) (bs : List ℕ) (here : Spot) (rest : List ℕ) (m : Meaning) → AreSpaces (b ∷ bs) → begins_with_space_byte rest ≡ false → (m ≡ Ordinary 9 → ⊥) → starts_plainly m ≡ true
     → BeginsBadly here rest m → begun (lines_of (space_units spot (b ∷ bs) ++ cut AfterSpaces 0 here rest)) ≡ reply start.Indented (inside (lines_within here rest))
-behind_badly spot b bs here rest m h s t p bad = behind_plain spot b bs here rest m bad.0 bad.1 h s t p bad.2
+after_badly spot b bs here rest m h s t p bad = after_plain spot b bs here rest m bad.0 bad.1 h s t p bad.2
 
-pub behind_tab : (spot : Spot) (b : ℕ) (bs : List ℕ) (here : Spot) (byte : ℕ) (rest : List ℕ) → AreSpaces (b ∷ bs) → begins_with byte rest ≡ true → byte ≡ 9
+pub after_tab : (spot : Spot) (b : ℕ) (bs : List ℕ) (here : Spot) (byte : ℕ) (rest : List ℕ) → AreSpaces (b ∷ bs) → begins_with byte rest ≡ true → byte ≡ 9
     → begun (lines_of (space_units spot (b ∷ bs) ++ cut AfterSpaces 0 here rest)) ≡ failing (fault.Tab here)
 unfolding cut
-behind_tab spot b bs here byte [] h e t = absurd cc
-behind_tab spot b bs here byte (x ∷ rest) h e t =
+after_tab spot b bs here byte [] h e t = absurd cc
+after_tab spot b bs here byte (x ∷ rest) h e t =
     let is_tab : x ≡ 9 = eqb-true x byte e ∙ t in
     let behind = cut Within 0 (spot_after 9 here) rest in
     let has = cut_has_line Within 0 (spot_after 9 here) rest in
     let u : TextUnit = record { spot = here; bytes = 9 ∷ []; means = LeadingTab } in
     let found : cut AfterSpaces 0 here (x ∷ rest) ≡ u ∷ behind = rw is_tab refl in
     let first : lines_of (u ∷ behind) ≡ record { units = u ∷ has.0.units; end = has.0.end; is_last = has.0.is_last } ∷ has.1 = ap (before_first_line u) has.2 in
-    ap (λ us. begun (lines_of (space_units spot (b ∷ bs) ++ us))) found ∙ begun_behind spot b bs (u ∷ behind) (record { units = u ∷ has.0.units; end = has.0.end; is_last = has.0.is_last }) has.1 h first
+    ap (λ us. begun (lines_of (space_units spot (b ∷ bs) ++ us))) found ∙ begun_after spot b bs (u ∷ behind) (record { units = u ∷ has.0.units; end = has.0.end; is_last = has.0.is_last }) has.1 h first
 
 -- ---- comments
 
@@ -400,9 +400,9 @@ pub plain_ordinary : (b : ℕ) (bs : List ℕ) → begins_with b bs ≡ true →
 plain_ordinary b bs e s = rw (first_is_no_space b bs e s) refl
 
 -- how a line begins, of which the leading spaces were read
-pub begun_behind_spaces : (spot : Spot) (bytes xs : List ℕ) (c : Cursor) (found : Begun) → bytes ≡ xs ++ c.rest.now → xs ≡ take_while is_space bytes → c.spot ≡ along (length xs) spot → opens_comment bytes ≡ false → eqb (length xs) 0 ≡ false
+pub begun_after_spaces : (spot : Spot) (bytes xs : List ℕ) (c : Cursor) (found : Begun) → bytes ≡ xs ++ c.rest.now → xs ≡ take_while is_space bytes → c.spot ≡ along (length xs) spot → opens_comment bytes ≡ false → eqb (length xs) 0 ≡ false
     → BegunAfterSpaces c found → BegunIs (lines_from spot bytes) found
-begun_behind_spaces spot bytes xs c found whole run there no_comment some h =
+begun_after_spaces spot bytes xs c found whole run there no_comment some h =
     let s = spaces_cut spot bytes xs c.rest.now c.spot whole run there no_comment some in
     subst (λ us. BegunIs (lines_of us) found) (sym s.3) (h spot s.0 s.1 s.2)
 
@@ -487,7 +487,7 @@ kind_is_none BadEscape spot t h = text_kind_is_none t
 
 -- the kind of the first of the lines, whose leading spaces may have been passed
 abbrev first_kind : List TextUnit → Bool → Kind
-first_kind us t = kind_behind_spaces (drop_while is_space_unit (first_line (lines_of us)).units) t
+first_kind us t = kind_after_spaces (drop_while is_space_unit (first_line (lines_of us)).units) t
 
 first_units : (u : TextUnit) (ls : List Line) → HasLine ls → (first_line (before_first_line u ls)).units ≡ u ∷ (first_line ls).units
 first_units u ls h = rw h.2 refl
@@ -496,13 +496,13 @@ first_units u ls h = rw h.2 refl
 first_is_none : (u : TextUnit) (us : List TextUnit) (t : Bool) → HasLine (lines_of us) → says_comment u.means ≡ false → is_space_unit u ≡ false → is_comment (first_kind (u ∷ us) t) ≡ false
 first_is_none u us t h c s = by_end (ending_of u.means)
   where
-    by_end : (o : Option Bool) → is_comment (kind_behind_spaces (drop_while is_space_unit (first_line (lines_before o u (lines_of us))).units) t) ≡ false
-    by_end None = ap (λ vs. is_comment (kind_behind_spaces (drop_while is_space_unit vs) t)) (first_units u (lines_of us) h) ∙ ap (λ vs. is_comment (kind_behind_spaces vs t)) (drop_while-cons_no is_space_unit u (first_line (lines_of us)).units s) ∙ kind_is_none u.means u.spot t c
+    by_end : (o : Option Bool) → is_comment (kind_after_spaces (drop_while is_space_unit (first_line (lines_before o u (lines_of us))).units) t) ≡ false
+    by_end None = ap (λ vs. is_comment (kind_after_spaces (drop_while is_space_unit vs) t)) (first_units u (lines_of us) h) ∙ ap (λ vs. is_comment (kind_after_spaces vs t)) (drop_while-cons_no is_space_unit u (first_line (lines_of us)).units s) ∙ kind_is_none u.means u.spot t c
     by_end (Some b) = refl
 
 -- a space is passed
 first_is_space : (u : TextUnit) (us : List TextUnit) (t : Bool) → HasLine (lines_of us) → ending_of u.means ≡ None → is_space_unit u ≡ true → first_kind (u ∷ us) t ≡ first_kind us t
-first_is_space u us t h e s = rw e (ap (λ vs. kind_behind_spaces (drop_while is_space_unit vs) t) (first_units u (lines_of us) h) ∙ ap (λ vs. kind_behind_spaces vs t) (drop_while-cons_yes is_space_unit u (first_line (lines_of us)).units s))
+first_is_space u us t h e s = rw e (ap (λ vs. kind_after_spaces (drop_while is_space_unit vs) t) (first_units u (lines_of us) h) ∙ ap (λ vs. kind_after_spaces vs t) (drop_while-cons_yes is_space_unit u (first_line (lines_of us)).units s))
 
 choice_no_space : (t : Bool) (x y : Found) → is_ordinary_in is_space x.0 ≡ false → is_ordinary_in is_space y.0 ≡ false → is_ordinary_in is_space (cond t x y).0 ≡ false
 choice_no_space true x y h k = h

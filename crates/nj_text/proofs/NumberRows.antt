@@ -21,9 +21,9 @@ zero : leading_number_of (codes "0") ≡ Some 0
 unfolding value_of_digits
 zero = refl
 
-digits_behind_others : leading_number_of (codes "12 34") ≡ Some 12
+digits_after_others : leading_number_of (codes "12 34") ≡ Some 12
 unfolding value_of_digits
-digits_behind_others = refl
+digits_after_others = refl
 
 no_text : leading_number_of [] ≡ None
 no_text = refl
@@ -78,9 +78,9 @@ one_part : version_pair_of (codes "1") ≡ (1, 0)
 unfolding value_of_digits
 one_part = refl
 
-nothing_behind_the_dot : version_pair_of (codes "1.") ≡ (1, 0)
+nothing_after_the_dot : version_pair_of (codes "1.") ≡ (1, 0)
 unfolding value_of_digits
-nothing_behind_the_dot = refl
+nothing_after_the_dot = refl
 
 nothing_before_the_dot : version_pair_of (codes ".5") ≡ (0, 5)
 unfolding value_of_digits
@@ -102,9 +102,9 @@ space_in_front : version_pair_of (codes " 1.5") ≡ (0, 5)
 unfolding value_of_digits
 space_in_front = refl
 
-space_behind_the_dot : version_pair_of (codes "1. 5") ≡ (1, 0)
+space_after_the_dot : version_pair_of (codes "1. 5") ≡ (1, 0)
 unfolding value_of_digits
-space_behind_the_dot = refl
+space_after_the_dot = refl
 
 no_version : version_pair_of [] ≡ (0, 0)
 no_version = refl

@@ -79,21 +79,21 @@ hash_in_a_line : meanings (codes "a #") ≡ Ordinary 97 ∷ Ordinary 32 ∷ Ordi
 unfolding meanings cut
 hash_in_a_line = refl
 
-hash_behind_a_join : meanings (codes "$\n# b") ≡ OpeningJoin ∷ Ordinary 35 ∷ Ordinary 32 ∷ Ordinary 98 ∷ TextEnd ∷ []
+hash_after_a_join : meanings (codes "$\n# b") ≡ OpeningJoin ∷ Ordinary 35 ∷ Ordinary 32 ∷ Ordinary 98 ∷ TextEnd ∷ []
 unfolding meanings cut
-hash_behind_a_join = refl
+hash_after_a_join = refl
 
-tab_behind_spaces : meanings (codes " \tx\t") ≡ Ordinary 32 ∷ LeadingTab ∷ Ordinary 120 ∷ Ordinary 9 ∷ TextEnd ∷ []
+tab_after_spaces : meanings (codes " \tx\t") ≡ Ordinary 32 ∷ LeadingTab ∷ Ordinary 120 ∷ Ordinary 9 ∷ TextEnd ∷ []
 unfolding meanings cut
-tab_behind_spaces = refl
+tab_after_spaces = refl
 
 opening_join : meanings (codes "$\n  a\n$\nb") ≡ OpeningJoin ∷ Ordinary 97 ∷ LineEnd ∷ OpeningJoin ∷ Ordinary 98 ∷ TextEnd ∷ []
 unfolding meanings cut
 opening_join = refl
 
-join_behind_spaces : meanings (codes " $\n  a") ≡ Ordinary 32 ∷ Join ∷ Ordinary 97 ∷ TextEnd ∷ []
+join_after_spaces : meanings (codes " $\n  a") ≡ Ordinary 32 ∷ Join ∷ Ordinary 97 ∷ TextEnd ∷ []
 unfolding meanings cut
-join_behind_spaces = refl
+join_after_spaces = refl
 
 abbrev at : ℕ → ℕ → Spot
 at line column = record { line = line; column = column }
@@ -255,17 +255,17 @@ tab_begins_a_line : answers (codes "rule r\n\tcommand = x") (start ∷ ident ∷
 unfolding answers cut
 tab_begins_a_line = refl
 
-tab_behind_leading_spaces : answers (codes "x\n  \t# c") (start ∷ ident ∷ sign line_end ∷ start ∷ spot ∷ []) ≡ Begins Plain ∷ some (codes "x") ∷ There true ∷ Fault (Tab (at 2 3)) ∷ Stands (at 2 3) ∷ []
+tab_after_leading_spaces : answers (codes "x\n  \t# c") (start ∷ ident ∷ sign line_end ∷ start ∷ spot ∷ []) ≡ Begins Plain ∷ some (codes "x") ∷ There true ∷ Fault (Tab (at 2 3)) ∷ Stands (at 2 3) ∷ []
 unfolding answers cut
-tab_behind_leading_spaces = refl
+tab_after_leading_spaces = refl
 
 fault_in_a_word : answers (codes "build o $\n  a$!b") (start ∷ ident ∷ word ∷ word ∷ spot ∷ sign Colon ∷ []) ≡ Begins Plain ∷ some (codes "build") ∷ Word (at 1 7) (Text (codes "o") ∷ []) ∷ Fault (bad_escape (at 2 4)) ∷ Stands (at 2 4) ∷ Fault (bad_escape (at 2 4)) ∷ []
 unfolding answers cut
 fault_in_a_word = refl
 
-fault_behind_a_word : answers (codes "build o \rb") (start ∷ ident ∷ word ∷ word ∷ spot ∷ []) ≡ Begins Plain ∷ some (codes "build") ∷ Word (at 1 7) (Text (codes "o") ∷ []) ∷ Fault (bad_byte (at 1 9)) ∷ Stands (at 1 9) ∷ []
+fault_after_a_word : answers (codes "build o \rb") (start ∷ ident ∷ word ∷ word ∷ spot ∷ []) ≡ Begins Plain ∷ some (codes "build") ∷ Word (at 1 7) (Text (codes "o") ∷ []) ∷ Fault (bad_byte (at 1 9)) ∷ Stands (at 1 9) ∷ []
 unfolding answers cut
-fault_behind_a_word = refl
+fault_after_a_word = refl
 
 fault_before_an_identifier : answers (codes "x \0") (start ∷ ident ∷ ident ∷ spot ∷ []) ≡ Begins Plain ∷ some (codes "x") ∷ Fault (bad_byte (at 1 3)) ∷ Stands (at 1 3) ∷ []
 unfolding answers cut
@@ -313,6 +313,6 @@ blank_line_ends_the_text : answers (codes "a\r\n   ") (start ∷ ident ∷ sign 
 unfolding answers cut
 blank_line_ends_the_text = refl
 
-places_behind_joins : answers (codes "a $\r\n  b$\nc") (start ∷ ident ∷ spot ∷ ident ∷ spot ∷ ident ∷ spot ∷ []) ≡ Begins Plain ∷ some (codes "a") ∷ Stands (at 1 2) ∷ some (codes "b") ∷ Stands (at 2 4) ∷ some (codes "c") ∷ Stands (at 3 2) ∷ []
+places_after_joins : answers (codes "a $\r\n  b$\nc") (start ∷ ident ∷ spot ∷ ident ∷ spot ∷ ident ∷ spot ∷ []) ≡ Begins Plain ∷ some (codes "a") ∷ Stands (at 1 2) ∷ some (codes "b") ∷ Stands (at 2 4) ∷ some (codes "c") ∷ Stands (at 3 2) ∷ []
 unfolding answers cut
-places_behind_joins = refl
+places_after_joins = refl

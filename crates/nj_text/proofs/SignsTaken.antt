@@ -8,19 +8,19 @@ use Rattle.nj_text.specs.declared.sign.Sign.{Sign}
 use Rattle.nj_text.specs.declared.sign.Sign.TheVariants as sign
 use Rattle.nj_text.specs.Bytes.{is_ordinary_byte, begins_with}
 use Rattle.nj_text.specs.Units.{Ordinary, TextUnit, Within, unit_at, is_ordinary_in, cut}
-use Rattle.nj_text.specs.Lines.{Line, ending_of, lines_of, lines_before, before_first_line, with_units, lines_behind}
+use Rattle.nj_text.specs.Lines.{Line, ending_of, lines_of, lines_before, before_first_line, with_units, lines_after}
 use Rattle.nj_text.specs.Words.{begins_with_byte, next_fault}
 use Rattle.nj_text.specs.Scans.{along, units_within, has_sign, sign_size, sign_length}
-use Rattle.nj_text.specs.Calls.{State, Between, Inside, Reply, reply, failing, is_empty, is_sign, behind_sign, sign_at}
+use Rattle.nj_text.specs.Calls.{State, Between, Inside, Reply, reply, failing, is_empty, is_sign, state_after_sign, sign_at}
 use Rattle.nj_text.specs.Standing.{first_line, other_lines, inside, lines_within, ends_next}
 use Rattle.nj_text.proofs.Cuts.{unit-ordinary, cut-ordinary, along-along}
 use Rattle.nj_text.proofs.Gathered.{not_ordinary}
 use Rattle.nj_text.proofs.LineStarts.{cut_has_line, fails_if_no_byte}
-use Rattle.nj_text.proofs.Bridges.{begins_with_byte_of_line, line_behind}
+use Rattle.nj_text.proofs.Bridges.{begins_with_byte_of_line, line_after}
 use Rattle.nj_text.proofs.Steps.{line, others, fails_here, goes_on_here}
 
 abbrev sign_or_none : Sign → Spot → List ℕ → Bool → Reply Bool
-sign_or_none want spot bytes t = cond t (reply true (behind_sign want (line spot bytes) (others spot bytes))) (reply false (Inside (line spot bytes) (others spot bytes)))
+sign_or_none want spot bytes t = cond t (reply true (state_after_sign want (line spot bytes) (others spot bytes))) (reply false (Inside (line spot bytes) (others spot bytes)))
 
 pub sign_fails : (want : Sign) (spot : Spot) (bytes : List ℕ) (f : UnitFault) → Some f ≡ next_fault (units_within spot bytes) → sign_at want (line spot bytes) (others spot bytes) ≡ failing f
 sign_fails want spot bytes f e = fails_here spot bytes f (sign_or_none want spot bytes (is_sign want (line spot bytes).units)) e
@@ -30,7 +30,7 @@ sign_by want spot bytes t n e = goes_on_here spot bytes (sign_or_none want spot 
 
 -- ---- line ends
 
-pub line_end_taken : (want : Sign) (spot : Spot) (bytes : List ℕ) (after : List Line) → want ≡ sign.LineEnd → None ≡ next_fault (units_within spot bytes) → (line spot bytes).units ≡ [] → lines_behind (line spot bytes) (others spot bytes) ≡ after
+pub line_end_taken : (want : Sign) (spot : Spot) (bytes : List ℕ) (after : List Line) → want ≡ sign.LineEnd → None ≡ next_fault (units_within spot bytes) → (line spot bytes).units ≡ [] → lines_after (line spot bytes) (others spot bytes) ≡ after
     → sign_at want (line spot bytes) (others spot bytes) ≡ reply true (Between after)
 line_end_taken want spot bytes after w n e l = rw w (sign_by sign.LineEnd spot bytes true n (ap is_empty e) ∙ ap (λ ls. reply true (Between ls)) l)
 
@@ -39,7 +39,7 @@ has_units [] first h = absurd (false≢true (sym first))
 has_units (u ∷ us) first h = by_end (ending_of u.means) refl first h
   where
     by_line : (ls : List Line) → ((l : Line) × (more : List Line) × (before_first_line u ls ≡ l ∷ more)) → is_empty (first_line (before_first_line u ls)).units ≡ false
-    by_line ls k = let has = line_behind u ls k in rw has.2 refl
+    by_line ls k = let has = line_after u ls k in rw has.2 refl
 
     by_end : (o : Option Bool) → ending_of u.means ≡ o → is_some o ≡ false → ((l : Line) × (more : List Line) × (lines_before o u (lines_of us) ≡ l ∷ more)) → is_empty (first_line (lines_before o u (lines_of us))).units ≡ false
     by_end None e f k = by_line (lines_of us) k
@@ -72,9 +72,9 @@ abbrev plain_unit : Spot → ℕ → TextUnit
 plain_unit spot b = record { spot = spot; bytes = b ∷ []; means = Ordinary b }
 
 -- the line behind an ordinary byte
-line_behind_byte : (spot : Spot) (x : ℕ) (xs : List ℕ) → is_ordinary_byte x ≡ true
+line_after_byte : (spot : Spot) (x : ℕ) (xs : List ℕ) → is_ordinary_byte x ≡ true
     → inside (lines_within spot (x ∷ xs)) ≡ Inside (with_units (plain_unit spot x ∷ (line (along 1 spot) xs).units) (line (along 1 spot) xs)) (others (along 1 spot) xs)
-line_behind_byte spot x xs o = ap (λ us. inside (lines_of us)) (cut-ordinary spot x xs o) ∙ by_line (lines_within (along 1 spot) xs) (cut_has_line Within 0 (along 1 spot) xs)
+line_after_byte spot x xs o = ap (λ us. inside (lines_of us)) (cut-ordinary spot x xs o) ∙ by_line (lines_within (along 1 spot) xs) (cut_has_line Within 0 (along 1 spot) xs)
   where
     by_line : (ls : List Line) → ((l : Line) × (more : List Line) × (ls ≡ l ∷ more)) → inside (before_first_line (plain_unit spot x) ls) ≡ Inside (with_units (plain_unit spot x ∷ (first_line ls).units) (first_line ls)) (other_lines ls)
     by_line ls h = rw h.2 refl
@@ -88,18 +88,18 @@ lines_in (Inside l ls) = ls
 lines_in other = []
 
 -- behind one ordinary byte, and behind two
-behind_one : (spot : Spot) (x : ℕ) (xs : List ℕ) → is_ordinary_byte x ≡ true → Inside (with_units (drop 1 (line spot (x ∷ xs)).units) (line spot (x ∷ xs))) (others spot (x ∷ xs)) ≡ inside (lines_within (along 1 spot) xs)
-behind_one spot x xs o = ap (λ s. Inside (with_units (drop 1 (line_in s).units) (line_in s)) (lines_in s)) (line_behind_byte spot x xs o)
+after_one : (spot : Spot) (x : ℕ) (xs : List ℕ) → is_ordinary_byte x ≡ true → Inside (with_units (drop 1 (line spot (x ∷ xs)).units) (line spot (x ∷ xs))) (others spot (x ∷ xs)) ≡ inside (lines_within (along 1 spot) xs)
+after_one spot x xs o = ap (λ s. Inside (with_units (drop 1 (line_in s).units) (line_in s)) (lines_in s)) (line_after_byte spot x xs o)
 
-behind_two : (spot : Spot) (x y : ℕ) (ys : List ℕ) → is_ordinary_byte x ≡ true → is_ordinary_byte y ≡ true
+after_two : (spot : Spot) (x y : ℕ) (ys : List ℕ) → is_ordinary_byte x ≡ true → is_ordinary_byte y ≡ true
     → Inside (with_units (drop 2 (line spot (x ∷ y ∷ ys)).units) (line spot (x ∷ y ∷ ys))) (others spot (x ∷ y ∷ ys)) ≡ inside (lines_within (along 2 spot) ys)
-behind_two spot x y ys o p =
-    ap (λ s. Inside (with_units (drop 2 (line_in s).units) (line_in s)) (lines_in s)) (line_behind_byte spot x (y ∷ ys) o)
-    ∙ behind_one (along 1 spot) y ys p ∙ ap (λ q. inside (lines_within q ys)) (along-along 1 1 spot)
+after_two spot x y ys o p =
+    ap (λ s. Inside (with_units (drop 2 (line_in s).units) (line_in s)) (lines_in s)) (line_after_byte spot x (y ∷ ys) o)
+    ∙ after_one (along 1 spot) y ys p ∙ ap (λ q. inside (lines_within q ys)) (along-along 1 1 spot)
 
 -- the second byte, behind an ordinary one
 second_byte : (b : ℕ) → is_ordinary_byte b ≡ true → (spot : Spot) (x : ℕ) (xs : List ℕ) → is_ordinary_byte x ≡ true → begins_with_byte b (drop 1 (line spot (x ∷ xs)).units) ≡ begins_with b xs
-second_byte b o spot x xs p = ap (λ s. begins_with_byte b (drop 1 (line_in s).units)) (line_behind_byte spot x xs p) ∙ byte_of_line b o (along 1 spot) xs
+second_byte b o spot x xs p = ap (λ s. begins_with_byte b (drop 1 (line_in s).units)) (line_after_byte spot x xs p) ∙ byte_of_line b o (along 1 spot) xs
 
 -- ---- signs of one byte and of two
 
@@ -157,7 +157,7 @@ first_true s t h = (both_true s t h).0
 one_taken : (b : ℕ) → is_ordinary_byte b ≡ true → (spot : Spot) (bytes : List ℕ) → begins_with b bytes ≡ true
     → Inside (with_units (drop 1 (line spot bytes).units) (line spot bytes)) (others spot bytes) ≡ inside (lines_within (along 1 spot) (drop 1 bytes))
 one_taken b o spot [] e = absurd cc
-one_taken b o spot (x ∷ xs) e = behind_one spot x xs (ap is_ordinary_byte (eqb-true x b e) ∙ o)
+one_taken b o spot (x ∷ xs) e = after_one spot x xs (ap is_ordinary_byte (eqb-true x b e) ∙ o)
 
 two_taken : (b c : ℕ) → is_ordinary_byte b ≡ true → is_ordinary_byte c ≡ true → (spot : Spot) (bytes : List ℕ) → (begins_with b bytes && begins_with c (drop 1 bytes)) ≡ true
     → Inside (with_units (drop 2 (line spot bytes).units) (line spot bytes)) (others spot bytes) ≡ inside (lines_within (along 2 spot) (drop 2 bytes))
@@ -169,9 +169,9 @@ two_taken b c o p spot (x ∷ []) e = absurd (no_second (eqb x b) e)
     no_second false h = absurd cc
 two_taken b c o p spot (x ∷ y ∷ ys) e =
     let both = both_true (eqb x b) (eqb y c) e in
-    behind_two spot x y ys (ap is_ordinary_byte (eqb-true x b both.0) ∙ o) (ap is_ordinary_byte (eqb-true y c both.1) ∙ p)
+    after_two spot x y ys (ap is_ordinary_byte (eqb-true x b both.0) ∙ o) (ap is_ordinary_byte (eqb-true y c both.1) ∙ p)
 
-taken_by : (want : Sign) (spot : Spot) (bytes : List ℕ) → has_sign want bytes ≡ true → behind_sign want (line spot bytes) (others spot bytes) ≡ inside (lines_within (along (sign_size want) spot) (drop (sign_size want) bytes))
+taken_by : (want : Sign) (spot : Spot) (bytes : List ℕ) → has_sign want bytes ≡ true → state_after_sign want (line spot bytes) (others spot bytes) ≡ inside (lines_within (along (sign_size want) spot) (drop (sign_size want) bytes))
 taken_by sign.Colon spot bytes e = one_taken 58 refl spot bytes e
 taken_by sign.Equals spot bytes e = one_taken 61 refl spot bytes e
 taken_by sign.Pipe spot bytes e = one_taken 124 refl spot bytes (first_true (begins_with 124 bytes) _ (first_true (begins_with 124 bytes && not (begins_with 124 (drop 1 bytes))) _ e))

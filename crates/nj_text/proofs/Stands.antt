@@ -10,8 +10,8 @@ use Rattle.nj_text.specs.declared.word.Word.{Word}
 use Rattle.nj_text.specs.declared.word.Part.{Part}
 use Rattle.nj_text.specs.Units.{OpeningJoin, TextUnit, AtStart, Within, cut}
 use Rattle.nj_text.specs.Lines.{Line, lines_of, before_first_line, with_units, line_spot}
-use Rattle.nj_text.specs.Words.{is_blank, WordText, word_text, part_text, is_opening_meaning, behind_opening}
-use Rattle.nj_text.specs.Calls.{State, Between, Inside, Reply, reply, behind_blanks, value_at, value_of, sign_of, first_line_spot, AnswersOrLacksMemory, no_word, skip_blanks_of, is_inside}
+use Rattle.nj_text.specs.Words.{is_blank, WordText, word_text, part_text, is_opening_meaning, after_opening}
+use Rattle.nj_text.specs.Calls.{State, Between, Inside, Reply, reply, after_blanks, value_at, value_of, sign_of, first_line_spot, AnswersOrLacksMemory, no_word, skip_blanks_of, is_inside}
 use Rattle.nj_text.specs.Bytes.{drop_while}
 use Rattle.nj_text.specs.Scans.{units_within}
 use Rattle.nj_text.specs.Standing.{first_line, other_lines, inside, lines_from, lines_within, StepsOrLacksMemory, FailsStep, Settles, SettlesFault}
@@ -67,7 +67,7 @@ sign_opening want place joined spot bytes = ap (sign_of want) (opened_is place j
     by_want sign.PipeAt = refl
     by_want sign.LineEnd = refl
 
-pub value_opening : (place : Spot) (joined : List ℕ) (spot : Spot) (bytes : List ℕ) → value_of (inside (opened place joined spot bytes)) ≡ value_at (behind_blanks (line spot bytes)) (others spot bytes)
+pub value_opening : (place : Spot) (joined : List ℕ) (spot : Spot) (bytes : List ℕ) → value_of (inside (opened place joined spot bytes)) ≡ value_at (after_blanks (line spot bytes)) (others spot bytes)
 value_opening place joined spot bytes = ap value_of (opened_is place joined spot bytes)
 
 -- within a line no join opens it
@@ -78,7 +78,7 @@ abbrev first_opens : List TextUnit → Bool
 first_opens [] = false
 first_opens (u ∷ us) = is_opening_meaning u.means
 
-opens_nothing : (us : List TextUnit) → first_opens us ≡ false → behind_opening us ≡ us
+opens_nothing : (us : List TextUnit) → first_opens us ≡ false → after_opening us ≡ us
 opens_nothing [] h = refl
 opens_nothing (u ∷ us) h = rw h refl
 
@@ -87,15 +87,15 @@ unfolding cut
 within_opens spot [] = refl
 within_opens spot (b ∷ bs) = unit_is_unsaid is_opening_meaning opening_is_unsaid b bs
 
-line_opens : (spot : Spot) (bytes : List ℕ) → behind_opening (line spot bytes).units ≡ (line spot bytes).units
+line_opens : (spot : Spot) (bytes : List ℕ) → after_opening (line spot bytes).units ≡ (line spot bytes).units
 line_opens spot bytes = opens_nothing (line spot bytes).units (same (line spot bytes).units ∙ first_of_line (λ m s. is_opening_meaning m) false (λ s. refl) (λ s. refl) (cut Within 0 spot bytes) (cut_has_line Within 0 spot bytes) ∙ sym (same (cut Within 0 spot bytes)) ∙ within_opens spot bytes)
   where
     same : (vs : List TextUnit) → first_opens vs ≡ of_first (λ m s. is_opening_meaning m) false (λ s. refl) (λ s. refl) vs
     same [] = refl
     same (v ∷ vs) = refl
 
-pub value_inside : (spot : Spot) (bytes : List ℕ) → value_of (inside (lines_within spot bytes)) ≡ value_at (behind_blanks (line spot bytes)) (others spot bytes)
-value_inside spot bytes = ap (λ us. value_at (behind_blanks (with_units us (line spot bytes))) (others spot bytes)) (line_opens spot bytes)
+pub value_inside : (spot : Spot) (bytes : List ℕ) → value_of (inside (lines_within spot bytes)) ≡ value_at (after_blanks (line spot bytes)) (others spot bytes)
+value_inside spot bytes = ap (λ us. value_at (after_blanks (with_units us (line spot bytes))) (others spot bytes)) (line_opens spot bytes)
 
 -- ---- a value that was read
 

@@ -13,7 +13,7 @@ use Rattle.nj_text.specs.Units.{Meaning, Within, unit_at, position_after, spot_a
 use Rattle.nj_text.specs.Lines.{Line, lines_of, with_units, line_spot}
 use Rattle.nj_text.specs.Scans.{along, units_within, BeginsBadly}
 use Rattle.nj_text.specs.Words.{is_blank, in_identifier, in_word, opens_word_meaning, next_fault, parts_of, PartText, WordText}
-use Rattle.nj_text.specs.Calls.{State, Inside, Reply, reply, failing, unless_fault, behind_blanks, bytes_of, some_bytes, ident_at, begins_word, word_here, word_at, value_at}
+use Rattle.nj_text.specs.Calls.{State, Inside, Reply, reply, failing, unless_fault, after_blanks, bytes_of, some_bytes, ident_at, begins_word, word_here, word_at, value_at}
 use Rattle.nj_text.specs.Gathering.{gathered, after_text, FailsText}
 use Rattle.nj_text.specs.Standing.{first_line, other_lines, inside, lines_within, FailsStep}
 use Rattle.nj_text.proofs.Lists.{AllIn, AllIn-weaker, AllIn-take_while, take_while-append, take_while-cons_no, drop_while-append, drop_while-cons_no}
@@ -35,7 +35,7 @@ lines_of_state other = []
 
 -- a reading of the line behind the blanks is one of the line at the cursor that the blanks lead to
 pub at_cursor : {A : Type 0} (f : Line → List Line → A) (spot there : Spot) (bytes rest : List ℕ) → units_within there rest ≡ drop_while is_blank (units_within spot bytes)
-    → f (behind_blanks (first_line (lines_within spot bytes))) (other_lines (lines_within spot bytes)) ≡ f (first_line (lines_within there rest)) (other_lines (lines_within there rest))
+    → f (after_blanks (first_line (lines_within spot bytes))) (other_lines (lines_within spot bytes)) ≡ f (first_line (lines_within there rest)) (other_lines (lines_within there rest))
 at_cursor f spot there bytes rest e =
     let same = ap (λ us. inside (lines_of us)) e ∙ passed_by is_blank blanks_end (units_within spot bytes) in
     ap (λ s. f (line_of_state s) (lines_of_state s)) (sym same)
@@ -129,8 +129,8 @@ none_if_empty xs h = ap some_bytes (nil_from_length xs (eqb-true (length xs) 0 h
 word_line : (spot : Spot) (bytes : List ℕ) → (first_line (lines_of (drop_while in_word (units_within spot bytes)))).units ≡ drop_while in_word (line spot bytes).units
 word_line spot bytes = ap (λ s. (line_of_state s).units) (passed_by in_word words_end (units_within spot bytes))
 
-fault_behind_word : (spot : Spot) (bytes : List ℕ) → next_fault (drop_while in_word (line spot bytes).units) ≡ next_fault (drop_while in_word (units_within spot bytes))
-fault_behind_word spot bytes = ap next_fault (sym (word_line spot bytes)) ∙ next_fault_of_line (drop_while in_word (units_within spot bytes)) (passed_has_line in_word words_end (units_within spot bytes) (cut_has_line Within 0 spot bytes))
+fault_after_word : (spot : Spot) (bytes : List ℕ) → next_fault (drop_while in_word (line spot bytes).units) ≡ next_fault (drop_while in_word (units_within spot bytes))
+fault_after_word spot bytes = ap next_fault (sym (word_line spot bytes)) ∙ next_fault_of_line (drop_while in_word (units_within spot bytes)) (passed_has_line in_word words_end (units_within spot bytes) (cut_has_line Within 0 spot bytes))
 
 begins_here : (spot : Spot) (bytes : List ℕ) → begins_word (line spot bytes).units ≡ begins_word (units_within spot bytes)
 begins_here spot bytes = begins_word_of_line (units_within spot bytes) (cut_has_line Within 0 spot bytes)
@@ -150,7 +150,7 @@ pub word_fails_here : (spot : Spot) (bytes : List ℕ) (f : UnitFault) → None 
     → word_at (line spot bytes) (others spot bytes) ≡ failing f
 word_fails_here spot bytes f n b e =
     goes_on_here spot bytes (word_or_none spot bytes (begins_word (line spot bytes).units)) n ∙ ap (word_or_none spot bytes) (begins_here spot bytes ∙ b)
-    ∙ ap (λ o. unless_fault o (reply (Some (word_here (line spot bytes))) (Inside (with_units (drop_while in_word (line spot bytes).units) (line spot bytes)) (others spot bytes)))) (fault_behind_word spot bytes ∙ e)
+    ∙ ap (λ o. unless_fault o (reply (Some (word_here (line spot bytes))) (Inside (with_units (drop_while in_word (line spot bytes).units) (line spot bytes)) (others spot bytes)))) (fault_after_word spot bytes ∙ e)
 
 pub word_is_here : (spot : Spot) (bytes : List ℕ) (parts : List PartText) (there : Spot) (rest : List ℕ) → None ≡ next_fault (units_within spot bytes) → begins_word (units_within spot bytes) ≡ true
     → next_fault (after_text kind.Word (units_within spot bytes)) ≡ None → parts ≡ gathered kind.Word (units_within spot bytes) → units_within there rest ≡ after_text kind.Word (units_within spot bytes)
@@ -161,7 +161,7 @@ word_is_here spot bytes parts there rest n b e p r =
     let text : parts_of (take_while in_word (line spot bytes).units) ≡ parts = ap parts_of (front_of in_word words_end us (cut_has_line Within 0 spot bytes)) ∙ sym p in
     let after : Inside (with_units (drop_while in_word (line spot bytes).units) (line spot bytes)) (others spot bytes) ≡ inside (lines_within there rest) = sym (passed_by in_word words_end us) ∙ ap (λ vs. inside (lines_of vs)) (sym r) in
     goes_on_here spot bytes (word_or_none spot bytes (begins_word (line spot bytes).units)) n ∙ ap (word_or_none spot bytes) (begins_here spot bytes ∙ b)
-    ∙ ap (λ o. unless_fault o (reply (Some (word_here (line spot bytes))) (Inside (with_units (drop_while in_word (line spot bytes).units) (line spot bytes)) (others spot bytes)))) (fault_behind_word spot bytes ∙ e)
+    ∙ ap (λ o. unless_fault o (reply (Some (word_here (line spot bytes))) (Inside (with_units (drop_while in_word (line spot bytes).units) (line spot bytes)) (others spot bytes)))) (fault_after_word spot bytes ∙ e)
     ∙ ap (λ s. reply (Some (word_here (line spot bytes))) s) after
     ∙ ap (λ x. reply (Some (record { spot = x; parts = parts_of (take_while in_word (line spot bytes).units) })) (inside (lines_within there rest))) place
     ∙ ap (λ x. reply (Some (record { spot = spot; parts = x })) (inside (lines_within there rest))) text

@@ -12,8 +12,8 @@ use Rattle.nj_text.specs.declared.sign.LineStart.TheVariants as start
 use Rattle.nj_text.specs.declared.spot.Spot.{Spot}
 use Rattle.nj_text.specs.Bytes.{drop_while}
 use Rattle.nj_text.specs.Units.{TextUnit, first_spot}
-use Rattle.nj_text.specs.Lines.{Line, text_lines, line_spot, with_units, lines_behind, Kind, CommentLine, TabLine, BlankLine, IndentedLine, PlainLine, kind_of, is_space_unit}
-use Rattle.nj_text.specs.Words.{is_blank, behind_opening, in_identifier, opens_word, in_word, begins_with_byte, next_fault, first_fault, parts_of, WordText}
+use Rattle.nj_text.specs.Lines.{Line, text_lines, line_spot, with_units, lines_after, Kind, CommentLine, TabLine, BlankLine, IndentedLine, PlainLine, kind_of, is_space_unit}
+use Rattle.nj_text.specs.Words.{is_blank, after_opening, in_identifier, opens_word, in_word, begins_with_byte, next_fault, first_fault, parts_of, WordText}
 
 -- Where a lexer is: between lines, before those that are left; inside a line, before what is left of it and the lines
 -- after it; or at a fault, for good.
@@ -53,7 +53,7 @@ abbrev pub begun_by : Kind → Line → List Line → Reply LineStart
 begun_by CommentLine l ls = reply start.Plain (Inside l ls)
 begun_by (TabLine tab) l ls = failing (fault.Tab tab)
 begun_by BlankLine l ls =
-    if l.is_last && is_empty l.units then reply start.End (Between (l ∷ ls)) else reply start.Blank (Between (lines_behind l ls))
+    if l.is_last && is_empty l.units then reply start.End (Between (l ∷ ls)) else reply start.Blank (Between (lines_after l ls))
 begun_by IndentedLine l ls = reply start.Indented (Inside (with_units (drop_while is_space_unit l.units) l) ls)
 begun_by PlainLine l ls = reply start.Plain (Inside l ls)
 
@@ -64,7 +64,7 @@ is_comment kind = false
 -- the lines from the first on that is no comment
 abbrev pub without_comments : List Line → List Line
 without_comments [] = []
-without_comments (l ∷ ls) = if is_comment (kind_of l) then lines_behind l (without_comments ls) else l ∷ ls
+without_comments (l ∷ ls) = if is_comment (kind_of l) then lines_after l (without_comments ls) else l ∷ ls
 
 abbrev pub begun : List Line → Reply LineStart
 begun [] = reply start.End (Between [])
@@ -77,11 +77,11 @@ start_line_of (Failed f) = failing f
 
 -- ---- ident
 
-abbrev pub behind_blanks : Line → Line
-behind_blanks l = with_units (drop_while is_blank l.units) l
+abbrev pub after_blanks : Line → Line
+after_blanks l = with_units (drop_while is_blank l.units) l
 
 abbrev pub skip_blanks_of : State → State
-skip_blanks_of (Inside l ls) = Inside (behind_blanks l) ls
+skip_blanks_of (Inside l ls) = Inside (after_blanks l) ls
 skip_blanks_of s = s
 
 -- the bytes of the units, as they stand
@@ -99,7 +99,7 @@ ident_at l ls =
 
 abbrev pub ident_of : State → Reply (Option (List ℕ))
 ident_of (Between ls) = reply None (Between ls)
-ident_of (Inside l ls) = ident_at (behind_blanks l) ls
+ident_of (Inside l ls) = ident_at (after_blanks l) ls
 ident_of (Failed f) = failing f
 
 -- ---- sign
@@ -112,18 +112,18 @@ is_sign sign.Pipe2 us = begins_with_byte 124 us && begins_with_byte 124 (drop 1 
 is_sign sign.PipeAt us = begins_with_byte 124 us && begins_with_byte 64 (drop 1 us)
 is_sign sign.LineEnd us = is_empty us
 
-abbrev pub behind_sign : Sign → Line → List Line → State
-behind_sign sign.LineEnd l ls = Between (lines_behind l ls)
-behind_sign sign.Pipe2 l ls = Inside (with_units (drop 2 l.units) l) ls
-behind_sign sign.PipeAt l ls = Inside (with_units (drop 2 l.units) l) ls
-behind_sign want l ls = Inside (with_units (drop 1 l.units) l) ls
+abbrev pub state_after_sign : Sign → Line → List Line → State
+state_after_sign sign.LineEnd l ls = Between (lines_after l ls)
+state_after_sign sign.Pipe2 l ls = Inside (with_units (drop 2 l.units) l) ls
+state_after_sign sign.PipeAt l ls = Inside (with_units (drop 2 l.units) l) ls
+state_after_sign want l ls = Inside (with_units (drop 1 l.units) l) ls
 
 abbrev pub sign_at : Sign → Line → List Line → Reply Bool
-sign_at want l ls = unless_fault (next_fault l.units) (if is_sign want l.units then reply true (behind_sign want l ls) else reply false (Inside l ls))
+sign_at want l ls = unless_fault (next_fault l.units) (if is_sign want l.units then reply true (state_after_sign want l ls) else reply false (Inside l ls))
 
 abbrev pub sign_of : Sign → State → Reply Bool
 sign_of want (Between ls) = reply false (Between ls)
-sign_of want (Inside l ls) = sign_at want (behind_blanks l) ls
+sign_of want (Inside l ls) = sign_at want (after_blanks l) ls
 sign_of want (Failed f) = failing f
 
 -- ---- path_word
@@ -144,7 +144,7 @@ word_at l ls =
 
 abbrev pub path_word_of : State → Reply (Option WordText)
 path_word_of (Between ls) = reply None (Between ls)
-path_word_of (Inside l ls) = word_at (behind_blanks l) ls
+path_word_of (Inside l ls) = word_at (after_blanks l) ls
 path_word_of (Failed f) = failing f
 
 -- ---- value
@@ -173,7 +173,7 @@ spot_of (Failed f) = fault_spot f
 
 abbrev pub value_of : State → Reply WordText
 value_of (Between ls) = reply (no_word (first_line_spot ls)) (Between ls)
-value_of (Inside l ls) = value_at (behind_blanks (with_units (behind_opening l.units) l)) ls
+value_of (Inside l ls) = value_at (after_blanks (with_units (after_opening l.units) l)) ls
 value_of (Failed f) = failing f
 
 -- ---- what a call of the program does

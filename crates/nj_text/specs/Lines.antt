@@ -47,8 +47,8 @@ abbrev pub with_units : List TextUnit → Line → Line
 with_units us l = record { units = us; end = l.end; is_last = l.is_last }
 
 -- the lines after one; after the last one its empty end is left
-abbrev pub lines_behind : Line → List Line → List Line
-lines_behind l ls = if l.is_last then with_units [] l ∷ ls else ls
+abbrev pub lines_after : Line → List Line → List Line
+lines_after l ls = if l.is_last then with_units [] l ∷ ls else ls
 
 -- ---- kinds of lines
 
@@ -77,13 +77,13 @@ kind_with Comment spot indented = CommentLine
 kind_with LeadingTab spot indented = TabLine spot
 kind_with m spot indented = text_kind indented
 
-abbrev pub kind_behind_spaces : List TextUnit → (indented : Bool) → Kind
-kind_behind_spaces [] indented = BlankLine
-kind_behind_spaces (u ∷ us) indented = kind_with u.means u.spot indented
+abbrev pub kind_after_spaces : List TextUnit → (indented : Bool) → Kind
+kind_after_spaces [] indented = BlankLine
+kind_after_spaces (u ∷ us) indented = kind_with u.means u.spot indented
 
 abbrev pub begins_with_space : List TextUnit → Bool
 begins_with_space [] = false
 begins_with_space (u ∷ us) = is_space_unit u
 
 abbrev pub kind_of : Line → Kind
-kind_of l = kind_behind_spaces (drop_while is_space_unit l.units) (begins_with_space l.units)
+kind_of l = kind_after_spaces (drop_while is_space_unit l.units) (begins_with_space l.units)

@@ -42,11 +42,11 @@ units_within spot bytes = cut Within 0 spot bytes
 
 -- the units at a place are one that says m and has n bytes, and then these
 abbrev pub Begins : Spot → List ℕ → Meaning → ℕ → List TextUnit → Type 0
-Begins spot bytes m n behind = units_within spot bytes ≡ record { spot = spot; bytes = take n bytes; means = m } ∷ behind
+Begins spot bytes m n after = units_within spot bytes ≡ record { spot = spot; bytes = take n bytes; means = m } ∷ after
 
 -- the units at a place are one that says m, and then some
 abbrev pub BeginsBadly : Spot → List ℕ → Meaning → Type 0
-BeginsBadly spot bytes m = (n : ℕ) × (behind : List TextUnit) × Begins spot bytes m n behind
+BeginsBadly spot bytes m = (n : ℕ) × (after : List TextUnit) × Begins spot bytes m n after
 
 -- what is at the front of the bytes, within a line, at any place
 abbrev pub NextIs : Next → List ℕ → Type 0

@@ -15,7 +15,7 @@ use Rattle.nj_text.specs.declared.starts.Begun.{Begun}
 use Rattle.nj_text.specs.declared.starts.Begun.TheVariants as starts
 use Rattle.nj_text.specs.Units.{TextUnit, Ordinary, OpeningJoin, AtStart, AfterSpaces, Within, first_spot, cut}
 use Rattle.nj_text.specs.Scans.{along, units_within}
-use Rattle.nj_text.specs.Lines.{Line, lines_of, before_first_line, lines_behind, ending_of}
+use Rattle.nj_text.specs.Lines.{Line, lines_of, before_first_line, lines_after, ending_of}
 use Rattle.nj_text.specs.Calls.{State, Between, Inside, Failed, Reply, reply, failing, begun}
 
 abbrev pub first_line : List Line → Line
@@ -72,7 +72,7 @@ abbrev pub EndsLine : Cursor → Option Cursor → Type 0
 EndsLine c None = ends_next (units_within c.spot c.rest.now) ≡ false
 EndsLine c (Some after) =
     ((first_line (lines_within c.spot c.rest.now)).units ≡ [])
-    × (lines_behind (first_line (lines_within c.spot c.rest.now)) (other_lines (lines_within c.spot c.rest.now)) ≡ lines_from after.spot after.rest.now)
+    × (lines_after (first_line (lines_within c.spot c.rest.now)) (other_lines (lines_within c.spot c.rest.now)) ≡ lines_from after.spot after.rest.now)
 
 -- what a call within a line answers, and where it leaves the lexer
 abbrev pub Steps : {X Y : Type 0} → (X → Y) → Reply Y → Result (X × Cursor) UnitFault → Type 0
@@ -92,8 +92,8 @@ StepsOrLacksMemory view expected (Err f) = FailsStep expected f
 abbrev pub line_at : Cursor → Line
 line_at c = first_line (lines_within c.spot c.rest.now)
 
-abbrev pub lines_after : Cursor → List Line
-lines_after c = other_lines (lines_within c.spot c.rest.now)
+abbrev pub other_lines_at : Cursor → List Line
+other_lines_at c = other_lines (lines_within c.spot c.rest.now)
 
 -- whether a wanted sign was there
 abbrev pub SignIs : Reply Bool → SignTaken → Type 0

@@ -25,9 +25,9 @@ is_opening_meaning OpeningJoin = true
 is_opening_meaning m = false
 
 -- the units after a join that opens their line, if one does
-abbrev pub behind_opening : List TextUnit → List TextUnit
-behind_opening [] = []
-behind_opening (u ∷ us) = if is_opening_meaning u.means then us else u ∷ us
+abbrev pub after_opening : List TextUnit → List TextUnit
+after_opening [] = []
+after_opening (u ∷ us) = if is_opening_meaning u.means then us else u ∷ us
 
 abbrev pub in_identifier : TextUnit → Bool
 in_identifier u = is_ordinary_in is_identifier_byte u.means

@@ -67,7 +67,7 @@ impl<'a> Cursor<'a> {
     /// The run of bytes that comes next, which may be empty and has no line feed, and the cursor after it.
     pub fn run(self, run: Run) -> (&'a [u8], Cursor<'a>)
         ensures run { result.0.now ≡ take_while (in_run run) self.entry.rest.now }
-        ensures behind { result.1.rest.now ≡ drop_while (in_run run) self.entry.rest.now }
+        ensures after { result.1.rest.now ≡ drop_while (in_run run) self.entry.rest.now }
         ensures whole { self.entry.rest.now ≡ result.0.now ++ result.1.rest.now }
         ensures spot { result.1.spot ≡ along (length result.0.now) self.entry.spot }
     {

@@ -108,7 +108,7 @@ pub fn run_length(run: Run, bytes: &[u8]) -> usize
 #[inline(always)]
 pub fn split_run(run: Run, bytes: &[u8]) -> (&[u8], &[u8])
     ensures run { result.0.now ≡ take_while (in_run run) bytes.now }
-    ensures behind { result.1.now ≡ drop_while (in_run run) bytes.now }
+    ensures after { result.1.now ≡ drop_while (in_run run) bytes.now }
     ensures whole { bytes.now ≡ result.0.now ++ result.1.now }
 {
     bytes.split_at(run_length(run, bytes))

@@ -5,8 +5,8 @@ ghost use Rattle.nj_text.specs.Scans.{units_within};
 ghost use Rattle.nj_text.specs.Words.{next_fault};
 ghost use Rattle.nj_text.specs.Bytes.{begins_with};
 ghost use Rattle.nj_text.specs.Scans.{sign_length};
-ghost use Rattle.nj_text.specs.Calls.{behind_blanks, sign_at};
-ghost use Rattle.nj_text.specs.Standing.{EndsLine, SignIs, line_at, lines_after};
+ghost use Rattle.nj_text.specs.Calls.{after_blanks, sign_at};
+ghost use Rattle.nj_text.specs.Standing.{EndsLine, SignIs, line_at, other_lines_at};
 
 use crate::blanks::skip_blanks;
 use crate::cursor::Cursor;
@@ -97,7 +97,7 @@ pub enum SignTaken<'a> {
 #[inline(always)]
 fn take_line_end(cursor: Cursor<'_>) -> SignTaken<'_>
     requires { next_fault (units_within cursor.spot cursor.rest.now) ≡ None }
-    ensures { SignIs (sign_at Sign.LineEnd (line_at cursor.entry) (lines_after cursor.entry)) result }
+    ensures { SignIs (sign_at Sign.LineEnd (line_at cursor.entry) (other_lines_at cursor.entry)) result }
 {
     let Some(after) = past_line_end(cursor) else {
         return SignTaken::No(cursor);
@@ -108,7 +108,7 @@ fn take_line_end(cursor: Cursor<'_>) -> SignTaken<'_>
 /// Takes the wanted sign after the blanks, if it is there.
 #[inline(always)]
 pub fn take_sign(want: Sign, start: Cursor<'_>) -> SignTaken<'_>
-    ensures { SignIs (sign_at want (behind_blanks (line_at start.entry)) (lines_after start.entry)) result }
+    ensures { SignIs (sign_at want (after_blanks (line_at start.entry)) (other_lines_at start.entry)) result }
 {
     let cursor = skip_blanks(start);
     if let Some(fault) = bad_unit(cursor) {

@@ -3,8 +3,8 @@
 ghost use Rattle.std.specs.Prelude.{◌≡◌};
 ghost use Rattle.std.specs.Option.{option_map};
 ghost use Rattle.nj_text.specs.Words.{word_text};
-ghost use Rattle.nj_text.specs.Calls.{behind_blanks, ident_at, word_at, value_at};
-ghost use Rattle.nj_text.specs.Standing.{Steps, StepsOrLacksMemory, line_at, lines_after};
+ghost use Rattle.nj_text.specs.Calls.{after_blanks, ident_at, word_at, value_at};
+ghost use Rattle.nj_text.specs.Standing.{Steps, StepsOrLacksMemory, line_at, other_lines_at};
 
 use crate::blanks::skip_blanks;
 use crate::cursor::Cursor;
@@ -18,7 +18,7 @@ use std::alloc::Global;
 /// The identifier after the blanks; `None` if there is none.
 #[inline(always)]
 pub fn identifier(start: Cursor<'_>) -> Result<(Option<&[u8]>, Cursor<'_>), UnitFault>
-    ensures { Steps (option_map (λ bytes. bytes.now)) (ident_at (behind_blanks (line_at start.entry)) (lines_after start.entry)) result }
+    ensures { Steps (option_map (λ bytes. bytes.now)) (ident_at (after_blanks (line_at start.entry)) (other_lines_at start.entry)) result }
 {
     let cursor = skip_blanks(start);
     if let Some(fault) = bad_unit(cursor) {
@@ -37,7 +37,7 @@ pub fn word<'a>(
     alloc: Global,
     start: Cursor<'a>,
 ) -> Result<(Option<Word<'a>>, Cursor<'a>), LexFault>
-    ensures { StepsOrLacksMemory (option_map word_text) (word_at (behind_blanks (line_at start.entry)) (lines_after start.entry)) result }
+    ensures { StepsOrLacksMemory (option_map word_text) (word_at (after_blanks (line_at start.entry)) (other_lines_at start.entry)) result }
 {
     let cursor = skip_blanks(start);
     if let Some(fault) = bad_unit(cursor) {
@@ -56,7 +56,7 @@ pub fn word<'a>(
 /// The value after the blanks, which goes up to the line's end.
 #[inline(always)]
 pub fn value<'a>(alloc: Global, start: Cursor<'a>) -> Result<(Word<'a>, Cursor<'a>), LexFault>
-    ensures { StepsOrLacksMemory word_text (value_at (behind_blanks (line_at start.entry)) (lines_after start.entry)) result }
+    ensures { StepsOrLacksMemory word_text (value_at (after_blanks (line_at start.entry)) (other_lines_at start.entry)) result }
 {
     let cursor = skip_blanks(start);
     let spot = cursor.spot;

@@ -1,6 +1,6 @@
 use Rattle.std.proofs.Common.{sym, ap, subst, ◌∙◌}
 use Rattle.nj_text.specs.Calls.{sign_at}
-use Rattle.nj_text.specs.Standing.{SignIs, line_at, lines_after}
+use Rattle.nj_text.specs.Standing.{SignIs, line_at, other_lines_at}
 use Rattle.nj_text.proofs.Steps.{at_cursor}
 use Rattle.nj_text.proofs.SignsTaken.{sign_fails, no_sign, sign_taken}
 use Rattle.nj_text.proofs.signs.take_sign.Goals as goal
@@ -16,7 +16,7 @@ returns-in-LineEnd c =
     let start = c.args.start in
     let here = c.skip_blanks-cursor.result in
     let moved = at_cursor (sign_at c.args.want) start.spot here.spot start.rest.now here.rest.now c.skip_blanks-cursor.ensures in
-    subst (λ r. SignIs r c.take_line_end.result) (sym (moved ∙ ap (λ want. sign_at want (line_at here) (lines_after here)) c.in-LineEnd.is)) c.take_line_end.ensures
+    subst (λ r. SignIs r c.take_line_end.result) (sym (moved ∙ ap (λ want. sign_at want (line_at here) (other_lines_at here)) c.in-LineEnd.is)) c.take_line_end.ensures
 
 pub returns-then-length-eq0 : goal.returns-then-length-eq0
 returns-then-length-eq0 c =

@@ -16,7 +16,7 @@ returns-then-is_empty c =
     let here = c.skip_blanks-cursor.result in
     let run = c.run in
     at_cursor ident_at start.spot here.spot start.rest.now here.rest.now c.skip_blanks-cursor.ensures
-    ∙ identifier_here here.spot run.result.1.spot here.rest.now run.result.0.now run.result.1.rest.now run.ensures.whole run.ensures.run run.ensures.behind run.ensures.spot c.in_default.ensures
+    ∙ identifier_here here.spot run.result.1.spot here.rest.now run.result.0.now run.result.1.rest.now run.ensures.whole run.ensures.run run.ensures.after run.ensures.spot c.in_default.ensures
     ∙ ap (λ name. reply name (inside (lines_within run.result.1.spot run.result.1.rest.now))) (none_if_empty run.result.0.now (sym c.is_empty.ensures ∙ c.if-is_empty.true))
 
 pub returns : goal.returns
@@ -25,5 +25,5 @@ returns c =
     let here = c.skip_blanks-cursor.result in
     let run = c.run in
     at_cursor ident_at start.spot here.spot start.rest.now here.rest.now c.skip_blanks-cursor.ensures
-    ∙ identifier_here here.spot run.result.1.spot here.rest.now run.result.0.now run.result.1.rest.now run.ensures.whole run.ensures.run run.ensures.behind run.ensures.spot c.in_default.ensures
+    ∙ identifier_here here.spot run.result.1.spot here.rest.now run.result.0.now run.result.1.rest.now run.ensures.whole run.ensures.run run.ensures.after run.ensures.spot c.in_default.ensures
     ∙ ap (λ name. reply name (inside (lines_within run.result.1.spot run.result.1.rest.now))) (some_if_any run.result.0.now (sym c.is_empty.ensures ∙ c.if-is_empty.false))
