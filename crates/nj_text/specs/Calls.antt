@@ -95,7 +95,8 @@ some_bytes (b ∷ bs) = Some (b ∷ bs)
 
 abbrev pub ident_at : Line → List Line → Reply (Option (List ℕ))
 ident_at l ls =
-    unless_fault (next_fault l.units) (reply (some_bytes (bytes_of (take_while in_identifier l.units))) (Inside (with_units (drop_while in_identifier l.units) l) ls))
+    unless_fault (next_fault l.units)
+    (reply (some_bytes (bytes_of (take_while in_identifier l.units))) (Inside (with_units (drop_while in_identifier l.units) l) ls))
 
 abbrev pub ident_of : State → Reply (Option (List ℕ))
 ident_of (Between ls) = reply None (Between ls)
@@ -119,7 +120,9 @@ state_after_sign sign.PipeAt l ls = Inside (with_units (drop 2 l.units) l) ls
 state_after_sign want l ls = Inside (with_units (drop 1 l.units) l) ls
 
 abbrev pub sign_at : Sign → Line → List Line → Reply Bool
-sign_at want l ls = unless_fault (next_fault l.units) (if is_sign want l.units then reply true (state_after_sign want l ls) else reply false (Inside l ls))
+sign_at want l ls =
+    unless_fault (next_fault l.units)
+    (if is_sign want l.units then reply true (state_after_sign want l ls) else reply false (Inside l ls))
 
 abbrev pub sign_of : Sign → State → Reply Bool
 sign_of want (Between ls) = reply false (Between ls)
@@ -139,7 +142,8 @@ abbrev pub word_at : Line → List Line → Reply (Option WordText)
 word_at l ls =
     unless_fault (next_fault l.units)
     (if begins_word l.units
-    then unless_fault (next_fault (drop_while in_word l.units)) (reply (Some (word_here l)) (Inside (with_units (drop_while in_word l.units) l) ls))
+    then unless_fault (next_fault (drop_while in_word l.units))
+    (reply (Some (word_here l)) (Inside (with_units (drop_while in_word l.units) l) ls))
     else reply None (Inside l ls))
 
 abbrev pub path_word_of : State → Reply (Option WordText)
@@ -150,7 +154,9 @@ path_word_of (Failed f) = failing f
 -- ---- value
 
 abbrev pub value_at : Line → List Line → Reply WordText
-value_at l ls = unless_fault (first_fault l.units) (reply (record { spot = line_spot l; parts = parts_of l.units }) (Inside (with_units [] l) ls))
+value_at l ls =
+    unless_fault (first_fault l.units)
+    (reply (record { spot = line_spot l; parts = parts_of l.units }) (Inside (with_units [] l) ls))
 
 abbrev pub no_word : Spot → WordText
 no_word spot = record { spot = spot; parts = [] }

@@ -48,8 +48,10 @@ after_text kind us = drop_while (in_text kind) us
 
 -- what comes next in a text
 abbrev pub PieceIs : TextKind → List TextUnit → Piece → Type 0
-PieceIs kind us (piece.Part p after) = (gathered kind us ≡ part_text p ∷ gathered kind (units_at after)) × (after_text kind us ≡ after_text kind (units_at after))
-PieceIs kind us (piece.Join after) = (gathered kind us ≡ gathered kind (units_at after)) × (after_text kind us ≡ after_text kind (units_at after))
+PieceIs kind us (piece.Part p after) =
+    (gathered kind us ≡ part_text p ∷ gathered kind (units_at after)) × (after_text kind us ≡ after_text kind (units_at after))
+PieceIs kind us (piece.Join after) =
+    (gathered kind us ≡ gathered kind (units_at after)) × (after_text kind us ≡ after_text kind (units_at after))
 PieceIs kind us piece.End = (gathered kind us ≡ []) × (after_text kind us ≡ us) × (next_fault us ≡ None)
 PieceIs kind us (piece.Bad f) = next_fault (after_text kind us) ≡ Some f
 
@@ -79,5 +81,6 @@ FailsText lex.OutOfMemory next = Unit {0}
 FailsText (lex.Unit f) next = next ≡ Some f
 
 abbrev pub Gathers : TextKind → List TextUnit → Result (SmallVec Part × Cursor) LexFault → Type 0
-Gathers kind us (Ok r) = (map part_text r.0.items ≡ gathered kind us) × (units_at r.1 ≡ after_text kind us) × (next_fault (after_text kind us) ≡ None)
+Gathers kind us (Ok r) =
+    (map part_text r.0.items ≡ gathered kind us) × (units_at r.1 ≡ after_text kind us) × (next_fault (after_text kind us) ≡ None)
 Gathers kind us (Err f) = FailsText f (next_fault (after_text kind us))

@@ -8,7 +8,8 @@ pub data ShellStand : Type 0 where
   InQuotes : ShellStand
   AfterBackslash : ShellStand
 
--- what a byte adds to the word, where it has a meaning here: outside quotes plain bytes, `'` and `\`; after a `\` a `'`; in quotes every byte
+-- what a byte adds to the word, where it has a meaning here: outside quotes plain bytes, `'` and `\`; after a `\` a `'`;
+-- in quotes every byte
 abbrev pub added : ShellStand → ℕ → Option (List ℕ)
 added Unquoted b = if is_quote b then Some [] else if b == 92 then Some [] else if is_plain_byte b then Some (b ∷ []) else None
 added InQuotes b = if is_quote b then Some [] else Some (b ∷ [])

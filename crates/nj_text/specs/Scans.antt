@@ -52,7 +52,9 @@ BeginsBadly spot bytes m = (n : ℕ) × (after : List TextUnit) × Begins spot b
 abbrev pub NextIs : Next → List ℕ → Type 0
 NextIs next.End bytes = bytes ≡ []
 NextIs (next.Ordinary b) bytes =
-    (is_ordinary_byte b ≡ true) × (begins_with b bytes ≡ true) × ((spot : Spot) → Begins spot bytes (Ordinary b) 1 (units_within (along 1 spot) (drop 1 bytes)))
+    (is_ordinary_byte b ≡ true)
+    × (begins_with b bytes ≡ true)
+    × ((spot : Spot) → Begins spot bytes (Ordinary b) 1 (units_within (along 1 spot) (drop 1 bytes)))
 NextIs (next.Join n spaces) bytes = (spot : Spot) → Begins spot bytes Join n (units_within (on_next_line spaces spot) (drop n bytes))
 NextIs (next.Escape byte) bytes =
     (b : ℕ) × (byte.now ≡ b ∷ []) × ((spot : Spot) → Begins spot bytes (Escape b) 2 (units_within (along 2 spot) (drop 2 bytes)))

@@ -60,7 +60,9 @@ space_units spot (b ∷ bs) = record { spot = spot; bytes = b ∷ []; means = Or
 -- how the first line begins, of which the leading spaces were skipped
 abbrev pub BegunAfterSpaces : Cursor → Begun → Type 0
 BegunAfterSpaces c begun =
-    (spot : Spot) (b : ℕ) (bs : List ℕ) → AllByRecursion (λ x. x ≡ 32) (b ∷ bs) → BegunIs (lines_of (space_units spot (b ∷ bs) ++ cut AfterSpaces 0 c.spot c.rest.now)) begun
+    (spot : Spot) (b : ℕ) (bs : List ℕ)
+    → AllByRecursion (λ x. x ≡ 32) (b ∷ bs)
+    → BegunIs (lines_of (space_units spot (b ∷ bs) ++ cut AfterSpaces 0 c.spot c.rest.now)) begun
 
 -- whether the units begin with the end of a line
 abbrev pub ends_next : List TextUnit → Bool
@@ -72,7 +74,8 @@ abbrev pub EndsLine : Cursor → Option Cursor → Type 0
 EndsLine c None = ends_next (units_within c.spot c.rest.now) ≡ false
 EndsLine c (Some after) =
     ((first_line (lines_within c.spot c.rest.now)).units ≡ [])
-    × (lines_after (first_line (lines_within c.spot c.rest.now)) (other_lines (lines_within c.spot c.rest.now)) ≡ lines_from after.spot after.rest.now)
+    × (lines_after (first_line (lines_within c.spot c.rest.now)) (other_lines (lines_within c.spot c.rest.now))
+    ≡ lines_from after.spot after.rest.now)
 
 -- what a call within a line answers, and where it leaves the lexer
 abbrev pub Steps : {X Y : Type 0} → (X → Y) → Reply Y → Result (X × Cursor) UnitFault → Type 0

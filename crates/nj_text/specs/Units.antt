@@ -76,7 +76,10 @@ pub data Follows : Type 0 where
 
 abbrev pub follows_of : ℕ → Follows
 follows_of b =
-    if b == 10 then Feed else (if b == 13 then Return else (if b == 123 then Brace else (if is_escapable b then Itself else (if is_name_byte b then NameByte else Nothing))))
+    if b == 10 then Feed
+    else (if b == 13 then Return
+    else (if b == 123 then Brace
+    else (if is_escapable b then Itself else (if is_name_byte b then NameByte else Nothing))))
 
 abbrev pub after_dollar_by : Follows → ℕ → List ℕ → Found
 after_dollar_by Feed b bs = (Join, suc (spaces_in bs))
@@ -100,7 +103,9 @@ pub data Class : Type 0 where
   Plain : Class
 
 abbrev pub class_of : ℕ → Class
-class_of b = if b == 36 then Dollar else (if b == 10 then LineFeed else (if b == 13 then CarriageReturn else (if b == 0 then Nul else Plain)))
+class_of b =
+    if b == 36 then Dollar
+    else (if b == 10 then LineFeed else (if b == 13 then CarriageReturn else (if b == 0 then Nul else Plain)))
 
 abbrev pub unit_by : Class → ℕ → List ℕ → Found
 unit_by Dollar b bs = after_dollar bs
@@ -145,7 +150,9 @@ position_after position m = Within
 
 -- the place after a byte
 abbrev pub spot_after : ℕ → Spot → Spot
-spot_after b spot = if is_line_feed b then record { line = spot.line + 1; column = 1 } else record { line = spot.line; column = spot.column + 1 }
+spot_after b spot =
+    if is_line_feed b then record { line = spot.line + 1; column = 1 }
+    else record { line = spot.line; column = spot.column + 1 }
 
 -- the place after some bytes
 abbrev pub spots_after : List ℕ → Spot → Spot
@@ -157,7 +164,8 @@ unfoldable pub cut : Position → (skip : ℕ) → Spot → List ℕ → List Te
 cut position skip spot [] = record { spot = spot; bytes = []; means = TextEnd } ∷ []
 cut position zero spot (b ∷ bs) =
     let found = found_at position b bs in
-    record { spot = spot; bytes = b ∷ take found.1 bs; means = found.0 } ∷ cut (position_after position found.0) found.1 (spot_after b spot) bs
+    record { spot = spot; bytes = b ∷ take found.1 bs; means = found.0 }
+    ∷ cut (position_after position found.0) found.1 (spot_after b spot) bs
 cut position (suc skip) spot (b ∷ bs) = cut position skip (spot_after b spot) bs
 
 abbrev pub first_spot : Spot

@@ -13,9 +13,13 @@ use crate::runs::Run;
 #[inline(always)]
 fn past_join(cursor: Cursor<'_>) -> Option<Cursor<'_>>
     ensures blanks { MatchOption result
-        (begins_with_space_byte cursor.entry.rest.now ≡ false → drop_while is_blank (units_within cursor.entry.spot cursor.entry.rest.now) ≡ units_within cursor.entry.spot cursor.entry.rest.now)
-        (λ after. drop_while is_blank (units_within cursor.entry.spot cursor.entry.rest.now) ≡ drop_while is_blank (units_within after.spot after.rest.now)) }
-    ensures shorter { IfSome result (λ after. length after.rest.now < length cursor.entry.rest.now) }
+        (begins_with_space_byte cursor.entry.rest.now ≡ false
+        → drop_while is_blank (units_within cursor.entry.spot cursor.entry.rest.now)
+        ≡ units_within cursor.entry.spot cursor.entry.rest.now)
+        (λ after. drop_while is_blank (units_within cursor.entry.spot cursor.entry.rest.now)
+        ≡ drop_while is_blank (units_within after.spot after.rest.now)) }
+    ensures shorter { IfSome result
+        (λ after. length after.rest.now < length cursor.entry.rest.now) }
 {
     match next_unit(cursor.rest) {
         Next::Join(length, spaces) => Some(cursor.on_next_line(length - spaces, spaces)),
@@ -32,7 +36,8 @@ fn past_join(cursor: Cursor<'_>) -> Option<Cursor<'_>>
 /// The cursor after the blanks that come next.
 #[inline(always)]
 pub fn skip_blanks(start: Cursor<'_>) -> Cursor<'_>
-    ensures { units_within result.spot result.rest.now ≡ drop_while is_blank (units_within start.entry.spot start.entry.rest.now) }
+    ensures { units_within result.spot result.rest.now
+        ≡ drop_while is_blank (units_within start.entry.spot start.entry.rest.now) }
 {
     let mut cursor = start;
     'blanks: loop {

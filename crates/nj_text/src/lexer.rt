@@ -158,7 +158,8 @@ impl<'a> Lexer<'a> {
     /// The fault of a bad unit that comes next, or of the one at which the word stops; [`LexFault::OutOfMemory`], which
     /// leaves the lexer as it was.
     pub fn path_word(&mut self, alloc: Global) -> Result<Option<Word<'a>>, LexFault>
-        ensures { AnswersOrLacksMemory (option_map word_text) result self.old self.new (path_word_of self.old) }
+        ensures { AnswersOrLacksMemory (option_map word_text) result self.old self.new
+            (path_word_of self.old) }
     {
         let start = self.cursor;
         match self.stand {

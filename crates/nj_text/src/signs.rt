@@ -97,7 +97,8 @@ pub enum SignTaken<'a> {
 #[inline(always)]
 fn take_line_end(cursor: Cursor<'_>) -> SignTaken<'_>
     requires { next_fault (units_within cursor.spot cursor.rest.now) ≡ None }
-    ensures { SignIs (sign_at Sign.LineEnd (line_at cursor.entry) (other_lines_at cursor.entry)) result }
+    ensures { SignIs
+        (sign_at Sign.LineEnd (line_at cursor.entry) (other_lines_at cursor.entry)) result }
 {
     let Some(after) = past_line_end(cursor) else {
         return SignTaken::No(cursor);
@@ -108,7 +109,8 @@ fn take_line_end(cursor: Cursor<'_>) -> SignTaken<'_>
 /// Takes the wanted sign after the blanks, if it is there.
 #[inline(always)]
 pub fn take_sign(want: Sign, start: Cursor<'_>) -> SignTaken<'_>
-    ensures { SignIs (sign_at want (after_blanks (line_at start.entry)) (other_lines_at start.entry)) result }
+    ensures { SignIs
+        (sign_at want (after_blanks (line_at start.entry)) (other_lines_at start.entry)) result }
 {
     let cursor = skip_blanks(start);
     if let Some(fault) = bad_unit(cursor) {

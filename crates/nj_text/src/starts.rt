@@ -26,7 +26,8 @@ pub enum Begun<'a> {
 fn past_comment(cursor: Cursor<'_>) -> Option<Cursor<'_>>
     ensures comment { MatchOption result (opens_comment cursor.entry.rest.now ≡ false)
         (λ after. without_comments (lines_at cursor.entry) ≡ without_comments (lines_at after)) }
-    ensures shorter { IfSome result (λ after. length after.rest.now < length cursor.entry.rest.now) }
+    ensures shorter { IfSome result
+        (λ after. length after.rest.now < length cursor.entry.rest.now) }
 {
     let (_, behind) = cursor.run(Run::Spaces);
     let Some((b'#', _)) = first_byte(behind.rest) else {

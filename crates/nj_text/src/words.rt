@@ -18,7 +18,8 @@ use std::alloc::Global;
 /// The identifier after the blanks; `None` if there is none.
 #[inline(always)]
 pub fn identifier(start: Cursor<'_>) -> Result<(Option<&[u8]>, Cursor<'_>), UnitFault>
-    ensures { Steps (option_map (λ bytes. bytes.now)) (ident_at (after_blanks (line_at start.entry)) (other_lines_at start.entry)) result }
+    ensures { Steps (option_map (λ bytes. bytes.now))
+        (ident_at (after_blanks (line_at start.entry)) (other_lines_at start.entry)) result }
 {
     let cursor = skip_blanks(start);
     if let Some(fault) = bad_unit(cursor) {
@@ -37,7 +38,8 @@ pub fn word<'a>(
     alloc: Global,
     start: Cursor<'a>,
 ) -> Result<(Option<Word<'a>>, Cursor<'a>), LexFault>
-    ensures { StepsOrLacksMemory (option_map word_text) (word_at (after_blanks (line_at start.entry)) (other_lines_at start.entry)) result }
+    ensures { StepsOrLacksMemory (option_map word_text)
+        (word_at (after_blanks (line_at start.entry)) (other_lines_at start.entry)) result }
 {
     let cursor = skip_blanks(start);
     if let Some(fault) = bad_unit(cursor) {
@@ -56,7 +58,8 @@ pub fn word<'a>(
 /// The value after the blanks, which goes up to the line's end.
 #[inline(always)]
 pub fn value<'a>(alloc: Global, start: Cursor<'a>) -> Result<(Word<'a>, Cursor<'a>), LexFault>
-    ensures { StepsOrLacksMemory word_text (value_at (after_blanks (line_at start.entry)) (other_lines_at start.entry)) result }
+    ensures { StepsOrLacksMemory word_text
+        (value_at (after_blanks (line_at start.entry)) (other_lines_at start.entry)) result }
 {
     let cursor = skip_blanks(start);
     let spot = cursor.spot;
