@@ -54,8 +54,8 @@ impl Wanted {
     }
 }
 
-/// Why a text could not be read on as statements. Places are of the unit at which no statement goes on, unless another
-/// is named.
+/// Why a text could not be read on as statements. Places are of the unit at which no statement goes
+/// on, unless another is named.
 #[derive(Clone, Copy, Debug, PartialEq, Eq)]
 pub enum ParseFault<'a> {
     /// A bad unit, or out of memory.
@@ -72,10 +72,11 @@ pub enum ParseFault<'a> {
     UnknownKey(Spot, &'a [u8]),
     /// A pool without `depth`; the place is that of the statement.
     MissingDepth(Spot),
-    /// A dyndep file that does not begin with its version; the place is that of the first statement, or the end of the
-    /// text.
+    /// A dyndep file that does not begin with its version; the place is that of the first
+    /// statement, or the end of the text.
     DyndepVersion(Spot),
-    /// A statement of a dyndep file that is no dyndep statement, at the first unit that departs from its form.
+    /// A statement of a dyndep file that is no dyndep statement, at the first unit that departs
+    /// from its form.
     DyndepShape(Spot),
 }
 

@@ -4,19 +4,21 @@ ghost use Rattle.nj_manifest.specs.Laws.{StatementsAreTheForms, MissingLinesAreL
 ghost use Rattle.nj_manifest.specs.DyndepForms.{EntriesAreTheForms, NextEntriesAreTheForms};
 ghost use Rattle.nj_manifest.specs.Leftmost.{FaultsAreLeftmost};
 
-/// A statement is read from lines, or none at their end, exactly where the forms of Ninja's manual say so.
+/// A statement is read from lines, or none at their end, exactly where the forms of Ninja's manual
+/// say so.
 pub fn statements_are_the_forms()
     ensures { StatementsAreTheForms }
 {}
 
-/// A rule without `command`, a rule with one of the two keys of a response file, and a pool without `depth` are refused
-/// as such exactly where each line of the block has its form.
+/// A rule without `command`, a rule with one of the two keys of a response file, and a pool without
+/// `depth` are refused as such exactly where each line of the block has its form.
 pub fn missing_lines_are_lacking()
     ensures { MissingLinesAreLacking }
 {}
 
-/// A fault of syntax stands at the first element with which no statement goes on: whatever follows it, the answer is this
-/// fault. From what is before that element a statement does go on, with what the fault says is expected.
+/// A fault of syntax stands at the first element with which no statement goes on: whatever follows
+/// it, the answer is this fault. From what is before that element a statement does go on, with what
+/// the fault says is expected.
 pub fn faults_are_leftmost()
     ensures { FaultsAreLeftmost }
 {}

@@ -1,6 +1,7 @@
 //! The statements of a Ninja file: rules, pools, build statements, defaults, includes and bindings.
 //!
-//! A [`Parser`] reads a text from its front, one statement with its block at a time, and copies none of it.
+//! A [`Parser`] reads a text from its front, one statement with its block at a time, and copies
+//! none of it.
 #![tactic(auto)]
 
 mod block;

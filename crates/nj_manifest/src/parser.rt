@@ -13,7 +13,8 @@ use nj_text::Lexer;
 use std::alloc::Global;
 use std::marker::Model;
 
-/// Reads the statements of a Ninja file, one after the other ("Ninja file reference" in the Ninja manual).
+/// Reads the statements of a Ninja file, one after the other ("Ninja file reference" in the Ninja
+/// manual).
 ///
 /// It holds the text's slice and no part of it twice; a statement holds slices of the text.
 #[derive(Drop)]
@@ -44,8 +45,8 @@ impl<'a> Parser<'a> {
         }
     }
 
-    /// The next statement with its block, at the place of its first byte; `None` at the end of the text, and from then
-    /// on by every call.
+    /// The next statement with its block, at the place of its first byte; `None` at the end of the
+    /// text, and from then on by every call.
     ///
     /// # Errors
     ///

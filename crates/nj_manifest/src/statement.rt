@@ -38,7 +38,8 @@ pub enum Statement<'a> {
         name_spot: Spot,
         lines: Vec<Line<'a>>,
     },
-    /// `build outs | implicit outs : rule ins | implicit || order-only |@ validations`, and the lines of its block
+    /// `build outs | implicit outs : rule ins | implicit || order-only |@ validations`, and the
+    /// lines of its block
     Build {
         explicit_outs: Vec<Word<'a>>,
         implicit_outs: Vec<Word<'a>>,

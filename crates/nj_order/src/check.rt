@@ -9,9 +9,10 @@ use crate::users::Users;
 use crate::walk::finish_all;
 use std::alloc::{AllocError, Global};
 
-/// The edge of the smallest number that lies on a dependency cycle itself, and `None` if the graph has
-/// no cycle; an edge that only leads into a cycle does not count. Takes time in proportion to the edges
-/// and their inputs, whatever the graph, and memory for each edge. Fails only if it runs out of memory.
+/// The edge of the smallest number that lies on a dependency cycle itself, and `None` if the graph
+/// has no cycle; an edge that only leads into a cycle does not count. Takes time in proportion to
+/// the edges and their inputs, whatever the graph, and memory for each edge. Fails only if it runs
+/// out of memory.
 pub fn first_on_cycle(alloc: Global, inputs: &EdgeInputs<'_>) -> Result<Option<usize>, AllocError>
     ensures { IfOk result (λ first.
         IsFirstOnCycle (makers_of inputs.now) (edge_count inputs.now) first) }
@@ -34,7 +35,8 @@ mod tests {
     use super::*;
     use std::test::Fail;
 
-    /// The file that an edge makes has its number, and the file after those of all edges is a source.
+    /// The file that an edge makes has its number, and the file after those of all edges is a
+    /// source.
     fn file_of(maker: Option<usize>, edge_count: usize) -> usize
         ensures { result ≤ edge_count }
     {

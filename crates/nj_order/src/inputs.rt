@@ -23,9 +23,9 @@ impl<'a> EdgeInputs<'a> {
     ghost use Rattle.nj_order.specs.Inputs.{edge_count};
     ghost use Rattle.nj_order.specs.Places.{first_place, past_place, maker_of, maker_at};
 
-    /// The inputs of edge `e` are `files` from `starts[e]` up to where those of the next edge begin, and
-    /// those of the last edge go on to the end. So `starts` begins at 0, rises and stays within `files`.
-    /// `makers` has for each file the edge that makes it, and `None` for a source.
+    /// The inputs of edge `e` are `files` from `starts[e]` up to where those of the next edge
+    /// begin, and those of the last edge go on to the end. So `starts` begins at 0, rises and stays
+    /// within `files`. `makers` has for each file the edge that makes it, and `None` for a source.
     pub fn new(starts: &'a [usize], files: &'a [usize], makers: &'a [Option<usize>]) -> Self
         requires starts_at_zero { slice_index_or starts.now 0 (length files.now) ≡ 0 }
         requires starts_rise { (e : ℕ) → e + 1 < length starts.now

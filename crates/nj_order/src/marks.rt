@@ -93,9 +93,9 @@ fn lesser(least: Option<usize>, edge: usize) -> usize
     }
 }
 
-/// The edge of the smallest number that lies on a cycle, if one does, from the order in which the walk
-/// finished the edges. From the end of that order on, all that need an edge are marked, and the edge
-/// lies on a cycle exactly if it then is marked itself.
+/// The edge of the smallest number that lies on a cycle, if one does, from the order in which the
+/// walk finished the edges. From the end of that order on, all that need an edge are marked, and
+/// the edge lies on a cycle exactly if it then is marked itself.
 pub(crate) fn least_on_cycle(
     alloc: Global,
     users: &Users<'_>,

@@ -7,8 +7,8 @@ ghost use Rattle.nj_order.specs.Users.{IsInputOf, AreTied, AreUsers, TakesLast};
 use crate::inputs::EdgeInputs;
 use std::alloc::{AllocError, Global};
 
-/// For each edge the last place of an input that it makes, and for each place the one before it with
-/// the same maker, and the edge whose input stands there.
+/// For each edge the last place of an input that it makes, and for each place the one before it
+/// with the same maker, and the edge whose input stands there.
 #[derive(Drop)]
 pub(crate) struct Users<'a> {
     pub(crate) inputs: EdgeInputs<'a>,

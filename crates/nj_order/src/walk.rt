@@ -16,8 +16,8 @@ enum Stage {
     Done,
 }
 
-/// A walk: for each edge its stage and the place of its next input, the path of open edges, the edges
-/// that are finished, in that order, and whether an open maker was met.
+/// A walk: for each edge its stage and the place of its next input, the path of open edges, the
+/// edges that are finished, in that order, and whether an open maker was met.
 #[derive(Drop)]
 struct Walk {
     stages: Vec<Stage>,
@@ -27,8 +27,8 @@ struct Walk {
     meets_open: bool,
 }
 
-/// The inputs that were passed from a place on: where that ended, the unseen maker there, and whether
-/// an open one was passed.
+/// The inputs that were passed from a place on: where that ended, the unseen maker there, and
+/// whether an open one was passed.
 #[derive(Drop)]
 struct Passed {
     place: usize,
@@ -122,8 +122,8 @@ impl Walk {
         Ok(())
     }
 
-    /// Passes inputs of the edge that was taken from the end of the path, and returns the unseen maker
-    /// of the next one, if there is one.
+    /// Passes inputs of the edge that was taken from the end of the path, and returns the unseen
+    /// maker of the next one, if there is one.
     fn pass_inputs(&mut self, inputs: &EdgeInputs<'_>, edge: usize) -> Option<usize>
         requires { Stands inputs.now self.old.stages.items self.old.next.items
             (self.old.path.items ++ edge ∷ []) self.old.order.items self.old.meets_open }
@@ -144,8 +144,8 @@ impl Walk {
         passed.unseen
     }
 
-    /// Goes on with the edge that was taken from the end of the path: opens its next unseen maker, or
-    /// finishes it.
+    /// Goes on with the edge that was taken from the end of the path: opens its next unseen maker,
+    /// or finishes it.
     fn take_turn(&mut self, inputs: &EdgeInputs<'_>, edge: usize) -> Result<(), AllocError>
         requires { Stands inputs.now self.old.stages.items self.old.next.items
             (self.old.path.items ++ edge ∷ []) self.old.order.items self.old.meets_open }

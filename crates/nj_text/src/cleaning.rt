@@ -31,7 +31,8 @@ fn drop_name(out: &mut Vec<u8>, floor: usize)
     }
 }
 
-/// Adds a piece to the parts that stand from `front` on, the names among them from `floor` on; returns the new floor.
+/// Adds a piece to the parts that stand from `front` on, the names among them from `floor` on;
+/// returns the new floor.
 fn add_piece(
     out: &mut Vec<u8>,
     absolute: bool,

@@ -64,7 +64,8 @@ impl<'a> Cursor<'a> {
         }
     }
 
-    /// The run of bytes that comes next, which may be empty and has no line feed, and the cursor after it.
+    /// The run of bytes that comes next, which may be empty and has no line feed, and the cursor
+    /// after it.
     pub fn run(self, run: Run) -> (&'a [u8], Cursor<'a>)
         ensures run { result.0.now ≡ take_while (in_run run) self.entry.rest.now }
         ensures after { result.1.rest.now ≡ drop_while (in_run run) self.entry.rest.now }

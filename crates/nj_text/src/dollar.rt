@@ -20,7 +20,8 @@ pub enum Dollar<'a> {
     Bad,
 }
 
-/// The length of the line end at the front, a line feed or a carriage return and a line feed; 0 if there is none.
+/// The length of the line end at the front, a line feed or a carriage return and a line feed; 0 if
+/// there is none.
 pub fn line_end_length(bytes: &[u8]) -> usize
     ensures length { result ≡ line_end_length bytes.now }
     ensures within { result ≤ length bytes.now }

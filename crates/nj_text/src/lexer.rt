@@ -23,9 +23,10 @@ use std::marker::Model;
 
 /// Reads a text line by line ("Lexical syntax" in the Ninja manual).
 ///
-/// Each line is begun by [`Lexer::start_line`] and ended by [`Lexer::sign`] with [`Sign::LineEnd`]. A bad unit is
-/// reported by the call that meets it, and by every call but [`Lexer::spot`] from then on. Only [`Lexer::path_word`] and
-/// [`Lexer::value`] allocate, inside a line: out of memory leaves the lexer as it was.
+/// Each line is begun by [`Lexer::start_line`] and ended by [`Lexer::sign`] with [`Sign::LineEnd`].
+/// A bad unit is reported by the call that meets it, and by every call but [`Lexer::spot`] from
+/// then on. Only [`Lexer::path_word`] and [`Lexer::value`] allocate, inside a line: out of memory
+/// leaves the lexer as it was.
 #[derive(Drop)]
 pub struct Lexer<'a> {
     cursor: Cursor<'a>,
@@ -53,8 +54,9 @@ impl<'a> Lexer<'a> {
         }
     }
 
-    /// Begins the next line that is no comment. Skips a blank line, and the leading spaces of an indented one.
-    /// Returns [`LineStart::End`] at the end of the text, and [`LineStart::Middle`] inside a line.
+    /// Begins the next line that is no comment. Skips a blank line, and the leading spaces of an
+    /// indented one. Returns [`LineStart::End`] at the end of the text, and [`LineStart::Middle`]
+    /// inside a line.
     ///
     /// # Errors
     /// [`UnitFault::Tab`] if a tab is the first byte after the line's leading spaces.
@@ -85,7 +87,8 @@ impl<'a> Lexer<'a> {
         LexFault::Unit(fault)
     }
 
-    /// Skips blanks, so that [`Lexer::spot`] is the place of what follows them. Skips nothing between lines.
+    /// Skips blanks, so that [`Lexer::spot`] is the place of what follows them. Skips nothing
+    /// between lines.
     #[inline(always)]
     pub fn skip_blanks(&mut self)
         ensures { self.new ≡ skip_blanks_of self.old }
@@ -98,7 +101,8 @@ impl<'a> Lexer<'a> {
         }
     }
 
-    /// Skips blanks and takes the longest identifier; `None` if there is none. Skips nothing between lines.
+    /// Skips blanks and takes the longest identifier; `None` if there is none. Skips nothing
+    /// between lines.
     ///
     /// # Errors
     /// The fault of a bad unit that comes next.
@@ -120,8 +124,8 @@ impl<'a> Lexer<'a> {
         }
     }
 
-    /// Skips blanks and takes the wanted sign, and returns whether it was there. [`Sign::LineEnd`] ends the line; the
-    /// end of the text ends a line too. Skips nothing between lines.
+    /// Skips blanks and takes the wanted sign, and returns whether it was there. [`Sign::LineEnd`]
+    /// ends the line; the end of the text ends a line too. Skips nothing between lines.
     ///
     /// # Errors
     /// The fault of a bad unit that comes next.
@@ -155,8 +159,8 @@ impl<'a> Lexer<'a> {
     /// Skips blanks and takes a word; `None` if none begins there. Skips nothing between lines.
     ///
     /// # Errors
-    /// The fault of a bad unit that comes next, or of the one at which the word stops; [`LexFault::OutOfMemory`], which
-    /// leaves the lexer as it was.
+    /// The fault of a bad unit that comes next, or of the one at which the word stops;
+    /// [`LexFault::OutOfMemory`], which leaves the lexer as it was.
     pub fn path_word(&mut self, alloc: Global) -> Result<Option<Word<'a>>, LexFault>
         ensures { AnswersOrLacksMemory (option_map word_text) result self.old self.new
             (path_word_of self.old) }
@@ -177,10 +181,12 @@ impl<'a> Lexer<'a> {
         }
     }
 
-    /// Skips blanks and takes all up to the line's end. Between lines it skips nothing, and the value has no parts.
+    /// Skips blanks and takes all up to the line's end. Between lines it skips nothing, and the
+    /// value has no parts.
     ///
     /// # Errors
-    /// The fault of the first bad unit of the line; [`LexFault::OutOfMemory`], which leaves the lexer as it was.
+    /// The fault of the first bad unit of the line; [`LexFault::OutOfMemory`], which leaves the
+    /// lexer as it was.
     #[inline(always)]
     pub fn value(&mut self, alloc: Global) -> Result<Word<'a>, LexFault>
         ensures { AnswersOrLacksMemory word_text result self.old self.new (value_of self.old) }
@@ -198,7 +204,8 @@ impl<'a> Lexer<'a> {
         }
     }
 
-    /// Moves to the end of a value that was read, or to its fault; out of memory leaves the lexer as it was.
+    /// Moves to the end of a value that was read, or to its fault; out of memory leaves the lexer
+    /// as it was.
     #[inline(always)]
     fn settle(
         &mut self,

@@ -1,6 +1,7 @@
 //! The text of a Ninja file: its lines, and the identifiers, signs, words and values in them.
 //!
-//! A [`Lexer`] reads a text from its front, one line at a time, and copies none of it: it returns slices of the text.
+//! A [`Lexer`] reads a text from its front, one line at a time, and copies none of it: it returns
+//! slices of the text.
 #![tactic(auto)]
 
 mod blanks;

@@ -4,8 +4,8 @@ ghost use Rattle.std.specs.Prelude.{◌≡◌, ◌+◌, ◌-◌, ◌*◌, true, 
 ghost use Rattle.nj_text.specs.Bytes.{is_digit};
 ghost use Rattle.nj_text.specs.Numbers.{greatest, leading_number_of, after_dot, version_pair_of};
 
-/// The number that the digits at the front of the text write, in base ten; `None` where the text does not begin with a
-/// digit. A number above 18446744073709551615 is reported as that one.
+/// The number that the digits at the front of the text write, in base ten; `None` where the text
+/// does not begin with a digit. A number above 18446744073709551615 is reported as that one.
 pub fn leading_number(text: &[u8]) -> Option<u64>
     ensures { result ≡ leading_number_of text.now }
 {
@@ -19,9 +19,9 @@ pub fn leading_number(text: &[u8]) -> Option<u64>
     number
 }
 
-/// The major and the minor number of a version, as `ninja_required_version` states it ("Version requirements" in the
-/// Ninja manual): the numbers at the front of what comes before the first `.` and after it, each 0
-/// if there is no digit. Of `1.8.2` that is `(1, 8)`.
+/// The major and the minor number of a version, as `ninja_required_version` states it ("Version
+/// requirements" in the Ninja manual): the numbers at the front of what comes before the first `.`
+/// and after it, each 0 if there is no digit. Of `1.8.2` that is `(1, 8)`.
 pub fn version_of(text: &[u8]) -> (u64, u64)
     ensures { result ≡ version_pair_of text.now }
 {

@@ -83,7 +83,8 @@ fn append<'a>(parts: &mut SmallVec<Part<'a>, 1>, part: Part<'a>) -> Result<(), L
     Ok(())
 }
 
-/// Appends the run of ordinary bytes that comes next, if there is one, and returns the cursor after it.
+/// Appends the run of ordinary bytes that comes next, if there is one, and returns the cursor after
+/// it.
 #[inline(always)]
 fn take_run<'a>(
     parts: &mut SmallVec<Part<'a>, 1>,

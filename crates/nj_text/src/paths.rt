@@ -53,12 +53,14 @@ fn stays_clean(path: &[u8]) -> bool
     }
 }
 
-/// Appends the clean path of a path: its parts without empty and `.` ones, without each part that a `..` after it
-/// takes back, and without `..` at the front of an absolute path; `.` or `/` if no part is left.
+/// Appends the clean path of a path: its parts without empty and `.` ones, without each part that a
+/// `..` after it takes back, and without `..` at the front of an absolute path; `.` or `/` if no
+/// part is left.
 ///
 /// # Errors
 ///
-/// `EmptyPath` for the empty path, and `OutOfMemory` if an allocation failed; `out` is then unchanged.
+/// `EmptyPath` for the empty path, and `OutOfMemory` if an allocation failed; `out` is then
+/// unchanged.
 pub fn clean_into(out: &mut Vec<u8>, path: &[u8]) -> Result<(), TextFault>
     ensures ok { OnOk result (out.new.items ≡ out.old.items ++ clean_path_of path.now) }
     ensures refused { OnErr result (out.new.items ≡ out.old.items) }

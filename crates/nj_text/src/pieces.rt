@@ -27,7 +27,8 @@ pub fn piece_of(part: &[u8]) -> Piece
     }
 }
 
-/// The piece before the first slash, and what is after that slash; the whole text and `None` if it has no slash.
+/// The piece before the first slash, and what is after that slash; the whole text and `None` if it
+/// has no slash.
 pub fn first_piece(text: &[u8]) -> (&[u8], Option<&[u8]>)
     ensures pieces { slice_split is_slash text.now
         ≡ result.0.now ∷ pieces_left (option_copied result.1) }
@@ -41,7 +42,8 @@ pub fn first_piece(text: &[u8]) -> (&[u8], Option<&[u8]>)
     (text, None)
 }
 
-/// Whether each piece of the text stands in its clean path as it is; `named` tells whether a name came before.
+/// Whether each piece of the text stands in its clean path as it is; `named` tells whether a name
+/// came before.
 pub fn all_stay(text: &[u8], mut named: bool) -> bool
     ensures { result ≡ all_stay named (slice_split is_slash text.now) }
 {

@@ -9,9 +9,9 @@ ghost use Rattle.nj_text.specs.Quoting.{after_run};
 
 use std::alloc::AllocError;
 
-/// Appends the shell quote of a path: a path of letters, digits and `_`, `+`, `-`, `.`, `/` alone as it is, any other in
-/// single quotes, with each `'` written `'\''`, as `$in` and `$out` stand in commands ("Rule variables" in the Ninja
-/// manual).
+/// Appends the shell quote of a path: a path of letters, digits and `_`, `+`, `-`, `.`, `/` alone
+/// as it is, any other in single quotes, with each `'` written `'\''`, as `$in` and `$out` stand in
+/// commands ("Rule variables" in the Ninja manual).
 ///
 /// # Errors
 ///

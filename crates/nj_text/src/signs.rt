@@ -32,7 +32,8 @@ pub fn bad_unit(cursor: Cursor<'_>) -> Option<UnitFault>
     }
 }
 
-/// The cursor after the line end that comes next; `None` if there is none. The end of the text ends its line, and stays.
+/// The cursor after the line end that comes next; `None` if there is none. The end of the text ends
+/// its line, and stays.
 #[inline(always)]
 pub fn past_line_end(cursor: Cursor<'_>) -> Option<Cursor<'_>>
     ensures { EndsLine cursor.entry result }
