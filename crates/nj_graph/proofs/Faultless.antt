@@ -5,8 +5,8 @@ use Rattle.std.proofs.lemmas.Str.{IsUtf8-string_bytes, IsUtf8-from_is_utf8, is_u
 use Rattle.std.specs.Str.{is_utf8}
 use Rattle.nj_text.specs.declared.spot.Spot.{Spot}
 use Rattle.nj_text.specs.Calls.{is_empty}
-use Rattle.nj_graph.specs.declared.fault.Cause.TheVariants.{EmptyPath, PathNotText}
-use Rattle.nj_graph.specs.Faults.{fault_at}
+use Rattle.nj_faults.specs.declared.fault.Cause.TheVariants.{EmptyPath, PathNotText}
+use Rattle.nj_faults.specs.Faults.{fault_at}
 use Rattle.nj_graph.specs.Reading.{fault_if, or_then, path_fault}
 
 pub empty-by_length : (bytes : List ℕ) (b : Bool) → b ≡ (length bytes == 0) → is_empty bytes ≡ b

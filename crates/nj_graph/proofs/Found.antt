@@ -9,10 +9,10 @@ use Rattle.nj_scope.specs.Opening as table
 use Rattle.nj_scope.specs.Opening.{shared_bytes, AtMostOneReading}
 use Rattle.nj_scope.proofs.ReadingLemmas.{is_read-push_new}
 use Rattle.nj_scope.proofs.SourceLemmas.{opened-is_read, opened-found}
-use Rattle.nj_graph.specs.declared.fault.Place.{Place}
-use Rattle.nj_graph.specs.declared.fault.GraphFault.{GraphFault}
-use Rattle.nj_graph.specs.declared.fault.Cause.TheVariants.{Missing, Io}
-use Rattle.nj_graph.specs.Faults.{no_memory}
+use Rattle.nj_faults.specs.declared.fault.Place.{Place}
+use Rattle.nj_faults.specs.declared.fault.GraphFault.{GraphFault}
+use Rattle.nj_faults.specs.declared.fault.Cause.TheVariants.{Missing, Io}
+use Rattle.nj_faults.specs.Faults.{no_memory}
 use Rattle.nj_graph.specs.Reading.{with_new}
 use Rattle.nj_graph.specs.Runs.{IsRead}
 use Rattle.nj_graph.specs.ReaderContracts.{ReadsAll, AnswersText}

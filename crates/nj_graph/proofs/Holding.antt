@@ -11,10 +11,10 @@ use Rattle.nj_scope.specs.Declarations.{DeclarationsText, DeclaredBy, SameScopes
 use Rattle.nj_scope.specs.Limits.{is_depth}
 use Rattle.nj_scope.specs.Pools.{is_pool}
 use Rattle.nj_scope.specs.ReadingList.{Entry, scope_of, binds, bounds, files_opened, opens_file, rules, is_declared, pools}
-use Rattle.nj_graph.specs.declared.fault.GraphFault.{GraphFault}
+use Rattle.nj_faults.specs.declared.fault.GraphFault.{GraphFault}
 use Rattle.nj_graph.specs.declared.reader.Reader.{Reader}
-use Rattle.nj_graph.specs.declared.fault.Cause.TheVariants.{BadDepth, DuplicateRule, DuplicatePool}
-use Rattle.nj_graph.specs.Faults.{fault_at}
+use Rattle.nj_faults.specs.declared.fault.Cause.TheVariants.{BadDepth, DuplicateRule, DuplicatePool}
+use Rattle.nj_faults.specs.Faults.{fault_at}
 use Rattle.nj_graph.specs.Reading.{expanded_in, fault_if, or_then, rule_fault, depth_fault, pool_fault, own_fault, path_named, with_named, paths_read}
 use Rattle.nj_graph.specs.ReaderContracts.{Holds, Grows, Checks, Declares}
 

@@ -1,5 +1,4 @@
 pub mod Comes
-pub mod FaultLineRows
 pub mod Faultless
 pub mod Found
 pub mod GraphRows

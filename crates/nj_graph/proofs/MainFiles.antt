@@ -6,11 +6,11 @@ use Rattle.nj_scope.specs.Readings.{Reading, EachPathOnce, reading_of, is_read, 
 use Rattle.nj_scope.specs.Declarations.{DeclaredBy}
 use Rattle.nj_scope.specs.Scopes.{outermost}
 use Rattle.nj_scope.specs.Sources.{SourceState}
-use Rattle.nj_graph.specs.declared.fault.GraphFault.{GraphFault}
+use Rattle.nj_faults.specs.declared.fault.GraphFault.{GraphFault}
 use Rattle.nj_graph.specs.declared.reader.Reader.{Reader}
-use Rattle.nj_graph.specs.declared.fault.Place.{Place}
-use Rattle.nj_graph.specs.declared.fault.Cause.TheVariants.{Missing}
-use Rattle.nj_graph.specs.Faults.{no_memory}
+use Rattle.nj_faults.specs.declared.fault.Place.{Place}
+use Rattle.nj_faults.specs.declared.fault.Cause.TheVariants.{Missing}
+use Rattle.nj_faults.specs.Faults.{no_memory}
 use Rattle.nj_graph.specs.Reading.{Refused, Lacking, ReadingText, opened_in, text_read, answer_read, most_within, main_site, main_place, main_read, with_new, paths_come_to}
 use Rattle.nj_graph.specs.ReaderContracts.{IsNew, Holds, IsOpenScope, ReadsAll, ReadsText, ReadsOrStops, StopsAt}
 use Rattle.nj_graph.specs.Runs.{IsRead}

@@ -13,14 +13,14 @@ use Rattle.nj_scope.specs.ScopesHeld.{ScopeText, parent_at}
 use Rattle.nj_scope.specs.Declarations.{DeclarationsText, DeclaredBy, TakesIn}
 use Rattle.nj_scope.specs.ReadingList.{Entry, scope_of, files_opened, opens_file}
 use Rattle.nj_scope.specs.Sources.{SourceState}
-use Rattle.nj_graph.specs.declared.fault.GraphFault.{GraphFault}
+use Rattle.nj_faults.specs.declared.fault.GraphFault.{GraphFault}
 use Rattle.nj_graph.specs.declared.opening.Naming.{Naming}
 use Rattle.nj_graph.specs.declared.opening.Naming.TheVariants as naming
 use Rattle.nj_graph.specs.declared.reader.Reader.{Reader}
 use Rattle.nj_graph.specs.declared.reader.OpenFile.{OpenFile}
-use Rattle.nj_graph.specs.declared.fault.Place.{Place}
-use Rattle.nj_graph.specs.declared.fault.Cause.{Cause}
-use Rattle.nj_graph.specs.Faults.{fault_at, fault_in, no_memory}
+use Rattle.nj_faults.specs.declared.fault.Place.{Place}
+use Rattle.nj_faults.specs.declared.fault.Cause.{Cause}
+use Rattle.nj_faults.specs.Faults.{fault_at, fault_in, no_memory}
 use Rattle.nj_graph.specs.Reading.{Site, entry_at, site_scope, expanded_in, place_at, path_fault, subninja_site, fault_if, or_then, depth_fault, item_fault, own_fault, Whole, Refused, ReadingText, Opens, item_read, unless_fault, statement_read, opened_in, text_read, path_named, with_new, with_named, paths_read, path_at_fault, paths_come_to}
 use Rattle.nj_graph.specs.Runs.{IsRead, Stops}
 use Rattle.nj_graph.specs.ReaderContracts.{named_item, named_site, site_of, EntersScope, Holds, Grows, IsOpenScope, IsOpenIn, IsFault, ReadsOne, StopsAt, OpensText, OpensNamed}

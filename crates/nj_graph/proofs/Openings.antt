@@ -7,12 +7,12 @@ use Rattle.std.proofs.lemmas.Bool.{lt-ltb, le-ltb}
 use Rattle.nj_scope.specs.Readings.{Reading, EachPathOnce, reading_of, is_read, IsPrefix, paths_of}
 use Rattle.nj_scope.specs.ReadingList.{Entry, files_opened}
 use Rattle.nj_scope.specs.Sources.{SourceState}
-use Rattle.nj_graph.specs.declared.fault.GraphFault.{GraphFault}
+use Rattle.nj_faults.specs.declared.fault.GraphFault.{GraphFault}
 use Rattle.nj_graph.specs.declared.reader.Reader.{Reader}
-use Rattle.nj_graph.specs.declared.fault.Place.{Place}
-use Rattle.nj_graph.specs.declared.fault.Cause.{Cause}
-use Rattle.nj_graph.specs.declared.fault.Cause.TheVariants.{Missing, TooDeep, TooManyOpenings}
-use Rattle.nj_graph.specs.Faults.{no_memory}
+use Rattle.nj_faults.specs.declared.fault.Place.{Place}
+use Rattle.nj_faults.specs.declared.fault.Cause.{Cause}
+use Rattle.nj_faults.specs.declared.fault.Cause.TheVariants.{Missing, TooDeep, TooManyOpenings}
+use Rattle.nj_faults.specs.Faults.{no_memory}
 use Rattle.nj_graph.specs.Reading.{Site, Refused, Lacking, most_opened, stopped, answer_read, if_room, opened_in, path_named, with_new, with_named, paths_read, path_at_fault, paths_come_to}
 use Rattle.nj_graph.specs.ReaderContracts.{IsFault, StopsAt, OpensText, OpensPath}
 use Rattle.nj_graph.specs.Runs.{IsRead}

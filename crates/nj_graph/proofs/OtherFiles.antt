@@ -5,8 +5,8 @@ use Rattle.nj_manifest.specs.Statements.{StatementText, BindingText, RuleText, P
 use Rattle.nj_scope.specs.Readings as table
 use Rattle.nj_scope.specs.Readings.{reading_of, is_read, IsPrefix}
 use Rattle.nj_scope.specs.ReadingList.{Entry, files_opened}
-use Rattle.nj_graph.specs.declared.fault.Place.{Place}
-use Rattle.nj_graph.specs.declared.fault.GraphFault.{GraphFault}
+use Rattle.nj_faults.specs.declared.fault.Place.{Place}
+use Rattle.nj_faults.specs.declared.fault.GraphFault.{GraphFault}
 use Rattle.nj_graph.specs.Statements.{parsed}
 use Rattle.nj_graph.specs.Reading.{Site, entry_at, own_fault, End, Whole, Refused, Lacking, ReadingText, and_then, Opens, item_read, unless_fault, statement_read, statements_read, found_read, answer_read, if_room, most_opened, most_within, opened_in, main_site, main_read}
 use Rattle.nj_graph.specs.Runs.{IsLacking}

@@ -7,10 +7,10 @@ use Rattle.nj_manifest.specs.Statements.{StatementText, BindingText, RuleText, P
 use Rattle.nj_scope.specs.Readings as table
 use Rattle.nj_scope.specs.Readings.{reading_of, is_read}
 use Rattle.nj_scope.specs.ReadingList.{Entry, rules, is_declared, files_opened, opens_file, RuleIsNew, EachRuleIsNew}
-use Rattle.nj_graph.specs.declared.fault.Place.{Place}
-use Rattle.nj_graph.specs.declared.fault.GraphFault.{GraphFault}
-use Rattle.nj_graph.specs.declared.fault.Cause.TheVariants.{DuplicateRule}
-use Rattle.nj_graph.specs.Faults.{fault_at}
+use Rattle.nj_faults.specs.declared.fault.Place.{Place}
+use Rattle.nj_faults.specs.declared.fault.GraphFault.{GraphFault}
+use Rattle.nj_faults.specs.declared.fault.Cause.TheVariants.{DuplicateRule}
+use Rattle.nj_faults.specs.Faults.{fault_at}
 use Rattle.nj_graph.specs.Statements.{parsed}
 use Rattle.nj_graph.specs.Reading.{Site, entry_at, fault_if, item_fault, own_fault, End, Whole, Refused, Lacking, ReadingText, go_on, and_then, Opens, item_read, unless_fault, statement_read, statements_read, found_read, answer_read, if_room, most_opened, most_within, opened_in, main_site, main_read}
 use Rattle.nj_graph.specs.Laws.{Faultless, ReadIsFaultless, OpenFilesAreBounded, OpeningsAreBounded, MainRulesRise}

@@ -1,6 +1,4 @@
 -- what must be believed
-pub mod FaultLines
-pub mod Faults
 pub mod Graph
 pub mod Laws
 pub mod Loads

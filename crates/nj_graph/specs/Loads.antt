@@ -4,7 +4,7 @@ use Rattle.nj_scope.specs.Readings.{Reading, paths_of}
 use Rattle.nj_scope.specs.Sources.{SourceState}
 use Rattle.nj_scope.specs.Declarations.{DeclaredBy}
 use Rattle.nj_scope.specs.ReadingList.{Entry}
-use Rattle.nj_graph.specs.declared.fault.GraphFault.{GraphFault}
+use Rattle.nj_faults.specs.declared.fault.GraphFault.{GraphFault}
 use Rattle.nj_graph.specs.Graph.{GraphText}
 use Rattle.nj_graph.specs.Reading.{Whole, main_read, paths_read}
 use Rattle.nj_graph.specs.Runs.{IsRead, Stops}

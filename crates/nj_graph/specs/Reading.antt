@@ -14,11 +14,11 @@ use Rattle.nj_scope.specs.Scopes.{expanded}
 use Rattle.nj_scope.specs.Limits.{is_depth, is_newer}
 use Rattle.nj_scope.specs.Pools.{is_pool}
 use Rattle.nj_scope.specs.ReadingList.{Entry, scope_of, value_after, rules, is_declared, pools, scopes_opened, files_opened}
-use Rattle.nj_graph.specs.declared.fault.Place.{Place}
-use Rattle.nj_graph.specs.declared.fault.Cause.{Cause}
-use Rattle.nj_graph.specs.declared.fault.GraphFault.{GraphFault}
-use Rattle.nj_graph.specs.declared.fault.Cause.TheVariants.{EmptyPath, BadDepth, DuplicateRule, DuplicatePool, VersionTooNew, Missing, PathNotText, TooDeep, TooManyOpenings, NotYet}
-use Rattle.nj_graph.specs.Faults.{fault_at, fault_in}
+use Rattle.nj_faults.specs.declared.fault.Place.{Place}
+use Rattle.nj_faults.specs.declared.fault.Cause.{Cause}
+use Rattle.nj_faults.specs.declared.fault.GraphFault.{GraphFault}
+use Rattle.nj_faults.specs.declared.fault.Cause.TheVariants.{EmptyPath, BadDepth, DuplicateRule, DuplicatePool, VersionTooNew, Missing, PathNotText, TooDeep, TooManyOpenings, NotYet}
+use Rattle.nj_faults.specs.Faults.{fault_at, fault_in}
 use Rattle.nj_graph.specs.Statements.{parsed}
 
 -- ---- where a statement stands

@@ -8,8 +8,8 @@ ghost use Rattle.nj_manifest.specs.Contents.{lines_text};
 ghost use Rattle.nj_graph.specs.Reading.{entry_at, site_scope, depth_fault};
 ghost use Rattle.nj_graph.specs.ReaderContracts.{InFile, ScopesGrow, Checks, Declares};
 
-use crate::fault::{Cause, GraphFault, Name};
 use crate::reader::{OpenFile, Reader};
+use nj_faults::{Cause, GraphFault, Name};
 use nj_manifest::{Line, Spot, Word};
 use nj_scope::{is_depth, is_newer};
 use std::alloc::Global;

@@ -3,9 +3,9 @@
 ghost use Rattle.std.specs.Prelude.{◌≡◌};
 ghost use Rattle.nj_graph.specs.Loads.{Loads};
 
-use crate::fault::GraphFault;
 use crate::graph::Graph;
 use crate::reader::Reader;
+use nj_faults::GraphFault;
 use nj_scope::{FileSource, FileTable};
 use std::alloc::Global;
 use std::marker::Model;

@@ -8,8 +8,8 @@ ghost use Rattle.nj_scope.specs.ReadingList.{Entry};
 ghost use Rattle.nj_graph.specs.Reading.{entry_at, site_scope, expanded_in, path_fault};
 ghost use Rattle.nj_graph.specs.ReaderContracts.{Holds, InFile, IsOpenIn, ScopesGrow, site_of, place_in, named_item, named_site, EntersScope, AnswersText, OpensOrStops, SaysPath, OpensPath};
 
-use crate::fault::{Cause, GraphFault, Name, Place};
 use crate::reader::{OpenFile, Opened, Reader};
+use nj_faults::{Cause, GraphFault, Name, Place};
 use nj_manifest::{Spot, Word};
 use nj_scope::{FileSource, FileTable, SourceFault};
 use std::alloc::{AllocError, Global};

@@ -60,13 +60,6 @@ fn a_main_file_has_the_name_that_was_given(rt: HostRuntime) -> Result<(), Fail> 
     Ok(())
 }
 
-#[test]
-fn out_of_memory_has_no_place(rt: HostRuntime) -> Result<(), Fail> {
-    let line = GraphFault::out_of_memory().line(rt.alloc())?;
-    assert_eq!(rt; line.as_slice(), b"ninja-explain: out of memory".as_slice());
-    Ok(())
-}
-
 /// The rules that are listed of the files, a line each; after a colon the description, if
 /// there is one.
 fn rules(rt: &impl AllocGlobal, source: &mut MemoryFiles) -> Result<Vec<u8>, Fail> {

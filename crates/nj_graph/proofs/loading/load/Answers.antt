@@ -1,5 +1,5 @@
 use Rattle.std.proofs.Common.{◌≡◌, subst, refl}
-use Rattle.nj_graph.specs.Faults.{no_memory}
+use Rattle.nj_faults.specs.Faults.{no_memory}
 use Rattle.nj_graph.specs.Reading.{main_read}
 use Rattle.nj_graph.specs.ReaderContracts.{StopsAt}
 use Rattle.nj_graph.proofs.Naming.{handed, handed-as}

@@ -2,7 +2,7 @@ use Rattle.std.proofs.Common.{◌≡◌, [], ◌∷◌, refl, sym, ap, subst, �
 use Rattle.nj_text.specs.Words.{word_text}
 use Rattle.nj_scope.specs.Declarations.{DeclaredBy}
 use Rattle.nj_scope.specs.ReadingList.{Entry}
-use Rattle.nj_graph.specs.Faults.{no_memory}
+use Rattle.nj_faults.specs.Faults.{no_memory}
 use Rattle.nj_graph.specs.Reading.{Site, entry_at, site_scope, expanded_in, path_fault, own_fault, opened_in, statement_read, unless_fault}
 use Rattle.nj_graph.specs.ReaderContracts.{IsOpenScope, IsFault, site_of, place_in, named_item, named_site}
 use Rattle.nj_graph.proofs.Naming.{handed, handed-as, stops-own, stops-same, stops-open, opens-file, named-fault, named-path, named-file, named-opens, named-read}

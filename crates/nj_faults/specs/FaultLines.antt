@@ -2,10 +2,10 @@
 use Rattle.std.specs.Prelude.{ℕ, Option, Some, None, List, ◌++◌, codes}
 use Rattle.std.specs.Fmt.{decimal}
 use Rattle.nj_manifest.specs.Faults.{wanted_text}
-use Rattle.nj_graph.specs.declared.fault.Place.{Place}
-use Rattle.nj_graph.specs.declared.fault.GraphFault.{GraphFault}
-use Rattle.nj_graph.specs.declared.fault.Cause.{Cause}
-use Rattle.nj_graph.specs.declared.fault.Cause.TheVariants as cause
+use Rattle.nj_faults.specs.declared.fault.Place.{Place}
+use Rattle.nj_faults.specs.declared.fault.GraphFault.{GraphFault}
+use Rattle.nj_faults.specs.declared.fault.Cause.{Cause}
+use Rattle.nj_faults.specs.declared.fault.Cause.TheVariants as cause
 
 -- `FILE:LINE:COLUMN`; the program's name where no place is to blame
 abbrev pub place_text : Option Place → List ℕ

@@ -1,7 +1,7 @@
 //! The line that reports a fault.
 
 ghost use Rattle.std.specs.Prelude.{◌≡◌, ◌++◌, IfOk, codes};
-ghost use Rattle.nj_graph.specs.FaultLines.{fault_line, place_text, cause_text};
+ghost use Rattle.nj_faults.specs.FaultLines.{fault_line, place_text, cause_text};
 
 use crate::fault::{Cause, GraphFault, Name, Place};
 use std::alloc::{AllocError, Global};

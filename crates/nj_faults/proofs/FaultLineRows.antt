@@ -3,11 +3,11 @@ use Rattle.std.proofs.Common.{◌≡◌, ℕ, refl}
 use Rattle.std.specs.Prelude.{codes}
 use Rattle.std.specs.Fmt.{digits}
 use Rattle.nj_manifest.specs.declared.fault.Wanted.TheVariants as wanted
-use Rattle.nj_graph.specs.declared.fault.Cause.{Cause}
-use Rattle.nj_graph.specs.declared.fault.GraphFault.{GraphFault}
-use Rattle.nj_graph.specs.declared.fault.Cause.TheVariants.{Expected, UnknownKey, BadDepth, DuplicateRule, VersionTooNew, Missing, TooManyOpenings, Io}
-use Rattle.nj_graph.specs.Faults.{fault_at, no_memory}
-use Rattle.nj_graph.specs.FaultLines.{fault_line}
+use Rattle.nj_faults.specs.declared.fault.Cause.{Cause}
+use Rattle.nj_faults.specs.declared.fault.GraphFault.{GraphFault}
+use Rattle.nj_faults.specs.declared.fault.Cause.TheVariants.{Expected, UnknownKey, BadDepth, DuplicateRule, VersionTooNew, Missing, TooManyOpenings, Io}
+use Rattle.nj_faults.specs.Faults.{fault_at, no_memory}
+use Rattle.nj_faults.specs.FaultLines.{fault_line}
 
 -- at a place of the file `build.ninja`
 abbrev at : (line column : ℕ) → Cause → GraphFault

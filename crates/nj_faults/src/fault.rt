@@ -4,7 +4,7 @@ ghost use Rattle.std.specs.Prelude.{◌≡◌, IfOk, nat_eq};
 ghost use Rattle.std.specs.Cmp.{partial_equiv_from_equiv};
 ghost use Rattle.std.specs.Cmp.Lexicographic.{nat_list_eq_equiv, pointwise};
 ghost use Rattle.nj_manifest.specs.Faults as parsed;
-ghost use Rattle.nj_graph.specs.Faults.{fault_at, fault_in, no_memory};
+ghost use Rattle.nj_faults.specs.Faults.{fault_at, fault_in, no_memory};
 
 use nj_manifest::{LexFault, ParseFault, Spot, UnitFault, Wanted};
 use std::alloc::{AllocError, AllocFailed, Global};

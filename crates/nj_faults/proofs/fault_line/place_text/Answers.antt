@@ -1,5 +1,5 @@
 use Rattle.std.proofs.Common.{◌++◌, append_assoc, ap, ◌∙◌}
-use Rattle.nj_graph.proofs.fault_line.place_text.Goals as goal
+use Rattle.nj_faults.proofs.fault_line.place_text.Goals as goal
 
 pub returns-in_ok-extend_from_slice-in-Some : goal.returns-in_ok-extend_from_slice-in-Some
 returns-in_ok-extend_from_slice-in-Some c =

@@ -4,9 +4,9 @@ use Rattle.nj_text.specs.declared.spot.Spot.{Spot}
 use Rattle.nj_text.specs.declared.fault.UnitFault.{UnitFault}
 use Rattle.nj_text.specs.declared.fault.UnitFault.TheVariants as unit
 use Rattle.nj_manifest.specs.Faults as text
-use Rattle.nj_graph.specs.declared.fault.GraphFault.{GraphFault}
-use Rattle.nj_graph.specs.declared.fault.Cause.{Cause}
-use Rattle.nj_graph.specs.declared.fault.Cause.TheVariants as cause
+use Rattle.nj_faults.specs.declared.fault.GraphFault.{GraphFault}
+use Rattle.nj_faults.specs.declared.fault.Cause.{Cause}
+use Rattle.nj_faults.specs.declared.fault.Cause.TheVariants as cause
 
 -- what is wrong at a place of a file
 abbrev pub fault_at : (file : List ℕ) → Spot → Cause → GraphFault
