@@ -5,8 +5,8 @@ use Rattle.std.specs.Fmt.{digits}
 use Rattle.nj_manifest.specs.declared.fault.Wanted.TheVariants as wanted
 use Rattle.nj_faults.specs.declared.fault.Cause.{Cause}
 use Rattle.nj_faults.specs.declared.fault.GraphFault.{GraphFault}
-use Rattle.nj_faults.specs.declared.fault.Cause.TheVariants.{Expected, UnknownKey, BadDepth, DuplicateRule, VersionTooNew, Missing, TooManyOpenings, Io}
-use Rattle.nj_faults.specs.Faults.{fault_at, no_memory}
+use Rattle.nj_faults.specs.declared.fault.Cause.TheVariants.{Expected, UnknownKey, BadDepth, DuplicateRule, VersionTooNew, Missing, TooManyOpenings, Io, UnknownRule, TwoMakers, UnknownTarget, RuleVariableCycle, UnknownPool, DyndepNotInput, Cycle, NoOutEdge}
+use Rattle.nj_faults.specs.Faults.{fault_at, unplaced, no_memory}
 use Rattle.nj_faults.specs.FaultLines.{fault_line}
 
 -- at a place of the file `build.ninja`
@@ -46,6 +46,40 @@ place_row : fault_line (at 65536 10 TooManyOpenings) ≡ codes "build.ninja:6553
 unfolding digits
 place_row = refl
 
+build_rule_row : fault_line (at 3 10 (UnknownRule (codes "cc"))) ≡ codes "build.ninja:3:10: unknown build rule 'cc'"
+unfolding digits
+build_rule_row = refl
+
+makers_row : fault_line (at 4 7 (TwoMakers (codes "a.o"))) ≡ codes "build.ninja:4:7: multiple rules generate a.o"
+unfolding digits
+makers_row = refl
+
+default_row : fault_line (at 5 9 (UnknownTarget (codes "all"))) ≡ codes "build.ninja:5:9: unknown target 'all'"
+unfolding digits
+default_row = refl
+
+variables_row : fault_line (at 6 1 (RuleVariableCycle (codes "command"))) ≡ codes "build.ninja:6:1: cycle in rule variables at 'command'"
+unfolding digits
+variables_row = refl
+
+pool_row : fault_line (at 7 1 (UnknownPool (codes "link"))) ≡ codes "build.ninja:7:1: unknown pool name 'link'"
+unfolding digits
+pool_row = refl
+
+dyndep_row : fault_line (at 8 1 (DyndepNotInput (codes "a.dd"))) ≡ codes "build.ninja:8:1: dyndep 'a.dd' is not an input"
+unfolding digits
+dyndep_row = refl
+
+cycle_row : fault_line (at 9 1 (Cycle (codes "a"))) ≡ codes "build.ninja:9:1: dependency cycle through 'a'"
+unfolding digits
+cycle_row = refl
+
 -- no place
+target_row : fault_line (unplaced (UnknownTarget (codes "all"))) ≡ codes "ninja-explain: unknown target 'all'"
+target_row = refl
+
+use_row : fault_line (unplaced (NoOutEdge (codes "a"))) ≡ codes "ninja-explain: 'a' has no out edge"
+use_row = refl
+
 memory_row : fault_line no_memory ≡ codes "ninja-explain: out of memory"
 memory_row = refl

@@ -12,9 +12,12 @@ use Rattle.nj_faults.specs.declared.fault.Cause.TheVariants as cause
 abbrev pub fault_at : (file : List ℕ) → Spot → Cause → GraphFault
 fault_at file spot cause = record { place = Some (record { file = file; spot = spot }); cause = cause }
 
--- out of memory, which has no place
+-- a fault for which no place is to blame
+abbrev pub unplaced : Cause → GraphFault
+unplaced cause = record { place = None; cause = cause }
+
 abbrev pub no_memory : GraphFault
-no_memory = record { place = None; cause = cause.OutOfMemory }
+no_memory = unplaced cause.OutOfMemory
 
 -- ---- the faults of a text
 

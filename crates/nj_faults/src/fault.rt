@@ -4,7 +4,7 @@ ghost use Rattle.std.specs.Prelude.{◌≡◌, IfOk, nat_eq};
 ghost use Rattle.std.specs.Cmp.{partial_equiv_from_equiv};
 ghost use Rattle.std.specs.Cmp.Lexicographic.{nat_list_eq_equiv, pointwise};
 ghost use Rattle.nj_manifest.specs.Faults as parsed;
-ghost use Rattle.nj_faults.specs.Faults.{fault_at, fault_in, no_memory};
+ghost use Rattle.nj_faults.specs.Faults.{fault_at, fault_in, no_memory, unplaced};
 
 use nj_manifest::{LexFault, ParseFault, Spot, UnitFault, Wanted};
 use std::alloc::{AllocError, AllocFailed, Global};
@@ -117,6 +117,28 @@ pub enum Cause {
     TooManyOpenings,
     /// The file at the path is there, or may be, and reading it failed.
     Io(Name),
+    /// A rule that no scope declares, at its name ("Build statements").
+    UnknownRule(Name),
+    /// A path that two build statements make, or one names twice as its output, at the second word
+    /// that names it ("Build outputs").
+    TwoMakers(Name),
+    /// A path that no build statement names: at the word of a `default` statement ("Default target
+    /// statements"), or with no place for one that was asked for.
+    UnknownTarget(Name),
+    /// A variable of a rule whose value for an edge refers to itself, at once or by others, at the
+    /// build statement ("Rule variables").
+    RuleVariableCycle(Name),
+    /// A pool that no statement declares, at the build statement that uses it ("Pools").
+    UnknownPool(Name),
+    /// A dyndep file that is none of the inputs of its edge, at the build statement ("Dynamic
+    /// Dependencies").
+    DyndepNotInput(Name),
+    /// A path that is needed to make itself, at the build statement that makes it ("Build
+    /// statements").
+    Cycle(Name),
+    /// A file that no build statement has as an input, where the first output made of it was asked
+    /// for ("Running Ninja"); the fault has no place.
+    NoOutEdge(Name),
     /// `build` and `default` statements are not read yet.
     NotYet,
     /// An allocation failed; the fault has no place.
@@ -168,14 +190,18 @@ impl GraphFault {
         GraphFault::at(alloc, file, spot, cause)
     }
 
+    /// A fault of this cause, for which no place is to blame.
+    pub fn unplaced(cause: Cause) -> GraphFault
+        ensures { result ≡ unplaced cause }
+    {
+        GraphFault { place: None, cause }
+    }
+
     /// Out of memory.
     pub fn out_of_memory() -> GraphFault
         ensures { result ≡ no_memory }
     {
-        GraphFault {
-            place: None,
-            cause: Cause::OutOfMemory,
-        }
+        GraphFault::unplaced(Cause::OutOfMemory)
     }
 }
 
