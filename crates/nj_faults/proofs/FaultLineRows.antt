@@ -2,22 +2,36 @@
 use Rattle.std.proofs.Common.{◌≡◌, ℕ, refl}
 use Rattle.std.specs.Prelude.{codes}
 use Rattle.std.specs.Fmt.{digits}
+use Rattle.nj_text.specs.declared.spot.Spot.{Spot}
+use Rattle.nj_text.specs.declared.fault.UnitFault.TheVariants as unit
+use Rattle.nj_manifest.specs.Faults.{Fault, Bad, Expected, UnknownKey, OutOfMemory}
 use Rattle.nj_manifest.specs.declared.fault.Wanted.TheVariants as wanted
 use Rattle.nj_faults.specs.declared.fault.Cause.{Cause}
 use Rattle.nj_faults.specs.declared.fault.GraphFault.{GraphFault}
-use Rattle.nj_faults.specs.declared.fault.Cause.TheVariants.{Expected, UnknownKey, BadDepth, DuplicateRule, VersionTooNew, Missing, TooManyOpenings, Io, UnknownRule, TwoMakers, UnknownTarget, RuleVariableCycle, UnknownPool, DyndepNotInput, Cycle, NoOutEdge}
-use Rattle.nj_faults.specs.Faults.{fault_at, unplaced, no_memory}
+use Rattle.nj_faults.specs.declared.fault.Cause.TheVariants.{BadDepth, DuplicateRule, VersionTooNew, Missing, TooManyOpenings, Io, UnknownRule, TwoMakers, UnknownTarget, RuleVariableCycle, UnknownPool, DyndepNotInput, Cycle, NoOutEdge}
+use Rattle.nj_faults.specs.Faults.{fault_at, fault_in, unplaced, no_memory}
 use Rattle.nj_faults.specs.FaultLines.{fault_line}
+
+abbrev spot : (line column : ℕ) → Spot
+spot line column = record { line = line; column = column }
 
 -- at a place of the file `build.ninja`
 abbrev at : (line column : ℕ) → Cause → GraphFault
-at line column cause = fault_at (codes "build.ninja") (record { line = line; column = column }) cause
+at line column cause = fault_at (codes "build.ninja") (spot line column) cause
 
-wanted_row : fault_line (at 1 2 (Expected wanted.Equals)) ≡ codes "build.ninja:1:2: expected '='"
+-- what the parser reports in the file `build.ninja`
+abbrev told : Fault → GraphFault
+told fault = fault_in (codes "build.ninja") fault
+
+byte_row : fault_line (told (Bad (unit.Tab (spot 1 3)))) ≡ codes "build.ninja:1:3: tabs are not allowed, use spaces"
+unfolding digits
+byte_row = refl
+
+wanted_row : fault_line (told (Expected (spot 1 2) wanted.Equals)) ≡ codes "build.ninja:1:2: expected '='"
 unfolding digits
 wanted_row = refl
 
-key_row : fault_line (at 3 3 (UnknownKey (codes "depth"))) ≡ codes "build.ninja:3:3: unexpected variable 'depth'"
+key_row : fault_line (told (UnknownKey (spot 3 3) (codes "depth"))) ≡ codes "build.ninja:3:3: unexpected variable 'depth'"
 unfolding digits
 key_row = refl
 
@@ -83,3 +97,6 @@ use_row = refl
 
 memory_row : fault_line no_memory ≡ codes "ninja-explain: out of memory"
 memory_row = refl
+
+told_memory_row : told OutOfMemory ≡ no_memory
+told_memory_row = refl

@@ -1,7 +1,6 @@
 -- The line that reports a fault.
 use Rattle.std.specs.Prelude.{ℕ, Option, Some, None, List, ◌++◌, codes}
 use Rattle.std.specs.Fmt.{decimal}
-use Rattle.nj_manifest.specs.Faults.{wanted_text}
 use Rattle.nj_faults.specs.declared.fault.Place.{Place}
 use Rattle.nj_faults.specs.declared.fault.GraphFault.{GraphFault}
 use Rattle.nj_faults.specs.declared.fault.Cause.{Cause}
@@ -13,17 +12,7 @@ place_text (Some place) = place.file ++ codes ":" ++ decimal place.spot.line ++ 
 place_text None = codes "ninja-explain"
 
 abbrev pub cause_text : Cause → List ℕ
-cause_text cause.BadByte = codes "unexpected byte"
-cause_text cause.Tab = codes "tabs are not allowed, use spaces"
-cause_text cause.BadEscape = codes "bad $-escape (literal $ must be written as $$)"
-cause_text (cause.Expected wanted) = codes "expected " ++ wanted_text wanted
-cause_text cause.UnexpectedIndent = codes "unexpected indent"
-cause_text cause.MissingCommand = codes "expected 'command =' line"
-cause_text cause.RspPair = codes "rspfile and rspfile_content need to be both specified"
-cause_text (cause.UnknownKey key) = codes "unexpected variable '" ++ key ++ codes "'"
-cause_text cause.MissingDepth = codes "expected 'depth =' line"
-cause_text cause.DyndepVersion = codes "expected 'ninja_dyndep_version = 1'"
-cause_text cause.DyndepShape = codes "not a dyndep statement"
+cause_text (cause.Syntax text) = text
 cause_text cause.EmptyPath = codes "empty path"
 cause_text cause.BadDepth = codes "invalid pool depth"
 cause_text (cause.DuplicateRule name) = codes "duplicate rule '" ++ name ++ codes "'"

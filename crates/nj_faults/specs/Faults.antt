@@ -1,9 +1,7 @@
 -- Why files are no graph: the place of a fault, and what is wrong there.
-use Rattle.std.specs.Prelude.{ℕ, Some, None, List}
+use Rattle.std.specs.Prelude.{ℕ, Option, Some, None, List}
 use Rattle.nj_text.specs.declared.spot.Spot.{Spot}
-use Rattle.nj_text.specs.declared.fault.UnitFault.{UnitFault}
-use Rattle.nj_text.specs.declared.fault.UnitFault.TheVariants as unit
-use Rattle.nj_manifest.specs.Faults as text
+use Rattle.nj_manifest.specs.Faults.{Fault, place_of, text_of}
 use Rattle.nj_faults.specs.declared.fault.GraphFault.{GraphFault}
 use Rattle.nj_faults.specs.declared.fault.Cause.{Cause}
 use Rattle.nj_faults.specs.declared.fault.Cause.TheVariants as cause
@@ -21,19 +19,10 @@ no_memory = unplaced cause.OutOfMemory
 
 -- ---- the faults of a text
 
-abbrev pub unit_fault : (file : List ℕ) → UnitFault → GraphFault
-unit_fault file (unit.BadByte spot) = fault_at file spot cause.BadByte
-unit_fault file (unit.Tab spot) = fault_at file spot cause.Tab
-unit_fault file (unit.BadEscape spot) = fault_at file spot cause.BadEscape
+-- what the parser says of a place of its text; without a place it is out of memory
+abbrev pub syntax_fault : (file : List ℕ) → Option Spot → (text : List ℕ) → GraphFault
+syntax_fault file (Some spot) text = fault_at file spot (cause.Syntax text)
+syntax_fault file None text = no_memory
 
-abbrev pub fault_in : (file : List ℕ) → text.Fault → GraphFault
-fault_in file (text.Bad fault) = unit_fault file fault
-fault_in file (text.Expected spot wanted) = fault_at file spot (cause.Expected wanted)
-fault_in file (text.UnexpectedIndent spot) = fault_at file spot cause.UnexpectedIndent
-fault_in file (text.MissingCommand spot) = fault_at file spot cause.MissingCommand
-fault_in file (text.RspPair spot) = fault_at file spot cause.RspPair
-fault_in file (text.UnknownKey spot key) = fault_at file spot (cause.UnknownKey key)
-fault_in file (text.MissingDepth spot) = fault_at file spot cause.MissingDepth
-fault_in file (text.DyndepVersion spot) = fault_at file spot cause.DyndepVersion
-fault_in file (text.DyndepShape spot) = fault_at file spot cause.DyndepShape
-fault_in file text.OutOfMemory = no_memory
+abbrev pub fault_in : (file : List ℕ) → Fault → GraphFault
+fault_in file fault = syntax_fault file (place_of fault) (text_of fault)

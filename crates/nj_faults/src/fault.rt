@@ -6,11 +6,11 @@ ghost use Rattle.std.specs.Cmp.Lexicographic.{nat_list_eq_equiv, pointwise};
 ghost use Rattle.nj_manifest.specs.Faults as parsed;
 ghost use Rattle.nj_faults.specs.Faults.{fault_at, fault_in, no_memory, unplaced};
 
-use nj_manifest::{LexFault, ParseFault, Spot, UnitFault, Wanted};
+use nj_manifest::{ParseFault, Spot};
 use std::alloc::{AllocError, AllocFailed, Global};
 use std::marker::Model;
 
-/// A name or a path, as its bytes.
+/// A name, a path or a text, as its bytes, which need not be UTF-8.
 #[derive(Debug, Drop)]
 pub struct Name {
     bytes: Vec<u8>,
@@ -75,28 +75,8 @@ pub struct Place {
 /// What is wrong at the place of a fault.
 #[derive(Debug, PartialEq, Eq, Drop)]
 pub enum Cause {
-    /// NUL, or a carriage return that no line feed follows.
-    BadByte,
-    /// A tab after the leading spaces of a line.
-    Tab,
-    /// A `$` that begins neither an escape nor a reference.
-    BadEscape,
-    /// Something else stands where this is wanted.
-    Expected(Wanted),
-    /// An indented line that belongs to no block.
-    UnexpectedIndent,
-    /// A rule without `command`.
-    MissingCommand,
-    /// A rule with only one of `rspfile` and `rspfile_content`.
-    RspPair,
-    /// A key that the block may not have.
-    UnknownKey(Name),
-    /// A pool without `depth`.
-    MissingDepth,
-    /// A dyndep file that does not begin with a version that is read.
-    DyndepVersion,
-    /// A statement that no dyndep file may have.
-    DyndepShape,
+    /// A fault of the syntax of the file, in the parser's own words (`ParseFault::text`).
+    Syntax(Name),
     /// A path that is empty once its variables are expanded.
     EmptyPath,
     /// A depth that is no number, or greater than 2147483647.
@@ -173,21 +153,12 @@ impl GraphFault {
     ) -> Result<GraphFault, AllocError>
         ensures { IfOk result (λ f. f ≡ fault_in file.now (parsed.fault_text fault.entry)) }
     {
-        let (spot, cause) = match fault {
-            ParseFault::Lex(LexFault::Unit(UnitFault::BadByte(spot))) => (spot, Cause::BadByte),
-            ParseFault::Lex(LexFault::Unit(UnitFault::Tab(spot))) => (spot, Cause::Tab),
-            ParseFault::Lex(LexFault::Unit(UnitFault::BadEscape(spot))) => (spot, Cause::BadEscape),
-            ParseFault::Lex(LexFault::OutOfMemory) => return Ok(GraphFault::out_of_memory()),
-            ParseFault::Expected(spot, wanted) => (spot, Cause::Expected(wanted)),
-            ParseFault::UnexpectedIndent(spot) => (spot, Cause::UnexpectedIndent),
-            ParseFault::MissingCommand(spot) => (spot, Cause::MissingCommand),
-            ParseFault::RspPair(spot) => (spot, Cause::RspPair),
-            ParseFault::UnknownKey(spot, key) => (spot, Cause::UnknownKey(Name::new(alloc, key)?)),
-            ParseFault::MissingDepth(spot) => (spot, Cause::MissingDepth),
-            ParseFault::DyndepVersion(spot) => (spot, Cause::DyndepVersion),
-            ParseFault::DyndepShape(spot) => (spot, Cause::DyndepShape),
+        let Some(spot) = fault.spot() else {
+            return Ok(GraphFault::out_of_memory());
         };
-        GraphFault::at(alloc, file, spot, cause)
+        let mut text = Vec::new(alloc);
+        fault.text().append_to(&mut text)?;
+        GraphFault::at(alloc, file, spot, Cause::Syntax(Name::from(text)))
     }
 
     /// A fault of this cause, for which no place is to blame.

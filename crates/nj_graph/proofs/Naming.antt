@@ -4,8 +4,7 @@ use Rattle.std.specs.List.{AllByRecursion}
 use Rattle.std.specs.Result.{IsErrAnd}
 use Rattle.nj_text.specs.declared.spot.Spot.{Spot}
 use Rattle.nj_text.specs.Words.{WordText}
-use Rattle.nj_text.specs.declared.fault.UnitFault.TheVariants as lex
-use Rattle.nj_manifest.specs.Faults as text
+use Rattle.nj_manifest.specs.Faults.{Fault, place_of, text_of}
 use Rattle.nj_manifest.specs.Statements.{StatementText, BindingText, RuleText, PoolText, BuildText, DefaultText, IncludeText, SubninjaText, LineText}
 use Rattle.nj_scope.specs.Readings.{Reading, EachPathOnce, IsPrefix, paths_of}
 use Rattle.nj_scope.specs.Scopes.{IsScope, outermost, child}
@@ -20,7 +19,7 @@ use Rattle.nj_graph.specs.declared.reader.Reader.{Reader}
 use Rattle.nj_graph.specs.declared.reader.OpenFile.{OpenFile}
 use Rattle.nj_faults.specs.declared.fault.Place.{Place}
 use Rattle.nj_faults.specs.declared.fault.Cause.{Cause}
-use Rattle.nj_faults.specs.Faults.{fault_at, fault_in, no_memory}
+use Rattle.nj_faults.specs.Faults.{fault_at, fault_in, syntax_fault, no_memory}
 use Rattle.nj_graph.specs.Reading.{Site, entry_at, site_scope, expanded_in, place_at, path_fault, subninja_site, fault_if, or_then, depth_fault, item_fault, own_fault, Whole, Refused, ReadingText, Opens, item_read, unless_fault, statement_read, opened_in, text_read, path_named, with_new, with_named, paths_read, path_at_fault, paths_come_to}
 use Rattle.nj_graph.specs.Runs.{IsRead, Stops}
 use Rattle.nj_graph.specs.ReaderContracts.{named_item, named_site, site_of, EntersScope, Holds, Grows, IsOpenScope, IsOpenIn, IsFault, ReadsOne, StopsAt, OpensText, OpensNamed}
@@ -82,19 +81,12 @@ item-names e before (DefaultText words) = λ fault h. ap (λ f. path_at_fault f.
 item-names e before (IncludeText word) = or-names _ _ (if-names _ e.file word.spot _ refl) (if-names _ e.file word.spot _ refl)
 item-names e before (SubninjaText word) = or-names _ _ (if-names _ e.file word.spot _ refl) (if-names _ e.file word.spot _ refl)
 
-pub syntax-names : (file : List ℕ) (fault : text.Fault) → path_at_fault (fault_in file fault).cause ≡ []
-syntax-names file (text.Bad (lex.BadByte spot)) = refl
-syntax-names file (text.Bad (lex.Tab spot)) = refl
-syntax-names file (text.Bad (lex.BadEscape spot)) = refl
-syntax-names file (text.Expected spot wanted) = refl
-syntax-names file (text.UnexpectedIndent spot) = refl
-syntax-names file (text.MissingCommand spot) = refl
-syntax-names file (text.RspPair spot) = refl
-syntax-names file (text.UnknownKey spot key) = refl
-syntax-names file (text.MissingDepth spot) = refl
-syntax-names file (text.DyndepVersion spot) = refl
-syntax-names file (text.DyndepShape spot) = refl
-syntax-names file text.OutOfMemory = refl
+placed-names : (file : List ℕ) (place : Option Spot) (said : List ℕ) → path_at_fault (syntax_fault file place said).cause ≡ []
+placed-names file (Some spot) said = refl
+placed-names file None said = refl
+
+pub syntax-names : (file : List ℕ) (fault : Fault) → path_at_fault (fault_in file fault).cause ≡ []
+syntax-names file fault = placed-names file (place_of fault) (text_of fault)
 
 -- ---- the two kinds of statements that name a file
 

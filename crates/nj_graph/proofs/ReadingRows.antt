@@ -5,13 +5,12 @@ use Rattle.std.specs.Char.{encode_utf8}
 use Rattle.std.specs.Str.{chars, is_utf8}
 use Rattle.nj_text.specs.declared.spot.Spot.{Spot}
 use Rattle.nj_text.specs.Numbers.{value_of_digits}
-use Rattle.nj_manifest.specs.declared.fault.Wanted.TheVariants as wanted
 use Rattle.nj_manifest.proofs.StatementRows.{on_texts, at}
 use Rattle.nj_scope.specs.Readings.{Reading}
 use Rattle.nj_scope.specs.ReadingList.{bounds}
 use Rattle.nj_graph.specs.Statements.{parsed_in}
 use Rattle.nj_faults.specs.declared.fault.Cause.{Cause}
-use Rattle.nj_faults.specs.declared.fault.Cause.TheVariants.{Expected, BadEscape, MissingCommand, EmptyPath, BadDepth, DuplicateRule, DuplicatePool, VersionTooNew, Missing, PathNotText, TooDeep, NotYet}
+use Rattle.nj_faults.specs.declared.fault.Cause.TheVariants.{Syntax, EmptyPath, BadDepth, DuplicateRule, DuplicatePool, VersionTooNew, Missing, PathNotText, TooDeep, NotYet}
 use Rattle.nj_faults.specs.Faults.{fault_at}
 use Rattle.nj_graph.specs.Reading.{Whole, Refused, Lacking, ReadingText, statements_read, opened_in, main_read, paths_come_to}
 
@@ -131,7 +130,7 @@ unfolding on_files
 phony_rule = refl
 
 -- syntax comes first
-rule_without_command : refuses_alone (codes "rule phony\n") (at 1 1) MissingCommand
+rule_without_command : refuses_alone (codes "rule phony\n") (at 1 1) (Syntax (codes "expected 'command =' line"))
 unfolding on_files
 rule_without_command = refl
 
@@ -273,11 +272,11 @@ unfolding on_files
 default_statement = refl
 
 -- its syntax comes first
-build_without_colon : refuses_alone (codes "build a\n") (at 1 8) (Expected wanted.Colon)
+build_without_colon : refuses_alone (codes "build a\n") (at 1 8) (Syntax (codes "expected ':'"))
 unfolding on_files
 build_without_colon = refl
 
 -- under the name of the file in which it stands
-fault_in_included : refuses (codes "include s\n") (file (codes "s") (codes "x = 1\ny = $!\n") ∷ []) (codes "s") (at 2 5) BadEscape
+fault_in_included : refuses (codes "include s\n") (file (codes "s") (codes "x = 1\ny = $!\n") ∷ []) (codes "s") (at 2 5) (Syntax (codes "bad $-escape (literal $ must be written as $$)"))
 unfolding on_files
 fault_in_included = refl

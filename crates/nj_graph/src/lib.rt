@@ -12,7 +12,7 @@ pub use graph::{Graph, rules_by_name};
 pub use laws::statements_up_to_the_first_fault;
 pub use loading::{Loaded, load};
 pub use nj_faults::{Cause, GraphFault, Name, Place};
-pub use nj_manifest::{Spot, Wanted};
+pub use nj_manifest::Spot;
 pub use nj_scope::{FileSource, FileTable, MemoryFiles, SourceFault};
 
 #[cfg(test)]
