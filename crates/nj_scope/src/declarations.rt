@@ -11,10 +11,10 @@ ghost use Rattle.nj_scope.specs.Pools.{is_pool};
 ghost use Rattle.nj_scope.specs.Declarations.{DeclaredBy, TakesIn, Keeps, SameScopes};
 ghost use Rattle.nj_scope.specs.ReadingList.{Entry, value_after, is_declared, rule_in_force};
 
-use crate::hash_keys::HashKeys;
 use crate::pools::Pools;
 use crate::rule::Rule;
 use crate::scopes::Scopes;
+use nj_hash::HashKeys;
 use nj_manifest::Line;
 use nj_text::Word;
 use std::alloc::{AllocError, Global};

@@ -2,7 +2,6 @@
 #![tactic(auto)]
 
 mod declarations;
-mod hash_keys;
 mod late;
 mod laws;
 mod limits;
@@ -14,11 +13,11 @@ mod source;
 mod table;
 
 pub use declarations::Declarations;
-pub use hash_keys::HashKeys;
 pub use late::LateValue;
 pub use laws::{rules_in_force, values_by_reading_order};
 pub use limits::{is_depth, is_newer};
 pub use memory::MemoryFiles;
+pub use nj_hash::HashKeys;
 pub use rule::Rule;
 pub use source::{FileSource, SourceFault};
 pub use table::FileTable;

@@ -3,8 +3,8 @@
 ghost use Rattle.std.specs.Prelude.{◌≡◌, ℕ, List, [], ◌∷◌, ◌++◌, not, IfOk, OnErr, if◌then◌else◌};
 ghost use Rattle.nj_scope.specs.Pools.{is_pool};
 
-use crate::hash_keys::HashKeys;
 use indexmap::IndexSet;
+use nj_hash::HashKeys;
 use std::alloc::{AllocError, Global};
 use std::marker::Model;
 

@@ -6,9 +6,9 @@ ghost use Rattle.std.specs.Map.{lookup};
 ghost use Rattle.nj_scope.specs.ScopesHeld.{values_text, parent_at, bound_at, rule_at};
 ghost use Rattle.nj_text.specs.Words.{word_text};
 
-use crate::hash_keys::HashKeys;
 use crate::late::written_len;
 use indexmap::IndexMap;
+use nj_hash::HashKeys;
 use nj_text::{Part, Word};
 use std::alloc::{AllocError, Global};
 use std::marker::Model;

@@ -3,7 +3,7 @@
 ghost use Rattle.std.specs.Prelude.{◌≡◌};
 ghost use Rattle.nj_scope.specs.declared.source.SourceFault.TheVariants.{OutOfMemory};
 
-use crate::hash_keys::HashKeys;
+use nj_hash::HashKeys;
 use std::alloc::{AllocError, AllocFailed, Global};
 use std::error::Error;
 use std::fmt;

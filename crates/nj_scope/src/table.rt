@@ -5,9 +5,9 @@ ghost use Rattle.nj_scope.specs.Opening.{OpensFile, shared_bytes};
 ghost use Rattle.nj_scope.specs.Readings.{EachPathOnce, reading_of, is_read, bytes_in};
 ghost use Rattle.nj_scope.specs.Sources.{answer_bytes};
 
-use crate::hash_keys::HashKeys;
 use crate::source::{FileSource, SourceFault};
 use indexmap::IndexMap;
+use nj_hash::HashKeys;
 use std::alloc::{AllocError, Global};
 use std::marker::Model;
 use std::rc::RcSlice;
