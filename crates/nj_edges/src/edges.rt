@@ -4,6 +4,7 @@ ghost use Rattle.std.specs.Prelude.{◌≡◌, [], ◌∷◌, ◌++◌, Some, Ok
 ghost use Rattle.nj_edges.specs.EdgesHeld.{no_files, EndWithin, naming, with_output, with_input, with_validation, is_made, edge_read, row_between};
 
 use crate::files::{FileNo, Files};
+use nj_hash::HashKeys;
 use std::alloc::{AllocError, Global};
 use std::marker::Model;
 
@@ -81,12 +82,12 @@ impl Model for Edges {
 }
 
 impl Edges {
-    /// No edges. It takes no memory.
-    pub fn new(alloc: Global) -> Edges
+    /// No edges. The paths of their files are hashed by these keys. It takes no memory.
+    pub fn new(alloc: Global, keys: HashKeys) -> Edges
         ensures { result ≡ record { files = []; edges = []; «open» = no_files } }
     {
         Edges {
-            files: Files::new(alloc),
+            files: Files::new(alloc, keys),
             makers: Vec::new(alloc),
             outputs: Vec::new(alloc),
             inputs: Vec::new(alloc),

@@ -5,6 +5,7 @@ ghost use Rattle.std.specs.List.{IsDistinct, list_any};
 ghost use Rattle.nj_edges.specs.Files.{with_path};
 
 use indexmap::IndexSet;
+use nj_hash::HashKeys;
 use std::alloc::{AllocError, Global};
 use std::marker::Model;
 
@@ -16,7 +17,7 @@ pub struct FileNo(pub usize);
 #[derive(Drop)]
 pub struct Files {
     alloc: Global,
-    paths: IndexSet<Vec<u8>>,
+    paths: IndexSet<Vec<u8>, HashKeys>,
 }
 
 impl Model for Files {
@@ -32,13 +33,13 @@ impl Model for Files {
 }
 
 impl Files {
-    /// No files. It takes no memory.
-    pub fn new(alloc: Global) -> Files
+    /// No files, whose paths are hashed by these keys. It takes no memory.
+    pub fn new(alloc: Global, keys: HashKeys) -> Files
         ensures { result ≡ [] }
     {
         Files {
             alloc,
-            paths: IndexSet::new(alloc),
+            paths: IndexSet::with_hasher(alloc, keys),
         }
     }
 

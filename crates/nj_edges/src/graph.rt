@@ -242,6 +242,7 @@ fn least_on_cycle(
 #[cfg(test)]
 mod tests {
     use super::*;
+    use nj_hash::HashKeys;
     use std::test::Fail;
 
     // Ends an edge whose first inputs, so many, are not order-only.
@@ -270,7 +271,7 @@ mod tests {
 
     #[test]
     fn order_only_inputs_count(rt: HostRuntime) -> Result<(), Fail> {
-        let mut edges = Edges::new(rt.alloc());
+        let mut edges = Edges::new(rt.alloc(), HashKeys::default());
         edges.add_output(b"a")?;
         edges.add_input(b"b")?;
         end(&mut edges, 0)?;
@@ -283,7 +284,7 @@ mod tests {
 
     #[test]
     fn validations_do_not_count(rt: HostRuntime) -> Result<(), Fail> {
-        let mut edges = Edges::new(rt.alloc());
+        let mut edges = Edges::new(rt.alloc(), HashKeys::default());
         edges.add_output(b"a")?;
         edges.add_validation(b"a")?;
         end(&mut edges, 0)?;

@@ -11,3 +11,4 @@ mod roots;
 pub use edges::{EdgeNo, Edges, InputKind, KindEnds};
 pub use files::{FileNo, Files};
 pub use graph::{EdgeGraph, Finished};
+pub use nj_hash::HashKeys;

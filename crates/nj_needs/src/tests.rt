@@ -4,7 +4,7 @@ ghost use Rattle.std.specs.Prelude.{◌≡◌, ◌<◌, length, All, IfOk, OnOk}
 ghost use Rattle.nj_edges.specs.EdgesHeld.{no_files};
 
 use crate::{Mark, MarkFault, Needs};
-use nj_edges::{EdgeGraph, Edges, FileNo, Finished, KindEnds};
+use nj_edges::{EdgeGraph, Edges, FileNo, Finished, HashKeys, KindEnds};
 use std::alloc::{AllocError, Global};
 use std::test::Fail;
 
@@ -46,7 +46,7 @@ fn finished(alloc: Global, edges: Edges) -> Result<EdgeGraph, Fail>
 
 // A graph in which edge n makes file n, from the files of the nth list.
 fn graph_of(alloc: Global, rows: &[&[usize]]) -> Result<EdgeGraph, Fail> {
-    let mut edges = Edges::new(alloc);
+    let mut edges = Edges::new(alloc, HashKeys::default());
     'rows: for (number, row) in rows.iter().enumerate() {
         add_edge(&mut edges, number, row, false)?;
     }
@@ -183,7 +183,7 @@ fn cuts_a_path_through_an_edge_that_is_done(rt: HostRuntime) -> Result<(), Fail>
 #[test]
 fn passes_over_phony_edges(rt: HostRuntime) -> Result<(), Fail> {
     let alloc = rt.alloc();
-    let mut edges = Edges::new(alloc);
+    let mut edges = Edges::new(alloc, HashKeys::default());
     add_edge(&mut edges, 1, &[0], false)?;
     add_edge(&mut edges, 2, &[1], true)?;
     let graph = finished(alloc, edges)?;
@@ -201,7 +201,7 @@ fn passes_over_phony_edges(rt: HostRuntime) -> Result<(), Fail> {
 
 // Edges in a row, each with the one before so many times.
 fn chain(alloc: Global, len: usize, times: usize) -> Result<EdgeGraph, Fail> {
-    let mut edges = Edges::new(alloc);
+    let mut edges = Edges::new(alloc, HashKeys::default());
     'edges: for number in 0..len {
         let mut inputs = Vec::new(alloc);
         if number > 0 {
