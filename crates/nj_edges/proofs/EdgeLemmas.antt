@@ -413,11 +413,11 @@ has-among files distinct n path here (f ∷ ns) are =
 
 -- ---- which files are made
 
-first-map : {E F : Type 0} (test : F → Bool) (f : E → F) (es : List E) → first_edge test (map f es) ≡ first_edge (λ e. test (f e)) es
+pub first-map : {E F : Type 0} (test : F → Bool) (f : E → F) (es : List E) → first_edge test (map f es) ≡ first_edge (λ e. test (f e)) es
 first-map test f [] = refl
 first-map test f (e ∷ es) = ap (λ o. cond (test (f e)) (Some 0) (option_map (λ n. n + 1) o)) (first-map test f es)
 
-first-same : {E : Type 0} (t u : E → Bool) → ((e : E) → t e ≡ u e) → (es : List E) → first_edge t es ≡ first_edge u es
+pub first-same : {E : Type 0} (t u : E → Bool) → ((e : E) → t e ≡ u e) → (es : List E) → first_edge t es ≡ first_edge u es
 first-same t u same [] = refl
 first-same t u same (e ∷ es) = let here = same e in let more = first-same t u same es in cc
 
@@ -451,7 +451,7 @@ module _ (files : List (List ℕ)) (makers : List (Option ℕ)) (outputs inputs 
       ∙ first-same (λ (row : EdgeRow). has_number n (within outputs row.outputs)) (λ row. is_among (outputs_of (edge_of files outputs inputs validations row)) path) row-among rows
       ∙ sym (first-map (λ e. is_among (outputs_of e) path) (edge_of files outputs inputs validations) rows)
 
-  open-among : has_number n (drop starts.outputs outputs) ≡ is_among (paths_at files (drop starts.outputs outputs)) path
+  pub open-among : has_number n (drop starts.outputs outputs) ≡ is_among (paths_at files (drop starts.outputs outputs)) path
   open-among = has-among files held.distinct n path here (drop starts.outputs outputs) (all-drop (λ f. f.0 < length files) starts.outputs outputs held.outputs_are)
 
   pub made-by : is_some (first_edge (has_number n) (output_rows outputs starts.outputs rows)) ≡ is_made (table_of files outputs inputs validations rows starts) path
@@ -473,7 +473,7 @@ end-value kinds is_phony t = record { files = t.files; edges = t.edges ++ edge_r
 
 -- ---- an output more
 
-none-front : {E : Type 0} (test : E → Bool) (es : List E) (e : E) → first_edge test (es ++ e ∷ []) ≡ None → first_edge test es ≡ None
+pub none-front : {E : Type 0} (test : E → Bool) (es : List E) (e : E) → first_edge test (es ++ e ∷ []) ≡ None → first_edge test es ≡ None
 none-front test es e none = by (first_edge test es) (sym (first-some test es e) ∙ ap is_some none)
   where
     by : (o : Option ℕ) → (is_some o || test e) ≡ false → o ≡ None
@@ -484,7 +484,7 @@ no-more : (o : Option ℕ) → option_map (λ n. n + 1) o ≡ None → o ≡ Non
 no-more None h = refl
 no-more (Some n) h = absurd (true≢false (ap is_some h))
 
-first-last : {E : Type 0} (test : E → Bool) (es : List E) (e : E) → first_edge test es ≡ None → test e ≡ true → first_edge test (es ++ e ∷ []) ≡ Some (length es)
+pub first-last : {E : Type 0} (test : E → Bool) (es : List E) (e : E) → first_edge test es ≡ None → test e ≡ true → first_edge test (es ++ e ∷ []) ≡ Some (length es)
 first-last test [] e none passes = ap (λ b. cond b (Some 0) None) passes
 first-last test (x ∷ es) e none passes = by (test x) none (λ h. first-last test es e h passes)
   where
@@ -498,7 +498,7 @@ first-other : {E : Type 0} (test : E → Bool) (es : List E) (e e' : E) → test
 first-other test [] e e' same = ap (λ b. cond b (Some 0) None) same
 first-other test (x ∷ es) e e' same = ap (λ o. cond (test x) (Some 0) (option_map (λ n. n + 1) o)) (first-other test es e e' same)
 
-has-push : (n : ℕ) (ns : List FileNo) (f : FileNo) → has_number n (ns ++ f ∷ []) ≡ (has_number n ns || (n == f.0))
+pub has-push : (n : ℕ) (ns : List FileNo) (f : FileNo) → has_number n (ns ++ f ∷ []) ≡ (has_number n ns || (n == f.0))
 has-push n [] f = by (n == f.0)
   where
     by : (b : Bool) → (b || false) ≡ (false || b)
@@ -538,7 +538,7 @@ module _ (files : List (List ℕ)) (makers : List (Option ℕ)) (outputs inputs 
   abbrev closed_rows : List (List FileNo)
   closed_rows = map (λ (row : EdgeRow). within outputs row.outputs) rows
 
-  rows-same : (rs : List EdgeRow) → AllByRecursion (RowIsWithin starts.outputs starts.inputs starts.validations) rs → map (λ (row : EdgeRow). within (outputs ++ f ∷ []) row.outputs) rs ≡ map (λ (row : EdgeRow). within outputs row.outputs) rs
+  pub rows-same : (rs : List EdgeRow) → AllByRecursion (RowIsWithin starts.outputs starts.inputs starts.validations) rs → map (λ (row : EdgeRow). within (outputs ++ f ∷ []) row.outputs) rs ≡ map (λ (row : EdgeRow). within outputs row.outputs) rs
   rows-same [] all = refl
   rows-same (row ∷ rs) all =
       let first = within-append outputs (f ∷ []) row.outputs starts.outputs all.0.outputs held.outputs_start in

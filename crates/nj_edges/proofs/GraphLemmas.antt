@@ -48,7 +48,7 @@ get-some [] file e h = absurd (true≢false (sym (ap is_some h)))
 get-some (m ∷ makers) zero e h = omega arith
 get-some (m ∷ makers) (suc file) e h = let rest : file < length makers = get-some makers file e h in omega arith
 
-first-below : {E : Type 0} (test : E → Bool) (es : List E) (n : ℕ) → first_edge test es ≡ Some n → n < length es
+pub first-below : {E : Type 0} (test : E → Bool) (es : List E) (n : ℕ) → first_edge test es ≡ Some n → n < length es
 first-below test [] n h = absurd (true≢false (sym (ap is_some h)))
 first-below test (e ∷ es) n h = by (test e) (first_edge test es) (first-below test es) h
   where

@@ -1,7 +1,9 @@
+pub mod AddLemmas
 pub mod EdgeLemmas
 pub mod FileLemmas
 pub mod FlatLemmas
 pub mod FlatRows
 pub mod GraphLemmas
 pub mod ListLemmas
+pub mod NamedLemmas
 pub mod RootLemmas

@@ -27,7 +27,7 @@ flags-roots count outputs inputs flags are numbers = filter-same (λ file. not (
 
 -- ---- by paths
 
-among-flat : (part : EdgePaths → List (List ℕ)) (path : List ℕ) (edges : List EdgePaths) → is_among (flat_map part edges) path ≡ list_any (λ e. is_among (part e) path) edges
+pub among-flat : (part : EdgePaths → List (List ℕ)) (path : List ℕ) (edges : List EdgePaths) → is_among (flat_map part edges) path ≡ list_any (λ e. is_among (part e) path) edges
 among-flat part path [] = refl
 among-flat part path (e ∷ edges) = list_any-append (bytes_eq path) (part e) (flat_map part edges) ∙ ap (λ b. is_among (part e) path || b) (among-flat part path edges)
 

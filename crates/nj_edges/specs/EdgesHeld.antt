@@ -1,12 +1,12 @@
 -- How the edges of a graph are held: by the numbers of files.
-use Rattle.std.specs.Prelude.{◌≡◌, ℕ, ◌<◌, ◌≤◌, ◌-◌, ◌==◌, ◌||◌, Bool, Option, Some, is_some, List, [], ◌∷◌, ◌++◌, map, length, take, drop, slice_get, slice_range, bytes_eq}
+use Rattle.std.specs.Prelude.{◌≡◌, ℕ, ◌<◌, ◌≤◌, ◌-◌, ◌==◌, ◌||◌, if◌then◌else◌, Bool, true, false, Option, None, Some, is_some, List, [], ◌∷◌, ◌++◌, map, length, take, drop, slice_get, slice_index_or, slice_range, bytes_eq}
 use Rattle.std.specs.List.{list_any, flat_map, AllByRecursion, IsDistinct}
 use Rattle.nj_edges.specs.declared.files.FileNo.{FileNo}
 use Rattle.nj_edges.specs.declared.edges.Span.{Span}
 use Rattle.nj_edges.specs.declared.edges.EdgeRow.{EdgeRow}
 use Rattle.nj_edges.specs.declared.edges.KindEnds.{KindEnds}
 use Rattle.nj_edges.specs.declared.edges.OpenStarts.{OpenStarts}
-use Rattle.nj_edges.specs.Edges.{EdgePaths, first_edge, maker_of, is_among}
+use Rattle.nj_edges.specs.Edges.{EdgePaths, first_edge, maker_of, is_among, is_named}
 use Rattle.nj_edges.specs.Files.{with_path, path_at}
 
 -- ---- the edges, and the one that is being read
@@ -50,6 +50,11 @@ with_validation t path = plus_validation (naming t path) path
 -- whether an edge makes the file, the one that is being read among them
 abbrev pub is_made : EdgeTable → (path : List ℕ) → Bool
 is_made t path = is_some (maker_of t.edges path) || is_among t.«open».outputs path
+
+-- whether an edge names the file, the one that is being read among them
+abbrev pub is_named_so_far : EdgeTable → (path : List ℕ) → Bool
+is_named_so_far t path =
+    is_named t.edges path || (is_among t.«open».outputs path || is_among t.«open».inputs path || is_among t.«open».validations path)
 
 -- the edge that was read, whose kinds end so
 abbrev pub edge_read : OpenEdge → KindEnds → Bool → EdgePaths
@@ -140,6 +145,18 @@ output_rows outputs open_outputs rows = map (λ row. within outputs row.outputs)
 abbrev pub HoldMakers : (output_rows : List (List FileNo)) → (makers : List (Option ℕ)) → Type 0
 HoldMakers rows makers = (n : ℕ) → n < length makers → slice_get makers n ≡ Some (first_edge (has_number n) rows)
 
+-- the makers of the files with one that is named: a new file has none
+abbrev pub with_maker : (files : List (List ℕ)) → (path : List ℕ) → (makers : List (Option ℕ)) → List (Option ℕ)
+with_maker files path makers = if list_any (bytes_eq path) files then makers else makers ++ None ∷ []
+
+abbrev pub is_edge : Option ℕ → (edge : ℕ) → Bool
+is_edge None edge = false
+is_edge (Some maker) edge = maker == edge
+
+-- whether an edge is the maker of a file
+abbrev pub is_made_by : (makers : List (Option ℕ)) → (file edge : ℕ) → Bool
+is_made_by makers file edge = is_edge (slice_index_or makers file None) edge
+
 pub record EdgesAreHeld (files : List (List ℕ)) (makers : List (Option ℕ)) (outputs inputs validations : List FileNo) (rows : List EdgeRow) (starts : OpenStarts) : Type 0 where
   pub distinct : IsDistinct bytes_eq files
   pub makers_count : length makers ≡ length files
@@ -154,3 +171,17 @@ pub record EdgesAreHeld (files : List (List ℕ)) (makers : List (Option ℕ)) (
   pub outputs_start : starts.outputs ≤ length outputs
   pub inputs_start : starts.inputs ≤ length inputs
   pub validations_start : starts.validations ≤ length validations
+
+-- no other edge makes an output of the edge that is being read
+abbrev pub OpenAreNew : (outputs : List FileNo) → (open_outputs : ℕ) → List EdgeRow → Type 0
+OpenAreNew outputs open_outputs rows =
+    (n : ℕ) → has_number n (drop open_outputs outputs) ≡ true → first_edge (has_number n) (map (λ row. within outputs row.outputs) rows) ≡ None
+
+-- an edge names each file
+abbrev pub AreNamed : (count : ℕ) → (outputs inputs validations : List FileNo) → Type 0
+AreNamed count outputs inputs validations = (n : ℕ) → n < count → (has_number n outputs || has_number n inputs || has_number n validations) ≡ true
+
+pub record TableIsHeld (files : List (List ℕ)) (makers : List (Option ℕ)) (outputs inputs validations : List FileNo) (rows : List EdgeRow) (starts : OpenStarts) : Type 0 where
+  pub edges_are : EdgesAreHeld files makers outputs inputs validations rows starts
+  pub open_are_new : OpenAreNew outputs starts.outputs rows
+  pub named : AreNamed (length files) outputs inputs validations

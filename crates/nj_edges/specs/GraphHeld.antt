@@ -5,7 +5,7 @@ use Rattle.nj_edges.specs.declared.files.FileNo.{FileNo}
 use Rattle.nj_edges.specs.declared.edges.EdgeRow.{EdgeRow}
 use Rattle.nj_edges.specs.declared.edges.OpenStarts.{OpenStarts}
 use Rattle.nj_edges.specs.Edges.{roots_of}
-use Rattle.nj_edges.specs.EdgesHeld.{EdgesAreHeld, edges_of}
+use Rattle.nj_edges.specs.EdgesHeld.{EdgesAreHeld, AreNamed, edges_of}
 use Rattle.nj_edges.specs.Files.{AreFiles}
 use Rattle.nj_edges.specs.Needs.{makers_of_inputs}
 
@@ -15,5 +15,6 @@ ends_of outputs inputs validations = record { outputs = length outputs; inputs =
 
 pub record GraphIsHeld (files : List (List ℕ)) (makers : List (Option ℕ)) (outputs inputs validations : List FileNo) (rows : List EdgeRow) (roots : List FileNo) : Type 0 where
   pub edges_are : EdgesAreHeld files makers outputs inputs validations rows (ends_of outputs inputs validations)
+  pub named : AreNamed (length files) outputs inputs validations
   pub acyclic : IsAcyclic (makers_of_inputs (edges_of files outputs inputs validations rows)) (length rows)
   pub roots_are : AreFiles files roots (roots_of (edges_of files outputs inputs validations rows))

@@ -1,9 +1,13 @@
 //! Edges, which are build statements with the files that they name.
 
-ghost use Rattle.std.specs.Prelude.{◌≡◌, [], ◌∷◌, ◌++◌, Some, Ok, true, not, slice_get, length, IfOk, OnOk, OnErr};
-ghost use Rattle.nj_edges.specs.EdgesHeld.{no_files, EndWithin, naming, with_output, with_input, with_validation, is_made, edge_read, row_between};
+ghost use Rattle.std.specs.Prelude.{◌≡◌, ℕ, ◌<◌, List, [], ◌∷◌, ◌++◌, Some, not, if◌then◌else◌, option_map, position, slice_get, slice_index_or, is_some, length, bytes_eq, IfOk, OnOk, OnErr};
+ghost use Rattle.std.specs.List.{IsDistinct, list_any};
+ghost use Rattle.nj_edges.specs.Edges.{is_among, is_named};
+ghost use Rattle.nj_edges.specs.Files.{AreFiles, with_path};
+ghost use Rattle.nj_edges.specs.EdgesHeld.{no_files, EndWithin, with_output, with_input, with_validation, is_made, is_named_so_far, edge_read, row_between, with_maker, has_number, is_made_by};
 
 use crate::files::{FileNo, Files};
+use crate::lists::after;
 use nj_hash::HashKeys;
 use std::alloc::{AllocError, Global};
 use std::marker::Model;
@@ -70,14 +74,14 @@ pub struct Edges {
 }
 
 impl Model for Edges {
-    ghost use Rattle.nj_edges.specs.EdgesHeld.{EdgeTable, EdgesAreHeld, table_of};
+    ghost use Rattle.nj_edges.specs.EdgesHeld.{EdgeTable, TableIsHeld, table_of};
 
     ghost Value = { EdgeTable };
 
     ghost view = { λ e. table_of e.files e.outputs.items e.inputs.items e.validations.items
         e.rows.items e.starts };
 
-    ghost invariant = { λ e. EdgesAreHeld e.files e.makers.items e.outputs.items e.inputs.items
+    ghost invariant = { λ e. TableIsHeld e.files e.makers.items e.outputs.items e.inputs.items
         e.validations.items e.rows.items e.starts };
 }
 
@@ -101,51 +105,113 @@ impl Edges {
         }
     }
 
-    // The number of the file at this path, which is named from now on.
-    fn name(&mut self, path: &[u8]) -> Result<FileNo, AllocError>
-        ensures named { OnOk result (self.new ≡ naming self.old path.now) }
-        ensures number { IfOk result (λ file. slice_get self.new.files file.0 ≡ Some path.now) }
-        ensures refused { OnErr result (self.new ≡ self.old) }
-    {
-        self.makers.reserve(1)?;
-        let file = self.files.name(path)?;
-        if file.0 == self.makers.as_slice().len() {
-            self.makers.push_reserved(None);
-        }
-        Ok(file)
-    }
-
-    /// Appends an output to the edge that is being read. Returns `false` if the file has a maker;
-    /// the edges must not be used again then.
+    /// Appends an output to the edge that is being read. Returns `false`, and changes nothing, if the
+    /// file has a maker already.
     pub fn add_output(&mut self, path: &[u8]) -> Result<bool, AllocError>
         ensures is_new { IfOk result (λ is_new. is_new ≡ not (is_made self.old path.now)) }
-        ensures added { result ≡ Ok true → self.new ≡ with_output self.old path.now }
+        ensures added { IfOk result (λ is_new.
+            self.new ≡ (if is_new then with_output self.old path.now else self.old)) }
+        ensures refused { OnErr result (self.new ≡ self.old) }
     {
-        let file = self.name(path)?;
+        self.outputs.reserve(1)?;
+        let file = name(&mut self.files, &mut self.makers, path)?;
         if self.makers[file.0].is_some() {
             return Ok(false);
         }
-        self.outputs.push(file)?;
         self.makers[file.0] = Some(self.rows.as_slice().len());
+        self.outputs.push_reserved(file);
         Ok(true)
     }
 
     /// Appends an input to the edge that is being read.
     pub fn add_input(&mut self, path: &[u8]) -> Result<(), AllocError>
-        ensures { OnOk result (self.new ≡ with_input self.old path.now) }
+        ensures added { OnOk result (self.new ≡ with_input self.old path.now) }
+        ensures refused { OnErr result (self.new ≡ self.old) }
     {
-        let file = self.name(path)?;
-        self.inputs.push(file)?;
+        self.inputs.reserve(1)?;
+        let file = name(&mut self.files, &mut self.makers, path)?;
+        self.inputs.push_reserved(file);
+        Ok(())
+    }
+
+    /// Appends an input to the edge that is being read, unless that edge makes the file itself.
+    pub fn add_input_of_another(&mut self, path: &[u8]) -> Result<(), AllocError>
+        ensures added { OnOk result (self.new
+            ≡ (if is_among self.old.«open».outputs path.now then self.old
+            else with_input self.old path.now)) }
+        ensures refused { OnErr result (self.new ≡ self.old) }
+    {
+        self.inputs.reserve(1)?;
+        let file = name(&mut self.files, &mut self.makers, path)?;
+        if is_made_by(&self.makers, file, self.rows.as_slice().len()) {
+            return Ok(());
+        }
+        self.inputs.push_reserved(file);
         Ok(())
     }
 
     /// Appends a validation to the edge that is being read.
     pub fn add_validation(&mut self, path: &[u8]) -> Result<(), AllocError>
-        ensures { OnOk result (self.new ≡ with_validation self.old path.now) }
+        ensures added { OnOk result (self.new ≡ with_validation self.old path.now) }
+        ensures refused { OnErr result (self.new ≡ self.old) }
     {
-        let file = self.name(path)?;
-        self.validations.push(file)?;
+        self.validations.reserve(1)?;
+        let file = name(&mut self.files, &mut self.makers, path)?;
+        self.validations.push_reserved(file);
         Ok(())
+    }
+
+    /// The number of the file at this path; `None` if no edge names it.
+    pub fn file_named(&self, path: &[u8]) -> Option<FileNo>
+        ensures index { option_map (λ file. file.0) result
+            ≡ position (bytes_eq path.now) self.now.files }
+        ensures known { is_some result ≡ list_any (bytes_eq path.now) self.now.files }
+        ensures named { self.now.«open» ≡ no_files
+            → is_some result ≡ is_named self.now.edges path.now }
+    {
+        self.files.number(path)
+    }
+
+    /// The files that the edges name.
+    pub fn files(&self) -> &Files
+        ensures files { result.now ≡ self.now.files }
+        ensures each_path_once { IsDistinct bytes_eq self.now.files }
+        ensures named { (path : List ℕ) → list_any (bytes_eq path) self.now.files
+            ≡ is_named_so_far self.now path }
+    {
+        &self.files
+    }
+
+    /// How many edges were read.
+    pub fn edge_count(&self) -> usize
+        ensures { result ≡ length self.now.edges }
+    {
+        self.rows.as_slice().len()
+    }
+
+    /// The outputs that the edge that is being read has so far.
+    pub fn open_output_files(&self) -> &[FileNo]
+        ensures { AreFiles self.now.files result.now self.now.«open».outputs }
+    {
+        after(&self.outputs, self.starts.outputs)
+    }
+
+    /// The inputs that the edge that is being read has so far.
+    pub fn open_input_files(&self) -> &[FileNo]
+        ensures { AreFiles self.now.files result.now self.now.«open».inputs }
+    {
+        after(&self.inputs, self.starts.inputs)
+    }
+
+    /// Whether the edge that is being read has the file at this path as an input so far. Takes time in
+    /// proportion to these inputs.
+    pub fn has_open_input(&self, path: &[u8]) -> bool
+        ensures { result ≡ is_among self.now.«open».inputs path.now }
+    {
+        match self.files.number(path) {
+            Some(file) => has_file(after(&self.inputs, self.starts.inputs), file),
+            None => false,
+        }
     }
 
     /// How many outputs the edge that is being read has so far.
@@ -182,6 +248,52 @@ impl Edges {
         self.starts = ends;
         Ok(())
     }
+}
+
+// The number of the file at this path, which is named from now on. A new file has no maker.
+fn name(
+    files: &mut Files,
+    makers: &mut Vec<Option<usize>>,
+    path: &[u8],
+) -> Result<FileNo, AllocError>
+    requires { length makers.old.items ≡ length files.old }
+    ensures named { OnOk result (files.new ≡ with_path files.old path.now) }
+    ensures each_path_once { OnOk result (IsDistinct bytes_eq files.new) }
+    ensures makers { OnOk result (makers.new.items
+        ≡ with_maker files.old path.now makers.old.items) }
+    ensures number { IfOk result (λ file. slice_get files.new file.0 ≡ Some path.now) }
+    ensures refused { OnErr result (files.new ≡ files.old) }
+    ensures makers_refused { OnErr result (makers.new.items ≡ makers.old.items) }
+{
+    makers.reserve(1)?;
+    let file = files.name(path)?;
+    if file.0 == makers.as_slice().len() {
+        makers.push_reserved(None);
+    }
+    Ok(file)
+}
+
+// Whether this edge makes the file.
+fn is_made_by(makers: &[Option<usize>], file: FileNo, edge: usize) -> bool
+    requires { file.0 < length makers.now }
+    ensures { result ≡ is_made_by makers.now file.0 edge }
+{
+    match makers[file.0] {
+        Some(maker) => maker == edge,
+        None => false,
+    }
+}
+
+// Whether the file is among these.
+fn has_file(files: &[FileNo], file: FileNo) -> bool
+    ensures { result ≡ has_number file.0 files.now }
+{
+    'files: for other in files {
+        if file.0 == other.0 {
+            return true;
+        }
+    }
+    false
 }
 
 // The row of the edge that begins and ends there.

@@ -1,9 +1,9 @@
 //! The graph of all edges of a run.
 
-ghost use Rattle.std.specs.Prelude.{◌≡◌, ℕ, ◌<◌, None, Some, length, slice_index_or, slice_get, option_map, position, bytes_eq, IfOk, OnOk, All, IfSome, if◌then◌else◌, nat_lt};
-ghost use Rattle.std.specs.List.{AllByRecursion, IsDistinct};
+ghost use Rattle.std.specs.Prelude.{◌≡◌, ℕ, List, ◌<◌, None, Some, length, slice_index_or, slice_get, option_map, position, bytes_eq, IfOk, OnOk, All, IfSome, if◌then◌else◌, nat_lt};
+ghost use Rattle.std.specs.List.{AllByRecursion, IsDistinct, list_any};
 ghost use Rattle.nj_order.specs.Cycles.{IsFirstOnCycle, IsAcyclic};
-ghost use Rattle.nj_edges.specs.Edges.{edge_at, outputs_of, inputs_of, kind_at, maker_of, roots_of};
+ghost use Rattle.nj_edges.specs.Edges.{edge_at, outputs_of, inputs_of, kind_at, is_named, maker_of, roots_of};
 ghost use Rattle.nj_edges.specs.EdgesHeld.{IsWithin, within, no_files};
 ghost use Rattle.nj_edges.specs.Files.{path_at, AreFiles};
 ghost use Rattle.nj_edges.specs.FlatInputs.{makers_in_row};
@@ -69,6 +69,8 @@ impl EdgeGraph {
     pub fn file_count(&self) -> usize
         ensures count { result ≡ length self.now.files }
         ensures each_path_once { IsDistinct bytes_eq self.now.files }
+        ensures named { (path : List ℕ) → list_any (bytes_eq path) self.now.files
+            ≡ is_named self.now.edges path }
     {
         self.files.count()
     }

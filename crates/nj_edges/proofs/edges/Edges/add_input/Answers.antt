@@ -1,16 +1,12 @@
-use Rattle.std.proofs.Common.{◌∙◌, ap}
-use Rattle.nj_edges.specs.EdgesHeld.{plus_input}
-use Rattle.nj_edges.proofs.EdgeLemmas.{table-input, held-input, number-named}
-use Rattle.std.proofs.lemmas.Option.{slice_get_within}
+use Rattle.nj_edges.proofs.AddLemmas.{input-held, input-table}
 use Rattle.nj_edges.proofs.edges.Edges.add_input.Goals as goal
 
-pub returns : goal.returns
-returns c =
-    rw c.in_ok-push.ensures.items
-    (table-input _ _ _ _ _ _ _ c.self.invariant c.in_ok-file.file c.args.path.now (number-named _ _ _ c.self.view_is c.in_ok-file.ensures.number)
-    ∙ ap (λ t. plus_input t c.args.path.now) (c.self.view_is ∙ c.in_ok-file.ensures.named))
+pub returns-clause-added : goal.returns-clause-added
+returns-clause-added c =
+    rw (c.push_reserved.ensures.items, c.in_ok-reserve.ensures.items)
+    (input-table _ _ _ _ _ _ _ c.self.invariant c.args.path.now c.name.new.files c.name.new.makers.items c.in_ok-file.file c.in_ok-file.ensures.named c.in_ok-file.ensures.makers c.in_ok-file.ensures.each_path_once c.in_ok-file.ensures.number _ c.self.view_is)
 
 pub invariant_of-self-2 : goal.invariant_of-self-2
 invariant_of-self-2 c =
-    let here = number-named _ _ _ c.self.view_is c.in_ok-file.ensures.number in
-    rw c.in_ok-push.ensures.items (held-input _ _ _ _ _ _ _ c.self.invariant c.in_ok-file.file (slice_get_within c.self.inside.files c.in_ok-file.file.0 c.args.path.now here))
+    rw (c.push_reserved.ensures.items, c.in_ok-reserve.ensures.items)
+    (input-held _ _ _ _ _ _ _ c.self.invariant c.args.path.now c.name.new.files c.name.new.makers.items c.in_ok-file.file c.in_ok-file.ensures.named c.in_ok-file.ensures.makers c.in_ok-file.ensures.each_path_once c.in_ok-file.ensures.number _ c.self.view_is)

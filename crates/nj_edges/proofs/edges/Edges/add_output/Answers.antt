@@ -1,37 +1,34 @@
-use Rattle.std.proofs.Common.{◌∙◌, ◌<◌, ap, sym, subst, not}
-use Rattle.std.proofs.lemmas.Option.{slice_get_within}
-use Rattle.nj_edges.specs.EdgesHeld.{is_made, plus_output}
-use Rattle.nj_edges.proofs.EdgeLemmas.{made-at, number-named, within-makers, unmade, held-output, table-output}
+use Rattle.std.proofs.Common.{◌∙◌, ◌<◌, ap, not, subst, sym}
+use Rattle.nj_edges.proofs.AddLemmas.{made-held, made-is, made-table, output-held, output-table, within-all}
 use Rattle.nj_edges.proofs.edges.Edges.add_output.Goals as goal
 
 pub returns-then-is_some-clause-is_new : goal.returns-then-is_some-clause-is_new
 returns-then-is_some-clause-is_new c =
-    let here = number-named _ _ _ c.self.view_is c.in_ok-file.ensures.number in
-    let made = made-at _ _ _ _ _ _ _ c.self.invariant c.in_ok-file.file.0 c.args.path.now here c.index.result.now c.index.ensures in
-    let before = ap (λ t. is_made t c.args.path.now) (c.self.view_is ∙ c.in_ok-file.ensures.named) in
-    ap not (sym c.if-is_some.true ∙ c.is_some.ensures ∙ made ∙ before)
+    ap not (sym c.if-is_some.true ∙ c.is_some.ensures ∙ made-is _ _ _ _ _ _ _ c.self.invariant c.args.path.now c.name.new.files c.name.new.makers.items c.in_ok-file.file c.in_ok-file.ensures.named c.in_ok-file.ensures.makers c.in_ok-file.ensures.each_path_once c.in_ok-file.ensures.number _ c.self.view_is c.index.result.now c.index.ensures)
+
+pub returns-then-is_some-clause-added : goal.returns-then-is_some-clause-added
+returns-then-is_some-clause-added c =
+    rw c.in_ok-reserve.ensures.items
+    (made-table _ _ _ _ _ _ _ c.self.invariant c.args.path.now c.name.new.files c.name.new.makers.items c.in_ok-file.file c.in_ok-file.ensures.named c.in_ok-file.ensures.makers c.in_ok-file.ensures.each_path_once c.in_ok-file.ensures.number _ c.self.view_is c.index.result.now c.index.ensures (sym c.is_some.ensures ∙ c.if-is_some.true))
+
+pub invariant_of-self-then-is_some : goal.invariant_of-self-then-is_some
+invariant_of-self-then-is_some c =
+    rw c.in_ok-reserve.ensures.items
+    (made-held _ _ _ _ _ _ _ c.self.invariant c.args.path.now c.name.new.files c.name.new.makers.items c.in_ok-file.file c.in_ok-file.ensures.named c.in_ok-file.ensures.makers c.in_ok-file.ensures.each_path_once c.in_ok-file.ensures.number _ c.self.view_is c.index.result.now c.index.ensures (sym c.is_some.ensures ∙ c.if-is_some.true))
 
 pub index_mut-requires : goal.index_mut-requires
-index_mut-requires c =
-    let here = number-named _ _ _ c.self.view_is c.in_ok-file.ensures.number in
-    let below = within-makers _ _ _ _ _ _ _ c.self.invariant c.in_ok-file.file.0 c.args.path.now here in subst (λ n. c.in_ok-file.file.0 < n) (sym c.self.inside.makers.ok.0) below
+index_mut-requires c = subst (λ n. c.in_ok-file.file.0 < n) (sym c.name.new.makers.ok.0) (within-all _ _ _ _ _ _ _ c.self.invariant c.args.path.now c.name.new.files c.name.new.makers.items c.in_ok-file.file c.in_ok-file.ensures.named c.in_ok-file.ensures.makers c.in_ok-file.ensures.each_path_once c.in_ok-file.ensures.number _ c.self.view_is)
 
 pub invariant_of-self-2 : goal.invariant_of-self-2
 invariant_of-self-2 c =
-    let here = number-named _ _ _ c.self.view_is c.in_ok-file.ensures.number in
-    let room = slice_get_within c.self.inside.files c.in_ok-file.file.0 c.args.path.now here in
-    let none = unmade _ _ _ _ _ _ _ c.self.invariant c.in_ok-file.file c.index.result.now room c.index.ensures (sym c.is_some.ensures ∙ c.if-is_some.false) in
-    rw (c.in_ok-push.ensures.items, c.as_slice.ensures.value) (held-output _ _ _ _ _ _ _ c.self.invariant c.in_ok-file.file room none)
+    rw (c.push_reserved.ensures.items, c.in_ok-reserve.ensures.items, c.as_slice.ensures.value)
+    (output-held _ _ _ _ _ _ _ c.self.invariant c.args.path.now c.name.new.files c.name.new.makers.items c.in_ok-file.file c.in_ok-file.ensures.named c.in_ok-file.ensures.makers c.in_ok-file.ensures.each_path_once c.in_ok-file.ensures.number _ c.self.view_is c.index.result.now c.index.ensures (sym c.is_some.ensures ∙ c.if-is_some.false))
 
 pub returns-clause-is_new : goal.returns-clause-is_new
 returns-clause-is_new c =
-    let here = number-named _ _ _ c.self.view_is c.in_ok-file.ensures.number in
-    let made = made-at _ _ _ _ _ _ _ c.self.invariant c.in_ok-file.file.0 c.args.path.now here c.index.result.now c.index.ensures in
-    let before = ap (λ t. is_made t c.args.path.now) (c.self.view_is ∙ c.in_ok-file.ensures.named) in
-    ap not (sym c.if-is_some.false ∙ c.is_some.ensures ∙ made ∙ before)
+    ap not (sym c.if-is_some.false ∙ c.is_some.ensures ∙ made-is _ _ _ _ _ _ _ c.self.invariant c.args.path.now c.name.new.files c.name.new.makers.items c.in_ok-file.file c.in_ok-file.ensures.named c.in_ok-file.ensures.makers c.in_ok-file.ensures.each_path_once c.in_ok-file.ensures.number _ c.self.view_is c.index.result.now c.index.ensures)
 
 pub returns-clause-added : goal.returns-clause-added
-returns-clause-added c = λ is.
-    rw c.in_ok-push.ensures.items
-    (table-output _ _ _ _ _ _ _ c.self.invariant c.in_ok-file.file c.args.path.now (number-named _ _ _ c.self.view_is c.in_ok-file.ensures.number)
-    ∙ ap (λ t. plus_output t c.args.path.now) (c.self.view_is ∙ c.in_ok-file.ensures.named))
+returns-clause-added c =
+    rw (c.push_reserved.ensures.items, c.in_ok-reserve.ensures.items)
+    (output-table _ _ _ _ _ _ _ c.self.invariant c.args.path.now c.name.new.files c.name.new.makers.items c.in_ok-file.file c.in_ok-file.ensures.named c.in_ok-file.ensures.makers c.in_ok-file.ensures.each_path_once c.in_ok-file.ensures.number _ c.self.view_is c.index.result.now c.index.ensures (sym c.is_some.ensures ∙ c.if-is_some.false))

@@ -1,0 +1,11 @@
+use Rattle.std.proofs.Common.{drop, subst}
+use Rattle.nj_edges.specs.Files.{AreFiles}
+use Rattle.nj_edges.specs.EdgesHeld.{EdgeTable}
+use Rattle.nj_edges.proofs.NamedLemmas.{open-files}
+use Rattle.nj_edges.proofs.edges.Edges.open_output_files.Goals as goal
+
+pub returns : goal.returns
+returns c =
+    rw (c.after.ensures, c.deref.ensures.value)
+    (subst (λ (t : EdgeTable). AreFiles t.files (drop c.self.inside.starts.outputs c.self.inside.outputs.items) t.«open».outputs) c.self.view_is
+    (open-files c.self.inside.files c.self.inside.outputs.items c.self.inside.starts.outputs c.self.invariant.edges_are.outputs_are))
