@@ -34,7 +34,7 @@ or-more-3 true b c d h = refl
 or-more-3 false true c d h = refl
 or-more-3 false false c d h = ap (λ t. t || d) h
 
-same-number : (n : ℕ) → (n == n) ≡ true
+pub same-number : (n : ℕ) → (n == n) ≡ true
 same-number n = by (eqb_tells n n)
   where
     by : ((n == n) ≡ true × (n ≡ n)) ⊎ ((n == n) ≡ false × (n ≢ n)) → (n == n) ≡ true

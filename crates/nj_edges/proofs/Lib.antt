@@ -4,6 +4,8 @@ pub mod FileLemmas
 pub mod FlatLemmas
 pub mod FlatRows
 pub mod GraphLemmas
+pub mod GraphUsers
 pub mod ListLemmas
 pub mod NamedLemmas
 pub mod RootLemmas
+pub mod UserLemmas

@@ -7,3 +7,4 @@ pub mod Graph
 pub mod GraphHeld
 pub mod Needs
 pub mod RootsHeld
+pub mod UsersHeld

@@ -1,9 +1,9 @@
 //! The graph of all edges of a run.
 
-ghost use Rattle.std.specs.Prelude.{◌≡◌, ℕ, List, ◌<◌, None, Some, length, slice_index_or, slice_get, option_map, position, bytes_eq, IfOk, OnOk, All, IfSome, if◌then◌else◌, nat_lt};
+ghost use Rattle.std.specs.Prelude.{◌≡◌, ℕ, List, ◌<◌, None, Some, length, slice_index_or, slice_get, option_map, position, bytes_eq, map, IfOk, OnOk, All, IfSome, if◌then◌else◌, nat_lt};
 ghost use Rattle.std.specs.List.{AllByRecursion, IsDistinct, list_any};
 ghost use Rattle.nj_order.specs.Cycles.{IsFirstOnCycle, IsAcyclic};
-ghost use Rattle.nj_edges.specs.Edges.{edge_at, outputs_of, inputs_of, kind_at, is_named, maker_of, roots_of};
+ghost use Rattle.nj_edges.specs.Edges.{edge_at, outputs_of, inputs_of, kind_at, is_named, maker_of, roots_of, users_of, validation_users_of};
 ghost use Rattle.nj_edges.specs.EdgesHeld.{IsWithin, within, no_files};
 ghost use Rattle.nj_edges.specs.Files.{path_at, AreFiles};
 ghost use Rattle.nj_edges.specs.FlatInputs.{makers_in_row};
@@ -15,6 +15,7 @@ use crate::files::{FileNo, Files};
 use crate::flat::flat_inputs;
 use crate::lists::part;
 use crate::roots::roots;
+use crate::users::{RowPart, Users, users_at, users_of_files};
 use nj_order::{EdgeInputs, first_on_cycle};
 use std::alloc::{AllocError, Global};
 use std::marker::Model;
@@ -29,6 +30,8 @@ pub struct EdgeGraph {
     validations: Vec<FileNo>,
     rows: Vec<EdgeRow>,
     roots: Vec<FileNo>,
+    users: Users,
+    validation_users: Users,
 }
 
 impl Model for EdgeGraph {
@@ -44,7 +47,7 @@ impl Model for EdgeGraph {
     } };
 
     ghost invariant = { λ g. GraphIsHeld g.files g.makers.items g.outputs.items g.inputs.items
-        g.validations.items g.rows.items g.roots.items };
+        g.validations.items g.rows.items g.roots.items g.users g.validation_users };
 }
 
 /// What all edges of a run come to.
@@ -143,6 +146,30 @@ impl EdgeGraph {
         self.roots.as_slice()
     }
 
+    /// The edges that have this file as an input, by number, each once.
+    pub fn users(&self, file: FileNo) -> &[EdgeNo]
+        requires { file.0 < length self.now.files }
+        ensures users { map (λ edge. edge.0) result.now
+            ≡ users_of self.now.edges (path_at self.now.files file) }
+        ensures known { All (λ edge. edge.0 < length self.now.edges) result.now }
+    {
+        users_at(&self.users.spans, &self.users.edges, file)
+    }
+
+    /// The edges that name this file as a validation, by number, each once.
+    pub fn validation_users(&self, file: FileNo) -> &[EdgeNo]
+        requires { file.0 < length self.now.files }
+        ensures users { map (λ edge. edge.0) result.now
+            ≡ validation_users_of self.now.edges (path_at self.now.files file) }
+        ensures known { All (λ edge. edge.0 < length self.now.edges) result.now }
+    {
+        users_at(
+            &self.validation_users.spans,
+            &self.validation_users.edges,
+            file,
+        )
+    }
+
     /// How many outputs of an edge are explicit.
     pub fn explicit_outputs(&self, edge: EdgeNo) -> usize
         requires { edge.0 < length self.now.edges }
@@ -169,7 +196,7 @@ impl EdgeGraph {
 }
 
 // The row of an edge.
-fn row_at(rows: &[EdgeRow], edge: usize) -> EdgeRow
+pub(crate) fn row_at(rows: &[EdgeRow], edge: usize) -> EdgeRow
     requires { edge < length rows.now }
     ensures { slice_get rows.now edge ≡ Some result }
 {
@@ -210,7 +237,16 @@ impl Edges {
         if let Some(edge) = least_on_cycle(alloc, &inputs, &rows, &makers)? {
             return Ok(Finished::Cycle(EdgeNo(edge)));
         }
-        let roots = roots(alloc, files.count(), &outputs, &inputs)?;
+        let count = files.count();
+        let roots = roots(alloc, count, &outputs, &inputs)?;
+        let users = users_of_files(alloc, count, &inputs, &rows, RowPart::Inputs)?;
+        let validation_users = users_of_files(
+            alloc,
+            count,
+            &validations,
+            &rows,
+            RowPart::Validations,
+        )?;
         Ok(Finished::Graph(EdgeGraph {
             files,
             makers,
@@ -219,6 +255,8 @@ impl Edges {
             validations,
             rows,
             roots,
+            users,
+            validation_users,
         }))
     }
 }
@@ -291,6 +329,62 @@ mod tests {
         edges.add_validation(b"a")?;
         end(&mut edges, 0)?;
         assert_eq!(rt; cycle_of(rt.alloc(), edges)?, None);
+        Ok(())
+    }
+    // The numbers of these edges.
+    fn numbers(alloc: Global, edges: &[EdgeNo]) -> Result<Vec<usize>, AllocError> {
+        let mut numbers = Vec::new(alloc);
+        'edges: for edge in edges {
+            numbers.push(edge.0)?;
+        }
+        Ok(numbers)
+    }
+
+    #[test]
+    fn own_outputs_are_no_inputs(rt: HostRuntime) -> Result<(), Fail> {
+        let mut edges = Edges::new(rt.alloc(), HashKeys::new(7));
+        assert!(rt; edges.add_output(b"a")?);
+        edges.add_input_of_another(b"a")?;
+        edges.add_input_of_another(b"b")?;
+        assert!(rt; edges.has_open_input(b"b") && !edges.has_open_input(b"a"));
+        assert_eq!(rt; edges.open_output_files().len(), 1);
+        assert_eq!(rt; edges.open_input_files().len(), 1);
+        end(&mut edges, 1)?;
+        assert!(rt; !edges.add_output(b"a")?);
+        assert_eq!(rt; edges.edge_count(), 1);
+        assert_eq!(rt; edges.files().count(), 2);
+        assert!(rt; edges.file_named(b"b").is_some() && edges.file_named(b"c").is_none());
+        Ok(())
+    }
+
+    #[test]
+    fn users_are_in_order(rt: HostRuntime) -> Result<(), Fail> {
+        let alloc = rt.alloc();
+        let mut edges = Edges::new(alloc, HashKeys::default());
+        let outputs: [&[u8]; 3] = [b"a", b"b", b"c"];
+        'outputs: for output in &outputs {
+            edges.add_output(output)?;
+            edges.add_input(b"s")?;
+            edges.add_input(b"s")?;
+            edges.add_validation(b"v")?;
+            end(&mut edges, 1)?;
+        }
+        let Finished::Graph(graph) = edges.finish(alloc)? else {
+            return Err(Fail::from("the edges have no cycle"));
+        };
+        let Some(source) = graph.file_named(b"s") else {
+            return Err(Fail::from("an edge names the file"));
+        };
+        let Some(validation) = graph.file_named(b"v") else {
+            return Err(Fail::from("an edge names the file"));
+        };
+        assert_eq!(rt;
+            numbers(alloc, graph.users(source))?.as_slice(),
+            [0, 1, 2].as_slice()
+        );
+        assert!(rt; graph.validation_users(source).is_empty());
+        let validated = numbers(alloc, graph.validation_users(validation))?;
+        assert_eq!(rt; validated.as_slice(), [0, 1, 2].as_slice());
         Ok(())
     }
 }

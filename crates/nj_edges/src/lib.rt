@@ -7,6 +7,7 @@ mod flat;
 mod graph;
 mod lists;
 mod roots;
+mod users;
 
 pub use edges::{EdgeNo, Edges, InputKind, KindEnds};
 pub use files::{FileNo, Files};

@@ -1,7 +1,9 @@
 use Rattle.std.proofs.Common.{Some, None, ap}
+use Rattle.nj_edges.specs.declared.users.RowPart.TheVariants.{Inputs, Validations}
 use Rattle.nj_edges.specs.EdgeGraphs.{EdgeGraph}
 use Rattle.nj_edges.specs.EdgesHeld.{EdgeTable}
 use Rattle.nj_edges.proofs.GraphLemmas.{held-whole, maker-below, first-paths, first-table, same-first, on-edge}
+use Rattle.nj_edges.proofs.GraphUsers.{held-users}
 use Rattle.nj_edges.proofs.RootLemmas.{roots-held}
 use Rattle.nj_edges.proofs.edges.Edges.finish.Goals as goal
 
@@ -19,6 +21,8 @@ invariant_of-result c =
       named = c.self.invariant.named;
       acyclic = first-paths _ _ _ _ _ _ held None found;
       roots_are = roots-held _ _ _ _ _ _ held c.in_ok-roots.roots.items _ _ c.deref-4.ensures.value c.deref-5.ensures.value c.in_ok-roots.ensures;
+      users_are = held-users _ _ _ _ Inputs _ _ _ _ c.count-count.ensures.count c.deref-6.ensures.value c.deref-7.ensures.value c.in_ok-users.ensures;
+      validation_users_are = held-users _ _ _ _ Validations _ _ _ _ c.count-count.ensures.count c.deref-8.ensures.value c.deref-9.ensures.value c.in_ok-validation_users.ensures;
     }
 
 pub returns-in-Some : goal.returns-in-Some
