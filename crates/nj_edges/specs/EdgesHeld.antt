@@ -157,7 +157,8 @@ is_edge (Some maker) edge = maker == edge
 abbrev pub is_made_by : (makers : List (Option ℕ)) → (file edge : ℕ) → Bool
 is_made_by makers file edge = is_edge (slice_index_or makers file None) edge
 
-pub record EdgesAreHeld (files : List (List ℕ)) (makers : List (Option ℕ)) (outputs inputs validations : List FileNo) (rows : List EdgeRow) (starts : OpenStarts) : Type 0 where
+pub record EdgesAreHeld (files : List (List ℕ)) (makers : List (Option ℕ)) (outputs inputs validations : List FileNo)
+    (rows : List EdgeRow) (starts : OpenStarts) : Type 0 where
   pub distinct : IsDistinct bytes_eq files
   pub makers_count : length makers ≡ length files
   pub makers_are : HoldMakers (output_rows outputs starts.outputs rows) makers
@@ -175,13 +176,16 @@ pub record EdgesAreHeld (files : List (List ℕ)) (makers : List (Option ℕ)) (
 -- no other edge makes an output of the edge that is being read
 abbrev pub OpenAreNew : (outputs : List FileNo) → (open_outputs : ℕ) → List EdgeRow → Type 0
 OpenAreNew outputs open_outputs rows =
-    (n : ℕ) → has_number n (drop open_outputs outputs) ≡ true → first_edge (has_number n) (map (λ row. within outputs row.outputs) rows) ≡ None
+    (n : ℕ) → has_number n (drop open_outputs outputs) ≡ true
+    → first_edge (has_number n) (map (λ row. within outputs row.outputs) rows) ≡ None
 
 -- an edge names each file
 abbrev pub AreNamed : (count : ℕ) → (outputs inputs validations : List FileNo) → Type 0
-AreNamed count outputs inputs validations = (n : ℕ) → n < count → (has_number n outputs || has_number n inputs || has_number n validations) ≡ true
+AreNamed count outputs inputs validations =
+    (n : ℕ) → n < count → (has_number n outputs || has_number n inputs || has_number n validations) ≡ true
 
-pub record TableIsHeld (files : List (List ℕ)) (makers : List (Option ℕ)) (outputs inputs validations : List FileNo) (rows : List EdgeRow) (starts : OpenStarts) : Type 0 where
+pub record TableIsHeld (files : List (List ℕ)) (makers : List (Option ℕ)) (outputs inputs validations : List FileNo)
+    (rows : List EdgeRow) (starts : OpenStarts) : Type 0 where
   pub edges_are : EdgesAreHeld files makers outputs inputs validations rows starts
   pub open_are_new : OpenAreNew outputs starts.outputs rows
   pub named : AreNamed (length files) outputs inputs validations

@@ -16,11 +16,12 @@ use Rattle.nj_edges.specs.UsersHeld.{HoldUsers, numbers_of, using_edges}
 abbrev pub ends_of : (outputs inputs validations : List FileNo) → OpenStarts
 ends_of outputs inputs validations = record { outputs = length outputs; inputs = length inputs; validations = length validations }
 
-pub record GraphIsHeld (files : List (List ℕ)) (makers : List (Option ℕ)) (outputs inputs validations : List FileNo) (rows : List EdgeRow) (roots : List FileNo)
-    (users validation_users : Users) : Type 0 where
+pub record GraphIsHeld (files : List (List ℕ)) (makers : List (Option ℕ)) (outputs inputs validations : List FileNo)
+    (rows : List EdgeRow) (roots : List FileNo) (users validation_users : Users) : Type 0 where
   pub edges_are : EdgesAreHeld files makers outputs inputs validations rows (ends_of outputs inputs validations)
   pub named : AreNamed (length files) outputs inputs validations
   pub acyclic : IsAcyclic (makers_of_inputs (edges_of files outputs inputs validations rows)) (length rows)
   pub roots_are : AreFiles files roots (roots_of (edges_of files outputs inputs validations rows))
   pub users_are : HoldUsers (length files) users.spans.items (numbers_of users.edges.items) (using_edges inputs Inputs 0 rows)
-  pub validation_users_are : HoldUsers (length files) validation_users.spans.items (numbers_of validation_users.edges.items) (using_edges validations Validations 0 rows)
+  pub validation_users_are : HoldUsers (length files) validation_users.spans.items (numbers_of validation_users.edges.items)
+      (using_edges validations Validations 0 rows)

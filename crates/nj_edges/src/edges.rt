@@ -105,8 +105,8 @@ impl Edges {
         }
     }
 
-    /// Appends an output to the edge that is being read. Returns `false`, and changes nothing, if the
-    /// file has a maker already.
+    /// Appends an output to the edge that is being read. Returns `false`, and changes nothing, if
+    /// the file has a maker already.
     pub fn add_output(&mut self, path: &[u8]) -> Result<bool, AllocError>
         ensures is_new { IfOk result (λ is_new. is_new ≡ not (is_made self.old path.now)) }
         ensures added { IfOk result (λ is_new.
@@ -161,7 +161,7 @@ impl Edges {
         Ok(())
     }
 
-    /// The number of the file at this path; `None` if no edge names it.
+    /// The number of the file at this path, which must be clean; `None` if no edge names it.
     pub fn file_named(&self, path: &[u8]) -> Option<FileNo>
         ensures index { option_map (λ file. file.0) result
             ≡ position (bytes_eq path.now) self.now.files }
@@ -203,8 +203,8 @@ impl Edges {
         after(&self.inputs, self.starts.inputs)
     }
 
-    /// Whether the edge that is being read has the file at this path as an input so far. Takes time in
-    /// proportion to these inputs.
+    /// Whether the edge that is being read has the file at this path as an input so far. Takes time
+    /// in proportion to these inputs.
     pub fn has_open_input(&self, path: &[u8]) -> bool
         ensures { result ≡ is_among self.now.«open».inputs path.now }
     {

@@ -78,8 +78,8 @@ fn span_at(spans: &[Span], file: usize) -> Span
     spans[file]
 }
 
-// The uses of the files, linked. Edges are taken from the last one on, so that links lead to edges of
-// higher numbers.
+// The uses of the files, linked. Edges are taken from the last one on, so that links lead to edges
+// of higher numbers.
 fn linked_uses(
     alloc: Global,
     file_count: usize,
@@ -95,7 +95,7 @@ fn linked_uses(
         (using_edges files.now row_part 0 rows.now)) }
 {
     let mut first = vec![in alloc; 0; file_count]?;
-    let mut links = Vec::new(alloc);
+    let mut links = Vec::with_capacity(alloc, files.len())?;
     let mut edge = rows.len();
     'rows: while edge > 0 {
         edge -= 1;
