@@ -1,0 +1,10 @@
+//! The values that the blocks of build statements bind.
+#![tactic(auto)]
+
+mod blocks;
+mod bounds;
+
+pub use blocks::Blocks;
+
+#[cfg(test)]
+mod tests;
