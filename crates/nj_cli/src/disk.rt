@@ -1,6 +1,6 @@
 //! The files of the working folder.
 
-ghost use Rattle.std.specs.Prelude.{◌≡◌, ◌+◌, ◌<◌, ◌≤◌, ◌↔◌, [], Some, Ok, Err, option_copied, vec_len, length, take, drop, IfOk, OnOk, IsTrue};
+ghost use Rattle.std.specs.Prelude.{◌≡◌, ◌+◌, ◌<◌, ◌≤◌, ◌↔◌, [], Some, Ok, Err, option_copied, vec_len, vec_capacity, length, take, drop, IfOk, OnOk, IsTrue};
 ghost use Rattle.std.specs.Io.KnownBytes.{Consumes, IsAtEnd};
 
 use nj_scope::{FileSource, HashKeys, SourceFault};
@@ -17,8 +17,11 @@ const MOST_BYTES: usize = 1_073_741_824;
 /// The greatest number of reads that are made of a file: one for each byte, and one at the end.
 const MOST_READS: u32 = 1_073_741_825;
 
-/// The room that is made where the size of a file is not known.
-const FIRST_ROOM: usize = 16_384;
+/// The room that is made for a file beyond the size that it stated.
+const MORE_ROOM: usize = 16_384;
+
+/// How many bytes are read at most where the room is full: most files end there.
+const BEYOND: usize = 64;
 
 /// How many bytes are made ready for one read at most: few enough to be still in the processor's
 /// cache when the read fills them.
@@ -146,7 +149,7 @@ fn read_whole<R: Read>(alloc: Global, reader: &mut R, stated: u64) -> Result<Vec
     Err(SourceFault::Io)
 }
 
-/// Room for as many bytes as a file says it has, and for one more, at which its end is found.
+/// Room for as many bytes as a file says it has.
 fn room_for(alloc: Global, stated: u64) -> Result<Vec<u8>, SourceFault>
     ensures empty { IfOk result (λ bytes. bytes.items ≡ []) }
     ensures too_large { MOST_BYTES < stated → result ≡ Err SourceFault.Io }
@@ -155,11 +158,7 @@ fn room_for(alloc: Global, stated: u64) -> Result<Vec<u8>, SourceFault>
         Ok(size) if size <= MOST_BYTES => size,
         _ => return Err(SourceFault::Io),
     };
-    let mut bytes = Vec::new(alloc);
-    if size > 0 {
-        bytes.reserve_exact(size + 1)?;
-    }
-    Ok(bytes)
+    Ok(Vec::with_capacity(alloc, size)?)
 }
 
 /// Reads once, after the bytes that are filled, and returns how many more are now; 0 is the end.
@@ -177,20 +176,38 @@ fn read_piece<R: Read>(
     ensures end { result ≡ Ok 0 → IsAtEnd (R.remaining reader.new) }
 {
     if filled == bytes.len() {
+        if filled == bytes.capacity() {
+            return read_beyond(reader, bytes);
+        }
         lengthen(bytes)?;
     }
     read_at(reader, bytes.as_mut_slice(), filled)
 }
 
-/// Makes the bytes longer, by zeros, into the room that is left, and makes room first if none is.
+/// Reads once where the room is full. More room is made only if there is more to read, so that a
+/// file of the size that it stated stands in room of just that size.
+fn read_beyond<R: Read>(reader: &mut R, bytes: &mut Vec<u8>) -> Result<usize, SourceFault>
+    ensures front { OnOk result (take (vec_len bytes.old) bytes.new.items ≡ bytes.old.items) }
+    ensures fits { IfOk result (λ count. vec_len bytes.old + count ≡ vec_len bytes.new) }
+    ensures piece { OnOk result (Consumes (R.remaining reader.old)
+        (R.remaining reader.new) (drop (vec_len bytes.old) bytes.new.items)) }
+    ensures end { result ≡ Ok 0 → IsAtEnd (R.remaining reader.new) }
+{
+    let mut beyond = [0; BEYOND];
+    let count = read_at(reader, &mut beyond, 0)?;
+    if count > 0 {
+        bytes.reserve(MORE_ROOM)?;
+    }
+    bytes.extend_from_slice(&beyond[..count])?;
+    Ok(count)
+}
+
+/// Makes the bytes longer, by zeros, into the room that is left.
 fn lengthen(bytes: &mut Vec<u8>) -> Result<(), SourceFault>
-    requires { vec_len bytes.old ≤ MOST_BYTES }
+    requires { vec_len bytes.old < vec_capacity bytes.old }
     ensures front { OnOk result (take (vec_len bytes.old) bytes.new.items ≡ bytes.old.items) }
     ensures longer { OnOk result (vec_len bytes.old < vec_len bytes.new) }
 {
-    if bytes.len() == bytes.capacity() {
-        bytes.reserve(FIRST_ROOM)?;
-    }
     let room = bytes.capacity() - bytes.len();
     bytes.resize(bytes.len() + room.min(PIECE), 0)?;
     Ok(())
