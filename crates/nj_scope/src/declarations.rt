@@ -32,6 +32,8 @@ pub struct Declarations {
     scopes: Scopes,
     rules: Vec<Rule>,
     pools: Pools,
+    // Room in which a value is expanded, before it is kept in as much memory as it needs.
+    room: Vec<u8>,
 }
 
 impl Model for Declarations {
@@ -57,6 +59,7 @@ impl Declarations {
             scopes,
             rules,
             pools: Pools::new(alloc, keys),
+            room: Vec::new(alloc),
         })
     }
 
@@ -77,8 +80,9 @@ impl Declarations {
         ensures refused { OnErr result (Keeps self.old self.new) }
         ensures scopes { SameScopes self.old self.new }
     {
-        let mut value = self.scopes.expand(alloc, scope, value)?;
-        value.shrink_to_fit();
+        self.room.clear();
+        self.scopes.append_expanded(scope, value, &mut self.room)?;
+        let value = Vec::from_slice(alloc, &self.room)?;
         self.scopes.bind(scope, name, value)
     }
 

@@ -1,6 +1,6 @@
 //! The scopes of variables and rules.
 
-ghost use Rattle.std.specs.Prelude.{◌≡◌, ℕ, ◌+◌, ◌<◌, ◌&&◌, ◌==◌, List, Option, Some, None, length, option_copied, IfSome, IfOk, OnOk, OnErr, if◌then◌else◌, bytes_eq};
+ghost use Rattle.std.specs.Prelude.{◌≡◌, ℕ, ◌+◌, ◌<◌, ◌&&◌, ◌==◌, ◌++◌, List, Option, Some, None, length, option_copied, IfSome, IfOk, OnOk, OnErr, if◌then◌else◌, bytes_eq};
 ghost use Rattle.nj_scope.specs.Scopes.{IsScope, nearest, value_in, expanded};
 ghost use Rattle.std.specs.Map.{lookup};
 ghost use Rattle.nj_scope.specs.ScopesHeld.{values_text, parent_at, bound_at, rule_at};
@@ -191,13 +191,29 @@ impl Scopes {
             ≡ expanded (value_in (bound_at self.now) around) (word_text word.now).parts) }
     {
         let mut text = Vec::with_capacity(alloc, written_len(word))?;
+        self.append_expanded(scope, word, &mut text)?;
+        Ok(text)
+    }
+
+    /// Appends to the text what the word says in this scope.
+    pub fn append_expanded(
+        &self,
+        scope: usize,
+        word: &Word<'_>,
+        text: &mut Vec<u8>,
+    ) -> Result<(), AllocError>
+        requires { scope < length self.now }
+        ensures { (around : List ℕ) → IsScope (parent_at self.now) scope around
+            → OnOk result (text.new.items ≡ text.old.items
+            ++ expanded (value_in (bound_at self.now) around) (word_text word.now).parts) }
+    {
         'parts: for part in word.parts.as_slice() {
             match part {
                 Part::Bytes(bytes) => text.extend_from_slice(bytes)?,
                 Part::Name(name) => text.extend_from_slice(self.value(scope, name))?,
             }
         }
-        Ok(text)
+        Ok(())
     }
 }
 

@@ -1,9 +1,0 @@
-use Rattle.std.proofs.Common.{◌≡◌, ℕ, List, take, map}
-use Rattle.nj_text.specs.Words.{part_text}
-use Rattle.nj_scope.specs.Scopes.{IsScope, value_in, expanded}
-use Rattle.nj_scope.specs.ScopesHeld.{parent_at, bound_at}
-use Rattle.nj_scope.proofs.scopes.Scopes.expand.Given as goal
-
-abbrev pub invariant-parts : goal.invariant-parts
-invariant-parts l =
-    (around : List ℕ) → IsScope (parent_at l.self) l.scope around → l.text.items ≡ expanded (value_in (bound_at l.self) around) (map part_text (take l.part-index l.part-items))
