@@ -217,7 +217,8 @@ impl Scopes {
     }
 }
 
-// Sets the value of the name. A name that has one keeps its key.
+// Sets the value of the name. The name is hashed once, for which even a name that has a value, and
+// keeps its key, is copied: most names that files bind are new.
 fn set_value(
     alloc: Global,
     values: &mut IndexMap<Vec<u8>, Vec<u8>, HashKeys>,
@@ -229,10 +230,6 @@ fn set_value(
         then Some value.items else lookup (bytes_eq x) (values_text values.old.entries))) }
     ensures refused { OnErr result (values.new.entries ≡ values.old.entries) }
 {
-    if let Some(held) = values.get_mut(name) {
-        *held = value;
-        return Ok(());
-    }
     let key = Vec::from_slice(alloc, name)?;
     values.insert(key, value)?;
     Ok(())
