@@ -1,10 +1,13 @@
 #!/usr/bin/env python3
-"""Measures how a program's time and memory to load Ninja files grow: load.py PROGRAM [--files N,M] [--bindings N,M]
+"""Measures how a program's time and memory to load Ninja files grow:
+
+    load.py PROGRAM [--files N,M] [--bindings N,M] [--before OLD] [--rounds N]
 
 PROGRAM loads build.ninja of the folder that it runs in, as crates/load_bench does. It loads trees of files and single files,
 as bindings.py writes them, each size beside half of it. In one run, on the same files, it stands beside `ninja -t rules`,
-which loads them and lists the rules. Each is run five times in turn, and the best times count: by the clock, and of the
-processor; of memory the most. The files are made in a temporary folder.
+which loads them and lists the rules, and beside another program of the same kind, which --before names. Each is run five
+times in turn, or N times, and the best times count: by the clock, and of the processor; of memory the most. The files are
+made in a temporary folder.
 """
 
 import argparse
@@ -23,11 +26,13 @@ def check_files(program, folder, files):
         raise SystemExit(f"{program} did not read {files} files")
 
 
-def figures_of(program, folder):
+def figures_of(program, words, folder):
     programs = {"program": [program]}
+    if words.before:
+        programs["before"] = [os.path.abspath(words.before)]
     if shutil.which("ninja"):
         programs["ninja -t rules"] = ["ninja", "-t", "rules"]
-    return {name: best(runs) for name, runs in measure(programs, ROUNDS, folder=folder).items()}
+    return {name: best(runs) for name, runs in measure(programs, words.rounds, folder=folder).items()}
 
 
 def ratio(now, before, place):
@@ -43,9 +48,13 @@ def report(count, size, figures, before):
             f"{count:>8} {size / MB:6.1f} MB  {name:<15} {seconds:7.3f} s {ratio(now, first, 0)} | "
             f"processor {processor:7.3f} s {ratio(now, first, 1)} | memory {memory / MB:7.1f} MB {ratio(now, first, 2)}, {memory / size:5.2f} of the bytes"
         )
+    _, processor, memory = figures["program"]
+    for name, other in figures.items():
+        if name != "program":
+            print(f"{'':>20}  program / {name}: {processor / other[1]:.2f} of the processor time, {memory / other[2]:.2f} of the memory")
 
 
-def series(program, title, write, counts, flags, files_of):
+def series(program, words, title, write, counts, flags, files_of):
     """Loads what `write` makes of each size, with these flags in the bindings; `files_of` tells how many files that are."""
     print(title)
     before = {}
@@ -53,7 +62,7 @@ def series(program, title, write, counts, flags, files_of):
         with tempfile.TemporaryDirectory() as folder:
             size = write(folder, count, flags)
             check_files(program, folder, files_of(count))
-            figures = figures_of(program, folder)
+            figures = figures_of(program, words, folder)
         report(count, size, figures, before)
         before = figures
 
@@ -67,13 +76,15 @@ def main():
     parser.add_argument("program")
     parser.add_argument("--files", type=numbers, default="1000,2000,4000")
     parser.add_argument("--bindings", type=numbers, default="100000,200000,400000")
+    parser.add_argument("--before")
+    parser.add_argument("--rounds", type=int, default=ROUNDS)
     words = parser.parse_args()
     program = os.path.abspath(words.program)
     print(f"load before: {os.getloadavg()[0]:.2f} on {os.cpu_count()} processors")
     for flags, length in ((FLAGS, "long"), ("", "short")):
-        series(program, f"files of 100 {length} bindings", write_tree, words.files, flags, lambda count: count + 1)
-        series(program, f"{length} bindings of one file that refer to near ones", write_near, words.bindings, flags, lambda count: 1)
-        series(program, f"{length} bindings of one file that refer to any before them", write_far, words.bindings, flags, lambda count: 1)
+        series(program, words, f"files of 100 {length} bindings", write_tree, words.files, flags, lambda count: count + 1)
+        series(program, words, f"{length} bindings of one file that refer to near ones", write_near, words.bindings, flags, lambda count: 1)
+        series(program, words, f"{length} bindings of one file that refer to any before them", write_far, words.bindings, flags, lambda count: 1)
     print(f"load after: {os.getloadavg()[0]:.2f}")
 
 

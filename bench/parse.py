@@ -1,10 +1,12 @@
 #!/usr/bin/env python3
-"""Measures how fast a program parses large Ninja files: parse.py PROGRAM [--sizes N,M] [--shapes cmake,dense] [--before OLD]
+"""Measures how fast a program parses large Ninja files:
+
+    parse.py PROGRAM [--sizes N,M] [--shapes cmake,dense] [--before OLD] [--rounds N]
 
 PROGRAM reads a Ninja file on standard input, as crates/parse_bench does. In one run, on the same files, it stands beside
 `wc -l`, which only counts line feeds, and `ninja -t rules`, which reads the file and lists its rules; and beside another
-program of the same kind, which --before names. Each is run three times in turn, and the best times count: by the clock,
-and of the processor. The files are made in a temporary folder, of each shape that manifest.py knows.
+program of the same kind, which --before names. Each is run three times in turn, or N times, and the best times count: by
+the clock, and of the processor. The files are made in a temporary folder, of each shape that manifest.py knows.
 """
 
 import argparse
@@ -41,23 +43,38 @@ def report(shape, count, size, figures):
             print(f"  program / {other}: {seconds / figures[other][0]:.2f} of the time, {processor / figures[other][1]:.2f} of the processor time")
 
 
+def programs_of(program, words, path):
+    programs = {"program": [program], "wc -l": ["wc", "-l"]}
+    if words.before:
+        programs["before"] = [os.path.abspath(words.before)]
+    if shutil.which("ninja"):
+        programs["ninja -t rules"] = ["ninja", "-f", path, "-t", "rules"]
+    return programs
+
+
+def figures_of(paths, program, words):
+    """The figures of the programs on each file. The files are taken in turn, so that each meets the same load."""
+    runs = {count: {} for count in paths}
+    for _ in range(words.rounds):
+        for count, path in paths.items():
+            for name, more in measure(programs_of(program, words, path), 1, stdin=path).items():
+                runs[count].setdefault(name, []).extend(more)
+    return {count: {name: best(all_runs) for name, all_runs in of_file.items()} for count, of_file in runs.items()}
+
+
 def measure_shape(program, words, shape):
-    times = []
     with tempfile.TemporaryDirectory() as folder:
-        for count in map(int, words.sizes.split(",")):
-            path = make(folder, count, shape)
-            programs = {"program": [program], "wc -l": ["wc", "-l"]}
-            if words.before:
-                programs["before"] = [os.path.abspath(words.before)]
-            if shutil.which("ninja"):
-                programs["ninja -t rules"] = ["ninja", "-f", path, "-t", "rules"]
+        paths = {count: make(folder, count, shape) for count in map(int, words.sizes.split(","))}
+        sizes = {count: os.path.getsize(path) for count, path in paths.items()}
+        for count, path in paths.items():
             check_count(program, path, count)
-            figures = {name: best(runs) for name, runs in measure(programs, ROUNDS, stdin=path).items()}
-            report(shape, count, os.path.getsize(path), figures)
-            times.append((count, figures["program"]))
-            os.remove(path)
+        figures = figures_of(paths, program, words)
+    for count in sizes:
+        report(shape, count, sizes[count], figures[count])
+    times = [(count, figures[count]["program"]) for count in sizes]
     for (few, short), (many, long) in zip(times, times[1:]):
-        print(f"program, {many} / {few} statements: {long[0] / short[0]:.1f} of the time, {long[1] / short[1]:.1f} of the processor time")
+        more = f"{many} / {few} statements, {sizes[many] / sizes[few]:.2f} of the bytes"
+        print(f"program, {more}: {long[0] / short[0]:.2f} of the time, {long[1] / short[1]:.2f} of the processor time")
 
 
 def main():
@@ -66,6 +83,7 @@ def main():
     parser.add_argument("--sizes", default="100000,1000000")
     parser.add_argument("--shapes", default="cmake,dense")
     parser.add_argument("--before")
+    parser.add_argument("--rounds", type=int, default=ROUNDS)
     words = parser.parse_args()
     program = os.path.abspath(words.program)
     print(f"load before: {os.getloadavg()[0]:.2f} on {os.cpu_count()} processors")
