@@ -1,0 +1,90 @@
+-- What is added by a build statement.
+use Rattle.std.proofs.Common.{◌≡◌, ℕ, Bool, List, [], ◌∷◌, ◌++◌, length, sym, ap, subst, ◌∙◌}
+use Rattle.nj_manifest.specs.Statements.{OutputsText, InputsText}
+use Rattle.nj_scope.specs.Readings.{IsPrefix}
+use Rattle.nj_edges.specs.EdgesHeld.{EdgeTable, OpenEdge, no_files, edge_read}
+use Rattle.nj_build.specs.EdgeList.{Values, paths_said, stated_paths, loses_own, edge_paths}
+use Rattle.nj_build.specs.Answers.{with_outputs, with_inputs, with_validations, AddsInputs, AddsEdge}
+use Rattle.nj_build.proofs.Tables.{kept, prefix-trans, outputs-edges, outputs-open, outputs-files, inputs-edges, inputs-open, inputs-files, validations-edges, validations-open, validations-files, edge-is, edge-kept}
+
+module _ (values : Values) (outputs : OutputsText) (inputs : InputsText) (is_phony loses : Bool) (t0 t1 t2 : EdgeTable) (ends : ℕ × ℕ)
+    (none : t0.«open» ≡ no_files) (loses_is : loses ≡ loses_own (stated_paths values outputs inputs is_phony))
+    (outputs_are : t1 ≡ with_outputs (with_outputs t0 (paths_said values outputs.explicit)) (paths_said values outputs.implicit))
+    (adds : AddsInputs loses values inputs t1 t2 ends) where
+  abbrev e : List (List ℕ)
+  e = paths_said values outputs.explicit
+
+  abbrev i : List (List ℕ)
+  i = paths_said values outputs.implicit
+
+  abbrev x : List (List ℕ)
+  x = kept loses (e ++ i) (paths_said values inputs.explicit)
+
+  abbrev y : List (List ℕ)
+  y = kept loses (e ++ i) (paths_said values inputs.implicit)
+
+  abbrev z : List (List ℕ)
+  z = kept loses (e ++ i) (paths_said values inputs.order_only)
+
+  abbrev v : List (List ℕ)
+  v = paths_said values inputs.validations
+
+  abbrev last : EdgeTable
+  last = with_inputs loses adds.implicit (paths_said values inputs.order_only)
+
+  open-outputs : t1.«open» ≡ record { outputs = e ++ i; inputs = []; validations = [] }
+  open-outputs =
+      ap (λ (t : EdgeTable). t.«open») outputs_are ∙ outputs-open (with_outputs t0 e) i
+      ∙ ap (λ (o : OpenEdge). record o { outputs = o.outputs ++ i }) (outputs-open t0 e ∙ ap (λ (o : OpenEdge). record o { outputs = o.outputs ++ e }) none)
+
+  open-explicit : adds.explicit.«open» ≡ record { outputs = e ++ i; inputs = x; validations = [] }
+  open-explicit =
+      ap (λ (t : EdgeTable). t.«open») adds.explicit_is ∙ inputs-open loses t1 (paths_said values inputs.explicit)
+      ∙ ap (λ (o : OpenEdge). record o { inputs = o.inputs ++ kept loses o.outputs (paths_said values inputs.explicit) }) open-outputs
+
+  open-implicit : adds.implicit.«open» ≡ record { outputs = e ++ i; inputs = x ++ y; validations = [] }
+  open-implicit =
+      ap (λ (t : EdgeTable). t.«open») adds.implicit_is ∙ inputs-open loses adds.explicit (paths_said values inputs.implicit)
+      ∙ ap (λ (o : OpenEdge). record o { inputs = o.inputs ++ kept loses o.outputs (paths_said values inputs.implicit) }) open-explicit
+
+  open-all : t2.«open» ≡ record { outputs = e ++ i; inputs = x ++ y ++ z; validations = v }
+  open-all =
+      ap (λ (t : EdgeTable). t.«open») adds.after_is ∙ validations-open last v
+      ∙ ap (λ (o : OpenEdge). record o { validations = o.validations ++ v })
+      (inputs-open loses adds.implicit (paths_said values inputs.order_only) ∙ ap (λ (o : OpenEdge). record o { inputs = o.inputs ++ kept loses o.outputs (paths_said values inputs.order_only) }) open-implicit)
+
+  same-edges : t2.edges ≡ t0.edges
+  same-edges =
+      ap (λ t. t.edges) adds.after_is ∙ validations-edges last v ∙ inputs-edges loses adds.implicit (paths_said values inputs.order_only)
+      ∙ ap (λ t. t.edges) adds.implicit_is ∙ inputs-edges loses adds.explicit (paths_said values inputs.implicit)
+      ∙ ap (λ t. t.edges) adds.explicit_is ∙ inputs-edges loses t1 (paths_said values inputs.explicit)
+      ∙ ap (λ t. t.edges) outputs_are ∙ outputs-edges (with_outputs t0 e) i ∙ outputs-edges t0 e
+
+  files-kept : IsPrefix t0.files t2.files
+  files-kept =
+      prefix-trans t0.files t1.files t2.files
+      (subst (λ t. IsPrefix t0.files t.files) (sym outputs_are) (prefix-trans t0.files (with_outputs t0 e).files (with_outputs (with_outputs t0 e) i).files (outputs-files t0 e) (outputs-files (with_outputs t0 e) i)))
+      (prefix-trans t1.files adds.explicit.files t2.files
+      (subst (λ t. IsPrefix t1.files t.files) (sym adds.explicit_is) (inputs-files loses t1 (paths_said values inputs.explicit)))
+      (prefix-trans adds.explicit.files adds.implicit.files t2.files
+      (subst (λ t. IsPrefix adds.explicit.files t.files) (sym adds.implicit_is) (inputs-files loses adds.explicit (paths_said values inputs.implicit)))
+      (subst (λ t. IsPrefix adds.implicit.files t.files) (sym adds.after_is) (prefix-trans adds.implicit.files last.files (with_validations last v).files (inputs-files loses adds.implicit (paths_said values inputs.order_only)) (validations-files last v)))))
+
+  the-edge : (explicit : ℕ) → explicit ≡ length e
+      → edge_read t2.«open» (record { explicit_outputs = explicit; explicit_inputs = ends.0; implicit_inputs = ends.1 }) is_phony ≡ edge_paths (stated_paths values outputs inputs is_phony)
+  the-edge explicit explicit_is =
+      ap (λ o. edge_read o (record { explicit_outputs = explicit; explicit_inputs = ends.0; implicit_inputs = ends.1 }) is_phony) open-all
+      ∙ ap (λ n. edge_read (record { outputs = e ++ i; inputs = x ++ y ++ z; validations = v }) (record { explicit_outputs = n; explicit_inputs = ends.0; implicit_inputs = ends.1 }) is_phony) explicit_is
+      ∙ ap (λ n. edge_read (record { outputs = e ++ i; inputs = x ++ y ++ z; validations = v }) (record { explicit_outputs = length e; explicit_inputs = n; implicit_inputs = ends.1 }) is_phony) (adds.explicit_end ∙ ap (λ o. length o.inputs) open-explicit)
+      ∙ ap (λ n. edge_read (record { outputs = e ++ i; inputs = x ++ y ++ z; validations = v }) (record { explicit_outputs = length e; explicit_inputs = length x; implicit_inputs = n }) is_phony) (adds.implicit_end ∙ ap (λ o. length o.inputs) open-implicit)
+      ∙ edge-is e i x y z v is_phony
+      ∙ edge-kept (stated_paths values outputs inputs is_phony) loses loses_is
+
+  pub adds-edge : (explicit : ℕ) (t3 : EdgeTable) → explicit ≡ length e
+      → t3 ≡ record { files = t2.files; edges = t2.edges ++ edge_read t2.«open» (record { explicit_outputs = explicit; explicit_inputs = ends.0; implicit_inputs = ends.1 }) is_phony ∷ []; «open» = no_files }
+      → AddsEdge t0 t3 (edge_paths (stated_paths values outputs inputs is_phony))
+  adds-edge explicit t3 explicit_is is = record {
+    edges = ap (λ t. t.edges) is ∙ ap (λ es. es ++ edge_read t2.«open» (record { explicit_outputs = explicit; explicit_inputs = ends.0; implicit_inputs = ends.1 }) is_phony ∷ []) same-edges ∙ ap (λ edge. t0.edges ++ edge ∷ []) (the-edge explicit explicit_is);
+    none_open = ap (λ t. t.«open») is;
+    files = subst (λ t. IsPrefix t0.files t.files) (sym is) files-kept;
+  }

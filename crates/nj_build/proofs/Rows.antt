@@ -1,0 +1,124 @@
+-- Worked rows, computed on the definitions: the edges of statements, and what is wrong with them.
+use Rattle.std.proofs.Common.{◌≡◌, ℕ, Some, None, List, [], ◌∷◌, map, refl}
+use Rattle.std.specs.Prelude.{⊤, codes, Option, option_map}
+use Rattle.nj_text.specs.declared.spot.Spot.{Spot}
+use Rattle.nj_text.specs.Words.{PartText, Text, Name, WordText}
+use Rattle.nj_text.specs.Paths.{clean_path_of, without_leftmost_pair}
+use Rattle.nj_manifest.specs.LineSteps.{NameText}
+use Rattle.nj_manifest.specs.Statements.{LineText, OutputsText, InputsText, StatementText, BindingText, RuleText, BuildText, DefaultText}
+use Rattle.nj_scope.specs.ReadingList.{Entry, bounds}
+use Rattle.nj_edges.specs.Edges.{EdgePaths}
+use Rattle.nj_faults.specs.declared.fault.GraphFault.{GraphFault}
+use Rattle.nj_faults.specs.declared.fault.Cause.{Cause}
+use Rattle.nj_faults.specs.declared.fault.Cause.TheVariants.{EmptyPath, UnknownRule, TwoMakers, UnknownTarget}
+use Rattle.nj_faults.specs.Faults.{fault_at}
+use Rattle.nj_build.specs.EdgeList.{EdgeText, edges_read, defaults_read}
+use Rattle.nj_build.specs.BuildFaults.{build_fault, default_fault}
+
+-- ---- statements of a main file
+
+abbrev at : (column : ℕ) → Spot
+at column = record { line = 1; column = column }
+
+abbrev word : (column : ℕ) → PartText → WordText
+word column part = record { spot = at column; parts = part ∷ [] }
+
+abbrev path : (text : List ℕ) → WordText
+path text = word 7 (Text text)
+
+abbrev to : List WordText → OutputsText
+to words = record { explicit = words; implicit = [] }
+
+abbrev no_inputs : InputsText
+no_inputs = record { explicit = []; implicit = []; order_only = []; validations = [] }
+
+abbrev from : List WordText → InputsText
+from words = record no_inputs { explicit = words }
+
+abbrev by_rule : List ℕ → NameText
+by_rule name = record { spot = at 10; name = name }
+
+abbrev phony : NameText
+phony = by_rule (codes "phony")
+
+abbrev entry : StatementText → Entry
+entry item = record { file = codes "build.ninja"; spot = at 1; depth = 0; number = 0; around = []; item = item }
+
+abbrev entries : List StatementText → List Entry
+entries items = map entry items
+
+abbrev line : (name value : List ℕ) → LineText
+line name value = record { spot = at 3; name = name; value = word 7 (Text value) }
+
+-- what is wrong with a build statement after these statements, of which the last stands first
+abbrev wrong_with : List StatementText → OutputsText → NameText → InputsText → List LineText → Option GraphFault
+wrong_with before outputs rule inputs lines = build_fault (entry (BuildText outputs rule inputs lines)) (entries before) outputs rule inputs lines
+
+abbrev wrong_default : List StatementText → List WordText → Option GraphFault
+wrong_default before words = default_fault (entry (DefaultText words)) (entries before) words
+
+abbrev wrong : (column : ℕ) → Cause → Option GraphFault
+wrong column cause = Some (fault_at (codes "build.ninja") (at column) cause)
+
+abbrev paths_of_entries : List StatementText → List EdgePaths
+paths_of_entries items = map (λ e. e.paths) (edges_read (entries items))
+
+abbrev a : WordText
+a = path (codes "a")
+
+abbrev build_a : StatementText
+build_a = BuildText (to (a ∷ [])) phony no_inputs []
+
+-- ---- rows
+
+-- `build $e: phony`
+pub row-empty_path : wrong_with [] (to (word 7 (Name (codes "e")) ∷ [])) phony no_inputs [] ≡ wrong 7 EmptyPath
+unfolding clean_path_of without_leftmost_pair edges_read bounds
+row-empty_path = refl
+
+-- `build a: phony`, and then `build ./a: phony`
+pub row-two_makers : wrong_with (build_a ∷ []) (to (path (codes "./a") ∷ [])) phony no_inputs [] ≡ wrong 7 (TwoMakers (codes "a"))
+unfolding clean_path_of without_leftmost_pair edges_read bounds
+row-two_makers = refl
+
+-- `build a a: phony`
+pub row-named_twice : wrong_with [] (to (a ∷ a ∷ [])) phony no_inputs [] ≡ wrong 7 (TwoMakers (codes "a"))
+unfolding clean_path_of without_leftmost_pair edges_read bounds
+row-named_twice = refl
+
+-- `build a: zz`: the rule comes before the paths
+pub row-unknown_rule : wrong_with (build_a ∷ []) (to (a ∷ [])) (by_rule (codes "zz")) no_inputs [] ≡ wrong 10 (UnknownRule (codes "zz"))
+unfolding clean_path_of without_leftmost_pair edges_read bounds
+row-unknown_rule = refl
+
+-- `default q`
+pub row-unknown_target : wrong_default [] (path (codes "q") ∷ []) ≡ wrong 7 (UnknownTarget (codes "q"))
+unfolding clean_path_of without_leftmost_pair edges_read bounds
+row-unknown_target = refl
+
+-- `build a: phony`, and then `default a`
+pub row-known_target : wrong_default (build_a ∷ []) (a ∷ []) ≡ None
+unfolding clean_path_of without_leftmost_pair edges_read bounds
+row-known_target = refl
+
+-- `build a: phony a` has no inputs
+pub row-own_input : map (λ (e : EdgePaths). e.explicit_inputs) (paths_of_entries (BuildText (to (a ∷ [])) phony (from (a ∷ [])) [] ∷ [])) ≡ [] ∷ []
+unfolding clean_path_of without_leftmost_pair edges_read bounds
+row-own_input = refl
+
+-- `build a b: phony a` keeps it
+pub row-two_outputs : map (λ (e : EdgePaths). e.explicit_inputs) (paths_of_entries (BuildText (to (a ∷ path (codes "b") ∷ [])) phony (from (a ∷ [])) [] ∷ [])) ≡ (codes "a" ∷ []) ∷ []
+unfolding clean_path_of without_leftmost_pair edges_read bounds
+row-two_outputs = refl
+
+-- `x = a`, and then `build $x: phony` with `x = b` in its block: the block is seen on the line
+pub row-block_on_line : map (λ (e : EdgePaths). e.explicit_outputs) (paths_of_entries (BuildText (to (word 7 (Name (codes "x")) ∷ [])) phony no_inputs (line (codes "x") (codes "b") ∷ []) ∷ BindingText (codes "x") (path (codes "a")) ∷ []))
+    ≡ (codes "b" ∷ []) ∷ []
+unfolding clean_path_of without_leftmost_pair edges_read bounds
+row-block_on_line = refl
+
+-- `x = a`, and then a block of `x = b` and `y = $x`: a line of a block sees no other
+pub row-lines_apart : map (λ (e : EdgeText). e.block (codes "y")) (edges_read (entries (BuildText (to (a ∷ [])) phony no_inputs (line (codes "x") (codes "b") ∷ record { spot = at 3; name = codes "y"; value = word 7 (Name (codes "x")) } ∷ []) ∷ BindingText (codes "x") (path (codes "a")) ∷ [])))
+    ≡ Some (codes "a") ∷ []
+unfolding clean_path_of without_leftmost_pair edges_read bounds
+row-lines_apart = refl

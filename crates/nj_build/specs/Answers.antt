@@ -1,0 +1,182 @@
+-- What the reading of a statement answers, and how what is read is held.
+use Rattle.std.specs.Prelude.{◌≡◌, ◌⊎◌, ℕ, Bool, true, false, if◌then◌else◌, Option, Some, None, Result, Ok, Err, List, [], ◌∷◌, ◌++◌, ◌+◌, ◌≤◌, length, slice_get}
+use Rattle.nj_text.specs.declared.spot.Spot.{Spot}
+use Rattle.nj_manifest.specs.Contents.{words_text, lines_text}
+use Rattle.nj_manifest.specs.Statements.{OutputsText, InputsText, StatementText, BuildText}
+use Rattle.nj_scope.specs.Readings.{IsPrefix}
+use Rattle.nj_scope.specs.Scopes.{IsScope}
+use Rattle.nj_scope.specs.ScopesHeld.{parent_at}
+use Rattle.nj_scope.specs.Declarations.{DeclarationsText, DeclaredBy}
+use Rattle.nj_scope.specs.ReadingList.{Entry, value_after}
+use Rattle.nj_blocks.specs.Blocks.{BlocksText, bound_in}
+use Rattle.nj_edges.specs.declared.files.FileNo.{FileNo}
+use Rattle.nj_edges.specs.Edges.{EdgePaths, is_among}
+use Rattle.nj_edges.specs.EdgesHeld.{EdgeTable, no_files, with_output, with_input, with_validation}
+use Rattle.nj_edges.specs.Files.{AreFiles}
+use Rattle.nj_faults.specs.declared.fault.GraphFault.{GraphFault}
+use Rattle.nj_faults.specs.Faults.{no_memory}
+use Rattle.nj_build.specs.declared.edge.Build.{Build}
+use Rattle.nj_build.specs.declared.names.Names.{Names}
+use Rattle.nj_build.specs.declared.names.EdgeBlock.{EdgeBlock}
+use Rattle.nj_build.specs.declared.building.Detail.{Detail}
+use Rattle.nj_build.specs.declared.place.StatementPlace.{StatementPlace}
+use Rattle.nj_build.specs.EdgeList.{Values, Block, EdgeText, on_line, paths_said, edges_read, paths_of_edges, defaults_read}
+
+-- ---- faults
+
+-- the fault is the expected one, or out of memory
+abbrev pub IsFault : Option GraphFault → GraphFault → Type 0
+IsFault expected fault = (fault ≡ no_memory) ⊎ (expected ≡ Some fault)
+
+-- there is no fault, or it is answered
+abbrev pub Checks : {A : Type 0} → Option GraphFault → Result A GraphFault → Type 0
+Checks expected (Ok done) = expected ≡ None
+Checks expected (Err fault) = IsFault expected fault
+
+-- ---- names
+
+-- Names have these values in a scope, by what the statements before declare, where a block binds these.
+pub record Sees (held : DeclarationsText) (scope : ℕ) (block : Block) (values : Values) : Type 0 where
+  pub entries : List Entry
+  pub around : List ℕ
+  pub declared : DeclaredBy held entries
+  pub within : IsScope (parent_at held.scopes) scope (scope ∷ around)
+  pub are : (name : List ℕ) → values name ≡ on_line (value_after entries (scope ∷ around)) block name
+
+abbrev pub no_block : Block
+no_block name = None
+
+abbrev pub block_seen : Option EdgeBlock → Block
+block_seen None = no_block
+block_seen (Some b) = bound_in b.blocks.now b.edge
+
+abbrev pub SeesNames : Names → Values → Type 0
+SeesNames names values = Sees names.declarations.now names.scope (block_seen names.block) values
+
+-- ---- the words of a statement
+
+abbrev pub outputs_of_build : Build → OutputsText
+outputs_of_build b = record { explicit = words_text b.explicit_outputs.now; implicit = words_text b.implicit_outputs.now }
+
+abbrev pub inputs_of_build : Build → InputsText
+inputs_of_build b = record {
+  explicit = words_text b.explicit_inputs.now;
+  implicit = words_text b.implicit_inputs.now;
+  order_only = words_text b.order_only_inputs.now;
+  validations = words_text b.validations.now;
+}
+
+abbrev pub build_text : Build → StatementText
+build_text b = BuildText (outputs_of_build b) (record { spot = b.rule_spot; name = b.rule.now }) (inputs_of_build b) (lines_text b.lines.now)
+
+-- ---- the files of an edge
+
+abbrev pub with_outputs : EdgeTable → List (List ℕ) → EdgeTable
+with_outputs t [] = t
+with_outputs t (path ∷ paths) = with_outputs (with_output t path) paths
+
+-- an input, which the edge loses if it makes it itself and loses its own
+abbrev pub with_input_unless : (loses_own : Bool) → EdgeTable → (path : List ℕ) → EdgeTable
+with_input_unless false t path = with_input t path
+with_input_unless true t path = if is_among t.«open».outputs path then t else with_input t path
+
+abbrev pub with_inputs : (loses_own : Bool) → EdgeTable → List (List ℕ) → EdgeTable
+with_inputs loses_own t [] = t
+with_inputs loses_own t (path ∷ paths) = with_inputs loses_own (with_input_unless loses_own t path) paths
+
+abbrev pub with_validations : EdgeTable → List (List ℕ) → EdgeTable
+with_validations t [] = t
+with_validations t (path ∷ paths) = with_validations (with_validation t path) paths
+
+-- the edge that is being read has so many outputs more, and no input less; no edge is added
+pub record Grows (outputs : ℕ) (before after : EdgeTable) : Type 0 where
+  pub edges : after.edges ≡ before.edges
+  pub outputs_are : length after.«open».outputs ≡ length before.«open».outputs + outputs
+  pub inputs : length before.«open».inputs ≤ length after.«open».inputs
+
+-- the inputs and validations of a statement are appended, of which the explicit and the implicit ones end there
+pub record AddsInputs (loses_own : Bool) (values : Values) (inputs : InputsText) (before after : EdgeTable) (ends : ℕ × ℕ)
+    : Type 0 where
+  pub explicit : EdgeTable
+  pub explicit_is : explicit ≡ with_inputs loses_own before (paths_said values inputs.explicit)
+  pub explicit_end : ends.0 ≡ length explicit.«open».inputs
+  pub implicit : EdgeTable
+  pub implicit_is : implicit ≡ with_inputs loses_own explicit (paths_said values inputs.implicit)
+  pub implicit_end : ends.1 ≡ length implicit.«open».inputs
+  pub after_is : after ≡ with_validations (with_inputs loses_own implicit (paths_said values inputs.order_only))
+      (paths_said values inputs.validations)
+
+-- one edge is added; files keep their numbers
+pub record AddsEdge (before after : EdgeTable) (edge : EdgePaths) : Type 0 where
+  pub edges : after.edges ≡ before.edges ++ edge ∷ []
+  pub none_open : after.«open» ≡ no_files
+  pub files : IsPrefix before.files after.files
+
+-- the numbers of files with these paths are appended
+pub record AddsTargets (files : List (List ℕ)) (before after : List FileNo) (paths : List (List ℕ)) : Type 0 where
+  pub added : List FileNo
+  pub after_is : after ≡ before ++ added
+  pub are : AreFiles files added paths
+
+-- ---- what is held
+
+-- an edge, without its paths and its block
+pub record DetailText : Type 0 where
+  pub file : FileNo
+  pub spot : Spot
+  pub scope : ℕ
+  pub rule : ℕ
+
+pub record BuildingText : Type 0 where
+  pub table : EdgeTable
+  pub blocks : BlocksText
+  -- the names of files in which edges stand
+  pub names : List (List ℕ)
+  pub details : List DetailText
+  pub defaults : List FileNo
+
+abbrev pub block_of_edge : Option EdgeText → Block
+block_of_edge None = no_block
+block_of_edge (Some e) = e.block
+
+abbrev pub block_at : List EdgeText → (number : ℕ) → Block
+block_at edges number = block_of_edge (slice_get edges number)
+
+abbrev pub detail_text : Detail → DetailText
+detail_text d = record { file = d.file; spot = d.spot; scope = d.scope; rule = d.rule }
+
+pub record IsDetail (names : List (List ℕ)) (d : DetailText) (e : EdgeText) : Type 0 where
+  pub file : slice_get names d.file.0 ≡ Some e.file
+  pub spot : d.spot ≡ e.spot
+  pub scope : d.scope ≡ e.number
+  pub rule : d.rule ≡ e.rule
+
+abbrev pub AreDetails : (names : List (List ℕ)) → List DetailText → List EdgeText → Type 0
+AreDetails names [] [] = Unit {0}
+AreDetails names (d ∷ details) (e ∷ edges) = IsDetail names d e × AreDetails names details edges
+AreDetails names details edges = ⊥
+
+-- It holds the edges and defaults of these statements, of which the last read stands first.
+pub record HoldsEdges (held : BuildingText) (entries : List Entry) : Type 0 where
+  pub edges : held.table.edges ≡ paths_of_edges (edges_read entries)
+  pub none_open : held.table.«open» ≡ no_files
+  pub blocks : (number : ℕ) (name : List ℕ) → bound_in held.blocks number name ≡ block_at (edges_read entries) number name
+  pub details : AreDetails held.names held.details (edges_read entries)
+  pub defaults : AreFiles held.table.files held.defaults (defaults_read entries)
+
+-- ---- a statement
+
+abbrev pub entry_at_place : StatementPlace → (around : List ℕ) → (depth : ℕ) → StatementText → Entry
+entry_at_place place around depth item = record {
+  file = place.file.now;
+  spot = place.spot;
+  depth = depth;
+  number = place.scope;
+  around = around;
+  item = item;
+}
+
+-- the statement has no fault and is held, or its fault is answered
+abbrev pub ReadsStatement : (after : BuildingText) → Option GraphFault → Entry → (before : List Entry) → Result (Unit {0}) GraphFault → Type 0
+ReadsStatement after expected e before (Ok done) = (expected ≡ None) × HoldsEdges after (e ∷ before)
+ReadsStatement after expected e before (Err fault) = IsFault expected fault

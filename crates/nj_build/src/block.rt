@@ -1,0 +1,43 @@
+//! The blocks of build statements.
+
+ghost use Rattle.std.specs.Prelude.{◌≡◌, ℕ, ◌<◌, ◌≤◌, ◌==◌, if◌then◌else◌, List, length, OnOk};
+ghost use Rattle.nj_manifest.specs.Contents.{lines_text};
+ghost use Rattle.nj_scope.specs.Scopes.{or_else};
+ghost use Rattle.nj_blocks.specs.Blocks.{bound_in};
+ghost use Rattle.nj_build.specs.EdgeList.{Values, block_of};
+ghost use Rattle.nj_build.specs.Answers.{Sees, no_block};
+
+use crate::names::Names;
+use nj_blocks::Blocks;
+use nj_manifest::Line;
+use nj_scope::Declarations;
+use std::alloc::AllocError;
+
+/// Binds what the lines of an edge's block say; `text` is room for their values.
+pub(crate) fn bind_block(
+    blocks: &mut Blocks,
+    text: &mut Vec<u8>,
+    declarations: &Declarations,
+    scope: usize,
+    edge: usize,
+    lines: &[Line<'_>],
+) -> Result<(), AllocError>
+    requires scope { scope < length declarations.now.scopes }
+    requires last { blocks.old.last ≤ edge }
+    ensures bound { (values : Values) → Sees declarations.now scope no_block values
+        → OnOk result ((e : ℕ) (name : List ℕ) → bound_in blocks.new e name
+        ≡ (if e == edge then or_else (block_of values (lines_text lines.now) name)
+        (bound_in blocks.old e name) else bound_in blocks.old e name)) }
+    ensures last { blocks.new.last ≤ edge }
+{
+    let names = Names {
+        declarations,
+        scope,
+        block: None,
+    };
+    'lines: for line in lines {
+        names.expand(text, &line.value)?;
+        blocks.bind(edge, line.name, text.as_slice())?;
+    }
+    Ok(())
+}

@@ -1,0 +1,233 @@
+//! The edges that were read so far, and the defaults.
+
+ghost use Rattle.std.specs.Prelude.{◌≡◌, ℕ, ◌<◌, List, [], ◌∷◌, Some, length, OnOk};
+ghost use Rattle.nj_manifest.specs.Contents.{words_text, lines_text};
+ghost use Rattle.nj_manifest.specs.Statements.{DefaultText};
+ghost use Rattle.nj_scope.specs.Scopes.{IsScope};
+ghost use Rattle.nj_scope.specs.ScopesHeld.{parent_at};
+ghost use Rattle.nj_scope.specs.Declarations.{DeclaredBy};
+ghost use Rattle.nj_scope.specs.ReadingList.{Entry, rule_in_force};
+ghost use Rattle.nj_edges.specs.EdgesHeld.{no_files};
+ghost use Rattle.nj_build.specs.EdgeList.{Values, paths_said, line_values, edges_read, paths_of_edges};
+ghost use Rattle.nj_build.specs.BuildFaults.{first_fault, paths_fault, target_fault, build_fault, default_fault};
+ghost use Rattle.nj_build.specs.Answers.{Checks, SeesNames, HoldsEdges, AddsTargets, ReadsStatement, build_text, entry_at_place, outputs_of_build, inputs_of_build};
+
+use crate::block::bind_block;
+use crate::edge::{Build, NamedLine, add_edge};
+use crate::names::{EdgeBlock, Names, Room};
+use crate::place::StatementPlace;
+use nj_blocks::Blocks;
+use nj_edges::{Edges, FileNo, Files};
+use nj_faults::{Cause, GraphFault, Name};
+use nj_scope::{Declarations, HashKeys};
+use nj_text::{Spot, Word};
+use std::alloc::Global;
+use std::marker::Model;
+
+// The number of the rule `phony`.
+const PHONY: usize = 0;
+
+// An edge without its paths and its block: the file in which its statement stands, its place there,
+// the numbers of its scope and of its rule.
+#[derive(Clone, Copy)]
+pub(crate) struct Detail {
+    pub(crate) file: FileNo,
+    pub(crate) spot: Spot,
+    pub(crate) scope: usize,
+    pub(crate) rule: usize,
+}
+
+/// The edges of the build statements that were read so far, and the defaults ("Build statements"
+/// and "Default target statements" in the Ninja manual).
+#[derive(Drop)]
+pub struct Building {
+    edges: Edges,
+    block_values: Blocks,
+    names: Files,
+    details: Vec<Detail>,
+    defaults: Vec<FileNo>,
+    room: Room,
+}
+
+impl Model for Building {
+    ghost use Rattle.std.specs.Prelude.{◌≤◌, length, map};
+    ghost use Rattle.nj_build.specs.Answers.{BuildingText, detail_text};
+
+    ghost Value = { BuildingText };
+
+    ghost view = { λ b. record {
+      table = b.edges;
+      blocks = b.block_values;
+      names = b.names;
+      details = map detail_text b.details.items;
+      defaults = b.defaults.items;
+    } };
+
+    ghost invariant = { λ b. b.block_values.last ≤ length b.details.items };
+}
+
+impl Building {
+    /// No edges. It takes no memory. Names and paths are hashed by these keys.
+    pub fn new(alloc: Global, keys: HashKeys) -> Building
+        ensures { HoldsEdges result [] }
+    {
+        Building {
+            edges: Edges::new(alloc, keys),
+            block_values: Blocks::new(alloc, keys),
+            names: Files::new(alloc, keys),
+            details: Vec::new(alloc),
+            defaults: Vec::new(alloc),
+            room: Room::new(alloc),
+        }
+    }
+
+    /// Reads a build statement as an edge.
+    ///
+    /// # Errors
+    ///
+    /// The first fault of the statement: an unknown rule, then its outputs from left to right, each
+    /// an empty path or one that has a maker, then an empty path among its inputs and validations.
+    /// After a fault nothing more must be read.
+    pub fn read_build(
+        &mut self,
+        alloc: Global,
+        declarations: &Declarations,
+        place: StatementPlace<'_>,
+        build: Build<'_>,
+    ) -> Result<(), GraphFault>
+        requires { place.scope < length declarations.now.scopes }
+        ensures { (entries : List Entry) (around : List ℕ) (depth : ℕ)
+            → DeclaredBy declarations.now entries
+            → IsScope (parent_at declarations.now.scopes) place.entry.scope
+            (place.entry.scope ∷ around)
+            → HoldsEdges self.old entries
+            → let e = entry_at_place place.entry around depth (build_text build.entry) in
+            ReadsStatement self.new (build_fault e entries (outputs_of_build build.entry)
+            (record { spot = build.entry.rule_spot; name = build.entry.rule.now })
+            (inputs_of_build build.entry) (lines_text build.entry.lines.now)) e entries result }
+    {
+        let rule = match declarations.rule(place.scope, build.rule) {
+            Some(rule) => rule,
+            None => {
+                let cause = Cause::UnknownRule(Name::new(alloc, build.rule)?);
+                return Err(place.fault(alloc, build.rule_spot, cause));
+            }
+        };
+        self.read_edge(alloc, declarations, place, build, rule)
+    }
+
+    // Reads a build statement whose rule has this number.
+    fn read_edge(
+        &mut self,
+        alloc: Global,
+        declarations: &Declarations,
+        place: StatementPlace<'_>,
+        build: Build<'_>,
+        rule: usize,
+    ) -> Result<(), GraphFault>
+        requires { place.scope < length declarations.now.scopes }
+        ensures { (entries : List Entry) (around : List ℕ) (depth : ℕ)
+            → DeclaredBy declarations.now entries
+            → IsScope (parent_at declarations.now.scopes) place.entry.scope
+            (place.entry.scope ∷ around)
+            → rule_in_force entries (place.entry.scope ∷ around) build.entry.rule.now ≡ Some rule
+            → HoldsEdges self.old entries
+            → let e = entry_at_place place.entry around depth (build_text build.entry) in
+            ReadsStatement self.new (paths_fault e.file
+            (line_values e entries (lines_text build.entry.lines.now))
+            (paths_of_edges (edges_read entries)) (outputs_of_build build.entry)
+            (inputs_of_build build.entry)) e entries result }
+    {
+        let edge = self.details.as_slice().len();
+        bind_block(
+            &mut self.block_values,
+            &mut self.room.text,
+            declarations,
+            place.scope,
+            edge,
+            build.lines,
+        )?;
+        let names = Names {
+            declarations,
+            scope: place.scope,
+            block: Some(EdgeBlock {
+                blocks: &self.block_values,
+                edge,
+            }),
+        };
+        let line = NamedLine {
+            alloc,
+            place,
+            names,
+        };
+        add_edge(line, &mut self.room, &mut self.edges, build, rule == PHONY)?;
+        let file = self.names.name(place.file.as_bytes())?;
+        self.details.push(Detail {
+            file,
+            spot: place.spot,
+            scope: place.scope,
+            rule,
+        })?;
+        Ok(())
+    }
+
+    /// Reads a `default` statement.
+    ///
+    /// # Errors
+    ///
+    /// The fault of the first word that has one: an empty path, or a file that no build statement
+    /// before names. After a fault nothing more must be read.
+    pub fn read_default(
+        &mut self,
+        alloc: Global,
+        declarations: &Declarations,
+        place: StatementPlace<'_>,
+        words: &[Word<'_>],
+    ) -> Result<(), GraphFault>
+        requires { place.scope < length declarations.now.scopes }
+        ensures { (entries : List Entry) (around : List ℕ) (depth : ℕ)
+            → DeclaredBy declarations.now entries
+            → IsScope (parent_at declarations.now.scopes) place.entry.scope
+            (place.entry.scope ∷ around)
+            → HoldsEdges self.old entries
+            → let e = entry_at_place place.entry around depth (DefaultText (words_text words.now))
+            in ReadsStatement self.new (default_fault e entries (words_text words.now))
+            e entries result }
+    {
+        let names = Names {
+            declarations,
+            scope: place.scope,
+            block: None,
+        };
+        let line = NamedLine {
+            alloc,
+            place,
+            names,
+        };
+        add_targets(line, &mut self.room, &self.edges, &mut self.defaults, words)
+    }
+}
+
+// Appends the files that words name, which an edge before has to name.
+fn add_targets(
+    line: NamedLine<'_, '_, '_>,
+    room: &mut Room,
+    edges: &Edges,
+    targets: &mut Vec<FileNo>,
+    words: &[Word<'_>],
+) -> Result<(), GraphFault>
+    requires { line.names.scope < length line.names.declarations.now.scopes }
+    ensures fault { (values : Values) → SeesNames line.entry.names values
+        → edges.now.«open» ≡ no_files
+        → Checks (first_fault (target_fault line.entry.place.file.now values edges.now.edges)
+        (words_text words.now)) result }
+    ensures added { (values : Values) → SeesNames line.entry.names values
+        → OnOk result (AddsTargets edges.now.files targets.old.items targets.new.items
+        (paths_said values (words_text words.now))) }
+{
+    'words: for word in words {
+        let file = line.target(room, edges, word)?;
+        targets.push(file)?;
+    }
+    Ok(())
+}

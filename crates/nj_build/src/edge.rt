@@ -1,0 +1,260 @@
+//! The files that a build statement names.
+
+ghost use Rattle.std.specs.Prelude.{◌≡◌, ◌<◌, ◌≤◌, ◌+◌, ◌++◌, Some, length, slice_get, IfOk, OnOk};
+ghost use Rattle.nj_text.specs.Words.{word_text};
+ghost use Rattle.nj_manifest.specs.Contents.{words_text};
+ghost use Rattle.nj_edges.specs.EdgesHeld.{no_files};
+ghost use Rattle.nj_build.specs.EdgeList.{Values, path_said, paths_said, stated_paths, loses_own, edge_paths};
+ghost use Rattle.nj_build.specs.BuildFaults.{empty_path, first_fault, target_fault, outputs_fault, inputs_fault, paths_fault};
+ghost use Rattle.nj_build.specs.Answers.{Checks, SeesNames, Grows, AddsInputs, AddsEdge, outputs_of_build, inputs_of_build, with_outputs, with_inputs, with_validations};
+
+use crate::names::{Names, Room};
+use crate::place::StatementPlace;
+use nj_edges::{Edges, FileNo, KindEnds};
+use nj_faults::{Cause, GraphFault, Name};
+use nj_manifest::{Line, Word};
+use nj_text::{Spot, TextFault};
+use std::alloc::Global;
+
+/// The words of a build statement, and the lines of its block ("Build statements" in the Ninja
+/// manual).
+#[derive(Clone, Copy)]
+pub struct Build<'a> {
+    pub explicit_outputs: &'a [Word<'a>],
+    pub implicit_outputs: &'a [Word<'a>],
+    pub rule: &'a [u8],
+    /// The place of the rule's name.
+    pub rule_spot: Spot,
+    pub explicit_inputs: &'a [Word<'a>],
+    pub implicit_inputs: &'a [Word<'a>],
+    pub order_only_inputs: &'a [Word<'a>],
+    pub validations: &'a [Word<'a>],
+    pub lines: &'a [Line<'a>],
+}
+
+/// A line that is read: where it stands, and the names on it.
+#[derive(Clone, Copy)]
+pub(crate) struct NamedLine<'p, 'd, 'b> {
+    pub(crate) alloc: Global,
+    pub(crate) place: StatementPlace<'p>,
+    pub(crate) names: Names<'d, 'b>,
+}
+
+impl NamedLine<'_, '_, '_> {
+    /// The path that a word says.
+    pub(crate) fn path<'w>(
+        self,
+        room: &'w mut Room,
+        word: &'w Word<'_>,
+    ) -> Result<&'w [u8], GraphFault>
+        requires { self.names.scope < length self.names.declarations.now.scopes }
+        ensures path { (values : Values) → SeesNames self.entry.names values
+            → IfOk result (λ path. path.now ≡ path_said values (word_text word.now)) }
+        ensures fault { (values : Values) → SeesNames self.entry.names values
+            → Checks (empty_path self.entry.place.file.now values (word_text word.now)) result }
+    {
+        match self.names.path(room, word) {
+            Ok(path) => Ok(path),
+            Err(TextFault::EmptyPath) => {
+                Err(self.place.fault(self.alloc, word.spot, Cause::EmptyPath))
+            }
+            Err(TextFault::OutOfMemory) => Err(GraphFault::out_of_memory()),
+        }
+    }
+
+    /// The file that a word names, which an edge before has to name.
+    pub(crate) fn target(
+        self,
+        room: &mut Room,
+        edges: &Edges,
+        word: &Word<'_>,
+    ) -> Result<FileNo, GraphFault>
+        requires { self.names.scope < length self.names.declarations.now.scopes }
+        ensures fault { (values : Values) → SeesNames self.entry.names values
+            → edges.now.«open» ≡ no_files
+            → Checks (target_fault self.entry.place.file.now values edges.now.edges
+            (word_text word.now)) result }
+        ensures file { (values : Values) → SeesNames self.entry.names values
+            → IfOk result (λ file. slice_get edges.now.files file.0
+            ≡ Some (path_said values (word_text word.now))) }
+    {
+        let path = self.path(room, word)?;
+        match edges.file_named(path) {
+            Some(file) => Ok(file),
+            None => {
+                let cause = Cause::UnknownTarget(Name::new(self.alloc, path)?);
+                Err(self.place.fault(self.alloc, word.spot, cause))
+            }
+        }
+    }
+
+    /// Appends outputs to the edge that is being read.
+    pub(crate) fn add_outputs(
+        self,
+        room: &mut Room,
+        edges: &mut Edges,
+        words: &[Word<'_>],
+    ) -> Result<(), GraphFault>
+        requires { self.names.scope < length self.names.declarations.now.scopes }
+        ensures fault { (values : Values) → SeesNames self.entry.names values
+            → Checks (outputs_fault self.entry.place.file.now values edges.old.edges
+            edges.old.«open».outputs (words_text words.now)) result }
+        ensures added { (values : Values) → SeesNames self.entry.names values
+            → OnOk result (edges.new
+            ≡ with_outputs edges.old (paths_said values (words_text words.now))) }
+        ensures grows { OnOk result (Grows (length words.now) edges.old edges.new) }
+    {
+        'words: for word in words {
+            let path = self.path(room, word)?;
+            if !edges.add_output(path)? {
+                let cause = Cause::TwoMakers(Name::new(self.alloc, path)?);
+                return Err(self.place.fault(self.alloc, word.spot, cause));
+            }
+        }
+        Ok(())
+    }
+
+    /// Appends inputs to the edge that is being read, without its own outputs if it loses them.
+    pub(crate) fn add_inputs(
+        self,
+        room: &mut Room,
+        edges: &mut Edges,
+        words: &[Word<'_>],
+        loses_own: bool,
+    ) -> Result<(), GraphFault>
+        requires { self.names.scope < length self.names.declarations.now.scopes }
+        ensures fault { (values : Values) → SeesNames self.entry.names values
+            → Checks (first_fault (empty_path self.entry.place.file.now values)
+            (words_text words.now)) result }
+        ensures added { (values : Values) → SeesNames self.entry.names values
+            → OnOk result (edges.new
+            ≡ with_inputs loses_own edges.old (paths_said values (words_text words.now))) }
+        ensures grows { OnOk result (Grows 0 edges.old edges.new) }
+    {
+        'words: for word in words {
+            let path = self.path(room, word)?;
+            if loses_own {
+                edges.add_input_of_another(path)?;
+            } else {
+                edges.add_input(path)?;
+            }
+        }
+        Ok(())
+    }
+
+    /// Appends validations to the edge that is being read.
+    pub(crate) fn add_validations(
+        self,
+        room: &mut Room,
+        edges: &mut Edges,
+        words: &[Word<'_>],
+    ) -> Result<(), GraphFault>
+        requires { self.names.scope < length self.names.declarations.now.scopes }
+        ensures fault { (values : Values) → SeesNames self.entry.names values
+            → Checks (first_fault (empty_path self.entry.place.file.now values)
+            (words_text words.now)) result }
+        ensures added { (values : Values) → SeesNames self.entry.names values
+            → OnOk result (edges.new
+            ≡ with_validations edges.old (paths_said values (words_text words.now))) }
+        ensures grows { OnOk result (Grows 0 edges.old edges.new) }
+    {
+        'words: for word in words {
+            let path = self.path(room, word)?;
+            edges.add_validation(path)?;
+        }
+        Ok(())
+    }
+}
+
+// Appends all outputs of a build statement to the edge that is being read.
+fn add_all_outputs(
+    line: NamedLine<'_, '_, '_>,
+    room: &mut Room,
+    edges: &mut Edges,
+    build: Build<'_>,
+) -> Result<(), GraphFault>
+    requires { line.names.scope < length line.names.declarations.now.scopes }
+    ensures fault { (values : Values) → SeesNames line.entry.names values
+        → Checks (outputs_fault line.entry.place.file.now values edges.old.edges
+        edges.old.«open».outputs (words_text build.entry.explicit_outputs.now
+        ++ words_text build.entry.implicit_outputs.now)) result }
+    ensures added { (values : Values) → SeesNames line.entry.names values
+        → OnOk result (edges.new ≡ with_outputs (with_outputs edges.old
+        (paths_said values (words_text build.entry.explicit_outputs.now)))
+        (paths_said values (words_text build.entry.implicit_outputs.now))) }
+    ensures grows { OnOk result (Grows (length build.entry.explicit_outputs.now
+        + length build.entry.implicit_outputs.now) edges.old edges.new) }
+{
+    line.add_outputs(room, edges, build.explicit_outputs)?;
+    line.add_outputs(room, edges, build.implicit_outputs)
+}
+
+// Appends all inputs and validations of a build statement to the edge that is being read. Returns
+// where its explicit inputs end, and its implicit ones.
+fn add_all_inputs(
+    line: NamedLine<'_, '_, '_>,
+    room: &mut Room,
+    edges: &mut Edges,
+    build: Build<'_>,
+    loses_own: bool,
+) -> Result<(usize, usize), GraphFault>
+    requires { line.names.scope < length line.names.declarations.now.scopes }
+    ensures fault { (values : Values) → SeesNames line.entry.names values
+        → Checks (inputs_fault line.entry.place.file.now values
+        (inputs_of_build build.entry)) result }
+    ensures added { (values : Values) → SeesNames line.entry.names values
+        → IfOk result (λ ends. AddsInputs loses_own values (inputs_of_build build.entry)
+        edges.old edges.new ends) }
+    ensures within { IfOk result (λ ends. (ends.0 ≤ ends.1)
+        × (ends.1 ≤ length edges.new.«open».inputs)) }
+    ensures grows { OnOk result (Grows 0 edges.old edges.new) }
+{
+    line.add_inputs(room, edges, build.explicit_inputs, loses_own)?;
+    let explicit = edges.open_inputs();
+    line.add_inputs(room, edges, build.implicit_inputs, loses_own)?;
+    let implicit = edges.open_inputs();
+    line.add_inputs(room, edges, build.order_only_inputs, loses_own)?;
+    line.add_validations(room, edges, build.validations)?;
+    Ok((explicit, implicit))
+}
+
+// Reads the files of a build statement as an edge, which is the last one then.
+pub(crate) fn add_edge(
+    line: NamedLine<'_, '_, '_>,
+    room: &mut Room,
+    edges: &mut Edges,
+    build: Build<'_>,
+    is_phony: bool,
+) -> Result<(), GraphFault>
+    requires { line.names.scope < length line.names.declarations.now.scopes }
+    ensures fault { (values : Values) → SeesNames line.entry.names values
+        → edges.old.«open» ≡ no_files
+        → Checks (paths_fault line.entry.place.file.now values edges.old.edges
+        (outputs_of_build build.entry) (inputs_of_build build.entry)) result }
+    ensures added { (values : Values) → SeesNames line.entry.names values
+        → edges.old.«open» ≡ no_files
+        → OnOk result (AddsEdge edges.old edges.new (edge_paths (stated_paths values
+        (outputs_of_build build.entry) (inputs_of_build build.entry) is_phony))) }
+{
+    add_all_outputs(line, room, edges, build)?;
+    let loses_own = loses_own(build, is_phony);
+    let (explicit_inputs, implicit_inputs) = add_all_inputs(line, room, edges, build, loses_own)?;
+    let kinds = KindEnds {
+        explicit_outputs: build.explicit_outputs.len(),
+        explicit_inputs,
+        implicit_inputs,
+    };
+    edges.end_edge(kinds, is_phony)?;
+    Ok(())
+}
+
+// Whether the edge of a build statement loses the inputs that are its own output.
+fn loses_own(build: Build<'_>, is_phony: bool) -> bool
+    ensures { (values : Values) → result ≡ loses_own (stated_paths values
+        (outputs_of_build build.entry) (inputs_of_build build.entry) is_phony) }
+{
+    is_phony
+        && build.explicit_outputs.len() == 1
+        && build.implicit_outputs.is_empty()
+        && build.implicit_inputs.is_empty()
+}

@@ -1,0 +1,137 @@
+//! The names on a line, and the paths that its words say.
+
+ghost use Rattle.std.specs.Prelude.{◌≡◌, ◌<◌, [], ◌∷◌, false, Err, length, IfOk, OnOk, IfSome};
+ghost use Rattle.nj_text.specs.Calls.{is_empty};
+ghost use Rattle.nj_text.specs.Paths.{clean_path_of};
+ghost use Rattle.nj_text.specs.Words.{Text, part_text, word_text};
+ghost use Rattle.nj_text.specs.declared.paths.TextFault.TheVariants.{EmptyPath};
+ghost use Rattle.nj_scope.specs.Scopes.{part_expanded, expanded};
+ghost use Rattle.nj_build.specs.EdgeList.{Values, path_said};
+ghost use Rattle.nj_build.specs.Answers.{SeesNames};
+
+use nj_blocks::Blocks;
+use nj_scope::Declarations;
+use nj_text::{Part, TextFault, Word, clean_into, is_clean};
+use std::alloc::{AllocError, Global};
+
+/// What an edge binds in its block.
+#[derive(Clone, Copy)]
+pub(crate) struct EdgeBlock<'a> {
+    pub(crate) blocks: &'a Blocks,
+    pub(crate) edge: usize,
+}
+
+/// The names on a line: those of a block, where the line has one, else those of a scope.
+#[derive(Clone, Copy)]
+pub(crate) struct Names<'d, 'b> {
+    pub(crate) declarations: &'d Declarations,
+    pub(crate) scope: usize,
+    pub(crate) block: Option<EdgeBlock<'b>>,
+}
+
+/// Room for the text of a word, and for its clean path.
+#[derive(Drop)]
+pub(crate) struct Room {
+    pub(crate) text: Vec<u8>,
+    pub(crate) path: Vec<u8>,
+}
+
+impl Room {
+    /// No room yet. It takes no memory.
+    pub(crate) fn new(alloc: Global) -> Room {
+        Room {
+            text: Vec::new(alloc),
+            path: Vec::new(alloc),
+        }
+    }
+
+    // The clean path of the text.
+    fn clean_path(&mut self) -> Result<&[u8], TextFault>
+        ensures path { IfOk result (λ path. path.now ≡ clean_path_of self.old.text.items) }
+        ensures said { OnOk result (is_empty self.old.text.items ≡ false) }
+        ensures empty { result ≡ Err EmptyPath → self.old.text.items ≡ [] }
+    {
+        self.path.clear();
+        match clean_into(&mut self.path, self.text.as_slice()) {
+            Ok(()) => Ok(self.path.as_slice()),
+            Err(fault) => Err(fault),
+        }
+    }
+}
+
+impl Names<'_, '_> {
+    /// The value of a name.
+    pub(crate) fn value(&self, name: &[u8]) -> &[u8]
+        requires { self.now.scope < length self.now.declarations.now.scopes }
+        ensures { (values : Values) → SeesNames self.now values → result.now ≡ values name.now }
+    {
+        if let Some(block) = self.block {
+            if let Some(value) = block.blocks.value(block.edge, name) {
+                return value;
+            }
+        }
+        self.declarations.value(self.scope, name)
+    }
+
+    // What a part says.
+    fn part_said<'w>(&'w self, part: &'w Part<'_>) -> &'w [u8]
+        requires { self.now.scope < length self.now.declarations.now.scopes }
+        ensures { (values : Values) → SeesNames self.now values
+            → result.now ≡ part_expanded values (part_text part.now) }
+    {
+        match part {
+            Part::Bytes(bytes) => bytes,
+            Part::Name(name) => self.value(name),
+        }
+    }
+
+    /// Sets a text to what a word says.
+    pub(crate) fn expand(&self, text: &mut Vec<u8>, word: &Word<'_>) -> Result<(), AllocError>
+        requires { self.now.scope < length self.now.declarations.now.scopes }
+        ensures { (values : Values) → SeesNames self.now values
+            → OnOk result (text.new.items ≡ expanded values (word_text word.now).parts) }
+    {
+        text.clear();
+        'parts: for part in word.parts.as_slice() {
+            text.extend_from_slice((&*self).part_said(part))?;
+        }
+        Ok(())
+    }
+
+    /// The path that a word says: a slice of its file where that is clean.
+    ///
+    /// # Errors
+    ///
+    /// `EmptyPath` if it says nothing, and `OutOfMemory` if an allocation failed.
+    pub(crate) fn path<'w>(
+        &self,
+        room: &'w mut Room,
+        word: &'w Word<'_>,
+    ) -> Result<&'w [u8], TextFault>
+        requires { self.now.scope < length self.now.declarations.now.scopes }
+        ensures path { (values : Values) → SeesNames self.now values
+            → IfOk result (λ path. path.now ≡ path_said values (word_text word.now)) }
+        ensures said { (values : Values) → SeesNames self.now values
+            → OnOk result (is_empty (expanded values (word_text word.now).parts) ≡ false) }
+        ensures empty { (values : Values) → SeesNames self.now values
+            → result ≡ Err EmptyPath → expanded values (word_text word.now).parts ≡ [] }
+    {
+        if let Some(bytes) = only_bytes(word) {
+            if is_clean(bytes) {
+                return Ok(bytes);
+            }
+        }
+        self.expand(&mut room.text, word)?;
+        room.clean_path()
+    }
+}
+
+// The bytes of a word that has no reference and no escape.
+fn only_bytes<'b>(word: &'b Word<'_>) -> Option<&'b [u8]>
+    ensures { IfSome result (λ bytes. (word_text word.now).parts ≡ Text bytes.now ∷ []) }
+{
+    match word.parts.as_slice() {
+        [Part::Bytes(bytes)] => Some(bytes),
+        _ => None,
+    }
+}
