@@ -6,10 +6,11 @@ use Rattle.std.specs.List.{slice_range}
 use Rattle.std.proofs.lemmas.Option.{same_Some}
 use Rattle.std.proofs.lemmas.Slice.Eq.{bytes_eq-Decides}
 use Rattle.indexmap.specs.IndexMap.{insert_entry}
-use Rattle.nj_scope.proofs.ScopeLemmas.{lookup-inserted, lookup-set, lookup-text}
+use Rattle.nj_scope.proofs.ScopeLemmas.{lookup-inserted, lookup-text}
 use Rattle.nj_blocks.specs.declared.bounds.Bound.{Bound}
 use Rattle.nj_blocks.specs.Blocks.{bound_in}
 use Rattle.nj_blocks.specs.BlocksHeld.{bound_of, values_of, blocks_of, BoundsAreHeld, BlocksAreHeld, BeginsWith}
+use Rattle.nj_blocks.proofs.MapLemmas.{lookup-set}
 use Rattle.nj_blocks.proofs.BoundLemmas.{values_at, values_kept, longer, bounds_grow}
 
 abbrev pub Entries : Type 0

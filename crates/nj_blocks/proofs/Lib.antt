@@ -1,2 +1,3 @@
 pub mod BoundLemmas
 pub mod BlockLemmas
+pub mod MapLemmas
