@@ -5,6 +5,7 @@ pub mod MemoryLemmas
 pub mod ReadingLemmas
 pub mod TableLemmas
 pub mod RuleLemmas
+pub mod KeyLemmas
 pub mod ScopeLemmas
 pub mod ScopeWalk
 pub mod SourceLemmas

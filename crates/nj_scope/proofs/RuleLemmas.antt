@@ -1,24 +1,10 @@
 -- Lemmas on rules and pools.
-use Rattle.std.proofs.Common.{◌≡◌, ℕ, Bool, true, false, ◌||◌, if◌then◌else◌, List, [], ◌∷◌, ◌++◌, map, find, reverse, Option, None, Some, option_map, bytes_eq, refl, sym, ap, ◌∙◌, true≢false, codes}
+use Rattle.std.proofs.Common.{◌≡◌, ℕ, Bool, true, false, ◌||◌, if◌then◌else◌, List, [], ◌∷◌, ◌++◌, map, bytes_eq, refl, sym, ap, ◌∙◌, true≢false, codes}
 use Rattle.std.specs.List.{list_any}
 use Rattle.std.specs.Global.{Vec}
 use Rattle.std.proofs.lemmas.List.{map_push}
 use Rattle.indexmap.specs.IndexSet.{insert_key}
-use Rattle.nj_scope.specs.declared.rule.RuleLine.{RuleLine}
 use Rattle.nj_scope.specs.Pools.{is_pool}
-use Rattle.nj_scope.specs.Rules.{given}
-use Rattle.nj_scope.specs.RulesHeld.{line_held}
-use Rattle.nj_scope.proofs.MemoryLemmas.{find-reverse-map}
-
-value_of_line : (o : Option RuleLine) → option_map (λ l. l.value) (option_map line_held o) ≡ option_map (λ l. l.value) o
-value_of_line None = refl
-value_of_line (Some l) = refl
-
--- the value of the last line of a key
-pub given-held : (lines : List RuleLine) (key : List ℕ) (r : Option RuleLine) → r ≡ find (λ l. bytes_eq key l.key.items) (reverse lines) → option_map (λ l. l.value) r ≡ given (map line_held lines) key
-given-held lines key r is =
-    ap (option_map (λ l. l.value)) is ∙ sym (value_of_line (find (λ l. bytes_eq key l.key.items) (reverse lines)))
-    ∙ sym (ap (option_map (λ l. l.value)) (find-reverse-map line_held (λ l. bytes_eq key l.key) lines))
 
 -- ---- keys, seen as lists
 

@@ -1,8 +1,8 @@
 //! Rules.
 
-ghost use Rattle.std.specs.Prelude.{◌≡◌, map, option_copied, find, reverse, bytes_eq, IfOk};
+ghost use Rattle.std.specs.Prelude.{◌≡◌, ◌<◌, ℕ, List, Some, None, map, option_copied, length, slice_get, slice_index, All, IfOk, IfSome, IfNone};
 ghost use Rattle.nj_scope.specs.Rules.{line_kept, given};
-ghost use Rattle.nj_scope.specs.RulesHeld.{line_held};
+ghost use Rattle.nj_scope.specs.RulesHeld.{line_held, last_lines, AreIndexes, HasKeyAt, key_count, key_at, IsNumber, KeysAreNumbered, NumbersDiffer};
 ghost use Rattle.nj_manifest.specs.Contents.{line_text};
 
 use crate::late::LateValue;
@@ -24,12 +24,14 @@ pub struct Rule {
     scope: usize,
     name: Vec<u8>,
     lines: Vec<RuleLine>,
+    // of each key the index of the last line, from the end
+    last: Vec<usize>,
 }
 
 impl Model for Rule {
     ghost use Rattle.std.specs.Prelude.{map};
     ghost use Rattle.nj_scope.specs.Rules.{RuleText, RuleLineText};
-    ghost use Rattle.nj_scope.specs.RulesHeld.{line_held};
+    ghost use Rattle.nj_scope.specs.RulesHeld.{line_held, last_lines, AreIndexes};
 
     ghost Value = { RuleText };
 
@@ -38,6 +40,9 @@ impl Model for Rule {
       name = r.name.items;
       lines = map {B = RuleLineText} line_held r.lines.items;
     } };
+
+    ghost invariant = { λ r. AreIndexes (map {B = RuleLineText} line_held r.lines.items)
+        r.last.items (last_lines (map {B = RuleLineText} line_held r.lines.items)) };
 }
 
 impl Rule {
@@ -60,10 +65,12 @@ impl Rule {
                 value: LateValue::from_word(alloc, &line.value)?,
             })?;
         }
+        let last = last_of_keys(alloc, &kept)?;
         Ok(Rule {
             scope,
             name,
             lines: kept,
+            last,
         })
     }
 
@@ -81,19 +88,86 @@ impl Rule {
         self.name.as_slice()
     }
 
+    /// How many different keys the lines have. The keys are numbered, from the last line on.
+    pub fn key_count(&self) -> usize
+        ensures count { result ≡ key_count self.now.lines }
+        ensures all { KeysAreNumbered self.now.lines }
+        ensures apart { NumbersDiffer self.now.lines }
+    {
+        self.last.len()
+    }
+
+    /// The key of this number.
+    pub fn key(&self, number: usize) -> &[u8]
+        requires { number < key_count self.now.lines }
+        ensures { result.now ≡ key_at self.now.lines number }
+    {
+        line_at(&self.lines, &self.last, number).key.as_slice()
+    }
+
+    /// The value of the key of this number: that of its last line, since the last one counts.
+    pub fn key_value(&self, number: usize) -> &LateValue
+        requires { number < key_count self.now.lines }
+        ensures { given self.now.lines (key_at self.now.lines number) ≡ Some result.now }
+    {
+        &line_at(&self.lines, &self.last, number).value
+    }
+
+    /// The number of a key. `None` if no line has it. Takes as long as there are different keys.
+    pub fn key_number(&self, key: &[u8]) -> Option<usize>
+        ensures some { IfSome result (IsNumber self.now.lines key.now) }
+        ensures none { IfNone result (given self.now.lines key.now ≡ None) }
+    {
+        number_among(&self.lines, &self.last, key)
+    }
+
     /// The value of a key: that of the last line which has the key, since the last one counts.
     /// `None` if there is none.
     pub fn value(&self, key: &[u8]) -> Option<&LateValue>
         ensures { option_copied result ≡ given self.now.lines key.now }
     {
-        let line = last_line(&self.lines, key)?;
-        Some(&line.value)
+        match self.key_number(key) {
+            Some(number) => Some(self.key_value(number)),
+            None => None,
+        }
     }
 }
 
-// The last line of the key.
-fn last_line<'a>(lines: &'a [RuleLine], key: &[u8]) -> Option<&'a RuleLine>
-    ensures { option_copied result ≡ find (λ l. bytes_eq key.now l.key.items) (reverse lines.now) }
+// The line of which the index stands at this place.
+fn line_at<'a>(lines: &'a [RuleLine], indexes: &[usize], place: usize) -> &'a RuleLine
+    requires place { place < length indexes.now }
+    requires index { slice_index indexes.now place < length lines.now }
+    ensures { slice_get lines.now (slice_index indexes.now place) ≡ Some result.now }
 {
-    lines.iter().rev().find(|line| key == line.key.as_slice())
+    &lines[indexes[place]]
+}
+
+// The first place of an index of a line that has the key.
+fn number_among(lines: &[RuleLine], indexes: &[usize], key: &[u8]) -> Option<usize>
+    requires { All (λ i. i < length lines.now) indexes.now }
+    ensures some { IfSome result (λ n. (n < length indexes.now)
+        × HasKeyAt lines.now (slice_index indexes.now n) key.now) }
+    ensures none { IfNone result ((n : ℕ) → n < length indexes.now
+        → ¬ HasKeyAt lines.now (slice_index indexes.now n) key.now) }
+{
+    'places: for place in 0..indexes.len() {
+        if key == line_at(lines, indexes, place).key.as_slice() {
+            return Some(place);
+        }
+    }
+    None
+}
+
+// Of each key the index of the last line, from the end.
+fn last_of_keys(alloc: Global, lines: &[RuleLine]) -> Result<Vec<usize>, AllocError>
+    ensures { IfOk result (λ last. AreIndexes (map line_held lines.now) last.items
+        (last_lines (map line_held lines.now))) }
+{
+    let mut last = Vec::new(alloc);
+    'lines: for index in (0..lines.len()).rev() {
+        if number_among(lines, &last, lines[index].key.as_slice()).is_none() {
+            last.push(index)?;
+        }
+    }
+    Ok(last)
 }

@@ -1,0 +1,10 @@
+use Rattle.std.proofs.Common.{◌∙◌, ap, map, subst, sym}
+use Rattle.nj_scope.specs.RulesHeld.{line_held, last_lines, key_count, KeysAreNumbered, NumbersDiffer}
+use Rattle.nj_scope.proofs.KeyLemmas.{keys_are_numbered, numbers_differ}
+use Rattle.nj_scope.proofs.rule.Rule.key_count.Goals as goal
+
+pub returns-clause-all : goal.returns-clause-all
+returns-clause-all c = keys_are_numbered c.args.self.now.lines
+
+pub returns-clause-apart : goal.returns-clause-apart
+returns-clause-apart c = numbers_differ c.args.self.now.lines

@@ -1,0 +1,6 @@
+use Rattle.std.proofs.Common.{map, drop}
+use Rattle.nj_scope.specs.RulesHeld.{line_held, last_lines, AreIndexes}
+use Rattle.nj_scope.proofs.rule.last_of_keys.Given as goal
+
+abbrev pub invariant-lines : goal.invariant-lines
+invariant-lines l = AreIndexes (map line_held l.lines) l.last.items (last_lines (drop l.index (map line_held l.lines)))
