@@ -88,6 +88,13 @@ impl Rule {
         self.name.as_slice()
     }
 
+    /// How many lines there are.
+    pub fn line_count(&self) -> usize
+        ensures { result ≡ length self.now.lines }
+    {
+        self.lines.len()
+    }
+
     /// How many different keys the lines have. The keys are numbered, from the last line on.
     pub fn key_count(&self) -> usize
         ensures count { result ≡ key_count self.now.lines }
