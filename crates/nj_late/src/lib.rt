@@ -1,0 +1,13 @@
+//! Late texts: what the variables of rules say when an edge uses them.
+#![tactic(auto)]
+
+mod cycles;
+mod edge;
+mod laws;
+mod names;
+mod paths;
+mod texts;
+
+pub use cycles::{may_cycle, variable_cycle};
+pub use edge::LateEdge;
+pub use laws::{block_before_rule_before_file, late_texts_are_said};
