@@ -1,5 +1,6 @@
 -- The graph of a run, and the rules that it lists.
-use Rattle.std.specs.Prelude.{◌≡◌, ◌↔◌, ℕ, Bool, if◌then◌else◌, Option, option_map, unwrap_or, is_some, List, [], ◌∷◌, map, slice_index_or, codes, bytes_eq}
+use Rattle.std.specs.Prelude.{◌≡◌, ◌↔◌, ℕ, Bool, if◌then◌else◌, Option, option_map, unwrap_or, is_some, List, [], ◌∷◌, map, slice_index_or}
+use Rattle.std.specs.Prelude.{codes, bytes_eq}
 use Rattle.std.specs.List.{Contains, IsDistinct}
 use Rattle.std.specs.List.Sorted.{IsStrictlySortedBy}
 use Rattle.std.specs.Cmp.Lexicographic.{slice_cmp}

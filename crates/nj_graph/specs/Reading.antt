@@ -1,5 +1,6 @@
 -- The reading of a run's files: all statements in reading order, up to the first fault.
-use Rattle.std.specs.Prelude.{ℕ, zero, suc, Bool, true, false, not, ◌&&◌, if◌then◌else◌, nat_lt, Option, Some, None, option_map, List, [], ◌∷◌, ◌++◌, find, codes, bytes_eq}
+use Rattle.std.specs.Prelude.{ℕ, zero, suc, Bool, true, false, not, ◌&&◌, if◌then◌else◌, nat_lt, Option, Some, None, option_map, List, []}
+use Rattle.std.specs.Prelude.{◌∷◌, ◌++◌, find, codes, bytes_eq}
 use Rattle.std.specs.List.{list_any}
 use Rattle.std.specs.Str.{is_utf8}
 use Rattle.nj_text.specs.declared.spot.Spot.{Spot}
@@ -7,7 +8,8 @@ use Rattle.nj_text.specs.Words.{WordText}
 use Rattle.nj_text.specs.Calls.{is_empty}
 use Rattle.nj_manifest.specs.Faults.{Fault}
 use Rattle.nj_manifest.specs.LineSteps.{NameText}
-use Rattle.nj_manifest.specs.Statements.{LineText, StatementText, BindingText, RuleText, PoolText, BuildText, DefaultText, IncludeText, SubninjaText, PlacedText}
+use Rattle.nj_manifest.specs.Statements.{LineText, StatementText, BindingText, RuleText, PoolText, BuildText, DefaultText, IncludeText}
+use Rattle.nj_manifest.specs.Statements.{SubninjaText, PlacedText}
 use Rattle.nj_scope.specs.Readings as table
 use Rattle.nj_scope.specs.Readings.{reading_of}
 use Rattle.nj_scope.specs.Scopes.{expanded}
@@ -17,7 +19,8 @@ use Rattle.nj_scope.specs.ReadingList.{Entry, scope_of, value_after, rules, is_d
 use Rattle.nj_faults.specs.declared.fault.Place.{Place}
 use Rattle.nj_faults.specs.declared.fault.Cause.{Cause}
 use Rattle.nj_faults.specs.declared.fault.GraphFault.{GraphFault}
-use Rattle.nj_faults.specs.declared.fault.Cause.TheVariants.{EmptyPath, BadDepth, DuplicateRule, DuplicatePool, VersionTooNew, Missing, PathNotText, TooDeep, TooManyOpenings, NotYet}
+use Rattle.nj_faults.specs.declared.fault.Cause.TheVariants.{EmptyPath, BadDepth, DuplicateRule, DuplicatePool, VersionTooNew, Missing}
+use Rattle.nj_faults.specs.declared.fault.Cause.TheVariants.{PathNotText, TooDeep, TooManyOpenings, NotYet}
 use Rattle.nj_faults.specs.Faults.{fault_at, fault_in}
 use Rattle.nj_graph.specs.Statements.{parsed}
 
