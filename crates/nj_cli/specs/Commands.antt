@@ -11,7 +11,8 @@ joined paths = join_with_byte 32 paths
 
 -- the value of a variable in the command of an edge with these inputs and outputs
 abbrev pub value_of : (inputs outputs : List (List ℕ)) → List ℕ → List ℕ
-value_of inputs outputs name = if bytes_eq name (codes "in") then joined inputs else (if bytes_eq name (codes "out") then joined outputs else [])
+value_of inputs outputs name = if bytes_eq name (codes "in") then joined inputs
+    else (if bytes_eq name (codes "out") then joined outputs else [])
 
 -- a part stands for itself, or for the value of the variable that it names
 abbrev pub part_value : (inputs outputs : List (List ℕ)) → PartText → List ℕ

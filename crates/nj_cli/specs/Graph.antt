@@ -1,5 +1,6 @@
 -- A build graph: its edges (the build statements) in the order in which they are read, numbered from 0.
-use Rattle.std.specs.Prelude.{ℕ, ◌<◌, Bool, true, false, not, ◌&&◌, ◌||◌, Option, List, [], ◌∷◌, map, filter, position, slice_index_or, EachIndex, All}
+use Rattle.std.specs.Prelude.{ℕ, ◌<◌, Bool, true, false, not, ◌&&◌, ◌||◌, Option, List, [], ◌∷◌, map, filter, position, slice_index_or}
+use Rattle.std.specs.Prelude.{EachIndex, All}
 use Rattle.std.specs.List.{list_any, list_all, filter_map, flat_map}
 use Rattle.std.specs.Str.{bytes_eq}
 use Rattle.nj_text.specs.Words.{PartText}

@@ -15,4 +15,5 @@ after_dot p = part.Named
 
 -- what stands after a path's last slash, with one byte more; nothing, where the path is not read then
 abbrev pub after_byte : Part → ℕ → Option Part
-after_byte p b = if b == 47 then after_slash p else (if b == 46 then Some (after_dot p) else (if is_path_byte b then Some part.Named else None))
+after_byte p b = if b == 47 then after_slash p
+    else (if b == 46 then Some (after_dot p) else (if is_path_byte b then Some part.Named else None))

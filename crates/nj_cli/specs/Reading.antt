@@ -1,5 +1,6 @@
 -- Which manifests are read, and what they hold.
-use Rattle.std.specs.Prelude.{ℕ, Bool, true, ◌&&◌, ◌||◌, not, if◌then◌else◌, Option, Some, None, unwrap_or, find, is_none, Result, Ok, Err, List, [], ◌∷◌, ◌++◌, codes}
+use Rattle.std.specs.Prelude.{ℕ, Bool, true, ◌&&◌, ◌||◌, not, if◌then◌else◌, Option, Some, None, unwrap_or, find, is_none, Result, Ok, Err}
+use Rattle.std.specs.Prelude.{List, [], ◌∷◌, ◌++◌, codes}
 use Rattle.std.specs.List.{list_all}
 use Rattle.std.specs.Str.{bytes_eq}
 use Rattle.nj_text.specs.Lines.{text_lines}
@@ -65,9 +66,11 @@ unless_refused line (Some m) read = read m
 abbrev pub read_on : (above : Option ℕ) → Manifest → List Saying → Result Manifest ℕ
 read_on above m [] = Ok m
 read_on above m (Blank ∷ others) = read_on None m others
-read_on above m (RuleLine line name ∷ BlockLine k (Some command) ∷ others) = unless_refused line (with_rule m name command) (λ n. read_on (Some line) n others)
+read_on above m (RuleLine line name ∷ BlockLine k (Some command) ∷ others) =
+    unless_refused line (with_rule m name command) (λ n. read_on (Some line) n others)
 read_on above m (RuleLine line name ∷ others) = Err line
-read_on above m (BuildLine line outputs name inputs ∷ others) = unless_refused line (with_edge m outputs name inputs) (λ n. read_on (Some line) n others)
+read_on above m (BuildLine line outputs name inputs ∷ others) =
+    unless_refused line (with_edge m outputs name inputs) (λ n. read_on (Some line) n others)
 read_on above m (BlockLine line command ∷ others) = Err (unwrap_or above line)
 read_on above m (Other line ∷ others) = Err line
 

@@ -25,7 +25,9 @@ Reads (Ok graph) expected = expected ≡ Ok (manifest_in graph)
 Reads (Err f) expected = RefusesAs f expected
 
 -- What is expected is what is expected of the sayings that are left, which are fewer; or the line is named that is expected.
-abbrev pub GoesOn : Result (Option ℕ) ReadFault → Graph → (left : Option (List Saying)) → (before : List Saying) → (expected : Result Manifest ℕ) → Type 0
+abbrev pub GoesOn : Result (Option ℕ) ReadFault → Graph → (left : Option (List Saying)) → (before : List Saying)
+    → (expected : Result Manifest ℕ) → Type 0
 GoesOn (Ok above) after left before expected =
-    (others : List Saying) × (left ≡ Some others) × (length others < length before) × (expected ≡ read_on above (manifest_in after) others) × IsWhole after
+    (others : List Saying) × (left ≡ Some others) × (length others < length before)
+    × (expected ≡ read_on above (manifest_in after) others) × IsWhole after
 GoesOn (Err f) after left before expected = RefusesAs f expected

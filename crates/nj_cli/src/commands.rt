@@ -27,8 +27,8 @@ fn put_joined(out: &mut Vec<u8>, paths: &[&[u8]]) -> Result<(), AllocError>
 
 /// Puts the value of a variable in the command of the edge.
 fn put_value(out: &mut Vec<u8>, edge: &Edge, name: &[u8]) -> Result<(), AllocError>
-    ensures { OnOk result (out.new.items
-        ≡ out.old.items ++ value_of (texts edge.now.inputs.items) (texts edge.now.outputs.items) name.now) }
+    ensures { OnOk result (out.new.items ≡ out.old.items
+        ++ value_of (texts edge.now.inputs.items) (texts edge.now.outputs.items) name.now) }
 {
     match name {
         b"in" => put_joined(out, &edge.inputs),
@@ -39,8 +39,9 @@ fn put_value(out: &mut Vec<u8>, edge: &Edge, name: &[u8]) -> Result<(), AllocErr
 
 /// Puts the parts of a command, each with what it stands for at the edge.
 pub fn put_parts(out: &mut Vec<u8>, edge: &Edge, parts: &[Part]) -> Result<(), AllocError>
-    ensures { OnOk result (out.new.items
-        ≡ out.old.items ++ flat_map (part_value (texts edge.now.inputs.items) (texts edge.now.outputs.items)) (map part_text parts.now)) }
+    ensures { OnOk result (out.new.items ≡ out.old.items
+        ++ flat_map (part_value (texts edge.now.inputs.items) (texts edge.now.outputs.items))
+        (map part_text parts.now)) }
 {
     'parts: for part in parts {
         match part {

@@ -43,7 +43,8 @@ impl<'a> Files<'a> {
     pub fn add_output(&mut self, path: &'a [u8], edge: usize) -> Result<bool, AllocError>
         ensures first { IfOk result (λ first. first ≡ is_none (file_at self.old path.now)) }
         ensures after { OnOk result ((q : List ℕ) → file_at self.new q
-            ≡ (if bytes_eq path.now q then Some (record { maker = Some edge; is_input = false }) else file_at self.old q)) }
+            ≡ (if bytes_eq path.now q then Some (record { maker = Some edge; is_input = false })
+            else file_at self.old q)) }
     {
         let file = File {
             maker: Some(edge),
@@ -56,7 +57,9 @@ impl<'a> Files<'a> {
     pub fn add_input(&mut self, path: &'a [u8]) -> Result<Option<usize>, AllocError>
         ensures maker { IfOk result (λ maker. maker ≡ maker_in (file_at self.old path.now)) }
         ensures after { OnOk result ((q : List ℕ) → file_at self.new q
-            ≡ (if bytes_eq path.now q then Some (record { maker = maker_in (file_at self.old path.now); is_input = true }) else file_at self.old q)) }
+            ≡ (if bytes_eq path.now q
+            then Some (record { maker = maker_in (file_at self.old path.now); is_input = true })
+            else file_at self.old q)) }
     {
         let maker = match self.get(path) {
             Some(file) => file.maker,

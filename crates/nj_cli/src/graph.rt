@@ -76,12 +76,14 @@ impl<'a> Graph<'a> {
         self.places.get(name).copied()
     }
 
-    /// Adds a rule, whose name is new, at the next place. Without memory for it the graph stays as it was.
+    /// Adds a rule, whose name is new, at the next place. Without memory for it the graph stays as
+    /// it was.
     pub fn add_rule(&mut self, rule: Rule<'a>) -> Result<(), AllocError>
         requires whole { IsWhole self.old }
         requires new { place_of (rules_of self.old) rule.name.now ≡ None }
         ensures rules { rules_of self.new
-            ≡ (if is_ok result then rules_of self.old ++ rule_text rule.entry ∷ [] else rules_of self.old) }
+            ≡ (if is_ok result then rules_of self.old ++ rule_text rule.entry ∷ []
+            else rules_of self.old) }
         ensures edges { edges_of self.new ≡ edges_of self.old }
         ensures whole_after { IsWhole self.new }
     {
@@ -95,13 +97,15 @@ impl<'a> Graph<'a> {
 
     /// Adds an edge, if it may come next; gives whether it may.
     ///
-    /// Where it may not, and without memory for it, the files are left half changed. The graph is then not
-    /// whole, and is of no more use.
+    /// Where it may not, and without memory for it, the files are left half changed. The graph is
+    /// then not whole, and is of no more use.
     pub fn add_edge(&mut self, alloc: Global, edge: Edge<'a>) -> Result<bool, AllocError>
         requires whole { IsWhole self.old }
         requires rule_in { edge.rule < length (rules_of self.old) }
-        ensures may_follow { IfOk result (λ may. may ≡ may_follow (edges_of self.old) (edge_text (rules_of self.old) edge.entry)) }
-        ensures edges { result ≡ Ok true → edges_of self.new ≡ edges_of self.old ++ edge_text (rules_of self.old) edge.entry ∷ [] }
+        ensures may_follow { IfOk result (λ may.
+            may ≡ may_follow (edges_of self.old) (edge_text (rules_of self.old) edge.entry)) }
+        ensures edges { result ≡ Ok true → edges_of self.new
+            ≡ edges_of self.old ++ edge_text (rules_of self.old) edge.entry ∷ [] }
         ensures no_edge { result ≢ Ok true → edges_of self.new ≡ edges_of self.old }
         ensures rules { rules_of self.new ≡ rules_of self.old }
         ensures whole_after { result ≡ Ok true → IsWhole self.new }
@@ -120,8 +124,10 @@ impl<'a> Graph<'a> {
     // Names the outputs of the next edge. Gives whether they are new.
     fn add_outputs(&mut self, edge: &Edge<'a>) -> Result<bool, AllocError>
         requires { FilesAre self.old.files (edges_of self.old) }
-        ensures new { IfOk result (λ new. new ≡ are_new (edges_of self.old) (texts edge.now.outputs.items)) }
-        ensures files { result ≡ Ok true → FilesAre self.new.files (edges_of self.old ++ naming (texts edge.now.outputs.items) [] ∷ []) }
+        ensures new { IfOk result (λ new.
+            new ≡ are_new (edges_of self.old) (texts edge.now.outputs.items)) }
+        ensures files { result ≡ Ok true → FilesAre self.new.files
+            (edges_of self.old ++ naming (texts edge.now.outputs.items) [] ∷ []) }
         ensures others { self.new ≡ record self.old { files = self.new.files } }
     {
         let number = self.edges.len();
@@ -133,19 +139,23 @@ impl<'a> Graph<'a> {
         Ok(true)
     }
 
-    // Names the inputs of the next edge, whose outputs are named and new. Gives the row of their makers,
-    // unless one of them is an output of the same edge.
+    // Names the inputs of the next edge, whose outputs are named and new. Gives the row of their
+    // makers, unless one of them is an output of the same edge.
     fn add_inputs(
         &mut self,
         alloc: Global,
         edge: &Edge<'a>,
     ) -> Result<Option<Vec<usize>>, AllocError>
         requires new { are_new (edges_of self.old) (texts edge.now.outputs.items) ≡ true }
-        requires files { FilesAre self.old.files (edges_of self.old ++ naming (texts edge.now.outputs.items) [] ∷ []) }
-        ensures made_elsewhere { IfOk result (λ row. is_some row ≡ are_made_elsewhere (texts edge.now.outputs.items) (texts edge.now.inputs.items)) }
-        ensures row { IfOk result (λ row. IfSome row (λ row. row.items ≡ row_of (edges_of self.old) (texts edge.now.inputs.items))) }
+        requires files { FilesAre self.old.files
+            (edges_of self.old ++ naming (texts edge.now.outputs.items) [] ∷ []) }
+        ensures made_elsewhere { IfOk result (λ row. is_some row
+            ≡ are_made_elsewhere (texts edge.now.outputs.items) (texts edge.now.inputs.items)) }
+        ensures row { IfOk result (λ row. IfSome row (λ row.
+            row.items ≡ row_of (edges_of self.old) (texts edge.now.inputs.items))) }
         ensures files_after { IfOk result (λ row. OnSome row (FilesAre self.new.files
-            (edges_of self.old ++ naming (texts edge.now.outputs.items) (texts edge.now.inputs.items) ∷ []))) }
+            (edges_of self.old
+            ++ naming (texts edge.now.outputs.items) (texts edge.now.inputs.items) ∷ []))) }
         ensures others { self.new ≡ record self.old { files = self.new.files } }
     {
         let number = self.edges.len();
@@ -165,7 +175,8 @@ impl<'a> Graph<'a> {
     pub fn pick(&self, path: &[u8]) -> Target
         requires { IsWhole self.now }
         ensures target { result ≡ target_of (edges_of self.now) path.now }
-        ensures within { (edge : ℕ) → result ≡ Target.Made edge → edge < length (edges_of self.now) }
+        ensures within { (edge : ℕ) → result ≡ Target.Made edge
+            → edge < length (edges_of self.now) }
     {
         match self.files.get(path) {
             None => Target::Unknown,
@@ -179,8 +190,10 @@ impl<'a> Graph<'a> {
     /// The edges that make the targets where none are asked for, by edge and then by output.
     pub fn default_row(&self, alloc: Global) -> Result<Vec<usize>, AllocError>
         requires { IsWhole self.now }
-        ensures row { IfOk result (λ row. row.items ≡ row_of (edges_of self.now) (defaults (edges_of self.now))) }
-        ensures within { IfOk result (λ row. All (λ edge. edge < length (edges_of self.now)) row.items) }
+        ensures row { IfOk result (λ row.
+            row.items ≡ row_of (edges_of self.now) (defaults (edges_of self.now))) }
+        ensures within { IfOk result (λ row.
+            All (λ edge. edge < length (edges_of self.now)) row.items) }
     {
         let mut row = Vec::new(alloc);
         'edges: for edge in &self.edges {
@@ -192,8 +205,9 @@ impl<'a> Graph<'a> {
     // Puts the makers of those of the paths that are no inputs.
     fn put_defaults(&self, row: &mut Vec<usize>, paths: &[&[u8]]) -> Result<(), AllocError>
         requires { IsWhole self.now }
-        ensures { OnOk result (row.new.items
-            ≡ row.old.items ++ row_of (edges_of self.now) (filter (λ path. not (is_input (edges_of self.now) path)) (texts paths.now))) }
+        ensures { OnOk result (row.new.items ≡ row.old.items
+            ++ row_of (edges_of self.now)
+            (filter (λ path. not (is_input (edges_of self.now) path)) (texts paths.now))) }
     {
         'paths: for path in paths {
             if let Some(maker) = self.default_maker(path) {
@@ -206,13 +220,15 @@ impl<'a> Graph<'a> {
     // The maker of the path, unless it is an input.
     fn default_maker(&self, path: &[u8]) -> Option<usize>
         requires { IsWhole self.now }
-        ensures { result ≡ (if is_input (edges_of self.now) path.now then None else maker_of (edges_of self.now) path.now) }
+        ensures { result ≡ (if is_input (edges_of self.now) path.now then None
+            else maker_of (edges_of self.now) path.now) }
     {
         let file = self.files.get(path)?;
         if file.is_input { None } else { file.maker }
     }
 
-    /// For each edge the edges that make its inputs. Each has a smaller number than the edge itself.
+    /// For each edge the edges that make its inputs. Each has a smaller number than the edge
+    /// itself.
     pub fn rows(&self) -> &[Vec<usize>]
         requires { IsWhole self.now }
         ensures rows { map (λ row. row.items) result.now ≡ makers (edges_of self.now) }
@@ -226,7 +242,8 @@ impl<'a> Graph<'a> {
     pub fn put_command(&self, out: &mut Vec<u8>, edge: usize) -> Result<(), AllocError>
         requires whole { IsWhole self.now }
         requires within { edge < length (edges_of self.now) }
-        ensures { OnOk result (out.new.items ≡ out.old.items ++ command_line (edge_at (edges_of self.now) edge)) }
+        ensures { OnOk result (out.new.items
+            ≡ out.old.items ++ command_line (edge_at (edges_of self.now) edge)) }
     {
         let edge = &self.edges[edge];
         let rule = &self.rules[edge.rule];

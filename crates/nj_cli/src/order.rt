@@ -19,7 +19,8 @@ struct Frame {
 struct Completed {
     flags: Vec<bool>,
     edges: Vec<usize>,
-    ghost flagged: { EachIndex flags.items (λ e. slice_index_or flags.items e false ≡ list_any (nat_eq e) edges.items) },
+    ghost flagged: { EachIndex flags.items (λ e.
+        slice_index_or flags.items e false ≡ list_any (nat_eq e) edges.items) },
 }
 
 impl Completed {
@@ -46,7 +47,8 @@ impl Completed {
     /// Completes the edge.
     fn push(&mut self, edge: usize) -> Result<(), AllocError>
         requires { edge < vec_len self.old.flags }
-        ensures edges { self.new.edges.items ≡ (if is_ok result then self.old.edges.items ++ edge ∷ [] else self.old.edges.items) }
+        ensures edges { self.new.edges.items
+            ≡ (if is_ok result then self.old.edges.items ++ edge ∷ [] else self.old.edges.items) }
         ensures flags { vec_len self.new.flags ≡ vec_len self.old.flags }
     {
         self.edges.push(edge)?;
@@ -59,7 +61,8 @@ impl Completed {
 fn open(stack: &mut Vec<Frame>, frame: Frame, maker: usize) -> Result<(), AllocError>
     requires { frame.place + 1 < 2 ^ 64 }
     ensures { OnOk result (stack.new.items ≡ stack.old.items
-        ++ record { edge = frame.edge; place = frame.place + 1 } ∷ record { edge = maker; place = 0 } ∷ []) }
+        ++ record { edge = frame.edge; place = frame.place + 1 }
+        ∷ record { edge = maker; place = 0 } ∷ []) }
 {
     stack.push(Frame {
         edge: frame.edge,
@@ -84,9 +87,11 @@ fn complete(
     requires flags { vec_len completed.old.flags ≡ length rows.now }
     requires closed { IsClosed (rows_of rows.now) completed.old.edges.items }
     ensures edges { IfOk result (λ _. completed.new.edges.items
-        ≡ with_new completed.old.edges.items (unfolded (rows_of rows.now) (length (rows_of rows.now)) target)) }
+        ≡ with_new completed.old.edges.items
+        (unfolded (rows_of rows.now) (length (rows_of rows.now)) target)) }
     ensures flags_after { vec_len completed.new.flags ≡ length rows.now }
-    ensures closed_after { IfOk result (λ _. IsClosed (rows_of rows.now) completed.new.edges.items) }
+    ensures closed_after { IfOk result (λ _.
+        IsClosed (rows_of rows.now) completed.new.edges.items) }
 {
     let mut stack = Vec::new(alloc);
     stack.push(Frame {
@@ -106,9 +111,9 @@ fn complete(
     Ok(())
 }
 
-/// The edges that the targets' makers need, and they themselves, each once, in the order in which they
-/// are first completed from left to right. `rows` holds for each edge the edges that make its inputs,
-/// `targets` the edges that make the targets. Fails only where memory runs out.
+/// The edges that the targets' makers need, and they themselves, each once, in the order in which
+/// they are first completed from left to right. `rows` holds for each edge the edges that make its
+/// inputs, `targets` the edges that make the targets. Fails only where memory runs out.
 pub fn needed_order(
     alloc: Global,
     rows: &[Vec<usize>],
@@ -125,8 +130,8 @@ pub fn needed_order(
     Ok(completed.edges)
 }
 
-/// What the order of the needed edges is for: it has the edges that the targets reach and no others, none
-/// twice, and each after every edge that it needs, directly or through others.
+/// What the order of the needed edges is for: it has the edges that the targets reach and no
+/// others, none twice, and each after every edge that it needs, directly or through others.
 pub fn order_law()
     ensures reached { OrderHasTheReached }
     ensures once { OrderHasEachOnce }

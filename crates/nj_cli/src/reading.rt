@@ -93,7 +93,8 @@ fn read_build<'a>(
     build: Build<'a>,
 ) -> Result<Option<usize>, ReadFault>
     requires { IsWhole graph.old }
-    ensures { (above : Option ℕ) (others : List Saying) → GoesOn result graph.new (Some others) (build_saying line build.entry ∷ others)
+    ensures { (above : Option ℕ) (others : List Saying)
+        → GoesOn result graph.new (Some others) (build_saying line build.entry ∷ others)
         (read_on above (manifest_in graph.old) (build_saying line build.entry ∷ others)) }
 {
     let Some(rule) = graph.find_rule(build.rule) else {
@@ -111,8 +112,8 @@ fn read_build<'a>(
     }
 }
 
-/// Reads the statement that begins with what was said. `above` is the first line of the one to whose block an indented
-/// line would belong; gives that for the line that follows.
+/// Reads the statement that begins with what was said. `above` is the first line of the one to
+/// whose block an indented line would belong; gives that for the line that follows.
 fn read_statement<'a>(
     alloc: Global,
     lexer: &mut Lexer<'a>,
@@ -121,7 +122,8 @@ fn read_statement<'a>(
     said: Said<'a>,
 ) -> Result<Option<usize>, ReadFault>
     requires { IsWhole graph.old }
-    ensures { (others : List Saying) → (goes_on (saying_text said.entry) ≡ true → sayings_left lexer.old ≡ Some others)
+    ensures { (others : List Saying)
+        → (goes_on (saying_text said.entry) ≡ true → sayings_left lexer.old ≡ Some others)
         → GoesOn result graph.new (sayings_left lexer.new) (saying_text said.entry ∷ others)
         (read_on above (manifest_in graph.old) (saying_text said.entry ∷ others)) }
 {

@@ -177,7 +177,8 @@ fn statement<'a>(alloc: Global, lexer: &mut Lexer<'a>, line: usize) -> Result<Sa
 
 /// A line that begins with no space, whatever it says.
 fn plain_line<'a>(alloc: Global, lexer: &mut Lexer<'a>, line: usize) -> Result<Said<'a>, AllocError>
-    ensures { IfOk result (λ said. IsSaid (saying_text said) lexer.new (Other line) (statement_next line lexer.old)) }
+    ensures { IfOk result (λ said. IsSaid (saying_text said) lexer.new
+        (Other line) (statement_next line lexer.old)) }
 {
     match statement(alloc, lexer, line) {
         Ok(said) => Ok(said),
@@ -188,7 +189,8 @@ fn plain_line<'a>(alloc: Global, lexer: &mut Lexer<'a>, line: usize) -> Result<S
 
 /// An indented line, behind its leading spaces.
 fn block_line<'a>(alloc: Global, lexer: &mut Lexer<'a>, line: usize) -> Result<Said<'a>, AllocError>
-    ensures { IfOk result (λ said. IsSaid (saying_text said) lexer.new (BlockLine line None) (block_next line lexer.old)) }
+    ensures { IfOk result (λ said. IsSaid (saying_text said) lexer.new
+        (BlockLine line None) (block_next line lexer.old)) }
 {
     match command_value(alloc, lexer) {
         Ok(value) => Ok(Said::Block(line, Some(value))),
@@ -197,10 +199,11 @@ fn block_line<'a>(alloc: Global, lexer: &mut Lexer<'a>, line: usize) -> Result<S
     }
 }
 
-/// What the next line says that is no comment; `None` at the end of the text. Behind a line that departs from what is read
-/// the lexer may stand anywhere.
+/// What the next line says that is no comment; `None` at the end of the text. Behind a line that
+/// departs from what is read the lexer may stand anywhere.
 pub fn next_saying<'a>(alloc: Global, lexer: &mut Lexer<'a>) -> Result<Option<Said<'a>>, AllocError>
-    ensures { IfOk result (λ said. IsFirst (option_map saying_text said) (sayings_left lexer.old) (sayings_left lexer.new)) }
+    ensures { IfOk result (λ said. IsFirst (option_map saying_text said)
+        (sayings_left lexer.old) (sayings_left lexer.new)) }
 {
     let start = lexer.start_line();
     let line = lexer.spot().line;
