@@ -1,5 +1,6 @@
 -- Build statements as edges: the files that they name, by their paths.
-use Rattle.std.specs.Prelude.{ℕ, ◌+◌, Bool, false, ◌||◌, not, if◌then◌else◌, Option, Some, None, option_map, List, [], ◌∷◌, ◌++◌, length, slice_index_or, nat_lt, bytes_eq}
+use Rattle.std.specs.Prelude.{ℕ, ◌+◌, Bool, false, ◌||◌, not, if◌then◌else◌, Option, Some, None, option_map, List, [], ◌∷◌, ◌++◌, length}
+use Rattle.std.specs.Prelude.{slice_index_or, nat_lt, bytes_eq}
 use Rattle.std.specs.List.{list_any, filter, flat_map}
 use Rattle.nj_edges.specs.declared.edges.InputKind.{InputKind}
 use Rattle.nj_edges.specs.declared.edges.InputKind.TheVariants.{Explicit, Implicit, OrderOnly}

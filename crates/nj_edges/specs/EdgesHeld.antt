@@ -1,5 +1,6 @@
 -- How the edges of a graph are held: by the numbers of files.
-use Rattle.std.specs.Prelude.{◌≡◌, ℕ, ◌<◌, ◌≤◌, ◌-◌, ◌==◌, ◌||◌, if◌then◌else◌, Bool, true, false, Option, None, Some, is_some, List, [], ◌∷◌, ◌++◌, map, length, take, drop, slice_get, slice_index_or, slice_range, bytes_eq}
+use Rattle.std.specs.Prelude.{◌≡◌, ℕ, ◌<◌, ◌≤◌, ◌-◌, ◌==◌, ◌||◌, if◌then◌else◌, Bool, true, false, Option, None, Some, is_some, List, []}
+use Rattle.std.specs.Prelude.{◌∷◌, ◌++◌, map, length, take, drop, slice_get, slice_index_or, slice_range, bytes_eq}
 use Rattle.std.specs.List.{list_any, flat_map, AllByRecursion, IsDistinct}
 use Rattle.nj_edges.specs.declared.files.FileNo.{FileNo}
 use Rattle.nj_edges.specs.declared.edges.Span.{Span}

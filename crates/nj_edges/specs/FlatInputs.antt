@@ -19,4 +19,5 @@ flat_numbers rows = flat_map plain rows
 -- the makers of the inputs of the edge of a number, by its row
 abbrev pub makers_in_row : (inputs : List FileNo) → List EdgeRow → (makers : List (Option ℕ)) → (edge : ℕ) → List ℕ
 makers_in_row inputs rows makers edge =
-    filter_map (λ file. slice_index_or makers file None) (plain (unwrap_or (slice_get (map (λ (row : EdgeRow). within inputs row.inputs) rows) edge) []))
+    filter_map (λ file. slice_index_or makers file None)
+    (plain (unwrap_or (slice_get (map (λ (row : EdgeRow). within inputs row.inputs) rows) edge) []))

@@ -156,8 +156,8 @@ impl EdgeGraph {
         users_at(&self.users.spans, &self.users.edges, file)
     }
 
-    /// The edges that name this file as a validation ("Validations" in the Ninja manual), by number,
-    /// each once.
+    /// The edges that name this file as a validation ("Validations" in the Ninja manual), by
+    /// number, each once.
     pub fn validation_users(&self, file: FileNo) -> &[EdgeNo]
         requires { file.0 < length self.now.files }
         ensures users { map (λ edge. edge.0) result.now
