@@ -1,6 +1,7 @@
 -- Where a walk stands: the path of open edges, the first that was opened first, and the next place in the inputs of the last
 -- of them, or in the target list where none is open. What is done then, and how many turns are left, follow from it.
-use Rattle.std.specs.Prelude.{◌≡◌, ℕ, ◌+◌, ◌-◌, ◌<◌, ◌≤◌, Bool, true, false, if◌then◌else◌, Option, Some, List, [], ◌∷◌, ◌++◌, length, map, take, nat_eq, slice_get, slice_index_or}
+use Rattle.std.specs.Prelude.{◌≡◌, ℕ, ◌+◌, ◌-◌, ◌<◌, ◌≤◌, Bool, true, false, if◌then◌else◌, Option, Some, List, [], ◌∷◌, ◌++◌, length, map}
+use Rattle.std.specs.Prelude.{take, nat_eq, slice_get, slice_index_or}
 use Rattle.std.specs.List.{list_any}
 use Rattle.nj_needs.specs.Order.{unfolded_row, order, needed_commands}
 use Rattle.nj_needs.specs.Marks.{without}
