@@ -1,4 +1,5 @@
-//! Loads `build.ninja` of the working folder with all that it includes, and prints how many files were read.
+//! Loads `build.ninja` of the working folder with all that it includes, and prints how many files
+//! were read.
 #![tactic(auto)]
 
 use nj_cli::DiskFiles;
