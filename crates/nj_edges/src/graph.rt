@@ -332,6 +332,18 @@ mod tests {
         assert_eq!(rt; cycle_of(rt.alloc(), edges)?, None);
         Ok(())
     }
+
+    // Adds an edge that makes a file, has `s` as an input twice, and names `v` as a validation.
+    fn add_user(edges: &mut Edges, output: &[u8]) -> Result<(), AllocError>
+        ensures { OnOk result (edges.new.«open» ≡ no_files) }
+    {
+        edges.add_output(output)?;
+        edges.add_input(b"s")?;
+        edges.add_input(b"s")?;
+        edges.add_validation(b"v")?;
+        end(edges, 1)
+    }
+
     // The numbers of these edges.
     fn numbers(alloc: Global, edges: &[EdgeNo]) -> Result<Vec<usize>, AllocError> {
         let mut numbers = Vec::new(alloc);
@@ -362,14 +374,9 @@ mod tests {
     fn users_are_in_order(rt: HostRuntime) -> Result<(), Fail> {
         let alloc = rt.alloc();
         let mut edges = Edges::new(alloc, HashKeys::default());
-        let outputs: [&[u8]; 3] = [b"a", b"b", b"c"];
-        'outputs: for output in &outputs {
-            edges.add_output(output)?;
-            edges.add_input(b"s")?;
-            edges.add_input(b"s")?;
-            edges.add_validation(b"v")?;
-            end(&mut edges, 1)?;
-        }
+        add_user(&mut edges, b"a")?;
+        add_user(&mut edges, b"b")?;
+        add_user(&mut edges, b"c")?;
         let Finished::Graph(graph) = edges.finish(alloc)? else {
             return Err(Fail::from("the edges have no cycle"));
         };
