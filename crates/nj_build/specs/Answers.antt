@@ -67,7 +67,8 @@ inputs_of_build b = record {
 }
 
 abbrev pub build_text : Build → StatementText
-build_text b = BuildText (outputs_of_build b) (record { spot = b.rule_spot; name = b.rule.now }) (inputs_of_build b) (lines_text b.lines.now)
+build_text b =
+    BuildText (outputs_of_build b) (record { spot = b.rule_spot; name = b.rule.now }) (inputs_of_build b) (lines_text b.lines.now)
 
 -- ---- the files of an edge
 
@@ -177,6 +178,7 @@ entry_at_place place around depth item = record {
 }
 
 -- the statement has no fault and is held, or its fault is answered
-abbrev pub ReadsStatement : (after : BuildingText) → Option GraphFault → Entry → (before : List Entry) → Result (Unit {0}) GraphFault → Type 0
+abbrev pub ReadsStatement : (after : BuildingText) → Option GraphFault → Entry → (before : List Entry)
+    → Result (Unit {0}) GraphFault → Type 0
 ReadsStatement after expected e before (Ok done) = (expected ≡ None) × HoldsEdges after (e ∷ before)
 ReadsStatement after expected e before (Err fault) = IsFault expected fault

@@ -226,7 +226,7 @@ fn add_targets(
         (paths_said values (words_text words.now))) }
 {
     'words: for word in words {
-        let file = line.target(room, edges, word)?;
+        let file = line.named_file(room, edges, word)?;
         targets.push(file)?;
     }
     Ok(())

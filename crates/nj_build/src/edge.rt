@@ -63,7 +63,7 @@ impl NamedLine<'_, '_, '_> {
     }
 
     /// The file that a word names, which an edge before has to name.
-    pub(crate) fn target(
+    pub(crate) fn named_file(
         self,
         room: &mut Room,
         edges: &Edges,

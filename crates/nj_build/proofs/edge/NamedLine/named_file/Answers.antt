@@ -9,7 +9,7 @@ use Rattle.nj_build.specs.EdgeList.{path_said}
 use Rattle.nj_build.specs.BuildFaults.{fault_if, empty_path, unknown_target, target_fault}
 use Rattle.nj_build.specs.Answers.{IsFault}
 use Rattle.nj_build.proofs.Faults.{fault-first, fault-second, both-none, err-checks}
-use Rattle.nj_build.proofs.edge.NamedLine.target.Goals as goal
+use Rattle.nj_build.proofs.edge.NamedLine.named_file.Goals as goal
 
 pub returns-in_err-path-clause-fault : goal.returns-in_err-path-clause-fault
 returns-in_err-path-clause-fault c = λ values sees none.
