@@ -1,5 +1,5 @@
 -- Lemmas on the check for cycles of a rule's variables.
-use Rattle.std.proofs.Common.{◌≡◌, ◌<◌, ◌≤◌, ◌+◌, ◌⊎◌, inl, inr, ℕ, zero, suc, Bool, true, false, ◌||◌, if◌then◌else◌, Bor, length-append, List, [], ◌∷◌, ◌++◌, map, length, take, set, slice_get, get_or, Option, Some, None, is_some, option_map, unwrap_or, bytes_eq, refl, sym, ap, subst, ◌∙◌, true≢false, arith, add-one, below_more, length-set, Ordering, Less, Equal, Greater}
+use Rattle.std.proofs.Common.{◌≡◌, ◌<◌, ◌≤◌, ◌+◌, ◌⊎◌, inl, inr, ℕ, zero, suc, Bool, true, false, ◌||◌, if◌then◌else◌, Bor, length-append, List, [], ◌∷◌, ◌++◌, length, take, set, slice_get, get_or, Option, Some, None, is_some, option_map, bytes_eq, refl, sym, ap, subst, ◌∙◌, true≢false, arith, add-one, below_more, length-set, Ordering, Less, Equal, Greater}
 use Rattle.std.specs.Prelude.{slice_index_or, All, IfSome, option_copied}
 use Rattle.std.specs.Ordering.{nat_cmp, ordering_reverse}
 use Rattle.std.specs.Cmp.Lexicographic.{slice_cmp}
@@ -7,19 +7,19 @@ use Rattle.std.proofs.lemmas.Cmp.{nat_list_cmp_total}
 use Rattle.std.proofs.lemmas.Bool.{cases_lt}
 use Rattle.std.proofs.lemmas.List.{get_or_past}
 use Rattle.std.proofs.lemmas.List.Elements.{All-get_or}
-use Rattle.std.specs.List.{list_any}
 use Rattle.std.proofs.lemmas.List.Folds.{list_any-append}
 use Rattle.std.proofs.lemmas.Option.{slice_get_within, slice_get-get_or, get_or_from_slice_get}
 use Rattle.std.proofs.Math.Seq.{take-suc, take-length}
-use Rattle.nj_text.specs.Words.{PartText, Text, Name}
+use Rattle.nj_text.specs.Words.{PartText, Name}
 use Rattle.nj_scope.specs.Rules.{RuleLineText, given}
 use Rattle.nj_scope.specs.RulesHeld.{last_lines, key_count, key_at, IsNumber}
 use Rattle.nj_scope.proofs.KeyLemmas.{numbers_differ, keys_are_numbered, given_of_line}
 use Rattle.nj_late.specs.LateTexts.{names_paths, is_of_command, unless_empty, rule_value, value_given, refers, refers_in}
-use Rattle.nj_late.specs.VariableCycles.{RefersTo, Reaches, IsOnCycle, HasNoCycle, IsCycleFound}
+use Rattle.nj_late.specs.VariableCycles.{RefersTo, Reaches, IsOnCycle, IsCycleFound, variable_cycle_of}
 use Rattle.nj_late.specs.VariableCycles.Reaches.{one, more}
 use Rattle.nj_late.specs.CyclesHeld.{IsMarked, Hits, Leads, IsLeft, IsLesser, unmarked, AreCounted, MarksLead, IsClosed, rule_value_unless}
-use Rattle.nj_late.proofs.SaidLemmas.{same_name, IsRuleValue, rule_value_is, rule_value_of, given_at}
+use Rattle.nj_late.proofs.SaidLemmas.{same_name, rule_value_is, rule_value_of, given_at}
+use Rattle.nj_late.proofs.CycleLaws.{is_computed}
 
 either_or : (b : Bool) → (b || false) ≡ true → b ≡ true
 either_or true h = refl
@@ -284,13 +284,14 @@ unbound_reaches block lines a b (more {next = c} r d) = more (unbound_refers blo
     unbound_refers : (block : List ℕ → Option (List ℕ)) (lines : List RuleLineText) (a b : List ℕ) → RefersTo block lines a b → RefersTo (λ _. None) lines a b
     unbound_refers block lines a b r = let is = rule_value_is block lines a r.0 r.1 in (r.0, rule_value_of (λ _. None) lines a is.no_paths refl ∙ is.given, r.2)
 
-pub never_cycle : (lines : List RuleLineText) (least : Option ℕ) → IsCycleFound (λ _. None) lines (option_map (key_at lines) least) → is_some least ≡ false → (block : List ℕ → Option (List ℕ)) → HasNoCycle block lines
-never_cycle lines None found none block = λ key on. found key (unbound_reaches block lines key key on)
+pub never_cycle : (lines : List RuleLineText) (least : Option ℕ) → IsCycleFound (λ _. None) lines (option_map (key_at lines) least) → is_some least ≡ false → (block : List ℕ → Option (List ℕ))
+    → variable_cycle_of block lines ≡ None
+never_cycle lines None found none block = sym (is_computed block lines None (λ key on. found key (unbound_reaches block lines key key on)))
 never_cycle lines (Some n) found none block = absurd (true≢false none)
 
-pub some_cycle : (lines : List RuleLineText) (least : Option ℕ) → IsCycleFound (λ _. None) lines (option_map (key_at lines) least) → is_some least ≡ true → ¬ HasNoCycle (λ _. None) lines
-some_cycle lines None found some free = true≢false (sym some)
-some_cycle lines (Some n) found some free = free (key_at lines n) found.0
+pub some_cycle : (block : List ℕ → Option (List ℕ)) (lines : List RuleLineText) (least : Option ℕ) → IsCycleFound block lines (option_map (key_at lines) least) → is_some least ≡ is_some (variable_cycle_of block lines)
+some_cycle block lines None found = ap is_some (is_computed block lines None found)
+some_cycle block lines (Some n) found = ap is_some (is_computed block lines (Some (key_at lines n)) found)
 
 pub copied_some : (o : Option (Bor (List ℕ))) (p : Option (List ℕ)) → option_copied o ≡ p → is_some o ≡ is_some p
 copied_some None p e = ap is_some e

@@ -1,11 +1,11 @@
 -- Small rules and edges, worked out on the definitions.
-use Rattle.std.proofs.Common.{◌≡◌, ◌++◌, ℕ, List, [], ◌∷◌, Option, Some, None, true, false, if◌then◌else◌, bytes_eq, refl}
+use Rattle.std.proofs.Common.{◌≡◌, ℕ, List, [], ◌∷◌, Option, Some, None, false, if◌then◌else◌, bytes_eq, refl}
 use Rattle.std.specs.Prelude.{codes}
 use Rattle.nj_text.specs.Quotes.{quoted}
 use Rattle.nj_text.specs.Words.{PartText, Text, Name}
 use Rattle.nj_scope.specs.Rules.{RuleLineText}
 use Rattle.nj_late.specs.LateTexts.{LateNames, asked_text}
-use Rattle.nj_late.specs.VariableCycles.{RefersTo, Reaches, IsOnCycle}
+use Rattle.nj_late.specs.VariableCycles.{IsOnCycle, variable_cycle_of}
 use Rattle.nj_late.specs.VariableCycles.Reaches.{one, more}
 
 abbrev nothing : List ℕ → Option (List ℕ)
@@ -55,3 +55,32 @@ on_cycle = more {next = codes "description"} (Name (codes "description") ∷ [],
 
 broken : asked_text (edge (only (codes "description") (codes "x")) circle) (codes "command") ≡ codes "x"
 broken = refl
+
+-- the lesser of both is named, whichever line stands first
+least : variable_cycle_of nothing circle ≡ Some (codes "command")
+unfolding variable_cycle_of
+least = refl
+
+least_last : variable_cycle_of nothing (line (codes "description") (Name (codes "command") ∷ []) ∷ line (codes "command") (Name (codes "description") ∷ []) ∷ []) ≡ Some (codes "command")
+unfolding variable_cycle_of
+least_last = refl
+
+no_more : variable_cycle_of (only (codes "description") (codes "x")) circle ≡ None
+unfolding variable_cycle_of
+no_more = refl
+
+-- command = a$command
+own : variable_cycle_of nothing (line (codes "command") (Text (codes "a") ∷ Name (codes "command") ∷ []) ∷ []) ≡ Some (codes "command")
+unfolding variable_cycle_of
+own = refl
+
+-- command = cc @$rspfile, rspfile = $rspfile_content, rspfile_content = $rspfile: the command only leads to the cycle
+aside : variable_cycle_of nothing (line (codes "command") (Text (codes "cc @") ∷ Name (codes "rspfile") ∷ []) ∷ line (codes "rspfile") (Name (codes "rspfile_content") ∷ []) ∷ line (codes "rspfile_content") (Name (codes "rspfile") ∷ []) ∷ [])
+    ≡ Some (codes "rspfile")
+unfolding variable_cycle_of
+aside = refl
+
+-- command = $description, then command =, description = $command: the last line counts, and says nothing, so it is not given
+not_given : variable_cycle_of nothing (line (codes "command") (Name (codes "description") ∷ []) ∷ line (codes "command") [] ∷ line (codes "description") (Name (codes "command") ∷ []) ∷ []) ≡ None
+unfolding variable_cycle_of
+not_given = refl

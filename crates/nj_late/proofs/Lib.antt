@@ -1,4 +1,5 @@
 pub mod SaidLemmas
+pub mod CycleLaws
 pub mod CycleLemmas
 pub mod LateRows
 pub mod PathLemmas

@@ -1,19 +1,19 @@
 -- What names say: late texts, where no variable of a rule refers back to itself.
-use Rattle.std.proofs.Common.{◌≡◌, ℕ, zero, suc, ◌<◌, ◌≤◌, Bool, true, false, not, ◌&&◌, ◌||◌, if◌then◌else◌, List, [], ◌∷◌, ◌++◌, length, Option, None, Some, unwrap_or, option_map, bytes_eq, refl, sym, ap, subst, ◌∙◌, true≢false, arith}
+use Rattle.std.proofs.Common.{◌≡◌, ℕ, zero, suc, ◌<◌, ◌≤◌, Bool, true, false, ◌||◌, if◌then◌else◌, List, [], ◌∷◌, ◌++◌, length, Option, None, Some, unwrap_or, option_map, bytes_eq, refl, sym, ap, subst, ◌∙◌, true≢false, arith}
 use Rattle.std.specs.Prelude.{is_some, codes, find, reverse, ◌⊎◌}
 use Rattle.std.proofs.Common.{inl, inr}
-use Rattle.std.specs.List.{list_any}
 use Rattle.std.proofs.lemmas.Slice.Eq.{bytes_eq-Decides}
 use Rattle.std.proofs.lemmas.List.{reverse-append}
 use Rattle.std.proofs.lemmas.List.Folds.{list_any-append}
 use Rattle.nj_text.specs.Words.{PartText, Text, Name}
 use Rattle.nj_scope.specs.Rules.{RuleLineText, given}
-use Rattle.nj_scope.specs.Scopes.{or_else, part_expanded, expanded}
-use Rattle.nj_late.specs.LateTexts.{LateNames, text_of_paths, paths_text, names_paths, is_one_of, value_given, unless_empty, is_of_command, rule_value, file_value, refers, refers_in, Says, late_in, late_text}
+use Rattle.nj_scope.specs.RulesHeld.{has_key}
+use Rattle.nj_scope.specs.Scopes.{or_else, expanded}
+use Rattle.nj_late.specs.LateTexts.{LateNames, text_of_paths, paths_text, names_paths, is_one_of, value_given, unless_empty, is_of_command, rule_value, file_value, refers, Says, late_in, late_text}
 use Rattle.nj_late.specs.LateTexts.Says.{by_paths, by_block, by_rule, by_file}
 use Rattle.nj_late.specs.VariableCycles.{RefersTo, Reaches, IsOnCycle, HasNoCycle}
 use Rattle.nj_late.specs.VariableCycles.Reaches.{one, more}
-use Rattle.nj_late.specs.Laws.{LateTextIsSaid, OneTextIsSaid, CycleSaysNothing, BlockWins, RuleWins, FileIsLast}
+use Rattle.nj_late.specs.Laws.{LateTextIsSaid, OneTextIsSaid, CycleSaysNothing, RuleWins}
 
 -- ---- names
 
@@ -155,9 +155,6 @@ unseen_longer seen name (l ∷ lines) = by (bytes_eq l.key name) (is_one_of seen
     by false true h = h
     by false false h = omega arith
 
-abbrev has_key : List RuleLineText → (key : List ℕ) → Bool
-has_key lines key = list_any (λ l. bytes_eq key l.key) lines
-
 unseen_fewer : (seen : List (List ℕ)) (name : List ℕ) (lines : List RuleLineText) → is_one_of seen name ≡ false → has_key lines name ≡ true → unseen (name ∷ seen) lines < unseen seen lines
 unfolding unseen
 unseen_fewer seen name [] new has = absurd (true≢false (sym has))
@@ -217,13 +214,16 @@ reached_push : (block : List ℕ → Option (List ℕ)) (lines : List RuleLineTe
 reached_push block lines key next other (one r) s = more r (one s)
 reached_push block lines key next other (more {next = middle} r c) s = more r (reached_push block lines middle next other c s)
 
+-- a value of the rule that counts stands in a line
+pub counts_in_line : (block : List ℕ → Option (List ℕ)) (lines : List RuleLineText) (name : List ℕ) (parts : List PartText) → rule_value block lines name ≡ Some parts → has_key lines name ≡ true
+counts_in_line block lines name parts h =
+    sym (has_reversed lines name) ∙ found_last (reverse lines) name parts (given_at lines name parts (rule_value_is block lines name parts h).given)
+
 pub settled : (block : List ℕ → Option (List ℕ)) (lines : List RuleLineText) → HasNoCycle block lines → (depth : ℕ) (seen : List (List ℕ)) (name : List ℕ)
     → ((s : List ℕ) → is_one_of seen s ≡ true → Reaches block lines s name) → unseen seen lines < depth → Settles block lines depth name
 settled block lines none zero seen name comes lt = absurd (omega arith)
 settled block lines none (suc depth) seen name comes lt = λ other r.
-    let is = rule_value_is block lines name r.0 r.1 in
-    let has : has_key lines name ≡ true = sym (has_reversed lines name) ∙ found_last (reverse lines) name r.0 (given_at lines name r.0 is.given) in
-    let fewer = unseen_fewer seen name lines (new (is_one_of seen name) refl) has in
+    let fewer = unseen_fewer seen name lines (new (is_one_of seen name) refl) (counts_in_line block lines name r.0 r.1) in
     settled block lines none depth (name ∷ seen) other (λ s among. onward other r s (bytes_eq s name) refl among) (omega arith)
   where
     new : (b : Bool) → is_one_of seen name ≡ b → is_one_of seen name ≡ false

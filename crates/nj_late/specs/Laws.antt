@@ -1,9 +1,10 @@
 -- Laws of late texts, in the words of Ninja's manual.
-use Rattle.std.specs.Prelude.{◌≡◌, ℕ, Bool, false, Option, Some, None, List, length}
+use Rattle.std.specs.Prelude.{◌≡◌, ℕ, Bool, false, Option, Some, None, List}
 use Rattle.nj_text.specs.Words.{PartText}
 use Rattle.nj_scope.specs.Scopes.{expanded}
+use Rattle.nj_scope.specs.Rules.{RuleLineText}
 use Rattle.nj_late.specs.LateTexts.{LateNames, Says, late_text, names_paths, value_given, file_value}
-use Rattle.nj_late.specs.VariableCycles.{IsOnCycle, HasNoCycle}
+use Rattle.nj_late.specs.VariableCycles.{IsOnCycle, HasNoCycle, IsCycleFound, variable_cycle_of}
 
 -- Where no variable of the rule refers back to itself, each name says its late text.
 abbrev pub LateTextIsSaid : Type 0
@@ -35,3 +36,8 @@ abbrev pub FileIsLast : Type 0
 FileIsLast = (quoting : Bool) (n : LateNames) (name : List ℕ) → names_paths name ≡ false → n.block name ≡ None
     → value_given n.lines name ≡ None
     → late_text quoting n name ≡ file_value n name
+
+-- The key that is computed is the least one that refers back to itself, and there is none where none does.
+abbrev pub ComputedCycleIsFound : Type 0
+ComputedCycleIsFound = (block : List ℕ → Option (List ℕ)) (lines : List RuleLineText)
+    → IsCycleFound block lines (variable_cycle_of block lines)

@@ -3,7 +3,7 @@
 ghost use Rattle.std.specs.Prelude.{◌≡◌, ◌<◌, ◌⊎◌, ℕ, List, [], ◌∷◌, Option, true, false, length, None, IfOk, IfSome, is_some, option_map, option_copied};
 ghost use Rattle.nj_text.specs.Words.{part_text};
 ghost use Rattle.nj_scope.specs.RulesHeld.{key_count, key_at};
-ghost use Rattle.nj_late.specs.VariableCycles.{IsOnCycle, HasNoCycle, IsCycleFound};
+ghost use Rattle.nj_late.specs.VariableCycles.{IsOnCycle, IsCycleFound, variable_cycle_of};
 ghost use Rattle.nj_late.specs.CyclesHeld.{IsMarked, Hits, Leads, IsLeft, IsLesser, unmarked, AreCounted, MarksLead, IsClosed, rule_value_unless};
 ghost use Rattle.nj_blocks.specs.Blocks.{bound_in};
 
@@ -23,8 +23,8 @@ pub fn variable_cycle<'a>(
     blocks: &Blocks,
     edge: usize,
 ) -> Result<Option<&'a [u8]>, AllocError>
-    ensures { IfOk result (λ key.
-        IsCycleFound (bound_in blocks.now edge) rule.now.lines (option_copied key)) }
+    ensures { IfOk result (λ key. option_copied key
+        ≡ variable_cycle_of (bound_in blocks.now edge) rule.now.lines) }
 {
     let mut counts = Vec::with_capacity(alloc, rule.key_count())?;
     'keys: for number in 0..rule.key_count() {
@@ -40,10 +40,10 @@ pub fn variable_cycle<'a>(
 /// Whether a block could leave a cycle of the rule's variables: whether there is one where nothing
 /// is bound. It is to be asked once for each rule.
 pub fn may_cycle(alloc: Global, rule: &Rule) -> Result<bool, AllocError>
+    ensures unbound { IfOk result (λ may.
+        may ≡ is_some (variable_cycle_of (λ _. None) rule.now.lines)) }
     ensures no { IfOk result (λ may. may ≡ false → (block : List ℕ → Option (List ℕ))
-        → HasNoCycle block rule.now.lines) }
-    ensures yes { IfOk result (λ may. may ≡ true
-        → ¬ HasNoCycle (λ _. None) rule.now.lines) }
+        → variable_cycle_of block rule.now.lines ≡ None) }
 {
     let mut counts = Vec::with_capacity(alloc, rule.key_count())?;
     'keys: for number in 0..rule.key_count() {

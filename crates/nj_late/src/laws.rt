@@ -1,6 +1,6 @@
 //! Laws of late texts. A law is a theorem, stated as a function with an empty body.
 
-ghost use Rattle.nj_late.specs.Laws.{LateTextIsSaid, OneTextIsSaid, CycleSaysNothing, BlockWins, RuleWins, FileIsLast};
+ghost use Rattle.nj_late.specs.Laws.{LateTextIsSaid, OneTextIsSaid, CycleSaysNothing, BlockWins, RuleWins, FileIsLast, ComputedCycleIsFound};
 
 /// What the names of an edge say, in no order of evaluation: where the variables of the rule do not
 /// refer to each other in a cycle, each name says its late text, and no other; a variable on a
@@ -17,4 +17,10 @@ pub fn block_before_rule_before_file()
     ensures block { BlockWins }
     ensures rule { RuleWins }
     ensures file { FileIsLast }
+{}
+
+/// The key on a cycle that `variable_cycle` returns is the least one, by bytes, that refers back to
+/// itself; there is none only where none does ("Rule variables" in the Ninja manual).
+pub fn computed_cycle_is_found()
+    ensures { ComputedCycleIsFound }
 {}

@@ -10,4 +10,4 @@ mod texts;
 
 pub use cycles::{may_cycle, variable_cycle};
 pub use edge::LateEdge;
-pub use laws::{block_before_rule_before_file, late_texts_are_said};
+pub use laws::{block_before_rule_before_file, computed_cycle_is_found, late_texts_are_said};

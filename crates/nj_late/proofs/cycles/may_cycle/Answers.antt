@@ -1,5 +1,4 @@
-use Rattle.std.proofs.Common.{◌≡◌, ◌<◌, ◌≤◌, ◌∙◌, sym, None, arith}
-use Rattle.nj_scope.specs.RulesHeld.{key_count}
+use Rattle.std.proofs.Common.{◌∙◌, sym, None, arith}
 use Rattle.nj_late.proofs.CycleLemmas.{counted_more, all_counted, never_cycle, some_cycle}
 use Rattle.nj_late.proofs.cycles.may_cycle.Goals as goal
 
@@ -13,8 +12,8 @@ returns-clause-no c off =
     (c.in_ok-least_on_cycle.ensures.found (λ _. None) (all_counted (λ _. None) c.args.rule.now.lines c.keys.number c.keys.counts.items c.deref.result.now c.keys.invariant (omega arith) c.deref.ensures.value))
     (sym c.is_some.ensures ∙ off)
 
-pub returns-clause-yes : goal.returns-clause-yes
-returns-clause-yes c on =
-    some_cycle c.args.rule.now.lines c.in_ok-least_on_cycle.field-0
+pub returns-clause-unbound : goal.returns-clause-unbound
+returns-clause-unbound c =
+    c.is_some.ensures
+    ∙ some_cycle (λ _. None) c.args.rule.now.lines c.in_ok-least_on_cycle.field-0
     (c.in_ok-least_on_cycle.ensures.found (λ _. None) (all_counted (λ _. None) c.args.rule.now.lines c.keys.number c.keys.counts.items c.deref.result.now c.keys.invariant (omega arith) c.deref.ensures.value))
-    (sym c.is_some.ensures ∙ on)

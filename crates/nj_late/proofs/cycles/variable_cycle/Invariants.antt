@@ -1,4 +1,3 @@
-use Rattle.std.proofs.Common.{None}
 use Rattle.nj_blocks.specs.Blocks.{bound_in}
 use Rattle.nj_late.proofs.CycleLemmas.{CountedBelow}
 use Rattle.nj_late.proofs.cycles.variable_cycle.Given as goal
