@@ -1,5 +1,5 @@
 -- How the check for cycles goes: keys by their numbers, and a mark for each of them that leads to a key.
-use Rattle.std.specs.Prelude.{◌≡◌, ◌≢◌, ◌⊎◌, ℕ, zero, suc, ◌<◌, Bool, true, false, ◌||◌, if◌then◌else◌, Option, Some, None, is_some, List, [], ◌∷◌, length, slice_index_or}
+use Rattle.std.specs.Prelude.{◌≡◌, ◌≢◌, ◌⊎◌, ℕ, zero, suc, ◌<◌, Bool, true, false, ◌||◌, if◌then◌else◌, Option, Some, None, is_some, List, [], ◌∷◌, slice_index_or}
 use Rattle.std.specs.Ordering.{nat_cmp}
 use Rattle.std.specs.declared.cmp.Ordering.TheVariants.{Less}
 use Rattle.std.specs.Cmp.Lexicographic.{slice_cmp}
@@ -7,7 +7,7 @@ use Rattle.nj_text.specs.Words.{PartText}
 use Rattle.nj_scope.specs.Rules.{RuleLineText, given}
 use Rattle.nj_scope.specs.RulesHeld.{key_count, key_at}
 use Rattle.nj_late.specs.LateTexts.{names_paths, value_given, rule_value, refers}
-use Rattle.nj_late.specs.VariableCycles.{Reaches, IsOnCycle, HasNoCycle}
+use Rattle.nj_late.specs.VariableCycles.{Reaches}
 
 abbrev pub IsMarked : List Bool → (number : ℕ) → Type 0
 IsMarked marks number = slice_index_or marks number false ≡ true

@@ -1,4 +1,4 @@
-use Rattle.std.proofs.Common.{◌∙◌, ap}
+use Rattle.std.proofs.Common.{ap}
 use Rattle.nj_text.specs.Words.{part_text}
 use Rattle.nj_late.proofs.CycleLemmas.{no_hit_some, no_hit_none}
 use Rattle.nj_late.proofs.cycles.hits.Goals as goal

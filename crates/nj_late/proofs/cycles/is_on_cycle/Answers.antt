@@ -1,4 +1,4 @@
-use Rattle.std.proofs.Common.{◌≡◌, ◌<◌, ◌∙◌, false, length, refl, sym, true≢false, arith}
+use Rattle.std.proofs.Common.{◌<◌, ◌∙◌, false, length, refl, sym, true≢false, arith}
 use Rattle.std.proofs.lemmas.List.{get_or_read}
 use Rattle.nj_scope.specs.RulesHeld.{key_at}
 use Rattle.nj_late.proofs.CycleLemmas.{all_marked}

@@ -1,4 +1,4 @@
-use Rattle.std.proofs.Common.{◌≡◌, ◌<◌, ◌≤◌, ◌+◌, Some, sym, subst, arith}
+use Rattle.std.proofs.Common.{◌<◌, ◌+◌, sym, subst, arith}
 use Rattle.std.specs.Prelude.{IfSome}
 use Rattle.nj_scope.specs.RulesHeld.{key_count}
 use Rattle.nj_late.proofs.CycleLemmas.{LeastAmong, least_past, least_more, least_found, lesser_within}

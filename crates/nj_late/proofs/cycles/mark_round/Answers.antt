@@ -1,4 +1,4 @@
-use Rattle.std.proofs.Common.{◌≡◌, ◌<◌, ◌≤◌, ◌+◌, ◌∙◌, true, false, sym, subst, length, arith, set}
+use Rattle.std.proofs.Common.{◌+◌, true, sym, subst, arith, set}
 use Rattle.nj_late.proofs.CycleLemmas.{RoundSoFar, round_taken, round_passed}
 use Rattle.nj_late.proofs.cycles.mark_round.Goals as goal
 use Rattle.nj_late.proofs.cycles.mark_round.Goals.{then-is_left, else-is_left}

@@ -1,4 +1,4 @@
-use Rattle.std.proofs.Common.{◌≡◌, ◌<◌, ◌∙◌, ap, sym, inl, inr, arith, ◌++◌, ◌∷◌, []}
+use Rattle.std.proofs.Common.{◌≡◌, ◌∙◌, ap, inl, inr, arith}
 use Rattle.nj_late.proofs.PathLemmas.{paths_turn}
 use Rattle.nj_late.proofs.paths.append_paths.Goals as goal
 use Rattle.nj_late.proofs.paths.append_paths.Goals.{then-index-gt0+in_ok-push, else-index-gt0}

@@ -1,4 +1,4 @@
-use Rattle.std.proofs.Common.{◌≡◌, ◌<◌, ◌≤◌, ◌∙◌, ◌∷◌, ap, arith}
+use Rattle.std.proofs.Common.{◌∙◌, ◌∷◌, ap}
 use Rattle.nj_text.specs.Words.{part_text}
 use Rattle.nj_scope.specs.ReadingList.{value_after}
 use Rattle.nj_late.specs.LateTexts.{late_in}
