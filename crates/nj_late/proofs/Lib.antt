@@ -4,3 +4,4 @@ pub mod CycleLemmas
 pub mod LateRows
 pub mod PathLemmas
 pub mod TextLemmas
+pub mod MemoLemmas

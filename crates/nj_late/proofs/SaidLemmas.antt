@@ -13,6 +13,7 @@ use Rattle.nj_late.specs.LateTexts.{LateNames, text_of_paths, paths_text, names_
 use Rattle.nj_late.specs.LateTexts.Says.{by_paths, by_block, by_rule, by_file}
 use Rattle.nj_late.specs.VariableCycles.{RefersTo, Reaches, IsOnCycle, HasNoCycle}
 use Rattle.nj_late.specs.VariableCycles.Reaches.{one, more}
+use Rattle.nj_late.specs.TextsHeld.{Settles}
 use Rattle.nj_late.specs.Laws.{LateTextIsSaid, OneTextIsSaid, CycleSaysNothing, RuleWins}
 
 -- ---- names
@@ -118,11 +119,6 @@ once_file value quoting n name p q h =
     after_block value quoting n name p q ∙ ap (λ o. unwrap_or (option_map (expanded value) o) (file_value n name)) (rule_value_of n.block n.lines name p q ∙ h)
 
 -- ---- depth
-
--- references from the name end within so many lines
-abbrev pub Settles : (List ℕ → Option (List ℕ)) → List RuleLineText → (depth : ℕ) → (name : List ℕ) → Type 0
-Settles block lines zero name = ⊥
-Settles block lines (suc depth) name = (other : List ℕ) → RefersTo block lines name other → Settles block lines depth other
 
 pub said_within : (quoting : Bool) (n : LateNames) (depth : ℕ) (name : List ℕ) → Settles n.block n.lines depth name → Says quoting n name (late_in depth quoting n name)
 said_within quoting n zero name s = absurd s

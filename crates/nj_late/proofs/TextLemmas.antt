@@ -1,12 +1,16 @@
 -- Lemmas on late texts.
-use Rattle.std.proofs.Common.{◌≡◌, ◌<◌, ◌≤◌, ◌+◌, ◌-◌, ℕ, suc, Bool, List, [], ◌∷◌, ◌++◌, take, slice_get, Some, sym, ap, ◌∙◌, arith, add-one, append_assoc}
+use Rattle.std.proofs.Common.{◌≡◌, ◌<◌, ◌≤◌, ◌+◌, ◌-◌, ℕ, suc, Bool, true, false, List, [], ◌∷◌, ◌++◌, length, take, slice_get, Some, refl, sym, ap, ◌∙◌, arith, add-one, append_assoc}
 use Rattle.std.proofs.lemmas.Grind.{flat_map-append}
 use Rattle.std.proofs.lemmas.List.{append-nil}
 use Rattle.std.proofs.lemmas.Option.{slice_get_within, get_or_from_slice_get}
 use Rattle.std.proofs.Math.Seq.{take-suc}
+use Rattle.std.specs.Prelude.{is_some}
 use Rattle.nj_text.specs.Words.{PartText, Text, Name}
 use Rattle.nj_scope.specs.Scopes.{part_expanded, expanded}
-use Rattle.nj_late.specs.LateTexts.{LateNames, late_in}
+use Rattle.nj_scope.specs.Rules.{RuleLineText, given}
+use Rattle.nj_scope.specs.RulesHeld.{key_at, IsNumber}
+use Rattle.nj_late.specs.LateTexts.{LateNames, late_in, is_of_command, unless_empty, value_given}
+use Rattle.nj_late.proofs.CycleLemmas.{value_at}
 
 part_turn : (f : List ℕ → List ℕ) (parts : List PartText) (i : ℕ) (p : PartText) (start before after : List ℕ) → slice_get parts i ≡ Some p
     → before ≡ start ++ expanded f (take i parts) → after ≡ before ++ part_expanded f p → after ≡ start ++ expanded f (take (i + 1) parts)
@@ -31,3 +35,20 @@ pub none_turn : (depth : ℕ) (quoting : Bool) (n : LateNames) (parts : List Par
 none_turn depth quoting n parts i part name start before after low here is so more =
     let d : depth ≡ 0 = omega arith in
     part_turn (late_in depth quoting n) parts i (Name name) start before after (here ∙ ap Some is) so (more ∙ sym (append-nil before) ∙ sym (ap (λ k. before ++ late_in k quoting n name) d))
+
+-- ---- keys
+
+some_unless : (b : Bool) (p : PartText) (parts : List PartText) → true ≡ is_some (unless_empty b (Some (p ∷ parts)))
+some_unless true p parts = refl
+some_unless false p parts = refl
+
+pub given_by_number : (lines : List RuleLineText) (key : List ℕ) (number : ℕ) (value : List PartText) → IsNumber lines key number → given lines (key_at lines number) ≡ Some value → 0 < length value
+    → true ≡ is_some (value_given lines key)
+given_by_number lines key number [] is at long = absurd (omega arith)
+given_by_number lines key number (p ∷ parts) is at long =
+    some_unless (is_of_command key) p parts ∙ ap (λ value. is_some (unless_empty (is_of_command key) value)) (sym at ∙ ap (given lines) is.is)
+
+pub given_plain : (lines : List RuleLineText) (key : List ℕ) (number : ℕ) → IsNumber lines key number → is_of_command key ≡ false → true ≡ is_some (value_given lines key)
+given_plain lines key number is plain =
+    let v = value_at lines number is.within in
+    ap is_some (sym v.1) ∙ ap (λ k. is_some (given lines k)) is.is ∙ ap (λ b. is_some (unless_empty b (given lines key))) (sym plain)

@@ -1,5 +1,6 @@
 -- Late texts: what the variables of a rule say when an edge uses them.
-use Rattle.std.specs.Prelude.{◌≡◌, ℕ, zero, suc, Bool, true, false, not, ◌&&◌, ◌||◌, if◌then◌else◌, Option, Some, None, is_some, unwrap_or, option_map, List, [], ◌∷◌, ◌++◌, map, length, codes, bytes_eq}
+use Rattle.std.specs.Prelude.{◌≡◌, ℕ, zero, suc, Bool, true, false, not, ◌&&◌, ◌||◌, if◌then◌else◌, Option, Some, None, is_some}
+use Rattle.std.specs.Prelude.{unwrap_or, option_map, List, [], ◌∷◌, ◌++◌, map, length, codes, bytes_eq}
 use Rattle.std.specs.List.{list_any, flat_map}
 use Rattle.nj_text.specs.Quotes.{quoted}
 use Rattle.nj_text.specs.Words.{PartText, Text, Name}

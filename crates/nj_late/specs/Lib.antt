@@ -5,3 +5,4 @@ pub mod LateEdges
 pub mod VariableCycles
 -- how what the code holds is that
 pub mod CyclesHeld
+pub mod TextsHeld

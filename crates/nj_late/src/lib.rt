@@ -4,6 +4,7 @@
 mod cycles;
 mod edge;
 mod laws;
+mod memo;
 mod names;
 mod paths;
 mod texts;

@@ -1,25 +1,33 @@
 //! Late texts.
 
-ghost use Rattle.std.specs.Prelude.{◌≡◌, ◌<◌, ◌++◌, ◌∷◌, ℕ, suc, List, Some, None, length, All, IfOk, OnOk, option_copied};
+ghost use Rattle.std.specs.Prelude.{◌≡◌, ◌<◌, ◌++◌, ◌∷◌, ℕ, List, length, All, IfOk, IfSome, OnOk, is_some};
 ghost use Rattle.nj_scope.specs.Declarations.{DeclaredBy};
 ghost use Rattle.nj_scope.specs.ReadingList.{Entry, value_after};
-ghost use Rattle.nj_scope.specs.Scopes.{IsScope, part_expanded, expanded};
+ghost use Rattle.nj_scope.specs.RulesHeld.{IsNumber};
+ghost use Rattle.nj_scope.specs.Scopes.{IsScope};
 ghost use Rattle.nj_scope.specs.ScopesHeld.{parent_at};
-ghost use Rattle.nj_text.specs.Words.{part_text};
-ghost use Rattle.nj_late.specs.LateTexts.{value_given, file_value, late_in, asked_text};
+ghost use Rattle.nj_late.specs.LateTexts.{value_given, file_value, asked_text};
 ghost use Rattle.nj_late.specs.LateEdges.{late_names};
+ghost use Rattle.nj_late.specs.TextsHeld.{AreKeyTexts, AppendsLate, AppendsPlain};
 
 use crate::edge::LateEdge;
+use crate::memo::{KeyText, keep_text, taller, text_known};
 use crate::names::{is_of_command, is_quoted};
 use crate::paths::append_paths;
-use nj_scope::{LateValue, Rule};
+use nj_scope::Rule;
 use nj_text::Part;
 use std::alloc::AllocError;
+
+// How many keys a rule of a manifest has at most. If a rule had more, the others would be expanded
+// at each reference.
+const KEYS: usize = 11;
 
 impl<'a> LateEdge<'a> {
     /// Appends the late text of a name: what it says where it is asked for ("Rule variables" in the
     /// Ninja manual). An edge with a cycle of its rule's variables has no late texts: ask
-    /// `variable_cycle` first. Each reference to a line of the rule expands the line.
+    /// `variable_cycle` first. For any other edge each line of the rule is expanded once, and its
+    /// text is copied at each further reference. So the time grows with the text and the lines, and
+    /// calls nest no deeper than the rule has keys, of which there are few.
     ///
     /// # Errors
     ///
@@ -32,50 +40,85 @@ impl<'a> LateEdge<'a> {
             → OnOk result (out.new.items ≡ out.old.items ++ asked_text
             (late_names self.now (value_after entries (self.now.scope ∷ around))) asked.now) }
     {
-        self.append_within(out, asked, is_quoted(asked), self.rule.line_count())
+        let mut known = [None; KEYS];
+        let depth = self.rule.line_count();
+        self.append_within(out, &mut known, asked, is_quoted(asked), depth)?;
+        Ok(())
     }
 
-    // Appends what the name says, through so many lines of the rule after its own.
+    // Appends what the name says, through so many lines of the rule after its own. Returns its
+    // height, or `None` if a reference was cut off.
     fn append_within(
         &self,
         out: &mut Vec<u8>,
+        known: &mut [Option<KeyText>],
         name: &[u8],
         quoting: bool,
         depth: usize,
-    ) -> Result<(), AllocError>
-        ensures { (entries : List Entry) (around : List ℕ)
-            → DeclaredBy self.now.declarations.now entries
-            → IsScope (parent_at self.now.declarations.now.scopes) self.now.scope
-            (self.now.scope ∷ around)
-            → OnOk result (out.new.items ≡ out.old.items ++ late_in (suc depth) quoting
-            (late_names self.now (value_after entries (self.now.scope ∷ around))) name.now) }
+    ) -> Result<Option<usize>, AllocError>
+        requires { AreKeyTexts quoting self.now known.old out.old.items }
+        ensures { IfOk result (AppendsLate quoting self.now depth name.now out.old.items known.new
+            out.new.items) }
     {
-        if name == b"in".as_slice() {
-            return append_paths(out, self.files, self.inputs, b' ', quoting);
-        }
-        if name == b"in_newline".as_slice() {
-            return append_paths(out, self.files, self.inputs, b'\n', quoting);
-        }
-        if name == b"out".as_slice() {
-            return append_paths(out, self.files, self.outputs, b' ', quoting);
-        }
-        if let Some(value) = self.blocks.value(self.edge, name) {
-            return out.extend_from_slice(value);
-        }
-        let Some(value) = value_given(self.rule, name) else {
-            return out.extend_from_slice(self.file_value(name));
+        let Some(number) = self.append_plain(out, name, quoting)? else {
+            return Ok(Some(0));
         };
+        if let Some(text) = text_known(known, number, depth) {
+            out.extend_from_within(text.start..text.end)?;
+            return Ok(Some(text.height));
+        }
+        let start = out.len();
+        let value = self.rule.key_value(number);
+        let mut height = Some(0);
         'parts: for index in 0..value.len() {
             match value.part(index) {
                 Part::Bytes(bytes) => out.extend_from_slice(bytes)?,
                 Part::Name(other) => {
                     if depth > 0 {
-                        self.append_within(out, other, quoting, depth - 1)?;
+                        let below = self.append_within(out, known, other, quoting, depth - 1)?;
+                        height = taller(height, below, depth);
+                    } else {
+                        height = None;
                     }
                 }
             }
         }
-        Ok(())
+        keep_text(known, number, start, out.len(), height);
+        Ok(height)
+    }
+
+    // Appends what the name says, unless a line of the rule says it: then returns the number of the
+    // line's key.
+    fn append_plain(
+        &self,
+        out: &mut Vec<u8>,
+        name: &[u8],
+        quoting: bool,
+    ) -> Result<Option<usize>, AllocError>
+        ensures { IfOk result (AppendsPlain quoting self.now name.now out.old.items
+            out.new.items) }
+    {
+        if name == b"in".as_slice() {
+            append_paths(out, self.files, self.inputs, b' ', quoting)?;
+            return Ok(None);
+        }
+        if name == b"in_newline".as_slice() {
+            append_paths(out, self.files, self.inputs, b'\n', quoting)?;
+            return Ok(None);
+        }
+        if name == b"out".as_slice() {
+            append_paths(out, self.files, self.outputs, b' ', quoting)?;
+            return Ok(None);
+        }
+        if let Some(value) = self.blocks.value(self.edge, name) {
+            out.extend_from_slice(value)?;
+            return Ok(None);
+        }
+        if let Some(number) = given_key(self.rule, name) {
+            return Ok(Some(number));
+        }
+        out.extend_from_slice(self.file_value(name))?;
+        Ok(None)
     }
 
     // The value of the name in the file; a phony edge runs nothing.
@@ -94,13 +137,15 @@ impl<'a> LateEdge<'a> {
     }
 }
 
-// The value that the rule gives to a name: a command's line that says nothing is not given.
-fn value_given<'a>(rule: &'a Rule, name: &[u8]) -> Option<&'a LateValue>
-    ensures { option_copied result ≡ value_given rule.now.lines name.now }
+// The number of a key to which the rule gives a value: a command's line that says nothing is not
+// given.
+fn given_key(rule: &Rule, key: &[u8]) -> Option<usize>
+    ensures number { IfSome result (IsNumber rule.now.lines key.now) }
+    ensures given { is_some result ≡ is_some (value_given rule.now.lines key.now) }
 {
-    let value = rule.value(name)?;
-    if is_of_command(name) && value.len() == 0 {
+    let number = rule.key_number(key)?;
+    if is_of_command(key) && rule.key_value(number).len() == 0 {
         return None;
     }
-    Some(value)
+    Some(number)
 }
