@@ -24,6 +24,7 @@ abbrev pub ForEdge : LateEdge → (LateNames → Type 0) → Type 0
 ForEdge e P = (entries : List Entry) (around : List ℕ) → DeclaredBy e.declarations.now entries
     → IsScope (parent_at e.declarations.now.scopes) e.scope (e.scope ∷ around) → P (late_names e (value_after entries (e.scope ∷ around)))
 
+-- the same by the block and the rule of an edge
 abbrev pub SettlesIn : LateEdge → (depth : ℕ) → (name : List ℕ) → Type 0
 SettlesIn e depth name = Settles (bound_in e.blocks.now e.edge) e.rule.now.lines depth name
 
@@ -62,6 +63,7 @@ with_text known number start end (Some height) = slice_set known number (Some (r
 
 -- ---- steps
 
+-- bytes were appended
 abbrev pub Grows : (old new : List ℕ) → Type 0
 Grows old new = (more : List ℕ) × (new ≡ old ++ more)
 
