@@ -1,4 +1,5 @@
 pub mod AddLemmas
+pub mod CycleLemmas
 pub mod EdgeLemmas
 pub mod FileLemmas
 pub mod FlatLemmas

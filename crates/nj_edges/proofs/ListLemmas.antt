@@ -1,5 +1,5 @@
 -- Lemmas on parts of lists.
-use Rattle.std.proofs.Common.{◌≡◌, ◌≤◌, ◌-◌, ℕ, List, ◌++◌, length, drop, slice_range, arith, length-drop}
+use Rattle.std.proofs.Common.{◌≡◌, ◌≤◌, ◌-◌, ℕ, List, ◌++◌, length, drop, slice_range, arith, length-take, length-drop}
 use Rattle.std.proofs.lemmas.List.{take-append-le, drop-append-le}
 use Rattle.std.proofs.Math.Seq.{take-length}
 
@@ -15,3 +15,6 @@ pub slice_range-rest : {A : Type 0} (items : List A) (start : ℕ) → start ≤
 slice_range-rest items start below =
     let n : length (drop start items) ≡ length items - start = length-drop start items in
     rw (← n) (take-length (drop start items))
+
+pub length-range : {A : Type 0} (items : List A) (start end : ℕ) → start ≤ end → end ≤ length items → length (slice_range items start end) ≡ end - start
+length-range items start end rise within = simp (length-take, length-drop) (omega arith)

@@ -1,10 +1,10 @@
 //! The graph of all edges of a run.
 
-ghost use Rattle.std.specs.Prelude.{◌≡◌, ℕ, List, ◌<◌, None, Some, length, slice_index_or, slice_get, option_map, position, bytes_eq, map, IfOk, OnOk, All, IfSome, if◌then◌else◌, nat_lt};
+ghost use Rattle.std.specs.Prelude.{◌≡◌, ℕ, List, ◌<◌, ◌≤◌, None, Some, length, slice_index_or, slice_get, option_map, position, bytes_eq, map, IfOk, OnOk, All, IfSome, if◌then◌else◌, nat_lt};
 ghost use Rattle.std.specs.List.{AllByRecursion, IsDistinct, list_any};
 ghost use Rattle.nj_order.specs.Cycles.{IsFirstOnCycle, IsAcyclic};
 ghost use Rattle.nj_edges.specs.Edges.{edge_at, outputs_of, inputs_of, kind_at, is_named, maker_of, roots_of, users_of, validation_users_of};
-ghost use Rattle.nj_edges.specs.EdgesHeld.{IsWithin, within, no_files};
+ghost use Rattle.nj_edges.specs.EdgesHeld.{AreNumbers, IsWithin, paths_at, within, no_files};
 ghost use Rattle.nj_edges.specs.Files.{path_at, AreFiles};
 ghost use Rattle.nj_edges.specs.FlatInputs.{makers_in_row};
 ghost use Rattle.nj_edges.specs.Graph.{FinishesAs};
@@ -50,13 +50,21 @@ impl Model for EdgeGraph {
         g.validations.items g.rows.items g.roots.items g.users g.validation_users };
 }
 
+/// An edge on a dependency cycle.
+#[derive(Drop)]
+pub struct CycleEdge {
+    pub edge: EdgeNo,
+    /// The path of its first output, of the explicit ones if it has any.
+    pub output: Vec<u8>,
+}
+
 /// What all edges of a run come to.
 #[derive(Drop)]
 pub enum Finished {
     /// A graph.
     Graph(EdgeGraph),
     /// A dependency cycle; this edge lies on one, and none of a smaller number does.
-    Cycle(EdgeNo),
+    Cycle(CycleEdge),
 }
 
 impl EdgeGraph {
@@ -236,7 +244,9 @@ impl Edges {
             ..
         } = self;
         if let Some(edge) = least_on_cycle(alloc, &inputs, &rows, &makers)? {
-            return Ok(Finished::Cycle(EdgeNo(edge)));
+            let row = row_at(&rows, edge);
+            let cycle = cycle_edge(alloc, &files, &outputs, row, EdgeNo(edge))?;
+            return Ok(Finished::Cycle(cycle));
         }
         let count = files.count();
         let roots = roots(alloc, count, &outputs, &inputs)?;
@@ -260,6 +270,27 @@ impl Edges {
             validation_users,
         }))
     }
+}
+
+// The edge of this row and number, with the path of its first output.
+fn cycle_edge(
+    alloc: Global,
+    files: &Files,
+    outputs: &[FileNo],
+    row: EdgeRow,
+    edge: EdgeNo,
+) -> Result<CycleEdge, AllocError>
+    requires some { row.outputs.start < row.outputs.end }
+    requires within { row.outputs.end ≤ length outputs.now }
+    requires files { AreNumbers (length files.now) outputs.now }
+    ensures edge { IfOk result (λ cycle. cycle.edge ≡ edge) }
+    ensures output { IfOk result (λ cycle.
+        slice_get (paths_at files.now (within outputs.now row.outputs)) 0
+        ≡ Some cycle.output.items) }
+{
+    let first = outputs[row.outputs.start];
+    let output = Vec::from_slice(alloc, files.path(first))?;
+    Ok(CycleEdge { edge, output })
 }
 
 // The least edge on a cycle, of edges with these inputs and files with these makers.
@@ -305,7 +336,7 @@ mod tests {
         requires { edges.«open» ≡ no_files }
     {
         match edges.finish(alloc)? {
-            Finished::Cycle(edge) => Ok(Some(edge.0)),
+            Finished::Cycle(cycle) => Ok(Some(cycle.edge.0)),
             Finished::Graph(_graph) => Ok(None),
         }
     }

@@ -11,5 +11,5 @@ mod users;
 
 pub use edges::{EdgeNo, Edges, InputKind, KindEnds};
 pub use files::{FileNo, Files};
-pub use graph::{EdgeGraph, Finished};
+pub use graph::{CycleEdge, EdgeGraph, Finished};
 pub use nj_hash::HashKeys;

@@ -1,7 +1,12 @@
-use Rattle.std.proofs.Common.{Some, None, ap}
+use Rattle.std.proofs.Common.{◌≡◌, ◌<◌, Some, None, ap, sym, subst, length, slice_get}
+use Rattle.nj_order.specs.Cycles.{IsLeastOnCycle}
+use Rattle.nj_edges.specs.declared.edges.EdgeNo.{EdgeNo}
 use Rattle.nj_edges.specs.declared.users.RowPart.TheVariants.{Inputs, Validations}
 use Rattle.nj_edges.specs.EdgeGraphs.{EdgeGraph}
+use Rattle.nj_edges.specs.Edges.{edge_at, outputs_of}
 use Rattle.nj_edges.specs.EdgesHeld.{EdgeTable}
+use Rattle.nj_edges.specs.Needs.{makers_of_inputs}
+use Rattle.nj_edges.proofs.CycleLemmas.{row-below, outputs-end, some-output, first-output}
 use Rattle.nj_edges.proofs.GraphLemmas.{held-whole, maker-below, first-paths, first-table, same-first, on-edge}
 use Rattle.nj_edges.proofs.GraphUsers.{held-users}
 use Rattle.nj_edges.proofs.RootLemmas.{roots-held}
@@ -25,11 +30,37 @@ invariant_of-result c =
       validation_users_are = held-users _ _ _ _ Validations _ _ _ _ c.count-count.ensures.count c.deref-8.ensures.value c.deref-9.ensures.value c.in_ok-validation_users.ensures;
     }
 
+pub row_at-row-requires : goal.row_at-row-requires
+row_at-row-requires c =
+    let held = held-whole _ _ _ _ _ _ _ c.self.invariant.edges_are c.args.self c.self.view_is c.requires in
+    let found = same-first c.self.inside.makers.items c.self.inside.inputs.items _ c.self.inside.rows.items _ _ _ (Some c.in-Some.edge) c.deref.ensures.value c.deref-2.ensures.value c.deref-3.ensures.value c.in-Some.is c.in_ok-edge.ensures in
+    let least = on-edge c.args.self.edges c.in-Some.edge (first-table _ _ _ _ _ _ held c.args.self c.self.inside.starts c.self.view_is (Some c.in-Some.edge) found) in
+    rw c.deref-in-Some.ensures.value (row-below _ _ _ _ c.self.inside.rows.items c.self.inside.starts c.args.self c.self.view_is c.in-Some.edge least.0)
+
+pub cycle_edge-requires-clause-some : goal.cycle_edge-requires-clause-some
+cycle_edge-requires-clause-some c =
+    let held = held-whole _ _ _ _ _ _ _ c.self.invariant.edges_are c.args.self c.self.view_is c.requires in
+    let found = same-first c.self.inside.makers.items c.self.inside.inputs.items _ c.self.inside.rows.items _ _ _ (Some c.in-Some.edge) c.deref.ensures.value c.deref-2.ensures.value c.deref-3.ensures.value c.in-Some.is c.in_ok-edge.ensures in
+    let least = on-edge c.args.self.edges c.in-Some.edge (first-table _ _ _ _ _ _ held c.args.self c.self.inside.starts c.self.view_is (Some c.in-Some.edge) found) in
+    let here = rw c.deref-in-Some.ensures.value at c.row_at-row.ensures in
+    some-output _ _ _ _ _ _ held c.self.inside.starts c.args.self c.self.view_is c.in-Some.edge c.row_at-row.result here least.1
+
+pub cycle_edge-requires-clause-within : goal.cycle_edge-requires-clause-within
+cycle_edge-requires-clause-within c =
+    let held = held-whole _ _ _ _ _ _ _ c.self.invariant.edges_are c.args.self c.self.view_is c.requires in
+    let here = rw c.deref-in-Some.ensures.value at c.row_at-row.ensures in
+    rw c.deref-in-Some-2.ensures.value (outputs-end _ _ _ _ _ _ held c.self.inside.starts c.args.self c.self.view_is c.in-Some.edge c.row_at-row.result here)
+
 pub returns-in-Some : goal.returns-in-Some
 returns-in-Some c =
     let held = held-whole _ _ _ _ _ _ _ c.self.invariant.edges_are c.args.self c.self.view_is c.requires in
     let found = same-first c.self.inside.makers.items c.self.inside.inputs.items _ c.self.inside.rows.items _ _ _ (Some c.in-Some.edge) c.deref.ensures.value c.deref-2.ensures.value c.deref-3.ensures.value c.in-Some.is c.in_ok-edge.ensures in
-    on-edge c.args.self.edges c.in-Some.edge (first-table _ _ _ _ _ _ held c.args.self c.self.inside.starts c.self.view_is (Some c.in-Some.edge) found)
+    let least = on-edge c.args.self.edges c.in-Some.edge (first-table _ _ _ _ _ _ held c.args.self c.self.inside.starts c.self.view_is (Some c.in-Some.edge) found) in
+    let here = rw c.deref-in-Some.ensures.value at c.row_at-row.ensures in
+    let first = first-output _ _ _ _ _ _ held c.self.inside.starts c.args.self c.self.view_is c.in-Some.edge c.row_at-row.result here in
+    let output = rw c.deref-in-Some-2.ensures.value at c.in_ok-cycle.ensures.output in
+    subst (λ (e : EdgeNo). (e.0 < length c.args.self.edges) × IsLeastOnCycle (makers_of_inputs c.args.self.edges) e.0 × (slice_get (outputs_of (edge_at c.args.self.edges e.0)) 0 ≡ Some c.in_ok-cycle.cycle.output.items))
+    (sym c.in_ok-cycle.ensures.edge) (least.0, least.1, first c.in_ok-cycle.cycle.output.items output)
 
 pub returns : goal.returns
 returns c =
