@@ -1,7 +1,7 @@
 -- Lemmas on a graph of edges that is held by the numbers of files.
 use Rattle.std.proofs.Common.{◌≡◌, ◌<◌, ◌≤◌, ◌+◌, ◌-◌, ℕ, zero, suc, Bool, true, false, cond, List, [], ◌∷◌, ◌++◌, map, length, take, drop, slice_get, slice_range, get_or, Option, Some, None, is_some, option_map, unwrap_or, refl, sym, ap, subst, ◌∙◌, true≢false, arith, append_assoc}
 use Rattle.std.specs.List.{AllByRecursion, filter_map}
-use Rattle.std.proofs.lemmas.List.{take-append-drop, length-map, get_or_default}
+use Rattle.std.proofs.lemmas.List.{take-append-drop, take-map, length-map, get_or_default}
 use Rattle.std.proofs.lemmas.List.Folds.{drop_split}
 use Rattle.std.proofs.lemmas.Option.{get_or_from_slice_get}
 use Rattle.std.proofs.Math.Seq.{drop-length}
@@ -18,7 +18,7 @@ use Rattle.nj_edges.specs.Files.{path_at, AreFiles}
 use Rattle.nj_edges.specs.FlatInputs.{plain, makers_in_row}
 use Rattle.nj_edges.specs.GraphHeld.{ends_of}
 use Rattle.nj_edges.specs.Needs.{makers_of_inputs}
-use Rattle.nj_edges.proofs.EdgeLemmas.{all-get, first-more, get-path, maker-read, length-open, within-numbers}
+use Rattle.nj_edges.proofs.EdgeLemmas.{all-get, all-take, first-more, get-path, maker-read, length-open, within-numbers}
 
 -- ---- no edge is being read
 
@@ -152,6 +152,18 @@ module _ (files : List (List ℕ)) (makers : List (Option ℕ)) (outputs inputs 
   inputs-at edge row h =
       files-are (within inputs row.inputs) (inputs_of (edge_at g.edges edge)) (within-numbers (length files) inputs row.inputs held.inputs_are)
       (sym (kinds-joined (paths_at files (within inputs row.inputs)) row.kinds.explicit_inputs row.kinds.implicit_inputs (row-within edge row h).kinds.explicit_inputs) ∙ ap inputs_of (edge-is edge row h))
+
+  pub explicit-inputs-at : (edge : ℕ) (row : EdgeRow) → slice_get rows edge ≡ Some row → AreFiles g.files (take row.kinds.explicit_inputs (within inputs row.inputs)) (edge_at g.edges edge).explicit_inputs
+  explicit-inputs-at edge row h =
+      files-are (take row.kinds.explicit_inputs (within inputs row.inputs)) (edge_at g.edges edge).explicit_inputs
+      (all-take (λ f. f.0 < length files) row.kinds.explicit_inputs (within inputs row.inputs) (within-numbers (length files) inputs row.inputs held.inputs_are))
+      (sym (take-map (path_at files) row.kinds.explicit_inputs (within inputs row.inputs)) ∙ ap (λ (e : EdgePaths). e.explicit_inputs) (edge-is edge row h))
+
+  pub explicit-outputs-at : (edge : ℕ) (row : EdgeRow) → slice_get rows edge ≡ Some row → AreFiles g.files (take row.kinds.explicit_outputs (within outputs row.outputs)) (edge_at g.edges edge).explicit_outputs
+  explicit-outputs-at edge row h =
+      files-are (take row.kinds.explicit_outputs (within outputs row.outputs)) (edge_at g.edges edge).explicit_outputs
+      (all-take (λ f. f.0 < length files) row.kinds.explicit_outputs (within outputs row.outputs) (within-numbers (length files) outputs row.outputs held.outputs_are))
+      (sym (take-map (path_at files) row.kinds.explicit_outputs (within outputs row.outputs)) ∙ ap (λ (e : EdgePaths). e.explicit_outputs) (edge-is edge row h))
 
   pub validations-at : (edge : ℕ) (row : EdgeRow) → slice_get rows edge ≡ Some row → AreFiles g.files (within validations row.validations) (edge_at g.edges edge).validations
   validations-at edge row h =

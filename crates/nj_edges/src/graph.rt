@@ -13,7 +13,7 @@ ghost use Rattle.nj_edges.specs.Needs.{makers_of_inputs};
 use crate::edges::{EdgeNo, EdgeRow, Edges, InputKind, KindEnds, Span};
 use crate::files::{FileNo, Files};
 use crate::flat::flat_inputs;
-use crate::lists::part;
+use crate::lists::{first, part};
 use crate::roots::roots;
 use crate::users::{RowPart, Users, users_at, users_of_files};
 use nj_order::{EdgeInputs, first_on_cycle};
@@ -177,6 +177,35 @@ impl EdgeGraph {
             &self.validation_users.edges,
             file,
         )
+    }
+
+    /// The files that the edges name.
+    pub fn files(&self) -> &Files
+        ensures { result.now ≡ self.now.files }
+    {
+        &self.files
+    }
+
+    /// The explicit inputs of an edge, which are the first of its inputs.
+    pub fn explicit_input_files(&self, edge: EdgeNo) -> &[FileNo]
+        requires { edge.0 < length self.now.edges }
+        ensures { AreFiles self.now.files result.now
+            (edge_at self.now.edges edge.0).explicit_inputs }
+    {
+        let row = row_at(&self.rows, edge.0);
+        let inputs = part(&self.inputs, row.inputs.start, row.inputs.end);
+        first(inputs, row.kinds.explicit_inputs)
+    }
+
+    /// The explicit outputs of an edge, which are the first of its outputs.
+    pub fn explicit_output_files(&self, edge: EdgeNo) -> &[FileNo]
+        requires { edge.0 < length self.now.edges }
+        ensures { AreFiles self.now.files result.now
+            (edge_at self.now.edges edge.0).explicit_outputs }
+    {
+        let row = row_at(&self.rows, edge.0);
+        let outputs = part(&self.outputs, row.outputs.start, row.outputs.end);
+        first(outputs, row.kinds.explicit_outputs)
     }
 
     /// How many outputs of an edge are explicit.

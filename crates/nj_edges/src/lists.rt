@@ -1,6 +1,6 @@
 //! Parts of lists.
 
-ghost use Rattle.std.specs.Prelude.{◌≡◌, ◌≤◌, length, drop, slice_range};
+ghost use Rattle.std.specs.Prelude.{◌≡◌, ◌≤◌, length, take, drop, slice_range};
 
 // The items between these indices.
 pub(crate) fn part<T>(items: &[T], start: usize, end: usize) -> &[T]
@@ -9,6 +9,14 @@ pub(crate) fn part<T>(items: &[T], start: usize, end: usize) -> &[T]
     ensures { result.now ≡ slice_range items.now start end }
 {
     &items[start..end]
+}
+
+// The first items, so many.
+pub(crate) fn first<T>(items: &[T], count: usize) -> &[T]
+    requires { count ≤ length items.now }
+    ensures { result.now ≡ take count items.now }
+{
+    &items[..count]
 }
 
 // The items from this index on.
