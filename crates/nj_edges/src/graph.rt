@@ -1,6 +1,6 @@
 //! The graph of all edges of a run.
 
-ghost use Rattle.std.specs.Prelude.{◌≡◌, ℕ, List, ◌<◌, ◌≤◌, None, Some, length, slice_index_or, slice_get, option_map, position, bytes_eq, map, IfOk, OnOk, All, IfSome, if◌then◌else◌, nat_lt};
+ghost use Rattle.std.specs.Prelude.{◌≡◌, ℕ, List, ◌<◌, ◌≤◌, None, Some, is_some, length, slice_index_or, slice_get, option_map, position, bytes_eq, map, IfOk, OnOk, All, IfSome, if◌then◌else◌, nat_lt};
 ghost use Rattle.std.specs.List.{AllByRecursion, IsDistinct, list_any};
 ghost use Rattle.nj_order.specs.Cycles.{IsFirstOnCycle, IsAcyclic};
 ghost use Rattle.nj_edges.specs.Edges.{edge_at, outputs_of, inputs_of, kind_at, is_named, maker_of, roots_of, users_of, validation_users_of};
@@ -91,6 +91,7 @@ impl EdgeGraph {
         ensures index { option_map (λ file. file.0) result
             ≡ position (bytes_eq path.now) self.now.files }
         ensures known { IfSome result (λ file. file.0 < length self.now.files) }
+        ensures named { is_some result ≡ is_named self.now.edges path.now }
     {
         self.files.number(path)
     }
