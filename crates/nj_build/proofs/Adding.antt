@@ -2,9 +2,11 @@
 use Rattle.std.proofs.Common.{◌≡◌, ℕ, Bool, List, [], ◌∷◌, ◌++◌, length, sym, ap, subst, ◌∙◌}
 use Rattle.nj_manifest.specs.Statements.{OutputsText, InputsText}
 use Rattle.nj_scope.specs.Readings.{IsPrefix}
+use Rattle.nj_edges.specs.declared.edges.KindEnds.{KindEnds}
+use Rattle.nj_edges.specs.Edges.{EdgePaths}
 use Rattle.nj_edges.specs.EdgesHeld.{EdgeTable, OpenEdge, no_files, edge_read}
 use Rattle.nj_build.specs.EdgeList.{Values, paths_said, stated_paths, loses_own, edge_paths}
-use Rattle.nj_build.specs.Answers.{with_outputs, with_inputs, with_validations, AddsInputs, AddsEdge}
+use Rattle.nj_build.specs.Answers.{with_outputs, with_inputs, with_validations, AddsInputs, NamesFiles, AddsEdge}
 use Rattle.nj_build.proofs.Tables.{kept, prefix-trans, outputs-edges, outputs-open, outputs-files, inputs-edges, inputs-open, inputs-files, validations-edges, validations-open, validations-files, edge-is, edge-kept}
 
 module _ (values : Values) (outputs : OutputsText) (inputs : InputsText) (is_phony loses : Bool) (t0 t1 t2 : EdgeTable) (ends : ℕ × ℕ)
@@ -80,11 +82,15 @@ module _ (values : Values) (outputs : OutputsText) (inputs : InputsText) (is_pho
       ∙ edge-is e i x y z v is_phony
       ∙ edge-kept (stated_paths values outputs inputs is_phony) loses loses_is
 
-  pub adds-edge : (explicit : ℕ) (t3 : EdgeTable) → explicit ≡ length e
-      → t3 ≡ record { files = t2.files; edges = t2.edges ++ edge_read t2.«open» (record { explicit_outputs = explicit; explicit_inputs = ends.0; implicit_inputs = ends.1 }) is_phony ∷ []; «open» = no_files }
-      → AddsEdge t0 t3 (edge_paths (stated_paths values outputs inputs is_phony))
-  adds-edge explicit t3 explicit_is is = record {
-    edges = ap (λ t. t.edges) is ∙ ap (λ es. es ++ edge_read t2.«open» (record { explicit_outputs = explicit; explicit_inputs = ends.0; implicit_inputs = ends.1 }) is_phony ∷ []) same-edges ∙ ap (λ edge. t0.edges ++ edge ∷ []) (the-edge explicit explicit_is);
-    none_open = ap (λ t. t.«open») is;
-    files = subst (λ t. IsPrefix t0.files t.files) (sym is) files-kept;
-  }
+  pub names-files : (explicit : ℕ) → explicit ≡ length e
+      → NamesFiles t0 t2 (record { explicit_outputs = explicit; explicit_inputs = ends.0; implicit_inputs = ends.1 }) is_phony (edge_paths (stated_paths values outputs inputs is_phony))
+  names-files explicit explicit_is = record { edges = same-edges; edge_is = the-edge explicit explicit_is; files = files-kept }
+
+-- the edge that was being read, ended
+pub adds-edge : (t0 t1 t2 : EdgeTable) (kinds : KindEnds) (is_phony : Bool) (edge : EdgePaths) → NamesFiles t0 t1 kinds is_phony edge
+    → t2 ≡ record { files = t1.files; edges = t1.edges ++ edge_read t1.«open» kinds is_phony ∷ []; «open» = no_files } → AddsEdge t0 t2 edge
+adds-edge t0 t1 t2 kinds is_phony edge names is = record {
+  edges = ap (λ t. t.edges) is ∙ ap (λ es. es ++ edge_read t1.«open» kinds is_phony ∷ []) names.edges ∙ ap (λ x. t0.edges ++ x ∷ []) names.edge_is;
+  none_open = ap (λ t. t.«open») is;
+  files = subst (λ t. IsPrefix t0.files t.files) (sym is) names.files;
+}

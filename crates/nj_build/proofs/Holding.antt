@@ -1,34 +1,38 @@
 -- What is held of no statement, and of one statement more.
-use Rattle.std.proofs.Common.{◌≡◌, ◌⊎◌, inl, inr, ℕ, ◌+◌, ◌<◌, ◌≤◌, ◌==◌, true, false, if◌then◌else◌, List, [], ◌∷◌, ◌++◌, length, get_or, Option, Some, None, Result, Ok, Err, OnOk, IsErrAnd, map, slice_get, refl, sym, ap, subst, ◌∙◌, arith, ◌≢◌, suc}
+use Rattle.std.proofs.Common.{◌≡◌, ◌⊎◌, inl, inr, ℕ, ◌+◌, ◌<◌, ◌≤◌, ◌==◌, Bool, true, false, true≢false, if◌then◌else◌, List, [], ◌∷◌, ◌++◌, length, get_or, Option, Some, None, Result, Ok, Err, OnOk, IsErrAnd, map, slice_get, refl, sym, ap, subst, ◌∙◌, arith, ◌≢◌, suc}
 use Rattle.std.proofs.lemmas.List.{length-append, map-append}
 use Rattle.std.proofs.lemmas.Bool.{cases_lt}
 use Rattle.std.proofs.lemmas.Bool.Decides.{eqb_tells}
 use Rattle.std.proofs.Math.Seq.{get_or-append_seam}
-use Rattle.std.proofs.lemmas.Option.{slice_get_past, slice_get_within, slice_get-get_or, get_or_from_slice_get}
+use Rattle.std.proofs.lemmas.Option.{slice_get_past, slice_get-get_or}
 use Rattle.std.proofs.Math.ListN.{get_or-append}
 use Rattle.nj_text.specs.Words.{WordText}
 use Rattle.nj_manifest.specs.LineSteps.{NameText}
-use Rattle.nj_manifest.specs.Statements.{LineText, OutputsText, InputsText, BuildText, DefaultText}
+use Rattle.nj_manifest.specs.Statements.{LineText, OutputsText, InputsText, StatementText, BindingText, RuleText, PoolText, BuildText, DefaultText, IncludeText, SubninjaText}
+use Rattle.nj_scope.specs.Rules.{line_kept}
 use Rattle.nj_scope.specs.Readings.{IsPrefix}
 use Rattle.nj_scope.specs.Scopes.{or_else}
-use Rattle.nj_scope.specs.ReadingList.{Entry, scope_of, value_after}
+use Rattle.nj_scope.specs.ReadingList.{Entry, scope_of, value_after, rule_texts}
 use Rattle.nj_blocks.specs.Blocks.{BlocksText, bound_in}
 use Rattle.nj_edges.specs.declared.files.FileNo.{FileNo}
 use Rattle.nj_edges.specs.EdgesHeld.{no_files}
 use Rattle.nj_edges.specs.Files.{AreFiles}
 use Rattle.nj_faults.specs.declared.fault.GraphFault.{GraphFault}
 use Rattle.nj_build.specs.EdgeList.{Block, EdgeText, build_block, paths_said, edge_of_build, edges_read, defaults_read}
-use Rattle.nj_build.specs.Answers.{BuildingText, HoldsEdges, DetailText, IsDetail, AreDetails, AddsEdge, AddsTargets, Checks, IsFault, ReadsStatement, block_at, block_of_edge}
+use Rattle.nj_build.specs.Answers.{BuildingText, HoldsEdges, DetailText, IsDetail, AreDetails, AddsEdge, AddsTargets, Checks, IsFault, ReadsStatement, HoldsVerdicts, block_at, block_of_edge}
+use Rattle.nj_build.proofs.Lists.{get-longer}
+use Rattle.nj_build.proofs.VerdictLemmas.{verdicts-none, verdicts-longer}
 
 pub holds-none : (held : BuildingText) → held.table ≡ record { files = []; edges = []; «open» = no_files }
-    → ((edge : ℕ) (name : List ℕ) → bound_in held.blocks edge name ≡ None) → held.details ≡ [] → held.defaults ≡ [] → HoldsEdges held []
+    → ((edge : ℕ) (name : List ℕ) → bound_in held.blocks edge name ≡ None) → held.details ≡ [] → held.defaults ≡ [] → held.may_cycle ≡ [] → HoldsEdges held []
 unfolding edges_read defaults_read
-holds-none held table blocks details defaults = record {
+holds-none held table blocks details defaults may_cycle = record {
   edges = ap (λ t. t.edges) table;
   none_open = ap (λ t. t.«open») table;
   blocks = blocks;
   details = subst (λ ds. AreDetails held.names ds []) (sym details) tt;
   defaults = subst (λ ds. AreFiles held.table.files ds []) (sym defaults) refl;
+  may_cycle = subst (λ v. HoldsVerdicts v (rule_texts [])) (sym may_cycle) (verdicts-none (rule_texts []));
 }
 
 pub reads-by : (after : BuildingText) (expected : Option GraphFault) (e : Entry) (before : List Entry) (r : Result (Unit {0}) GraphFault)
@@ -46,12 +50,6 @@ reads-err after expected e before (Err y) f is h = subst (IsFault expected) (sym
 reads-err after expected e before (Ok x) f is h = absurd is
 
 -- ---- lists that grow
-
-get-longer : {X : Type 0} (xs ys : List X) (i : ℕ) (x : X) → slice_get xs i ≡ Some x → slice_get (xs ++ ys) i ≡ Some x
-get-longer xs ys i x h =
-    let below = slice_get_within xs i x h in
-    let count = length-append xs ys in
-    slice_get-get_or (xs ++ ys) i x (omega (arith, below, count)) ∙ ap Some (get_or-append xs ys x i below ∙ get_or_from_slice_get xs i x x h)
 
 get-prefix : {X : Type 0} (xs ys : List X) (i : ℕ) (x : X) → IsPrefix xs ys → slice_get xs i ≡ Some x → slice_get ys i ≡ Some x
 get-prefix xs ys i x (more, is) h = subst (λ zs. slice_get zs i ≡ Some x) (sym is) (get-longer xs more i x h)
@@ -82,9 +80,9 @@ files-append files ns ms ps qs are others =
 pub holds-default : (old new : BuildingText) (e : Entry) (before : List Entry) (words : List WordText) → HoldsEdges old before
     → new.table ≡ old.table → new.blocks ≡ old.blocks → new.names ≡ old.names → new.details ≡ old.details
     → AddsTargets old.table.files old.defaults new.defaults (paths_said (value_after before (scope_of e)) words)
-    → HoldsEdges new (record e { item = DefaultText words } ∷ before)
+    → new.may_cycle ≡ old.may_cycle → HoldsEdges new (record e { item = DefaultText words } ∷ before)
 unfolding edges_read defaults_read
-holds-default old new e before words holds table blocks names details adds = record {
+holds-default old new e before words holds table blocks names details adds may_cycle = record {
   edges = ap (λ t. t.edges) table ∙ holds.edges;
   none_open = ap (λ t. t.«open») table ∙ holds.none_open;
   blocks = λ number name. ap (λ b. bound_in b number name) blocks ∙ holds.blocks number name;
@@ -92,6 +90,7 @@ holds-default old new e before words holds table blocks names details adds = rec
   defaults = subst (λ t. AreFiles t.files new.defaults (defaults_read before ++ paths_said (value_after before (scope_of e)) words)) (sym table)
       (subst (λ ns. AreFiles old.table.files ns (defaults_read before ++ paths_said (value_after before (scope_of e)) words)) (sym adds.after_is)
       (files-append old.table.files old.defaults adds.added (defaults_read before) (paths_said (value_after before (scope_of e)) words) holds.defaults adds.are));
+  may_cycle = subst (λ v. HoldsVerdicts v (rule_texts before)) (sym may_cycle) holds.may_cycle;
 }
 
 -- ---- a build statement
@@ -143,9 +142,9 @@ pub holds-build : (old new : BuildingText) (e : Entry) (before : List Entry) (ou
     → AddsEdge old.table new.table (edge_of_build e before outputs rule inputs lines).paths
     → ((n : ℕ) (name : List ℕ) → bound_in new.blocks n name ≡ (if n == length old.details then or_else (build_block e before lines name) (bound_in old.blocks n name) else bound_in old.blocks n name))
     → IsPrefix old.names new.names → new.details ≡ old.details ++ d ∷ [] → IsDetail new.names d (edge_of_build e before outputs rule inputs lines) → new.defaults ≡ old.defaults
-    → HoldsEdges new (record e { item = BuildText outputs rule inputs lines } ∷ before)
+    → HoldsVerdicts new.may_cycle (rule_texts before) → HoldsEdges new (record e { item = BuildText outputs rule inputs lines } ∷ before)
 unfolding edges_read defaults_read
-holds-build old new e before outputs rule inputs lines d holds adds blocks names details is defaults = record {
+holds-build old new e before outputs rule inputs lines d holds adds blocks names details is defaults may_cycle = record {
   edges = adds.edges ∙ ap (λ es. es ++ edge.paths ∷ []) holds.edges ∙ sym (map-append (λ (x : EdgeText). x.paths) (edges_read before) (edge ∷ []));
   none_open = adds.none_open;
   blocks = λ n name.
@@ -155,6 +154,7 @@ holds-build old new e before outputs rule inputs lines d holds adds blocks names
       ∙ block-more (edges_read before) edge n name;
   details = subst (λ ds. AreDetails new.names ds (edges_read before ++ edge ∷ [])) (sym details) (details-more old.names new.names old.details (edges_read before) d edge names holds.details is);
   defaults = subst (λ ns. AreFiles new.table.files ns (defaults_read before)) (sym defaults) (files-longer old.table.files new.table.files old.defaults (defaults_read before) adds.files holds.defaults);
+  may_cycle = may_cycle;
 }
   where
     edge : EdgeText
@@ -180,3 +180,26 @@ open-block old before block new edge holds is bound name =
         → (if edge == edge then or_else (block name) (bound_in old.blocks edge name) else bound_in old.blocks edge name) ≡ or_else (block name) (bound_in old.blocks edge name)
     by (inl (same, h)) = ap (λ b. if b then or_else (block name) (bound_in old.blocks edge name) else bound_in old.blocks edge name) same
     by (inr (other, apart)) = absurd (apart refl)
+
+-- ---- any other statement
+
+-- a statement that names files of edges
+abbrev pub names_files : StatementText → Bool
+names_files (BuildText outputs rule inputs lines) = true
+names_files (DefaultText words) = true
+names_files item = false
+
+holds-item : (held : BuildingText) (e : Entry) (before : List Entry) (item : StatementText) → names_files item ≡ false → HoldsEdges held before → HoldsEdges held (record e { item = item } ∷ before)
+unfolding edges_read defaults_read
+holds-item held e before (BindingText bound word) other holds = record { edges = holds.edges; none_open = holds.none_open; blocks = holds.blocks; details = holds.details; defaults = holds.defaults; may_cycle = holds.may_cycle }
+holds-item held e before (RuleText declared lines) other holds =
+    record { edges = holds.edges; none_open = holds.none_open; blocks = holds.blocks; details = holds.details; defaults = holds.defaults; may_cycle = verdicts-longer held.may_cycle (rule_texts before) (record { scope = e.number; name = declared.name; lines = map line_kept lines } ∷ []) holds.may_cycle }
+holds-item held e before (PoolText declared lines) other holds = record { edges = holds.edges; none_open = holds.none_open; blocks = holds.blocks; details = holds.details; defaults = holds.defaults; may_cycle = holds.may_cycle }
+holds-item held e before (BuildText outputs rule inputs lines) other holds = absurd (true≢false other)
+holds-item held e before (DefaultText words) other holds = absurd (true≢false other)
+holds-item held e before (IncludeText word) other holds = record { edges = holds.edges; none_open = holds.none_open; blocks = holds.blocks; details = holds.details; defaults = holds.defaults; may_cycle = holds.may_cycle }
+holds-item held e before (SubninjaText word) other holds = record { edges = holds.edges; none_open = holds.none_open; blocks = holds.blocks; details = holds.details; defaults = holds.defaults; may_cycle = holds.may_cycle }
+
+-- What is held is held still after a statement that names no files.
+pub holds-other : (held : BuildingText) (e : Entry) (before : List Entry) → names_files e.item ≡ false → HoldsEdges held before → HoldsEdges held (e ∷ before)
+holds-other held e before other holds = holds-item held e before e.item other holds

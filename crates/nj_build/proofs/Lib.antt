@@ -3,6 +3,9 @@ pub mod Texts
 pub mod Blocks
 pub mod Faults
 pub mod Tables
+pub mod LateFaults
+pub mod LateLemmas
+pub mod VerdictLemmas
 pub mod Holding
 pub mod Adding
 pub mod Rows

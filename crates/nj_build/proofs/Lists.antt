@@ -1,6 +1,8 @@
 -- Lemmas on lists.
-use Rattle.std.proofs.Common.{◌≡◌, ℕ, ◌+◌, ◌<◌, Bool, true, false, List, [], ◌∷◌, ◌++◌, length, drop, get_or, find, cond, Some, None, refl, sym, ap, ◌∙◌, arith}
-use Rattle.std.proofs.lemmas.List.{at_drop_more}
+use Rattle.std.proofs.Common.{◌≡◌, ℕ, ◌+◌, ◌<◌, Bool, true, false, List, [], ◌∷◌, ◌++◌, length, drop, get_or, slice_get, find, cond, Some, None, refl, sym, ap, ◌∙◌, arith}
+use Rattle.std.proofs.lemmas.List.{at_drop_more, length-append}
+use Rattle.std.proofs.lemmas.Option.{slice_get_within, slice_get-get_or, get_or_from_slice_get}
+use Rattle.std.proofs.Math.ListN.{get_or-append}
 use Rattle.nj_text.specs.Calls.{is_empty}
 use Rattle.nj_text.specs.Paths.{clean_path_of}
 use Rattle.nj_scope.specs.Scopes.{or_else}
@@ -25,3 +27,10 @@ pub clean-not-empty : (xs : List ℕ) → clean_path_of xs ≡ xs → is_empty x
 unfolding clean_path_of
 clean-not-empty [] is = absurd (omega (arith, ap length is))
 clean-not-empty (x ∷ xs) is = refl
+
+-- what stands in a list stands there in a longer one
+pub get-longer : {X : Type 0} (xs ys : List X) (i : ℕ) (x : X) → slice_get xs i ≡ Some x → slice_get (xs ++ ys) i ≡ Some x
+get-longer xs ys i x h =
+    let below = slice_get_within xs i x h in
+    let count = length-append xs ys in
+    slice_get-get_or (xs ++ ys) i x (omega (arith, below, count)) ∙ ap Some (get_or-append xs ys x i below ∙ get_or_from_slice_get xs i x x h)

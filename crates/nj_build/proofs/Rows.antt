@@ -1,18 +1,21 @@
 -- Worked rows, computed on the definitions: the edges of statements, and what is wrong with them.
 use Rattle.std.proofs.Common.{◌≡◌, ℕ, Some, None, List, [], ◌∷◌, map, refl}
-use Rattle.std.specs.Prelude.{⊤, codes, Option, option_map}
+use Rattle.std.specs.Prelude.{codes, Option}
 use Rattle.nj_text.specs.declared.spot.Spot.{Spot}
 use Rattle.nj_text.specs.Words.{PartText, Text, Name, WordText}
 use Rattle.nj_text.specs.Paths.{clean_path_of, without_leftmost_pair}
+use Rattle.nj_text.specs.Quotes.{quoted}
 use Rattle.nj_manifest.specs.LineSteps.{NameText}
-use Rattle.nj_manifest.specs.Statements.{LineText, OutputsText, InputsText, StatementText, BindingText, RuleText, BuildText, DefaultText}
+use Rattle.nj_manifest.specs.Statements.{LineText, OutputsText, InputsText, StatementText, BindingText, RuleText, PoolText, BuildText, DefaultText}
 use Rattle.nj_scope.specs.ReadingList.{Entry, bounds}
 use Rattle.nj_edges.specs.Edges.{EdgePaths}
 use Rattle.nj_faults.specs.declared.fault.GraphFault.{GraphFault}
 use Rattle.nj_faults.specs.declared.fault.Cause.{Cause}
 use Rattle.nj_faults.specs.declared.fault.Cause.TheVariants.{EmptyPath, UnknownRule, TwoMakers, UnknownTarget}
+use Rattle.nj_faults.specs.declared.fault.Cause.TheVariants.{RuleVariableCycle, UnknownPool, DyndepNotInput}
 use Rattle.nj_faults.specs.Faults.{fault_at}
-use Rattle.nj_build.specs.EdgeList.{EdgeText, edges_read, defaults_read}
+use Rattle.nj_late.specs.VariableCycles.{variable_cycle_of}
+use Rattle.nj_build.specs.EdgeList.{EdgeText, edges_read}
 use Rattle.nj_build.specs.BuildFaults.{build_fault, default_fault}
 
 -- ---- statements of a main file
@@ -122,3 +125,106 @@ pub row-lines_apart : map (λ (e : EdgeText). e.block (codes "y")) (edges_read (
     ≡ Some (codes "a") ∷ []
 unfolding clean_path_of without_leftmost_pair edges_read bounds
 row-lines_apart = refl
+
+-- ---- variables of the rule
+
+abbrev by_r : NameText
+by_r = by_rule (codes "r")
+
+-- a line of one reference
+abbrev line_of_name : (name other : List ℕ) → LineText
+line_of_name name other = record { spot = at 3; name = name; value = word 7 (Name other) }
+
+abbrev rule_r : List LineText → StatementText
+rule_r lines = RuleText (record { spot = at 6; name = codes "r" }) lines
+
+-- `rule r` whose command is `$description`, and whose description is `$command`
+abbrev circle : StatementText
+circle = rule_r (line_of_name (codes "command") (codes "description") ∷ line_of_name (codes "description") (codes "command") ∷ [])
+
+-- `rule r` with a plain command
+abbrev plain : StatementText
+plain = rule_r (line (codes "command") (codes "c") ∷ [])
+
+-- `build a: r` after the rule
+abbrev wrong_after : List StatementText → InputsText → List LineText → Option GraphFault
+wrong_after before inputs lines = wrong_with before (to (a ∷ [])) by_r inputs lines
+
+-- `build a: r`: the least key is named
+pub row-variable_cycle : wrong_after (circle ∷ []) no_inputs [] ≡ wrong 1 (RuleVariableCycle (codes "command"))
+unfolding clean_path_of without_leftmost_pair edges_read bounds variable_cycle_of
+row-variable_cycle = refl
+
+-- with `description = x` in its block
+pub row-cycle_broken : wrong_after (circle ∷ []) no_inputs (line (codes "description") (codes "x") ∷ []) ≡ None
+unfolding clean_path_of without_leftmost_pair edges_read bounds variable_cycle_of
+row-cycle_broken = refl
+
+-- with `pool = zz` in its block: the cycle comes first
+pub row-cycle_before_pool : wrong_after (circle ∷ []) no_inputs (line (codes "pool") (codes "zz") ∷ []) ≡ wrong 1 (RuleVariableCycle (codes "command"))
+unfolding clean_path_of without_leftmost_pair edges_read bounds variable_cycle_of
+row-cycle_before_pool = refl
+
+-- `build $e: r`: the paths come before the cycle
+pub row-path_before_cycle : wrong_with (circle ∷ []) (to (word 7 (Name (codes "e")) ∷ [])) by_r no_inputs [] ≡ wrong 7 EmptyPath
+unfolding clean_path_of without_leftmost_pair edges_read bounds variable_cycle_of
+row-path_before_cycle = refl
+
+-- ---- pools
+
+-- `pool = zz` in the block
+pub row-unknown_pool : wrong_after (plain ∷ []) no_inputs (line (codes "pool") (codes "zz") ∷ []) ≡ wrong 1 (UnknownPool (codes "zz"))
+unfolding clean_path_of without_leftmost_pair edges_read bounds variable_cycle_of
+row-unknown_pool = refl
+
+-- the same after `pool zz`
+pub row-known_pool : wrong_after (PoolText (by_rule (codes "zz")) (line (codes "depth") (codes "1") ∷ []) ∷ plain ∷ []) no_inputs (line (codes "pool") (codes "zz") ∷ []) ≡ None
+unfolding clean_path_of without_leftmost_pair edges_read bounds variable_cycle_of
+row-known_pool = refl
+
+-- `pool = console`, which is always there
+pub row-console : wrong_after (plain ∷ []) no_inputs (line (codes "pool") (codes "console") ∷ []) ≡ None
+unfolding clean_path_of without_leftmost_pair edges_read bounds variable_cycle_of
+row-console = refl
+
+-- `pool = $e`, which is empty
+pub row-no_pool : wrong_after (plain ∷ []) no_inputs (line_of_name (codes "pool") (codes "e") ∷ []) ≡ None
+unfolding clean_path_of without_leftmost_pair edges_read bounds variable_cycle_of
+row-no_pool = refl
+
+-- `pool = $in` in the rule, of an edge with the input `b c`: a path is quoted there
+pub row-pool_in_quotes : wrong_after (rule_r (line_of_name (codes "pool") (codes "in") ∷ []) ∷ []) (from (path (codes "b c") ∷ [])) [] ≡ wrong 1 (UnknownPool (codes "'b c'"))
+unfolding clean_path_of without_leftmost_pair edges_read bounds variable_cycle_of quoted
+row-pool_in_quotes = refl
+
+-- `pool = zz` and `dyndep = q` in the block: the pool comes first
+pub row-pool_before_dyndep : wrong_after (plain ∷ []) no_inputs (line (codes "pool") (codes "zz") ∷ line (codes "dyndep") (codes "q") ∷ []) ≡ wrong 1 (UnknownPool (codes "zz"))
+unfolding clean_path_of without_leftmost_pair edges_read bounds variable_cycle_of
+row-pool_before_dyndep = refl
+
+-- ---- dyndep files
+
+-- `dyndep = q` in the block
+pub row-dyndep_not_input : wrong_after (plain ∷ []) no_inputs (line (codes "dyndep") (codes "q") ∷ []) ≡ wrong 1 (DyndepNotInput (codes "q"))
+unfolding clean_path_of without_leftmost_pair edges_read bounds variable_cycle_of
+row-dyndep_not_input = refl
+
+-- `build a: r || dd` with `dyndep = .//dd` in its block
+pub row-dyndep_input : wrong_after (plain ∷ []) (record no_inputs { order_only = path (codes "dd") ∷ [] }) (line (codes "dyndep") (codes ".//dd") ∷ []) ≡ None
+unfolding clean_path_of without_leftmost_pair edges_read bounds variable_cycle_of
+row-dyndep_input = refl
+
+-- `build a: r |@ dd` with `dyndep = dd`: a validation is no input
+pub row-dyndep_validation : wrong_after (plain ∷ []) (record no_inputs { validations = path (codes "dd") ∷ [] }) (line (codes "dyndep") (codes "dd") ∷ []) ≡ wrong 1 (DyndepNotInput (codes "dd"))
+unfolding clean_path_of without_leftmost_pair edges_read bounds variable_cycle_of
+row-dyndep_validation = refl
+
+-- `build a: phony a` with `dyndep = a`: the input was lost before
+pub row-dyndep_lost : wrong_with [] (to (a ∷ [])) phony (from (a ∷ [])) (line (codes "dyndep") (codes "a") ∷ []) ≡ wrong 1 (DyndepNotInput (codes "a"))
+unfolding clean_path_of without_leftmost_pair edges_read bounds variable_cycle_of
+row-dyndep_lost = refl
+
+-- `dyndep = q` of the file, before the statement: it binds an edge that has no value of its own
+pub row-dyndep_of_file : wrong_with (BindingText (codes "dyndep") (path (codes "q")) ∷ []) (to (a ∷ [])) phony no_inputs [] ≡ wrong 1 (DyndepNotInput (codes "q"))
+unfolding clean_path_of without_leftmost_pair edges_read bounds variable_cycle_of
+row-dyndep_of_file = refl

@@ -1,20 +1,27 @@
 -- What the reading of a statement answers, and how what is read is held.
-use Rattle.std.specs.Prelude.{◌≡◌, ◌⊎◌, ℕ, Bool, true, false, if◌then◌else◌, Option, Some, None, Result, Ok, Err, List, [], ◌∷◌, ◌++◌, ◌+◌, ◌≤◌, length, slice_get}
+use Rattle.std.specs.Prelude.{◌≡◌, ◌⊎◌, ℕ, Bool, true, false, if◌then◌else◌, Option, Some, None, Result, Ok, Err}
+use Rattle.std.specs.Prelude.{List, [], ◌∷◌, ◌++◌, ◌+◌, ◌≤◌, length, slice_get, slice_index_or, bytes_eq}
 use Rattle.nj_text.specs.declared.spot.Spot.{Spot}
 use Rattle.nj_manifest.specs.Contents.{words_text, lines_text}
 use Rattle.nj_manifest.specs.Statements.{OutputsText, InputsText, StatementText, BuildText}
+use Rattle.nj_scope.specs.Rules.{RuleText, RuleLineText, phony}
 use Rattle.nj_scope.specs.Readings.{IsPrefix}
 use Rattle.nj_scope.specs.Scopes.{IsScope}
 use Rattle.nj_scope.specs.ScopesHeld.{parent_at}
 use Rattle.nj_scope.specs.Declarations.{DeclarationsText, DeclaredBy}
-use Rattle.nj_scope.specs.ReadingList.{Entry, value_after}
+use Rattle.nj_scope.specs.ReadingList.{Entry, value_after, rule_texts}
 use Rattle.nj_blocks.specs.Blocks.{BlocksText, bound_in}
 use Rattle.nj_edges.specs.declared.files.FileNo.{FileNo}
 use Rattle.nj_edges.specs.Edges.{EdgePaths, is_among}
-use Rattle.nj_edges.specs.EdgesHeld.{EdgeTable, no_files, with_output, with_input, with_validation}
+use Rattle.nj_edges.specs.declared.edges.KindEnds.{KindEnds}
+use Rattle.nj_edges.specs.EdgesHeld.{EdgeTable, no_files, with_output, with_input, with_validation, edge_read}
 use Rattle.nj_edges.specs.Files.{AreFiles}
 use Rattle.nj_faults.specs.declared.fault.GraphFault.{GraphFault}
 use Rattle.nj_faults.specs.Faults.{no_memory}
+use Rattle.nj_late.specs.declared.edge.LateEdge.{LateEdge}
+use Rattle.nj_late.specs.LateTexts.{LateNames}
+use Rattle.nj_late.specs.LateEdges.{late_names}
+use Rattle.nj_late.specs.VariableCycles.{variable_cycle_of}
 use Rattle.nj_build.specs.declared.edge.Build.{Build}
 use Rattle.nj_build.specs.declared.names.Names.{Names}
 use Rattle.nj_build.specs.declared.names.EdgeBlock.{EdgeBlock}
@@ -46,9 +53,12 @@ pub record Sees (held : DeclarationsText) (scope : ℕ) (block : Block) (values 
 abbrev pub no_block : Block
 no_block name = None
 
+abbrev pub bound_by : EdgeBlock → Block
+bound_by b = bound_in b.blocks.now b.edge
+
 abbrev pub block_seen : Option EdgeBlock → Block
 block_seen None = no_block
-block_seen (Some b) = bound_in b.blocks.now b.edge
+block_seen (Some b) = bound_by b
 
 abbrev pub SeesNames : Names → Values → Type 0
 SeesNames names values = Sees names.declarations.now names.scope (block_seen names.block) values
@@ -107,6 +117,12 @@ pub record AddsInputs (loses_own : Bool) (values : Values) (inputs : InputsText)
   pub after_is : after ≡ with_validations (with_inputs loses_own implicit (paths_said values inputs.order_only))
       (paths_said values inputs.validations)
 
+-- the edge that is being read is this one, where its kinds end so; no edge is added, and files keep their numbers
+pub record NamesFiles (before after : EdgeTable) (kinds : KindEnds) (is_phony : Bool) (edge : EdgePaths) : Type 0 where
+  pub edges : after.edges ≡ before.edges
+  pub edge_is : edge_read after.«open» kinds is_phony ≡ edge
+  pub files : IsPrefix before.files after.files
+
 -- one edge is added; files keep their numbers
 pub record AddsEdge (before after : EdgeTable) (edge : EdgePaths) : Type 0 where
   pub edges : after.edges ≡ before.edges ++ edge ∷ []
@@ -118,6 +134,36 @@ pub record AddsTargets (files : List (List ℕ)) (before after : List FileNo) (p
   pub added : List FileNo
   pub after_is : after ≡ before ++ added
   pub are : AreFiles files added paths
+
+-- ---- the names of a rule
+
+-- the names of an edge with these paths, whose block binds these, where its file has these values
+abbrev pub names_read : EdgePaths → Block → RuleText → (file : Values) → LateNames
+names_read paths block rule file = record {
+  inputs = paths.explicit_inputs;
+  outputs = paths.explicit_outputs;
+  block = block;
+  lines = rule.lines;
+  is_phony = bytes_eq rule.name phony;
+  file = file;
+}
+
+-- The names of an edge depend on these, by what the statements before declare.
+pub record SeesLate (edge : LateEdge) (entries : List Entry) (n : LateNames) : Type 0 where
+  pub around : List ℕ
+  pub declared : DeclaredBy edge.declarations.now entries
+  pub within : IsScope (parent_at edge.declarations.now.scopes) edge.scope (edge.scope ∷ around)
+  pub are : n ≡ late_names edge (value_after entries (edge.scope ∷ around))
+
+-- whatever a block binds, no variable of the rule refers back to itself
+abbrev pub NeverCycles : List RuleLineText → Type 0
+NeverCycles lines = (block : Block) → variable_cycle_of block lines ≡ None
+
+-- Where it is held that no variable of a rule may refer back to itself, none does.
+abbrev pub HoldsVerdicts : (may_cycle : List (Option Bool)) → List RuleText → Type 0
+HoldsVerdicts may_cycle rules =
+    (number : ℕ) → slice_index_or may_cycle number None ≡ Some false
+    → (rule : RuleText) × (slice_get rules number ≡ Some rule) × NeverCycles rule.lines
 
 -- ---- what is held
 
@@ -135,6 +181,8 @@ pub record BuildingText : Type 0 where
   pub names : List (List ℕ)
   pub details : List DetailText
   pub defaults : List FileNo
+  -- of each rule by number, whether a variable may refer back to itself, where that was asked
+  pub may_cycle : List (Option Bool)
 
 abbrev pub block_of_edge : Option EdgeText → Block
 block_of_edge None = no_block
@@ -164,6 +212,7 @@ pub record HoldsEdges (held : BuildingText) (entries : List Entry) : Type 0 wher
   pub blocks : (number : ℕ) (name : List ℕ) → bound_in held.blocks number name ≡ block_at (edges_read entries) number name
   pub details : AreDetails held.names held.details (edges_read entries)
   pub defaults : AreFiles held.table.files held.defaults (defaults_read entries)
+  pub may_cycle : HoldsVerdicts held.may_cycle (rule_texts entries)
 
 -- ---- a statement
 

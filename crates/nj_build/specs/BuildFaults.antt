@@ -1,16 +1,22 @@
 -- What is wrong with a `build` or `default` statement, by the statements before it.
-use Rattle.std.specs.Prelude.{ℕ, Bool, true, false, ◌||◌, not, Option, Some, None, is_some, List, [], ◌∷◌, ◌++◌}
+use Rattle.std.specs.Prelude.{ℕ, Bool, true, false, ◌||◌, not, Option, Some, None, is_some, option_map, List, [], ◌∷◌, ◌++◌, codes}
+use Rattle.nj_text.specs.declared.spot.Spot.{Spot}
 use Rattle.nj_text.specs.Words.{WordText}
+use Rattle.nj_text.specs.Paths.{clean_path_of}
 use Rattle.nj_text.specs.Calls.{is_empty}
 use Rattle.nj_manifest.specs.LineSteps.{NameText}
 use Rattle.nj_manifest.specs.Statements.{LineText, OutputsText, InputsText}
 use Rattle.nj_scope.specs.Scopes.{expanded}
-use Rattle.nj_scope.specs.ReadingList.{Entry, scope_of, value_after, rule_in_force}
+use Rattle.nj_scope.specs.Pools.{is_pool}
+use Rattle.nj_scope.specs.ReadingList.{Entry, scope_of, value_after, rule_in_force, pools}
 use Rattle.nj_faults.specs.declared.fault.GraphFault.{GraphFault}
 use Rattle.nj_faults.specs.declared.fault.Cause.TheVariants.{EmptyPath, UnknownRule, TwoMakers, UnknownTarget}
+use Rattle.nj_faults.specs.declared.fault.Cause.TheVariants.{RuleVariableCycle, UnknownPool, DyndepNotInput}
 use Rattle.nj_faults.specs.Faults.{fault_at}
-use Rattle.nj_edges.specs.Edges.{EdgePaths, maker_of, is_among, is_named}
-use Rattle.nj_build.specs.EdgeList.{Values, path_said, line_values, edges_read, paths_of_edges}
+use Rattle.nj_edges.specs.Edges.{EdgePaths, inputs_of, maker_of, is_among, is_named}
+use Rattle.nj_late.specs.LateTexts.{LateNames, asked_text}
+use Rattle.nj_late.specs.VariableCycles.{variable_cycle_of}
+use Rattle.nj_build.specs.EdgeList.{Values, EdgeText, path_said, line_values, edges_read, paths_of_edges, edge_of_build, names_of_edge}
 
 abbrev pub fault_if : Bool → GraphFault → Option GraphFault
 fault_if true fault = Some fault
@@ -54,11 +60,36 @@ abbrev pub paths_fault : (file : List ℕ) → Values → List EdgePaths → Out
 paths_fault file values edges outputs inputs =
     or_then (outputs_fault file values edges [] (outputs.explicit ++ outputs.implicit)) (inputs_fault file values inputs)
 
--- its rule, its outputs from left to right, its inputs, its validations
+-- A variable of the rule refers back to itself, by variables that the block does not bind. It counts though nothing asks for it.
+abbrev pub cycle_fault : (file : List ℕ) → Spot → LateNames → Option GraphFault
+cycle_fault file spot n = option_map (λ key. fault_at file spot (RuleVariableCycle key)) (variable_cycle_of n.block n.lines)
+
+-- A pool has to be declared before; an empty text is no pool.
+abbrev pub pool_fault : (file : List ℕ) → Spot → (declared : List (List ℕ)) → (pool : List ℕ) → Option GraphFault
+pool_fault file spot declared pool = fault_if (not (is_empty pool || is_pool declared pool)) (fault_at file spot (UnknownPool pool))
+
+-- A dyndep file has to be an input of the edge, of any kind, by its clean path; an empty text is no file.
+abbrev pub dyndep_fault : (file : List ℕ) → Spot → (inputs : List (List ℕ)) → (dyndep : List ℕ) → Option GraphFault
+dyndep_fault file spot inputs dyndep =
+    fault_if (not (is_empty dyndep || is_among inputs (clean_path_of dyndep))) (fault_at file spot (DyndepNotInput (clean_path_of dyndep)))
+
+-- the first of these faults, where these pools are declared and the edge has these inputs
+abbrev pub names_fault : (file : List ℕ) → Spot → (declared inputs : List (List ℕ)) → LateNames → Option GraphFault
+names_fault file spot declared inputs n =
+    or_then (cycle_fault file spot n)
+    (or_then (pool_fault file spot declared (asked_text n (codes "pool"))) (dyndep_fault file spot inputs (asked_text n (codes "dyndep"))))
+
+-- The edge is the one that the statement makes, with its block and without the inputs that it loses. A name of the file has the
+-- value that it has before the statement.
+abbrev pub late_fault : (before : List Entry) → EdgeText → Option GraphFault
+late_fault before edge = names_fault edge.file edge.spot (pools before) (inputs_of edge.paths) (names_of_edge before edge)
+
+-- its rule, its outputs from left to right, its inputs, its validations; then the variables of the rule, the pool, the dyndep file
 abbrev pub build_fault : Entry → (before : List Entry) → OutputsText → NameText → InputsText → List LineText → Option GraphFault
 build_fault e before outputs rule inputs lines =
     or_then (unknown_rule e before rule)
-    (paths_fault e.file (line_values e before lines) (paths_of_edges (edges_read before)) outputs inputs)
+    (or_then (paths_fault e.file (line_values e before lines) (paths_of_edges (edges_read before)) outputs inputs)
+    (late_fault before (edge_of_build e before outputs rule inputs lines)))
 
 -- ---- default statements
 

@@ -1,14 +1,17 @@
 -- The edges of a run: one for each build statement, in reading order.
-use Rattle.std.specs.Prelude.{ℕ, ◌==◌, Bool, ◌&&◌, not, if◌then◌else◌, Option, option_map, unwrap_or, List, [], ◌∷◌, ◌++◌, map, find, reverse, length, bytes_eq}
+use Rattle.std.specs.Prelude.{ℕ, ◌==◌, Bool, ◌&&◌, not, if◌then◌else◌, Option, option_map, unwrap_or, Some, None, List}
+use Rattle.std.specs.Prelude.{[], ◌∷◌, ◌++◌, map, find, reverse, length, slice_get, bytes_eq}
 use Rattle.std.specs.List.{filter}
 use Rattle.nj_text.specs.declared.spot.Spot.{Spot}
 use Rattle.nj_text.specs.Words.{WordText}
 use Rattle.nj_text.specs.Paths.{clean_path_of}
 use Rattle.nj_manifest.specs.LineSteps.{NameText}
 use Rattle.nj_manifest.specs.Statements.{LineText, OutputsText, InputsText, StatementText, BuildText, DefaultText}
+use Rattle.nj_scope.specs.Rules.{RuleText, RuleLineText}
 use Rattle.nj_scope.specs.Scopes.{expanded}
-use Rattle.nj_scope.specs.ReadingList.{Entry, scope_of, value_after, rule_in_force}
+use Rattle.nj_scope.specs.ReadingList.{Entry, scope_of, value_after, rule_in_force, rule_texts}
 use Rattle.nj_edges.specs.Edges.{EdgePaths, outputs_of, is_among}
+use Rattle.nj_late.specs.LateTexts.{LateNames}
 
 -- ---- names and paths
 
@@ -119,3 +122,21 @@ with_defaults e before item paths = paths
 unfoldable pub defaults_read : List Entry → List (List ℕ)
 defaults_read [] = []
 defaults_read (e ∷ before) = with_defaults e before e.item (defaults_read before)
+
+-- ---- the names of rules
+
+abbrev pub lines_of_rule : Option RuleText → List RuleLineText
+lines_of_rule (Some r) = r.lines
+lines_of_rule None = []
+
+-- What the names of an edge depend on, where its rule is used after these statements: its block and its rule are those of its own
+-- statement, its paths those that it keeps, and a name of the file has the value that it has by then.
+abbrev pub names_of_edge : List Entry → EdgeText → LateNames
+names_of_edge entries e = record {
+  inputs = e.paths.explicit_inputs;
+  outputs = e.paths.explicit_outputs;
+  block = e.block;
+  lines = lines_of_rule (slice_get (rule_texts entries) e.rule);
+  is_phony = e.paths.is_phony;
+  file = value_after entries (e.number ∷ e.around);
+}

@@ -1,21 +1,22 @@
 //! The edges that were read so far, and the defaults.
 
-ghost use Rattle.std.specs.Prelude.{◌≡◌, ℕ, ◌<◌, List, [], ◌∷◌, Some, length, OnOk};
+ghost use Rattle.std.specs.Prelude.{◌≡◌, ℕ, ◌<◌, List, [], ◌∷◌, Some, option_map, length, slice_get, OnOk, IfSome};
 ghost use Rattle.nj_manifest.specs.Contents.{words_text, lines_text};
 ghost use Rattle.nj_manifest.specs.Statements.{DefaultText};
 ghost use Rattle.nj_scope.specs.Scopes.{IsScope};
 ghost use Rattle.nj_scope.specs.ScopesHeld.{parent_at};
 ghost use Rattle.nj_scope.specs.Declarations.{DeclaredBy};
-ghost use Rattle.nj_scope.specs.ReadingList.{Entry, rule_in_force};
+ghost use Rattle.nj_scope.specs.ReadingList.{Entry, rule_in_force, rule_texts};
 ghost use Rattle.nj_edges.specs.EdgesHeld.{no_files};
-ghost use Rattle.nj_build.specs.EdgeList.{Values, paths_said, line_values, edges_read, paths_of_edges};
-ghost use Rattle.nj_build.specs.BuildFaults.{first_fault, paths_fault, target_fault, build_fault, default_fault};
+ghost use Rattle.nj_build.specs.EdgeList.{Values, paths_said, line_values, edge_of_build, edges_read, paths_of_edges};
+ghost use Rattle.nj_build.specs.BuildFaults.{or_then, first_fault, paths_fault, late_fault, target_fault, build_fault, default_fault};
 ghost use Rattle.nj_build.specs.Answers.{Checks, SeesNames, HoldsEdges, AddsTargets, ReadsStatement, build_text, entry_at_place, outputs_of_build, inputs_of_build};
 
 use crate::block::bind_block;
-use crate::edge::{Build, NamedLine, add_edge};
+use crate::edge::{Build, EdgeRule, NamedLine, add_edge};
 use crate::names::{EdgeBlock, Names, Room};
 use crate::place::StatementPlace;
+use crate::verdicts::{NumberedRule, may_cycle_kept};
 use nj_blocks::Blocks;
 use nj_edges::{Edges, FileNo, Files};
 use nj_faults::{Cause, GraphFault, Name};
@@ -46,6 +47,8 @@ pub struct Building {
     names: Files,
     details: Vec<Detail>,
     defaults: Vec<FileNo>,
+    // of each rule by number, whether a variable may refer back to itself, where that was asked
+    may_cycle: Vec<Option<bool>>,
     room: Room,
 }
 
@@ -61,6 +64,7 @@ impl Model for Building {
       names = b.names;
       details = map detail_text b.details.items;
       defaults = b.defaults.items;
+      may_cycle = b.may_cycle.items;
     } };
 
     ghost invariant = { λ b. b.block_values.last ≤ length b.details.items };
@@ -77,6 +81,7 @@ impl Building {
             names: Files::new(alloc, keys),
             details: Vec::new(alloc),
             defaults: Vec::new(alloc),
+            may_cycle: Vec::new(alloc),
             room: Room::new(alloc),
         }
     }
@@ -86,8 +91,10 @@ impl Building {
     /// # Errors
     ///
     /// The first fault of the statement: an unknown rule, then its outputs from left to right, each
-    /// an empty path or one that has a maker, then an empty path among its inputs and validations.
-    /// After a fault nothing more must be read.
+    /// an empty path or one that has a maker, then an empty path among its inputs and validations,
+    /// and then a cycle of the rule's variables, a pool that is not declared, or a dyndep file that
+    /// is no input ("Rule variables", "Pools" and "Dynamic Dependencies" in the manual). After a
+    /// fault nothing more must be read.
     pub fn read_build(
         &mut self,
         alloc: Global,
@@ -106,7 +113,7 @@ impl Building {
             (record { spot = build.entry.rule_spot; name = build.entry.rule.now })
             (inputs_of_build build.entry) (lines_text build.entry.lines.now)) e entries result }
     {
-        let rule = match declarations.rule(place.scope, build.rule) {
+        let rule = match rule_named(declarations, place.scope, build.rule) {
             Some(rule) => rule,
             None => {
                 let cause = Cause::UnknownRule(Name::new(alloc, build.rule)?);
@@ -116,29 +123,35 @@ impl Building {
         self.read_edge(alloc, declarations, place, build, rule)
     }
 
-    // Reads a build statement whose rule has this number.
+    // Reads a build statement that has this rule.
     fn read_edge(
         &mut self,
         alloc: Global,
         declarations: &Declarations,
         place: StatementPlace<'_>,
         build: Build<'_>,
-        rule: usize,
+        rule: NumberedRule<'_>,
     ) -> Result<(), GraphFault>
         requires { place.scope < length declarations.now.scopes }
         ensures { (entries : List Entry) (around : List ℕ) (depth : ℕ)
             → DeclaredBy declarations.now entries
             → IsScope (parent_at declarations.now.scopes) place.entry.scope
             (place.entry.scope ∷ around)
-            → rule_in_force entries (place.entry.scope ∷ around) build.entry.rule.now ≡ Some rule
+            → rule_in_force entries (place.entry.scope ∷ around) build.entry.rule.now
+            ≡ Some rule.entry.number
+            → slice_get (rule_texts entries) rule.entry.number ≡ Some rule.entry.rule.now
             → HoldsEdges self.old entries
             → let e = entry_at_place place.entry around depth (build_text build.entry) in
-            ReadsStatement self.new (paths_fault e.file
-            (line_values e entries (lines_text build.entry.lines.now))
+            let lines = lines_text build.entry.lines.now in
+            ReadsStatement self.new (or_then (paths_fault e.file (line_values e entries lines)
             (paths_of_edges (edges_read entries)) (outputs_of_build build.entry)
-            (inputs_of_build build.entry)) e entries result }
+            (inputs_of_build build.entry)) (late_fault entries (edge_of_build e entries
+            (outputs_of_build build.entry)
+            (record { spot = build.entry.rule_spot; name = build.entry.rule.now })
+            (inputs_of_build build.entry) lines))) e entries result }
     {
         let edge = self.details.as_slice().len();
+        let may_cycle = may_cycle_kept(alloc, &mut self.may_cycle, rule)?;
         bind_block(
             &mut self.block_values,
             &mut self.room.text,
@@ -147,26 +160,33 @@ impl Building {
             edge,
             build.lines,
         )?;
+        let block = EdgeBlock {
+            blocks: &self.block_values,
+            edge,
+        };
         let names = Names {
             declarations,
             scope: place.scope,
-            block: Some(EdgeBlock {
-                blocks: &self.block_values,
-                edge,
-            }),
+            block: Some(block),
         };
         let line = NamedLine {
             alloc,
             place,
             names,
         };
-        add_edge(line, &mut self.room, &mut self.edges, build, rule == PHONY)?;
+        let used = EdgeRule {
+            rule: rule.rule,
+            is_phony: rule.number == PHONY,
+            may_cycle,
+            block,
+        };
+        add_edge(line, &mut self.room, &mut self.edges, build, used)?;
         let file = self.names.name(place.file.as_bytes())?;
         self.details.push(Detail {
             file,
             spot: place.spot,
             scope: place.scope,
-            rule,
+            rule: rule.number,
         })?;
         Ok(())
     }
@@ -230,4 +250,23 @@ fn add_targets(
         targets.push(file)?;
     }
     Ok(())
+}
+
+// The rule that is in force under the name in this scope.
+fn rule_named<'a>(
+    declarations: &'a Declarations,
+    scope: usize,
+    name: &[u8],
+) -> Option<NumberedRule<'a>>
+    requires { scope < length declarations.now.scopes }
+    ensures number { (entries : List Entry) (around : List ℕ)
+        → DeclaredBy declarations.now entries
+        → IsScope (parent_at declarations.now.scopes) scope (scope ∷ around)
+        → option_map (λ r. r.number) result ≡ rule_in_force entries (scope ∷ around) name.now }
+    ensures rule { (entries : List Entry) → DeclaredBy declarations.now entries
+        → IfSome result (λ r. slice_get (rule_texts entries) r.number ≡ Some r.rule.now) }
+{
+    let number = declarations.rule(scope, name)?;
+    let rule = declarations.rules().get(number)?;
+    Some(NumberedRule { number, rule })
 }

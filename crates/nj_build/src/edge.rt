@@ -1,18 +1,24 @@
 //! The files that a build statement names.
 
-ghost use Rattle.std.specs.Prelude.{◌≡◌, ◌<◌, ◌≤◌, ◌+◌, ◌++◌, Some, length, slice_get, IfOk, OnOk};
+ghost use Rattle.std.specs.Prelude.{◌≡◌, ◌<◌, ◌≤◌, ◌+◌, ◌++◌, ◌∷◌, false, Some, length, slice_get, IfOk, OnOk};
 ghost use Rattle.nj_text.specs.Words.{word_text};
 ghost use Rattle.nj_manifest.specs.Contents.{words_text};
-ghost use Rattle.nj_edges.specs.EdgesHeld.{no_files};
+ghost use Rattle.nj_scope.specs.ReadingList.{value_after, pools};
+ghost use Rattle.nj_edges.specs.Edges.{inputs_of};
+ghost use Rattle.nj_edges.specs.EdgesHeld.{no_files, EndWithin, edge_read};
+ghost use Rattle.nj_late.specs.LateEdges.{late_names};
 ghost use Rattle.nj_build.specs.EdgeList.{Values, path_said, paths_said, stated_paths, loses_own, edge_paths};
-ghost use Rattle.nj_build.specs.BuildFaults.{empty_path, first_fault, target_fault, outputs_fault, inputs_fault, paths_fault};
-ghost use Rattle.nj_build.specs.Answers.{Checks, SeesNames, Grows, AddsInputs, AddsEdge, outputs_of_build, inputs_of_build, with_outputs, with_inputs, with_validations};
+ghost use Rattle.nj_build.specs.BuildFaults.{or_then, empty_path, first_fault, target_fault, outputs_fault, inputs_fault, paths_fault, names_fault};
+ghost use Rattle.nj_build.specs.Answers.{Checks, SeesNames, bound_by, Grows, AddsInputs, NamesFiles, AddsEdge, names_read, NeverCycles, outputs_of_build, inputs_of_build, with_outputs, with_inputs, with_validations};
 
-use crate::names::{Names, Room};
+use crate::late::LateLine;
+use crate::names::{EdgeBlock, Names, Room};
 use crate::place::StatementPlace;
 use nj_edges::{Edges, FileNo, KindEnds};
 use nj_faults::{Cause, GraphFault, Name};
+use nj_late::LateEdge;
 use nj_manifest::{Line, Word};
+use nj_scope::{Declarations, Rule};
 use nj_text::{Spot, TextFault};
 use std::alloc::Global;
 
@@ -218,33 +224,115 @@ fn add_all_inputs(
     Ok((explicit, implicit))
 }
 
-// Reads the files of a build statement as an edge, which is the last one then.
-pub(crate) fn add_edge(
+/// The rule of an edge that is read, and its block.
+#[derive(Clone, Copy)]
+pub(crate) struct EdgeRule<'r, 'b> {
+    pub(crate) rule: &'r Rule,
+    pub(crate) is_phony: bool,
+    /// Whether a block could leave a cycle of the rule's variables.
+    pub(crate) may_cycle: bool,
+    pub(crate) block: EdgeBlock<'b>,
+}
+
+// Reads the files of a build statement into the edge that is being read. Returns where its kinds
+// end.
+fn add_files(
     line: NamedLine<'_, '_, '_>,
     room: &mut Room,
     edges: &mut Edges,
     build: Build<'_>,
     is_phony: bool,
-) -> Result<(), GraphFault>
+) -> Result<KindEnds, GraphFault>
     requires { line.names.scope < length line.names.declarations.now.scopes }
     ensures fault { (values : Values) → SeesNames line.entry.names values
         → edges.old.«open» ≡ no_files
         → Checks (paths_fault line.entry.place.file.now values edges.old.edges
         (outputs_of_build build.entry) (inputs_of_build build.entry)) result }
-    ensures added { (values : Values) → SeesNames line.entry.names values
+    ensures named { (values : Values) → SeesNames line.entry.names values
         → edges.old.«open» ≡ no_files
-        → OnOk result (AddsEdge edges.old edges.new (edge_paths (stated_paths values
-        (outputs_of_build build.entry) (inputs_of_build build.entry) is_phony))) }
+        → IfOk result (λ kinds. NamesFiles edges.old edges.new kinds is_phony (edge_paths
+        (stated_paths values (outputs_of_build build.entry) (inputs_of_build build.entry)
+        is_phony))) }
+    ensures within { IfOk result (λ kinds. EndWithin kinds (length edges.new.«open».outputs)
+        (length edges.new.«open».inputs)) }
 {
     add_all_outputs(line, room, edges, build)?;
     let loses_own = loses_own(build, is_phony);
     let (explicit_inputs, implicit_inputs) = add_all_inputs(line, room, edges, build, loses_own)?;
-    let kinds = KindEnds {
+    Ok(KindEnds {
         explicit_outputs: build.explicit_outputs.len(),
         explicit_inputs,
         implicit_inputs,
+    })
+}
+
+// The edge that is being read, whose kinds end so, for its late texts.
+fn late_edge<'a>(
+    declarations: &'a Declarations,
+    scope: usize,
+    edges: &'a Edges,
+    kinds: KindEnds,
+    rule: EdgeRule<'a, 'a>,
+) -> LateEdge<'a>
+    requires scope { scope < length declarations.now.scopes }
+    requires kinds { EndWithin kinds (length edges.now.«open».outputs)
+        (length edges.now.«open».inputs) }
+    ensures declarations { result.declarations.now ≡ declarations.now }
+    ensures scope { result.scope ≡ scope }
+    ensures names { (file : Values) → late_names result file
+        ≡ names_read (edge_read edges.now.«open» kinds rule.entry.is_phony)
+        (bound_by rule.entry.block) rule.entry.rule.now file }
+{
+    LateEdge {
+        files: edges.files(),
+        inputs: &edges.open_input_files()[..kinds.explicit_inputs],
+        outputs: &edges.open_output_files()[..kinds.explicit_outputs],
+        blocks: rule.block.blocks,
+        edge: rule.block.edge,
+        rule: rule.rule,
+        declarations,
+        scope,
+    }
+}
+
+/// Reads a build statement as an edge, which is the last one then.
+pub(crate) fn add_edge(
+    line: NamedLine<'_, '_, '_>,
+    room: &mut Room,
+    edges: &mut Edges,
+    build: Build<'_>,
+    rule: EdgeRule<'_, '_>,
+) -> Result<(), GraphFault>
+    requires { line.names.scope < length line.names.declarations.now.scopes }
+    ensures fault { (values : Values) (sees : SeesNames line.entry.names values)
+        → edges.old.«open» ≡ no_files
+        → (rule.entry.may_cycle ≡ false → NeverCycles rule.entry.rule.now.lines)
+        → let paths = edge_paths (stated_paths values (outputs_of_build build.entry)
+        (inputs_of_build build.entry) rule.entry.is_phony) in
+        Checks (or_then (paths_fault line.entry.place.file.now values edges.old.edges
+        (outputs_of_build build.entry) (inputs_of_build build.entry))
+        (names_fault line.entry.place.file.now line.entry.place.spot (pools sees.entries)
+        (inputs_of paths) (names_read paths (bound_by rule.entry.block) rule.entry.rule.now
+        (value_after sees.entries (line.entry.names.scope ∷ sees.around))))) result }
+    ensures added { (values : Values) → SeesNames line.entry.names values
+        → edges.old.«open» ≡ no_files
+        → OnOk result (AddsEdge edges.old edges.new (edge_paths (stated_paths values
+        (outputs_of_build build.entry) (inputs_of_build build.entry) rule.entry.is_phony))) }
+{
+    let kinds = add_files(line, room, edges, build, rule.is_phony)?;
+    let late = LateLine {
+        alloc: line.alloc,
+        place: line.place,
+        edge: late_edge(
+            line.names.declarations,
+            line.names.scope,
+            edges,
+            kinds,
+            rule,
+        ),
     };
-    edges.end_edge(kinds, is_phony)?;
+    late.check(room, edges, rule.may_cycle)?;
+    edges.end_edge(kinds, rule.is_phony)?;
     Ok(())
 }
 

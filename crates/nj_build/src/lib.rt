@@ -4,8 +4,10 @@
 mod block;
 mod building;
 mod edge;
+mod late;
 mod names;
 mod place;
+mod verdicts;
 
 pub use building::Building;
 pub use edge::Build;

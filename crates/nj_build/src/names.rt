@@ -45,8 +45,8 @@ impl Room {
         }
     }
 
-    // The clean path of the text.
-    fn clean_path(&mut self) -> Result<&[u8], TextFault>
+    /// The clean path of the text.
+    pub(crate) fn clean_path(&mut self) -> Result<&[u8], TextFault>
         ensures path { IfOk result (λ path. path.now ≡ clean_path_of self.old.text.items) }
         ensures said { OnOk result (is_empty self.old.text.items ≡ false) }
         ensures empty { result ≡ Err EmptyPath → self.old.text.items ≡ [] }

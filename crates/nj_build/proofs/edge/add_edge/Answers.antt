@@ -1,27 +1,55 @@
-use Rattle.std.proofs.Common.{◌++◌, [], length, sym, subst, ◌∙◌}
-use Rattle.std.proofs.lemmas.List.{length-map}
-use Rattle.nj_manifest.specs.Contents.{words_text}
-use Rattle.nj_text.specs.Words.{word_text}
-use Rattle.nj_build.specs.EdgeList.{path_said}
-use Rattle.nj_build.specs.BuildFaults.{outputs_fault, inputs_fault, paths_fault}
-use Rattle.nj_build.specs.Answers.{IsFault, outputs_of_build, inputs_of_build}
-use Rattle.nj_build.proofs.Faults.{fault-first, err-checks}
+use Rattle.std.proofs.Common.{◌≡◌, ◌∷◌, None, length, sym, ap, subst, ◌∙◌}
+use Rattle.nj_scope.specs.ReadingList.{value_after, pools}
+use Rattle.nj_edges.specs.Edges.{EdgePaths, inputs_of}
+use Rattle.nj_edges.specs.EdgesHeld.{edge_read}
+use Rattle.nj_late.specs.LateTexts.{LateNames}
+use Rattle.nj_build.specs.EdgeList.{stated_paths, edge_paths}
+use Rattle.nj_build.specs.BuildFaults.{or_then, paths_fault, names_fault}
+use Rattle.nj_build.specs.Answers.{IsFault, SeesLate, bound_by, names_read, outputs_of_build, inputs_of_build}
+use Rattle.nj_build.proofs.Faults.{fault-second, both-none, err-checks}
 use Rattle.nj_build.proofs.Adding.{adds-edge}
+use Rattle.nj_build.proofs.LateLemmas.{inputs-read, sees-late}
 use Rattle.nj_build.proofs.edge.add_edge.Goals as goal
 
-pub returns-in_err-add_all_outputs-clause-fault : goal.returns-in_err-add_all_outputs-clause-fault
-returns-in_err-add_all_outputs-clause-fault c = λ values sees none.
+pub returns-in_err-check-clause-fault : goal.returns-in_err-check-clause-fault
+returns-in_err-check-clause-fault c = λ values sees none never.
     let file = c.args.line.place.file.now in
+    let spot = c.args.line.place.spot in
     let outputs = outputs_of_build c.args.build in
     let inputs = inputs_of_build c.args.build in
-    let edges = c.args.edges.now.edges in
-    let f = c.in_err-add_all_outputs.field-0.0 in
-    err-checks c.from_residual.result f (paths_fault file values edges outputs inputs) c.from_residual.ensures.1
-    (fault-first (outputs_fault file values edges [] (outputs.explicit ++ outputs.implicit)) (inputs_fault file values inputs) f
-    (subst (λ o. IsFault (outputs_fault file values edges o.outputs (outputs.explicit ++ outputs.implicit)) f) none (c.in_err-add_all_outputs.ensures.fault values sees)))
+    let block = bound_by c.args.rule.block in
+    let open_edge = c.add_files.new.edges.«open» in
+    let paths : EdgePaths = edge_paths (stated_paths values outputs inputs c.args.rule.is_phony) in
+    let n : LateNames = names_read paths block c.args.rule.rule.now (value_after sees.entries (c.args.line.names.scope ∷ sees.around)) in
+    let named = c.in_ok-kinds.ensures.named values sees none in
+    let inputs_are : inputs_of paths ≡ open_edge.inputs = sym (ap inputs_of named.edge_is) ∙ inputs-read open_edge c.in_ok-kinds.kinds c.args.rule.is_phony (length open_edge.outputs) c.in_ok-kinds.ensures.within in
+    let late : SeesLate c.late_edge.result sees.entries n = sees-late c.late_edge.result c.args.line.names.declarations.now c.args.line.names.scope sees.entries sees.around (edge_read open_edge c.in_ok-kinds.kinds c.args.rule.is_phony) paths block c.args.rule.rule.now
+    c.late_edge.ensures.declarations c.late_edge.ensures.scope c.late_edge.ensures.names named.edge_is sees.declared sees.within in
+    let f = c.in_err-check.field-0.0 in
+    let before = paths_fault file values c.args.edges.now.edges outputs inputs in
+    let after = names_fault file spot (pools sees.entries) (inputs_of paths) n in
+    err-checks c.from_residual-in_err-check.result f (or_then before after) c.from_residual-in_err-check.ensures.1
+    (fault-second before after f (c.in_ok-kinds.ensures.fault values sees none)
+    (subst (λ is. IsFault (names_fault file spot (pools sees.entries) is n) f) (sym inputs_are) (c.in_err-check.ensures sees.entries n late never)))
+
+pub returns-clause-fault : goal.returns-clause-fault
+returns-clause-fault c = λ values sees none never.
+    let file = c.args.line.place.file.now in
+    let spot = c.args.line.place.spot in
+    let outputs = outputs_of_build c.args.build in
+    let inputs = inputs_of_build c.args.build in
+    let block = bound_by c.args.rule.block in
+    let open_edge = c.add_files.new.edges.«open» in
+    let paths : EdgePaths = edge_paths (stated_paths values outputs inputs c.args.rule.is_phony) in
+    let n : LateNames = names_read paths block c.args.rule.rule.now (value_after sees.entries (c.args.line.names.scope ∷ sees.around)) in
+    let named = c.in_ok-kinds.ensures.named values sees none in
+    let inputs_are : inputs_of paths ≡ open_edge.inputs = sym (ap inputs_of named.edge_is) ∙ inputs-read open_edge c.in_ok-kinds.kinds c.args.rule.is_phony (length open_edge.outputs) c.in_ok-kinds.ensures.within in
+    let late : SeesLate c.late_edge.result sees.entries n = sees-late c.late_edge.result c.args.line.names.declarations.now c.args.line.names.scope sees.entries sees.around (edge_read open_edge c.in_ok-kinds.kinds c.args.rule.is_phony) paths block c.args.rule.rule.now
+    c.late_edge.ensures.declarations c.late_edge.ensures.scope c.late_edge.ensures.names named.edge_is sees.declared sees.within in
+    both-none (paths_fault file values c.args.edges.now.edges outputs inputs) (names_fault file spot (pools sees.entries) (inputs_of paths) n) (c.in_ok-kinds.ensures.fault values sees none)
+    (subst (λ is. names_fault file spot (pools sees.entries) is n ≡ None) (sym inputs_are) (c.in_ok-check.ensures sees.entries n late never))
 
 pub returns-clause-added : goal.returns-clause-added
 returns-clause-added c = λ values sees none.
-    adds-edge values (outputs_of_build c.args.build) (inputs_of_build c.args.build) c.args.is_phony c.loses_own-loses_own.result c.args.edges.now c.add_all_outputs.new.edges c.add_all_inputs.new.edges (c.in_ok-explicit_inputs.explicit_inputs, c.in_ok-explicit_inputs.implicit_inputs)
-    none (c.loses_own-loses_own.ensures values) (c.in_ok-add_all_outputs.ensures.added values sees) (c.in_ok-explicit_inputs.ensures.added values sees)
-    (length c.args.build.explicit_outputs.now) c.end_edge.new.self (sym (length-map (words_text c.args.build.explicit_outputs.now) (path_said values) ∙ length-map c.args.build.explicit_outputs.now word_text)) c.in_ok-end_edge.ensures
+    adds-edge c.args.edges.now c.add_files.new.edges c.end_edge.new.self c.in_ok-kinds.kinds c.args.rule.is_phony (edge_paths (stated_paths values (outputs_of_build c.args.build) (inputs_of_build c.args.build) c.args.rule.is_phony))
+    (c.in_ok-kinds.ensures.named values sees none) c.in_ok-end_edge.ensures

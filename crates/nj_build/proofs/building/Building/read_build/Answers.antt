@@ -1,18 +1,23 @@
-use Rattle.std.proofs.Common.{◌≡◌, ◌∷◌, ℕ, Option, Some, not, is_some, sym, ap, subst, ◌∙◌}
+use Rattle.std.proofs.Common.{◌≡◌, ◌∷◌, ℕ, Option, Some, option_map, not, is_some, sym, ap, subst, ◌∙◌}
 use Rattle.nj_manifest.specs.Contents.{lines_text}
 use Rattle.nj_scope.specs.ReadingList.{rule_in_force}
 use Rattle.nj_faults.specs.declared.fault.Cause.TheVariants.{UnknownRule}
 use Rattle.nj_faults.specs.Faults.{fault_at}
-use Rattle.nj_build.specs.EdgeList.{line_values, edges_read, paths_of_edges}
-use Rattle.nj_build.specs.BuildFaults.{fault_if, or_then, paths_fault}
+use Rattle.nj_build.specs.declared.verdicts.NumberedRule.{NumberedRule}
+use Rattle.nj_build.specs.EdgeList.{line_values, edge_of_build, edges_read, paths_of_edges}
+use Rattle.nj_build.specs.BuildFaults.{fault_if, or_then, paths_fault, late_fault}
 use Rattle.nj_build.specs.Answers.{ReadsStatement, entry_at_place, build_text, outputs_of_build, inputs_of_build}
 use Rattle.nj_build.proofs.building.Building.read_build.Goals as goal
 
 pub returns : goal.returns
 returns c = λ entries around depth by within holds.
     let lines = lines_text c.args.build.lines.now in
+    let outputs = outputs_of_build c.args.build in
+    let inputs = inputs_of_build c.args.build in
     let e = entry_at_place c.args.place around depth (build_text c.args.build) in
-    let rule_is : rule_in_force entries (c.args.place.scope ∷ around) c.args.build.rule.now ≡ Some c.in-Some.rule = sym (c.rule.ensures.in_force entries around by within) ∙ c.in-Some.is in
-    subst (λ o. ReadsStatement c.read_edge.new.self (or_then o (paths_fault c.args.place.file.now (line_values e entries lines) (paths_of_edges (edges_read entries)) (outputs_of_build c.args.build) (inputs_of_build c.args.build))) e entries c.read_edge.result)
+    let rule_is : rule_in_force entries (c.args.place.scope ∷ around) c.args.build.rule.now ≡ Some c.in-Some.rule.number = sym (c.rule_named.ensures.number entries around by within) ∙ ap (option_map (λ (r : NumberedRule). r.number)) c.in-Some.is in
+    let other = or_then (paths_fault c.args.place.file.now (line_values e entries lines) (paths_of_edges (edges_read entries)) outputs inputs)
+    (late_fault entries (edge_of_build e entries outputs (record { spot = c.args.build.rule_spot; name = c.args.build.rule.now }) inputs lines)) in
+    subst (λ o. ReadsStatement c.read_edge.new.self (or_then o other) e entries c.read_edge.result)
     (sym (ap (λ (o : Option ℕ). fault_if (not (is_some o)) (fault_at c.args.place.file.now c.args.build.rule_spot (UnknownRule c.args.build.rule.now))) rule_is))
-    (c.read_edge.ensures entries around depth by within rule_is holds)
+    (c.read_edge.ensures entries around depth by within rule_is (c.in-Some.ensures.rule entries by) holds)

@@ -1,0 +1,102 @@
+//! What is wrong with the edge that is being read by the variables of its rule.
+
+ghost use Rattle.std.specs.Prelude.{◌≡◌, List, false, codes, OnOk};
+ghost use Rattle.nj_late.specs.LateTexts.{LateNames, asked_text};
+ghost use Rattle.nj_scope.specs.ReadingList.{Entry, pools};
+ghost use Rattle.nj_build.specs.BuildFaults.{cycle_fault, pool_fault, dyndep_fault, names_fault};
+ghost use Rattle.nj_build.specs.Answers.{Checks, SeesLate, NeverCycles};
+
+use crate::names::Room;
+use crate::place::StatementPlace;
+use nj_edges::Edges;
+use nj_faults::{Cause, GraphFault, Name};
+use nj_late::{LateEdge, variable_cycle};
+use nj_text::TextFault;
+use std::alloc::{AllocError, Global};
+
+/// The edge that is being read, for what its names say where its rule is used, and the place of its
+/// statement.
+#[derive(Clone, Copy)]
+pub(crate) struct LateLine<'p, 'e> {
+    pub(crate) alloc: Global,
+    pub(crate) place: StatementPlace<'p>,
+    pub(crate) edge: LateEdge<'e>,
+}
+
+impl LateLine<'_, '_> {
+    /// Checks the variables of the rule, then the pool, then the dyndep file.
+    pub(crate) fn check(
+        self,
+        room: &mut Room,
+        edges: &Edges,
+        may_cycle: bool,
+    ) -> Result<(), GraphFault>
+        ensures { (entries : List Entry) (n : LateNames) → SeesLate self.entry.edge entries n
+            → (may_cycle ≡ false → NeverCycles n.lines)
+            → Checks (names_fault self.entry.place.file.now self.entry.place.spot (pools entries)
+            edges.now.«open».inputs n) result }
+    {
+        if may_cycle {
+            self.check_cycle()?;
+        }
+        self.check_pool(&mut room.text)?;
+        self.check_dyndep(room, edges)
+    }
+
+    // Sets a text to what a name says.
+    fn say(self, text: &mut Vec<u8>, name: &[u8]) -> Result<(), AllocError>
+        ensures { (entries : List Entry) (n : LateNames) → SeesLate self.entry.edge entries n
+            → OnOk result (text.new.items ≡ asked_text n name.now) }
+    {
+        text.clear();
+        self.edge.append_late_text(text, name)
+    }
+
+    // Refuses a variable of the rule that refers back to itself.
+    fn check_cycle(self) -> Result<(), GraphFault>
+        ensures { (entries : List Entry) (n : LateNames) → SeesLate self.entry.edge entries n
+            → Checks (cycle_fault self.entry.place.file.now self.entry.place.spot n) result }
+    {
+        match variable_cycle(self.alloc, self.edge.rule, self.edge.blocks, self.edge.edge)? {
+            Some(key) => {
+                let cause = Cause::RuleVariableCycle(Name::new(self.alloc, key)?);
+                Err(self.place.fault(self.alloc, self.place.spot, cause))
+            }
+            None => Ok(()),
+        }
+    }
+
+    // Refuses a pool that no statement before declares; `text` is room for its name.
+    fn check_pool(self, text: &mut Vec<u8>) -> Result<(), GraphFault>
+        ensures { (entries : List Entry) (n : LateNames) → SeesLate self.entry.edge entries n
+            → Checks (pool_fault self.entry.place.file.now self.entry.place.spot (pools entries)
+            (asked_text n (codes "pool"))) result }
+    {
+        self.say(text, b"pool")?;
+        let pool = text.as_slice();
+        if pool.is_empty() || self.edge.declarations.has_pool(pool) {
+            return Ok(());
+        }
+        let cause = Cause::UnknownPool(Name::new(self.alloc, pool)?);
+        Err(self.place.fault(self.alloc, self.place.spot, cause))
+    }
+
+    // Refuses a dyndep file that is no input of the edge.
+    fn check_dyndep(self, room: &mut Room, edges: &Edges) -> Result<(), GraphFault>
+        ensures { (entries : List Entry) (n : LateNames) → SeesLate self.entry.edge entries n
+            → Checks (dyndep_fault self.entry.place.file.now self.entry.place.spot
+            edges.now.«open».inputs (asked_text n (codes "dyndep"))) result }
+    {
+        self.say(&mut room.text, b"dyndep")?;
+        let path = match room.clean_path() {
+            Ok(path) => path,
+            Err(TextFault::EmptyPath) => return Ok(()),
+            Err(TextFault::OutOfMemory) => return Err(GraphFault::out_of_memory()),
+        };
+        if edges.has_open_input(path) {
+            return Ok(());
+        }
+        let cause = Cause::DyndepNotInput(Name::new(self.alloc, path)?);
+        Err(self.place.fault(self.alloc, self.place.spot, cause))
+    }
+}
