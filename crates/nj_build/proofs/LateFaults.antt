@@ -10,7 +10,7 @@ use Rattle.nj_faults.specs.declared.fault.Cause.TheVariants.{RuleVariableCycle, 
 use Rattle.nj_faults.specs.Faults.{fault_at}
 use Rattle.nj_edges.specs.Edges.{is_among}
 use Rattle.nj_late.specs.LateTexts.{LateNames}
-use Rattle.nj_build.specs.BuildFaults.{fault_if, cycle_fault, pool_fault, dyndep_fault}
+use Rattle.nj_build.specs.BuildFaults.{fault_if, variable_cycle_fault, unknown_pool, dyndep_not_input}
 use Rattle.nj_build.specs.Answers.{IsFault, NeverCycles}
 
 -- ---- the pool
@@ -31,15 +31,15 @@ module _ (file : List ℕ) (spot : Spot) (declared : List (List ℕ)) (said text
   or-true true = refl
   or-true false = refl
 
-  pub pool-empty : (length said == 0) ≡ true → pool_fault file spot declared text ≡ None
-  pool-empty h = ap (pool_fault file spot declared) (sym says) ∙ ap (λ b. fault_if (not (b || is_pool declared said)) fault) (nothing-said said h)
+  pub pool-empty : (length said == 0) ≡ true → unknown_pool file spot declared text ≡ None
+  pool-empty h = ap (unknown_pool file spot declared) (sym says) ∙ ap (λ b. fault_if (not (b || is_pool declared said)) fault) (nothing-said said h)
 
-  pub pool-known : is_pool declared said ≡ true → pool_fault file spot declared text ≡ None
-  pool-known h = ap (pool_fault file spot declared) (sym says) ∙ ap (λ b. fault_if (not (is_empty said || b)) fault) h ∙ ap (λ b. fault_if (not b) fault) (or-true (is_empty said))
+  pub pool-known : is_pool declared said ≡ true → unknown_pool file spot declared text ≡ None
+  pool-known h = ap (unknown_pool file spot declared) (sym says) ∙ ap (λ b. fault_if (not (is_empty said || b)) fault) h ∙ ap (λ b. fault_if (not b) fault) (or-true (is_empty said))
 
-  pub pool-unknown : (f : GraphFault) → (length said == 0) ≡ false → is_pool declared said ≡ false → IsFault (Some fault) f → IsFault (pool_fault file spot declared text) f
+  pub pool-unknown : (f : GraphFault) → (length said == 0) ≡ false → is_pool declared said ≡ false → IsFault (Some fault) f → IsFault (unknown_pool file spot declared text) f
   pool-unknown f some unknown h =
-      subst (λ o. IsFault o f) (sym (ap (pool_fault file spot declared) (sym says) ∙ ap (λ b. fault_if (not (b || is_pool declared said)) fault) (something-said said some) ∙ ap (λ b. fault_if (not b) fault) unknown)) h
+      subst (λ o. IsFault o f) (sym (ap (unknown_pool file spot declared) (sym says) ∙ ap (λ b. fault_if (not (b || is_pool declared said)) fault) (something-said said some) ∙ ap (λ b. fault_if (not b) fault) unknown)) h
 
 -- ---- the dyndep file
 
@@ -50,22 +50,22 @@ module _ (file : List ℕ) (spot : Spot) (inputs : List (List ℕ)) (said text :
   abbrev no_input : (path : List ℕ) → GraphFault
   no_input path = fault_at file spot (DyndepNotInput path)
 
-  pub dyndep-empty : said ≡ [] → dyndep_fault file spot inputs text ≡ None
-  dyndep-empty h = ap (dyndep_fault file spot inputs) (sym says) ∙ ap (λ (l : List ℕ). fault_if (not (is_empty l || is_among inputs path)) (no_input path)) h
+  pub dyndep-empty : said ≡ [] → dyndep_not_input file spot inputs text ≡ None
+  dyndep-empty h = ap (dyndep_not_input file spot inputs) (sym says) ∙ ap (λ (l : List ℕ). fault_if (not (is_empty l || is_among inputs path)) (no_input path)) h
 
   or-true' : (a : Bool) → (a || true) ≡ true
   or-true' true = refl
   or-true' false = refl
 
-  pub dyndep-input : is_among inputs path ≡ true → dyndep_fault file spot inputs text ≡ None
-  dyndep-input h = ap (dyndep_fault file spot inputs) (sym says) ∙ ap (λ b. fault_if (not (is_empty said || b)) (no_input path)) h ∙ ap (λ b. fault_if (not b) (no_input path)) (or-true' (is_empty said))
+  pub dyndep-input : is_among inputs path ≡ true → dyndep_not_input file spot inputs text ≡ None
+  dyndep-input h = ap (dyndep_not_input file spot inputs) (sym says) ∙ ap (λ b. fault_if (not (is_empty said || b)) (no_input path)) h ∙ ap (λ b. fault_if (not b) (no_input path)) (or-true' (is_empty said))
 
-  pub dyndep-other : (f : GraphFault) → is_empty said ≡ false → is_among inputs path ≡ false → IsFault (Some (no_input path)) f → IsFault (dyndep_fault file spot inputs text) f
+  pub dyndep-other : (f : GraphFault) → is_empty said ≡ false → is_among inputs path ≡ false → IsFault (Some (no_input path)) f → IsFault (dyndep_not_input file spot inputs text) f
   dyndep-other f some other h =
-      subst (λ o. IsFault o f) (sym (ap (dyndep_fault file spot inputs) (sym says) ∙ ap (λ b. fault_if (not (b || is_among inputs path)) (no_input path)) some ∙ ap (λ b. fault_if (not b) (no_input path)) other)) h
+      subst (λ o. IsFault o f) (sym (ap (dyndep_not_input file spot inputs) (sym says) ∙ ap (λ b. fault_if (not (b || is_among inputs path)) (no_input path)) some ∙ ap (λ b. fault_if (not b) (no_input path)) other)) h
 
 -- ---- cycles
 
 -- a rule whose variables never refer back to themselves
-pub no-cycle : (file : List ℕ) (spot : Spot) (n : LateNames) → NeverCycles n.lines → cycle_fault file spot n ≡ None
+pub no-cycle : (file : List ℕ) (spot : Spot) (n : LateNames) → NeverCycles n.lines → variable_cycle_fault file spot n ≡ None
 no-cycle file spot n never = ap (option_map (λ key. fault_at file spot (RuleVariableCycle key))) (never n.block)

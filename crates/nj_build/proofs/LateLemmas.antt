@@ -53,7 +53,7 @@ is-phony entries scope name number rule is there =
     named = let (r, at, its, _) = in_force entries scope name number is in ap (λ (x : RuleText). x.name) (some_same (sym there ∙ at)) ∙ its
 
 -- an edge that loses its own outputs is phony as it was
-kept-phony : (s : EdgePaths) → (edge_paths s).is_phony ≡ s.is_phony
+pub kept-phony : (s : EdgePaths) → (edge_paths s).is_phony ≡ s.is_phony
 kept-phony s = by (loses_own s)
   where
     by : (b : Bool) → (if b then without_own s else s).is_phony ≡ s.is_phony
@@ -102,7 +102,7 @@ pub inputs-read : (o : OpenEdge) (kinds : KindEnds) (is_phony : Bool) (count : �
 inputs-read o kinds is_phony count within = kinds-joined o.inputs kinds.explicit_inputs kinds.implicit_inputs within.explicit_inputs
 
 -- the paths of the first files
-paths-are : (files : List (List ℕ)) (numbers : List FileNo) (paths : List (List ℕ)) → AreFiles files numbers paths → map (path_at files) numbers ≡ paths
+pub paths-are : (files : List (List ℕ)) (numbers : List FileNo) (paths : List (List ℕ)) → AreFiles files numbers paths → map (path_at files) numbers ≡ paths
 paths-are files numbers paths are =
     sym (map-map numbers) ∙ ap (map (λ (o : Option (List ℕ)). unwrap_or o [])) are ∙ back paths
   where

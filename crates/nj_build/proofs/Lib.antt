@@ -9,3 +9,5 @@ pub mod VerdictLemmas
 pub mod Holding
 pub mod Adding
 pub mod Rows
+pub mod Finishing
+pub mod BuiltRows

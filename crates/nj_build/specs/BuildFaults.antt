@@ -61,23 +61,24 @@ paths_fault file values edges outputs inputs =
     or_then (outputs_fault file values edges [] (outputs.explicit ++ outputs.implicit)) (inputs_fault file values inputs)
 
 -- A variable of the rule refers back to itself, by variables that the block does not bind. It counts though nothing asks for it.
-abbrev pub cycle_fault : (file : List ℕ) → Spot → LateNames → Option GraphFault
-cycle_fault file spot n = option_map (λ key. fault_at file spot (RuleVariableCycle key)) (variable_cycle_of n.block n.lines)
+abbrev pub variable_cycle_fault : (file : List ℕ) → Spot → LateNames → Option GraphFault
+variable_cycle_fault file spot n = option_map (λ key. fault_at file spot (RuleVariableCycle key)) (variable_cycle_of n.block n.lines)
 
 -- A pool has to be declared before; an empty text is no pool.
-abbrev pub pool_fault : (file : List ℕ) → Spot → (declared : List (List ℕ)) → (pool : List ℕ) → Option GraphFault
-pool_fault file spot declared pool = fault_if (not (is_empty pool || is_pool declared pool)) (fault_at file spot (UnknownPool pool))
+abbrev pub unknown_pool : (file : List ℕ) → Spot → (declared : List (List ℕ)) → (pool : List ℕ) → Option GraphFault
+unknown_pool file spot declared pool = fault_if (not (is_empty pool || is_pool declared pool)) (fault_at file spot (UnknownPool pool))
 
 -- A dyndep file has to be an input of the edge, of any kind, by its clean path; an empty text is no file.
-abbrev pub dyndep_fault : (file : List ℕ) → Spot → (inputs : List (List ℕ)) → (dyndep : List ℕ) → Option GraphFault
-dyndep_fault file spot inputs dyndep =
+abbrev pub dyndep_not_input : (file : List ℕ) → Spot → (inputs : List (List ℕ)) → (dyndep : List ℕ) → Option GraphFault
+dyndep_not_input file spot inputs dyndep =
     fault_if (not (is_empty dyndep || is_among inputs (clean_path_of dyndep))) (fault_at file spot (DyndepNotInput (clean_path_of dyndep)))
 
 -- the first of these faults, where these pools are declared and the edge has these inputs
 abbrev pub names_fault : (file : List ℕ) → Spot → (declared inputs : List (List ℕ)) → LateNames → Option GraphFault
 names_fault file spot declared inputs n =
-    or_then (cycle_fault file spot n)
-    (or_then (pool_fault file spot declared (asked_text n (codes "pool"))) (dyndep_fault file spot inputs (asked_text n (codes "dyndep"))))
+    or_then (variable_cycle_fault file spot n)
+    (or_then (unknown_pool file spot declared (asked_text n (codes "pool")))
+    (dyndep_not_input file spot inputs (asked_text n (codes "dyndep"))))
 
 -- The edge is the one that the statement makes, with its block and without the inputs that it loses. A name of the file has the
 -- value that it has before the statement.

@@ -42,11 +42,11 @@ pub(crate) struct Detail {
 /// and "Default target statements" in the Ninja manual).
 #[derive(Drop)]
 pub struct Building {
-    edges: Edges,
-    block_values: Blocks,
-    names: Files,
-    details: Vec<Detail>,
-    defaults: Vec<FileNo>,
+    pub(crate) edges: Edges,
+    pub(crate) block_values: Blocks,
+    pub(crate) names: Files,
+    pub(crate) details: Vec<Detail>,
+    pub(crate) defaults: Vec<FileNo>,
     // of each rule by number, whether a variable may refer back to itself, where that was asked
     may_cycle: Vec<Option<bool>>,
     room: Room,

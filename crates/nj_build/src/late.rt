@@ -3,7 +3,7 @@
 ghost use Rattle.std.specs.Prelude.{◌≡◌, List, false, codes, OnOk};
 ghost use Rattle.nj_late.specs.LateTexts.{LateNames, asked_text};
 ghost use Rattle.nj_scope.specs.ReadingList.{Entry, pools};
-ghost use Rattle.nj_build.specs.BuildFaults.{cycle_fault, pool_fault, dyndep_fault, names_fault};
+ghost use Rattle.nj_build.specs.BuildFaults.{variable_cycle_fault, unknown_pool, dyndep_not_input, names_fault};
 ghost use Rattle.nj_build.specs.Answers.{Checks, SeesLate, NeverCycles};
 
 use crate::names::Room;
@@ -55,7 +55,8 @@ impl LateLine<'_, '_> {
     // Refuses a variable of the rule that refers back to itself.
     fn check_cycle(self) -> Result<(), GraphFault>
         ensures { (entries : List Entry) (n : LateNames) → SeesLate self.entry.edge entries n
-            → Checks (cycle_fault self.entry.place.file.now self.entry.place.spot n) result }
+            → Checks (variable_cycle_fault self.entry.place.file.now
+            self.entry.place.spot n) result }
     {
         match variable_cycle(self.alloc, self.edge.rule, self.edge.blocks, self.edge.edge)? {
             Some(key) => {
@@ -69,7 +70,7 @@ impl LateLine<'_, '_> {
     // Refuses a pool that no statement before declares; `text` is room for its name.
     fn check_pool(self, text: &mut Vec<u8>) -> Result<(), GraphFault>
         ensures { (entries : List Entry) (n : LateNames) → SeesLate self.entry.edge entries n
-            → Checks (pool_fault self.entry.place.file.now self.entry.place.spot (pools entries)
+            → Checks (unknown_pool self.entry.place.file.now self.entry.place.spot (pools entries)
             (asked_text n (codes "pool"))) result }
     {
         self.say(text, b"pool")?;
@@ -84,7 +85,7 @@ impl LateLine<'_, '_> {
     // Refuses a dyndep file that is no input of the edge.
     fn check_dyndep(self, room: &mut Room, edges: &Edges) -> Result<(), GraphFault>
         ensures { (entries : List Entry) (n : LateNames) → SeesLate self.entry.edge entries n
-            → Checks (dyndep_fault self.entry.place.file.now self.entry.place.spot
+            → Checks (dyndep_not_input self.entry.place.file.now self.entry.place.spot
             edges.now.«open».inputs (asked_text n (codes "dyndep"))) result }
     {
         self.say(&mut room.text, b"dyndep")?;

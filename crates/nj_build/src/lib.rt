@@ -3,6 +3,7 @@
 
 mod block;
 mod building;
+mod built;
 mod edge;
 mod late;
 mod names;
@@ -10,5 +11,6 @@ mod place;
 mod verdicts;
 
 pub use building::Building;
+pub use built::{Built, PlaceRef};
 pub use edge::Build;
 pub use place::StatementPlace;

@@ -1,7 +1,7 @@
 use Rattle.std.proofs.Common.{◌≡◌, None, codes}
 use Rattle.nj_scope.specs.ReadingList.{pools}
 use Rattle.nj_late.specs.LateTexts.{asked_text}
-use Rattle.nj_build.specs.BuildFaults.{or_then, cycle_fault, pool_fault, dyndep_fault}
+use Rattle.nj_build.specs.BuildFaults.{or_then, variable_cycle_fault, unknown_pool, dyndep_not_input}
 use Rattle.nj_build.proofs.Faults.{fault-first, fault-second, checks-second, err-checks}
 use Rattle.nj_build.proofs.LateFaults.{no-cycle}
 use Rattle.nj_build.proofs.late.LateLine.check.Goals as goal
@@ -12,9 +12,9 @@ returns-in_err-check_cycle c = λ entries n sees never.
     let file = c.args.self.place.file.now in
     let spot = c.args.self.place.spot in
     let f = c.in_err-check_cycle.field-0.0 in
-    let cycle = cycle_fault file spot n in
-    let pool = pool_fault file spot (pools entries) (asked_text n (codes "pool")) in
-    let dyndep = dyndep_fault file spot c.args.edges.now.«open».inputs (asked_text n (codes "dyndep")) in
+    let cycle = variable_cycle_fault file spot n in
+    let pool = unknown_pool file spot (pools entries) (asked_text n (codes "pool")) in
+    let dyndep = dyndep_not_input file spot c.args.edges.now.«open».inputs (asked_text n (codes "dyndep")) in
     err-checks c.from_residual.result f (or_then cycle (or_then pool dyndep)) c.from_residual.ensures.1
     (fault-first cycle (or_then pool dyndep) f (c.in_err-check_cycle.ensures entries n sees))
 
@@ -23,9 +23,9 @@ returns-in_err-check_pool c = λ entries n sees never.
     let file = c.args.self.place.file.now in
     let spot = c.args.self.place.spot in
     let f = c.in_err-check_pool.field-0.0 in
-    let cycle = cycle_fault file spot n in
-    let pool = pool_fault file spot (pools entries) (asked_text n (codes "pool")) in
-    let dyndep = dyndep_fault file spot c.args.edges.now.«open».inputs (asked_text n (codes "dyndep")) in
+    let cycle = variable_cycle_fault file spot n in
+    let pool = unknown_pool file spot (pools entries) (asked_text n (codes "pool")) in
+    let dyndep = dyndep_not_input file spot c.args.edges.now.«open».inputs (asked_text n (codes "dyndep")) in
     let none : cycle ≡ None = elim c.if-may_cycle.branch [
       | then-may_cycle+in_ok-check_cycle w ↦ w.in_ok-check_cycle.ensures entries n sees
       | else-may_cycle w ↦ no-cycle file spot n (never w.if-may_cycle.false)
@@ -37,9 +37,9 @@ pub returns : goal.returns
 returns c = λ entries n sees never.
     let file = c.args.self.place.file.now in
     let spot = c.args.self.place.spot in
-    let cycle = cycle_fault file spot n in
-    let pool = pool_fault file spot (pools entries) (asked_text n (codes "pool")) in
-    let dyndep = dyndep_fault file spot c.args.edges.now.«open».inputs (asked_text n (codes "dyndep")) in
+    let cycle = variable_cycle_fault file spot n in
+    let pool = unknown_pool file spot (pools entries) (asked_text n (codes "pool")) in
+    let dyndep = dyndep_not_input file spot c.args.edges.now.«open».inputs (asked_text n (codes "dyndep")) in
     let none : cycle ≡ None = elim c.if-may_cycle.branch [
       | then-may_cycle+in_ok-check_cycle w ↦ w.in_ok-check_cycle.ensures entries n sees
       | else-may_cycle w ↦ no-cycle file spot n (never w.if-may_cycle.false)

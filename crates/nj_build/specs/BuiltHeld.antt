@@ -1,0 +1,27 @@
+-- How what the statements come to is held. Nothing here has to be believed.
+use Rattle.std.specs.Prelude.{◌≡◌, ℕ, ◌<◌, List, map, length}
+use Rattle.std.specs.List.{AllByRecursion}
+use Rattle.nj_blocks.specs.Blocks.{BlocksText}
+use Rattle.nj_edges.specs.declared.files.FileNo.{FileNo}
+use Rattle.nj_edges.specs.EdgeGraphs.{EdgeGraph}
+use Rattle.nj_edges.specs.EdgesHeld.{AreNumbers, paths_at}
+use Rattle.nj_edges.specs.Files.{path_at}
+use Rattle.nj_build.specs.declared.building.Detail.{Detail}
+use Rattle.nj_build.specs.Built.{EdgeDetail, BuiltText}
+
+abbrev pub detail_named : (names : List (List ℕ)) → Detail → EdgeDetail
+detail_named names d = record { file = path_at names d.file; spot = d.spot; scope = d.scope; rule = d.rule }
+
+abbrev pub built_of : EdgeGraph → BlocksText → (names : List (List ℕ)) → List Detail → (defaults : List FileNo) → BuiltText
+built_of graph blocks names details defaults = record {
+  graph = graph;
+  details = map (detail_named names) details;
+  blocks = blocks;
+  defaults = paths_at graph.files defaults;
+}
+
+-- There is a detail of each edge, and all numbers are those of files.
+pub record BuiltIsHeld (graph : EdgeGraph) (names : List (List ℕ)) (details : List Detail) (defaults : List FileNo) : Type 0 where
+  pub as_many : length details ≡ length graph.edges
+  pub names_known : AllByRecursion (λ d. d.file.0 < length names) details
+  pub defaults_known : AreNumbers (length graph.files) defaults
