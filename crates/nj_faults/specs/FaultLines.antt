@@ -31,7 +31,6 @@ cause_text (cause.UnknownPool name) = codes "unknown pool name '" ++ name ++ cod
 cause_text (cause.DyndepNotInput path) = codes "dyndep '" ++ path ++ codes "' is not an input"
 cause_text (cause.Cycle path) = codes "dependency cycle through '" ++ path ++ codes "'"
 cause_text (cause.NoOutEdge path) = codes "'" ++ path ++ codes "' has no out edge"
-cause_text cause.NotYet = codes "not read yet"
 cause_text cause.OutOfMemory = codes "out of memory"
 
 -- `FILE:LINE:COLUMN: TEXT`, or `ninja-explain: TEXT`

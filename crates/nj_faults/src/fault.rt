@@ -119,8 +119,6 @@ pub enum Cause {
     /// A file that no build statement has as an input, where the first output made of it was asked
     /// for ("Running Ninja"); the fault has no place.
     NoOutEdge(Name),
-    /// `build` and `default` statements are not read yet.
-    NotYet,
     /// An allocation failed; the fault has no place.
     OutOfMemory,
 }

@@ -66,7 +66,6 @@ fn cause_text(cause: &Cause) -> FaultText<'_>
         Cause::DyndepNotInput(path) => between("dyndep '", path, "' is not an input"),
         Cause::Cycle(path) => quoted("dependency cycle through '", path),
         Cause::NoOutEdge(path) => between("'", path, "' has no out edge"),
-        Cause::NotYet => FaultText::fixed("not read yet"),
         Cause::OutOfMemory => FaultText::fixed("out of memory"),
     }
 }
