@@ -3,7 +3,7 @@ use Rattle.std.proofs.Common.{inl, inr, ◌≡◌, ◌⊎◌, ℕ, true, false, 
 use Rattle.std.specs.Global.{Global}
 use Rattle.std.specs.Rc.{rc_slice_items}
 use Rattle.std.specs.declared.rc.RcSlice.{RcSlice}
-use Rattle.nj_scope.specs.Readings.{Reading, EachPathOnce, reading_of, is_read, bytes_in, paths_of}
+use Rattle.nj_scope.specs.Readings.{Reading, EachPathOnce, reading_of, is_read, paths_of}
 use Rattle.nj_scope.specs.Sources.{SourceState, HasRead, Rises}
 use Rattle.nj_scope.specs.Opening as table
 use Rattle.nj_scope.specs.Opening.{shared_bytes, AtMostOneReading}

@@ -47,7 +47,10 @@ not_of_a_child = refl
 -- ---- descriptions
 
 abbrev graph : GraphText
-graph = record { declarations = record { scopes = []; rules = phony_rule ∷ quiet_rule ∷ cc_rule ∷ []; pools = [] } }
+graph = record {
+  declarations = record { scopes = []; rules = phony_rule ∷ quiet_rule ∷ cc_rule ∷ []; pools = [] };
+  built = record { graph = record { files = []; edges = [] }; details = []; blocks = record { values = []; last = 0 }; defaults = [] };
+}
 
 first_is_cc : main_rule_at graph 0 ≡ cc_rule
 unfolding main_rules_of sorted_by insert_by

@@ -1,6 +1,7 @@
 -- The main file of a run.
-use Rattle.std.proofs.Common.{◌≡◌, ℕ, true, false, ◌||◌, cond, inl, inr, is_some, Option, Some, None, Result, Ok, Err, List, [], ◌∷◌, ◌++◌, refl, sym, ap, subst, ◌∙◌, arith, append-nil, true≢false}
+use Rattle.std.proofs.Common.{◌≡◌, ℕ, true, false, ◌||◌, cond, inl, inr, is_some, Option, Some, None, Result, Ok, Err, List, [], ◌∷◌, ◌++◌, length, refl, sym, ap, subst, ◌∙◌, arith, append-nil, true≢false}
 use Rattle.std.specs.Prelude.{◌⊎◌}
+use Rattle.std.proofs.lemmas.List.{length-map}
 use Rattle.std.proofs.lemmas.Slice.Eq.{bytes_eq-Decides}
 use Rattle.nj_scope.specs.Readings.{Reading, EachPathOnce, reading_of, is_read, IsPrefix, paths_of}
 use Rattle.nj_scope.specs.Declarations.{DeclaredBy}
@@ -8,13 +9,18 @@ use Rattle.nj_scope.specs.Scopes.{outermost}
 use Rattle.nj_scope.specs.Sources.{SourceState}
 use Rattle.nj_faults.specs.declared.fault.GraphFault.{GraphFault}
 use Rattle.nj_graph.specs.declared.reader.Reader.{Reader}
-use Rattle.nj_faults.specs.declared.fault.Place.{Place}
 use Rattle.nj_faults.specs.declared.fault.Cause.TheVariants.{Missing}
 use Rattle.nj_faults.specs.Faults.{no_memory}
 use Rattle.nj_graph.specs.Reading.{Refused, Lacking, ReadingText, opened_in, text_read, answer_read, most_within, main_site, main_place, main_read, with_new, paths_come_to}
 use Rattle.nj_graph.specs.ReaderContracts.{IsNew, Holds, IsOpenScope, ReadsAll, ReadsText, ReadsOrStops, StopsAt}
+use Rattle.nj_order.specs.Cycles.{IsAcyclic}
+use Rattle.nj_edges.specs.Needs.{makers_of_inputs}
+use Rattle.nj_build.specs.EdgeList.{edges_read, paths_of_edges}
+use Rattle.nj_build.specs.Answers.{HoldsEdges}
+use Rattle.nj_build.specs.Built.{BuiltText, ComesTo}
+use Rattle.nj_graph.specs.Graph.{IsGraphOf}
 use Rattle.nj_graph.specs.Runs.{IsRead}
-use Rattle.nj_graph.specs.Loads.{LoadedText, Loads}
+use Rattle.nj_graph.specs.Loads.{LoadedText, IsWhole, Loads}
 use Rattle.nj_graph.proofs.Found.{FindsText, FindsNone, CannotTell, HasNoMemory}
 use Rattle.nj_graph.proofs.Comes.{main-comes}
 use Rattle.nj_graph.proofs.Tables.{extends-trans, reading-kept, read-extends, reads-all-then, read-nothing}
@@ -97,9 +103,10 @@ module _ (main : List ℕ) (before mid after : SourceState) (old opened held : R
   unfolding main_read
   is-text all ext = ap (λ r. answer_read (opened_in all most_within) (main_site main) (main_place main) [] [] r) (reading-kept main (record { path = main; bytes = Some text }) all found.files ext found.found)
 
-  pub main-holds : opened.declarations ≡ old.declarations → opened.opened ≡ old.opened → Holds main opened []
-  main-holds declared count = record {
+  pub main-holds : opened.declarations ≡ old.declarations → opened.building ≡ old.building → opened.opened ≡ old.opened → Holds main opened []
+  main-holds declared building count = record {
     declares = subst (λ d. DeclaredBy d []) (sym declared) new.declares;
+    edges = subst (λ b. HoldsEdges b []) (sym building) new.edges;
     opened = count ∙ new.opened;
     paths_are = ap paths_of found.reads.held_is ∙ found.came_to ∙ ap (λ fs. with_new (paths_of fs) main) new.files;
     once = subst EachPathOnce (sym found.reads.held_is) found.reads.reads.once;
@@ -130,18 +137,41 @@ reads-memory main before after old held fault r none = record {
   stops = inl (record { answered = none; failures = r.reads.failures; came_to = λ all ext. ([], ap (paths_come_to main) (r.read all ext) ∙ sym r.holds.paths_are ∙ ap paths_of r.reads.held_is ∙ sym (append-nil (paths_of r.files))) });
 }
 
--- all was read, and the graph has what was declared
-pub is-loaded : (main : List ℕ) (before after : SourceState) (old held : Reader) (loaded : LoadedText) → old.files ≡ [] → ReadsText main before after old held (main_reading main)
-    → loaded.files ≡ held.files → loaded.graph.declarations ≡ held.declarations → Loads main before after (Ok loaded)
-is-loaded main before after old held loaded none r same_files same_declarations = (
-  r.files,
-  subst (λ fs. IsRead before after fs r.files) none r.reads.reads,
-  record {
-    files_are = same_files ∙ r.reads.held_is;
-    entries = r.entries;
+-- ---- all was read
+
+module _ (main : List ℕ) (before after : SourceState) (old held : Reader) (r : ReadsText main before after old held (main_reading main)) where
+  is-whole : IsWhole main before after r.files r.entries
+  is-whole = record {
     read = r.read r.files ([], sym (append-nil r.files));
-    graph_is = subst (λ d. DeclaredBy d r.entries) (sym same_declarations) r.holds.declares;
     came_to = sym r.holds.paths_are ∙ ap paths_of r.reads.held_is;
     failures = r.reads.failures;
-  },
-)
+  }
+
+  -- and the graph has what was declared and built
+  pub is-loaded : (loaded : LoadedText) (built : BuiltText) → old.files ≡ [] → loaded.files ≡ held.files → loaded.graph ≡ record { declarations = held.declarations; built = built }
+      → ComesTo r.entries (Ok built) → Loads main before after (Ok loaded)
+  is-loaded loaded built none same_files same_graph comes = (
+    r.files,
+    subst (λ fs. IsRead before after fs r.files) none r.reads.reads,
+    record {
+      files_are = same_files ∙ r.reads.held_is;
+      entries = r.entries;
+      whole = is-whole;
+      graph_is = subst (λ g. IsGraphOf g r.entries) (sym same_graph) (record {
+        declares = r.holds.declares;
+        built = comes.0;
+        acyclic = subst (λ es. IsAcyclic (makers_of_inputs es) (length es)) (sym comes.0.paths) (subst (λ n. IsAcyclic (makers_of_inputs (paths_of_edges (edges_read r.entries))) n) (sym (length-map (edges_read r.entries) (λ e. e.paths))) comes.1);
+      });
+    },
+  )
+
+  -- and the edges could not be finished
+  pub built-fault : (fault : GraphFault) → old.files ≡ [] → ComesTo r.entries (Err fault) → Loads main before after (Err fault)
+  built-fault fault none (inl lacks) =
+      let s = subst (λ fs. StopsAt main before after fs (main_reading main) fault) none (reads-memory main before after old held fault r lacks) in
+      (s.files, s.reads, inl s.stops)
+  built-fault fault none (inr cycle) = (
+    r.files,
+    subst (λ fs. IsRead before after fs r.files) none r.reads.reads,
+    inr (record { entries = r.entries; whole = is-whole; cycle = cycle }),
+  )

@@ -1,16 +1,16 @@
 -- What is read of a statement, where it has a fault of its own, and where it names a file.
-use Rattle.std.proofs.Common.{◌≡◌, ℕ, suc, ◌+◌, ◌<◌, ◌≤◌, Result, Ok, Err, IsErr, IfOk, OnOk, length, arith, Bool, true, false, true≢false, inl, inr, Option, Some, None, option_map, List, [], ◌∷◌, refl, sym, ap, subst, ◌∙◌, add-one}
+use Rattle.std.proofs.Common.{◌≡◌, ℕ, suc, ◌+◌, ◌<◌, ◌≤◌, Result, Ok, Err, IsErr, IfOk, OnOk, length, arith, Bool, true, false, true≢false, inl, inr, Option, Some, None, option_map, List, [], ◌∷◌, ◌++◌, refl, sym, ap, subst, ◌∙◌, add-one}
 use Rattle.std.specs.List.{AllByRecursion}
 use Rattle.std.specs.Result.{IsErrAnd}
 use Rattle.nj_text.specs.declared.spot.Spot.{Spot}
 use Rattle.nj_text.specs.Words.{WordText}
 use Rattle.nj_manifest.specs.Faults.{Fault, place_of, text_of}
-use Rattle.nj_manifest.specs.Statements.{StatementText, BindingText, RuleText, PoolText, BuildText, DefaultText, IncludeText, SubninjaText, LineText}
+use Rattle.nj_manifest.specs.Statements.{StatementText, BindingText, RuleText, PoolText, BuildText, DefaultText, IncludeText, SubninjaText, LineText, OutputsText, InputsText}
 use Rattle.nj_scope.specs.Readings.{Reading, EachPathOnce, IsPrefix, paths_of}
 use Rattle.nj_scope.specs.Scopes.{IsScope, outermost, child}
 use Rattle.nj_scope.specs.ScopesHeld.{ScopeText, parent_at}
 use Rattle.nj_scope.specs.Declarations.{DeclarationsText, DeclaredBy, TakesIn}
-use Rattle.nj_scope.specs.ReadingList.{Entry, scope_of, files_opened, opens_file}
+use Rattle.nj_scope.specs.ReadingList.{Entry, scope_of, value_after, files_opened, opens_file}
 use Rattle.nj_scope.specs.Sources.{SourceState}
 use Rattle.nj_faults.specs.declared.fault.GraphFault.{GraphFault}
 use Rattle.nj_graph.specs.declared.opening.Naming.{Naming}
@@ -21,6 +21,12 @@ use Rattle.nj_faults.specs.declared.fault.Place.{Place}
 use Rattle.nj_faults.specs.declared.fault.Cause.{Cause}
 use Rattle.nj_faults.specs.Faults.{fault_at, fault_in, syntax_fault, no_memory}
 use Rattle.nj_graph.specs.Reading.{Site, entry_at, site_scope, expanded_in, place_at, path_fault, subninja_site, fault_if, or_then, depth_fault, item_fault, own_fault, Whole, Refused, ReadingText, Opens, item_read, unless_fault, statement_read, opened_in, text_read, path_named, with_new, with_named, paths_read, path_at_fault, paths_come_to}
+use Rattle.nj_edges.specs.Edges.{EdgePaths}
+use Rattle.nj_faults.specs.declared.fault.Cause.TheVariants.{RuleVariableCycle}
+use Rattle.nj_build.specs.EdgeList.{Values, EdgeText, path_said, line_values, edges_read, paths_of_edges, edge_of_build, names_of_edge}
+use Rattle.nj_build.specs.BuildFaults.{first_fault, empty_path, unknown_rule, two_makers, outputs_fault, paths_fault, variable_cycle_fault, late_fault, target_fault}
+use Rattle.nj_build.specs.Answers.{HoldsEdges}
+use Rattle.nj_build.proofs.Holding.{names_files, holds-other}
 use Rattle.nj_graph.specs.Runs.{IsRead, Stops}
 use Rattle.nj_graph.specs.ReaderContracts.{named_item, named_site, site_of, EntersScope, Holds, Grows, IsOpenScope, IsOpenIn, IsFault, ReadsOne, StopsAt, OpensText, OpensNamed}
 use Rattle.nj_graph.proofs.Comes.{item-comes, statements-come}
@@ -72,12 +78,48 @@ depth-names : (file : List ℕ) (found : Option LineText) (cause : Cause) → pa
 depth-names file (Some l) cause none fault h = ap (λ f. path_at_fault f.cause) (sym (some-is _ fault h)) ∙ none
 depth-names file None cause none fault h = absurd cc
 
+first-names : (fault_of : WordText → Option GraphFault) → ((word : WordText) → NamesNone (fault_of word)) → (words : List WordText) → NamesNone (first_fault fault_of words)
+first-names fault_of none [] = λ fault h. absurd cc
+first-names fault_of none (word ∷ words) = or-names (fault_of word) (first_fault fault_of words) (none word) (first-names fault_of none words)
+
+empty-names : (file : List ℕ) (values : Values) (word : WordText) → NamesNone (empty_path file values word)
+empty-names file values word = if-names _ file word.spot _ refl
+
+target-names : (file : List ℕ) (values : Values) (edges : List EdgePaths) (word : WordText) → NamesNone (target_fault file values edges word)
+target-names file values edges word = or-names (empty_path file values word) _ (empty-names file values word) (if-names _ file word.spot _ refl)
+
+outputs-name : (file : List ℕ) (values : Values) (edges : List EdgePaths) (left : List (List ℕ)) (words : List WordText) → NamesNone (outputs_fault file values edges left words)
+outputs-name file values edges left [] = λ fault h. absurd cc
+outputs-name file values edges left (word ∷ words) =
+    or-names (or_then (empty_path file values word) (two_makers file values edges left word)) _
+    (or-names (empty_path file values word) _ (empty-names file values word) (if-names _ file word.spot _ refl))
+    (outputs-name file values edges (left ++ path_said values word ∷ []) words)
+
+paths-name : (file : List ℕ) (values : Values) (edges : List EdgePaths) (outputs : OutputsText) (inputs : InputsText) → NamesNone (paths_fault file values edges outputs inputs)
+paths-name file values edges outputs inputs =
+    or-names (outputs_fault file values edges [] (outputs.explicit ++ outputs.implicit)) _
+    (outputs-name file values edges [] (outputs.explicit ++ outputs.implicit))
+    (first-names (empty_path file values) (empty-names file values) (inputs.explicit ++ (inputs.implicit ++ (inputs.order_only ++ inputs.validations))))
+
+key-names : (file : List ℕ) (spot : Spot) (key : Option (List ℕ)) → NamesNone (option_map (λ k. fault_at file spot (RuleVariableCycle k)) key)
+key-names file spot (Some k) fault h = ap (λ f. path_at_fault f.cause) (sym (some-is _ fault h))
+key-names file spot None fault h = absurd cc
+
+late-names : (before : List Entry) (edge : EdgeText) → NamesNone (late_fault before edge)
+late-names before edge =
+    or-names (variable_cycle_fault edge.file edge.spot (names_of_edge before edge)) _ (key-names edge.file edge.spot _)
+    (or-names _ _ (if-names _ edge.file edge.spot _ refl) (if-names _ edge.file edge.spot _ refl))
+
 item-names : (e : Entry) (before : List Entry) (item : StatementText) → NamesNone (item_fault e before item)
 item-names e before (BindingText name value) = if-names _ e.file e.spot _ refl
 item-names e before (RuleText name lines) = if-names _ e.file name.spot _ refl
 item-names e before (PoolText name lines) = or-names _ (depth_fault e.file (scope_of e) before lines) (if-names _ e.file name.spot _ refl) (depth-names e.file _ _ refl)
-item-names e before (BuildText outputs rule inputs lines) = λ fault h. ap (λ f. path_at_fault f.cause) (sym (some-is _ fault h))
-item-names e before (DefaultText words) = λ fault h. ap (λ f. path_at_fault f.cause) (sym (some-is _ fault h))
+item-names e before (BuildText outputs rule inputs lines) =
+    or-names (unknown_rule e before rule) _ (if-names _ e.file rule.spot _ refl)
+    (or-names (paths_fault e.file (line_values e before lines) (paths_of_edges (edges_read before)) outputs inputs) _
+    (paths-name e.file (line_values e before lines) (paths_of_edges (edges_read before)) outputs inputs)
+    (late-names before (edge_of_build e before outputs rule inputs lines)))
+item-names e before (DefaultText words) = first-names _ (target-names e.file (value_after before (scope_of e)) (paths_of_edges (edges_read before))) words
 item-names e before (IncludeText word) = or-names _ _ (if-names _ e.file word.spot _ refl) (if-names _ e.file word.spot _ refl)
 item-names e before (SubninjaText word) = or-names _ _ (if-names _ e.file word.spot _ refl) (if-names _ e.file word.spot _ refl)
 
@@ -106,6 +148,9 @@ module _ (kind : Naming) (site : Site) (start : Spot) (entries : List Entry) (wo
   pub named-opens : opens_file names.item ≡ 1
   named-opens = elim kind as (λ k. opens_file (named_item k word) ≡ 1) [ naming.Include ↦ refl | naming.Subninja ↦ refl ]
 
+  pub named-builds : names_files names.item ≡ false
+  named-builds = elim kind as (λ k. names_files (named_item k word) ≡ false) [ naming.Include ↦ refl | naming.Subninja ↦ refl ]
+
   named-item : (opens : Opens) → item_read opens names entries names.item ≡ opens (named_site kind names entries word) (place_at names word.spot) names entries
   named-item opens = elim kind as (λ k. item_read opens (entry_at site (record { spot = start; item = named_item k word })) entries (named_item k word) ≡ opens (named_site k (entry_at site (record { spot = start; item = named_item k word })) entries word) (place_at (entry_at site (record { spot = start; item = named_item k word })) word.spot) (entry_at site (record { spot = start; item = named_item k word })) entries) [ naming.Include ↦ refl | naming.Subninja ↦ refl ]
 
@@ -118,7 +163,7 @@ pub enters-new : {X : Type 0} (old : Reader) (new : DeclarationsText) (file : Op
     → IfOk result (λ n. n ≡ length old.declarations.scopes) → OnOk result (parent_at new.scopes (length old.declarations.scopes) ≡ Some file.scope)
     → ((n : ℕ) → n < length old.declarations.scopes → parent_at new.scopes n ≡ parent_at old.declarations.scopes n) → OnOk result (length new.scopes ≡ length old.declarations.scopes + 1)
     → OnOk result (TakesIn old.declarations new file.scope around (SubninjaText word)) → DeclaredBy old.declarations entries → IsOpenIn old file around
-    → IfOk result (λ n. EntersScope (record { declarations = new; files = old.files; opened = old.opened }) n
+    → IfOk result (λ n. EntersScope (record { declarations = new; building = old.building; files = old.files; opened = old.opened }) n
     (subninja_site (entry_at (site_of file around depth) (record { spot = start; item = SubninjaText word })) entries word) (entry_at (site_of file around depth) (record { spot = start; item = SubninjaText word })) entries)
 enters-new old new file start word entries around depth (Err e) number within others count opened declares inside = tt
 enters-new old new file start word entries around depth (Ok n) number within others count opened declares inside =
@@ -175,15 +220,16 @@ module _ (main : List ℕ) (before after : SourceState) (old : Reader) (entries 
 -- ---- a file that is named
 
 module _ (main : List ℕ) (before after : SourceState) (old mid held : Reader) (left : ℕ) (place : Place) (path : List ℕ) (e : Entry) (entries : List Entry) (text : List ℕ) where
-  pub opens-file : (inner : Site) → Holds main old entries → OpensText main before after old mid left place path entries text → held.files ≡ mid.files → held.opened ≡ suc old.opened
+  pub opens-file : (inner : Site) → Holds main old entries → OpensText main before after old mid left place path entries text → held.files ≡ mid.files → held.opened ≡ suc old.opened → held.building ≡ old.building → names_files e.item ≡ false
       → DeclaredBy held.declarations (e ∷ entries) → opens_file e.item ≡ 1 → inner.file ≡ path → path_named e entries e.item ≡ path ∷ []
       → ((opens : Opens) → statement_read opens e entries ≡ opens inner place e entries)
       → OpensNamed main before after old held left inner text e entries
-  opens-file inner holds o files opened declares one is names read = record {
+  opens-file inner holds o files opened building builds declares one is names read = record {
     files = o.files;
     reads = record { reads = o.reads.reads; held_is = files ∙ o.reads.held_is; failures = o.reads.failures };
     holds = record {
       declares = declares;
+      edges = subst (λ b. HoldsEdges b (e ∷ entries)) (sym building) (holds-other old.building e entries builds holds.edges);
       opened = opened ∙ ap suc holds.opened ∙ sym (add-one (files_opened entries)) ∙ ap (λ n. files_opened entries + n) (sym one);
       paths_are = ap paths_of (files ∙ o.reads.held_is) ∙ o.came_to ∙ ap (λ ps. with_new ps path) holds.paths_are ∙ ap (with_named (paths_read main entries)) (sym names);
       once = subst EachPathOnce (sym (files ∙ o.reads.held_is)) o.reads.reads.once;

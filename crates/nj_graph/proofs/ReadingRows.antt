@@ -8,15 +8,18 @@ use Rattle.nj_text.specs.Numbers.{value_of_digits}
 use Rattle.nj_manifest.proofs.StatementRows.{on_texts, at}
 use Rattle.nj_scope.specs.Readings.{Reading}
 use Rattle.nj_scope.specs.ReadingList.{bounds}
+use Rattle.nj_text.specs.Paths.{clean_path_of, without_leftmost_pair}
+use Rattle.nj_late.specs.VariableCycles.{variable_cycle_of}
+use Rattle.nj_build.specs.EdgeList.{edges_read}
 use Rattle.nj_graph.specs.Statements.{parsed_in}
 use Rattle.nj_faults.specs.declared.fault.Cause.{Cause}
-use Rattle.nj_faults.specs.declared.fault.Cause.TheVariants.{Syntax, EmptyPath, BadDepth, DuplicateRule, DuplicatePool, VersionTooNew, Missing, PathNotText, TooDeep, NotYet}
+use Rattle.nj_faults.specs.declared.fault.Cause.TheVariants.{Syntax, EmptyPath, BadDepth, DuplicateRule, DuplicatePool, VersionTooNew, Missing, PathNotText, TooDeep, UnknownRule, TwoMakers, UnknownTarget}
 use Rattle.nj_faults.specs.Faults.{fault_at}
 use Rattle.nj_graph.specs.Reading.{Whole, Refused, Lacking, ReadingText, statements_read, opened_in, main_read, paths_come_to}
 
 -- what a row unfolds to compute on its files
 unfoldable pub on_files : ⊤
-unfolding on_texts value_of_digits is_utf8 chars encode_utf8 bounds parsed_in statements_read opened_in main_read
+unfolding on_texts value_of_digits is_utf8 chars encode_utf8 bounds clean_path_of without_leftmost_pair edges_read variable_cycle_of parsed_in statements_read opened_in main_read
 on_files = tt
 
 -- ---- what a row shows
@@ -263,13 +266,39 @@ bound_before = refl
 
 -- ---- statements
 
-build_statement : refuses_alone (codes "build a: phony\n") (at 1 1) NotYet
+build_statement : reads_all (codes "build a: phony\n") []
 unfolding on_files
 build_statement = refl
 
-default_statement : refuses_alone (codes "v = 1\ndefault a\n") (at 2 1) NotYet
+-- a value of the scope, which is empty
+build_of_nothing : refuses_alone (codes "build $e: phony\n") (at 1 7) EmptyPath
+unfolding on_files
+build_of_nothing = refl
+
+rule_not_declared : refuses_alone (codes "build a: zz\nx = $!\n") (at 1 10) (UnknownRule (codes "zz"))
+unfolding on_files
+rule_not_declared = refl
+
+made_twice : refuses_alone (codes "build a: phony\nbuild ./a: phony\n") (at 2 7) (TwoMakers (codes "a"))
+unfolding on_files
+made_twice = refl
+
+made_in_another_file : refuses (codes "build a: phony\nsubninja s\n") (file (codes "s") (codes "build a: phony\n") ∷ []) (codes "s") (at 1 7) (TwoMakers (codes "a"))
+unfolding on_files
+made_in_another_file = refl
+
+default_statement : reads_all (codes "build a: phony s\ndefault s a\n") []
 unfolding on_files
 default_statement = refl
+
+default_of_nothing : refuses_alone (codes "default $e\n") (at 1 9) EmptyPath
+unfolding on_files
+default_of_nothing = refl
+
+-- that a statement after it makes it does not count
+default_not_known : refuses_alone (codes "default q\nbuild q: phony\n") (at 1 9) (UnknownTarget (codes "q"))
+unfolding on_files
+default_not_known = refl
 
 -- its syntax comes first
 build_without_colon : refuses_alone (codes "build a\n") (at 1 8) (Syntax (codes "expected ':'"))

@@ -1,18 +1,38 @@
 -- The graph of a run, and the rules that it lists.
-use Rattle.std.specs.Prelude.{◌≡◌, ◌↔◌, ℕ, Bool, if◌then◌else◌, Option, option_map, unwrap_or, is_some, List, [], ◌∷◌, map, slice_index_or}
+use Rattle.std.specs.Prelude.{◌≡◌, ◌↔◌, ℕ, Bool, if◌then◌else◌, Option, option_map, unwrap_or, is_some, List, [], ◌∷◌, map, length, slice_index_or}
 use Rattle.std.specs.Prelude.{codes, bytes_eq}
 use Rattle.std.specs.List.{Contains, IsDistinct}
 use Rattle.std.specs.List.Sorted.{IsStrictlySortedBy}
 use Rattle.std.specs.Cmp.Lexicographic.{slice_cmp}
 use Rattle.std.specs.Ordering.{is_lt, nat_cmp}
 use Rattle.nj_text.specs.Words.{PartText}
-use Rattle.nj_scope.specs.Declarations.{DeclarationsText}
+use Rattle.nj_scope.specs.Declarations.{DeclarationsText, DeclaredBy}
+use Rattle.nj_scope.specs.ReadingList.{Entry}
 use Rattle.nj_scope.specs.Late.{parts_written}
 use Rattle.nj_scope.specs.Rules.{RuleText, phony_rule, rules_in, rule_names, given}
+use Rattle.nj_order.specs.Cycles.{IsAcyclic}
+use Rattle.nj_edges.specs.Edges.{EdgePaths}
+use Rattle.nj_edges.specs.Needs.{makers_of_inputs}
+use Rattle.nj_build.specs.Built.{BuiltText, IsBuiltOf}
 
--- what the statements of its files declare, at the end of all reading
+-- what the statements of its files declare, at the end of all reading, and the edges and defaults to which they come
 pub record GraphText : Type 0 where
   pub declarations : DeclarationsText
+  pub built : BuiltText
+
+-- its edges, by their paths
+abbrev pub edges_of : GraphText → List EdgePaths
+edges_of g = g.built.graph.edges
+
+-- the paths of its files, by their numbers
+abbrev pub files_of : GraphText → List (List ℕ)
+files_of g = g.built.graph.files
+
+-- What the statements say is the graph: what they declare, their edges and their defaults; and no edge needs itself by a chain.
+pub record IsGraphOf (g : GraphText) (entries : List Entry) : Type 0 where
+  pub declares : DeclaredBy g.declarations entries
+  pub built : IsBuiltOf g.built entries
+  pub acyclic : IsAcyclic (makers_of_inputs (edges_of g)) (length (edges_of g))
 
 -- ---- the rules that are listed
 

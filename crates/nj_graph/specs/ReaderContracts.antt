@@ -29,6 +29,8 @@ use Rattle.nj_graph.specs.declared.reader.Reader.{Reader}
 use Rattle.nj_graph.specs.declared.reader.OpenFile.{OpenFile}
 use Rattle.nj_graph.specs.declared.reader.Opened.{Opened}
 use Rattle.nj_faults.specs.Faults.{fault_in, no_memory}
+use Rattle.nj_build.specs.Answers.{HoldsEdges}
+pub use Rattle.nj_build.specs.Answers.{IsFault, Checks}
 use Rattle.nj_graph.specs.Reading.{Site, included_site, subninja_site, own_fault, Whole, ReadingText, Opens, opened_in, statement_read}
 use Rattle.nj_graph.specs.Reading.{text_read, path_named, with_new, paths_read}
 use Rattle.nj_graph.specs.Runs.{IsRead, Stops}
@@ -39,12 +41,14 @@ use Rattle.nj_graph.specs.Runs.{IsRead, Stops}
 pub record IsNew (held : Reader) : Type 0 where
   pub declares : DeclaredBy held.declarations []
   pub outermost : parent_at held.declarations.scopes 0 ≡ None
+  pub edges : HoldsEdges held.building []
   pub files : held.files ≡ []
   pub opened : held.opened ≡ 1
 
 -- It holds what these statements say, of which the last read stands first.
 pub record Holds (main : List ℕ) (held : Reader) (entries : List Entry) : Type 0 where
   pub declares : DeclaredBy held.declarations entries
+  pub edges : HoldsEdges held.building entries
   pub opened : held.opened ≡ files_opened entries
   pub paths_are : paths_of held.files ≡ paths_read main entries
   pub once : EachPathOnce held.files
@@ -76,15 +80,6 @@ InFile held file P =
     → P main (site_of file around depth) entries
 
 -- ---- a statement that names no file
-
--- the fault is the expected one, or out of memory
-abbrev pub IsFault : Option GraphFault → GraphFault → Type 0
-IsFault expected fault = (fault ≡ no_memory) ⊎ (expected ≡ Some fault)
-
--- there is no fault, or it is answered
-abbrev pub Checks : Option GraphFault → Result (Unit {0}) GraphFault → Type 0
-Checks expected (Ok done) = expected ≡ None
-Checks expected (Err fault) = IsFault expected fault
 
 -- the statement has no fault and is held, or its fault is answered
 abbrev pub Declares : (main : List ℕ) → (after : Reader) → Entry → (before : List Entry) → Result (Unit {0}) GraphFault → Type 0

@@ -20,8 +20,10 @@ use Rattle.nj_faults.specs.declared.fault.Place.{Place}
 use Rattle.nj_faults.specs.declared.fault.Cause.{Cause}
 use Rattle.nj_faults.specs.declared.fault.GraphFault.{GraphFault}
 use Rattle.nj_faults.specs.declared.fault.Cause.TheVariants.{EmptyPath, BadDepth, DuplicateRule, DuplicatePool, VersionTooNew, Missing}
-use Rattle.nj_faults.specs.declared.fault.Cause.TheVariants.{PathNotText, TooDeep, TooManyOpenings, NotYet}
+use Rattle.nj_faults.specs.declared.fault.Cause.TheVariants.{PathNotText, TooDeep, TooManyOpenings}
 use Rattle.nj_faults.specs.Faults.{fault_at, fault_in}
+use Rattle.nj_build.specs.BuildFaults.{build_fault, default_fault}
+pub use Rattle.nj_build.specs.BuildFaults.{fault_if, or_then}
 use Rattle.nj_graph.specs.Statements.{parsed}
 
 -- ---- where a statement stands
@@ -53,14 +55,6 @@ expanded_in scope before word = expanded (value_after before scope) word.parts
 
 -- ---- what is wrong with a statement by itself
 
-abbrev pub fault_if : Bool → GraphFault → Option GraphFault
-fault_if true fault = Some fault
-fault_if false fault = None
-
-abbrev pub or_then : {A : Type 0} → Option A → Option A → Option A
-or_then (Some first) others = Some first
-or_then None others = others
-
 abbrev pub binding_fault : (file : List ℕ) → Spot → (name value : List ℕ) → Option GraphFault
 binding_fault file spot name value =
     fault_if (bytes_eq name (codes "ninja_required_version") && is_newer value) (fault_at file spot (VersionTooNew value))
@@ -87,8 +81,8 @@ abbrev pub item_fault : Entry → (before : List Entry) → StatementText → Op
 item_fault e before (BindingText name value) = binding_fault e.file e.spot name (expanded_in (scope_of e) before value)
 item_fault e before (RuleText name lines) = rule_fault e.file e.number before name
 item_fault e before (PoolText name lines) = pool_fault e.file (scope_of e) before name lines
-item_fault e before (BuildText outputs rule inputs lines) = Some (fault_at e.file e.spot NotYet)
-item_fault e before (DefaultText words) = Some (fault_at e.file e.spot NotYet)
+item_fault e before (BuildText outputs rule inputs lines) = build_fault e before outputs rule inputs lines
+item_fault e before (DefaultText words) = default_fault e before words
 item_fault e before (IncludeText word) = path_fault e.file word.spot (expanded_in (scope_of e) before word)
 item_fault e before (SubninjaText word) = path_fault e.file word.spot (expanded_in (scope_of e) before word)
 

@@ -5,6 +5,7 @@ ghost use Rattle.nj_scope.specs.ScopesHeld.{parent_at};
 ghost use Rattle.nj_graph.specs.Graph.{main_rules, main_rule_at, description, has_description, description_text, NamesRise, ListsMainRules};
 ghost use Rattle.nj_graph.specs.GraphHeld.{HoldsMainRules, rule_name};
 
+use nj_build::Built;
 use nj_scope::{Declarations, LateValue, Rule};
 use std::alloc::{AllocError, Global};
 use std::marker::Model;
@@ -12,10 +13,12 @@ use std::marker::Model;
 // The number of the main file's scope.
 const MAIN_SCOPE: usize = 0;
 
-/// The graph of a run: so far what its files declare ("Rules" and "Variables" in the Ninja manual).
+/// The graph of a run: what its files declare ("Rules" and "Variables" in the Ninja manual), its edges
+/// and its defaults.
 #[derive(Drop)]
 pub struct Graph {
-    declarations: Declarations,
+    pub(crate) declarations: Declarations,
+    pub(crate) built: Built,
     // The numbers of the rules that are listed.
     main_rules: Vec<usize>,
 }
@@ -26,20 +29,25 @@ impl Model for Graph {
 
     ghost Value = { GraphText };
 
-    ghost view = { λ g. record { declarations = g.declarations } };
+    ghost view = { λ g. record { declarations = g.declarations; built = g.built } };
 
     ghost invariant = { λ g. IsGraph g.declarations g.main_rules.items };
 }
 
 impl Graph {
-    /// The graph of what the files of a run declare.
-    pub(crate) fn new(alloc: Global, declarations: Declarations) -> Result<Graph, AllocError>
+    /// The graph of what the files of a run declare, and of its edges.
+    pub(crate) fn new(
+        alloc: Global,
+        declarations: Declarations,
+        built: Built,
+    ) -> Result<Graph, AllocError>
         requires { parent_at declarations.scopes 0 ≡ None }
-        ensures { IfOk result (λ g. g.declarations ≡ declarations) }
+        ensures { IfOk result (λ g. g ≡ record { declarations = declarations; built = built }) }
     {
         let main_rules = rules_of_main(alloc, declarations.rules())?;
         Ok(Graph {
             declarations,
+            built,
             main_rules,
         })
     }
@@ -105,7 +113,7 @@ fn rules_of_main(alloc: Global, rules: &[Rule]) -> Result<Vec<usize>, AllocError
 }
 
 // The name of the rule of this number; empty if there is none.
-fn rule_name(rules: &[Rule], number: usize) -> &[u8]
+pub(crate) fn rule_name(rules: &[Rule], number: usize) -> &[u8]
     ensures { result.now ≡ rule_name rules.now number }
 {
     match rules.get(number) {

@@ -1,7 +1,9 @@
 //! The graph of a run's build statements, from the files that it reads.
 #![tactic(auto)]
 
+mod building;
 mod declaring;
+mod edges;
 mod graph;
 mod laws;
 mod loading;
@@ -11,9 +13,8 @@ mod reader;
 pub use graph::{Graph, rules_by_name};
 pub use laws::statements_up_to_the_first_fault;
 pub use loading::{Loaded, load};
+pub use nj_build::PlaceRef;
+pub use nj_edges::{EdgeNo, FileNo, InputKind};
 pub use nj_faults::{Cause, GraphFault, Name, Place};
 pub use nj_manifest::Spot;
 pub use nj_scope::{FileSource, FileTable, MemoryFiles, SourceFault};
-
-#[cfg(test)]
-mod tests;

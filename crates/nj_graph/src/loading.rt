@@ -46,7 +46,8 @@ impl Loaded {
 /// # Errors
 ///
 /// The first fault in reading order, with its place: a statement counts before those below it, and
-/// the statements of an included file before those after the `include`. That a file cannot be read,
+/// the statements of an included file before those after the `include`. After all reading, a
+/// dependency cycle, at the least edge that lies on one. That a file cannot be read,
 /// or that an allocation failed, ends the reading where it happens. Where the source fails at a
 /// file, that is the fault, at the place of the word that names the file; the file is not tried
 /// again.
@@ -55,7 +56,8 @@ pub fn load<S: FileSource>(alloc: Global, source: &mut S, main: &str) -> Result<
 {
     let mut reader = Reader::new(alloc, source.hash_keys())?;
     reader.read_main(alloc, source, main)?;
-    let graph = Graph::new(alloc, reader.declarations)?;
+    let built = reader.building.finish(alloc)?;
+    let graph = Graph::new(alloc, reader.declarations, built)?;
     Ok(Loaded {
         files: reader.files,
         graph,

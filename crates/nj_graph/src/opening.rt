@@ -82,6 +82,7 @@ impl Reader {
             file.entry.left (place_in file.entry spot) path.now entries result }
         ensures left { OnOk result (0 < file.entry.left) }
         ensures declarations { self.new.declarations ≡ self.old.declarations }
+        ensures building { self.new.building ≡ self.old.building }
         ensures opened { OnOk result (self.new.opened ≡ suc self.old.opened) }
     {
         if file.left == 0 {
@@ -106,6 +107,7 @@ impl Reader {
             IfOk result (λ n. EntersScope self.new n (named_site naming e entries word) e entries) }
         ensures there { IfOk result (λ n. n < length self.new.declarations.scopes) }
         ensures grows { OnOk result (ScopesGrow self.old self.new) }
+        ensures building { self.new.building ≡ self.old.building }
         ensures files { self.new.files ≡ self.old.files }
         ensures opened { self.new.opened ≡ self.old.opened }
     {

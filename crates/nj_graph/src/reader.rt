@@ -8,6 +8,7 @@ ghost use Rattle.nj_graph.specs.Reading.{entry_at, opened_in, text_read, stateme
 ghost use Rattle.nj_graph.specs.ReaderContracts.{IsNew, InFile, ScopesGrow, IsFault, ReadsItem, ReadsOrStops, NextIs};
 
 use crate::opening::{Naming, text_at};
+use nj_build::{Build, Building};
 use nj_faults::{Cause, GraphFault};
 use nj_manifest::{Parser, Placed, Spot, Statement};
 use nj_scope::{Declarations, FileSource, FileTable, HashKeys};
@@ -51,6 +52,7 @@ pub(crate) struct Opened {
 #[derive(Drop)]
 pub(crate) struct Reader {
     pub(crate) declarations: Declarations,
+    pub(crate) building: Building,
     pub(crate) files: FileTable,
     // How many files were opened.
     pub(crate) opened: usize,
@@ -63,6 +65,7 @@ impl Reader {
     {
         Ok(Reader {
             declarations: Declarations::new(alloc, keys)?,
+            building: Building::new(alloc, keys),
             files: FileTable::new(alloc, keys),
             opened: 1,
         })
@@ -180,8 +183,35 @@ impl Reader {
                 self.declare_pool(alloc, file, *name_spot, name, lines)?;
                 Ok(None)
             }
-            Statement::Build { .. } => Err(file.fault(alloc, statement.spot, Cause::NotYet)),
-            Statement::Default { .. } => Err(file.fault(alloc, statement.spot, Cause::NotYet)),
+            Statement::Build {
+                explicit_outs,
+                implicit_outs,
+                rule,
+                rule_spot,
+                explicit,
+                implicit,
+                order_only,
+                validations,
+                lines,
+            } => {
+                let build = Build {
+                    explicit_outputs: explicit_outs.as_slice(),
+                    implicit_outputs: implicit_outs.as_slice(),
+                    rule,
+                    rule_spot: *rule_spot,
+                    explicit_inputs: explicit.as_slice(),
+                    implicit_inputs: implicit.as_slice(),
+                    order_only_inputs: order_only.as_slice(),
+                    validations: validations.as_slice(),
+                    lines: lines.as_slice(),
+                };
+                self.build(alloc, file, statement.spot, build)?;
+                Ok(None)
+            }
+            Statement::Default { words } => {
+                self.add_defaults(alloc, file, statement.spot, words.as_slice())?;
+                Ok(None)
+            }
             Statement::Include { word } => {
                 let named = self.open_named(alloc, source, file, Naming::Include, word)?;
                 Ok(Some(named))

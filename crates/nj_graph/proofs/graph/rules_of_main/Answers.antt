@@ -1,4 +1,4 @@
-use Rattle.std.proofs.Common.{rules, ◌≡◌, ◌∷◌, map, take, length, ap, refl, sym, ◌∙◌, arith, Some}
+use Rattle.std.proofs.Common.{rules, ◌≡◌, map, take, length, ap, refl, sym, ◌∙◌, arith, Some}
 use Rattle.std.specs.Prelude.{slice_get}
 use Rattle.std.proofs.Math.Seq.{take-length}
 use Rattle.std.proofs.lemmas.Cmp.{nat_list_cmp_total}

@@ -1,9 +1,9 @@
-use Rattle.std.proofs.Common.{◌≡◌, subst, refl}
+use Rattle.std.proofs.Common.{◌≡◌, inl, subst, refl}
 use Rattle.nj_faults.specs.Faults.{no_memory}
 use Rattle.nj_graph.specs.Reading.{main_read}
 use Rattle.nj_graph.specs.ReaderContracts.{StopsAt}
 use Rattle.nj_graph.proofs.Naming.{handed, handed-as}
-use Rattle.nj_graph.proofs.MainFiles.{main-nothing, reads-memory, is-loaded}
+use Rattle.nj_graph.proofs.MainFiles.{main-nothing, reads-memory, is-loaded, built-fault}
 use Rattle.nj_graph.proofs.loading.load.Goals as goal
 
 pub returns-in_err-reader : goal.returns-in_err-reader
@@ -11,7 +11,7 @@ returns-in_err-reader g c =
     let told = g.S.FileSource.state c.args.source.now in
     let fault = handed-as (λ e. e ≡ no_memory) c.from_residual.result c.from_residual.ensures in
     let s = main-nothing c.args.main.now told told fault.0 refl fault.2 in
-    rw fault.1 (s.files, s.reads, s.stops)
+    rw fault.1 (s.files, s.reads, inl s.stops)
 
 pub returns-in_err-read_main : goal.returns-in_err-read_main
 returns-in_err-read_main g c =
@@ -19,7 +19,15 @@ returns-in_err-read_main g c =
     let after = g.S.FileSource.state c.read_main.new.source in
     let fault = c.in_err-read_main.field-0.0 in
     let s = subst (λ fs. StopsAt c.args.main.now told after fs (λ all. main_read all c.args.main.now) fault) c.in_ok-reader.ensures.files c.in_err-read_main.ensures.reads in
-    rw (handed fault c.from_residual-in_err-read_main.result c.from_residual-in_err-read_main.ensures) (s.files, s.reads, s.stops)
+    rw (handed fault c.from_residual-in_err-read_main.result c.from_residual-in_err-read_main.ensures) (s.files, s.reads, inl s.stops)
+
+pub returns-in_err-built : goal.returns-in_err-built
+returns-in_err-built g c =
+    let reads = c.in_ok-read_main.ensures.reads in
+    let fault = c.in_err-built.field-0.0 in
+    rw (handed fault c.from_residual-in_err-built.result c.from_residual-in_err-built.ensures)
+    (built-fault c.args.main.now (g.S.FileSource.state c.args.source.now) (g.S.FileSource.state c.read_main.new.source) c.in_ok-reader.reader c.read_main.new.self reads
+    fault c.in_ok-reader.ensures.files (c.in_err-built.ensures reads.entries reads.holds.edges))
 
 pub returns-in_err-graph : goal.returns-in_err-graph
 returns-in_err-graph g c =
@@ -29,9 +37,10 @@ returns-in_err-graph g c =
     let fault = handed-as (λ e. e ≡ no_memory) c.from_residual-in_err-graph.result c.from_residual-in_err-graph.ensures in
     let stops = reads-memory main told after c.in_ok-reader.reader c.read_main.new.self fault.0 c.in_ok-read_main.ensures.reads fault.2 in
     let s = subst (λ fs. StopsAt main told after fs (λ all. main_read all main) fault.0) c.in_ok-reader.ensures.files stops in
-    rw fault.1 (s.files, s.reads, s.stops)
+    rw fault.1 (s.files, s.reads, inl s.stops)
 
 pub returns : goal.returns
 returns g c =
-    is-loaded c.args.main.now (g.S.FileSource.state c.args.source.now) (g.S.FileSource.state c.read_main.new.source) c.in_ok-reader.reader c.read_main.new.self
-    (record { files = c.read_main.new.self.files; graph = c.in_ok-graph.graph }) c.in_ok-reader.ensures.files c.in_ok-read_main.ensures.reads refl c.in_ok-graph.ensures
+    let reads = c.in_ok-read_main.ensures.reads in
+    is-loaded c.args.main.now (g.S.FileSource.state c.args.source.now) (g.S.FileSource.state c.read_main.new.source) c.in_ok-reader.reader c.read_main.new.self reads
+    (record { files = c.read_main.new.self.files; graph = c.in_ok-graph.graph }) c.in_ok-built.built c.in_ok-reader.ensures.files refl c.in_ok-graph.ensures (c.in_ok-built.ensures reads.entries reads.holds.edges)

@@ -2,7 +2,7 @@ use Rattle.std.proofs.Common.{◌-◌, suc, Ok, ◌∷◌, length, refl, sym, su
 use Rattle.std.specs.Rc.{rc_slice_items}
 use Rattle.nj_text.specs.Lines.{text_lines}
 use Rattle.nj_manifest.specs.Contents.{placed_text}
-use Rattle.nj_graph.specs.Reading.{Site, entry_at, opened_in, statement_read, text_read}
+use Rattle.nj_graph.specs.Reading.{Site, entry_at, opened_in, text_read}
 use Rattle.nj_graph.specs.ReaderContracts.{ReadsItem, ReadsOrStops, site_of}
 use Rattle.nj_graph.proofs.Naming.{handed, open-grown}
 use Rattle.nj_graph.proofs.ParsedLemmas.{parsed-at-first}

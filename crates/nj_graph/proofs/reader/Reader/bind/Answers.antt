@@ -1,9 +1,10 @@
-use Rattle.std.proofs.Common.{bytes_eq, ◌∷◌, refl, sym, ap, ◌∙◌}
+use Rattle.std.proofs.Common.{bytes_eq, refl, sym, ap, ◌∙◌}
 use Rattle.nj_text.specs.Words.{word_text}
 use Rattle.nj_manifest.specs.Statements.{BindingText}
 use Rattle.nj_scope.specs.Limits.{is_newer}
 use Rattle.nj_scope.specs.ReadingList.{Entry}
 use Rattle.nj_graph.specs.declared.reader.Reader.{Reader}
+use Rattle.nj_build.proofs.Holding.{holds-other}
 use Rattle.nj_graph.specs.Reading.{entry_at}
 use Rattle.nj_graph.specs.ReaderContracts.{site_of}
 use Rattle.nj_graph.proofs.Holding.{holds-next, version-accepted, name-is-other}
@@ -13,12 +14,12 @@ use Rattle.nj_graph.proofs.reader.Reader.bind.Goals.{then-eq+in_ok-version+else-
 pub returns-clause-declares : goal.returns-clause-declares
 returns-clause-declares c = λ main entries around depth holds inside.
     let e : Entry = entry_at (site_of c.args.file around depth) (record { spot = c.args.spot; item = BindingText c.args.name.now (word_text c.args.value.now) }) in
-    let held : Reader = record { declarations = c.bind.new.self; files = c.args.self.now.files; opened = c.args.self.now.opened } in
+    let held : Reader = record { declarations = c.bind.new.self; building = c.args.self.now.building; files = c.args.self.now.files; opened = c.args.self.now.opened } in
     let takes = c.in_ok-bind.ensures.bound around inside.within entries c.args.file.name.now c.args.spot depth holds.declares in (
       elim c.if-eq.branch [
         | then-eq+in_ok-version+else-is_newer w ↦
             version-accepted _ _ _ (sym (w.is_newer.ensures ∙ ap is_newer (w.deref.ensures.value ∙ w.in_ok-version.ensures entries around holds.declares inside.within)) ∙ w.if-is_newer.false)
         | else-eq w ↦ name-is-other _ _ _ (ap (bytes_eq c.args.name.now) (sym c.as_slice.ensures) ∙ sym w.if-eq.ensures)
       ],
-      holds-next main c.args.self.now held entries e holds takes refl refl refl refl,
+      holds-next main c.args.self.now held entries e holds takes refl refl refl refl (holds-other c.args.self.now.building e entries refl holds.edges),
     )

@@ -3,9 +3,9 @@ use Rattle.nj_text.specs.Words.{word_text}
 use Rattle.nj_scope.specs.Declarations.{DeclaredBy}
 use Rattle.nj_scope.specs.ReadingList.{Entry}
 use Rattle.nj_faults.specs.Faults.{no_memory}
-use Rattle.nj_graph.specs.Reading.{Site, entry_at, site_scope, expanded_in, path_fault, own_fault, opened_in, statement_read, unless_fault}
+use Rattle.nj_graph.specs.Reading.{Site, entry_at, site_scope, expanded_in, opened_in, statement_read}
 use Rattle.nj_graph.specs.ReaderContracts.{IsOpenScope, IsFault, site_of, place_in, named_item, named_site}
-use Rattle.nj_graph.proofs.Naming.{handed, handed-as, stops-own, stops-same, stops-open, opens-file, named-fault, named-path, named-file, named-opens, named-read}
+use Rattle.nj_graph.proofs.Naming.{handed, handed-as, stops-own, stops-same, stops-open, opens-file, named-fault, named-path, named-file, named-opens, named-builds, named-read}
 use Rattle.nj_graph.proofs.reader.Reader.open_named.Goals as goal
 
 pub returns-in_err-path-clause-opens : goal.returns-in_err-path-clause-opens
@@ -68,6 +68,7 @@ returns-clause-opens g c = λ start main entries around depth holds inside.
       record { file = named-file c.args.naming site start entries word ∙ sym path.1; number = enters.number_is; scope = enters.scope },
       opens-file main before after c.args.self.now c.open_file.new.self c.scope_for.new.self c.args.file.left (place_in c.args.file c.args.word.now.spot) c.deref.result.now e entries _
           inner holds (c.in_ok-text.ensures.opens main entries holds) c.in_ok-scope.ensures.files (c.in_ok-scope.ensures.opened ∙ c.in_ok-text.ensures.opened)
+          (c.in_ok-scope.ensures.building ∙ c.in_ok-text.ensures.building) (named-builds c.args.naming site start entries word)
           enters.declares (named-opens c.args.naming site start entries word) (named-file c.args.naming site start entries word ∙ is) (named-path c.args.naming site start entries word ∙ ap (λ p. p ∷ []) is)
           (named-read c.args.naming site start entries word path.0),
     )

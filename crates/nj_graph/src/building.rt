@@ -1,0 +1,65 @@
+//! The statements that say what is built: `build` and `default`.
+
+ghost use Rattle.std.specs.Prelude.{◌≡◌, ◌<◌, length, OnOk};
+ghost use Rattle.nj_manifest.specs.Contents.{words_text};
+ghost use Rattle.nj_manifest.specs.Statements.{DefaultText};
+ghost use Rattle.nj_build.specs.Answers.{build_text};
+ghost use Rattle.nj_graph.specs.Reading.{entry_at};
+ghost use Rattle.nj_graph.specs.ReaderContracts.{InFile, ScopesGrow, Declares};
+
+use crate::reader::{OpenFile, Reader};
+use nj_build::{Build, StatementPlace};
+use nj_faults::GraphFault;
+use nj_manifest::{Spot, Word};
+use std::alloc::Global;
+
+impl Reader {
+    /// Reads a `build` statement, whose first byte stands at this place.
+    pub(crate) fn build(
+        &mut self,
+        alloc: Global,
+        file: OpenFile<'_>,
+        spot: Spot,
+        build: Build<'_>,
+    ) -> Result<(), GraphFault>
+        requires { file.scope < length self.old.declarations.scopes }
+        ensures declares { InFile self.old file.entry (λ main site entries.
+            let e = entry_at site (record { spot = spot; item = build_text build.entry }) in
+            Declares main self.new e entries result) }
+        ensures files { self.new.files ≡ self.old.files }
+        ensures grows { OnOk result (ScopesGrow self.old self.new) }
+    {
+        let place = StatementPlace {
+            file: file.name,
+            spot,
+            scope: file.scope,
+        };
+        self.building
+            .read_build(alloc, &self.declarations, place, build)
+    }
+
+    /// Reads a `default` statement, whose first byte stands at this place.
+    pub(crate) fn add_defaults(
+        &mut self,
+        alloc: Global,
+        file: OpenFile<'_>,
+        spot: Spot,
+        words: &[Word<'_>],
+    ) -> Result<(), GraphFault>
+        requires { file.scope < length self.old.declarations.scopes }
+        ensures declares { InFile self.old file.entry (λ main site entries.
+            let item = DefaultText (words_text words.now) in
+            let e = entry_at site (record { spot = spot; item = item }) in
+            Declares main self.new e entries result) }
+        ensures files { self.new.files ≡ self.old.files }
+        ensures grows { OnOk result (ScopesGrow self.old self.new) }
+    {
+        let place = StatementPlace {
+            file: file.name,
+            spot,
+            scope: file.scope,
+        };
+        self.building
+            .read_default(alloc, &self.declarations, place, words)
+    }
+}
