@@ -13,5 +13,6 @@ pub mod ReadingLaws
 pub mod ReadingRows
 pub mod ParsedLemmas
 pub mod SortLemmas
+pub mod TargetRows
 pub mod Tables
 pub mod Turns

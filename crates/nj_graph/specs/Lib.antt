@@ -5,6 +5,7 @@ pub mod Loads
 pub mod Reading
 pub mod Runs
 pub mod Statements
+pub mod Targets
 -- how what the code holds is that
 pub mod GraphHeld
 pub mod ReaderContracts

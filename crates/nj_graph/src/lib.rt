@@ -9,6 +9,7 @@ mod laws;
 mod loading;
 mod opening;
 mod reader;
+mod targets;
 
 pub use graph::{Graph, rules_by_name};
 pub use laws::statements_up_to_the_first_fault;
@@ -18,3 +19,4 @@ pub use nj_edges::{EdgeNo, FileNo, InputKind};
 pub use nj_faults::{Cause, GraphFault, Name, Place};
 pub use nj_manifest::Spot;
 pub use nj_scope::{FileSource, FileTable, MemoryFiles, SourceFault};
+pub use targets::pick_target;

@@ -1,0 +1,25 @@
+use Rattle.std.proofs.Common.{◌≡◌, ℕ, List, Option, Some, option_map, slice_get, sym, ap, ◌∙◌}
+use Rattle.std.specs.Prelude.{option_and_then}
+use Rattle.std.proofs.lemmas.Option.{slice_get-map}
+use Rattle.nj_edges.specs.declared.files.FileNo.{FileNo}
+use Rattle.nj_edges.specs.Edges.{edge_at, outputs_of, users_of}
+use Rattle.nj_edges.specs.Files.{path_at}
+use Rattle.nj_graph.specs.Graph.{edges_of, files_of}
+use Rattle.nj_graph.specs.Targets.{first_output}
+use Rattle.nj_graph.proofs.targets.first_made_of.Goals as goal
+
+pub returns : goal.returns
+returns c =
+    let files = files_of c.args.graph.now in
+    let edges = edges_of c.args.graph.now in
+    let edge = c.in_ok-edge.edge.now in
+    let outputs = outputs_of (edge_at edges edge.0) in
+    let at : FileNo → Option (List ℕ) = λ made. slice_get files made.0 in
+    let user : slice_get (users_of edges (path_at files c.args.file)) 0 ≡ Some edge.0 =
+    ap (λ ns. slice_get ns 0) (sym c.users.ensures.users) ∙ slice_get-map (λ e. e.0) c.users.result.now 0 ∙ ap (option_map (λ e. e.0)) (sym c.in_ok-edge.ensures.value)
+    in
+    ap (option_map at) (c.copied.ensures ∙ c.first-2.ensures.value)
+    ∙ sym (slice_get-map at c.outputs.result.now 0)
+    ∙ ap (λ xs. slice_get xs 0) c.outputs.ensures.files
+    ∙ slice_get-map (λ path. Some path) outputs 0
+    ∙ sym (ap (λ o. option_map (λ path. Some path) (option_and_then (first_output edges) o)) user)

@@ -1,0 +1,44 @@
+-- The target that a word of the command line means.
+use Rattle.std.specs.Prelude.{◌≡◌, ◌⊎◌, ◌-◌, ℕ, if◌then◌else◌, Option, Some, None, option_and_then, Result, Ok, Err, List, drop, take, length, slice_get, codes, bytes_eq}
+use Rattle.nj_text.specs.Calls.{is_empty}
+use Rattle.nj_text.specs.Paths.{clean_path_of}
+use Rattle.nj_edges.specs.declared.files.FileNo.{FileNo}
+use Rattle.nj_edges.specs.Edges.{EdgePaths, edge_at, outputs_of, users_of, is_named}
+use Rattle.nj_faults.specs.declared.fault.GraphFault.{GraphFault}
+use Rattle.nj_faults.specs.declared.fault.Cause.TheVariants.{EmptyPath, UnknownTarget, NoOutEdge}
+use Rattle.nj_faults.specs.Faults.{no_memory, unplaced}
+
+-- a file that an edge names
+abbrev pub target : List EdgePaths → (path : List ℕ) → Result (List ℕ) GraphFault
+target edges path = if is_named edges path then Ok path else Err (unplaced (UnknownTarget path))
+
+-- the first output of an edge
+abbrev pub first_output : List EdgePaths → (number : ℕ) → Option (List ℕ)
+first_output edges number = slice_get (outputs_of (edge_at edges number)) 0
+
+-- the first output of the edge of the smallest number that has the file as an input
+abbrev pub first_made_of : List EdgePaths → (path : List ℕ) → Option (List ℕ)
+first_made_of edges path = option_and_then (first_output edges) (slice_get (users_of edges path) 0)
+
+abbrev pub or_no_out_edge : (path : List ℕ) → Option (List ℕ) → Result (List ℕ) GraphFault
+or_no_out_edge path None = Err (unplaced (NoOutEdge path))
+or_no_out_edge path (Some made) = Ok made
+
+abbrev pub made_target : List EdgePaths → (path : List ℕ) → Result (List ℕ) GraphFault
+made_target edges path =
+    if is_named edges path then or_no_out_edge path (first_made_of edges path) else Err (unplaced (UnknownTarget path))
+
+-- A `^` at the end of a clean path asks for what is made of the file; it is no part of the path.
+abbrev pub clean_target : List EdgePaths → (path : List ℕ) → Result (List ℕ) GraphFault
+clean_target edges path =
+    if bytes_eq (drop (length path - 1) path) (codes "^") then made_target edges (take (length path - 1) path)
+    else target edges path
+
+-- the path of the target
+abbrev pub picked : List EdgePaths → (word : List ℕ) → Result (List ℕ) GraphFault
+picked edges word = if is_empty word then Err (unplaced EmptyPath) else clean_target edges (clean_path_of word)
+
+-- The number of the file with this path is answered, or the fault; or out of memory.
+abbrev pub Picks : (files : List (List ℕ)) → (expected : Result (List ℕ) GraphFault) → Result FileNo GraphFault → Type 0
+Picks files expected (Ok file) = (path : List ℕ) × (expected ≡ Ok path) × (slice_get files file.0 ≡ Some path)
+Picks files expected (Err fault) = (fault ≡ no_memory) ⊎ (expected ≡ Err fault)

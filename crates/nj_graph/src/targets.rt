@@ -1,0 +1,77 @@
+//! Targets, as words of a command line name them.
+
+ghost use Rattle.std.specs.Prelude.{◌≡◌, ◌<◌, Some, length, option_map, slice_get};
+ghost use Rattle.nj_edges.specs.Files.{path_at};
+ghost use Rattle.nj_graph.specs.Graph.{edges_of, files_of};
+ghost use Rattle.nj_graph.specs.Targets.{target, first_made_of, made_target, clean_target, picked, Picks};
+
+use crate::graph::Graph;
+use nj_edges::FileNo;
+use nj_faults::{Cause, GraphFault, Name};
+use nj_text::{TextFault, clean_path};
+use std::alloc::Global;
+
+/// The file that a word of a command line means: the one at its path, which is cleaned first; for
+/// `FILE^` the first output of an edge that has FILE as an input, the edge of the smallest number
+/// ("Running Ninja" in the Ninja manual).
+///
+/// # Errors
+///
+/// An empty word, a file that no edge names, and for `FILE^` one that no edge has as an input; or
+/// an allocation failed. The fault has no place.
+pub fn pick_target(alloc: Global, graph: &Graph, word: &[u8]) -> Result<FileNo, GraphFault>
+    ensures { Picks (files_of graph.now) (picked (edges_of graph.now) word.now) result }
+{
+    match clean_path(alloc, word) {
+        Ok(path) => clean_target(alloc, graph, &path),
+        Err(TextFault::EmptyPath) => Err(GraphFault::unplaced(Cause::EmptyPath)),
+        Err(TextFault::OutOfMemory) => Err(GraphFault::out_of_memory()),
+    }
+}
+
+// The file that a clean path means.
+fn clean_target(alloc: Global, graph: &Graph, path: &[u8]) -> Result<FileNo, GraphFault>
+    ensures { Picks (files_of graph.now) (clean_target (edges_of graph.now) path.now) result }
+{
+    match path.strip_suffix(b"^".as_slice()) {
+        Some(file) => made_target(alloc, graph, file),
+        None => target(alloc, graph, path),
+    }
+}
+
+// The file at a path.
+fn target(alloc: Global, graph: &Graph, path: &[u8]) -> Result<FileNo, GraphFault>
+    ensures { Picks (files_of graph.now) (target (edges_of graph.now) path.now) result }
+{
+    match graph.file_named(path) {
+        Some(file) => Ok(file),
+        None => {
+            let cause = Cause::UnknownTarget(Name::new(alloc, path)?);
+            Err(GraphFault::unplaced(cause))
+        }
+    }
+}
+
+// The first output of the first edge that has the file at a path as an input.
+fn made_target(alloc: Global, graph: &Graph, path: &[u8]) -> Result<FileNo, GraphFault>
+    ensures { Picks (files_of graph.now) (made_target (edges_of graph.now) path.now) result }
+{
+    let file = target(alloc, graph, path)?;
+    match first_made_of(graph, file) {
+        Some(made) => Ok(made),
+        None => {
+            let cause = Cause::NoOutEdge(Name::new(alloc, path)?);
+            Err(GraphFault::unplaced(cause))
+        }
+    }
+}
+
+// The first output of the first edge that has a file as an input.
+fn first_made_of(graph: &Graph, file: FileNo) -> Option<FileNo>
+    requires { file.0 < length (files_of graph.now) }
+    ensures { option_map (λ made. slice_get (files_of graph.now) made.0) result
+        ≡ option_map Some (first_made_of (edges_of graph.now) (path_at (files_of graph.now) file)) }
+{
+    let edge = graph.users(file).first()?;
+    graph.outputs(*edge).first().copied()
+}
