@@ -21,14 +21,17 @@ use Rattle.nj_faults.specs.Faults.{fault_at}
 use Rattle.nj_graph.specs.Reading.{expanded_in, fault_if, or_then, rule_fault, depth_fault, pool_fault, own_fault, path_named, with_named, paths_read}
 use Rattle.nj_build.specs.declared.edge.Build.{Build}
 use Rattle.nj_build.specs.Answers.{HoldsEdges, ReadsStatement, build_text}
+use Rattle.nj_graph.specs.Graph.{IsOpenScope}
+use Rattle.nj_graph.proofs.OpenScopes.{open-next}
 use Rattle.nj_graph.specs.ReaderContracts.{Holds, Grows, Checks, Declares}
 
 -- a statement that names no file
 pub holds-next : (main : List ℕ) (old held : Reader) (entries : List Entry) (e : Entry) → Holds main old entries → DeclaredBy held.declarations (e ∷ entries) → held.opened ≡ old.opened → held.files ≡ old.files
-    → opens_file e.item ≡ 0 → path_named e entries e.item ≡ [] → HoldsEdges held.building (e ∷ entries) → Holds main held (e ∷ entries)
-holds-next main old held entries e holds follows opened files none names edges = record {
+    → opens_file e.item ≡ 0 → path_named e entries e.item ≡ [] → HoldsEdges held.building (e ∷ entries) → Grows old.declarations.scopes held.declarations.scopes → IsOpenScope old.declarations.scopes e.number e.around → Holds main held (e ∷ entries)
+holds-next main old held entries e holds follows opened files none names edges grows inside = record {
   declares = follows;
   edges = edges;
+  scopes = open-next old.declarations.scopes held.declarations.scopes e entries grows inside holds.scopes;
   opened = opened ∙ holds.opened ∙ sym (add-zero (files_opened entries)) ∙ ap (λ n. files_opened entries + n) (sym none);
   paths_are = ap paths_of files ∙ holds.paths_are ∙ ap (with_named (paths_read main entries)) (sym names);
   once = subst EachPathOnce (sym files) holds.once;
@@ -105,10 +108,11 @@ same-grows before after same = let count = same.count in record { count = omega 
 -- a statement by which the declarations stay, and the edges are those of one statement more
 pub built-declares : (main : List ℕ) (old held : Reader) (entries : List Entry) (e : Entry) (result : Result (Unit {0}) GraphFault) → Holds main old entries
     → DeclaredBy held.declarations (e ∷ entries) → held.opened ≡ old.opened → held.files ≡ old.files → opens_file e.item ≡ 0 → path_named e entries e.item ≡ []
+    → Grows old.declarations.scopes held.declarations.scopes → IsOpenScope old.declarations.scopes e.number e.around
     → ReadsStatement held.building (own_fault e entries) e entries result → Declares main held e entries result
-built-declares main old held entries e (Ok done) holds follows opened files none names reads =
-    (reads.0, holds-next main old held entries e holds follows opened files none names reads.1)
-built-declares main old held entries e (Err fault) holds follows opened files none names reads = reads
+built-declares main old held entries e (Ok done) holds follows opened files none names grows inside reads =
+    (reads.0, holds-next main old held entries e holds follows opened files none names reads.1 grows inside)
+built-declares main old held entries e (Err fault) holds follows opened files none names grows inside reads = reads
 
 -- the words of a statement, as they are in memory
 pub build-same : (b : Build) (outs implicit_outs ins implicit order_only validations : List Word) (lines : List Line)

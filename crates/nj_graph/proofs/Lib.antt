@@ -1,4 +1,6 @@
 pub mod Comes
+pub mod EdgeRules
+pub mod EdgeTexts
 pub mod Faultless
 pub mod Found
 pub mod GraphRows
@@ -8,6 +10,7 @@ pub mod MainFiles
 pub mod NameLemmas
 pub mod Naming
 pub mod Openings
+pub mod OpenScopes
 pub mod OtherFiles
 pub mod ReadingLaws
 pub mod ReadingRows

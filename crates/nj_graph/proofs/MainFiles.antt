@@ -1,6 +1,7 @@
 -- The main file of a run.
 use Rattle.std.proofs.Common.{◌≡◌, ℕ, true, false, ◌||◌, cond, inl, inr, is_some, Option, Some, None, Result, Ok, Err, List, [], ◌∷◌, ◌++◌, length, refl, sym, ap, subst, ◌∙◌, arith, append-nil, true≢false}
 use Rattle.std.specs.Prelude.{◌⊎◌}
+use Rattle.std.specs.List.{AllByRecursion}
 use Rattle.std.proofs.lemmas.List.{length-map}
 use Rattle.std.proofs.lemmas.Slice.Eq.{bytes_eq-Decides}
 use Rattle.nj_scope.specs.Readings.{Reading, EachPathOnce, reading_of, is_read, IsPrefix, paths_of}
@@ -12,13 +13,17 @@ use Rattle.nj_graph.specs.declared.reader.Reader.{Reader}
 use Rattle.nj_faults.specs.declared.fault.Cause.TheVariants.{Missing}
 use Rattle.nj_faults.specs.Faults.{no_memory}
 use Rattle.nj_graph.specs.Reading.{Refused, Lacking, ReadingText, opened_in, text_read, answer_read, most_within, main_site, main_place, main_read, with_new, paths_come_to}
-use Rattle.nj_graph.specs.ReaderContracts.{IsNew, Holds, IsOpenScope, ReadsAll, ReadsText, ReadsOrStops, StopsAt}
+use Rattle.nj_graph.specs.ReaderContracts.{IsNew, Holds, ReadsAll, ReadsText, ReadsOrStops, StopsAt}
 use Rattle.nj_order.specs.Cycles.{IsAcyclic}
 use Rattle.nj_edges.specs.Needs.{makers_of_inputs}
 use Rattle.nj_build.specs.EdgeList.{edges_read, paths_of_edges}
 use Rattle.nj_build.specs.Answers.{HoldsEdges}
-use Rattle.nj_build.specs.Built.{BuiltText, ComesTo}
-use Rattle.nj_graph.specs.Graph.{IsGraphOf}
+use Rattle.nj_build.specs.Built.{BuiltText, IsBuiltOf, ComesTo, detail_of}
+use Rattle.nj_graph.specs.Graph.{IsOpenScope, HasRule, IsGraphOf}
+use Rattle.nj_graph.specs.GraphHeld.{IsKnown}
+use Rattle.nj_graph.specs.Laws.{Faultless}
+use Rattle.nj_graph.proofs.EdgeRules.{edges-have, edges-open, known-details}
+use Rattle.nj_graph.proofs.ReadingLaws.{read_is_faultless}
 use Rattle.nj_graph.specs.Runs.{IsRead}
 use Rattle.nj_graph.specs.Loads.{LoadedText, IsWhole, Loads}
 use Rattle.nj_graph.proofs.Found.{FindsText, FindsNone, CannotTell, HasNoMemory}
@@ -107,6 +112,7 @@ module _ (main : List ℕ) (before mid after : SourceState) (old opened held : R
   main-holds declared building count = record {
     declares = subst (λ d. DeclaredBy d []) (sym declared) new.declares;
     edges = subst (λ b. HoldsEdges b []) (sym building) new.edges;
+    scopes = tt;
     opened = count ∙ new.opened;
     paths_are = ap paths_of found.reads.held_is ∙ found.came_to ∙ ap (λ fs. with_new (paths_of fs) main) new.files;
     once = subst EachPathOnce (sym found.reads.held_is) found.reads.reads.once;
@@ -147,6 +153,19 @@ module _ (main : List ℕ) (before after : SourceState) (old held : Reader) (r :
     failures = r.reads.failures;
   }
 
+  -- each edge has a rule, since no statement has a fault
+  has-rules : AllByRecursion (HasRule held.declarations.rules) (edges_read r.entries)
+  has-rules = subst (λ rules. AllByRecursion (HasRule rules) (edges_read r.entries)) (sym r.holds.declares.rules) (edges-have r.entries (subst (λ (x : ReadingText). Faultless x.entries) is-whole.read (read_is_faultless r.files main)))
+
+  -- its scope and its rule are there
+  pub details-known : (built : BuiltText) → IsBuiltOf built r.entries → AllByRecursion (IsKnown held.declarations) built.details
+  details-known built is =
+      subst (AllByRecursion (IsKnown held.declarations)) (sym is.details) (known-details held.declarations (edges_read r.entries) (edges-open held.declarations.scopes r.entries r.holds.scopes) has-rules)
+
+  pub details-count : (built : BuiltText) → IsBuiltOf built r.entries → length built.details ≡ length built.graph.edges
+  details-count built is =
+      ap length is.details ∙ length-map (edges_read r.entries) detail_of ∙ sym (ap length is.paths ∙ length-map (edges_read r.entries) (λ e. e.paths))
+
   -- and the graph has what was declared and built
   pub is-loaded : (loaded : LoadedText) (built : BuiltText) → old.files ≡ [] → loaded.files ≡ held.files → loaded.graph ≡ record { declarations = held.declarations; built = built }
       → ComesTo r.entries (Ok built) → Loads main before after (Ok loaded)
@@ -159,7 +178,9 @@ module _ (main : List ℕ) (before after : SourceState) (old held : Reader) (r :
       whole = is-whole;
       graph_is = subst (λ g. IsGraphOf g r.entries) (sym same_graph) (record {
         declares = r.holds.declares;
+        scopes = r.holds.scopes;
         built = comes.0;
+        rules = has-rules;
         acyclic = subst (λ es. IsAcyclic (makers_of_inputs es) (length es)) (sym comes.0.paths) (subst (λ n. IsAcyclic (makers_of_inputs (paths_of_edges (edges_read r.entries))) n) (sym (length-map (edges_read r.entries) (λ e. e.paths))) comes.1);
       });
     },

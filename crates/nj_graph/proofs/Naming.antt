@@ -28,9 +28,11 @@ use Rattle.nj_build.specs.BuildFaults.{first_fault, empty_path, unknown_rule, tw
 use Rattle.nj_build.specs.Answers.{HoldsEdges}
 use Rattle.nj_build.proofs.Holding.{names_files, holds-other}
 use Rattle.nj_graph.specs.Runs.{IsRead, Stops}
-use Rattle.nj_graph.specs.ReaderContracts.{named_item, named_site, site_of, EntersScope, Holds, Grows, IsOpenScope, IsOpenIn, IsFault, ReadsOne, StopsAt, OpensText, OpensNamed}
+use Rattle.nj_graph.specs.Graph.{IsOpenScope}
+use Rattle.nj_graph.specs.ReaderContracts.{named_item, named_site, site_of, EntersScope, Holds, Grows, IsOpenIn, IsFault, ReadsOne, StopsAt, OpensText, OpensNamed}
 use Rattle.nj_graph.proofs.Comes.{item-comes, statements-come}
 use Rattle.nj_graph.proofs.Tables.{read-nothing}
+use Rattle.nj_graph.proofs.OpenScopes.{open-grown, open-next}
 
 -- ---- a fault that is handed on
 
@@ -41,22 +43,6 @@ handed f (Err e) (no_fault, is) = ap (λ x. Err x) is
 pub handed-as : {X E : Type 0} (P : E → Type 0) (r : Result X E) → IsErr r × IsErrAnd r P → (e : E) × (r ≡ Err e) × P e
 handed-as P (Ok x) (no_fault, is) = absurd (true≢false (sym no_fault))
 handed-as P (Err e) (no_fault, is) = (e, refl, is)
-
--- ---- scopes that stay
-
-scope-kept : (parent later : ℕ → Option ℕ) (count : ℕ) → ((n : ℕ) → n < count → later n ≡ parent n) → (s : ℕ) (scope : List ℕ) → IsScope parent s scope → AllByRecursion (λ n. n < count) scope → IsScope later s scope
-scope-kept parent later count same s scope (outermost h) there = outermost (same s there.0 ∙ h)
-scope-kept parent later count same s scope (child h inner) there = child (same s there.0 ∙ h) (scope-kept parent later count same _ _ inner there.1)
-
-still-there : (before after : ℕ) → before ≤ after → (ns : List ℕ) → AllByRecursion (λ n. n < before) ns → AllByRecursion (λ n. n < after) ns
-still-there before after more [] there = tt
-still-there before after more (n ∷ ns) there = (omega (arith, more, there.0), still-there before after more ns there.1)
-
-pub open-grown : (before after : List ScopeText) (number : ℕ) (around : List ℕ) → Grows before after → IsOpenScope before number around → IsOpenScope after number around
-open-grown before after number around grows stands = record {
-  within = scope-kept (parent_at before) (parent_at after) (length before) grows.parents number (number ∷ around) stands.within stands.there;
-  there = still-there (length before) (length after) grows.count (number ∷ around) stands.there;
-}
 
 -- ---- no fault of a statement by itself names a path
 
@@ -220,16 +206,17 @@ module _ (main : List ℕ) (before after : SourceState) (old : Reader) (entries 
 -- ---- a file that is named
 
 module _ (main : List ℕ) (before after : SourceState) (old mid held : Reader) (left : ℕ) (place : Place) (path : List ℕ) (e : Entry) (entries : List Entry) (text : List ℕ) where
-  pub opens-file : (inner : Site) → Holds main old entries → OpensText main before after old mid left place path entries text → held.files ≡ mid.files → held.opened ≡ suc old.opened → held.building ≡ old.building → names_files e.item ≡ false
+  pub opens-file : (inner : Site) → Holds main old entries → OpensText main before after old mid left place path entries text → held.files ≡ mid.files → held.opened ≡ suc old.opened → held.building ≡ old.building → names_files e.item ≡ false → Grows old.declarations.scopes held.declarations.scopes → IsOpenScope old.declarations.scopes e.number e.around
       → DeclaredBy held.declarations (e ∷ entries) → opens_file e.item ≡ 1 → inner.file ≡ path → path_named e entries e.item ≡ path ∷ []
       → ((opens : Opens) → statement_read opens e entries ≡ opens inner place e entries)
       → OpensNamed main before after old held left inner text e entries
-  opens-file inner holds o files opened building builds declares one is names read = record {
+  opens-file inner holds o files opened building builds grows inside declares one is names read = record {
     files = o.files;
     reads = record { reads = o.reads.reads; held_is = files ∙ o.reads.held_is; failures = o.reads.failures };
     holds = record {
       declares = declares;
       edges = subst (λ b. HoldsEdges b (e ∷ entries)) (sym building) (holds-other old.building e entries builds holds.edges);
+      scopes = open-next old.declarations.scopes held.declarations.scopes e entries grows inside holds.scopes;
       opened = opened ∙ ap suc holds.opened ∙ sym (add-one (files_opened entries)) ∙ ap (λ n. files_opened entries + n) (sym one);
       paths_are = ap paths_of (files ∙ o.reads.held_is) ∙ o.came_to ∙ ap (λ ps. with_new ps path) holds.paths_are ∙ ap (with_named (paths_read main entries)) (sym names);
       once = subst EachPathOnce (sym (files ∙ o.reads.held_is)) o.reads.reads.once;

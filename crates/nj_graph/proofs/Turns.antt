@@ -233,17 +233,6 @@ next-stops main told after old held left site text entries lines before later fa
     by (inl none) = ends-memory main told after old held left site text entries lines fault u none
     by (inr found) = ends-fault main told after old held left site text entries lines fault found.0 u found.1 found.2
 
--- ---- scopes
-
-pub grows-self : (scopes : List ScopeText) → Grows scopes scopes
-grows-self scopes = record { count = omega arith; parents = λ n h. refl }
-
-pub grows-then : (before mid after : List ScopeText) → Grows before mid → Grows mid after → Grows before after
-grows-then before mid after p q =
-    let first = p.count in
-    let second = q.count in
-    record { count = omega (arith, first, second); parents = λ n h. q.parents n (omega (arith, h, first)) ∙ p.parents n h }
-
 pub site-same : (inner : Site) (file : List ℕ) (number : ℕ) → inner.file ≡ file → inner.number ≡ number → inner ≡ record { file = file; depth = inner.depth; number = number; around = inner.around }
 site-same inner file number is at =
     ap (λ f. record { file = f; depth = inner.depth; number = inner.number; around = inner.around }) is ∙ ap (λ n. record { file = file; depth = inner.depth; number = n; around = inner.around }) at

@@ -1,7 +1,7 @@
 -- The graph of a run, and the rules that it lists.
-use Rattle.std.specs.Prelude.{◌≡◌, ◌↔◌, ℕ, Bool, if◌then◌else◌, Option, option_map, unwrap_or, is_some, List, [], ◌∷◌, map, length, slice_index_or}
+use Rattle.std.specs.Prelude.{◌≡◌, ◌↔◌, ℕ, ◌<◌, Bool, if◌then◌else◌, Option, Some, None, option_map, unwrap_or, is_some, List, [], ◌∷◌, map, length, slice_get, slice_index_or}
 use Rattle.std.specs.Prelude.{codes, bytes_eq}
-use Rattle.std.specs.List.{Contains, IsDistinct}
+use Rattle.std.specs.List.{AllByRecursion, Contains, IsDistinct}
 use Rattle.std.specs.List.Sorted.{IsStrictlySortedBy}
 use Rattle.std.specs.Cmp.Lexicographic.{slice_cmp}
 use Rattle.std.specs.Ordering.{is_lt, nat_cmp}
@@ -9,10 +9,14 @@ use Rattle.nj_text.specs.Words.{PartText}
 use Rattle.nj_scope.specs.Declarations.{DeclarationsText, DeclaredBy}
 use Rattle.nj_scope.specs.ReadingList.{Entry}
 use Rattle.nj_scope.specs.Late.{parts_written}
-use Rattle.nj_scope.specs.Rules.{RuleText, phony_rule, rules_in, rule_names, given}
+use Rattle.nj_scope.specs.Rules.{RuleText, phony, phony_rule, rules_in, rule_names, given}
+use Rattle.nj_scope.specs.Scopes.{IsScope}
+use Rattle.nj_scope.specs.ScopesHeld.{ScopeText, parent_at}
 use Rattle.nj_order.specs.Cycles.{IsAcyclic}
 use Rattle.nj_edges.specs.Edges.{EdgePaths}
 use Rattle.nj_edges.specs.Needs.{makers_of_inputs}
+use Rattle.nj_late.specs.LateTexts.{asked_text}
+use Rattle.nj_build.specs.EdgeList.{EdgeText, edges_read, names_of_edge}
 use Rattle.nj_build.specs.Built.{BuiltText, IsBuiltOf}
 
 -- what the statements of its files declare, at the end of all reading, and the edges and defaults to which they come
@@ -28,11 +32,35 @@ edges_of g = g.built.graph.edges
 abbrev pub files_of : GraphText → List (List ℕ)
 files_of g = g.built.graph.files
 
--- What the statements say is the graph: what they declare, their edges and their defaults; and no edge needs itself by a chain.
+-- a scope with those around it, which were all opened
+pub record IsOpenScope (scopes : List ScopeText) (number : ℕ) (around : List ℕ) : Type 0 where
+  pub within : IsScope (parent_at scopes) number (number ∷ around)
+  pub there : AllByRecursion (λ n. n < length scopes) (number ∷ around)
+
+-- an edge has one of these rules, and is phony where that is called `phony`
+pub record HasRule (rules : List RuleText) (e : EdgeText) : Type 0 where
+  pub rule : RuleText
+  pub rule_is : slice_get rules e.rule ≡ Some rule
+  pub phony_is : bytes_eq rule.name phony ≡ e.paths.is_phony
+
+-- What the statements say is the graph: what they declare, in which scopes, and their edges and defaults; each edge has a rule,
+-- and none needs itself by a chain.
 pub record IsGraphOf (g : GraphText) (entries : List Entry) : Type 0 where
   pub declares : DeclaredBy g.declarations entries
+  pub scopes : AllByRecursion (λ e. IsOpenScope g.declarations.scopes e.number e.around) entries
   pub built : IsBuiltOf g.built entries
+  pub rules : AllByRecursion (HasRule g.declarations.rules) (edges_read entries)
   pub acyclic : IsAcyclic (makers_of_inputs (edges_of g)) (length (edges_of g))
+
+-- ---- late texts
+
+abbrev pub text_of_edge : List Entry → (asked : List ℕ) → Option EdgeText → List ℕ
+text_of_edge entries asked (Some e) = asked_text (names_of_edge entries e) asked
+text_of_edge entries asked None = []
+
+-- What a variable says for the edge of a number where its rule is used, after all statements.
+abbrev pub late_text_of : List Entry → (number : ℕ) → (asked : List ℕ) → List ℕ
+late_text_of entries number asked = text_of_edge entries asked (slice_get (edges_read entries) number)
 
 -- ---- the rules that are listed
 

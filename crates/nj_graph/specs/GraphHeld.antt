@@ -1,8 +1,10 @@
 -- How a graph holds the rules that it lists.
-use Rattle.std.specs.Prelude.{◌≡◌, ℕ, Option, Some, None, List, [], map, slice_get}
+use Rattle.std.specs.List.{AllByRecursion}
+use Rattle.std.specs.Prelude.{◌≡◌, ℕ, ◌<◌, Option, Some, None, List, [], map, length, slice_get}
 use Rattle.nj_scope.specs.Declarations.{DeclarationsText}
 use Rattle.nj_scope.specs.Rules.{RuleText}
 use Rattle.nj_scope.specs.ScopesHeld.{parent_at}
+use Rattle.nj_build.specs.Built.{BuiltText, EdgeDetail}
 use Rattle.nj_graph.specs.Graph.{main_rules_of}
 
 -- their numbers, in the order in which they are listed
@@ -17,7 +19,13 @@ name_of None = []
 abbrev pub rule_name : List RuleText → (number : ℕ) → List ℕ
 rule_name rules number = name_of (slice_get rules number)
 
+-- the scope and the rule of an edge are there
+abbrev pub IsKnown : DeclarationsText → EdgeDetail → Type 0
+IsKnown declarations d = (d.scope < length declarations.scopes) × (d.rule < length declarations.rules)
+
 -- what holds of the fields of a graph
-pub record IsGraph (declarations : DeclarationsText) (numbers : List ℕ) : Type 0 where
+pub record IsGraph (declarations : DeclarationsText) (built : BuiltText) (numbers : List ℕ) : Type 0 where
   pub listed : HoldsMainRules declarations.rules numbers
   pub outermost : parent_at declarations.scopes 0 ≡ None
+  pub count : length built.details ≡ length built.graph.edges
+  pub known : AllByRecursion (IsKnown declarations) built.details

@@ -16,7 +16,6 @@ use Rattle.nj_manifest.specs.Statements.{StatementText, IncludeText, SubninjaTex
 use Rattle.nj_scope.specs.Readings.{Reading, EachPathOnce, paths_of, IsPrefix}
 use Rattle.nj_scope.specs.Sources.{SourceState}
 use Rattle.nj_scope.specs.Opening as table
-use Rattle.nj_scope.specs.Scopes.{IsScope}
 use Rattle.nj_scope.specs.ScopesHeld.{ScopeText, parent_at}
 use Rattle.nj_scope.specs.Declarations.{DeclaredBy}
 use Rattle.nj_scope.specs.ReadingList.{Entry, files_opened}
@@ -31,6 +30,7 @@ use Rattle.nj_graph.specs.declared.reader.Opened.{Opened}
 use Rattle.nj_faults.specs.Faults.{fault_in, no_memory}
 use Rattle.nj_build.specs.Answers.{HoldsEdges}
 pub use Rattle.nj_build.specs.Answers.{IsFault, Checks}
+use Rattle.nj_graph.specs.Graph.{IsOpenScope}
 use Rattle.nj_graph.specs.Reading.{Site, included_site, subninja_site, own_fault, Whole, ReadingText, Opens, opened_in, statement_read}
 use Rattle.nj_graph.specs.Reading.{text_read, path_named, with_new, paths_read}
 use Rattle.nj_graph.specs.Runs.{IsRead, Stops}
@@ -49,6 +49,7 @@ pub record IsNew (held : Reader) : Type 0 where
 pub record Holds (main : List ℕ) (held : Reader) (entries : List Entry) : Type 0 where
   pub declares : DeclaredBy held.declarations entries
   pub edges : HoldsEdges held.building entries
+  pub scopes : AllByRecursion (λ e. IsOpenScope held.declarations.scopes e.number e.around) entries
   pub opened : held.opened ≡ files_opened entries
   pub paths_are : paths_of held.files ≡ paths_read main entries
   pub once : EachPathOnce held.files
@@ -63,11 +64,6 @@ ScopesGrow old held = Grows old.declarations.scopes held.declarations.scopes
 
 abbrev pub site_of : OpenFile → (around : List ℕ) → (depth : ℕ) → Site
 site_of file around depth = record { file = file.name.now; depth = depth; number = file.scope; around = around }
-
--- a scope with those around it, which were all opened
-pub record IsOpenScope (scopes : List ScopeText) (number : ℕ) (around : List ℕ) : Type 0 where
-  pub within : IsScope (parent_at scopes) number (number ∷ around)
-  pub there : AllByRecursion (λ n. n < length scopes) (number ∷ around)
 
 -- the scope of an open file
 abbrev pub IsOpenIn : Reader → OpenFile → (around : List ℕ) → Type 0

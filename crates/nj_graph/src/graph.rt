@@ -3,7 +3,8 @@
 ghost use Rattle.std.specs.Prelude.{◌≡◌, ◌<◌, None, length, option_copied, option_and_then, slice_get, IfOk};
 ghost use Rattle.nj_scope.specs.ScopesHeld.{parent_at};
 ghost use Rattle.nj_graph.specs.Graph.{main_rules, main_rule_at, description, has_description, description_text, NamesRise, ListsMainRules};
-ghost use Rattle.nj_graph.specs.GraphHeld.{HoldsMainRules, rule_name};
+ghost use Rattle.std.specs.List.{AllByRecursion};
+ghost use Rattle.nj_graph.specs.GraphHeld.{HoldsMainRules, IsKnown, rule_name};
 
 use nj_build::Built;
 use nj_scope::{Declarations, LateValue, Rule};
@@ -31,7 +32,7 @@ impl Model for Graph {
 
     ghost view = { λ g. record { declarations = g.declarations; built = g.built } };
 
-    ghost invariant = { λ g. IsGraph g.declarations g.main_rules.items };
+    ghost invariant = { λ g. IsGraph g.declarations g.built g.main_rules.items };
 }
 
 impl Graph {
@@ -41,7 +42,9 @@ impl Graph {
         declarations: Declarations,
         built: Built,
     ) -> Result<Graph, AllocError>
-        requires { parent_at declarations.scopes 0 ≡ None }
+        requires outermost { parent_at declarations.scopes 0 ≡ None }
+        requires count { length built.details ≡ length built.graph.edges }
+        requires known { AllByRecursion (IsKnown declarations) built.details }
         ensures { IfOk result (λ g. g ≡ record { declarations = declarations; built = built }) }
     {
         let main_rules = rules_of_main(alloc, declarations.rules())?;

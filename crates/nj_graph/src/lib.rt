@@ -5,6 +5,7 @@ mod building;
 mod declaring;
 mod edges;
 mod graph;
+mod late;
 mod laws;
 mod loading;
 mod opening;

@@ -3,7 +3,7 @@ use Rattle.nj_faults.specs.Faults.{no_memory}
 use Rattle.nj_graph.specs.Reading.{main_read}
 use Rattle.nj_graph.specs.ReaderContracts.{StopsAt}
 use Rattle.nj_graph.proofs.Naming.{handed, handed-as}
-use Rattle.nj_graph.proofs.MainFiles.{main-nothing, reads-memory, is-loaded, built-fault}
+use Rattle.nj_graph.proofs.MainFiles.{main-nothing, reads-memory, details-known, is-loaded, built-fault}
 use Rattle.nj_graph.proofs.loading.load.Goals as goal
 
 pub returns-in_err-reader : goal.returns-in_err-reader
@@ -20,6 +20,12 @@ returns-in_err-read_main g c =
     let fault = c.in_err-read_main.field-0.0 in
     let s = subst (λ fs. StopsAt c.args.main.now told after fs (λ all. main_read all c.args.main.now) fault) c.in_ok-reader.ensures.files c.in_err-read_main.ensures.reads in
     rw (handed fault c.from_residual-in_err-read_main.result c.from_residual-in_err-read_main.ensures) (s.files, s.reads, inl s.stops)
+
+pub new-requires-2-clause-known : goal.new-requires-2-clause-known
+new-requires-2-clause-known g c =
+    let reads = c.in_ok-read_main.ensures.reads in
+    details-known c.args.main.now (g.S.FileSource.state c.args.source.now) (g.S.FileSource.state c.read_main.new.source) c.in_ok-reader.reader c.read_main.new.self reads
+    c.in_ok-built.built (c.in_ok-built.ensures reads.entries reads.holds.edges).0
 
 pub returns-in_err-built : goal.returns-in_err-built
 returns-in_err-built g c =

@@ -4,10 +4,11 @@ use Rattle.nj_text.specs.Lines.{text_lines}
 use Rattle.nj_manifest.specs.Contents.{placed_text}
 use Rattle.nj_graph.specs.Reading.{Site, entry_at, opened_in, text_read}
 use Rattle.nj_graph.specs.ReaderContracts.{ReadsItem, ReadsOrStops, site_of}
-use Rattle.nj_graph.proofs.Naming.{handed, open-grown}
+use Rattle.nj_graph.proofs.OpenScopes.{grows-self, grows-then, open-grown}
+use Rattle.nj_graph.proofs.Naming.{handed}
 use Rattle.nj_graph.proofs.ParsedLemmas.{parsed-at-first}
 use Rattle.nj_graph.proofs.Tables.{reads-all-nothing}
-use Rattle.nj_graph.proofs.Turns.{reads-named, one-read, ends-text, turn, turn-stops, next-some, next-none, next-stops, fewer-left, grows-self, grows-then, site-same}
+use Rattle.nj_graph.proofs.Turns.{reads-named, one-read, ends-text, turn, turn-stops, next-some, next-none, next-stops, fewer-left, site-same}
 use Rattle.nj_graph.proofs.reader.Reader.+reading.Goals as goal
 
 pub read_statement-returns-in-Some-clause-reads : goal.read_statement-returns-in-Some-clause-reads

@@ -7,7 +7,7 @@ use Rattle.nj_graph.specs.declared.reader.Reader.{Reader}
 use Rattle.nj_build.proofs.Holding.{holds-other}
 use Rattle.nj_graph.specs.Reading.{entry_at}
 use Rattle.nj_graph.specs.ReaderContracts.{site_of}
-use Rattle.nj_graph.proofs.Holding.{holds-next, version-accepted, name-is-other}
+use Rattle.nj_graph.proofs.Holding.{holds-next, same-grows, version-accepted, name-is-other}
 use Rattle.nj_graph.proofs.reader.Reader.bind.Goals as goal
 use Rattle.nj_graph.proofs.reader.Reader.bind.Goals.{then-eq+in_ok-version+else-is_newer, else-eq}
 
@@ -21,5 +21,5 @@ returns-clause-declares c = λ main entries around depth holds inside.
             version-accepted _ _ _ (sym (w.is_newer.ensures ∙ ap is_newer (w.deref.ensures.value ∙ w.in_ok-version.ensures entries around holds.declares inside.within)) ∙ w.if-is_newer.false)
         | else-eq w ↦ name-is-other _ _ _ (ap (bytes_eq c.args.name.now) (sym c.as_slice.ensures) ∙ sym w.if-eq.ensures)
       ],
-      holds-next main c.args.self.now held entries e holds takes refl refl refl refl (holds-other c.args.self.now.building e entries refl holds.edges),
+      holds-next main c.args.self.now held entries e holds takes refl refl refl refl (holds-other c.args.self.now.building e entries refl holds.edges) (same-grows c.args.self.now.declarations held.declarations c.in_ok-bind.ensures.scopes) inside,
     )

@@ -6,6 +6,7 @@ use Rattle.nj_build.specs.Answers.{build_text, outputs_of_build, inputs_of_build
 use Rattle.nj_graph.specs.declared.reader.Reader.{Reader}
 use Rattle.nj_graph.specs.Reading.{entry_at}
 use Rattle.nj_graph.specs.ReaderContracts.{site_of}
+use Rattle.nj_graph.proofs.OpenScopes.{grows-self}
 use Rattle.nj_graph.proofs.Holding.{built-declares}
 use Rattle.nj_graph.proofs.reader.Reader.build.Goals as goal
 
@@ -15,5 +16,5 @@ returns-clause-declares c = λ main entries around depth holds inside.
     let e : Entry = entry_at (site_of c.args.file around depth) (record { spot = c.args.spot; item = build_text b }) in
     let held : Reader = record { declarations = c.args.self.now.declarations; building = c.read_build.new.self; files = c.args.self.now.files; opened = c.args.self.now.opened } in
     let takes = takes-build c.args.self.now.declarations c.args.file.scope around (outputs_of_build b) (record { spot = b.rule_spot; name = b.rule.now }) (inputs_of_build b) (lines_text b.lines.now) entries c.args.file.name.now c.args.spot depth holds.declares in
-    built-declares main c.args.self.now held entries e c.read_build.result holds takes refl refl refl refl
+    built-declares main c.args.self.now held entries e c.read_build.result holds takes refl refl refl refl (grows-self c.args.self.now.declarations.scopes) inside
     (c.read_build.ensures entries around depth holds.declares inside.within holds.edges)

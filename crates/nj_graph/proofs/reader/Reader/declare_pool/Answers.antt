@@ -7,7 +7,7 @@ use Rattle.nj_build.proofs.Holding.{holds-other}
 use Rattle.nj_graph.specs.Reading.{entry_at, site_scope, depth_fault}
 use Rattle.nj_graph.specs.ReaderContracts.{site_of}
 use Rattle.nj_graph.proofs.Holding.{holds-next, pool-new, depths-same, pool-declares, same-grows}
-use Rattle.nj_graph.proofs.Naming.{open-grown}
+use Rattle.nj_graph.proofs.OpenScopes.{open-grown}
 use Rattle.nj_graph.proofs.reader.Reader.declare_pool.Goals as goal
 
 pub returns-clause-declares : goal.returns-clause-declares
@@ -20,7 +20,7 @@ returns-clause-declares c = λ start main entries around depth holds inside.
     let held : Reader = record { declarations = c.declare_pool.new.self; building = c.args.self.now.building; files = c.args.self.now.files; opened = c.args.self.now.opened } in
     let is_new : c.in_ok-declare_pool.field-0 ≡ true = c.if-not-branch.false in
     let declares = c.in_ok-declare_pool.ensures.declared c.args.file.scope around c.args.spot lines is_new entries site.file start depth holds.declares in
-    let there = holds-next main c.args.self.now held entries e holds declares refl refl refl refl (holds-other c.args.self.now.building e entries refl holds.edges) in
+    let there = holds-next main c.args.self.now held entries e holds declares refl refl refl refl (holds-other c.args.self.now.building e entries refl holds.edges) (same-grows c.args.self.now.declarations held.declarations c.in_ok-declare_pool.ensures.scopes) inside in
     pool-declares main held e (depth_fault site.file scope (e ∷ entries) lines) entries c.check_depths.result
     (pool-new main c.args.self.now entries site.file scope name lines holds (sym is_new ∙ c.in_ok-declare_pool.ensures.is_new)
     ∙ sym (depths-same site.file e entries (λ value x. refl) scope lines))

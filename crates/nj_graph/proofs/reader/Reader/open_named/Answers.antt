@@ -4,7 +4,8 @@ use Rattle.nj_scope.specs.Declarations.{DeclaredBy}
 use Rattle.nj_scope.specs.ReadingList.{Entry}
 use Rattle.nj_faults.specs.Faults.{no_memory}
 use Rattle.nj_graph.specs.Reading.{Site, entry_at, site_scope, expanded_in, opened_in, statement_read}
-use Rattle.nj_graph.specs.ReaderContracts.{IsOpenScope, IsFault, site_of, place_in, named_item, named_site}
+use Rattle.nj_graph.specs.Graph.{IsOpenScope}
+use Rattle.nj_graph.specs.ReaderContracts.{Grows, IsFault, site_of, place_in, named_item, named_site}
 use Rattle.nj_graph.proofs.Naming.{handed, handed-as, stops-own, stops-same, stops-open, opens-file, named-fault, named-path, named-file, named-opens, named-builds, named-read}
 use Rattle.nj_graph.proofs.reader.Reader.open_named.Goals as goal
 
@@ -69,6 +70,7 @@ returns-clause-opens g c = λ start main entries around depth holds inside.
       opens-file main before after c.args.self.now c.open_file.new.self c.scope_for.new.self c.args.file.left (place_in c.args.file c.args.word.now.spot) c.deref.result.now e entries _
           inner holds (c.in_ok-text.ensures.opens main entries holds) c.in_ok-scope.ensures.files (c.in_ok-scope.ensures.opened ∙ c.in_ok-text.ensures.opened)
           (c.in_ok-scope.ensures.building ∙ c.in_ok-text.ensures.building) (named-builds c.args.naming site start entries word)
+          (subst (λ d. Grows d.scopes c.scope_for.new.self.declarations.scopes) same c.in_ok-scope.ensures.grows) inside
           enters.declares (named-opens c.args.naming site start entries word) (named-file c.args.naming site start entries word ∙ is) (named-path c.args.naming site start entries word ∙ ap (λ p. p ∷ []) is)
           (named-read c.args.naming site start entries word path.0),
     )

@@ -1,0 +1,104 @@
+-- The rules and scopes of the edges of statements without a fault.
+use Rattle.std.proofs.Common.{◌≡◌, ℕ, ◌<◌, ◌==◌, Bool, true, false, not, unwrap_or, is_some, Option, Some, None, List, [], ◌∷◌, ◌++◌, map, length, slice_get, refl, sym, ap, subst, ◌∙◌}
+use Rattle.std.specs.List.{AllByRecursion}
+use Rattle.std.proofs.lemmas.Option.{slice_get_within}
+use Rattle.nj_manifest.specs.LineSteps.{NameText}
+use Rattle.nj_manifest.specs.Statements.{StatementText, BindingText, RuleText, PoolText, BuildText, DefaultText, IncludeText, SubninjaText, LineText, OutputsText, InputsText}
+use Rattle.nj_scope.specs.Rules as kept
+use Rattle.nj_scope.specs.ScopesHeld.{ScopeText}
+use Rattle.nj_scope.specs.Declarations.{DeclarationsText}
+use Rattle.nj_scope.specs.ReadingList.{Entry, scope_of, rule_in_force, rule_texts, with_rule}
+use Rattle.nj_scope.proofs.InForce.{in_force}
+use Rattle.nj_faults.specs.declared.fault.GraphFault.{GraphFault}
+use Rattle.nj_faults.specs.declared.fault.Cause.TheVariants.{UnknownRule}
+use Rattle.nj_faults.specs.Faults.{fault_at}
+use Rattle.nj_build.specs.EdgeList.{EdgeText, line_values, stated_paths, edge_of_build, with_edge, edges_read}
+use Rattle.nj_build.specs.BuildFaults.{unknown_rule}
+use Rattle.nj_build.specs.Built.{detail_of}
+use Rattle.nj_build.proofs.Lists.{get-longer}
+use Rattle.nj_build.proofs.LateLemmas.{is-phony, kept-phony}
+use Rattle.nj_graph.specs.Graph.{IsOpenScope, HasRule}
+use Rattle.nj_graph.specs.GraphHeld.{IsKnown}
+use Rattle.nj_graph.specs.Laws.{Faultless}
+use Rattle.nj_graph.specs.Reading.{fault_if, or_then, item_fault}
+use Rattle.nj_graph.proofs.OpenScopes.{AreOpen}
+
+-- ---- all of a list
+
+module _ {X : Type 0} where
+  all-and : (P : X → Type 0) (x : X) (xs : List X) → AllByRecursion P xs → P x → AllByRecursion P (xs ++ x ∷ [])
+  all-and P x [] all here = (here, tt)
+  all-and P x (y ∷ ys) all here = (all.0, all-and P x ys all.1 here)
+
+  all-map : (P Q : X → Type 0) → ((x : X) → P x → Q x) → (xs : List X) → AllByRecursion P xs → AllByRecursion Q xs
+  all-map P Q to [] all = tt
+  all-map P Q to (x ∷ xs) all = (to x all.0, all-map P Q to xs all.1)
+
+-- ---- rules
+
+has-longer : (rules more : List kept.RuleText) (e : EdgeText) → HasRule rules e → HasRule (rules ++ more) e
+has-longer rules more e has = record { rule = has.rule; rule_is = get-longer rules more e.rule has.rule has.rule_is; phony_is = has.phony_is }
+
+first-none : (first others : Option GraphFault) → or_then first others ≡ None → first ≡ None
+first-none (Some first) others h = h
+first-none None others h = refl
+
+module _ (e : Entry) (before : List Entry) (outputs : OutputsText) (rule : NameText) (inputs : InputsText) (lines : List LineText) where
+  abbrev edge : EdgeText
+  edge = edge_of_build e before outputs rule inputs lines
+
+  -- a rule that is known
+  by-rule : (found : Option ℕ) → rule_in_force before (scope_of e) rule.name ≡ found → fault_if (not (is_some found)) (fault_at e.file rule.spot (UnknownRule rule.name)) ≡ None → HasRule (rule_texts before) edge
+  by-rule None is h = absurd cc
+  by-rule (Some number) is h =
+      let (text, at, its, others) = in_force before (scope_of e) rule.name number is in
+      let same : edge.rule ≡ number = ap (λ o. unwrap_or o 0) is in
+      record {
+        rule = text;
+        rule_is = ap (slice_get (rule_texts before)) same ∙ at;
+        phony_is = is-phony before (scope_of e) rule.name number text is at ∙ ap (λ n. n == 0) (sym same) ∙ sym (kept-phony (stated_paths (line_values e before lines) outputs inputs (edge.rule == 0)));
+      }
+
+  new-rule : item_fault e before (BuildText outputs rule inputs lines) ≡ None → HasRule (rule_texts before) edge
+  new-rule none = by-rule (rule_in_force before (scope_of e) rule.name) refl (first-none (unknown_rule e before rule) _ none)
+
+pub edges-have : (entries : List Entry) → Faultless entries → AllByRecursion (HasRule (rule_texts entries)) (edges_read entries)
+unfolding edges_read
+edges-have [] faultless = tt
+edges-have (e ∷ before) faultless = by e.item faultless.0 (edges-have before faultless.1)
+  where
+    by : (item : StatementText) → item_fault e before item ≡ None → AllByRecursion (HasRule (rule_texts before)) (edges_read before)
+        → AllByRecursion (HasRule (with_rule e.number item (rule_texts before))) (with_edge e before item (edges_read before))
+    by (BindingText name value) none all = all
+    by (RuleText name lines) none all = all-map (HasRule (rule_texts before)) (HasRule (rule_texts before ++ _)) (λ x. has-longer (rule_texts before) _ x) (edges_read before) all
+    by (PoolText name lines) none all = all
+    by (BuildText outputs rule inputs lines) none all = all-and (HasRule (rule_texts before)) (edge_of_build e before outputs rule inputs lines) (edges_read before) all (new-rule e before outputs rule inputs lines none)
+    by (DefaultText words) none all = all
+    by (IncludeText word) none all = all
+    by (SubninjaText word) none all = all
+
+-- ---- scopes
+
+abbrev InOpen : List ScopeText → EdgeText → Type 0
+InOpen scopes x = IsOpenScope scopes x.number x.around
+
+pub edges-open : (scopes : List ScopeText) (entries : List Entry) → AreOpen scopes entries → AllByRecursion (λ x. IsOpenScope scopes x.number x.around) (edges_read entries)
+unfolding edges_read
+edges-open scopes [] opened = tt
+edges-open scopes (e ∷ before) opened = by e.item (edges-open scopes before opened.1)
+  where
+    by : (item : StatementText) → AllByRecursion (InOpen scopes) (edges_read before) → AllByRecursion (InOpen scopes) (with_edge e before item (edges_read before))
+    by (BindingText name value) all = all
+    by (RuleText name lines) all = all
+    by (PoolText name lines) all = all
+    by (BuildText outputs rule inputs lines) all = all-and (InOpen scopes) (edge_of_build e before outputs rule inputs lines) (edges_read before) all opened.0
+    by (DefaultText words) all = all
+    by (IncludeText word) all = all
+    by (SubninjaText word) all = all
+
+-- ---- both are there
+
+pub known-details : (declarations : DeclarationsText) (edges : List EdgeText) → AllByRecursion (λ x. IsOpenScope declarations.scopes x.number x.around) edges → AllByRecursion (HasRule declarations.rules) edges
+    → AllByRecursion (IsKnown declarations) (map detail_of edges)
+known-details declarations [] opened rules = tt
+known-details declarations (x ∷ edges) opened rules = ((opened.0.there.0, slice_get_within declarations.rules x.rule rules.0.rule rules.0.rule_is), known-details declarations edges opened.1 rules.1)

@@ -1,0 +1,42 @@
+-- Scopes that were opened stay opened.
+use Rattle.std.proofs.Common.{◌≡◌, ℕ, ◌<◌, ◌≤◌, Option, List, [], ◌∷◌, length, arith, refl, ◌∙◌}
+use Rattle.std.specs.List.{AllByRecursion}
+use Rattle.nj_scope.specs.Scopes.{IsScope, outermost, child}
+use Rattle.nj_scope.specs.ScopesHeld.{ScopeText, parent_at}
+use Rattle.nj_scope.specs.ReadingList.{Entry}
+use Rattle.nj_graph.specs.Graph.{IsOpenScope}
+use Rattle.nj_graph.specs.ReaderContracts.{Grows}
+
+pub grows-self : (scopes : List ScopeText) → Grows scopes scopes
+grows-self scopes = record { count = omega arith; parents = λ n h. refl }
+
+pub grows-then : (before mid after : List ScopeText) → Grows before mid → Grows mid after → Grows before after
+grows-then before mid after p q =
+    let first = p.count in
+    let second = q.count in
+    record { count = omega (arith, first, second); parents = λ n h. q.parents n (omega (arith, h, first)) ∙ p.parents n h }
+
+scope-kept : (parent later : ℕ → Option ℕ) (count : ℕ) → ((n : ℕ) → n < count → later n ≡ parent n) → (s : ℕ) (scope : List ℕ) → IsScope parent s scope → AllByRecursion (λ n. n < count) scope → IsScope later s scope
+scope-kept parent later count same s scope (outermost h) there = outermost (same s there.0 ∙ h)
+scope-kept parent later count same s scope (child h inner) there = child (same s there.0 ∙ h) (scope-kept parent later count same _ _ inner there.1)
+
+still-there : (before after : ℕ) → before ≤ after → (ns : List ℕ) → AllByRecursion (λ n. n < before) ns → AllByRecursion (λ n. n < after) ns
+still-there before after more [] there = tt
+still-there before after more (n ∷ ns) there = (omega (arith, more, there.0), still-there before after more ns there.1)
+
+pub open-grown : (before after : List ScopeText) (number : ℕ) (around : List ℕ) → Grows before after → IsOpenScope before number around → IsOpenScope after number around
+open-grown before after number around grows stands = record {
+  within = scope-kept (parent_at before) (parent_at after) (length before) grows.parents number (number ∷ around) stands.within stands.there;
+  there = still-there (length before) (length after) grows.count (number ∷ around) stands.there;
+}
+
+-- the scopes in which statements stand
+abbrev pub AreOpen : List ScopeText → List Entry → Type 0
+AreOpen scopes entries = AllByRecursion (λ e. IsOpenScope scopes e.number e.around) entries
+
+all-grown : (before after : List ScopeText) → Grows before after → (entries : List Entry) → AreOpen before entries → AreOpen after entries
+all-grown before after grows [] opened = tt
+all-grown before after grows (e ∷ entries) opened = (open-grown before after e.number e.around grows opened.0, all-grown before after grows entries opened.1)
+
+pub open-next : (before after : List ScopeText) (e : Entry) (entries : List Entry) → Grows before after → IsOpenScope before e.number e.around → AreOpen before entries → AreOpen after (e ∷ entries)
+open-next before after e entries grows inside opened = all-grown before after grows (e ∷ entries) (inside, opened)

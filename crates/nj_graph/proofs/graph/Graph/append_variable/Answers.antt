@@ -1,0 +1,34 @@
+use Rattle.std.proofs.Common.{get_or, ◌≡◌, ◌++◌, ◌∷◌, sym, ap, subst, ◌∙◌}
+use Rattle.nj_scope.specs.Rules.{phony}
+use Rattle.nj_scope.specs.Scopes.{IsScope}
+use Rattle.nj_scope.specs.ScopesHeld.{parent_at}
+use Rattle.nj_build.proofs.Holding.{on-ok}
+use Rattle.nj_edges.specs.Edges.{edge_at}
+use Rattle.nj_edges.specs.Files.{AreFiles}
+use Rattle.nj_scope.specs.Declarations.{DeclarationsText, DeclaredBy}
+use Rattle.nj_build.specs.Built.{BuiltText, detail_at}
+use Rattle.nj_graph.specs.Graph.{GraphText}
+use Rattle.nj_graph.proofs.EdgeTexts.{edge, edge-open, detail-is, names-same, text-same}
+use Rattle.nj_graph.proofs.graph.Graph.append_variable.Goals as goal
+
+pub returns : goal.returns
+returns c = λ entries is.
+    let g : GraphText = c.args.self.now in
+    let n = c.args.edge.0 in
+    let inside : c.self.inside.declarations ≡ g.declarations = ap (λ (x : GraphText). x.declarations) c.self.view_is in
+    let built : c.self.inside.built ≡ g.built = ap (λ (x : GraphText). x.built) c.self.view_is in
+    let rule = c.index-rules-rule_number.result in
+    let e = edge g entries is n c.requires in
+    let scope = c.scope.ensures ∙ ap (λ (b : BuiltText). (detail_at b.details n).scope) built in
+    let same = names-same g entries is n c.requires c.files.result.now c.explicit_input_files.result.now c.explicit_output_files.result.now c.blocks-2.result.now c.index-rules-rule_number.result c.scope.result
+        (c.files.ensures ∙ ap (λ (b : BuiltText). b.graph.files) built)
+        (subst (λ (b : BuiltText). AreFiles b.graph.files c.explicit_input_files.result.now (edge_at b.graph.edges n).explicit_inputs) built c.explicit_input_files.ensures.files)
+        (subst (λ (b : BuiltText). AreFiles b.graph.files c.explicit_output_files.result.now (edge_at b.graph.edges n).explicit_outputs) built c.explicit_output_files.ensures.files)
+        (c.blocks-2.ensures ∙ ap (λ (b : BuiltText). b.blocks) built)
+        (c.index-rules-rule_number.is ∙ ap (λ rules. get_or rules c.rule_number.result rule) (c.rules.ensures ∙ ap (λ (d : DeclarationsText). d.rules) inside) ∙ ap (λ m. get_or g.declarations.rules m rule) (c.rule_number.ensures ∙ ap (λ (b : BuiltText). (detail_at b.details n).rule) built))
+        scope
+    in
+    on-ok c.append_late_text.result
+    (c.append_late_text.ensures entries e.around (subst (λ (d : DeclarationsText). DeclaredBy d entries) (sym inside) is.declares)
+    (subst (λ (d : DeclarationsText). IsScope (parent_at d.scopes) c.scope.result (c.scope.result ∷ e.around)) (sym inside) (subst (λ s. IsScope (parent_at g.declarations.scopes) s (s ∷ e.around)) (sym (scope ∙ ap (λ d. d.scope) (detail-is g entries is n c.requires))) (edge-open g entries is n c.requires).within)))
+    (λ appended. appended ∙ ap (λ t. c.args.out.now.items ++ t) (text-same g entries is n c.requires c.args.name.now _ same))
