@@ -2,7 +2,13 @@
 #![tactic(auto)]
 
 #[cfg(test)]
+mod builds;
+#[cfg(test)]
 mod disk;
+#[cfg(test)]
+mod files;
+#[cfg(test)]
+mod graphs;
 #[cfg(test)]
 mod loads;
 #[cfg(test)]

@@ -4,7 +4,7 @@ use std::test::*;
 
 /// The line of the first fault of the files, of which `build.ninja` is the main one;
 /// `accepted` if they have none.
-fn answer(rt: &impl AllocGlobal, source: &mut MemoryFiles) -> Result<Vec<u8>, Fail> {
+pub(crate) fn answer(rt: &impl AllocGlobal, source: &mut MemoryFiles) -> Result<Vec<u8>, Fail> {
     match load(rt.alloc(), source, "build.ninja") {
         Ok(_) => Ok(Vec::from_slice(rt.alloc(), b"accepted")?),
         Err(fault) => Ok(fault.line(rt.alloc())?),
@@ -12,7 +12,7 @@ fn answer(rt: &impl AllocGlobal, source: &mut MemoryFiles) -> Result<Vec<u8>, Fa
 }
 
 /// Each main file has the answer beside it.
-fn reports(rt: &(impl Abort + AllocGlobal), rows: &[(&[u8], &str)]) -> Result<(), Fail> {
+pub(crate) fn reports(rt: &(impl Abort + AllocGlobal), rows: &[(&[u8], &str)]) -> Result<(), Fail> {
     for (main, want) in rows {
         let mut source = MemoryFiles::new(rt.alloc());
         source.add("build.ninja", main)?;
@@ -23,7 +23,7 @@ fn reports(rt: &(impl Abort + AllocGlobal), rows: &[(&[u8], &str)]) -> Result<()
 }
 
 /// Each main file with a file `s` has the answer beside them.
-fn reports_with_s(
+pub(crate) fn reports_with_s(
     rt: &(impl Abort + AllocGlobal),
     rows: &[(&str, &str, &str)],
 ) -> Result<(), Fail> {
@@ -62,13 +62,10 @@ fn chain(rt: &impl AllocGlobal, subninjas: usize, last: &[u8]) -> Result<MemoryF
 }
 
 #[test]
-fn build_and_default_are_not_read_yet(rt: HostRuntime) -> Result<(), Fail> {
+fn reports_the_syntax_of_build_and_default_first(rt: HostRuntime) -> Result<(), Fail> {
     reports(
         &rt,
         &[
-            (b"\nbuild a: r", "build.ninja:2:1: not read yet"),
-            (b"v = a\ndefault a", "build.ninja:2:1: not read yet"),
-            // syntax first
             (b"build a", "build.ninja:1:8: expected ':'"),
             (b"build a: r\n  v", "build.ninja:2:4: expected '='"),
             (b"default a:", "build.ninja:1:10: expected newline"),
@@ -409,7 +406,11 @@ fn reports_the_first_fault_of_the_files(rt: HostRuntime) -> Result<(), Fail> {
                 "pool p\n  depth =",
                 "s:2:3: invalid pool depth",
             ),
-            ("subninja s\nbuild a: r", "default a", "s:1:1: not read yet"),
+            (
+                "subninja s\nbuild a: r",
+                "default a",
+                "s:1:9: unknown target 'a'",
+            ),
         ],
     )
 }
@@ -482,15 +483,11 @@ fn at_most_32_files_are_open(rt: HostRuntime) -> Result<(), Fail> {
     Ok(())
 }
 
-/// The rules that are listed of a main file, a line each; after ` = ` the description, if there is
-/// one.
-fn listing(rt: &impl AllocGlobal, main: &[u8]) -> Result<Vec<u8>, Fail> {
-    let mut source = MemoryFiles::new(rt.alloc());
-    source.add("build.ninja", main)?;
-    source.add("s", b"rule ar\n  command = a\n")?;
-    let loaded = load(rt.alloc(), &mut source, "build.ninja")
+/// The rules that are listed of files, a line each; after ` = ` the description, if there is one.
+pub(crate) fn listed(rt: &impl AllocGlobal, source: &mut MemoryFiles) -> Result<Vec<u8>, Fail> {
+    let loaded = load(rt.alloc(), source, "build.ninja")
         .ok()
-        .ok_or("it has no fault")?;
+        .ok_or("they have no fault")?;
     let graph: &Graph = loaded.graph();
     let mut text = Vec::new(rt.alloc());
     'rules: for index in 0..graph.main_rule_count() {
@@ -502,6 +499,14 @@ fn listing(rt: &impl AllocGlobal, main: &[u8]) -> Result<Vec<u8>, Fail> {
         text.push(b'\n')?;
     }
     Ok(text)
+}
+
+/// The rules that are listed of a main file, beside a file `s` that declares one.
+fn listing(rt: &impl AllocGlobal, main: &[u8]) -> Result<Vec<u8>, Fail> {
+    let mut source = MemoryFiles::new(rt.alloc());
+    source.add("build.ninja", main)?;
+    source.add("s", b"rule ar\n  command = a\n")?;
+    listed(rt, &mut source)
 }
 
 #[test]
