@@ -42,10 +42,3 @@ pub use quotes::quote_into;
 pub use sign::{LineStart, Sign};
 pub use spot::Spot;
 pub use word::{Part, Word};
-
-#[cfg(test)]
-mod path_tests;
-#[cfg(test)]
-mod quote_tests;
-#[cfg(test)]
-mod tests;

@@ -1,0 +1,9 @@
+//! Tests of the libraries below, a module for each, by their public calls.
+//!
+//! What a call answers is made into text, and compared with the text that is wanted.
+#![tactic(auto)]
+
+#[cfg(test)]
+mod text;
+#[cfg(test)]
+mod words;

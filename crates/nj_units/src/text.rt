@@ -1,0 +1,577 @@
+//! Tests of `nj_text`.
+//!
+//! How a text is read is said by steps: the calls of a lexer, each with its answer. The calls are
+//! `line`, `ident`, `word`, `value`, `spot`, and a sign, of which `newline` is the line's end. The
+//! call `stays` stands for each of them, twice, where they answer one and the same fault.
+
+use crate::words::{ascii, put_spot, put_word};
+use nj_text::{
+    LexFault, Lexer, LineStart, Sign, TextFault, UnitFault, Word, clean_into, clean_path, is_clean,
+    leading_number, quote_into, version_of,
+};
+use std::alloc::{AllocError, Global};
+use std::process::Abort;
+use std::test::Fail;
+
+fn put_fault(text: &mut String, fault: LexFault) -> Result<(), AllocError> {
+    let (kind, spot) = match fault {
+        LexFault::Unit(UnitFault::BadByte(spot)) => ("bad byte ", spot),
+        LexFault::Unit(UnitFault::Tab(spot)) => ("tab ", spot),
+        LexFault::Unit(UnitFault::BadEscape(spot)) => ("bad escape ", spot),
+        LexFault::OutOfMemory => return Err(AllocError),
+    };
+    text.push_str(kind)?;
+    put_spot(text, spot)
+}
+
+fn put_line(text: &mut String, answer: Result<LineStart, LexFault>) -> Result<(), AllocError> {
+    match answer {
+        Ok(LineStart::End) => text.push_str("end"),
+        Ok(LineStart::Blank) => text.push_str("blank"),
+        Ok(LineStart::Indented) => text.push_str("indented"),
+        Ok(LineStart::Plain) => text.push_str("plain"),
+        Ok(LineStart::Middle) => text.push_str("middle"),
+        Err(fault) => put_fault(text, fault),
+    }
+}
+
+fn put_ident(text: &mut String, answer: Result<Option<&[u8]>, LexFault>) -> Result<(), AllocError> {
+    match answer {
+        Ok(Some(name)) => text.push_str(ascii(name)),
+        Ok(None) => text.push_str("none"),
+        Err(fault) => put_fault(text, fault),
+    }
+}
+
+fn put_path_word(
+    text: &mut String,
+    answer: Result<Option<Word<'_>>, LexFault>,
+) -> Result<(), AllocError> {
+    match answer {
+        Ok(Some(word)) => put_word(text, &word),
+        Ok(None) => text.push_str("none"),
+        Err(fault) => put_fault(text, fault),
+    }
+}
+
+fn put_value(text: &mut String, answer: Result<Word<'_>, LexFault>) -> Result<(), AllocError> {
+    match answer {
+        Ok(value) => put_word(text, &value),
+        Err(fault) => put_fault(text, fault),
+    }
+}
+
+/// Whether each call answers the fault, and the lexer stands at its place.
+fn is_kept(alloc: Global, lexer: &mut Lexer<'_>, unit: UnitFault) -> bool {
+    let fault = LexFault::Unit(unit);
+    lexer.start_line() == Err(fault)
+        && lexer.ident() == Err(fault)
+        && lexer.sign(Sign::LineEnd) == Err(fault)
+        && lexer.path_word(alloc).err() == Some(fault)
+        && lexer.value(alloc).err() == Some(fault)
+        && lexer.spot() == unit.spot()
+}
+
+/// The fault that each call answers from now on.
+fn put_kept(alloc: Global, text: &mut String, lexer: &mut Lexer<'_>) -> Result<(), AllocError> {
+    match lexer.start_line() {
+        Err(LexFault::Unit(unit)) if is_kept(alloc, lexer, unit) && is_kept(alloc, lexer, unit) => {
+            put_fault(text, LexFault::Unit(unit))
+        }
+        _ => text.push_str("no"),
+    }
+}
+
+fn put_sign(text: &mut String, lexer: &mut Lexer<'_>, sign: Sign) -> Result<(), AllocError> {
+    match lexer.sign(sign) {
+        Ok(true) => text.push_str("yes"),
+        Ok(false) => text.push_str("no"),
+        Err(fault) => put_fault(text, fault),
+    }
+}
+
+/// Makes a call, and appends what it answers.
+fn put_answer(
+    alloc: Global,
+    text: &mut String,
+    lexer: &mut Lexer<'_>,
+    call: &str,
+) -> Result<(), AllocError> {
+    match call {
+        "line" => put_line(text, lexer.start_line()),
+        "ident" => put_ident(text, lexer.ident()),
+        "word" => put_path_word(text, lexer.path_word(alloc)),
+        "value" => put_value(text, lexer.value(alloc)),
+        "spot" => put_spot(text, lexer.spot()),
+        "stays" => put_kept(alloc, text, lexer),
+        ":" => put_sign(text, lexer, Sign::Colon),
+        "=" => put_sign(text, lexer, Sign::Equals),
+        "|" => put_sign(text, lexer, Sign::Pipe),
+        "||" => put_sign(text, lexer, Sign::Pipe2),
+        "|@" => put_sign(text, lexer, Sign::PipeAt),
+        "newline" => put_sign(text, lexer, Sign::LineEnd),
+        _ => text.push_str("no call"),
+    }
+}
+
+/// Makes the call of a step, and appends the step with what the call answers.
+fn put_step(
+    alloc: Global,
+    text: &mut String,
+    lexer: &mut Lexer<'_>,
+    step: &str,
+) -> Result<(), AllocError> {
+    let call = match step.split_once(' ') {
+        Some((call, _answer)) => call,
+        None => step,
+    };
+    if !text.as_str().is_empty() {
+        text.push_str(", ")?;
+    }
+    text.push_str(call)?;
+    text.push(' ')?;
+    put_answer(alloc, text, lexer, call)
+}
+
+/// The steps with what the calls answer.
+fn answered(alloc: Global, text: &[u8], steps: &str) -> Result<String, AllocError> {
+    let mut lexer = Lexer::new(text);
+    let mut found = String::new(alloc);
+    'steps: for step in steps.split(", ") {
+        put_step(alloc, &mut found, &mut lexer, step)?;
+    }
+    Ok(found)
+}
+
+/// Each text is read in the steps beside it.
+fn reads(rt: &(impl Abort + AllocGlobal), rows: &[(&[u8], &str)]) -> Result<(), Fail> {
+    'rows: for (text, steps) in rows {
+        let found = answered(rt.alloc(), text, steps)?;
+        assert_eq!(rt; found.as_str(), *steps);
+    }
+    Ok(())
+}
+
+#[test]
+fn lines_of_a_build_file(rt: HostRuntime) -> Result<(), Fail> {
+    reads(
+        &rt,
+        &[(
+            b"rule mk\n  command = mk $in\n\nbuild d: mk b1 b2\r\n",
+            "line plain, ident rule, ident mk, newline yes, line indented, \
+                ident command, = yes, value 2:13[mk ]${in}, newline yes, line blank, \
+                line plain, ident build, word 4:7[d], word none, : yes, ident mk, \
+                word 4:13[b1], spot 4:15, word 4:16[b2], word none, newline yes, line end, \
+                spot 5:1",
+        )],
+    )
+}
+
+#[test]
+fn words_with_escapes(rt: HostRuntime) -> Result<(), Fail> {
+    reads(
+        &rt,
+        &[(
+            b"build o$ 1: cp it's$ x",
+            "line plain, ident build, word 1:7[o][ ][1], word none, : yes, ident cp, \
+                word 1:16[it's][ ][x], word none, newline yes, line end",
+        )],
+    )
+}
+
+#[test]
+fn joined_words(rt: HostRuntime) -> Result<(), Fail> {
+    reads(
+        &rt,
+        &[
+            (
+                b"build o: cp a$\n  b",
+                "line plain, ident build, word 1:7[o], : yes, ident cp, word 1:13[a][b], \
+                word none, spot 2:4",
+            ),
+            (
+                b"build o: cp a $\n  b",
+                "line plain, ident build, word 1:7[o], : yes, ident cp, word 1:13[a], \
+                word 2:3[b], word none",
+            ),
+        ],
+    )
+}
+
+#[test]
+fn references(rt: HostRuntime) -> Result<(), Fail> {
+    reads(
+        &rt,
+        &[(
+            b"${b.c}d$e-f.g|$$#$:",
+            "line plain, word 1:1${b.c}[d]${e-f}[.g], | yes, word 1:15[$][#][:]",
+        )],
+    )
+}
+
+#[test]
+fn identifiers(rt: HostRuntime) -> Result<(), Fail> {
+    reads(
+        &rt,
+        &[(
+            b"a-b_C.9  d/e:",
+            "line plain, ident a-b_C.9, spot 1:8, ident d, ident none, word 1:11[/e], \
+                ident none, : yes",
+        )],
+    )
+}
+
+#[test]
+fn values(rt: HostRuntime) -> Result<(), Fail> {
+    reads(
+        &rt,
+        &[
+            (
+                b"x =  a $b  c$:  \ny",
+                "line plain, ident x, = yes, value 1:6[a ]${b}[  c][:][  ], spot 1:17, \
+                value 1:17, newline yes, spot 2:1",
+            ),
+            (
+                b"x = a$\n   b : c | $\r\nd",
+                "line plain, ident x, = yes, value 1:5[a][b : c | ][d], newline yes, line end",
+            ),
+            (
+                b"x =  \r\n",
+                "line plain, ident x, = yes, value 1:6, newline yes, line end",
+            ),
+        ],
+    )
+}
+
+#[test]
+fn signs(rt: HostRuntime) -> Result<(), Fail> {
+    reads(
+        &rt,
+        &[
+            (
+                b"| || |@ |||",
+                "line plain, || no, |@ no, | yes, | no, |@ no, || yes, | no, || no, |@ yes, \
+                | no, || yes, | yes, newline yes",
+            ),
+            (
+                b"a: =b",
+                "line plain, : no, ident a, = no, newline no, : yes, spot 1:3, = yes, \
+                spot 1:5",
+            ),
+        ],
+    )
+}
+
+#[test]
+fn empty_text(rt: HostRuntime) -> Result<(), Fail> {
+    reads(
+        &rt,
+        &[(
+            b"",
+            "ident none, newline no, word none, value 1:1, line end, spot 1:1, \
+                newline no, line end",
+        )],
+    )
+}
+
+#[test]
+fn line_starts(rt: HostRuntime) -> Result<(), Fail> {
+    reads(
+        &rt,
+        &[
+            (
+                b"a",
+                "ident none, word none, newline no, value 1:1, spot 1:1, line plain, \
+                line middle, ident a, line middle, newline yes, newline no, ident none, \
+                line end",
+            ),
+            (
+                b"$\n  a = b\nc",
+                "line plain, spot 1:1, ident none, word none, newline no, spot 1:1, \
+                line middle, value 2:3[a = b], spot 2:8, newline yes, spot 3:1",
+            ),
+            (b"$\n$\n a", "line plain, value 3:2[a]"),
+            (
+                b"r\n  a\n   $\n b",
+                "line plain, ident r, newline yes, line indented, spot 2:3, ident a, \
+                newline yes, line indented, spot 3:4, ident b, spot 4:3",
+            ),
+        ],
+    )
+}
+
+#[test]
+fn comments(rt: HostRuntime) -> Result<(), Fail> {
+    reads(
+        &rt,
+        &[
+            (
+                b"a\n  # $! \0",
+                "line plain, ident a, newline yes, spot 2:1, line end, spot 2:9",
+            ),
+            (
+                b"# c\n#\r\n \r\na # b",
+                "line blank, spot 4:1, line plain, ident a, word 4:3[#], word 4:5[b]",
+            ),
+            (b"a $\n# b", "line plain, ident a, word 2:1[#], word 2:3[b]"),
+        ],
+    )
+}
+
+#[test]
+fn last_line_of_spaces(rt: HostRuntime) -> Result<(), Fail> {
+    reads(
+        &rt,
+        &[(
+            b"a\r\n   ",
+            "line plain, ident a, newline yes, spot 2:1, line blank, spot 2:4, line end",
+        )],
+    )
+}
+
+#[test]
+fn bad_escapes_in_a_value(rt: HostRuntime) -> Result<(), Fail> {
+    reads(
+        &rt,
+        &[
+            (
+                b"x = $!",
+                "line plain, ident x, = yes, value bad escape 1:5, stays bad escape 1:5",
+            ),
+            (
+                b"x = $",
+                "line plain, ident x, = yes, value bad escape 1:5, stays bad escape 1:5",
+            ),
+        ],
+    )
+}
+
+#[test]
+fn bad_byte_in_a_value(rt: HostRuntime) -> Result<(), Fail> {
+    reads(
+        &rt,
+        &[(
+            b"x = a b\0$!",
+            "line plain, ident x, = yes, value bad byte 1:8, stays bad byte 1:8",
+        )],
+    )
+}
+
+#[test]
+fn tabs(rt: HostRuntime) -> Result<(), Fail> {
+    reads(
+        &rt,
+        &[
+            (
+                b"rule r\n\tcommand = x",
+                "line plain, ident rule, ident r, newline yes, line tab 2:1, stays tab 2:1",
+            ),
+            (
+                b"r\n  \t# c",
+                "line plain, ident r, newline yes, line tab 2:3, stays tab 2:3",
+            ),
+        ],
+    )
+}
+
+#[test]
+fn bad_escape_in_a_word(rt: HostRuntime) -> Result<(), Fail> {
+    reads(
+        &rt,
+        &[(
+            b"build o $\n  a$!b",
+            "line plain, ident build, word 1:7[o], word bad escape 2:4, stays bad escape 2:4",
+        )],
+    )
+}
+
+#[test]
+fn bad_bytes(rt: HostRuntime) -> Result<(), Fail> {
+    reads(
+        &rt,
+        &[
+            (
+                b"build o \rb",
+                "line plain, ident build, word 1:7[o], word bad byte 1:9, stays bad byte 1:9",
+            ),
+            (
+                b"x \0",
+                "line plain, ident x, ident bad byte 1:3, stays bad byte 1:3",
+            ),
+        ],
+    )
+}
+
+#[test]
+fn open_references(rt: HostRuntime) -> Result<(), Fail> {
+    reads(
+        &rt,
+        &[
+            (
+                b"x ${}",
+                "line plain, ident x, : bad escape 1:3, stays bad escape 1:3",
+            ),
+            (
+                b"x${y",
+                "line plain, ident x, newline bad escape 1:2, stays bad escape 1:2",
+            ),
+        ],
+    )
+}
+
+/// What the bytes say by this call, as bytes.
+fn said(alloc: Global, call: &str, bytes: &[u8]) -> Result<Vec<u8>, AllocError> {
+    match call {
+        "number" => match leading_number(bytes) {
+            Some(number) => Ok(format!(in alloc; "{number}")?.into_bytes()),
+            None => Vec::from_slice(alloc, b"none"),
+        },
+        "version" => {
+            let (major, minor) = version_of(bytes);
+            Ok(format!(in alloc; "{major}.{minor}")?.into_bytes())
+        }
+        "clean" => match clean_path(alloc, bytes) {
+            Ok(path) => Ok(path),
+            Err(TextFault::EmptyPath) => Vec::from_slice(alloc, b"empty path"),
+            Err(TextFault::OutOfMemory) => Err(AllocError),
+        },
+        _ => {
+            let mut out = Vec::new(alloc);
+            quote_into(&mut out, bytes)?;
+            Ok(out)
+        }
+    }
+}
+
+/// Each text says by the call what stands beside it.
+fn says(rt: &(impl Abort + AllocGlobal), call: &str, rows: &[(&[u8], &[u8])]) -> Result<(), Fail> {
+    'rows: for (text, want) in rows {
+        let found = said(rt.alloc(), call, text)?;
+        assert_eq!(rt; found.as_slice(), *want);
+    }
+    Ok(())
+}
+
+#[test]
+fn numbers_at_the_front(rt: HostRuntime) -> Result<(), Fail> {
+    says(
+        &rt,
+        "number",
+        &[
+            (b"451", b"451"),
+            (b"2x", b"2"),
+            (b"007", b"7"),
+            (b"0", b"0"),
+            (b"12 34", b"12"),
+            (b"9:", b"9"),
+            (b"", b"none"),
+            (b"-1", b"none"),
+            (b"+1", b"none"),
+            (b" 1", b"none"),
+            (b"/1", b"none"),
+            // the greatest number
+            (b"18446744073709551615", b"18446744073709551615"),
+            (b"18446744073709551616", b"18446744073709551615"),
+            (b"100000000000000000000000000007", b"18446744073709551615"),
+        ],
+    )
+}
+
+#[test]
+fn versions(rt: HostRuntime) -> Result<(), Fail> {
+    says(
+        &rt,
+        "version",
+        &[
+            (b"1.8.2", b"1.8"),
+            (b"1.11", b"1.11"),
+            (b"1", b"1.0"),
+            (b"1.", b"1.0"),
+            (b".5", b"0.5"),
+            (b"1..5", b"1.0"),
+            (b"x.5", b"0.5"),
+            (b"1rc.5git", b"1.5"),
+            (b" 1.5", b"0.5"),
+            (b"1. 5", b"1.0"),
+            (b"01.011", b"1.11"),
+            (b"", b"0.0"),
+            (b"1.18446744073709551616", b"1.18446744073709551615"),
+            (b"18446744073709551616.1", b"18446744073709551615.1"),
+        ],
+    )
+}
+
+const PATHS: [(&[u8], &[u8]); 18] = [
+    (b"foo//.//..///bar", b"bar"),
+    (b"./x/../foo/../../bar.h", b"../bar.h"),
+    (b"a/..", b"."),
+    (b"/..", b"/"),
+    (b"foo/", b"foo"),
+    (b"/", b"/"),
+    (b"//", b"/"),
+    (b"..", b".."),
+    (b"../..", b"../.."),
+    (b"../../a/../b", b"../../b"),
+    (b"a/../..", b".."),
+    (b".", b"."),
+    (b"./.", b"."),
+    (b"src/a.c", b"src/a.c"),
+    (b"/usr/lib", b"/usr/lib"),
+    (b".a/..b/...", b".a/..b/..."),
+    (b"a/b/../../c", b"c"),
+    (b"/../a/../../b", b"/b"),
+];
+
+#[test]
+fn clean_paths(rt: HostRuntime) -> Result<(), Fail> {
+    says(&rt, "clean", &PATHS)?;
+    says(&rt, "clean", &[(b"", b"empty path")])
+}
+
+#[test]
+fn only_clean_paths_are_clean(rt: HostRuntime) {
+    for (path, clean) in &PATHS {
+        assert_eq!(rt; is_clean(path), path == clean);
+    }
+    assert!(rt; !is_clean(b""));
+}
+
+#[test]
+fn clean_paths_are_appended(rt: HostRuntime) {
+    let mut out = Vec::new(rt.alloc());
+    let answers = [
+        clean_into(&mut out, b"a/./b"),
+        clean_into(&mut out, b"../c"),
+        clean_into(&mut out, b""),
+        clean_into(&mut out, b"/.."),
+    ];
+    assert!(rt; answers == [Ok(()), Ok(()), Err(TextFault::EmptyPath), Ok(())]);
+    assert_eq!(rt; out.as_slice(), b"a/b../c/".as_slice());
+}
+
+#[test]
+fn quotes(rt: HostRuntime) -> Result<(), Fail> {
+    says(
+        &rt,
+        "quote",
+        &[
+            (b"", b""),
+            (b"out/a-b_c+d.o", b"out/a-b_c+d.o"),
+            (b"o 1", b"'o 1'"),
+            (b"it's x", b"'it'\\''s x'"),
+            (b"'", b"''\\'''"),
+            (b"a''b", b"'a'\\'''\\''b'"),
+            (b"a'", b"'a'\\'''"),
+            (b"~", b"'~'"),
+            (b"a\xff", b"'a\xff'"),
+        ],
+    )
+}
+
+#[test]
+fn quotes_are_appended(rt: HostRuntime) {
+    let mut out = Vec::new(rt.alloc());
+    let answers = [quote_into(&mut out, b"a b"), quote_into(&mut out, b"c")];
+    assert!(rt; answers == [Ok(()), Ok(())]);
+    assert_eq!(rt; out.as_slice(), b"'a b'c".as_slice());
+}
