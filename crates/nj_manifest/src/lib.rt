@@ -28,6 +28,3 @@ pub use laws::{
 pub use nj_text::{LexFault, Part, Spot, UnitFault, Word};
 pub use parser::Parser;
 pub use statement::{Line, Placed, Statement};
-
-#[cfg(test)]
-mod tests;

@@ -4,6 +4,8 @@
 #![tactic(auto)]
 
 #[cfg(test)]
+mod manifest;
+#[cfg(test)]
 mod text;
 #[cfg(test)]
 mod words;
