@@ -21,6 +21,3 @@ pub use nj_hash::HashKeys;
 pub use rule::Rule;
 pub use source::{FileSource, SourceFault};
 pub use table::FileTable;
-
-#[cfg(test)]
-mod tests;

@@ -6,6 +6,8 @@
 #[cfg(test)]
 mod manifest;
 #[cfg(test)]
+mod scope;
+#[cfg(test)]
 mod text;
 #[cfg(test)]
 mod words;
