@@ -6,6 +6,8 @@
 #[cfg(test)]
 mod manifest;
 #[cfg(test)]
+mod order;
+#[cfg(test)]
 mod scope;
 #[cfg(test)]
 mod text;

@@ -1,6 +1,6 @@
 use Rattle.std.proofs.Common.{◌≡◌, ℕ, ◌*◌, ◌<◌, ◌≤◌, Some, None, length}
 use Rattle.std.specs.Prelude.{All, slice_index, slice_index_or}
-use Rattle.nj_order.proofs.check.tests.first_of.Given as goal
+use Rattle.nj_units.proofs.order.first_of.Given as goal
 
 abbrev pub invariant-rows : goal.invariant-rows
 invariant-rows l = record {
