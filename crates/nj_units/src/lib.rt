@@ -4,6 +4,10 @@
 #![tactic(auto)]
 
 #[cfg(test)]
+mod edges;
+#[cfg(test)]
+mod graphs;
+#[cfg(test)]
 mod manifest;
 #[cfg(test)]
 mod order;
