@@ -7,6 +7,3 @@ mod numbers;
 
 pub use laws::{said_marks_are_written, written_marks_are_said};
 pub use marks::{Mark, MarkTextFault};
-
-#[cfg(test)]
-mod tests;

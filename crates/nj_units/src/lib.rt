@@ -10,6 +10,8 @@ mod graphs;
 #[cfg(test)]
 mod manifest;
 #[cfg(test)]
+mod marks;
+#[cfg(test)]
 mod order;
 #[cfg(test)]
 mod scope;
