@@ -15,6 +15,3 @@ pub use fault::MarkFault;
 pub use laws::{order_law, place_law};
 pub use needs::Needs;
 pub use nj_marks::{Mark, MarkTextFault};
-
-#[cfg(test)]
-mod tests;

@@ -12,6 +12,8 @@ mod manifest;
 #[cfg(test)]
 mod marks;
 #[cfg(test)]
+mod needs;
+#[cfg(test)]
 mod order;
 #[cfg(test)]
 mod scope;

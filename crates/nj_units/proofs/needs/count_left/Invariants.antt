@@ -1,5 +1,5 @@
 use Rattle.std.proofs.Common.{length}
-use Rattle.nj_needs.proofs.tests.rest.Given as goal
+use Rattle.nj_units.proofs.needs.count_left.Given as goal
 
 abbrev pub decreases-edges : goal.decreases-edges
 decreases-edges l = length l.needs.left
