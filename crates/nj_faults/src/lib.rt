@@ -5,6 +5,3 @@ mod fault;
 mod fault_line;
 
 pub use fault::{Cause, GraphFault, Name, Place};
-
-#[cfg(test)]
-mod tests;

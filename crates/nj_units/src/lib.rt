@@ -6,6 +6,8 @@
 #[cfg(test)]
 mod edges;
 #[cfg(test)]
+mod faults;
+#[cfg(test)]
 mod graphs;
 #[cfg(test)]
 mod manifest;
