@@ -5,6 +5,3 @@ mod blocks;
 mod bounds;
 
 pub use blocks::Blocks;
-
-#[cfg(test)]
-mod tests;

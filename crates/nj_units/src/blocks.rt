@@ -1,6 +1,8 @@
-use super::*;
+//! Tests of `nj_blocks`.
+
+use nj_blocks::Blocks;
 use nj_scope::HashKeys;
-use std::test::*;
+use std::test::Fail;
 
 #[test]
 fn the_last_binding_of_a_block_counts(rt: HostRuntime) -> Result<(), Fail> {
