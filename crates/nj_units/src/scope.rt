@@ -321,12 +321,18 @@ fn has_three_rules(rt: &impl Abort, rules: &[Rule]) {
     assert_eq!(rt; rules[2].scope(), 1);
 }
 
+fn nearest_rules(rt: &(impl Abort + AllocGlobal), declared: &mut Declarations) -> Result<(), Fail>
+    requires { 0 < length declared.old.scopes }
+{
+    declares_rules(rt, rt.alloc(), declared)?;
+    has_three_rules(rt, declared.rules());
+    Ok(())
+}
+
 #[test]
 fn the_nearest_rule_is_in_force(rt: HostRuntime) -> Result<(), Fail> {
     let mut declared = Declarations::new(rt.alloc(), HashKeys::default())?;
-    let answer = declares_rules(&rt, rt.alloc(), &mut declared);
-    has_three_rules(&rt, declared.rules());
-    answer
+    nearest_rules(&rt, &mut declared)
 }
 
 /// A rule `cc` of scope 2 with this command.
