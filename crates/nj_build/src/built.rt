@@ -238,23 +238,3 @@ impl Built {
         }
     }
 }
-
-#[cfg(test)]
-mod tests {
-    use super::*;
-    use nj_scope::HashKeys;
-    use std::test::Fail;
-
-    #[test]
-    fn no_statements_come_to_no_edges(rt: HostRuntime) -> Result<(), Fail> {
-        let building = Building::new(rt.alloc(), HashKeys::default());
-        let Ok(built) = building.finish(rt.alloc()) else {
-            return Err(Fail::from("no edge lies on a cycle"));
-        };
-        assert_eq!(rt; built.edge_count(), 0);
-        assert_eq!(rt; built.file_count(), 0);
-        assert!(rt; built.defaults().is_empty());
-        assert!(rt; built.file_named(b"a").is_none());
-        Ok(())
-    }
-}

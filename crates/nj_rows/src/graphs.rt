@@ -185,7 +185,8 @@ fn defaults(rt: &impl AllocGlobal, main: &[u8]) -> Result<Vec<u8>, Fail> {
 #[test]
 fn roots_are_the_defaults_where_no_line_names_any(rt: HostRuntime) -> Result<(), Fail> {
     for (main, want) in [
-        (b"build b a: phony c\nbuild c: phony".as_slice(), " b a; b a"),
+        (b"v = 1".as_slice(), ";"),
+        (b"build b a: phony c\nbuild c: phony", " b a; b a"),
         (
             b"build b a: phony c\nbuild c: phony s\ndefault c\ndefault s c",
             " b a; c s c",

@@ -10,7 +10,7 @@ use std::test::Fail;
 /// The edge of a cycle among these, if there is one.
 fn cycle_of(alloc: Global, text: &str) -> Result<Option<usize>, AllocError> {
     match finished(alloc, text)? {
-        Finished::Cycle(edge) => Ok(Some(edge.0)),
+        Finished::Cycle(cycle) => Ok(Some(cycle.edge.0)),
         Finished::Graph(_graph) => Ok(None),
     }
 }
