@@ -5,6 +5,7 @@ pub mod Faultless
 pub mod Found
 pub mod GraphRows
 pub mod Holding
+pub mod LaterBindings
 pub mod ListedLemmas
 pub mod MainFiles
 pub mod NameLemmas

@@ -1,6 +1,6 @@
 //! Laws of the reading of files.
 
-ghost use Rattle.nj_graph.specs.Laws.{ReadIsFaultless, OpenFilesAreBounded, OpeningsAreBounded, OthersAreNotRead, MainRulesRise};
+ghost use Rattle.nj_graph.specs.Laws.{ReadIsFaultless, OpenFilesAreBounded, OpeningsAreBounded, OthersAreNotRead, MainRulesRise, LaterBindingsCount, LaterBindingsChangeNoEdge};
 
 /// What holds of the statements that are read of a run's files up to the first fault: none of them
 /// has a fault by those before it, so that the rules of the main scope have names of their own; at
@@ -12,4 +12,12 @@ pub fn statements_up_to_the_first_fault()
     ensures openings { OpeningsAreBounded }
     ensures others { OthersAreNotRead }
     ensures rules { MainRulesRise }
+{}
+
+/// A value that a file binds after the statement of an edge counts for the command of the edge, and
+/// for no path of it ("Variable expansion" in the Ninja manual): paths are expanded where they
+/// stand, and so are the pool and the dyndep file, whose faults are found there.
+pub fn bindings_after_an_edge()
+    ensures count { LaterBindingsCount }
+    ensures edges { LaterBindingsChangeNoEdge }
 {}

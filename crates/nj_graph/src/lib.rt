@@ -13,7 +13,7 @@ mod reader;
 mod targets;
 
 pub use graph::{Graph, rules_by_name};
-pub use laws::statements_up_to_the_first_fault;
+pub use laws::{bindings_after_an_edge, statements_up_to_the_first_fault};
 pub use loading::{Loaded, load};
 pub use nj_build::PlaceRef;
 pub use nj_edges::{EdgeNo, FileNo, InputKind};
