@@ -13,29 +13,31 @@ TIME = shutil.which("time")
 
 
 class Run:
-    """A run of a program in a folder, with a file as standard input; without one it has none."""
+    """A run of a program in a folder, with a file as standard input; without one it has none. It must end with the status."""
 
-    def __init__(self, words, stdin=os.devnull, folder=None):
-        with open(stdin, "rb") as file, tempfile.NamedTemporaryFile("r") as told:
-            counting = [TIME, "-f", "%M", "-o", told.name] if TIME else []
+    def __init__(self, words, stdin=os.devnull, folder=None, status=0):
+        with open(stdin, "rb") as file, tempfile.NamedTemporaryFile("r") as told, tempfile.TemporaryFile() as errors:
+            counting = [TIME, "-q", "-f", "%M", "-o", told.name] if TIME else []
             start = time.perf_counter()
-            process = subprocess.Popen([*counting, *words], stdin=file, stdout=subprocess.PIPE, cwd=folder)
+            process = subprocess.Popen([*counting, *words], stdin=file, stdout=subprocess.PIPE, stderr=errors, cwd=folder)
             self.output = process.stdout.read()
-            _, status, usage = os.wait4(process.pid, 0)
+            _, ended, usage = os.wait4(process.pid, 0)
             self.seconds = time.perf_counter() - start
-            process.returncode = os.waitstatus_to_exitcode(status)
-            if process.returncode != 0:
-                raise SystemExit(f"{words[0]} ended with status {process.returncode}")
+            process.returncode = os.waitstatus_to_exitcode(ended)
+            errors.seek(0)
+            self.errors = errors.read()
+            if process.returncode != status:
+                raise SystemExit(f"{words[0]} ended with status {process.returncode}: {self.errors.decode(errors='replace')}")
             self.processor_seconds = usage.ru_utime + usage.ru_stime
             self.memory = 1024 * int(told.read() if TIME else usage.ru_maxrss)
 
 
-def measure(programs, rounds, stdin=os.devnull, folder=None):
+def measure(programs, rounds, stdin=os.devnull, folder=None, status=0):
     """The runs of each program, taken in turn."""
     runs = {name: [] for name in programs}
     for _ in range(rounds):
         for name, words in programs.items():
-            runs[name].append(Run(words, stdin, folder))
+            runs[name].append(Run(words, stdin, folder, status))
     return runs
 
 
