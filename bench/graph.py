@@ -1,0 +1,193 @@
+#!/usr/bin/env python3
+"""Measures what it takes to load whole manifests into a graph:
+
+    graph.py PROGRAM [--before OLD] [--sizes N,M] [--hard N,M] [--shapes cmake,chain] [--rounds N]
+             [--quick]
+
+PROGRAM loads build.ninja of the folder that it runs in, as crates/load_bench does. In one run, on
+the same files, it stands beside `ninja -t rules`, which builds its graph before it lists the rules,
+and beside another program of the same kind, which --before names. Each is run three times in turn,
+or N times, and the best times count: by the clock, and of the processor; of memory the most. The
+sizes of a shape are taken in turn too. The files are made in a temporary folder.
+
+The shapes are those of manifest.py, at the sizes of --sizes, and those of shapes.py, which hurt a
+careless reader, at the sizes of --hard. Where a file has a dependency cycle, the program has to say
+so, with the right place and path, and Ninja is left out: `ninja -t rules` looks for none. --quick
+takes smaller sizes and fewer rounds. In the end the aims that were missed are listed.
+"""
+
+import argparse
+import os
+import shutil
+import tempfile
+
+from manifest import SHAPES as MANIFESTS, write_manifest
+from runs import MB, Run, best, measure
+from shapes import SHAPES, cycle_line, write_shape
+
+ROUNDS = 3
+SIZES = [20_000, 100_000]
+HARD = [100_000, 1_000_000]
+QUICK_ROUNDS = 2
+QUICK_SIZES = [5_000, 20_000]
+QUICK_HARD = [10_000, 100_000]
+
+# Shapes with N edges of a rule that has N references, of which fewer are made.
+FEWER = {"bound": 200, "pool-line": 200}
+
+NINJA = "ninja -t rules"
+TIME_AIM = 0.45
+MEMORY_AIM = 0.9
+GROWTH_AIM = 1.15
+
+
+def make(folder, shape, count):
+    """Writes build.ninja of the shape into a folder of its own. Gives this folder."""
+    place = os.path.join(folder, str(count))
+    os.mkdir(place)
+    with open(os.path.join(place, "build.ninja"), "w") as file:
+        if shape in MANIFESTS:
+            write_manifest(count, file, shape)
+        else:
+            write_shape(count, file, shape)
+    return place
+
+
+def check(program, place, fault):
+    run = Run([program], folder=place, status=1 if fault else 0)
+    said = run.errors if fault else run.output
+    wanted = fault or "files 1\n"
+    if said != wanted.encode():
+        raise SystemExit(f"{program} said {said.decode(errors='replace')!r}, not {wanted!r}")
+
+
+def programs_of(program, words, fault):
+    programs = {"program": [program]}
+    if words.before:
+        programs["before"] = [os.path.abspath(words.before)]
+    if shutil.which("ninja") and not fault:
+        programs[NINJA] = ["ninja", "-t", "rules"]
+    return programs
+
+
+def figures_of(program, words, places, faults):
+    """The figures of the programs at each size. The sizes are taken in turn too, so that each meets
+    the same load."""
+    runs = {count: {} for count in places}
+    for _ in range(words.rounds):
+        for count, place in places.items():
+            programs = programs_of(program, words, faults[count])
+            status = 1 if faults[count] else 0
+            for name, more in measure(programs, 1, folder=place, status=status).items():
+                runs[count].setdefault(name, []).extend(more)
+    return {
+        count: {name: best(all_runs) for name, all_runs in of_size.items()}
+        for count, of_size in runs.items()
+    }
+
+
+def report(shape, count, size, figures):
+    """Prints the figures of one size. Gives the aims that were missed."""
+    print(f"{shape}: N = {count}, {size / MB:.1f} MB")
+    for name, (seconds, processor, memory) in figures.items():
+        print(
+            f"  {name:<15} {seconds:7.3f} s | processor {processor:7.3f} s"
+            f" {size / MB / processor:5.0f} MB/s"
+            f" | memory {memory / MB:7.1f} MB, {memory / size:5.2f} of the file"
+        )
+    missed = []
+    now = figures["program"]
+    for name in ("before", NINJA):
+        if name not in figures:
+            continue
+        seconds, processor, memory = (mine / other for mine, other in zip(now, figures[name]))
+        print(
+            f"  program / {name}: {seconds:.2f} of the time, {processor:.2f} of the processor time,"
+            f" {memory:.2f} of the memory"
+        )
+        if name == NINJA and processor > TIME_AIM:
+            missed.append(f"{shape} {count}: {processor:.2f} of Ninja's time, aim {TIME_AIM}")
+        if name == NINJA and memory > MEMORY_AIM:
+            missed.append(f"{shape} {count}: {memory:.2f} of Ninja's memory, aim {MEMORY_AIM}")
+    return missed
+
+
+def report_growth(shape, few, many, sizes, figures):
+    """Prints how the figures grow from one size to the next. Gives the aim, if it was missed."""
+    missed = []
+    for name in figures[many]:
+        before, now = figures[few][name], figures[many][name]
+        processor, memory = now[1] / before[1], now[2] / before[2]
+        print(
+            f"  {name:<15} {many / few:.0f} times N, {sizes[many] / sizes[few]:.2f} of the bytes:"
+            f" {processor:.2f} of the processor time, {memory:.2f} of the memory"
+        )
+        aim = GROWTH_AIM * many / few
+        if name == "program" and processor > aim:
+            missed.append(
+                f"{shape}: {processor:.2f} of the time for {many / few:.0f} times N, aim {aim:.2f}"
+            )
+    return missed
+
+
+def measure_shape(program, words, shape, counts):
+    """Measures one shape, and prints it. Gives the aims that were missed."""
+    faults = {count: cycle_line(shape, count) for count in counts}
+    with tempfile.TemporaryDirectory() as folder:
+        places = {count: make(folder, shape, count) for count in counts}
+        sizes = {
+            count: os.path.getsize(os.path.join(place, "build.ninja"))
+            for count, place in places.items()
+        }
+        for count, place in places.items():
+            check(program, place, faults[count])
+        figures = figures_of(program, words, places, faults)
+    missed = []
+    for count in counts:
+        missed += report(shape, count, sizes[count], figures[count])
+    for few, many in zip(counts, counts[1:]):
+        missed += report_growth(shape, few, many, sizes, figures)
+    return missed
+
+
+def counts_of(words, shape):
+    if shape in MANIFESTS:
+        return words.sizes
+    return [count // FEWER.get(shape, 1) for count in words.hard]
+
+
+def numbers(text):
+    return [int(word) for word in text.split(",")]
+
+
+def words_given():
+    parser = argparse.ArgumentParser()
+    parser.add_argument("program")
+    parser.add_argument("--before")
+    parser.add_argument("--sizes", type=numbers)
+    parser.add_argument("--hard", type=numbers)
+    parser.add_argument("--shapes", default=",".join([*MANIFESTS, *SHAPES]))
+    parser.add_argument("--rounds", type=int)
+    parser.add_argument("--quick", action="store_true")
+    words = parser.parse_args()
+    words.sizes = words.sizes or (QUICK_SIZES if words.quick else SIZES)
+    words.hard = words.hard or (QUICK_HARD if words.quick else HARD)
+    words.rounds = words.rounds or (QUICK_ROUNDS if words.quick else ROUNDS)
+    return words
+
+
+def main():
+    words = words_given()
+    program = os.path.abspath(words.program)
+    print(f"load before: {os.getloadavg()[0]:.2f} on {os.cpu_count()} processors")
+    missed = []
+    for shape in words.shapes.split(","):
+        missed += measure_shape(program, words, shape, counts_of(words, shape))
+    print(f"load after: {os.getloadavg()[0]:.2f}")
+    print("aims missed:" if missed else "no aim was missed")
+    for line in missed:
+        print(f"  {line}")
+
+
+if __name__ == "__main__":
+    main()
