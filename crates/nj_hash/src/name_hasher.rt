@@ -1,0 +1,100 @@
+//! The hasher of names.
+ghost use Rattle.nj_hash.specs.NameHash.{folded_product, with_block, step, write, finish};
+ghost use Rattle.std.specs.Prelude.{◌≡◌};
+
+use std::hash::Hasher;
+
+/// The 64 bits of π after its point.
+const PI: u64 = 0x243f_6a88_85a3_08d3;
+/// The 64 bits of the golden ratio after its point.
+const GOLDEN_RATIO: u64 = 0x9e37_79b9_7f4a_7c15;
+
+/// Hashes names by a number that was drawn. A map hands over a name byte by byte, and eight bytes
+/// are taken in at once: as a block, which costs one multiplication.
+///
+/// A block is joined with the state by xor, multiplied by the factor to 128 bits, and the halves of
+/// the product, joined by xor, are the next state. The state starts as the number that was drawn,
+/// and the factor is made of it, so which names collide depends on all of its bits. Whoever chooses
+/// names chooses blocks alone, and knows neither what they are joined with nor multiplied by. So
+/// only by a guess can a block make the product 0, which would drop the number, and no two blocks
+/// are known to collide whatever was drawn.
+///
+/// A product of 64 bits would not do: there, bits act on those above them alone. Two names whose
+/// blocks differ in the top bit, twice in a row, would collide whatever was drawn, and the low bits
+/// of a hash, which choose a place in a table, would tell little of the blocks.
+///
+/// These are reasons, and nothing of them is proved: the contracts say what is computed.
+#[derive(Clone, Copy)]
+pub struct NameHasher {
+    state: u64,
+    factor: u64,
+    /// The bytes since the last block, the first one highest, below a bit that is set. So `a` and
+    /// `a\0` differ.
+    pending: u64,
+}
+
+impl NameHasher {
+    /// A hasher that starts from a number. The factor is odd, so that the lower half of a product
+    /// alone tells blocks apart.
+    pub(crate) fn new(drawn: u64) -> NameHasher {
+        NameHasher {
+            state: drawn,
+            factor: folded_product(drawn ^ PI, GOLDEN_RATIO) | 1,
+            pending: 1,
+        }
+    }
+
+    /// Takes in one byte. It is small, so that a name is hashed in registers.
+    #[inline(always)]
+    fn step(&mut self, byte: u8)
+        ensures { self.new ≡ step self.old byte }
+    {
+        let block = self.pending << 8 | byte as u64;
+        if self.pending < 1 << 56 {
+            self.pending = block;
+        } else {
+            self.take_block(block);
+            self.pending = 1;
+        }
+    }
+
+    #[inline(always)]
+    fn take_block(&mut self, block: u64)
+        ensures { self.new ≡ with_block self.old block }
+    {
+        self.state = folded_product(self.state ^ block, self.factor);
+    }
+}
+
+/// The halves of the 128 bits of a product, joined by xor.
+#[inline(always)]
+fn folded_product(a: u64, b: u64) -> u64
+    ensures { result ≡ folded_product a b }
+{
+    let product = a as u128 * b as u128;
+    (product & 0xFFFF_FFFF_FFFF_FFFF) as u64 ^ (product >> 64) as u64
+}
+
+impl Hasher for NameHasher {
+    ghost write = { write };
+
+    ghost finish = { finish };
+
+    #[inline(always)]
+    fn finish(&self) -> u64 {
+        folded_product(self.state ^ self.pending, self.factor)
+    }
+
+    /// Eight bytes at once are a number, as the length that comes before a name: a block of its own.
+    #[inline(always)]
+    fn write(&mut self, bytes: &[u8]) {
+        match <[u8; 8]>::try_from(bytes) {
+            Ok(block) => self.take_block(u64::from_le_bytes(block)),
+            Err(_) => {
+                for byte in bytes {
+                    self.step(*byte);
+                }
+            }
+        }
+    }
+}
