@@ -6,7 +6,7 @@
     shared      N edges that all use one file
     defaults    an edge with N outputs, and one `default` statement that names them all
     references  N edges of a rule whose command has 1,000 references and 10 KB
-    bound       N edges that bind a description; their rule's refers to the command, and that N
+    bound       N edges that bind a description; the rule's refers to the command, and that N
                 times back, which is no cycle for these edges alone
     pool-line   N edges of a rule whose `pool` line has N references that say nothing
     long-lines  an edge with N inputs, whose `pool` and `dyndep` lines have N references and more
