@@ -34,10 +34,7 @@ fn reports_the_first_fault_of_a_build_statement(rt: HostRuntime) -> Result<(), F
                 b"build a: zz\nx = $!",
                 "build.ninja:1:10: unknown build rule 'zz'",
             ),
-            (
-                b"build $e: zz",
-                "build.ninja:1:11: unknown build rule 'zz'",
-            ),
+            (b"build $e: zz", "build.ninja:1:11: unknown build rule 'zz'"),
             (b"build a $e a: phony", "build.ninja:1:9: empty path"),
             (
                 b"build a a $e: phony",
@@ -48,7 +45,10 @@ fn reports_the_first_fault_of_a_build_statement(rt: HostRuntime) -> Result<(), F
                 "build.ninja:1:9: multiple rules generate a",
             ),
             (b"build a: phony |@ $e $f", "build.ninja:1:19: empty path"),
-            (b"build a: phony || $f |@ $e", "build.ninja:1:19: empty path"),
+            (
+                b"build a: phony || $f |@ $e",
+                "build.ninja:1:19: empty path",
+            ),
         ],
     )
 }

@@ -5,14 +5,25 @@ use nj_graph::{EdgeNo, FileNo, Graph, InputKind, Loaded, MemoryFiles, load, pick
 use std::process::Abort;
 use std::test::*;
 
-/// What a main file says, which has no fault.
-fn loaded(rt: &impl AllocGlobal, main: &[u8]) -> Result<Loaded, Fail> {
+/// What files say, which have no fault.
+fn load_all(rt: &impl AllocGlobal, source: &mut MemoryFiles) -> Result<Loaded, Fail> {
+    match load(rt.alloc(), source, "build.ninja") {
+        Ok(loaded) => Ok(loaded),
+        Err(_) => Err(Fail::from("they have no fault")),
+    }
+}
+
+/// What a main file and a file `s` say, which have no fault.
+fn loaded_with(rt: &impl AllocGlobal, main: &[u8], s: &[u8]) -> Result<Loaded, Fail> {
     let mut source = MemoryFiles::new(rt.alloc());
     source.add("build.ninja", main)?;
-    let loaded = load(rt.alloc(), &mut source, "build.ninja")
-        .ok()
-        .ok_or("it has no fault")?;
-    Ok(loaded)
+    source.add("s", s)?;
+    load_all(rt, &mut source)
+}
+
+/// What a main file says, which has no fault.
+fn loaded(rt: &impl AllocGlobal, main: &[u8]) -> Result<Loaded, Fail> {
+    loaded_with(rt, main, b"")
 }
 
 /// Appends the path of a file, after a space and a sign.
@@ -72,15 +83,19 @@ fn append_edge(
     Ok(())
 }
 
-/// The edges of a main file, a line each.
-fn edges(rt: &impl AllocGlobal, main: &[u8]) -> Result<Vec<u8>, Fail> {
-    let loaded = loaded(rt, main)?;
-    let graph = loaded.graph();
+/// The edges of a graph, a line each.
+fn edges_of(rt: &impl AllocGlobal, graph: &Graph) -> Result<Vec<u8>, Fail> {
     let mut text = Vec::new(rt.alloc());
     'edges: for number in 0..graph.edge_count() {
         append_edge(rt, &mut text, graph, EdgeNo(number))?;
     }
     Ok(text)
+}
+
+/// The edges of a main file, a line each.
+fn edges(rt: &impl AllocGlobal, main: &[u8]) -> Result<Vec<u8>, Fail> {
+    let loaded = loaded(rt, main)?;
+    edges_of(rt, loaded.graph())
 }
 
 /// Each main file has these edges.
@@ -138,15 +153,8 @@ fn words_see_the_block_and_the_file_before_them(rt: HostRuntime) -> Result<(), F
     )
 }
 
-/// The places of the edges of two files, a line each.
-fn places(rt: &impl AllocGlobal, main: &[u8], s: &[u8]) -> Result<Vec<u8>, Fail> {
-    let mut source = MemoryFiles::new(rt.alloc());
-    source.add("build.ninja", main)?;
-    source.add("s", s)?;
-    let loaded = load(rt.alloc(), &mut source, "build.ninja")
-        .ok()
-        .ok_or("they have no fault")?;
-    let graph = loaded.graph();
+/// The places of the edges of a graph, a line each.
+fn places_of(rt: &impl AllocGlobal, graph: &Graph) -> Result<Vec<u8>, Fail> {
     let mut text = Vec::new(rt.alloc());
     'edges: for number in 0..graph.edge_count() {
         let place = graph.edge_place(EdgeNo(number));
@@ -155,6 +163,12 @@ fn places(rt: &impl AllocGlobal, main: &[u8], s: &[u8]) -> Result<Vec<u8>, Fail>
         text.extend_from_slice(at.as_bytes())?;
     }
     Ok(text)
+}
+
+/// The places of the edges of two files, a line each.
+fn places(rt: &impl AllocGlobal, main: &[u8], s: &[u8]) -> Result<Vec<u8>, Fail> {
+    let loaded = loaded_with(rt, main, s)?;
+    places_of(rt, loaded.graph())
 }
 
 #[test]
@@ -171,15 +185,19 @@ fn edges_are_numbered_in_reading_order(rt: HostRuntime) -> Result<(), Fail> {
     Ok(())
 }
 
-/// The roots of a main file, and after a `;` its defaults.
-fn defaults(rt: &impl AllocGlobal, main: &[u8]) -> Result<Vec<u8>, Fail> {
-    let loaded = loaded(rt, main)?;
-    let graph = loaded.graph();
+/// The roots of a graph, and after a `;` its defaults.
+fn defaults_of(rt: &impl AllocGlobal, graph: &Graph) -> Result<Vec<u8>, Fail> {
     let mut text = Vec::new(rt.alloc());
     append_files(&mut text, graph, graph.roots())?;
     text.push(b';')?;
     append_files(&mut text, graph, graph.defaults())?;
     Ok(text)
+}
+
+/// The roots of a main file, and after a `;` its defaults.
+fn defaults(rt: &impl AllocGlobal, main: &[u8]) -> Result<Vec<u8>, Fail> {
+    let loaded = loaded(rt, main)?;
+    defaults_of(rt, loaded.graph())
 }
 
 #[test]
@@ -198,14 +216,18 @@ fn roots_are_the_defaults_where_no_line_names_any(rt: HostRuntime) -> Result<(),
     Ok(())
 }
 
-/// The path of the target that a word means in a main file, or the line of its fault.
-fn picked(rt: &impl AllocGlobal, main: &[u8], word: &[u8]) -> Result<Vec<u8>, Fail> {
-    let loaded = loaded(rt, main)?;
-    let graph = loaded.graph();
+/// The path of the target that a word means in a graph, or the line of its fault.
+fn picked_in(rt: &impl AllocGlobal, graph: &Graph, word: &[u8]) -> Result<Vec<u8>, Fail> {
     match pick_target(rt.alloc(), graph, word) {
         Ok(file) => Ok(Vec::from_slice(rt.alloc(), graph.path(file))?),
         Err(fault) => Ok(fault.line(rt.alloc())?),
     }
+}
+
+/// The path of the target that a word means in a main file, or the line of its fault.
+fn picked(rt: &impl AllocGlobal, main: &[u8], word: &[u8]) -> Result<Vec<u8>, Fail> {
+    let loaded = loaded(rt, main)?;
+    picked_in(rt, loaded.graph(), word)
 }
 
 #[test]
@@ -231,21 +253,29 @@ fn a_word_picks_a_target(rt: HostRuntime) -> Result<(), Fail> {
     Ok(())
 }
 
-/// The numbers of the edges that have a file of a main file as an input, and after a `;` of those
-/// that name it as a validation.
-fn users(rt: &impl AllocGlobal, main: &[u8], path: &[u8]) -> Result<Vec<u8>, Fail> {
-    let loaded = loaded(rt, main)?;
-    let graph = loaded.graph();
+/// Appends the numbers of edges.
+fn append_numbers(rt: &impl AllocGlobal, text: &mut Vec<u8>, edges: &[EdgeNo]) -> Result<(), Fail> {
+    'edges: for edge in edges {
+        text.extend_from_slice(format!(in rt.alloc(); " {}", edge.0)?.as_bytes())?;
+    }
+    Ok(())
+}
+
+/// The numbers of the edges that have a file as an input, and after a `;` of those that name it as
+/// a validation.
+fn users_in(rt: &impl AllocGlobal, graph: &Graph, path: &[u8]) -> Result<Vec<u8>, Fail> {
     let file = graph.file_named(path).ok_or("an edge names it")?;
     let mut text = Vec::new(rt.alloc());
-    'users: for edge in graph.users(file) {
-        text.extend_from_slice(format!(in rt.alloc(); " {}", edge.0)?.as_bytes())?;
-    }
+    append_numbers(rt, &mut text, graph.users(file))?;
     text.push(b';')?;
-    'validating: for edge in graph.validation_users(file) {
-        text.extend_from_slice(format!(in rt.alloc(); " {}", edge.0)?.as_bytes())?;
-    }
+    append_numbers(rt, &mut text, graph.validation_users(file))?;
     Ok(text)
+}
+
+/// The users of a file that a main file names.
+fn users(rt: &impl AllocGlobal, main: &[u8], path: &[u8]) -> Result<Vec<u8>, Fail> {
+    let loaded = loaded(rt, main)?;
+    users_in(rt, loaded.graph(), path)
 }
 
 #[test]
@@ -258,21 +288,20 @@ fn users_stand_once_each(rt: HostRuntime) -> Result<(), Fail> {
     Ok(())
 }
 
-/// What a variable says for each edge of a main file and a file `s`, a line each.
-fn said(rt: &impl AllocGlobal, main: &[u8], s: &[u8], name: &[u8]) -> Result<Vec<u8>, Fail> {
-    let mut source = MemoryFiles::new(rt.alloc());
-    source.add("build.ninja", main)?;
-    source.add("s", s)?;
-    let loaded = load(rt.alloc(), &mut source, "build.ninja")
-        .ok()
-        .ok_or("they have no fault")?;
-    let graph = loaded.graph();
+/// What a variable says for each edge of a graph, a line each.
+fn said_in(rt: &impl AllocGlobal, graph: &Graph, name: &[u8]) -> Result<Vec<u8>, Fail> {
     let mut text = Vec::new(rt.alloc());
     'edges: for number in 0..graph.edge_count() {
         graph.append_variable(&mut text, EdgeNo(number), name)?;
         text.push(b'\n')?;
     }
     Ok(text)
+}
+
+/// What a variable says for each edge of a main file and a file `s`, a line each.
+fn said(rt: &impl AllocGlobal, main: &[u8], s: &[u8], name: &[u8]) -> Result<Vec<u8>, Fail> {
+    let loaded = loaded_with(rt, main, s)?;
+    said_in(rt, loaded.graph(), name)
 }
 
 /// The edges of each main file, with the file `s` beside it, say this by a variable.
@@ -354,7 +383,8 @@ fn commands_quote_paths(rt: HostRuntime) -> Result<(), Fail> {
 
 #[test]
 fn other_variables_are_said_too(rt: HostRuntime) -> Result<(), Fail> {
-    let rules = b"rule r\n  command = r @$rspfile\n  rspfile = $out.rsp\n  rspfile_content = $in_newline\nbuild o$ 1: r a b$ c";
+    let rules =
+        b"rule r\n  command = r @$rspfile\n  rspfile = $out.rsp\n  rspfile_content = $in_newline\nbuild o$ 1: r a b$ c";
     say(&rt, b"rspfile", &[(rules, b"", "o 1.rsp\n")])?;
     say(&rt, b"rspfile_content", &[(rules, b"", "a\n'b c'\n")])?;
     say(&rt, b"nothing", &[(rules, b"", "\n")])

@@ -483,12 +483,8 @@ fn at_most_32_files_are_open(rt: HostRuntime) -> Result<(), Fail> {
     Ok(())
 }
 
-/// The rules that are listed of files, a line each; after ` = ` the description, if there is one.
-pub(crate) fn listed(rt: &impl AllocGlobal, source: &mut MemoryFiles) -> Result<Vec<u8>, Fail> {
-    let loaded = load(rt.alloc(), source, "build.ninja")
-        .ok()
-        .ok_or("they have no fault")?;
-    let graph: &Graph = loaded.graph();
+/// The rules that are listed of a graph, a line each; after ` = ` the description, if there is one.
+fn rules_of(rt: &impl AllocGlobal, graph: &Graph) -> Result<Vec<u8>, Fail> {
     let mut text = Vec::new(rt.alloc());
     'rules: for index in 0..graph.main_rule_count() {
         text.extend_from_slice(graph.main_rule(index))?;
@@ -499,6 +495,14 @@ pub(crate) fn listed(rt: &impl AllocGlobal, source: &mut MemoryFiles) -> Result<
         text.push(b'\n')?;
     }
     Ok(text)
+}
+
+/// The rules that are listed of files.
+pub(crate) fn listed(rt: &impl AllocGlobal, source: &mut MemoryFiles) -> Result<Vec<u8>, Fail> {
+    match load(rt.alloc(), source, "build.ninja") {
+        Ok(loaded) => rules_of(rt, loaded.graph()),
+        Err(_) => Err(Fail::from("they have no fault")),
+    }
 }
 
 /// The rules that are listed of a main file, beside a file `s` that declares one.
