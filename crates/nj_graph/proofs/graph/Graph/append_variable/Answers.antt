@@ -21,12 +21,12 @@ returns c = λ entries is.
     let e = edge g entries is n c.requires in
     let scope = c.scope.ensures ∙ ap (λ (b : BuiltText). (detail_at b.details n).scope) built in
     let same = names-same g entries is n c.requires c.files.result.now c.explicit_input_files.result.now c.explicit_output_files.result.now c.blocks-2.result.now c.index-rules-rule_number.result c.scope.result
-        (c.files.ensures ∙ ap (λ (b : BuiltText). b.graph.files) built)
-        (subst (λ (b : BuiltText). AreFiles b.graph.files c.explicit_input_files.result.now (edge_at b.graph.edges n).explicit_inputs) built c.explicit_input_files.ensures.files)
-        (subst (λ (b : BuiltText). AreFiles b.graph.files c.explicit_output_files.result.now (edge_at b.graph.edges n).explicit_outputs) built c.explicit_output_files.ensures.files)
-        (c.blocks-2.ensures ∙ ap (λ (b : BuiltText). b.blocks) built)
-        (c.index-rules-rule_number.is ∙ ap (λ rules. get_or rules c.rule_number.result rule) (c.rules.ensures ∙ ap (λ (d : DeclarationsText). d.rules) inside) ∙ ap (λ m. get_or g.declarations.rules m rule) (c.rule_number.ensures ∙ ap (λ (b : BuiltText). (detail_at b.details n).rule) built))
-        scope
+    (c.files.ensures ∙ ap (λ (b : BuiltText). b.graph.files) built)
+    (subst (λ (b : BuiltText). AreFiles b.graph.files c.explicit_input_files.result.now (edge_at b.graph.edges n).explicit_inputs) built c.explicit_input_files.ensures.files)
+    (subst (λ (b : BuiltText). AreFiles b.graph.files c.explicit_output_files.result.now (edge_at b.graph.edges n).explicit_outputs) built c.explicit_output_files.ensures.files)
+    (c.blocks-2.ensures ∙ ap (λ (b : BuiltText). b.blocks) built)
+    (c.index-rules-rule_number.is ∙ ap (λ rules. get_or rules c.rule_number.result rule) (c.rules.ensures ∙ ap (λ (d : DeclarationsText). d.rules) inside) ∙ ap (λ m. get_or g.declarations.rules m rule) (c.rule_number.ensures ∙ ap (λ (b : BuiltText). (detail_at b.details n).rule) built))
+    scope
     in
     on-ok c.append_late_text.result
     (c.append_late_text.ensures entries e.around (subst (λ (d : DeclarationsText). DeclaredBy d entries) (sym inside) is.declares)
