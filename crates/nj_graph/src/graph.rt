@@ -14,8 +14,8 @@ use std::marker::Model;
 // The number of the main file's scope.
 const MAIN_SCOPE: usize = 0;
 
-/// The graph of a run: what its files declare ("Rules" and "Variables" in the Ninja manual), its edges
-/// and its defaults.
+/// The graph of a run: what its files declare ("Rules" and "Variables" in the Ninja manual), its
+/// edges and its defaults.
 #[derive(Drop)]
 pub struct Graph {
     pub(crate) declarations: Declarations,

@@ -47,10 +47,9 @@ impl Loaded {
 ///
 /// The first fault in reading order, with its place: a statement counts before those below it, and
 /// the statements of an included file before those after the `include`. After all reading, a
-/// dependency cycle, at the least edge that lies on one. That a file cannot be read,
-/// or that an allocation failed, ends the reading where it happens. Where the source fails at a
-/// file, that is the fault, at the place of the word that names the file; the file is not tried
-/// again.
+/// dependency cycle, at the least edge that lies on one. That a file cannot be read, or that an
+/// allocation failed, ends the reading where it happens. Where the source fails at a file, that is
+/// the fault, at the place of the word that names the file; the file is not tried again.
 pub fn load<S: FileSource>(alloc: Global, source: &mut S, main: &str) -> Result<Loaded, GraphFault>
     ensures { Loads main.now (S.state source.old) (S.state source.new) result }
 {
