@@ -35,12 +35,12 @@ fn clean_target(alloc: Global, graph: &Graph, path: &[u8]) -> Result<FileNo, Gra
 {
     match path.strip_suffix(b"^".as_slice()) {
         Some(file) => made_target(alloc, graph, file),
-        None => target(alloc, graph, path),
+        None => named_target(alloc, graph, path),
     }
 }
 
 // The file at a path.
-fn target(alloc: Global, graph: &Graph, path: &[u8]) -> Result<FileNo, GraphFault>
+fn named_target(alloc: Global, graph: &Graph, path: &[u8]) -> Result<FileNo, GraphFault>
     ensures { Picks (files_of graph.now) (target (edges_of graph.now) path.now) result }
 {
     match graph.file_named(path) {
@@ -56,7 +56,7 @@ fn target(alloc: Global, graph: &Graph, path: &[u8]) -> Result<FileNo, GraphFaul
 fn made_target(alloc: Global, graph: &Graph, path: &[u8]) -> Result<FileNo, GraphFault>
     ensures { Picks (files_of graph.now) (made_target (edges_of graph.now) path.now) result }
 {
-    let file = target(alloc, graph, path)?;
+    let file = named_target(alloc, graph, path)?;
     match first_made_of(graph, file) {
         Some(made) => Ok(made),
         None => {

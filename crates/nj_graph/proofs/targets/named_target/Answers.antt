@@ -4,7 +4,7 @@ use Rattle.nj_faults.specs.Faults.{unplaced}
 use Rattle.nj_edges.proofs.FileLemmas.{found-at}
 use Rattle.nj_graph.specs.Graph.{edges_of, files_of}
 use Rattle.nj_graph.specs.Targets.{target}
-use Rattle.nj_graph.proofs.targets.target.Goals as goal
+use Rattle.nj_graph.proofs.targets.named_target.Goals as goal
 
 pub returns-in-Some : goal.returns-in-Some
 returns-in-Some c =
