@@ -24,7 +24,7 @@ fn add_file(edges: &mut Edges, word: &str, is_validation: bool) -> Result<(), Al
 }
 
 /// Ends an edge whose first inputs, so many, are not order-only.
-pub fn end_edge(edges: &mut Edges, ordinary: usize, is_phony: bool) -> Result<(), AllocError>
+pub(crate) fn end_edge(edges: &mut Edges, ordinary: usize, is_phony: bool) -> Result<(), AllocError>
     ensures { OnOk result (edges.new.«open» ≡ no_files) }
 {
     let inputs = ordinary.min(edges.open_inputs());
@@ -64,14 +64,14 @@ fn add_edges(edges: &mut Edges, text: &str) -> Result<(), AllocError>
 }
 
 /// How the reading of these edges ends.
-pub fn finished(alloc: Global, text: &str) -> Result<Finished, AllocError> {
+pub(crate) fn finished(alloc: Global, text: &str) -> Result<Finished, AllocError> {
     let mut edges = Edges::new(alloc, HashKeys::default());
     add_edges(&mut edges, text)?;
     edges.finish(alloc)
 }
 
 /// The graph of these edges, which have no cycle.
-pub fn graph_of(alloc: Global, text: &str) -> Result<EdgeGraph, Fail> {
+pub(crate) fn graph_of(alloc: Global, text: &str) -> Result<EdgeGraph, Fail> {
     match finished(alloc, text)? {
         Finished::Graph(graph) => Ok(graph),
         Finished::Cycle(_) => Err(Fail::from("the edges have a cycle")),

@@ -4,17 +4,17 @@ use nj_text::{Part, Spot, Word};
 use std::alloc::AllocError;
 use std::fmt::Write;
 
-pub fn ascii(bytes: &[u8]) -> &str {
+pub(crate) fn ascii(bytes: &[u8]) -> &str {
     str::from_utf8(bytes).unwrap_or("?")
 }
 
 /// A place, as `line:column`.
-pub fn put_spot(text: &mut String, spot: Spot) -> Result<(), AllocError> {
+pub(crate) fn put_spot(text: &mut String, spot: Spot) -> Result<(), AllocError> {
     write!(text, "{}:{}", spot.line, spot.column)
 }
 
 /// A word or a value: its place, and its parts as `[bytes]` and `${name}`.
-pub fn put_word(text: &mut String, word: &Word<'_>) -> Result<(), AllocError> {
+pub(crate) fn put_word(text: &mut String, word: &Word<'_>) -> Result<(), AllocError> {
     put_spot(text, word.spot)?;
     'parts: for part in word.parts.as_slice() {
         let (before, bytes, after) = match *part {
