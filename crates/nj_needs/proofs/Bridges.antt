@@ -6,11 +6,11 @@ use Rattle.std.proofs.lemmas.Option.{slice_get_within}
 use Rattle.nj_order.specs.Cycles.{IsAcyclic as HasRank}
 use Rattle.nj_edges.specs.declared.files.FileNo.{FileNo}
 use Rattle.nj_edges.specs.EdgeGraphs.{EdgeGraph}
-use Rattle.nj_edges.specs.Edges.{edge_at, inputs_of, first_edge, maker_of}
+use Rattle.nj_edges.specs.Edges.{EdgePaths, edge_at, inputs_of, first_edge, maker_of}
 use Rattle.nj_edges.specs.Files.{path_at, AreFiles}
 use Rattle.nj_edges.specs.Needs.{makers_of_inputs}
 use Rattle.nj_needs.specs.Needs.{IsAcyclic, AreWithin}
-use Rattle.nj_needs.specs.Graphs.{row_of, makers_of, count_of}
+use Rattle.nj_needs.specs.Graphs.{row_of_paths, makers_in, row_of, makers_of, count_of}
 
 -- ---- a maker is an edge
 
@@ -23,8 +23,8 @@ first-below test (e ∷ es) n h = by (test e) (first_edge test es) (first-below 
     by false None rest is = absurd (true≢false (sym (ap is_some is)))
     by false (Some m) rest is = let next : m + 1 ≡ n = ap (λ p. unwrap_or p 0) is in let below : m < length es = rest m refl in omega arith
 
-maker-below : (g : EdgeGraph) (path : List ℕ) (m : ℕ) → maker_of g.edges path ≡ Some m → m < count_of g
-maker-below g path m h = first-below _ g.edges m h
+maker-below : (edges : List EdgePaths) (path : List ℕ) (m : ℕ) → maker_of edges path ≡ Some m → m < length edges
+maker-below edges path m h = first-below _ edges m h
 
 -- what holds of all makers holds of those in a row
 row-below : {X : Type 0} (maker : X → Option ℕ) (n : ℕ) → ((x : X) (m : ℕ) → maker x ≡ Some m → m < n) → (xs : List X) (m : ℕ) → Contains (map maker xs) (Some m) → m < n
@@ -51,18 +51,26 @@ Contains-made maker (x ∷ xs) m c = by c.0 c.1 c.2 (Contains-made maker xs m)
     by zero lt is later = subst (λ (o : Option ℕ). Contains (cons_option o (filter_map maker xs)) m) (sym is) (0, omega arith, refl)
     by (suc k) lt is later = Contains-after (maker x) (filter_map maker xs) m (later (k, omega (arith, lt), is))
 
-pub IsAcyclic-from : (g : EdgeGraph) → HasRank (makers_of_inputs g.edges) (length g.edges) → IsAcyclic (makers_of g) (count_of g)
-IsAcyclic-from g h = (
+-- over the edges alone
+pub IsAcyclic-edges : (edges : List EdgePaths) → HasRank (makers_of_inputs edges) (length edges) → IsAcyclic (makers_in edges) (length edges)
+IsAcyclic-edges edges h = (
   h.0,
   record {
     low = h.1.bounded;
-    falls = λ e f c. h.1.falls e f (Contains-made (maker_of g.edges) (inputs_of (edge_at g.edges e)) f c);
-    within = λ e f c. row-below (maker_of g.edges) (count_of g) (maker-below g) (inputs_of (edge_at g.edges e)) f c;
+    falls = λ e f c. h.1.falls e f (Contains-made (maker_of edges) (inputs_of (edge_at edges e)) f c);
+    within = λ e f c. row-below (maker_of edges) (length edges) (maker-below edges) (inputs_of (edge_at edges e)) f c;
   },
 )
 
+pub AreWithin-paths : (edges : List EdgePaths) (paths : List (List ℕ)) → AreWithin (row_of_paths edges paths) (length edges)
+AreWithin-paths edges paths e c = row-below (maker_of edges) (length edges) (maker-below edges) paths e c
+
+-- over the graph
+pub IsAcyclic-from : (g : EdgeGraph) → HasRank (makers_of_inputs g.edges) (length g.edges) → IsAcyclic (makers_of g) (count_of g)
+IsAcyclic-from g h = IsAcyclic-edges g.edges h
+
 pub AreWithin-from : (g : EdgeGraph) (targets : List FileNo) → AreWithin (row_of g targets) (count_of g)
-AreWithin-from g targets e c = row-below (λ (f : FileNo). maker_of g.edges (path_at g.files f)) (count_of g) (λ f m is. maker-below g (path_at g.files f) m is) targets e c
+AreWithin-from g targets = AreWithin-paths g.edges (map (path_at g.files) targets)
 
 -- ---- the inputs of an edge
 
@@ -72,15 +80,25 @@ first-file files n ns p ps are = cc
 later-files : (files : List (List ℕ)) (n : FileNo) (ns : List FileNo) (p : List ℕ) (ps : List (List ℕ)) → AreFiles files (n ∷ ns) (p ∷ ps) → AreFiles files ns ps
 later-files files n ns p ps are = cc
 
--- the row of files by their numbers is the row by their paths
-pub row-paths : (g : EdgeGraph) (ns : List FileNo) (paths : List (List ℕ)) → AreFiles g.files ns paths → row_of g ns ≡ map (maker_of g.edges) paths
-row-paths g [] [] are = refl
-row-paths g [] (p ∷ ps) are = absurd cc
-row-paths g (n ∷ ns) [] are = absurd cc
-row-paths g (n ∷ ns) (p ∷ ps) are =
-    let first : path_at g.files n ≡ p = ap (λ (o : Option (List ℕ)). unwrap_or o []) (first-file g.files n ns p ps are) in
-    let later = row-paths g ns ps (later-files g.files n ns p ps are) in
+-- files have the paths that they are said to have
+paths-at : (files : List (List ℕ)) (ns : List FileNo) (paths : List (List ℕ)) → AreFiles files ns paths → map (path_at files) ns ≡ paths
+paths-at files [] [] are = refl
+paths-at files [] (p ∷ ps) are = absurd cc
+paths-at files (n ∷ ns) [] are = absurd cc
+paths-at files (n ∷ ns) (p ∷ ps) are =
+    let first : path_at files n ≡ p = ap (λ (o : Option (List ℕ)). unwrap_or o []) (first-file files n ns p ps are) in
+    let later = paths-at files ns ps (later-files files n ns p ps are) in
     cc
+
+-- the row of files by their numbers is the row by their paths
+pub row-paths : (g : EdgeGraph) (ns : List FileNo) (paths : List (List ℕ)) → AreFiles g.files ns paths → row_of g ns ≡ row_of_paths g.edges paths
+row-paths g ns paths are = ap (row_of_paths g.edges) (paths-at g.files ns paths are)
+
+-- the maker at the place of a file
+pub row-at : (g : EdgeGraph) (ns : List FileNo) (p : ℕ) (n : FileNo) → p < length ns → n ≡ get_or ns p n → slice_get (row_of g ns) p ≡ Some (maker_of g.edges (path_at g.files n))
+row-at g [] p n lt is = absurd (omega (arith, lt))
+row-at g (m ∷ ns) zero n lt is = ap (λ (k : FileNo). Some (maker_of g.edges (path_at g.files k))) (sym is)
+row-at g (m ∷ ns) (suc p) n lt is = row-at g ns p n (omega (arith, lt)) is
 
 -- and they are files of the graph
 pub files-within : (files : List (List ℕ)) (ns : List FileNo) (paths : List (List ℕ)) → AreFiles files ns paths → All (λ f. f.0 < length files) ns

@@ -2,22 +2,35 @@
 use Rattle.std.specs.Prelude.{ℕ, Bool, Option, Some, None, List, map, length}
 use Rattle.nj_edges.specs.declared.files.FileNo.{FileNo}
 use Rattle.nj_edges.specs.EdgeGraphs.{EdgeGraph}
-use Rattle.nj_edges.specs.Edges.{edge_at, inputs_of, maker_of}
+use Rattle.nj_edges.specs.Edges.{EdgePaths, edge_at, inputs_of, maker_of}
 use Rattle.nj_edges.specs.Files.{path_at}
 
+-- ---- files by their paths
+
 -- the maker of each file of a list
-abbrev pub row_of : EdgeGraph → List FileNo → List (Option ℕ)
-row_of g files = map (λ f. maker_of g.edges (path_at g.files f)) files
+abbrev pub row_of_paths : List EdgePaths → (paths : List (List ℕ)) → List (Option ℕ)
+row_of_paths edges paths = map (maker_of edges) paths
 
 -- the maker of each input of an edge
+abbrev pub makers_in : List EdgePaths → ℕ → List (Option ℕ)
+makers_in edges e = row_of_paths edges (inputs_of (edge_at edges e))
+
+abbrev pub is_phony_in : List EdgePaths → ℕ → Bool
+is_phony_in edges e = (edge_at edges e).is_phony
+
+-- ---- files by their numbers
+
+abbrev pub row_of : EdgeGraph → List FileNo → List (Option ℕ)
+row_of g files = row_of_paths g.edges (map (path_at g.files) files)
+
 abbrev pub makers_of : EdgeGraph → ℕ → List (Option ℕ)
-makers_of g e = map (maker_of g.edges) (inputs_of (edge_at g.edges e))
+makers_of g e = makers_in g.edges e
 
 abbrev pub count_of : EdgeGraph → ℕ
 count_of g = length g.edges
 
 abbrev pub is_phony : EdgeGraph → ℕ → Bool
-is_phony g e = (edge_at g.edges e).is_phony
+is_phony g e = is_phony_in g.edges e
 
 -- the row of an edge, or the row of the targets
 abbrev pub row_in : EdgeGraph → (targets : List FileNo) → (edge : Option ℕ) → List (Option ℕ)
