@@ -3,6 +3,7 @@ pub mod Bridges
 pub mod Members
 pub mod NeedsLemmas
 pub mod OrderLaws
+pub mod PageLaws
 pub mod PlaceLaws
 pub mod RebuildLemmas
 pub mod ResumeLemmas

@@ -38,7 +38,7 @@ module _ (makers : ℕ → List (Option ℕ)) where
   nowhere (p ∷ q ∷ mark) e h = nowhere (q ∷ mark) e h
 
   -- an address that leads to an edge is valid
-  valid-from_edge : (row : List (Option ℕ)) (mark : List ℕ) (e : ℕ) → edge_at makers row mark ≡ Some e → is_valid makers row mark ≡ true
+  pub valid-from_edge : (row : List (Option ℕ)) (mark : List ℕ) (e : ℕ) → edge_at makers row mark ≡ Some e → is_valid makers row mark ≡ true
   valid-from_edge row [] e h = refl
   valid-from_edge row (p ∷ []) e h = ap (λ (o : Option ℕ). is_some o && is_valid makers (inputs_of makers o) []) h
   valid-from_edge row (p ∷ q ∷ mark) e h = by_maker (get_or row p None) h (λ m k. valid-from_edge (makers m) (q ∷ mark) e k)
@@ -143,7 +143,7 @@ module _ (makers : ℕ → List (Option ℕ)) (count : ℕ) (rank : ℕ → ℕ)
       ap (λ (n : ℕ). n ∷ x) number ∙ ap (λ (z : List ℕ). t ∷ z) rest
 
   -- what is done at a valid mark is a beginning of the unfolded order
-  done-front : (row : List (Option ℕ)) → ((m : ℕ) → Among row m → m < count) → (mark : List ℕ) → is_valid makers row mark ≡ true → (more : List ℕ) × (unfolded_row makers count row ≡ done makers count row mark ++ more)
+  pub done-front : (row : List (Option ℕ)) → ((m : ℕ) → Among row m → m < count) → (mark : List ℕ) → is_valid makers row mark ≡ true → (more : List ℕ) × (unfolded_row makers count row ≡ done makers count row mark ++ more)
   done-front row inside [] v = (unfolded_row makers count row, refl)
   done-front row inside (p ∷ []) v =
       let F = made_by (unfolded makers count) in

@@ -1,8 +1,10 @@
 -- The definitions, computed on two small graphs.
-use Rattle.std.proofs.Common.{◌≡◌, ℕ, Bool, false, Option, Some, None, List, [], ◌∷◌, refl}
+use Rattle.std.proofs.Common.{◌≡◌, ℕ, Bool, false, Option, Some, None, List, [], ◌∷◌, refl, arith}
 use Rattle.std.specs.Prelude.{slice_index_or}
 use Rattle.nj_needs.specs.Order.{unfolded_row, order, needed_commands}
 use Rattle.nj_needs.specs.Marks.{is_valid, edge_at, rest}
+use Rattle.nj_needs.specs.Pages.{ArePages}
+use Rattle.nj_needs.specs.Pages.ArePages.{no_runs, ends, stops}
 use Rattle.nj_needs.specs.Turns.{turn_bound}
 
 -- edge 0 makes the input of 1 and of 2, and these two make the inputs of 3
@@ -50,6 +52,14 @@ not_0_0_0_0 = refl
 
 not_1 : is_valid diamond last (1 ∷ []) ≡ false
 not_1 = refl
+
+-- a run of two edges, then one of one
+two-one : ArePages diamond 4 none_phony last [] (2 ∷ 1 ∷ []) ((0 ∷ 1 ∷ []) ∷ (2 ∷ []) ∷ []) (3 ∷ [])
+two-one = stops 2 (3 ∷ []) (0 ∷ 0 ∷ []) refl refl (refl, (0 ∷ [], refl, refl)) (stops 3 [] (0 ∷ 1 ∷ []) refl refl (refl, (0 ∷ 1 ∷ 0 ∷ [], refl, refl)) (no_runs refl))
+
+-- and one that ends, though it would take three
+two-all : ArePages diamond 4 none_phony last [] (2 ∷ 3 ∷ []) ((0 ∷ 1 ∷ []) ∷ (2 ∷ 3 ∷ []) ∷ []) []
+two-all = stops 2 (3 ∷ []) (0 ∷ 0 ∷ []) refl refl (refl, (0 ∷ [], refl, refl)) (ends refl (omega arith))
 
 -- `a`; `c: a`; `b1: c`; `b2: c a`; `d: b1 b2`
 abbrev five : ℕ → List (Option ℕ)

@@ -37,7 +37,7 @@ not_or false true = refl
 not_or false false = refl
 
 -- to be without one more is to be without it and without the others
-without-cons : (x : ℕ) (xs es : List ℕ) → without (x ∷ xs) es ≡ filter (λ y. not (nat_eq y x)) (without xs es)
+pub without-cons : (x : ℕ) (xs es : List ℕ) → without (x ∷ xs) es ≡ filter (λ y. not (nat_eq y x)) (without xs es)
 without-cons x xs es =
     filter_agree (λ y. not (nat_eq y x || list_any (nat_eq y) xs)) (λ y. not (list_any (nat_eq y) xs) && not (nat_eq y x)) (λ y. not_or (nat_eq y x) (list_any (nat_eq y) xs)) es
     ∙ sym (filter-filter (λ y. not (nat_eq y x)) (λ y. not (list_any (nat_eq y) xs)) es)

@@ -5,6 +5,7 @@ pub mod Laws
 pub mod Marks
 pub mod Needs
 pub mod Order
+pub mod Pages
 pub mod Paths
 pub mod Resuming
 pub mod Saved

@@ -1,6 +1,7 @@
 //! What the order of the commands is for.
 
 ghost use Rattle.nj_needs.specs.Laws.{CommandsAreTheReached, CommandsStandOnce, CommandsStandAfterNeeds, FirstPlacesAreOne};
+ghost use Rattle.nj_needs.specs.Pages.{MarkKeepsTheRest, PagesJoin, RestIsSuffix};
 
 /// The needed commands are exactly those of the edges that the targets reach; none stands twice;
 /// and each stands after all others that its edge needs by any chain, phony edges between included.
@@ -13,4 +14,13 @@ pub fn order_law()
 /// The mark after an edge is determined: an edge has one first place in the unfolded order.
 pub fn place_law()
     ensures { FirstPlacesAreOne }
+{}
+
+/// What is left at a mark is an end of the needed commands. What is left after some edges of a walk
+/// is what is left at the mark after them; so the pages of runs, each of which goes on at the mark
+/// of the one before, joined, and then what is left after the last, are what was left at first.
+pub fn page_law()
+    ensures keeps { MarkKeepsTheRest }
+    ensures join { PagesJoin }
+    ensures suffix { RestIsSuffix }
 {}

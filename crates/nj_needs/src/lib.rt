@@ -12,6 +12,6 @@ mod saved;
 mod walk;
 
 pub use fault::MarkFault;
-pub use laws::{order_law, place_law};
+pub use laws::{order_law, page_law, place_law};
 pub use needs::Needs;
 pub use nj_marks::{Mark, MarkTextFault};
