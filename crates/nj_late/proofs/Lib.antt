@@ -1,5 +1,7 @@
 pub mod SaidLemmas
 pub mod CycleLaws
+pub mod LoopLemmas
+pub mod ReferenceLemmas
 pub mod CycleLemmas
 pub mod LateRows
 pub mod PathLemmas

@@ -10,7 +10,7 @@ use Rattle.nj_scope.specs.Scopes.{part_expanded, expanded}
 use Rattle.nj_scope.specs.Rules.{RuleLineText, given}
 use Rattle.nj_scope.specs.RulesHeld.{key_at, IsNumber}
 use Rattle.nj_late.specs.LateTexts.{LateNames, late_in, is_of_command, unless_empty, value_given}
-use Rattle.nj_late.proofs.CycleLemmas.{value_at}
+use Rattle.nj_late.proofs.ReferenceLemmas.{value_at}
 
 part_turn : (f : List ℕ → List ℕ) (parts : List PartText) (i : ℕ) (p : PartText) (start before after : List ℕ) → slice_get parts i ≡ Some p
     → before ≡ start ++ expanded f (take i parts) → after ≡ before ++ part_expanded f p → after ≡ start ++ expanded f (take (i + 1) parts)

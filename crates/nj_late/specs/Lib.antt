@@ -4,5 +4,6 @@ pub mod Laws
 pub mod LateEdges
 pub mod VariableCycles
 -- how what the code holds is that
+pub mod ReferencesHeld
 pub mod CyclesHeld
 pub mod TextsHeld

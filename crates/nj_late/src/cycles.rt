@@ -1,196 +1,181 @@
 //! Cycles of a rule's variables.
 
-ghost use Rattle.std.specs.Prelude.{◌≡◌, ◌<◌, ◌⊎◌, ℕ, List, [], ◌∷◌, Option, true, false, length, None, IfOk, IfSome, is_some, option_map, option_copied};
-ghost use Rattle.nj_text.specs.Words.{part_text};
-ghost use Rattle.nj_scope.specs.RulesHeld.{key_count, key_at};
-ghost use Rattle.nj_late.specs.VariableCycles.{IsOnCycle, IsCycleFound, variable_cycle_of};
-ghost use Rattle.nj_late.specs.CyclesHeld.{IsMarked, Hits, Leads, IsLeft, IsLesser, unmarked, AreCounted, MarksLead, IsClosed, rule_value_unless};
+ghost use Rattle.std.specs.Prelude.{◌≡◌, ◌<◌, ℕ, List, Option, Some, None, true, false, length, slice_index_or, IfOk, IfSome, is_some, option_copied};
+ghost use Rattle.nj_scope.specs.Rules.{RuleLineText};
 ghost use Rattle.nj_blocks.specs.Blocks.{bound_in};
+ghost use Rattle.nj_late.specs.VariableCycles.{variable_cycle_of};
+ghost use Rattle.nj_late.specs.ReferencesHeld.{AreReferences, NeverCycles, TellsCycles, name_at, unbound};
+ghost use Rattle.nj_late.specs.CyclesHeld.{IsMarked, marked, unmarked, IsOnLoop, SameLoops, RefersToMarked, Points, IsLeft, MarksLead, IsClosed, IsLesser, IsLeastLoop};
 
-use crate::names::{is_of_command, names_paths};
+use crate::references::{KeyReferences, is_marked};
 use nj_blocks::Blocks;
-use nj_scope::Rule;
-use nj_text::Part;
 use std::alloc::{AllocError, Global};
 use std::cmp::Ordering;
 
-/// The least key, by bytes, of a rule's lines that refers to itself, in one step or more, where an
-/// edge uses the rule: by keys that the block of the edge does not bind. `None` if there is none
-/// ("Rule variables" in the Ninja manual). An edge for which it is `None` has late texts.
-pub fn variable_cycle<'a>(
-    alloc: Global,
-    rule: &'a Rule,
-    blocks: &Blocks,
-    edge: usize,
-) -> Result<Option<&'a [u8]>, AllocError>
-    ensures { IfOk result (λ key. option_copied key
-        ≡ variable_cycle_of (bound_in blocks.now edge) rule.now.lines) }
-{
-    let mut counts = Vec::with_capacity(alloc, rule.key_count())?;
-    'keys: for number in 0..rule.key_count() {
-        let is_bound = blocks.value(edge, rule.key(number)).is_some();
-        counts.push(is_counted(rule, number, is_bound))?;
-    }
-    match least_on_cycle(alloc, rule, &counts)? {
-        Some(number) => Ok(Some(rule.key(number))),
-        None => Ok(None),
-    }
-}
-
-/// Whether a block could leave a cycle of the rule's variables: whether there is one where nothing
-/// is bound. It is to be asked once for each rule.
-pub fn may_cycle(alloc: Global, rule: &Rule) -> Result<bool, AllocError>
-    ensures unbound { IfOk result (λ may.
-        may ≡ is_some (variable_cycle_of (λ _. None) rule.now.lines)) }
-    ensures no { IfOk result (λ may. may ≡ false → (block : List ℕ → Option (List ℕ))
-        → variable_cycle_of block rule.now.lines ≡ None) }
-{
-    let mut counts = Vec::with_capacity(alloc, rule.key_count())?;
-    'keys: for number in 0..rule.key_count() {
-        counts.push(is_counted(rule, number, false))?;
-    }
-    Ok(least_on_cycle(alloc, rule, &counts)?.is_some())
-}
-
-// Whether the value of a key in the rule counts, where the block binds the key or not.
-fn is_counted(rule: &Rule, number: usize, is_bound: bool) -> bool
-    requires { number < key_count rule.now.lines }
-    ensures { result ≡ is_some (rule_value_unless is_bound rule.now.lines
-        (key_at rule.now.lines number)) }
-{
-    let key = rule.key(number);
-    if names_paths(key) || is_bound {
-        return false;
-    }
-    !is_of_command(key) || rule.key_value(number).len() > 0
-}
-
-// Whether a part of a value refers to the target, or to a marked key.
-fn hits(rule: &Rule, marks: &[bool], target: usize, part: Part<'_>) -> bool
-    requires { length marks.now ≡ key_count rule.now.lines }
-    ensures yes { result ≡ true
-        → Hits rule.now.lines marks.now target (part_text part.entry ∷ []) }
-    ensures no { result ≡ false
-        → ¬ Hits rule.now.lines marks.now target (part_text part.entry ∷ []) }
-{
-    let Part::Name(name) = part else {
-        return false;
-    };
-    match rule.key_number(name) {
-        Some(number) => number == target || marks[number],
-        None => false,
-    }
-}
-
-// Whether the value of a key refers to the target, or to a marked key.
-fn leads(rule: &Rule, marks: &[bool], target: usize, key: usize) -> bool
-    requires key { key < key_count rule.now.lines }
-    requires marks { length marks.now ≡ key_count rule.now.lines }
-    ensures yes { result ≡ true → Leads rule.now.lines marks.now target key }
-    ensures no { result ≡ false → ¬ Leads rule.now.lines marks.now target key }
-{
-    let value = rule.key_value(key);
-    'parts: for index in 0..value.len() {
-        if hits(rule, marks, target, value.part(index)) {
-            return true;
+impl KeyReferences {
+    /// The least key, by bytes, of the rule's lines that refers to itself, in one step or more,
+    /// where an edge uses the rule: by keys that the block of the edge does not bind. `None` if
+    /// there is none ("Rule variables" in the Ninja manual). An edge for which it is `None` has
+    /// late texts.
+    ///
+    /// # Errors
+    ///
+    /// If an allocation failed.
+    pub fn variable_cycle(
+        &self,
+        alloc: Global,
+        blocks: &Blocks,
+        edge: usize,
+    ) -> Result<Option<&[u8]>, AllocError>
+        ensures { (lines : List RuleLineText) → TellsCycles lines self.now
+            → IfOk result (λ key. option_copied key
+            ≡ variable_cycle_of (bound_in blocks.now edge) lines) }
+    {
+        let mut counts = Vec::with_capacity(alloc, self.key_count())?;
+        'keys: for number in 0..self.key_count() {
+            counts.push(blocks.value(edge, self.key(number)).is_none())?;
+        }
+        match self.least_loop(alloc, &mut counts)? {
+            Some(number) => Ok(Some(self.key(number))),
+            None => Ok(None),
         }
     }
-    false
-}
 
-// Whether a key is to be marked: it counts, has no mark, and its value refers to the target or to a
-// marked key.
-fn is_left(rule: &Rule, counts: &[bool], target: usize, marks: &[bool], key: usize) -> bool
-    requires key { key < key_count rule.now.lines }
-    requires counts { length counts.now ≡ key_count rule.now.lines }
-    requires marks { length marks.now ≡ key_count rule.now.lines }
-    ensures yes { result ≡ true → IsLeft rule.now.lines counts.now marks.now target key }
-    ensures no { result ≡ false → IsMarked counts.now key
-        → Leads rule.now.lines marks.now target key → IsMarked marks.now key }
-{
-    counts[key] && !marks[key] && leads(rule, marks, target, key)
-}
+    // Whether a block could leave a cycle of the rule's variables: whether there is one where
+    // nothing is bound.
+    pub(crate) fn may_cycle(&self, alloc: Global) -> Result<bool, AllocError>
+        ensures unbound { (lines : List RuleLineText) → AreReferences lines self.now
+            → IfOk result (λ may. may ≡ is_some (variable_cycle_of unbound lines)) }
+        ensures no { (lines : List RuleLineText) → AreReferences lines self.now
+            → IfOk result (λ may. may ≡ false → NeverCycles lines) }
+    {
+        let mut counts = vec![in alloc; true; self.key_count()]?;
+        Ok(self.least_loop(alloc, &mut counts)?.is_some())
+    }
 
-// Marks the keys that count and refer to the target or to a marked key. Returns whether one of them
-// had no mark.
-fn mark_round(rule: &Rule, counts: &[bool], target: usize, marks: &mut [bool]) -> bool
-    requires target { target < key_count rule.now.lines }
-    requires counts { length counts.now ≡ key_count rule.now.lines }
-    requires marks { length marks.old ≡ key_count rule.now.lines }
-    ensures sound { (block : List ℕ → Option (List ℕ))
-        → AreCounted block rule.now.lines counts.now
-        → MarksLead block rule.now.lines marks.old target
-        → MarksLead block rule.now.lines marks.new target }
-    ensures more { result ≡ true → unmarked marks.new < unmarked marks.old }
-    ensures all { result ≡ false → IsClosed rule.now.lines counts.now marks.new target }
-    ensures less { result ≡ false → marks.new ≡ marks.old }
-{
-    let mut is_new = false;
-    'keys: for key in 0..counts.len() {
-        if is_left(rule, counts, target, marks, key) {
-            marks[key] = true;
-            is_new = true;
+    // The least key that leads back to itself by keys that count. Takes the marks of the others.
+    fn least_loop(&self, alloc: Global, counts: &mut [bool]) -> Result<Option<usize>, AllocError>
+        requires { length counts.old ≡ length self.now }
+        ensures { IfOk result (IsLeastLoop self.now counts.old) }
+    {
+        self.strip(counts);
+        self.least_marked(alloc, counts)
+    }
+
+    // Takes the marks of keys that lead to no key which leads back to itself: of those that refer
+    // to no marked key, again and again.
+    fn strip(&self, counts: &mut [bool])
+        ensures { SameLoops self.now counts.old counts.new }
+    {
+        let mut is_less = true;
+        'rounds: while is_less {
+            is_less = self.strip_round(counts);
         }
     }
-    is_new
-}
 
-// Whether a key refers to itself, in one step or more, by keys that count.
-fn is_on_cycle(
-    alloc: Global,
-    rule: &Rule,
-    counts: &[bool],
-    target: usize,
-) -> Result<bool, AllocError>
-    requires target { target < key_count rule.now.lines }
-    requires counts { length counts.now ≡ key_count rule.now.lines }
-    ensures yes { IfOk result (λ is_on. is_on ≡ true → (block : List ℕ → Option (List ℕ))
-        → AreCounted block rule.now.lines counts.now
-        → IsOnCycle block rule.now.lines (key_at rule.now.lines target)) }
-    ensures no { IfOk result (λ is_on. is_on ≡ false → (block : List ℕ → Option (List ℕ))
-        → AreCounted block rule.now.lines counts.now
-        → ¬ IsOnCycle block rule.now.lines (key_at rule.now.lines target)) }
-{
-    let mut marks = vec![in alloc; false; counts.len()]?;
-    let mut is_new = true;
-    'rounds: while is_new {
-        is_new = mark_round(rule, counts, target, &mut marks);
-    }
-    Ok(marks[target])
-}
-
-// The lesser of two keys by bytes, by their numbers.
-fn lesser(rule: &Rule, least: Option<usize>, key: usize) -> usize
-    requires key { key < key_count rule.now.lines }
-    requires least { IfSome least (λ other. other < key_count rule.now.lines) }
-    ensures { IsLesser rule.now.lines least key result }
-{
-    match least {
-        Some(other) => {
-            if rule.key(key).cmp(rule.key(other)) == Ordering::Less {
-                key
-            } else {
-                other
+    // Takes the marks of keys that refer to no marked key. Returns whether there was one.
+    fn strip_round(&self, counts: &mut [bool]) -> bool
+        ensures same { SameLoops self.now counts.old counts.new }
+        ensures less { result ≡ true → marked counts.new < marked counts.old }
+        ensures none { result ≡ false → counts.new ≡ counts.old }
+    {
+        let mut is_less = false;
+        'keys: for key in 0..counts.len() {
+            if counts[key] && !self.refers_to_marked(counts, key) {
+                counts[key] = false;
+                is_less = true;
             }
         }
-        None => key,
+        is_less
     }
-}
 
-// The least key on a cycle of keys that count, by its number.
-fn least_on_cycle(alloc: Global, rule: &Rule, counts: &[bool]) -> Result<Option<usize>, AllocError>
-    requires { length counts.now ≡ key_count rule.now.lines }
-    ensures within { IfOk result (λ least.
-        IfSome least (λ number. number < key_count rule.now.lines)) }
-    ensures found { IfOk result (λ least. (block : List ℕ → Option (List ℕ))
-        → AreCounted block rule.now.lines counts.now
-        → IsCycleFound block rule.now.lines (option_map (key_at rule.now.lines) least)) }
-{
-    let mut least = None;
-    'keys: for key in 0..counts.len() {
-        if is_on_cycle(alloc, rule, counts, key)? {
-            least = Some(lesser(rule, least, key));
+    // Whether the value of a key refers to a marked key.
+    fn refers_to_marked(&self, marks: &[bool], key: usize) -> bool
+        ensures yes { result ≡ true → RefersToMarked self.now marks.now key }
+        ensures no { result ≡ false → ¬ RefersToMarked self.now marks.now key }
+    {
+        'keys: for other in 0..marks.len() {
+            if marks[other] && self.refers(key, other) {
+                return true;
+            }
+        }
+        false
+    }
+
+    // The least marked key that leads back to itself, by its number.
+    fn least_marked(&self, alloc: Global, counts: &[bool]) -> Result<Option<usize>, AllocError>
+        requires { length counts.now ≡ length self.now }
+        ensures { IfOk result (IsLeastLoop self.now counts.now) }
+    {
+        let mut least = None;
+        'keys: for key in 0..counts.len() {
+            if counts[key] && self.is_on_loop(alloc, counts, key)? {
+                least = Some(self.lesser(least, key));
+            }
+        }
+        Ok(least)
+    }
+
+    // The lesser of two keys by bytes, by their numbers.
+    fn lesser(&self, least: Option<usize>, key: usize) -> usize
+        requires key { key < length self.now }
+        requires least { IfSome least (λ other. other < length self.now) }
+        ensures { IsLesser self.now least key result }
+    {
+        match least {
+            Some(other) => {
+                if self.key(key).cmp(self.key(other)) == Ordering::Less {
+                    key
+                } else {
+                    other
+                }
+            }
+            None => key,
         }
     }
-    Ok(least)
+
+    // Whether a key leads back to itself by keys that count.
+    fn is_on_loop(&self, alloc: Global, counts: &[bool], target: usize) -> Result<bool, AllocError>
+        ensures yes { IfOk result (λ is_on. is_on ≡ true → IsOnLoop self.now counts.now target) }
+        ensures no { IfOk result (λ is_on. is_on ≡ false → ¬ IsOnLoop self.now counts.now target) }
+    {
+        let mut marks = vec![in alloc; false; counts.len()]?;
+        let mut is_new = true;
+        'rounds: while is_new {
+            is_new = self.mark_round(counts, target, &mut marks);
+        }
+        Ok(is_marked(&marks, target))
+    }
+
+    // Marks the keys that count and refer to the target or to a marked key. Returns whether one of
+    // them had no mark.
+    fn mark_round(&self, counts: &[bool], target: usize, marks: &mut [bool]) -> bool
+        requires { length marks.old ≡ length counts.now }
+        ensures sound { MarksLead self.now counts.now marks.old target
+            → MarksLead self.now counts.now marks.new target }
+        ensures more { result ≡ true → unmarked marks.new < unmarked marks.old }
+        ensures all { result ≡ false → IsClosed self.now counts.now marks.new target }
+        ensures none { result ≡ false → marks.new ≡ marks.old }
+    {
+        let mut is_new = false;
+        'keys: for key in 0..counts.len() {
+            if self.is_left(counts, marks, target, key) {
+                marks[key] = true;
+                is_new = true;
+            }
+        }
+        is_new
+    }
+
+    // Whether a key is to be marked: it counts, has no mark, and its value refers to the target or
+    // to a marked key.
+    fn is_left(&self, counts: &[bool], marks: &[bool], target: usize, key: usize) -> bool
+        ensures yes { result ≡ true → IsLeft self.now counts.now marks.now target key }
+        ensures no { result ≡ false → IsMarked counts.now key
+            → Points self.now marks.now target key → IsMarked marks.now key }
+    {
+        is_marked(counts, key)
+            && !is_marked(marks, key)
+            && (self.refers(key, target) || self.refers_to_marked(marks, key))
+    }
 }

@@ -7,8 +7,9 @@ mod laws;
 mod memo;
 mod names;
 mod paths;
+mod references;
 mod texts;
 
-pub use cycles::{may_cycle, variable_cycle};
 pub use edge::LateEdge;
 pub use laws::{block_before_rule_before_file, computed_cycle_is_found, late_texts_are_said};
+pub use references::KeyReferences;
