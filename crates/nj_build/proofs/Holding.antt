@@ -19,20 +19,20 @@ use Rattle.nj_edges.specs.EdgesHeld.{no_files}
 use Rattle.nj_edges.specs.Files.{AreFiles}
 use Rattle.nj_faults.specs.declared.fault.GraphFault.{GraphFault}
 use Rattle.nj_build.specs.EdgeList.{Block, EdgeText, build_block, paths_said, edge_of_build, edges_read, defaults_read}
-use Rattle.nj_build.specs.Answers.{BuildingText, HoldsEdges, DetailText, IsDetail, AreDetails, AddsEdge, AddsTargets, Checks, IsFault, ReadsStatement, HoldsVerdicts, block_at, block_of_edge}
+use Rattle.nj_build.specs.Answers.{BuildingText, HoldsEdges, DetailText, IsDetail, AreDetails, AddsEdge, AddsTargets, Checks, IsFault, ReadsStatement, HoldsReferences, block_at, block_of_edge}
 use Rattle.nj_build.proofs.Lists.{get-longer}
-use Rattle.nj_build.proofs.VerdictLemmas.{verdicts-none, verdicts-longer}
+use Rattle.nj_build.proofs.ReferenceLemmas.{references-none, references-longer}
 
 pub holds-none : (held : BuildingText) → held.table ≡ record { files = []; edges = []; «open» = no_files }
-    → ((edge : ℕ) (name : List ℕ) → bound_in held.blocks edge name ≡ None) → held.details ≡ [] → held.defaults ≡ [] → held.may_cycle ≡ [] → HoldsEdges held []
+    → ((edge : ℕ) (name : List ℕ) → bound_in held.blocks edge name ≡ None) → held.details ≡ [] → held.defaults ≡ [] → held.references ≡ [] → HoldsEdges held []
 unfolding edges_read defaults_read
-holds-none held table blocks details defaults may_cycle = record {
+holds-none held table blocks details defaults references = record {
   edges = ap (λ t. t.edges) table;
   none_open = ap (λ t. t.«open») table;
   blocks = blocks;
   details = subst (λ ds. AreDetails held.names ds []) (sym details) tt;
   defaults = subst (λ ds. AreFiles held.table.files ds []) (sym defaults) refl;
-  may_cycle = subst (λ v. HoldsVerdicts v (rule_texts [])) (sym may_cycle) (verdicts-none (rule_texts []));
+  references = subst (λ kept. HoldsReferences kept (rule_texts [])) (sym references) (references-none (rule_texts []));
 }
 
 pub reads-by : (after : BuildingText) (expected : Option GraphFault) (e : Entry) (before : List Entry) (r : Result (Unit {0}) GraphFault)
@@ -80,9 +80,9 @@ files-append files ns ms ps qs are others =
 pub holds-default : (old new : BuildingText) (e : Entry) (before : List Entry) (words : List WordText) → HoldsEdges old before
     → new.table ≡ old.table → new.blocks ≡ old.blocks → new.names ≡ old.names → new.details ≡ old.details
     → AddsTargets old.table.files old.defaults new.defaults (paths_said (value_after before (scope_of e)) words)
-    → new.may_cycle ≡ old.may_cycle → HoldsEdges new (record e { item = DefaultText words } ∷ before)
+    → new.references ≡ old.references → HoldsEdges new (record e { item = DefaultText words } ∷ before)
 unfolding edges_read defaults_read
-holds-default old new e before words holds table blocks names details adds may_cycle = record {
+holds-default old new e before words holds table blocks names details adds references = record {
   edges = ap (λ t. t.edges) table ∙ holds.edges;
   none_open = ap (λ t. t.«open») table ∙ holds.none_open;
   blocks = λ number name. ap (λ b. bound_in b number name) blocks ∙ holds.blocks number name;
@@ -90,7 +90,7 @@ holds-default old new e before words holds table blocks names details adds may_c
   defaults = subst (λ t. AreFiles t.files new.defaults (defaults_read before ++ paths_said (value_after before (scope_of e)) words)) (sym table)
       (subst (λ ns. AreFiles old.table.files ns (defaults_read before ++ paths_said (value_after before (scope_of e)) words)) (sym adds.after_is)
       (files-append old.table.files old.defaults adds.added (defaults_read before) (paths_said (value_after before (scope_of e)) words) holds.defaults adds.are));
-  may_cycle = subst (λ v. HoldsVerdicts v (rule_texts before)) (sym may_cycle) holds.may_cycle;
+  references = subst (λ kept. HoldsReferences kept (rule_texts before)) (sym references) holds.references;
 }
 
 -- ---- a build statement
@@ -142,9 +142,9 @@ pub holds-build : (old new : BuildingText) (e : Entry) (before : List Entry) (ou
     → AddsEdge old.table new.table (edge_of_build e before outputs rule inputs lines).paths
     → ((n : ℕ) (name : List ℕ) → bound_in new.blocks n name ≡ (if n == length old.details then or_else (build_block e before lines name) (bound_in old.blocks n name) else bound_in old.blocks n name))
     → IsPrefix old.names new.names → new.details ≡ old.details ++ d ∷ [] → IsDetail new.names d (edge_of_build e before outputs rule inputs lines) → new.defaults ≡ old.defaults
-    → HoldsVerdicts new.may_cycle (rule_texts before) → HoldsEdges new (record e { item = BuildText outputs rule inputs lines } ∷ before)
+    → HoldsReferences new.references (rule_texts before) → HoldsEdges new (record e { item = BuildText outputs rule inputs lines } ∷ before)
 unfolding edges_read defaults_read
-holds-build old new e before outputs rule inputs lines d holds adds blocks names details is defaults may_cycle = record {
+holds-build old new e before outputs rule inputs lines d holds adds blocks names details is defaults references = record {
   edges = adds.edges ∙ ap (λ es. es ++ edge.paths ∷ []) holds.edges ∙ sym (map-append (λ (x : EdgeText). x.paths) (edges_read before) (edge ∷ []));
   none_open = adds.none_open;
   blocks = λ n name.
@@ -154,7 +154,7 @@ holds-build old new e before outputs rule inputs lines d holds adds blocks names
       ∙ block-more (edges_read before) edge n name;
   details = subst (λ ds. AreDetails new.names ds (edges_read before ++ edge ∷ [])) (sym details) (details-more old.names new.names old.details (edges_read before) d edge names holds.details is);
   defaults = subst (λ ns. AreFiles new.table.files ns (defaults_read before)) (sym defaults) (files-longer old.table.files new.table.files old.defaults (defaults_read before) adds.files holds.defaults);
-  may_cycle = may_cycle;
+  references = references;
 }
   where
     edge : EdgeText
@@ -191,14 +191,14 @@ names_files item = false
 
 holds-item : (held : BuildingText) (e : Entry) (before : List Entry) (item : StatementText) → names_files item ≡ false → HoldsEdges held before → HoldsEdges held (record e { item = item } ∷ before)
 unfolding edges_read defaults_read
-holds-item held e before (BindingText bound word) other holds = record { edges = holds.edges; none_open = holds.none_open; blocks = holds.blocks; details = holds.details; defaults = holds.defaults; may_cycle = holds.may_cycle }
+holds-item held e before (BindingText bound word) other holds = record { edges = holds.edges; none_open = holds.none_open; blocks = holds.blocks; details = holds.details; defaults = holds.defaults; references = holds.references }
 holds-item held e before (RuleText declared lines) other holds =
-    record { edges = holds.edges; none_open = holds.none_open; blocks = holds.blocks; details = holds.details; defaults = holds.defaults; may_cycle = verdicts-longer held.may_cycle (rule_texts before) (record { scope = e.number; name = declared.name; lines = map line_kept lines } ∷ []) holds.may_cycle }
-holds-item held e before (PoolText declared lines) other holds = record { edges = holds.edges; none_open = holds.none_open; blocks = holds.blocks; details = holds.details; defaults = holds.defaults; may_cycle = holds.may_cycle }
+    record { edges = holds.edges; none_open = holds.none_open; blocks = holds.blocks; details = holds.details; defaults = holds.defaults; references = references-longer held.references (rule_texts before) (record { scope = e.number; name = declared.name; lines = map line_kept lines } ∷ []) holds.references }
+holds-item held e before (PoolText declared lines) other holds = record { edges = holds.edges; none_open = holds.none_open; blocks = holds.blocks; details = holds.details; defaults = holds.defaults; references = holds.references }
 holds-item held e before (BuildText outputs rule inputs lines) other holds = absurd (true≢false other)
 holds-item held e before (DefaultText words) other holds = absurd (true≢false other)
-holds-item held e before (IncludeText word) other holds = record { edges = holds.edges; none_open = holds.none_open; blocks = holds.blocks; details = holds.details; defaults = holds.defaults; may_cycle = holds.may_cycle }
-holds-item held e before (SubninjaText word) other holds = record { edges = holds.edges; none_open = holds.none_open; blocks = holds.blocks; details = holds.details; defaults = holds.defaults; may_cycle = holds.may_cycle }
+holds-item held e before (IncludeText word) other holds = record { edges = holds.edges; none_open = holds.none_open; blocks = holds.blocks; details = holds.details; defaults = holds.defaults; references = holds.references }
+holds-item held e before (SubninjaText word) other holds = record { edges = holds.edges; none_open = holds.none_open; blocks = holds.blocks; details = holds.details; defaults = holds.defaults; references = holds.references }
 
 -- What is held is held still after a statement that names no files.
 pub holds-other : (held : BuildingText) (e : Entry) (before : List Entry) → names_files e.item ≡ false → HoldsEdges held before → HoldsEdges held (e ∷ before)

@@ -1,17 +1,16 @@
 -- Lemmas on the faults of a rule's variables.
-use Rattle.std.proofs.Common.{◌≡◌, ℕ, ◌==◌, ◌||◌, Bool, true, false, not, List, [], ◌∷◌, length, Some, None, option_map, refl, sym, ap, subst, ◌∙◌, arith, true≢false}
+use Rattle.std.proofs.Common.{◌≡◌, ℕ, ◌==◌, ◌||◌, Bool, true, false, not, List, [], ◌∷◌, length, Some, None, refl, sym, ap, subst, ◌∙◌, arith, true≢false}
 use Rattle.std.proofs.lemmas.Bool.{ne_eqb}
 use Rattle.nj_text.specs.declared.spot.Spot.{Spot}
 use Rattle.nj_text.specs.Calls.{is_empty}
 use Rattle.nj_text.specs.Paths.{clean_path_of}
 use Rattle.nj_scope.specs.Pools.{is_pool}
 use Rattle.nj_faults.specs.declared.fault.GraphFault.{GraphFault}
-use Rattle.nj_faults.specs.declared.fault.Cause.TheVariants.{RuleVariableCycle, UnknownPool, DyndepNotInput}
+use Rattle.nj_faults.specs.declared.fault.Cause.TheVariants.{UnknownPool, DyndepNotInput}
 use Rattle.nj_faults.specs.Faults.{fault_at}
 use Rattle.nj_edges.specs.Edges.{is_among}
-use Rattle.nj_late.specs.LateTexts.{LateNames}
-use Rattle.nj_build.specs.BuildFaults.{fault_if, variable_cycle_fault, unknown_pool, dyndep_not_input}
-use Rattle.nj_build.specs.Answers.{IsFault, NeverCycles}
+use Rattle.nj_build.specs.BuildFaults.{fault_if, unknown_pool, dyndep_not_input}
+use Rattle.nj_build.specs.Answers.{IsFault}
 
 -- ---- the pool
 
@@ -63,9 +62,3 @@ module _ (file : List ℕ) (spot : Spot) (inputs : List (List ℕ)) (said text :
   pub dyndep-other : (f : GraphFault) → is_empty said ≡ false → is_among inputs path ≡ false → IsFault (Some (no_input path)) f → IsFault (dyndep_not_input file spot inputs text) f
   dyndep-other f some other h =
       subst (λ o. IsFault o f) (sym (ap (dyndep_not_input file spot inputs) (sym says) ∙ ap (λ b. fault_if (not (b || is_among inputs path)) (no_input path)) some ∙ ap (λ b. fault_if (not b) (no_input path)) other)) h
-
--- ---- cycles
-
--- a rule whose variables never refer back to themselves
-pub no-cycle : (file : List ℕ) (spot : Spot) (n : LateNames) → NeverCycles n.lines → variable_cycle_fault file spot n ≡ None
-no-cycle file spot n never = ap (option_map (λ key. fault_at file spot (RuleVariableCycle key))) (never n.block)

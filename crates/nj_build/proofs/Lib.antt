@@ -5,7 +5,7 @@ pub mod Faults
 pub mod Tables
 pub mod LateFaults
 pub mod LateLemmas
-pub mod VerdictLemmas
+pub mod ReferenceLemmas
 pub mod Holding
 pub mod Adding
 pub mod Rows

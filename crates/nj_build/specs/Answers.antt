@@ -4,7 +4,7 @@ use Rattle.std.specs.Prelude.{List, [], ◌∷◌, ◌++◌, ◌+◌, ◌≤◌,
 use Rattle.nj_text.specs.declared.spot.Spot.{Spot}
 use Rattle.nj_manifest.specs.Contents.{words_text, lines_text}
 use Rattle.nj_manifest.specs.Statements.{OutputsText, InputsText, StatementText, BuildText}
-use Rattle.nj_scope.specs.Rules.{RuleText, RuleLineText, phony}
+use Rattle.nj_scope.specs.Rules.{RuleText, phony}
 use Rattle.nj_scope.specs.Readings.{IsPrefix}
 use Rattle.nj_scope.specs.Scopes.{IsScope}
 use Rattle.nj_scope.specs.ScopesHeld.{parent_at}
@@ -21,7 +21,7 @@ use Rattle.nj_faults.specs.Faults.{no_memory}
 use Rattle.nj_late.specs.declared.edge.LateEdge.{LateEdge}
 use Rattle.nj_late.specs.LateTexts.{LateNames}
 use Rattle.nj_late.specs.LateEdges.{late_names}
-use Rattle.nj_late.specs.VariableCycles.{variable_cycle_of}
+use Rattle.nj_late.specs.ReferencesHeld.{ReferringKeyText, TellsCycles}
 use Rattle.nj_build.specs.declared.edge.Build.{Build}
 use Rattle.nj_build.specs.declared.names.Names.{Names}
 use Rattle.nj_build.specs.declared.names.EdgeBlock.{EdgeBlock}
@@ -155,15 +155,15 @@ pub record SeesLate (edge : LateEdge) (entries : List Entry) (n : LateNames) : T
   pub within : IsScope (parent_at edge.declarations.now.scopes) edge.scope (edge.scope ∷ around)
   pub are : n ≡ late_names edge (value_after entries (edge.scope ∷ around))
 
--- whatever a block binds, no variable of the rule refers back to itself
-abbrev pub NeverCycles : List RuleLineText → Type 0
-NeverCycles lines = (block : Block) → variable_cycle_of block lines ≡ None
+-- what is kept of rules tells of their cycles
+abbrev pub HoldsReferences : (kept : List (Option (List ReferringKeyText))) → List RuleText → Type 0
+HoldsReferences kept rules =
+    (number : ℕ) (keys : List ReferringKeyText) → slice_index_or kept number None ≡ Some keys
+    → (rule : RuleText) × (slice_get rules number ≡ Some rule) × TellsCycles rule.lines keys
 
--- Where it is held that no variable of a rule may refer back to itself, none does.
-abbrev pub HoldsVerdicts : (may_cycle : List (Option Bool)) → List RuleText → Type 0
-HoldsVerdicts may_cycle rules =
-    (number : ℕ) → slice_index_or may_cycle number None ≡ Some false
-    → (rule : RuleText) × (slice_get rules number ≡ Some rule) × NeverCycles rule.lines
+-- the same is kept of each rule
+abbrev pub SameReferences : (kept others : List (Option (List ReferringKeyText))) → Type 0
+SameReferences kept others = (number : ℕ) → slice_index_or kept number None ≡ slice_index_or others number None
 
 -- ---- what is held
 
@@ -181,8 +181,8 @@ pub record BuildingText : Type 0 where
   pub names : List (List ℕ)
   pub details : List DetailText
   pub defaults : List FileNo
-  -- of each rule by number, whether a variable may refer back to itself, where that was asked
-  pub may_cycle : List (Option Bool)
+  -- of each rule by number, which of its variables refer to which, where an edge has used it
+  pub references : List (Option (List ReferringKeyText))
 
 abbrev pub block_of_edge : Option EdgeText → Block
 block_of_edge None = no_block
@@ -212,7 +212,7 @@ pub record HoldsEdges (held : BuildingText) (entries : List Entry) : Type 0 wher
   pub blocks : (number : ℕ) (name : List ℕ) → bound_in held.blocks number name ≡ block_at (edges_read entries) number name
   pub details : AreDetails held.names held.details (edges_read entries)
   pub defaults : AreFiles held.table.files held.defaults (defaults_read entries)
-  pub may_cycle : HoldsVerdicts held.may_cycle (rule_texts entries)
+  pub references : HoldsReferences held.references (rule_texts entries)
 
 -- ---- a statement
 

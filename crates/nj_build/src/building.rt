@@ -16,10 +16,11 @@ use crate::block::bind_block;
 use crate::edge::{Build, EdgeRule, NamedLine, add_edge};
 use crate::names::{EdgeBlock, Names, Room};
 use crate::place::StatementPlace;
-use crate::verdicts::{NumberedRule, may_cycle_kept};
+use crate::references::{NumberedRule, keep_references, rule_references};
 use nj_blocks::Blocks;
 use nj_edges::{Edges, FileNo, Files};
 use nj_faults::{Cause, GraphFault, Name};
+use nj_late::KeyReferences;
 use nj_scope::{Declarations, HashKeys};
 use nj_text::{Spot, Word};
 use std::alloc::Global;
@@ -47,8 +48,8 @@ pub struct Building {
     pub(crate) names: Files,
     pub(crate) details: Vec<Detail>,
     pub(crate) defaults: Vec<FileNo>,
-    // of each rule by number, whether a variable may refer back to itself, where that was asked
-    may_cycle: Vec<Option<bool>>,
+    // of each rule by number, which of its variables refer to which, where an edge has used it
+    references: Vec<Option<KeyReferences>>,
     room: Room,
 }
 
@@ -64,7 +65,7 @@ impl Model for Building {
       names = b.names;
       details = map detail_text b.details.items;
       defaults = b.defaults.items;
-      may_cycle = b.may_cycle.items;
+      references = b.references.items;
     } };
 
     ghost invariant = { λ b. b.block_values.last ≤ length b.details.items };
@@ -81,7 +82,7 @@ impl Building {
             names: Files::new(alloc, keys),
             details: Vec::new(alloc),
             defaults: Vec::new(alloc),
-            may_cycle: Vec::new(alloc),
+            references: Vec::new(alloc),
             room: Room::new(alloc),
         }
     }
@@ -151,7 +152,7 @@ impl Building {
             (inputs_of_build build.entry) lines))) e entries result }
     {
         let edge = self.details.as_slice().len();
-        let may_cycle = may_cycle_kept(alloc, &mut self.may_cycle, rule)?;
+        keep_references(alloc, &mut self.references, rule)?;
         bind_block(
             &mut self.block_values,
             &mut self.room.text,
@@ -177,7 +178,7 @@ impl Building {
         let used = EdgeRule {
             rule: rule.rule,
             is_phony: rule.number == PHONY,
-            may_cycle,
+            references: rule_references(&self.references, rule.number),
             block,
         };
         add_edge(line, &mut self.room, &mut self.edges, build, used)?;

@@ -7,16 +7,17 @@ ghost use Rattle.nj_scope.specs.ReadingList.{value_after, pools};
 ghost use Rattle.nj_edges.specs.Edges.{inputs_of};
 ghost use Rattle.nj_edges.specs.EdgesHeld.{no_files, EndWithin, edge_read};
 ghost use Rattle.nj_late.specs.LateEdges.{late_names};
+ghost use Rattle.nj_late.specs.ReferencesHeld.{TellsCycles};
 ghost use Rattle.nj_build.specs.EdgeList.{Values, path_said, paths_said, stated_paths, loses_own, edge_paths};
 ghost use Rattle.nj_build.specs.BuildFaults.{or_then, empty_path, first_fault, target_fault, outputs_fault, inputs_fault, paths_fault, names_fault};
-ghost use Rattle.nj_build.specs.Answers.{Checks, SeesNames, bound_by, Grows, AddsInputs, NamesFiles, AddsEdge, names_read, NeverCycles, outputs_of_build, inputs_of_build, with_outputs, with_inputs, with_validations};
+ghost use Rattle.nj_build.specs.Answers.{Checks, SeesNames, bound_by, Grows, AddsInputs, NamesFiles, AddsEdge, names_read, outputs_of_build, inputs_of_build, with_outputs, with_inputs, with_validations};
 
 use crate::late::LateLine;
 use crate::names::{EdgeBlock, Names, Room};
 use crate::place::StatementPlace;
 use nj_edges::{Edges, FileNo, KindEnds};
 use nj_faults::{Cause, GraphFault, Name};
-use nj_late::LateEdge;
+use nj_late::{KeyReferences, LateEdge};
 use nj_manifest::{Line, Word};
 use nj_scope::{Declarations, Rule};
 use nj_text::{Spot, TextFault};
@@ -229,8 +230,8 @@ fn add_all_inputs(
 pub(crate) struct EdgeRule<'r, 'b> {
     pub(crate) rule: &'r Rule,
     pub(crate) is_phony: bool,
-    /// Whether a block could leave a cycle of the rule's variables.
-    pub(crate) may_cycle: bool,
+    /// Which of its variables refer to which.
+    pub(crate) references: &'r KeyReferences,
     pub(crate) block: EdgeBlock<'b>,
 }
 
@@ -306,7 +307,7 @@ pub(crate) fn add_edge(
     requires { line.names.scope < length line.names.declarations.now.scopes }
     ensures fault { (values : Values) (sees : SeesNames line.entry.names values)
         → edges.old.«open» ≡ no_files
-        → (rule.entry.may_cycle ≡ false → NeverCycles rule.entry.rule.now.lines)
+        → TellsCycles rule.entry.rule.now.lines rule.entry.references.now
         → let paths = edge_paths (stated_paths values (outputs_of_build build.entry)
         (inputs_of_build build.entry) rule.entry.is_phony) in
         Checks (or_then (paths_fault line.entry.place.file.now values edges.old.edges
@@ -331,7 +332,7 @@ pub(crate) fn add_edge(
             rule,
         ),
     };
-    late.check(room, edges, rule.may_cycle)?;
+    late.check(room, edges, rule.references)?;
     edges.end_edge(kinds, rule.is_phony)?;
     Ok(())
 }

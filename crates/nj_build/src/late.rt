@@ -2,15 +2,16 @@
 
 ghost use Rattle.std.specs.Prelude.{◌≡◌, List, false, codes, OnOk};
 ghost use Rattle.nj_late.specs.LateTexts.{LateNames, asked_text};
+ghost use Rattle.nj_late.specs.ReferencesHeld.{TellsCycles};
 ghost use Rattle.nj_scope.specs.ReadingList.{Entry, pools};
 ghost use Rattle.nj_build.specs.BuildFaults.{variable_cycle_fault, unknown_pool, dyndep_not_input, names_fault};
-ghost use Rattle.nj_build.specs.Answers.{Checks, SeesLate, NeverCycles};
+ghost use Rattle.nj_build.specs.Answers.{Checks, SeesLate};
 
 use crate::names::Room;
 use crate::place::StatementPlace;
 use nj_edges::Edges;
 use nj_faults::{Cause, GraphFault, Name};
-use nj_late::{LateEdge, variable_cycle};
+use nj_late::{KeyReferences, LateEdge};
 use nj_text::TextFault;
 use std::alloc::{AllocError, Global};
 
@@ -29,16 +30,14 @@ impl LateLine<'_, '_> {
         self,
         room: &mut Room,
         edges: &Edges,
-        may_cycle: bool,
+        references: &KeyReferences,
     ) -> Result<(), GraphFault>
         ensures { (entries : List Entry) (n : LateNames) → SeesLate self.entry.edge entries n
-            → (may_cycle ≡ false → NeverCycles n.lines)
+            → TellsCycles n.lines references.now
             → Checks (names_fault self.entry.place.file.now self.entry.place.spot (pools entries)
             edges.now.«open».inputs n) result }
     {
-        if may_cycle {
-            self.check_cycle()?;
-        }
+        self.check_cycle(references)?;
         self.check_pool(&mut room.text)?;
         self.check_dyndep(room, edges)
     }
@@ -53,12 +52,13 @@ impl LateLine<'_, '_> {
     }
 
     // Refuses a variable of the rule that refers back to itself.
-    fn check_cycle(self) -> Result<(), GraphFault>
+    fn check_cycle(self, references: &KeyReferences) -> Result<(), GraphFault>
         ensures { (entries : List Entry) (n : LateNames) → SeesLate self.entry.edge entries n
+            → TellsCycles n.lines references.now
             → Checks (variable_cycle_fault self.entry.place.file.now
             self.entry.place.spot n) result }
     {
-        match variable_cycle(self.alloc, self.edge.rule, self.edge.blocks, self.edge.edge)? {
+        match references.variable_cycle(self.alloc, self.edge.blocks, self.edge.edge)? {
             Some(key) => {
                 let cause = Cause::RuleVariableCycle(Name::new(self.alloc, key)?);
                 Err(self.place.fault(self.alloc, self.place.spot, cause))

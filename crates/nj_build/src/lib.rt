@@ -8,7 +8,7 @@ mod edge;
 mod late;
 mod names;
 mod place;
-mod verdicts;
+mod references;
 
 pub use building::Building;
 pub use built::{Built, PlaceRef};

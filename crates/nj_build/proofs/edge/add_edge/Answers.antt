@@ -12,7 +12,7 @@ use Rattle.nj_build.proofs.LateLemmas.{inputs-read, sees-late}
 use Rattle.nj_build.proofs.edge.add_edge.Goals as goal
 
 pub returns-in_err-check-clause-fault : goal.returns-in_err-check-clause-fault
-returns-in_err-check-clause-fault c = λ values sees none never.
+returns-in_err-check-clause-fault c = λ values sees none tells.
     let file = c.args.line.place.file.now in
     let spot = c.args.line.place.spot in
     let outputs = outputs_of_build c.args.build in
@@ -30,10 +30,10 @@ returns-in_err-check-clause-fault c = λ values sees none never.
     let after = names_fault file spot (pools sees.entries) (inputs_of paths) n in
     err-checks c.from_residual-in_err-check.result f (or_then before after) c.from_residual-in_err-check.ensures.1
     (fault-second before after f (c.in_ok-kinds.ensures.fault values sees none)
-    (subst (λ is. IsFault (names_fault file spot (pools sees.entries) is n) f) (sym inputs_are) (c.in_err-check.ensures sees.entries n late never)))
+    (subst (λ is. IsFault (names_fault file spot (pools sees.entries) is n) f) (sym inputs_are) (c.in_err-check.ensures sees.entries n late tells)))
 
 pub returns-clause-fault : goal.returns-clause-fault
-returns-clause-fault c = λ values sees none never.
+returns-clause-fault c = λ values sees none tells.
     let file = c.args.line.place.file.now in
     let spot = c.args.line.place.spot in
     let outputs = outputs_of_build c.args.build in
@@ -47,7 +47,7 @@ returns-clause-fault c = λ values sees none never.
     let late : SeesLate c.late_edge.result sees.entries n = sees-late c.late_edge.result c.args.line.names.declarations.now c.args.line.names.scope sees.entries sees.around (edge_read open_edge c.in_ok-kinds.kinds c.args.rule.is_phony) paths block c.args.rule.rule.now
     c.late_edge.ensures.declarations c.late_edge.ensures.scope c.late_edge.ensures.names named.edge_is sees.declared sees.within in
     both-none (paths_fault file values c.args.edges.now.edges outputs inputs) (names_fault file spot (pools sees.entries) (inputs_of paths) n) (c.in_ok-kinds.ensures.fault values sees none)
-    (subst (λ is. names_fault file spot (pools sees.entries) is n ≡ None) (sym inputs_are) (c.in_ok-check.ensures sees.entries n late never))
+    (subst (λ is. names_fault file spot (pools sees.entries) is n ≡ None) (sym inputs_are) (c.in_ok-check.ensures sees.entries n late tells))
 
 pub returns-clause-added : goal.returns-clause-added
 returns-clause-added c = λ values sees none.

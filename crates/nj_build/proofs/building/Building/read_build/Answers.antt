@@ -3,7 +3,7 @@ use Rattle.nj_manifest.specs.Contents.{lines_text}
 use Rattle.nj_scope.specs.ReadingList.{rule_in_force}
 use Rattle.nj_faults.specs.declared.fault.Cause.TheVariants.{UnknownRule}
 use Rattle.nj_faults.specs.Faults.{fault_at}
-use Rattle.nj_build.specs.declared.verdicts.NumberedRule.{NumberedRule}
+use Rattle.nj_build.specs.declared.references.NumberedRule.{NumberedRule}
 use Rattle.nj_build.specs.EdgeList.{line_values, edge_of_build, edges_read, paths_of_edges}
 use Rattle.nj_build.specs.BuildFaults.{fault_if, or_then, paths_fault, late_fault}
 use Rattle.nj_build.specs.Answers.{ReadsStatement, entry_at_place, build_text, outputs_of_build, inputs_of_build}

@@ -1,14 +1,12 @@
-use Rattle.std.proofs.Common.{◌≡◌, None, codes}
+use Rattle.std.proofs.Common.{codes}
 use Rattle.nj_scope.specs.ReadingList.{pools}
 use Rattle.nj_late.specs.LateTexts.{asked_text}
 use Rattle.nj_build.specs.BuildFaults.{or_then, variable_cycle_fault, unknown_pool, dyndep_not_input}
 use Rattle.nj_build.proofs.Faults.{fault-first, fault-second, checks-second, err-checks}
-use Rattle.nj_build.proofs.LateFaults.{no-cycle}
 use Rattle.nj_build.proofs.late.LateLine.check.Goals as goal
-use Rattle.nj_build.proofs.late.LateLine.check.Goals.{then-may_cycle+in_ok-check_cycle, else-may_cycle}
 
 pub returns-in_err-check_cycle : goal.returns-in_err-check_cycle
-returns-in_err-check_cycle c = λ entries n sees never.
+returns-in_err-check_cycle c = λ entries n sees tells.
     let file = c.args.self.place.file.now in
     let spot = c.args.self.place.spot in
     let f = c.in_err-check_cycle.field-0.0 in
@@ -16,33 +14,25 @@ returns-in_err-check_cycle c = λ entries n sees never.
     let pool = unknown_pool file spot (pools entries) (asked_text n (codes "pool")) in
     let dyndep = dyndep_not_input file spot c.args.edges.now.«open».inputs (asked_text n (codes "dyndep")) in
     err-checks c.from_residual.result f (or_then cycle (or_then pool dyndep)) c.from_residual.ensures.1
-    (fault-first cycle (or_then pool dyndep) f (c.in_err-check_cycle.ensures entries n sees))
+    (fault-first cycle (or_then pool dyndep) f (c.in_err-check_cycle.ensures entries n sees tells))
 
 pub returns-in_err-check_pool : goal.returns-in_err-check_pool
-returns-in_err-check_pool c = λ entries n sees never.
+returns-in_err-check_pool c = λ entries n sees tells.
     let file = c.args.self.place.file.now in
     let spot = c.args.self.place.spot in
     let f = c.in_err-check_pool.field-0.0 in
     let cycle = variable_cycle_fault file spot n in
     let pool = unknown_pool file spot (pools entries) (asked_text n (codes "pool")) in
     let dyndep = dyndep_not_input file spot c.args.edges.now.«open».inputs (asked_text n (codes "dyndep")) in
-    let none : cycle ≡ None = elim c.if-may_cycle.branch [
-      | then-may_cycle+in_ok-check_cycle w ↦ w.in_ok-check_cycle.ensures entries n sees
-      | else-may_cycle w ↦ no-cycle file spot n (never w.if-may_cycle.false)
-    ] in
     err-checks c.from_residual-in_err-check_pool.result f (or_then cycle (or_then pool dyndep)) c.from_residual-in_err-check_pool.ensures.1
-    (fault-second cycle (or_then pool dyndep) f none (fault-first pool dyndep f (c.in_err-check_pool.ensures entries n sees)))
+    (fault-second cycle (or_then pool dyndep) f (c.in_ok-check_cycle.ensures entries n sees tells) (fault-first pool dyndep f (c.in_err-check_pool.ensures entries n sees)))
 
 pub returns : goal.returns
-returns c = λ entries n sees never.
+returns c = λ entries n sees tells.
     let file = c.args.self.place.file.now in
     let spot = c.args.self.place.spot in
     let cycle = variable_cycle_fault file spot n in
     let pool = unknown_pool file spot (pools entries) (asked_text n (codes "pool")) in
     let dyndep = dyndep_not_input file spot c.args.edges.now.«open».inputs (asked_text n (codes "dyndep")) in
-    let none : cycle ≡ None = elim c.if-may_cycle.branch [
-      | then-may_cycle+in_ok-check_cycle w ↦ w.in_ok-check_cycle.ensures entries n sees
-      | else-may_cycle w ↦ no-cycle file spot n (never w.if-may_cycle.false)
-    ] in
-    checks-second cycle (or_then pool dyndep) c.check_dyndep.result none
+    checks-second cycle (or_then pool dyndep) c.check_dyndep.result (c.in_ok-check_cycle.ensures entries n sees tells)
     (checks-second pool dyndep c.check_dyndep.result (c.in_ok-check_pool.ensures entries n sees) (c.check_dyndep.ensures entries n sees))
