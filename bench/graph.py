@@ -33,7 +33,7 @@ QUICK_SIZES = [5_000, 20_000]
 QUICK_HARD = [10_000, 100_000]
 
 # Shapes with N edges of a rule that has N references, of which fewer are made.
-FEWER = {"bound": 200, "pool-line": 200}
+FEWER = {"bound": 10, "pool-line": 200}
 
 NINJA = "ninja -t rules"
 TIME_AIM = 0.45
