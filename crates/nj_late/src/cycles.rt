@@ -53,7 +53,7 @@ impl KeyReferences {
         Ok(self.least_loop(alloc, &mut counts)?.is_some())
     }
 
-    // The least key that leads back to itself by keys that count. Takes the marks of the others.
+    // The least key that leads back to itself by keys that count. Others may lose their marks.
     fn least_loop(&self, alloc: Global, counts: &mut [bool]) -> Result<Option<usize>, AllocError>
         requires { length counts.old ≡ length self.now }
         ensures { IfOk result (IsLeastLoop self.now counts.old) }
@@ -62,8 +62,8 @@ impl KeyReferences {
         self.least_marked(alloc, counts)
     }
 
-    // Takes the marks of keys that lead to no key which leads back to itself: of those that refer
-    // to no marked key, again and again.
+    // Takes away the marks of keys that refer to no marked key, until each marked key refers to
+    // one. No key that leads back to itself loses its mark.
     fn strip(&self, counts: &mut [bool])
         ensures { SameLoops self.now counts.old counts.new }
     {
@@ -73,7 +73,7 @@ impl KeyReferences {
         }
     }
 
-    // Takes the marks of keys that refer to no marked key. Returns whether there was one.
+    // Takes away the marks of keys that refer to no marked key. Returns whether there was one.
     fn strip_round(&self, counts: &mut [bool]) -> bool
         ensures same { SameLoops self.now counts.old counts.new }
         ensures less { result ≡ true → marked counts.new < marked counts.old }

@@ -104,7 +104,7 @@ fn references_of(alloc: Global, rule: &Rule) -> Result<KeyReferences, AllocError
     Ok(KeyReferences { keys })
 }
 
-// Of each key whether the value of this one refers to it; to none if the value does not count.
+// Of each key whether the value of this one refers to it: to none if the value does not count.
 fn row_of_key(alloc: Global, rule: &Rule, number: usize) -> Result<Vec<bool>, AllocError>
     requires { number < key_count rule.now.lines }
     ensures { IfOk result (λ row. IsRow rule.now.lines number row.items) }
