@@ -1,4 +1,5 @@
 pub mod Addresses
+pub mod Below
 pub mod Bridges
 pub mod Members
 pub mod NeedsLemmas

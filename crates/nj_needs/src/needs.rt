@@ -1,6 +1,6 @@
 //! The walk over the commands that targets need.
 
-ghost use Rattle.std.specs.Prelude.{◌≡◌, ◌<◌, [], length, All, IfOk};
+ghost use Rattle.std.specs.Prelude.{◌≡◌, ◌<◌, [], length, All, IfOk, IfSome};
 ghost use Rattle.nj_needs.specs.Counts.{saturated};
 ghost use Rattle.nj_needs.specs.Resuming.{ResumeIs};
 ghost use Rattle.nj_needs.specs.Walks.{BeginsAt, commands_of, IsSound, IsSameWalk, NextIs, number_of};
@@ -86,6 +86,7 @@ impl<'g> Needs<'g> {
     pub fn next(&mut self) -> Option<EdgeNo>
         ensures next { NextIs self.old (number_of result) self.new }
         ensures same { IsSameWalk self.old self.new }
+        ensures known { IfSome result (λ edge. edge.0 < length self.old.graph.edges) }
     {
         let edge = next_edge(&mut self.walk, &mut self.saved)?;
         Some(EdgeNo(edge))

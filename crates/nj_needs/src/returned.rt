@@ -1,6 +1,7 @@
 //! The loop of `next`.
 
-ghost use Rattle.std.specs.Prelude.{◌≡◌};
+ghost use Rattle.std.specs.Prelude.{◌≡◌, ◌<◌, IfSome};
+ghost use Rattle.nj_needs.specs.Graphs.{count_of};
 ghost use Rattle.nj_needs.specs.Views.{state_of, IsNeeds};
 ghost use Rattle.nj_needs.specs.Walks.{NextIs};
 
@@ -13,6 +14,7 @@ pub(crate) fn next_edge(walk: &mut Walk, saved: &mut Saved) -> Option<usize>
     requires { IsNeeds walk.old saved.old }
     ensures after { IsNeeds walk.new saved.new }
     ensures next { NextIs (state_of walk.old saved.old) result (state_of walk.new saved.new) }
+    ensures known { IfSome result (λ edge. edge < count_of walk.old.looks.graph.now) }
     ensures graph { walk.new.looks.graph ≡ walk.old.looks.graph }
     ensures targets { walk.new.looks.targets ≡ walk.old.looks.targets }
     ensures begun { walk.new.begun ≡ walk.old.begun }

@@ -1,9 +1,11 @@
-use Rattle.std.proofs.Common.{◌≡◌, ◌-◌, min, List, [], ◌∷◌, ◌++◌, length, sym, ap, subst, ◌∙◌, arith}
+use Rattle.std.proofs.Common.{◌≡◌, ◌<◌, ◌-◌, min, List, [], ◌∷◌, ◌++◌, length, sym, ap, subst, ◌∙◌, arith}
+use Rattle.nj_needs.specs.Graphs.{count_of}
 use Rattle.nj_needs.specs.Paths.{places}
 use Rattle.nj_needs.specs.declared.frame.Frame.{Frame}
 use Rattle.nj_needs.specs.Saved.{KeepsFront}
 use Rattle.nj_needs.specs.Standing.{turns_left_of}
 use Rattle.nj_needs.proofs.NeedsLemmas.{looked-left, looked-less, looked-needs, closed-less, closed-front, closed-left, closed-needs, returned-room, returned-needs, returned-first, returned-left, ended-needs, ended-left, ended-turns}
+use Rattle.nj_needs.proofs.Below.{first-below}
 use Rattle.nj_needs.proofs.returned.next_edge.Goals as goal
 
 pub turns-preserved-in-Looked : goal.turns-preserved-in-Looked
@@ -49,6 +51,13 @@ returns-then-not-phony-clause-next c =
       first = sym c.turns.invariant.left ∙ returned-left c.turns.walk c.take_turn.new.self e.graph e.targets c.in-Closed.edge c.in-Closed.phony e.turn c.if-not-phony.true;
       mark = returned-first c.turns.walk c.take_turn.new.self e.graph e.targets c.in-Closed.edge c.in-Closed.phony e.turn c.save.new.self (c.save.ensures.numbers ∙ ap (λ (p : List Frame). places p ++ (c.take_turn.new.self.place - 1) ∷ []) c.deref.ensures.value);
     }
+
+pub returns-then-not-phony-clause-known : goal.returns-then-not-phony-clause-known
+returns-then-not-phony-clause-known c =
+    let w = c.turns.walk in
+    let h = c.turns.invariant.needs.walk in
+    let below = first-below w.looks.graph.now w.looks.targets.now (places w.path.items) c.in-Closed.edge h.acyclic h.inside c.in-Closed.ensures.turn.first in
+    subst (λ g. c.in-Closed.edge < count_of g.now) c.turns.invariant.graph below
 
 pub turns-smaller : goal.turns-smaller
 turns-smaller c =
