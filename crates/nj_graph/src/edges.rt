@@ -12,9 +12,16 @@ ghost use Rattle.nj_graph.specs.GraphHeld.{rule_name};
 
 use crate::graph::{Graph, rule_name};
 use nj_build::PlaceRef;
-use nj_edges::{EdgeNo, FileNo, InputKind};
+use nj_edges::{EdgeGraph, EdgeNo, FileNo, InputKind};
 
 impl Graph {
+    /// The edges and their files alone, without what statements bind: a walk goes over these.
+    pub fn edge_graph(&self) -> &EdgeGraph
+        ensures { result.now ≡ self.now.built.graph }
+    {
+        self.built.graph()
+    }
+
     /// How many edges there are: one for each build statement, numbered in reading order. No edge
     /// needs itself by a chain of inputs.
     pub fn edge_count(&self) -> usize

@@ -16,7 +16,7 @@ pub use graph::{Graph, rules_by_name};
 pub use laws::{bindings_after_an_edge, statements_up_to_the_first_fault};
 pub use loading::{Loaded, load};
 pub use nj_build::PlaceRef;
-pub use nj_edges::{EdgeNo, FileNo, InputKind};
+pub use nj_edges::{EdgeGraph, EdgeNo, FileNo, InputKind};
 pub use nj_faults::{Cause, GraphFault, Name, Place};
 pub use nj_manifest::Spot;
 pub use nj_scope::{FileSource, FileTable, MemoryFiles, SourceFault};
