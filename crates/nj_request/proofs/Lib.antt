@@ -1,0 +1,4 @@
+pub mod Given
+pub mod Numerals
+pub mod Refusals
+mod Rows

@@ -1,0 +1,28 @@
+use Rattle.std.proofs.Common.{◌≡◌, ap₂, ◌∙◌, refl, codes}
+use Rattle.std.proofs.lemmas.Result.{IfOk-weaker}
+use Rattle.clap.specs.Words.{App, app_of, with_rule}
+use Rattle.nj_request.specs.CommandLine.{command, nothing_yet, short_option, long_option, short_flag, long_flag, all_words}
+use Rattle.nj_request.proofs.command.command.Goals as goal
+
+abbrev options : App
+options = with_rule (with_rule nothing_yet (short_option (codes "tool") 116)) (short_option (codes "file") 102)
+
+abbrev numbers : App
+numbers = with_rule (with_rule options (long_option (codes "take"))) (long_option (codes "resume"))
+
+abbrev flags : App
+flags = with_rule (with_rule numbers (short_flag (codes "single") 115)) (long_flag (codes "stdin"))
+
+whole : with_rule flags all_words ≡ command
+unfolding command
+whole = refl
+
+pub returns : goal.returns
+returns c =
+    let tool = c.in_ok-with.ensures ∙ ap₂ with_rule c.nothing_yet.ensures c.short_option-tool.ensures.rule in
+    let file : app_of c.in_ok-options.options ≡ options = c.in_ok-options.ensures ∙ ap₂ with_rule tool c.short_option-file.ensures.rule in
+    let take = c.in_ok-with-2.ensures ∙ ap₂ with_rule file c.long_option-take.ensures.rule in
+    let resume : app_of c.in_ok-numbers.numbers ≡ numbers = c.in_ok-numbers.ensures ∙ ap₂ with_rule take c.long_option-resume.ensures.rule in
+    let single = c.in_ok-with-3.ensures ∙ ap₂ with_rule resume c.short_flag-single.ensures.rule in
+    let input : app_of c.in_ok-flags.flags ≡ flags = c.in_ok-flags.ensures ∙ ap₂ with_rule single c.long_flag-input.ensures.rule in
+    IfOk-weaker c.with-7.result _ _ (λ made h. h ∙ ap₂ with_rule input c.all_words.ensures.rule ∙ whole) c.with-7.ensures

@@ -1,0 +1,6 @@
+pub mod CommandLine
+pub mod FaultLines
+pub mod Fields
+pub mod Held
+pub mod Numbers
+pub mod Requests

@@ -1,0 +1,13 @@
+-- The numbers of a command line.
+use Rattle.std.specs.Prelude.{ℕ, ◌&&◌, Bool, false, nat_le, if◌then◌else◌, Option, Some, None, List, [], ◌∷◌}
+use Rattle.std.specs.Str.{all_ascii_digits}
+use Rattle.std.specs.Str.Parse.{digits_value}
+
+-- one digit or more, and nothing else
+abbrev pub is_digits : List ℕ → Bool
+is_digits [] = false
+is_digits (digit ∷ digits) = all_ascii_digits (digit ∷ digits)
+
+-- the number that decimal digits say, with or without zeros in front, up to the greatest of 64 bits
+abbrev pub said_number : List ℕ → Option ℕ
+said_number text = if is_digits text && nat_le (digits_value 10 text) 18446744073709551615 then Some (digits_value 10 text) else None

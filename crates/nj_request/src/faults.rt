@@ -1,0 +1,94 @@
+//! Why words ask for nothing.
+
+ghost use Rattle.std.specs.Prelude.{◌≡◌, IfOk};
+ghost use Rattle.nj_request.specs.FaultLines.{option_text};
+ghost use Rattle.nj_request.specs.declared.faults.UsageFault.TheVariants.{OutOfMemory};
+
+use std::alloc::{AllocError, AllocFailed, Global};
+use std::marker::Model;
+
+/// A word of the command line, or what stands in it as the value of an option.
+#[derive(Debug, Drop)]
+pub struct Word {
+    text: String,
+}
+
+impl Model for Word {
+    ghost use Rattle.std.specs.Prelude.{ℕ, List, string_bytes};
+
+    ghost Value = { List ℕ };
+
+    ghost view = { λ word. string_bytes word.text };
+}
+
+impl Word {
+    /// The word of this text.
+    pub fn new(alloc: Global, text: &str) -> Result<Word, AllocError>
+        ensures { IfOk result (λ word. word ≡ text.now) }
+    {
+        let text = String::from_str(alloc, text)?;
+        Ok(Word { text })
+    }
+
+    /// Its text.
+    pub fn as_str(&self) -> &str
+        ensures { result.now ≡ self.now }
+    {
+        self.text.as_str()
+    }
+}
+
+/// An option that does not go with every tool.
+#[derive(Clone, Copy, Debug, PartialEq, Eq)]
+pub enum ToolOption {
+    /// `--take K`
+    Take,
+    /// `--resume MARK`
+    Resume,
+}
+
+impl ToolOption {
+    /// The option as it is written on the command line.
+    pub fn text(self) -> &'static str
+        ensures { result.now ≡ option_text self }
+    {
+        match self {
+            ToolOption::Take => "--take",
+            ToolOption::Resume => "--resume",
+        }
+    }
+}
+
+/// Why the words of a command line ask for nothing.
+#[derive(Debug, Drop)]
+pub enum UsageFault {
+    /// The words cannot be read: an option is unknown, given twice or without its value; or no tool
+    /// is given. The word after an option is no value if it begins with `-`, but `-` itself is.
+    Unparsed,
+    /// There is no tool of this name ("Extra tools").
+    UnknownTool(Word),
+    /// The option does not go with the tool.
+    ForeignOption { option: ToolOption, tool: Word },
+    /// The text says no number below 2 to the power of 64.
+    BadNumber(Word),
+    /// The text says no mark.
+    BadMark(Word),
+    /// An allocation failed.
+    OutOfMemory,
+}
+
+impl From<AllocError> for UsageFault {
+    ghost from_gives = { λ _ e. e ≡ OutOfMemory };
+
+    fn from(_e: AllocError) -> UsageFault {
+        UsageFault::OutOfMemory
+    }
+}
+
+impl<T: Drop> From<AllocFailed<T>> for UsageFault {
+    ghost from_gives = { λ _ e. e ≡ OutOfMemory };
+
+    fn from(_e: AllocFailed<T>) -> UsageFault {
+        UsageFault::OutOfMemory
+    }
+}

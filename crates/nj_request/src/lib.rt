@@ -1,0 +1,12 @@
+//! What the words of a command line ask for.
+#![tactic(auto)]
+
+mod command;
+mod faults;
+mod fields;
+mod lines;
+mod numbers;
+mod requests;
+
+pub use faults::{ToolOption, UsageFault, Word};
+pub use requests::{Action, Request, read_words};
