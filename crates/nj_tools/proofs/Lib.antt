@@ -1,1 +1,4 @@
+pub mod BlockLemmas
+pub mod CommandLemmas
+pub mod OwnLemmas
 pub mod SinkLemmas

@@ -2,6 +2,7 @@
 use Rattle.std.proofs.Common.{◌≡◌, ◌≢◌, ℕ, zero, suc, ◌-◌, Bool, ◌||◌, List, [], ◌∷◌, ◌++◌, length, take, drop, Ok, refl, ap, ◌∙◌, arith, append_assoc, take-append-drop}
 use Rattle.std.proofs.lemmas.List.{take_rest}
 use Rattle.std.proofs.KnownBytes.{Appends-nil, Appends-trans}
+use Rattle.nj_tools.specs.Blocks.{IsUnderway}
 use Rattle.nj_tools.specs.Sinks.{SinkState, Takes, FailsAfter, Puts, has_bytes}
 
 -- at first nothing was taken
@@ -29,10 +30,6 @@ FailsAfter-trans a b c xs ys p q = record {
   failures = rw p.failures at q.failures;
   took_since_failure = q.took_since_failure;
 }
-
--- what is written so far: the front was taken, and the rest is left
-abbrev pub IsUnderway : SinkState → SinkState → List ℕ → List ℕ → Type 0
-IsUnderway old new text rest = (front : List ℕ) × (text ≡ front ++ rest) × Takes old new front
 
 -- an answer of some bytes: they were taken, and are no longer left
 pub IsUnderway-put : (old before after : SinkState) (text rest : List ℕ) (count : ℕ)

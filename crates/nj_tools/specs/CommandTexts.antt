@@ -1,0 +1,61 @@
+-- What `commands` writes: for each edge its command, as a line.
+use Rattle.std.specs.Prelude.{◌≡◌, ◌≢◌, ℕ, not, Option, Some, None, List, [], ◌∷◌, ◌++◌, map, take, drop, filter, codes}
+use Rattle.std.specs.List.{flat_map}
+use Rattle.nj_scope.specs.ReadingList.{Entry}
+use Rattle.nj_edges.specs.declared.files.FileNo.{FileNo}
+use Rattle.nj_edges.specs.EdgeGraphs.{EdgeGraph}
+use Rattle.nj_edges.specs.Edges.{EdgePaths}
+use Rattle.nj_edges.specs.Files.{path_at}
+use Rattle.nj_needs.specs.Graphs.{row_of_paths, is_phony_in, row_of, makers_of, count_of}
+use Rattle.nj_needs.specs.Order.{made_by, first_occurrences}
+use Rattle.nj_needs.specs.Pages.{IsMarkAfter}
+use Rattle.nj_needs.specs.Walks.{WalkState}
+use Rattle.nj_graph.specs.Graph.{late_text_of}
+
+-- the command of the edge of a number, and a line end
+abbrev pub command_line : List Entry → (number : ℕ) → List ℕ
+command_line entries number = late_text_of entries number (codes "command") ++ 10 ∷ []
+
+-- the lines of edges, in their order; edges whose commands are the same have a line each
+abbrev pub command_lines : List Entry → (numbers : List ℕ) → List ℕ
+command_lines entries numbers = flat_map (command_line entries) numbers
+
+-- ---- the needed edges
+
+-- of the edges that are left, those that are written, and those that are left after that, where a number of edges may be taken
+abbrev pub written : (limit : Option ℕ) → (left : List ℕ) → List ℕ
+written None left = left
+written (Some limit) left = take limit left
+
+abbrev pub left_after : (limit : Option ℕ) → (left : List ℕ) → List ℕ
+left_after None left = []
+left_after (Some limit) left = drop limit left
+
+-- The mark at which the writing stops: none where no edge is left, else that of the edge that was written last, or where the
+-- walk stood before.
+abbrev pub StopsAt : WalkState → (limit : Option ℕ) → (mark : Option (List ℕ)) → Type 0
+StopsAt walk limit None = left_after limit walk.left ≡ []
+StopsAt walk limit (Some mark) =
+    (left_after limit walk.left ≢ [])
+    × IsMarkAfter (makers_of walk.graph) (count_of walk.graph) (row_of walk.graph walk.targets) walk.mark (written limit walk.left) mark
+
+-- ---- the targets' own makers
+
+-- an edge by itself
+abbrev pub single : ℕ → List ℕ
+single e = e ∷ []
+
+-- the makers of files, in their order, with repeats
+abbrev pub own_makers_in : List EdgePaths → (paths : List (List ℕ)) → List ℕ
+own_makers_in edges paths = flat_map (made_by single) (row_of_paths edges paths)
+
+-- those of the targets, each once, where it comes first, but the phony ones, which have no command
+abbrev pub own_commands_in : List EdgePaths → (targets : List (List ℕ)) → List ℕ
+own_commands_in edges targets = filter (λ e. not (is_phony_in edges e)) (first_occurrences (own_makers_in edges targets))
+
+-- the same of files by their numbers
+abbrev pub own_makers : EdgeGraph → (files : List FileNo) → List ℕ
+own_makers g files = own_makers_in g.edges (map (path_at g.files) files)
+
+abbrev pub own_commands : EdgeGraph → (targets : List FileNo) → List ℕ
+own_commands g targets = own_commands_in g.edges (map (path_at g.files) targets)

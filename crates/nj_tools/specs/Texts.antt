@@ -1,0 +1,20 @@
+-- What a tool does to its sink.
+use Rattle.std.specs.Prelude.{ℕ, List, Result, Ok, Err}
+use Rattle.nj_scope.specs.Readings.{IsPrefix}
+use Rattle.nj_tools.specs.Sinks.{SinkState, Takes, FailsAfter, IsCutShort}
+use Rattle.nj_tools.specs.declared.fault.ToolFault.{ToolFault}
+use Rattle.nj_tools.specs.declared.fault.ToolFault.TheVariants.{Write, OutOfMemory}
+
+-- the sink took a beginning of the text, and not all of it; then it failed once, and took nothing after that
+abbrev pub FailsWithin : (old new : SinkState) → (text : List ℕ) → Type 0
+FailsWithin old new text = (front : List ℕ) × IsCutShort front text × FailsAfter old new front
+
+-- the sink took a beginning of the text, or all of it, and did not fail
+abbrev pub TakesFront : (old new : SinkState) → (text : List ℕ) → Type 0
+TakesFront old new text = (front : List ℕ) × IsPrefix front text × Takes old new front
+
+-- The sink took the whole text; or it failed within it; or memory ran out after a beginning of it.
+abbrev pub WritesText : {X : Type 0} → (old new : SinkState) → (text : List ℕ) → Result X ToolFault → Type 0
+WritesText old new text (Ok done) = Takes old new text
+WritesText old new text (Err Write) = FailsWithin old new text
+WritesText old new text (Err OutOfMemory) = TakesFront old new text
