@@ -1,7 +1,11 @@
 //! Explains Ninja files without building anything.
 #![tactic(auto)]
 
-use nj_cli::{DiskFiles, Status, WriteSink, refuse_words, report_out_of_memory, run_words};
+use nj_cli::{
+    DiskFiles, Status, UsageFault, WriteSink, read_words, refuse_words, report_out_of_memory,
+    run_words,
+};
+use std::alloc::{AllocError, Global};
 use std::io::ErrorKind;
 use std::process::ExitCode;
 use std::{env, io};
@@ -10,7 +14,7 @@ fn main(rt: HostRuntime) -> ExitCode {
     ExitCode::from(run(rt).code())
 }
 
-/// Runs the program with its arguments. Without any it reads the main file from standard input.
+/// Runs the program with its arguments.
 fn run(rt: HostRuntime) -> Status {
     let mut err = WriteSink::new(rt.stderr());
     let words = match words(rt) {
@@ -18,12 +22,10 @@ fn run(rt: HostRuntime) -> Status {
         Err(e) if e.kind() == ErrorKind::OutOfMemory => return report_out_of_memory(&mut err),
         Err(_) => return refuse_words(&mut err),
     };
-    let stdin_for = if words.is_empty() {
-        Some("build.ninja")
-    } else {
-        None
+    let Ok(stdin_for) = stdin_for(rt.alloc(), &words) else {
+        return report_out_of_memory(&mut err);
     };
-    let Ok(mut files) = DiskFiles::new(rt, rt.alloc(), stdin_for) else {
+    let Ok(mut files) = DiskFiles::new(rt, rt.alloc(), stdin_for.as_deref()) else {
         return report_out_of_memory(&mut err);
     };
     let mut out = WriteSink::new(rt.stdout());
@@ -33,4 +35,13 @@ fn run(rt: HostRuntime) -> Status {
 /// The program's arguments, without its name. It fails if one of them is not UTF-8.
 fn words(rt: HostRuntime) -> io::Result<Vec<String>> {
     Ok(env::args(&rt)?.skip(1).collect(rt.alloc())?)
+}
+
+/// The name of the file that is read from standard input, if the words ask for one.
+fn stdin_for(alloc: Global, words: &[String]) -> Result<Option<String>, AllocError> {
+    match read_words(alloc, words) {
+        Ok(request) if request.from_stdin => Ok(Some(request.file)),
+        Err(UsageFault::OutOfMemory) => Err(AllocError),
+        _ => Ok(None),
+    }
 }

@@ -1,27 +1,52 @@
--- What the sinks heard.
-use Rattle.std.proofs.Common.{◌≡◌, ◌==◌, ◌⊎◌, inl, inr, ℕ, false, List, [], ◌∷◌, ◌++◌, length, sym, subst, ◌∙◌, append_assoc, Result, Ok, Err, IfOk, String, string_bytes}
-use Rattle.std.specs.declared.alloc.AllocError.{AllocError}
-use Rattle.std.proofs.lemmas.Bool.{false≢true}
-use Rattle.nj_tools.specs.Sinks.{SinkState, Writes}
-use Rattle.nj_tools.specs.declared.sinks.SinkFault.{SinkFault}
-use Rattle.nj_cli.specs.FaultLines.{line_of, out_of_memory}
-use Rattle.nj_cli.specs.RunAnswers.{made_line}
+-- What is told of words that ask for nothing.
+use Rattle.std.proofs.Common.{◌≡◌, ◌≢◌, ◌⊎◌, inl, inr, ℕ, Result, Err, List, refl, sym, subst}
+use Rattle.nj_request.specs.FaultLines as lines
+use Rattle.nj_request.specs.declared.faults.UsageFault.{UsageFault}
+use Rattle.nj_request.specs.declared.faults.UsageFault.TheVariants as usage
+use Rattle.nj_tools.specs.Sinks.{SinkState}
+use Rattle.nj_cli.specs.Answers.{line_of}
 use Rattle.nj_cli.specs.Reported.{Reported}
+use Rattle.nj_cli.specs.RunSteps.{ReportsMisuse}
+use Rattle.nj_request.specs.Requests.{RequestText, request_of}
+use Rattle.nj_cli.specs.Runs.{Around, out_of_memory, RunsWith, RunsWords}
+use Rattle.nj_cli.specs.declared.status.Status.{Status}
+use Rattle.nj_cli.specs.declared.status.Status.TheVariants.{Fault, Usage}
 
--- a text that is not empty was reported where it was written
-pub Reported-from_write : (old new : SinkState) (text : List ℕ) (result : Result Unit SinkFault) → (length text == 0) ≡ false → Writes old new text result → Reported old new text
-Reported-from_write old new [] result some written = absurd (false≢true (sym some))
-Reported-from_write old new (byte ∷ bytes) (Ok done) some written = inl written
-Reported-from_write old new (byte ∷ bytes) (Err fault) some written = inr written
+-- a fault other than out of memory has a line of its own
+pub ReportsMisuse-other : (old new : SinkState) (fault : UsageFault) (status : Status) → fault ≢ usage.OutOfMemory
+    → (Reported old new (lines.fault_line fault) × (status ≡ Usage)) ⊎ (Reported old new (line_of out_of_memory) × (status ≡ Fault))
+    → ReportsMisuse old new fault status
+ReportsMisuse-other old new usage.OutOfMemory status other told = absurd (other refl)
+ReportsMisuse-other old new usage.Unparsed status other told = told
+ReportsMisuse-other old new (usage.UnknownTool tool) status other told = told
+ReportsMisuse-other old new (usage.ForeignOption option tool) status other told = told
+ReportsMisuse-other old new (usage.BadNumber text) status other told = told
+ReportsMisuse-other old new (usage.BadMark text) status other told = told
 
--- a made line was reported, or that there was no memory to make it
-pub Reported-made : {Y : Type 0} (old new : SinkState) (text : List ℕ) (line : Result (String Y) AllocError) → IfOk line (λ s. string_bytes s ≡ line_of text) → Reported old new (made_line line)
-    → Reported old new (line_of text) ⊎ Reported old new (line_of out_of_memory)
-Reported-made old new text (Ok s) is reported = inl (subst (Reported old new) is reported)
-Reported-made old new text (Err e) is reported = inr reported
+module _ (words : List (List ℕ)) (old new : Around) (source : new.source ≡ old.source) (output : new.output ≡ old.output) where
+  early : (status : Status) → Reported old.error new.error (line_of out_of_memory) → status ≡ Fault → RunsWords words old new status
+  early status reported is = inr (record { source = source; output = output; error = reported; status_is = is })
 
--- a made line ends with its last piece
-pub made_line-pieces : {Y E : Type 0} (line : Result (String Y) E) (front middle back : List ℕ) → IfOk line (λ s. string_bytes s ≡ front ++ middle ++ (back ++ 10 ∷ []))
-    → IfOk line (λ s. string_bytes s ≡ line_of (front ++ middle ++ back))
-made_line-pieces (Ok s) front middle back is = is ∙ sym (append_assoc (front ++ middle) back (10 ∷ []))
-made_line-pieces (Err e) front middle back is = tt
+  misused : (fault : UsageFault) (status : Status) → request_of words ≡ Err fault
+      → (Reported old.error new.error (lines.fault_line fault) × (status ≡ Usage)) ⊎ (Reported old.error new.error (line_of out_of_memory) × (status ≡ Fault))
+      → RunsWords words old new status
+  misused fault status why (inl told) =
+      inl (subst (λ (r : Result RequestText UsageFault). RunsWith r old new status) (sym why) (record { source = source; output = output; error = told.0; status_is = told.1 }))
+  misused fault status why (inr told) = early status told.0 told.1
+
+  by_fault : (fault : UsageFault) (status : Status) → request_of words ≡ Err fault → ReportsMisuse old.error new.error fault status → RunsWords words old new status
+  by_fault usage.OutOfMemory status why told = early status told.0 told.1
+  by_fault usage.Unparsed status why told = misused usage.Unparsed status why told
+  by_fault (usage.UnknownTool tool) status why told = misused (usage.UnknownTool tool) status why told
+  by_fault (usage.ForeignOption option tool) status why told = misused (usage.ForeignOption option tool) status why told
+  by_fault (usage.BadNumber text) status why told = misused (usage.BadNumber text) status why told
+  by_fault (usage.BadMark text) status why told = misused (usage.BadMark text) status why told
+
+-- what a run does whose words ask for nothing
+pub RunsWords-misused : (words : List (List ℕ)) (old new : Around) (fault : UsageFault) (status : Status)
+    → (fault ≡ usage.OutOfMemory) ⊎ (request_of words ≡ Err fault) → new.source ≡ old.source → new.output ≡ old.output
+    → ReportsMisuse old.error new.error fault status → RunsWords words old new status
+RunsWords-misused words old new fault status (inl is) source output told =
+    let lacks = subst (λ (f : UsageFault). ReportsMisuse old.error new.error f status) is told in
+    early words old new source output status lacks.0 lacks.1
+RunsWords-misused words old new fault status (inr why) source output told = by_fault words old new source output fault status why told

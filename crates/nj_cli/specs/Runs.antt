@@ -1,13 +1,26 @@
 -- What a run does to its source and to its two sinks.
-use Rattle.std.specs.Prelude.{◌≡◌, ℕ, IsSome, List, [], ◌∷◌, ◌++◌}
-use Rattle.nj_scope.specs.Readings.{Reading, paths_of, IsPrefix}
-use Rattle.nj_scope.specs.Sources.{SourceState, HasRead, Rises}
-use Rattle.nj_tools.specs.Sinks.{SinkState}
-use Rattle.nj_cli.specs.Outcome.{outcome_of, targets_of, paths_read}
-use Rattle.nj_cli.specs.FaultLines.{line_of, out_of_memory, unreadable}
+use Rattle.std.specs.Prelude.{◌≡◌, ◌⊎◌, ℕ, Result, Ok, Err, List, []}
+use Rattle.nj_scope.specs.Readings.{Reading}
+use Rattle.nj_scope.specs.Sources.{SourceState}
+use Rattle.nj_scope.specs.ReadingList.{Entry}
+use Rattle.nj_order.specs.Cycles.{IsAcyclic}
+use Rattle.nj_edges.specs.Needs.{makers_of_inputs}
+use Rattle.nj_faults.specs.declared.fault.GraphFault.{GraphFault}
+use Rattle.nj_faults.specs.FaultLines.{fault_line}
+use Rattle.nj_faults.specs.Faults.{no_memory}
+use Rattle.nj_graph.specs.Loads.{LoadedText, IsWhole, LoadedOr}
+use Rattle.nj_graph.specs.Runs.{IsRead}
+use Rattle.nj_tools.specs.Sinks.{SinkState, Takes}
+use Rattle.nj_tools.specs.Texts.{FailsWithin, TakesFront}
+use Rattle.nj_request.specs.FaultLines as usage
+use Rattle.nj_request.specs.Requests.{ActionText, RequestText, request_of}
+use Rattle.nj_request.specs.declared.faults.UsageFault.{UsageFault}
+use Rattle.nj_cli.specs.Answers.{output_of, Ending, EndsWith, line_of, error_of, status_of, status_untold}
 use Rattle.nj_cli.specs.Reported.{Took, Failed, Reported}
+use Rattle.nj_cli.specs.Targets.{edges_by_path}
 use Rattle.nj_cli.specs.declared.status.Status.{Status}
-use Rattle.nj_cli.specs.declared.status.Status.TheVariants.{Fault, OutputFailed}
+use Rattle.nj_cli.specs.declared.status.Status.TheVariants.{Fault, Usage, OutputFailed}
+use Rattle.std.specs.Prelude.{length}
 
 -- what is known of a run's source and of its two sinks
 pub record Around : Type 0 where
@@ -18,49 +31,89 @@ pub record Around : Type 0 where
 abbrev pub around : (source : SourceState) → (output error : SinkState) → Around
 around source output error = record { source = source; output = output; error = error }
 
--- ---- the ends
+abbrev pub out_of_memory : List ℕ
+out_of_memory = fault_line no_memory
 
--- all was read, the output was taken and the error reported
-pub record EndsWhole (words : List (List ℕ)) (table : List Reading) (old new : Around) (ending : Status) : Type 0 where
-  pub paths : paths_of table ≡ paths_read words
-  pub failures : new.source.failures ≡ old.source.failures
-  pub output : Took old.output new.output (outcome_of table words).output
-  pub error : Reported old.error new.error (outcome_of table words).error
-  pub status : ending ≡ (outcome_of table words).status
+-- ---- by the statements of its files
 
--- all was read, and the sink of the output failed; nothing was reported
-pub record EndsCutShort (words : List (List ℕ)) (table : List Reading) (old new : Around) (ending : Status) : Type 0 where
-  pub paths : paths_of table ≡ paths_read words
-  pub failures : new.source.failures ≡ old.source.failures
-  pub output : Failed old.output new.output (outcome_of table words).output
+-- all was output and told
+pub record IsTold (entries : List Entry) (action : ActionText) (old new : Around) (status : Status) : Type 0 where
+  pub ending : Ending
+  pub ends : EndsWith entries action ending
+  pub output : Takes old.output new.output (output_of entries action)
+  pub error : Took old.error new.error (error_of ending)
+  pub status_is : status ≡ status_of ending
+
+-- all was output, and the error output failed
+pub record IsUntold (entries : List Entry) (action : ActionText) (old new : Around) (status : Status) : Type 0 where
+  pub ending : Ending
+  pub ends : EndsWith entries action ending
+  pub output : Takes old.output new.output (output_of entries action)
+  pub error : Failed old.error new.error (error_of ending)
+  pub status_is : status ≡ status_untold ending
+
+-- the output failed; nothing is told
+pub record IsCutShort (entries : List Entry) (action : ActionText) (old new : Around) (status : Status) : Type 0 where
+  pub output : FailsWithin old.output new.output (output_of entries action)
   pub error : new.error ≡ old.error
-  pub status : ending ≡ OutputFailed
+  pub status_is : status ≡ OutputFailed
 
--- an allocation failed, at words that can be read; nothing was output
-pub record EndsWithoutMemory (words : List (List ℕ)) (table : List Reading) (old new : Around) (ending : Status) : Type 0 where
-  pub words_are_read : IsSome (targets_of words)
-  pub paths : IsPrefix (paths_of table) (paths_read words)
-  pub failures : new.source.failures ≡ old.source.failures
+-- an allocation failed, after a beginning of the output
+pub record LacksMemory (entries : List Entry) (action : ActionText) (old new : Around) (status : Status) : Type 0 where
+  pub output : TakesFront old.output new.output (output_of entries action)
+  pub error : Reported old.error new.error (line_of out_of_memory)
+  pub status_is : status ≡ Fault
+
+pub data Answers (entries : List Entry) (action : ActionText) (old new : Around) (status : Status) : Type 0 where
+  told : IsTold entries action old new status → Answers entries action old new status
+  untold : IsUntold entries action old new status → Answers entries action old new status
+  cut_short : IsCutShort entries action old new status → Answers entries action old new status
+  lacks_memory : LacksMemory entries action old new status → Answers entries action old new status
+
+-- ---- by its files
+
+-- The files have no graph: a statement has a fault, or an edge lies on a cycle, or the source failed, or an allocation did.
+-- Nothing is output. The fault is reported, or out of memory if its line could not be made.
+pub record IsRefused (main : List ℕ) (files : List Reading) (old new : Around) (status : Status) : Type 0 where
+  pub fault : GraphFault
+  pub reading : LoadedOr main old.source new.source files (Err fault)
+  pub output : new.output ≡ old.output
+  pub error : Reported old.error new.error (line_of (fault_line fault)) ⊎ Reported old.error new.error (line_of out_of_memory)
+  pub status_is : status ≡ Fault
+
+-- the files were read, and no edge of their statements needs itself by a chain
+pub record IsAnswered (main : List ℕ) (files : List Reading) (action : ActionText) (old new : Around) (status : Status) : Type 0 where
+  pub entries : List Entry
+  pub whole : IsWhole main old.source new.source files entries
+  pub acyclic : IsAcyclic (makers_of_inputs (edges_by_path entries)) (length (edges_by_path entries))
+  pub answers : Answers entries action old new status
+
+-- ---- the run
+
+-- What a run does that was asked for this: these files were read, each path once, and by them it was refused or answered.
+abbrev pub RunsAs : RequestText → (old new : Around) → Status → Type 0
+RunsAs request old new status =
+    (files : List Reading) × IsRead old.source new.source [] files
+    × (IsRefused request.file files old new status ⊎ IsAnswered request.file files request.action old new status)
+
+-- words ask for nothing: no file is read, and the error output says why
+pub record IsMisused (fault : UsageFault) (old new : Around) (status : Status) : Type 0 where
+  pub source : new.source ≡ old.source
+  pub output : new.output ≡ old.output
+  pub error : Reported old.error new.error (usage.fault_line fault)
+  pub status_is : status ≡ Usage
+
+-- an allocation failed before any file was read
+pub record LacksMemoryAtOnce (old new : Around) (status : Status) : Type 0 where
+  pub source : new.source ≡ old.source
   pub output : new.output ≡ old.output
   pub error : Reported old.error new.error (line_of out_of_memory)
-  pub status : ending ≡ Fault
+  pub status_is : status ≡ Fault
 
--- the source failed at the path that comes next, and counted that; nothing was output
-pub record EndsUnreadable (words : List (List ℕ)) (table : List Reading) (old new : Around) (ending : Status) : Type 0 where
-  pub next : List ℕ
-  pub paths : IsPrefix (paths_of table ++ next ∷ []) (paths_read words)
-  pub failures : Rises old.source.failures new.source.failures
-  pub output : new.output ≡ old.output
-  pub error : Reported old.error new.error (line_of unreadable)
-  pub status : ending ≡ Fault
+-- the same by what the words ask for
+abbrev pub RunsWith : Result RequestText UsageFault → (old new : Around) → Status → Type 0
+RunsWith (Ok request) old new status = RunsAs request old new status
+RunsWith (Err fault) old new status = IsMisused fault old new status
 
--- how a run with these words may end, where these were its readings
-pub data Ends (words : List (List ℕ)) (table : List Reading) (old new : Around) (ending : Status) : Type 0 where
-  whole : EndsWhole words table old new ending → Ends words table old new ending
-  cut_short : EndsCutShort words table old new ending → Ends words table old new ending
-  without_memory : EndsWithoutMemory words table old new ending → Ends words table old new ending
-  source_failed : EndsUnreadable words table old new ending → Ends words table old new ending
-
--- what a run with these words does
-abbrev pub RunsAs : (words : List (List ℕ)) → (old new : Around) → Status → Type 0
-RunsAs words old new ending = (table : List Reading) × HasRead old.source new.source table × Ends words table old new ending
+abbrev pub RunsWords : (words : List (List ℕ)) → (old new : Around) → Status → Type 0
+RunsWords words old new status = RunsWith (request_of words) old new status ⊎ LacksMemoryAtOnce old new status

@@ -1,72 +1,56 @@
-//! Why a run finds no commands.
+//! Why a run does not reach its end.
 
-use crate::reading::ReadFault;
-use nj_scope::SourceFault;
+ghost use Rattle.std.specs.Prelude.{◌≡◌};
+ghost use Rattle.nj_cli.specs.declared.fault.RunFault.TheVariants as fault;
+
+use nj_graph::GraphFault;
+use nj_needs::MarkFault;
+use nj_tools::ToolFault;
 use std::alloc::{AllocError, AllocFailed};
 
-/// Why a run finds no commands.
-#[derive(Clone, Copy)]
-pub enum RunFault<'w> {
-    /// There is no main file.
-    NotThere,
-    /// The main file could not be read.
-    Unreadable,
-    /// The statement that begins at this line is not read yet.
-    NotReadYet(usize),
-    /// A target is a path that is not read yet.
-    TargetNotReadYet,
-    /// No edge names the target.
-    UnknownTarget(&'w str),
+/// Why a run does not reach its end.
+#[derive(Drop)]
+pub(crate) enum RunFault {
+    /// A target is none.
+    Graph(GraphFault),
+    /// The mark leads to no edge.
+    MarkOutOfRange,
+    /// The output could not be written.
+    Write,
     /// An allocation failed.
     OutOfMemory,
 }
 
-impl<'w> From<AllocError> for RunFault<'w> {
-    ghost use Rattle.std.specs.Prelude.{◌≡◌};
-    ghost use Rattle.nj_cli.specs.declared.fault.RunFault.TheVariants.{OutOfMemory};
+impl From<GraphFault> for RunFault {
+    ghost from_gives = { λ f e. e ≡ fault.Graph f };
 
-    ghost from_gives = { λ _ e. e ≡ OutOfMemory };
-
-    fn from(_e: AllocError) -> RunFault<'w> {
-        RunFault::OutOfMemory
+    fn from(f: GraphFault) -> RunFault {
+        RunFault::Graph(f)
     }
 }
 
-impl<'w, T: Drop> From<AllocFailed<T>> for RunFault<'w> {
-    ghost use Rattle.std.specs.Prelude.{◌≡◌};
-    ghost use Rattle.nj_cli.specs.declared.fault.RunFault.TheVariants.{OutOfMemory};
+impl From<MarkFault> for RunFault {
+    ghost use Rattle.nj_cli.specs.RunSteps.{fault_of_mark};
 
-    ghost from_gives = { λ _ e. e ≡ OutOfMemory };
+    ghost from_gives = { λ f e. e ≡ fault_of_mark f };
 
-    fn from(_e: AllocFailed<T>) -> RunFault<'w> {
-        RunFault::OutOfMemory
-    }
-}
-
-impl<'w> From<SourceFault> for RunFault<'w> {
-    ghost use Rattle.std.specs.Prelude.{◌≡◌};
-    ghost use Rattle.nj_cli.specs.RunAnswers.{fault_of_source};
-
-    ghost from_gives = { λ fault e. e ≡ fault_of_source fault };
-
-    fn from(fault: SourceFault) -> RunFault<'w> {
-        match fault {
-            SourceFault::Io => RunFault::Unreadable,
-            SourceFault::OutOfMemory => RunFault::OutOfMemory,
+    fn from(f: MarkFault) -> RunFault {
+        match f {
+            MarkFault::OutOfRange => RunFault::MarkOutOfRange,
+            MarkFault::OutOfMemory => RunFault::OutOfMemory,
         }
     }
 }
 
-impl<'w> From<ReadFault> for RunFault<'w> {
-    ghost use Rattle.std.specs.Prelude.{◌≡◌};
-    ghost use Rattle.nj_cli.specs.RunAnswers.{fault_of_reading};
+impl From<ToolFault> for RunFault {
+    ghost use Rattle.nj_cli.specs.RunSteps.{fault_of_tool};
 
-    ghost from_gives = { λ fault e. e ≡ fault_of_reading fault };
+    ghost from_gives = { λ f e. e ≡ fault_of_tool f };
 
-    fn from(fault: ReadFault) -> RunFault<'w> {
-        match fault {
-            ReadFault::NotYet(line) => RunFault::NotReadYet(line),
-            ReadFault::OutOfMemory => RunFault::OutOfMemory,
+    fn from(f: ToolFault) -> RunFault {
+        match f {
+            ToolFault::Write => RunFault::Write,
+            ToolFault::OutOfMemory => RunFault::OutOfMemory,
         }
     }
 }

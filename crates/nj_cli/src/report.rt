@@ -1,73 +1,120 @@
-//! What a run writes.
+//! What a run tells on its error output.
 
-ghost use Rattle.std.specs.Prelude.{◌≡◌};
-ghost use Rattle.nj_cli.specs.FaultLines.{line_of, unreadable_words, out_of_memory};
-ghost use Rattle.nj_cli.specs.RunAnswers.{made_line, ReportsFault, Delivers};
+ghost use Rattle.std.specs.Prelude.{◌≡◌, ◌++◌, ◌∷◌, [], codes, IfOk};
+ghost use Rattle.nj_faults.specs.FaultLines.{fault_line};
+ghost use Rattle.nj_marks.specs.Marks.{mark_text};
+ghost use Rattle.nj_request.specs.FaultLines as usage;
+ghost use Rattle.nj_request.specs.declared.faults.UsageFault.TheVariants.{Unparsed};
+ghost use Rattle.nj_cli.specs.Answers.{line_of, error_of, stopped};
 ghost use Rattle.nj_cli.specs.Reported.{Reported};
+ghost use Rattle.nj_cli.specs.RunSteps.{Concludes, ReportsLine, ReportsMark, ReportsMisuse};
+ghost use Rattle.nj_cli.specs.Runs.{out_of_memory};
 
 use crate::fault::RunFault;
 use crate::status::Status;
+use nj_graph::GraphFault;
+use nj_needs::Mark;
+use nj_request::UsageFault;
 use nj_tools::{Sink, write_whole};
 use std::alloc::{AllocError, Global};
 
 const OUT_OF_MEMORY: &[u8] = b"ninja-explain: out of memory\n";
 
-/// Writes the output of a run.
-pub fn write_output<O: Sink>(out: &mut O, output: &[u8]) -> Status
-    ensures { Delivers (O.state out.old) (O.state out.new) output.now result }
+const UNREADABLE: &[u8] = b"ninja-explain: cannot read the arguments\n";
+
+const OUT_OF_RANGE: &[u8] = b"ninja-explain: mark out of range\n";
+
+/// Tells how a run ends by its answer.
+pub(crate) fn conclude<E: Sink>(
+    alloc: Global,
+    err: &mut E,
+    answer: Result<Option<Mark>, RunFault>,
+) -> Status
+    ensures { Concludes (E.state err.old) (E.state err.new) answer result }
 {
-    if output.is_empty() {
-        return Status::Done;
-    }
-    match write_whole(out, output) {
-        Ok(()) => Status::Done,
-        Err(_) => Status::OutputFailed,
+    match answer {
+        Ok(None) => Status::Done,
+        Ok(Some(mark)) => report_mark(alloc, err, &mark),
+        Err(RunFault::Graph(fault)) => report_fault(alloc, err, &fault),
+        Err(RunFault::MarkOutOfRange) => {
+            report_line(err, OUT_OF_RANGE);
+            Status::Fault
+        }
+        Err(RunFault::Write) => Status::OutputFailed,
+        Err(RunFault::OutOfMemory) => report_out_of_memory(err),
     }
 }
 
-/// Reports a text on the error output. That it cannot be written changes nothing.
-fn report_text<E: Sink>(err: &mut E, text: &[u8])
-    ensures { Reported (E.state err.old) (E.state err.new) text.now }
+// Tells the mark at which a run stopped: without it the run cannot go on.
+fn report_mark<E: Sink>(alloc: Global, err: &mut E, mark: &Mark) -> Status
+    ensures { ReportsMark (E.state err.old) (E.state err.new) mark.now result }
 {
-    if !text.is_empty() {
-        let _ = write_whole(err, text);
+    match mark_line(alloc, mark) {
+        Ok(line) => match write_whole(err, &line) {
+            Ok(()) => Status::Stopped,
+            Err(_) => Status::OutputFailed,
+        },
+        Err(_) => report_out_of_memory(err),
     }
 }
 
-/// Reports a line that was made, or out of memory if it could not be.
-fn report_made<E: Sink>(err: &mut E, line: Result<String, AllocError>)
-    ensures { Reported (E.state err.old) (E.state err.new) (made_line line) }
+// The line that tells a mark.
+fn mark_line(alloc: Global, mark: &Mark) -> Result<Vec<u8>, AllocError>
+    ensures { IfOk result (λ line. line.items ≡ error_of (stopped mark.now)) }
 {
-    match line {
-        Ok(line) => report_text(err, line.as_bytes()),
-        Err(_) => report_text(err, OUT_OF_MEMORY),
-    }
+    let text = mark.to_text(alloc)?;
+    let mut line = Vec::from_slice(alloc, b"mark ")?;
+    line.extend_from_slice(text.as_bytes())?;
+    line.push(b'\n')?;
+    Ok(line)
 }
 
-/// Reports the fault, or out of memory if its line has to be made first and cannot be.
-pub fn report_fault<E: Sink>(alloc: Global, err: &mut E, fault: RunFault) -> Status
-    ensures line { ReportsFault fault.entry (E.state err.old) (E.state err.new) }
+/// Reports a fault, or out of memory if its line has to be made first and cannot be.
+pub(crate) fn report_fault<E: Sink>(alloc: Global, err: &mut E, fault: &GraphFault) -> Status
+    ensures line { ReportsLine (E.state err.old) (E.state err.new)
+        (line_of (fault_line fault.now)) }
     ensures status { result ≡ Status.Fault }
 {
-    match fault {
-        RunFault::NotThere => report_text(err, b"build.ninja:1:1: cannot find 'build.ninja'\n"),
-        RunFault::Unreadable => report_text(err, b"build.ninja:1:1: cannot read 'build.ninja'\n"),
-        RunFault::NotReadYet(line) => {
-            report_made(
-                err,
-                format!(in alloc; "build.ninja:{line}:1: not read yet\n"),
-            );
-        }
-        RunFault::TargetNotReadYet => report_text(err, b"ninja-explain: not read yet\n"),
-        RunFault::UnknownTarget(path) => {
-            report_made(
-                err,
-                format!(in alloc; "ninja-explain: unknown target '{path}'\n"),
-            );
-        }
-        RunFault::OutOfMemory => report_text(err, OUT_OF_MEMORY),
+    match line_of_fault(alloc, fault) {
+        Ok(line) => report_line(err, &line),
+        Err(_) => report_line(err, OUT_OF_MEMORY),
     }
     Status::Fault
+}
+
+// The line that reports a fault.
+fn line_of_fault(alloc: Global, fault: &GraphFault) -> Result<Vec<u8>, AllocError>
+    ensures { IfOk result (λ line. line.items ≡ line_of (fault_line fault.now)) }
+{
+    let mut line = fault.line(alloc)?;
+    line.push(b'\n')?;
+    Ok(line)
+}
+
+/// Reports why words ask for nothing, or out of memory if its line has to be made first and cannot
+/// be.
+pub(crate) fn report_misuse<E: Sink>(alloc: Global, err: &mut E, fault: &UsageFault) -> Status
+    ensures { ReportsMisuse (E.state err.old) (E.state err.new) fault.now result }
+{
+    if let UsageFault::OutOfMemory = fault {
+        return report_out_of_memory(err);
+    }
+    match fault.line(alloc) {
+        Ok(line) => {
+            report_line(err, line.as_bytes());
+            Status::Usage
+        }
+        Err(_) => report_out_of_memory(err),
+    }
+}
+
+/// Reports words that are not UTF-8.
+pub fn refuse_words<E: Sink>(err: &mut E) -> Status
+    ensures line { Reported (E.state err.old) (E.state err.new) (usage.fault_line Unparsed) }
+    ensures status { result ≡ Status.Usage }
+{
+    report_line(err, UNREADABLE);
+    Status::Usage
 }
 
 /// Reports that an allocation failed.
@@ -75,15 +122,15 @@ pub fn report_out_of_memory<E: Sink>(err: &mut E) -> Status
     ensures line { Reported (E.state err.old) (E.state err.new) (line_of out_of_memory) }
     ensures status { result ≡ Status.Fault }
 {
-    report_text(err, OUT_OF_MEMORY);
+    report_line(err, OUT_OF_MEMORY);
     Status::Fault
 }
 
-/// Reports words that ask for nothing that the program does, or are not UTF-8.
-pub fn refuse_words<E: Sink>(err: &mut E) -> Status
-    ensures line { Reported (E.state err.old) (E.state err.new) (line_of unreadable_words) }
-    ensures status { result ≡ Status.Usage }
+// Writes a line on the error output. That it cannot be written changes nothing.
+fn report_line<E: Sink>(err: &mut E, line: &[u8])
+    ensures { Reported (E.state err.old) (E.state err.new) line.now }
 {
-    report_text(err, b"ninja-explain: cannot read the arguments\n");
-    Status::Usage
+    if !line.is_empty() {
+        let _ = write_whole(err, line);
+    }
 }

@@ -1,11 +1,11 @@
-use Rattle.std.proofs.Common.{refl, sym}
-use Rattle.nj_cli.proofs.Running.{RunsAs-refused, RunsAs-fault}
+use Rattle.std.proofs.Common.{map, string_bytes, refl}
+use Rattle.nj_cli.specs.Runs.{around}
+use Rattle.nj_cli.proofs.Reports.{RunsWords-misused}
 use Rattle.nj_cli.proofs.run.run_words.Goals as goal
-
-pub returns-in_default : goal.returns-in_default
-returns-in_default g c =
-    RunsAs-refused _ _ _ _ (sym c.in_default.ensures) refl refl c.refuse_words.ensures.line c.refuse_words.ensures.status
 
 pub returns-in-Err : goal.returns-in-Err
 returns-in-Err g c =
-    RunsAs-fault _ _ _ _ _ (sym c.in-Some.ensures) refl c.report_fault.ensures.status c.in-Err.fault c.in-Err.ensures c.report_fault.ensures.line
+    RunsWords-misused (map string_bytes c.args.words.now)
+    (around (g.S.FileSource.state c.args.source.now) (g.O.Sink.state c.args.out.now) (g.E.Sink.state c.args.err.now))
+    (around (g.S.FileSource.state c.args.source.now) (g.O.Sink.state c.args.out.now) (g.E.Sink.state c.report_misuse.new.err))
+    c.in-Err.fault c.report_misuse.result c.in-Err.ensures.err refl refl c.report_misuse.ensures

@@ -1,0 +1,183 @@
+-- What a run answers, by the graph of its files.
+use Rattle.std.proofs.Common.{◌≡◌, ◌≢◌, ◌⊎◌, inl, inr, ℕ, Bool, true, false, if◌then◌else◌, Option, Some, None, Result, Ok, Err, IsErrAnd, List, [], ◌∷◌, ◌++◌, length, map, filter, not, refl, sym, ap, subst, ◌∙◌}
+use Rattle.std.specs.List.{flat_map}
+use Rattle.nj_scope.specs.ReadingList.{Entry}
+use Rattle.nj_edges.specs.declared.files.FileNo.{FileNo}
+use Rattle.nj_edges.specs.EdgeGraphs.{EdgeGraph}
+use Rattle.nj_edges.specs.Edges.{EdgePaths}
+use Rattle.nj_edges.specs.Files.{AreFiles}
+use Rattle.nj_build.specs.Built.{defaults_in_force}
+use Rattle.nj_build.specs.EdgeList.{defaults_read}
+use Rattle.nj_faults.specs.declared.fault.GraphFault.{GraphFault}
+use Rattle.nj_faults.specs.FaultLines.{fault_line}
+use Rattle.nj_faults.specs.Faults.{no_memory}
+use Rattle.nj_graph.specs.Graph.{GraphText, edges_of, files_of, IsGraphOf}
+use Rattle.nj_needs.specs.Graphs.{row_of_paths, makers_in, is_phony_in, row_of, makers_of, count_of, is_phony}
+use Rattle.nj_needs.specs.Marks.{is_valid, rest}
+use Rattle.nj_needs.specs.Order.{made_by, first_occurrences}
+use Rattle.nj_needs.specs.Pages.{IsMarkAfter}
+use Rattle.nj_needs.specs.Resuming.{ResumeIs}
+use Rattle.nj_needs.specs.declared.fault.MarkFault.{MarkFault}
+use Rattle.nj_needs.specs.declared.fault.MarkFault.TheVariants as mark
+use Rattle.nj_needs.specs.Walks.{WalkState, BeginsAt, rest_of}
+use Rattle.nj_needs.proofs.Bridges.{row-paths}
+use Rattle.nj_request.specs.Requests.{ActionText, commands, single_commands}
+use Rattle.nj_tools.specs.CommandTexts.{command_lines, written, left_after, StopsAt, single, own_commands_in, own_commands}
+use Rattle.nj_tools.specs.Sinks.{SinkState, Takes}
+use Rattle.nj_tools.specs.Texts.{WritesText, TakesFront, FailsWithin}
+use Rattle.nj_tools.specs.declared.fault.ToolFault.{ToolFault}
+use Rattle.nj_tools.specs.declared.fault.ToolFault.TheVariants as tool
+use Rattle.nj_tools.proofs.SinkLemmas.{Takes-nil}
+use Rattle.nj_cli.specs.Targets.{edges_by_path, targets_named, or_defaults, with_defaults, targets_of}
+use Rattle.nj_cli.specs.Answers.{leads, left_at, IsMarkOf, commands_text, single_commands_text, output_of, Ending, ended, stopped, faulty, out_of_range, EndsFrom, CommandsEnd, SinglesEnd, EndsWith}
+use Rattle.nj_cli.specs.RunSteps.{AnswersTo, fault_of_mark, fault_of_tool}
+use Rattle.nj_cli.specs.declared.fault.RunFault.{RunFault}
+use Rattle.nj_cli.specs.declared.fault.RunFault.TheVariants as fault
+
+-- nothing was taken yet
+pub TakesFront-none : (s : SinkState) (text : List ℕ) → TakesFront s s text
+TakesFront-none s text = ([], (text, refl), Takes-nil s)
+
+-- a fault is the answer
+pub AnswersTo-err : (entries : List Entry) (action : ActionText) (old new : SinkState) (result : Result (Option (List ℕ)) RunFault) (f : RunFault)
+    → IsErrAnd result (λ e. e ≡ f) → AnswersTo entries action old new (Err f) → AnswersTo entries action old new result
+AnswersTo-err entries action old new (Ok mark) f is answers = absurd is
+AnswersTo-err entries action old new (Err e) f is answers = subst (λ (r : RunFault). AnswersTo entries action old new (Err r)) (sym is) answers
+
+module _ (entries : List Entry) (g : GraphText) (is : IsGraphOf g entries) where
+  edges-are : edges_of g ≡ edges_by_path entries
+  edges-are = is.built.paths
+
+  -- ---- targets
+
+  targets-are : (words : List (List ℕ)) (answer : Result (List (List ℕ)) GraphFault) → targets_named (edges_of g) words ≡ answer
+      → targets_of entries words ≡ with_defaults entries answer
+  targets-are words answer named = ap (with_defaults entries) (ap (λ (es : List EdgePaths). targets_named es words) (sym edges-are) ∙ named)
+
+  -- the defaults of the graph are those of the statements
+  pub defaults-are : (numbers : List FileNo) → AreFiles (files_of g) numbers (defaults_in_force g.built.defaults (edges_of g))
+      → AreFiles (files_of g) numbers (or_defaults entries [])
+  defaults-are numbers are =
+      let lines : defaults_in_force g.built.defaults (edges_of g) ≡ defaults_in_force (defaults_read entries) (edges_by_path entries) =
+      ap (λ (ds : List (List ℕ)). defaults_in_force ds (edges_of g)) is.built.defaults ∙ ap (λ (es : List EdgePaths). defaults_in_force (defaults_read entries) es) edges-are in
+      subst (AreFiles (files_of g) numbers) lines are
+
+  -- no target: the fault is the answer
+  pub commands-refused : (words : List (List ℕ)) (take : Option ℕ) (start : List ℕ) (f : GraphFault) (s : SinkState)
+      → (f ≡ no_memory) ⊎ (targets_named (edges_of g) words ≡ Err f) → AnswersTo entries (commands words take start) s s (Err (fault.Graph f))
+  commands-refused words take start f s (inl none) = (inl none, refl)
+  commands-refused words take start f s (inr named) =
+      (inr (subst (λ (ts : Result (List (List ℕ)) GraphFault). CommandsEnd entries take start ts (faulty (fault_line f))) (sym (targets-are words (Err f) named)) refl), refl)
+
+  pub singles-refused : (words : List (List ℕ)) (f : GraphFault) (s : SinkState)
+      → (f ≡ no_memory) ⊎ (targets_named (edges_of g) words ≡ Err f) → AnswersTo entries (single_commands words) s s (Err (fault.Graph f))
+  singles-refused words f s (inl none) = (inl none, refl)
+  singles-refused words f s (inr named) =
+      (inr (subst (λ (ts : Result (List (List ℕ)) GraphFault). SinglesEnd ts (faulty (fault_line f))) (sym (targets-are words (Err f) named)) refl), refl)
+
+  module _ (words paths : List (List ℕ)) (named : targets_named (edges_of g) words ≡ Ok paths) (numbers : List FileNo) (are : AreFiles (files_of g) numbers (or_defaults entries paths)) where
+    abbrev targets : List (List ℕ)
+    targets = or_defaults entries paths
+
+    named-so : targets_of entries words ≡ Ok targets
+    named-so = targets-are words (Ok paths) named
+
+    row-is : row_of g.built.graph numbers ≡ row_of_paths (edges_by_path entries) targets
+    row-is = row-paths g.built.graph numbers targets are ∙ ap (λ (es : List EdgePaths). row_of_paths es targets) edges-are
+
+    -- ---- the targets' own makers
+
+    own-are : own_commands g.built.graph numbers ≡ own_commands_in (edges_by_path entries) targets
+    own-are =
+        ap (λ (row : List (Option ℕ)). filter (λ e. not (is_phony_in (edges_of g) e)) (first_occurrences (flat_map (made_by single) row))) row-is
+        ∙ ap (λ (es : List EdgePaths). filter (λ e. not (is_phony_in es e)) (first_occurrences (flat_map (made_by single) (row_of_paths (edges_by_path entries) targets)))) edges-are
+
+    singles-text : command_lines entries (own_commands g.built.graph numbers) ≡ output_of entries (single_commands words)
+    singles-text = ap (command_lines entries) own-are ∙ ap (single_commands_text entries) (sym named-so)
+
+    pub singles-answered : (old new : SinkState) → Takes old new (command_lines entries (own_commands g.built.graph numbers))
+        → AnswersTo entries (single_commands words) old new (Ok None)
+    singles-answered old new took =
+        (subst (λ (ts : Result (List (List ℕ)) GraphFault). SinglesEnd ts ended) (sym named-so) refl, subst (Takes old new) singles-text took)
+
+    pub singles-failed : (old new : SinkState) (f : ToolFault) → WritesText {X = Unit} old new (command_lines entries (own_commands g.built.graph numbers)) (Err f)
+        → AnswersTo entries (single_commands words) old new (Err (fault_of_tool f))
+    singles-failed old new tool.Write writes = subst (FailsWithin old new) singles-text writes
+    singles-failed old new tool.OutOfMemory writes = subst (TakesFront old new) singles-text writes
+
+    -- ---- the needed commands, from a mark
+
+    module _ (take : Option ℕ) (start : List ℕ) where
+      leads-is : is_valid (makers_of g.built.graph) (row_of g.built.graph numbers) start ≡ leads entries targets start
+      leads-is =
+          ap (λ (row : List (Option ℕ)). is_valid (makers_in (edges_of g)) row start) row-is
+          ∙ ap (λ (es : List EdgePaths). is_valid (makers_in es) (row_of_paths (edges_by_path entries) targets) start) edges-are
+
+      left-is : rest_of g.built.graph numbers start ≡ left_at entries targets start
+      left-is =
+          ap (λ (row : List (Option ℕ)). rest (makers_in (edges_of g)) (length (edges_of g)) (is_phony_in (edges_of g)) row start) row-is
+          ∙ ap (λ (es : List EdgePaths). rest (makers_in es) (length es) (is_phony_in es) (row_of_paths (edges_by_path entries) targets) start) edges-are
+
+      mark-is : (edges mark : List ℕ) → IsMarkAfter (makers_of g.built.graph) (count_of g.built.graph) (row_of g.built.graph numbers) start edges mark → IsMarkOf entries targets start edges mark
+      mark-is edges mark after =
+          subst (λ (es : List EdgePaths). IsMarkAfter (makers_in es) (length es) (row_of_paths (edges_by_path entries) targets) start edges mark) edges-are
+          (subst (λ (row : List (Option ℕ)). IsMarkAfter (makers_in (edges_of g)) (length (edges_of g)) row start edges mark) row-is after)
+
+      ends-so : (ending : Ending) → EndsFrom (leads entries targets start) entries take start targets ending → EndsWith entries (commands words take start) ending
+      ends-so ending ends = subst (λ (ts : Result (List (List ℕ)) GraphFault). CommandsEnd entries take start ts ending) (sym named-so) ends
+
+      -- the mark leads to no edge
+      commands-out_of_range : (s : SinkState) → is_valid (makers_of g.built.graph) (row_of g.built.graph numbers) start ≡ false
+          → AnswersTo entries (commands words take start) s s (Err fault.MarkOutOfRange)
+      commands-out_of_range s invalid =
+          (ends-so (faulty out_of_range) (subst (λ (b : Bool). EndsFrom b entries take start targets (faulty out_of_range)) (sym invalid ∙ leads-is) refl), refl)
+
+      pub commands-not_resumed : (s : SinkState) (f : MarkFault) → ResumeIs g.built.graph numbers start (Err f)
+          → AnswersTo entries (commands words take start) s s (Err (fault_of_mark f))
+      commands-not_resumed s mark.OutOfRange invalid = commands-out_of_range s invalid
+      commands-not_resumed s mark.OutOfMemory valid = TakesFront-none s (output_of entries (commands words take start))
+
+      module _ (valid : is_valid (makers_of g.built.graph) (row_of g.built.graph numbers) start ≡ true) (w : WalkState) (begins : BeginsAt g.built.graph numbers start w) where
+        walk-left : w.left ≡ left_at entries targets start
+        walk-left =
+            begins.sound.left
+            ∙ ap (λ (h : EdgeGraph). rest_of h w.targets w.mark) begins.graph
+            ∙ ap (λ (ns : List FileNo). rest_of g.built.graph ns w.mark) begins.targets
+            ∙ ap (λ (m : List ℕ). rest_of g.built.graph numbers m) begins.mark
+            ∙ left-is
+
+        text-is : command_lines entries (written take w.left) ≡ output_of entries (commands words take start)
+        text-is =
+            ap (λ (es : List ℕ). command_lines entries (written take es)) walk-left
+            ∙ ap (λ (b : Bool). if b then command_lines entries (written take (left_at entries targets start)) else []) (sym valid ∙ leads-is)
+            ∙ ap (commands_text entries take start) (sym named-so)
+
+        ends-from : (ending : Ending) → EndsFrom true entries take start targets ending → EndsWith entries (commands words take start) ending
+        ends-from ending ends = ends-so ending (subst (λ (b : Bool). EndsFrom b entries take start targets ending) (sym valid ∙ leads-is) ends)
+
+        walk-mark : (edges mark : List ℕ) → IsMarkAfter (makers_of w.graph) (count_of w.graph) (row_of w.graph w.targets) w.mark edges mark → IsMarkOf entries targets start edges mark
+        walk-mark edges mark after =
+            mark-is edges mark
+            (subst (λ (m : List ℕ). IsMarkAfter (makers_of g.built.graph) (count_of g.built.graph) (row_of g.built.graph numbers) m edges mark) begins.mark
+            (subst (λ (ns : List FileNo). IsMarkAfter (makers_of g.built.graph) (count_of g.built.graph) (row_of g.built.graph ns) w.mark edges mark) begins.targets
+            (subst (λ (h : EdgeGraph). IsMarkAfter (makers_of h) (count_of h) (row_of h w.targets) w.mark edges mark) begins.graph after)))
+
+        -- what is left was written, or so much as may be
+        pub commands-answered : (old new : SinkState) (mark : Option (List ℕ)) → Takes old new (command_lines entries (written take w.left)) → StopsAt w take mark
+            → AnswersTo entries (commands words take start) old new (Ok mark)
+        commands-answered old new None took stops = (
+          ends-from ended (subst (λ (es : List ℕ). left_after take es ≡ []) walk-left stops),
+          subst (Takes old new) text-is took,
+        )
+        commands-answered old new (Some mark) took stops = (
+          ends-from (stopped mark) (
+            subst (λ (es : List ℕ). left_after take es ≢ []) walk-left stops.0,
+            subst (λ (es : List ℕ). IsMarkOf entries targets start (written take es) mark) walk-left (walk-mark (written take w.left) mark stops.1),
+          ),
+          subst (Takes old new) text-is took,
+        )
+
+        pub commands-failed : (old new : SinkState) (f : ToolFault) → WritesText {X = Unit} old new (command_lines entries (written take w.left)) (Err f)
+            → AnswersTo entries (commands words take start) old new (Err (fault_of_tool f))
+        commands-failed old new tool.Write writes = subst (FailsWithin old new) text-is writes
+        commands-failed old new tool.OutOfMemory writes = subst (TakesFront old new) text-is writes

@@ -1,0 +1,106 @@
+-- What a run answers, by the statements of its files and by what is asked for: its output, and how it ends.
+use Rattle.std.specs.Prelude.{◌≡◌, ◌≢◌, ℕ, Bool, true, false, if◌then◌else◌, Option, Result, Ok, Err, List, [], ◌∷◌, ◌++◌, length, codes}
+use Rattle.nj_scope.specs.ReadingList.{Entry}
+use Rattle.nj_faults.specs.declared.fault.GraphFault.{GraphFault}
+use Rattle.nj_faults.specs.FaultLines.{fault_line}
+use Rattle.nj_marks.specs.Marks.{mark_text}
+use Rattle.nj_needs.specs.Graphs.{row_of_paths, makers_in, is_phony_in}
+use Rattle.nj_needs.specs.Marks.{is_valid, rest}
+use Rattle.nj_needs.specs.Pages.{IsMarkAfter}
+use Rattle.nj_tools.specs.CommandTexts.{command_lines, written, left_after, own_commands_in}
+use Rattle.nj_request.specs.Requests.{ActionText, commands, single_commands}
+use Rattle.nj_cli.specs.Targets.{edges_by_path, targets_of}
+use Rattle.nj_cli.specs.declared.status.Status.{Status}
+use Rattle.nj_cli.specs.declared.status.Status.TheVariants.{Done, Fault, Stopped, OutputFailed}
+
+-- ---- what is left to write
+
+-- a mark leads from these targets to an edge at each step
+abbrev pub leads : List Entry → (targets : List (List ℕ)) → (mark : List ℕ) → Bool
+leads entries targets mark = is_valid (makers_in (edges_by_path entries)) (row_of_paths (edges_by_path entries) targets) mark
+
+-- the edges whose commands are left at a mark
+abbrev pub left_at : List Entry → (targets : List (List ℕ)) → (mark : List ℕ) → List ℕ
+left_at entries targets mark =
+    rest (makers_in (edges_by_path entries)) (length (edges_by_path entries)) (is_phony_in (edges_by_path entries))
+    (row_of_paths (edges_by_path entries) targets) mark
+
+-- the mark after these edges, where the run began at a mark
+abbrev pub IsMarkOf : List Entry → (targets : List (List ℕ)) → (begun : List ℕ) → (edges : List ℕ) → (mark : List ℕ) → Type 0
+IsMarkOf entries targets begun edges mark =
+    IsMarkAfter (makers_in (edges_by_path entries)) (length (edges_by_path entries)) (row_of_paths (edges_by_path entries) targets)
+    begun edges mark
+
+-- ---- the output
+
+abbrev pub commands_text : List Entry → (take : Option ℕ) → (start : List ℕ) → (targets : Result (List (List ℕ)) GraphFault) → List ℕ
+commands_text entries take start (Ok targets) =
+    if leads entries targets start then command_lines entries (written take (left_at entries targets start)) else []
+commands_text entries take start (Err fault) = []
+
+abbrev pub single_commands_text : List Entry → (targets : Result (List (List ℕ)) GraphFault) → List ℕ
+single_commands_text entries (Ok targets) = command_lines entries (own_commands_in (edges_by_path entries) targets)
+single_commands_text entries (Err fault) = []
+
+-- the whole output; nothing at a fault
+abbrev pub output_of : List Entry → ActionText → List ℕ
+output_of entries (commands words take start) = commands_text entries take start (targets_of entries words)
+output_of entries (single_commands words) = single_commands_text entries (targets_of entries words)
+
+-- ---- how it ends
+
+-- All was written; or the run stopped at a mark, and more is left; or this is what is wrong.
+pub data Ending : Type 0 where
+  ended : Ending
+  stopped : (mark : List ℕ) → Ending
+  faulty : (text : List ℕ) → Ending
+
+abbrev pub out_of_range : List ℕ
+out_of_range = codes "ninja-explain: mark out of range"
+
+-- from a mark that leads to an edge: the edges after those that are written are left, or none
+abbrev pub PageEnds : List Entry → (take : Option ℕ) → (start : List ℕ) → (targets : List (List ℕ)) → Ending → Type 0
+PageEnds entries take start targets ended = left_after take (left_at entries targets start) ≡ []
+PageEnds entries take start targets (stopped mark) =
+    (left_after take (left_at entries targets start) ≢ [])
+    × IsMarkOf entries targets start (written take (left_at entries targets start)) mark
+PageEnds entries take start targets (faulty text) = ⊥
+
+abbrev pub EndsFrom : (leads : Bool) → List Entry → (take : Option ℕ) → (start : List ℕ) → (targets : List (List ℕ)) → Ending → Type 0
+EndsFrom true entries take start targets ending = PageEnds entries take start targets ending
+EndsFrom false entries take start targets ending = ending ≡ faulty out_of_range
+
+abbrev pub CommandsEnd : List Entry → (take : Option ℕ) → (start : List ℕ) → (targets : Result (List (List ℕ)) GraphFault) → Ending → Type 0
+CommandsEnd entries take start (Ok targets) ending = EndsFrom (leads entries targets start) entries take start targets ending
+CommandsEnd entries take start (Err fault) ending = ending ≡ faulty (fault_line fault)
+
+abbrev pub SinglesEnd : (targets : Result (List (List ℕ)) GraphFault) → Ending → Type 0
+SinglesEnd (Ok targets) ending = ending ≡ ended
+SinglesEnd (Err fault) ending = ending ≡ faulty (fault_line fault)
+
+-- the ending of a run: targets first, from the left, and then the mark
+abbrev pub EndsWith : List Entry → ActionText → Ending → Type 0
+EndsWith entries (commands words take start) ending = CommandsEnd entries take start (targets_of entries words) ending
+EndsWith entries (single_commands words) ending = SinglesEnd (targets_of entries words) ending
+
+-- ---- what is told of it
+
+abbrev pub line_of : List ℕ → List ℕ
+line_of text = text ++ 10 ∷ []
+
+-- the error output
+abbrev pub error_of : Ending → List ℕ
+error_of ended = []
+error_of (stopped mark) = line_of (codes "mark " ++ mark_text mark)
+error_of (faulty text) = line_of text
+
+abbrev pub status_of : Ending → Status
+status_of ended = Done
+status_of (stopped mark) = Stopped
+status_of (faulty text) = Fault
+
+-- the status where the error output failed: without its mark a run cannot go on
+abbrev pub status_untold : Ending → Status
+status_untold ended = Done
+status_untold (stopped mark) = OutputFailed
+status_untold (faulty text) = Fault

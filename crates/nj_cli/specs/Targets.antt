@@ -1,0 +1,46 @@
+-- The targets of a run.
+use Rattle.std.specs.Prelude.{◌≡◌, ◌⊎◌, ℕ, Result, Ok, Err, List, [], ◌∷◌}
+use Rattle.std.specs.Global.{Vec}
+use Rattle.nj_scope.specs.ReadingList.{Entry}
+use Rattle.nj_edges.specs.declared.files.FileNo.{FileNo}
+use Rattle.nj_edges.specs.Edges.{EdgePaths}
+use Rattle.nj_edges.specs.Files.{AreFiles}
+use Rattle.nj_build.specs.Built.{defaults_in_force}
+use Rattle.nj_build.specs.EdgeList.{edges_read, paths_of_edges, defaults_read}
+use Rattle.nj_faults.specs.declared.fault.GraphFault.{GraphFault}
+use Rattle.nj_faults.specs.Faults.{no_memory}
+use Rattle.nj_graph.specs.Targets.{picked}
+
+-- the edges of statements, by their paths
+abbrev pub edges_by_path : List Entry → List EdgePaths
+edges_by_path entries = paths_of_edges (edges_read entries)
+
+abbrev pub and_target : Result (List ℕ) GraphFault → Result (List (List ℕ)) GraphFault → Result (List (List ℕ)) GraphFault
+and_target (Err fault) others = Err fault
+and_target (Ok path) (Err fault) = Err fault
+and_target (Ok path) (Ok paths) = Ok (path ∷ paths)
+
+-- the paths of the targets that words name, or the fault of the first word that names none
+abbrev pub targets_named : List EdgePaths → (words : List (List ℕ)) → Result (List (List ℕ)) GraphFault
+targets_named edges [] = Ok []
+targets_named edges (word ∷ words) = and_target (picked edges word) (targets_named edges words)
+
+-- in place of no words the defaults in force
+abbrev pub or_defaults : List Entry → (targets : List (List ℕ)) → List (List ℕ)
+or_defaults entries [] = defaults_in_force (defaults_read entries) (edges_by_path entries)
+or_defaults entries (path ∷ paths) = path ∷ paths
+
+abbrev pub with_defaults : List Entry → Result (List (List ℕ)) GraphFault → Result (List (List ℕ)) GraphFault
+with_defaults entries (Ok targets) = Ok (or_defaults entries targets)
+with_defaults entries (Err fault) = Err fault
+
+-- the targets of a run with these words
+abbrev pub targets_of : List Entry → (words : List (List ℕ)) → Result (List (List ℕ)) GraphFault
+targets_of entries words = with_defaults entries (targets_named (edges_by_path entries) words)
+
+-- ---- what the code answers
+
+-- the files of the targets, or the fault; or out of memory
+abbrev pub PicksTargets : (files : List (List ℕ)) → (expected : Result (List (List ℕ)) GraphFault) → Result (Vec FileNo) GraphFault → Type 0
+PicksTargets files expected (Ok numbers) = (paths : List (List ℕ)) × (expected ≡ Ok paths) × AreFiles files numbers.items paths
+PicksTargets files expected (Err fault) = (fault ≡ no_memory) ⊎ (expected ≡ Err fault)
