@@ -1,4 +1,5 @@
 pub mod AnswerLemmas
+pub mod HeadlineLaws
 pub mod Pieces
 pub mod Reports
 pub mod RunLemmas

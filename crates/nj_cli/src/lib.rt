@@ -4,12 +4,14 @@
 mod answer;
 mod disk;
 mod fault;
+mod laws;
 mod report;
 mod run;
 mod status;
 mod targets;
 
 pub use disk::DiskFiles;
+pub use laws::commands_law;
 pub use nj_needs::Mark;
 pub use nj_request::{Action, Request, UsageFault, read_words};
 pub use nj_scope::{FileSource, FileTable, HashKeys, MemoryFiles, SourceFault};

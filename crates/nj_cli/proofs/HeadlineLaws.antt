@@ -1,0 +1,191 @@
+-- Laws of the runs of `commands`.
+use Rattle.std.proofs.Common.{◌≡◌, ◌≢◌, ℕ, ◌+◌, Bool, true, false, if◌then◌else◌, Option, Some, None, Result, Ok, Err, List, [], ◌∷◌, ◌++◌, length, take, drop, refl, sym, ap, subst, ◌∙◌, append_assoc, take-append-drop}
+use Rattle.std.specs.Prelude.{MatchOption}
+use Rattle.std.specs.List.{concat, last_or}
+use Rattle.std.proofs.lemmas.List.{append-nil}
+use Rattle.std.proofs.lemmas.List.Concat.{flat_map-append}
+use Rattle.nj_scope.specs.ReadingList.{Entry}
+use Rattle.nj_edges.specs.Edges.{EdgePaths}
+use Rattle.nj_faults.specs.declared.fault.GraphFault.{GraphFault}
+use Rattle.nj_faults.specs.FaultLines.{fault_line}
+use Rattle.nj_needs.specs.Graphs.{row_of_paths, makers_in, is_phony_in}
+use Rattle.nj_needs.specs.Marks.{is_valid, rest, IsFirstPlace}
+use Rattle.nj_needs.specs.Needs.{IsAcyclic, AreWithin}
+use Rattle.nj_needs.specs.Order.{needed_commands}
+use Rattle.nj_needs.proofs.Bridges.{IsAcyclic-edges, AreWithin-paths}
+use Rattle.nj_needs.proofs.OrderLaws.{commands-reached, commands-once, commands-after_needs}
+use Rattle.nj_needs.proofs.PageLaws.{mark-keeps_the_rest}
+use Rattle.nj_needs.proofs.PlaceLaws.{first-places_are_one}
+use Rattle.nj_needs.proofs.Striking.{without-none}
+use Rattle.nj_request.specs.Requests.{ActionText, commands, single_commands}
+use Rattle.nj_tools.specs.CommandTexts.{command_line, command_lines, written, left_after}
+use Rattle.nj_cli.specs.Answers.{leads, left_at, IsMarkOf, commands_text, output_of, Ending, ended, stopped, faulty, out_of_range, PageEnds, EndsFrom, CommandsEnd, SinglesEnd, EndsWith}
+use Rattle.nj_cli.specs.Headline.{HasNoCycle, AreNeeded, WritesTheNeeded, ArePages, PagesJoin, OneEnding}
+use Rattle.nj_cli.specs.Headline.ArePages.{no_runs, ends, stops}
+use Rattle.nj_cli.specs.Targets.{edges_by_path, targets_of}
+
+-- ---- the targets and the mark of a run that is not refused
+
+-- how a run ends that is not refused
+abbrev Goes : Ending → Type 0
+Goes ended = Unit {0}
+Goes (stopped mark) = Unit {0}
+Goes (faulty text) = ⊥
+
+pub record Page (entries : List Entry) (take : Option ℕ) (start : List ℕ) (words : List (List ℕ)) (ending : Ending) : Type 0 where
+  pub targets : List (List ℕ)
+  pub named : targets_of entries words ≡ Ok targets
+  pub leads_so : leads entries targets start ≡ true
+  pub ends_so : PageEnds entries take start targets ending
+
+not-faulty : (ending : Ending) (text : List ℕ) → Goes ending → ending ≡ faulty text → ⊥
+not-faulty ended text goes is = absurd cc
+not-faulty (stopped mark) text goes is = absurd cc
+not-faulty (faulty other) text goes is = goes
+
+module _ (entries : List Entry) (take : Option ℕ) (start : List ℕ) (words : List (List ℕ)) (ending : Ending) (goes : Goes ending) where
+  page-from : (targets : List (List ℕ)) → targets_of entries words ≡ Ok targets → (b : Bool) → leads entries targets start ≡ b → EndsFrom b entries take start targets ending
+      → Page entries take start words ending
+  page-from targets named true is ends_so = record { targets = targets; named = named; leads_so = is; ends_so = ends_so }
+  page-from targets named false is refused = absurd (not-faulty ending out_of_range goes refused)
+
+  page-of : (ts : Result (List (List ℕ)) GraphFault) → targets_of entries words ≡ ts → CommandsEnd entries take start ts ending → Page entries take start words ending
+  page-of (Ok targets) named ends_so = page-from targets named (leads entries targets start) refl ends_so
+  page-of (Err f) named refused = absurd (not-faulty ending (fault_line f) goes refused)
+
+  pub page : EndsWith entries (commands words take start) ending → Page entries take start words ending
+  page ends_so = page-of (targets_of entries words) refl ends_so
+
+-- its output
+pub output-is : (entries : List Entry) (take : Option ℕ) (start : List ℕ) (words targets : List (List ℕ)) → targets_of entries words ≡ Ok targets → leads entries targets start ≡ true
+    → output_of entries (commands words take start) ≡ command_lines entries (written take (left_at entries targets start))
+output-is entries take start words targets named leads_so =
+    ap (commands_text entries take start) named
+    ∙ ap (λ (b : Bool). if b then command_lines entries (written take (left_at entries targets start)) else []) leads_so
+
+-- a run with a mark that leads to an edge ends, if nothing limits it
+ends-unlimited : (entries : List Entry) (start : List ℕ) (words targets : List (List ℕ)) → targets_of entries words ≡ Ok targets → leads entries targets start ≡ true
+    → EndsWith entries (commands words None start) ended
+ends-unlimited entries start words targets named leads_so =
+    subst (λ (ts : Result (List (List ℕ)) GraphFault). CommandsEnd entries None start ts ended) (sym named)
+    (subst (λ (b : Bool). EndsFrom b entries None start targets ended) (sym leads_so) refl)
+
+-- ---- the needed commands
+
+module _ (edges : List EdgePaths) (targets : List (List ℕ)) (none : HasNoCycle edges) where
+  acyclic : IsAcyclic (makers_in edges) (length edges)
+  acyclic = IsAcyclic-edges edges none
+
+  within : AreWithin (row_of_paths edges targets) (length edges)
+  within = AreWithin-paths edges targets
+
+  needed : AreNeeded edges targets (needed_commands (makers_in edges) (length edges) (is_phony_in edges) (row_of_paths edges targets))
+  needed = record {
+    reached = commands-reached (makers_in edges) (length edges) (is_phony_in edges) (row_of_paths edges targets) acyclic within;
+    once = commands-once (makers_in edges) (length edges) (is_phony_in edges) (row_of_paths edges targets);
+    after = commands-after_needs (makers_in edges) (length edges) (is_phony_in edges) (row_of_paths edges targets) acyclic within;
+    order = refl;
+  }
+
+pub writes-the_needed : WritesTheNeeded
+writes-the_needed entries words none ends_so =
+    let p = page entries None [] words ended tt ends_so in
+    let edges = edges_by_path entries in
+    let numbers = needed_commands (makers_in edges) (length edges) (is_phony_in edges) (row_of_paths edges p.targets) in (
+      p.targets,
+      p.named,
+      numbers,
+      needed edges p.targets none,
+      output-is entries None [] words p.targets p.named p.leads_so ∙ ap (command_lines entries) (without-none numbers),
+    )
+
+-- ---- pages
+
+-- the targets of the words are these alone
+same-targets : (entries : List Entry) (words targets others : List (List ℕ)) → targets_of entries words ≡ Ok targets → targets_of entries words ≡ Ok others → others ≡ targets
+same-targets entries words targets others one other = let e : Ok others ≡ Ok targets = sym other ∙ one in cc
+
+module _ (entries : List Entry) (words targets : List (List ℕ)) (named : targets_of entries words ≡ Ok targets) (none : HasNoCycle (edges_by_path entries)) where
+  -- after a page: the mark leads to an edge, and the rest is left there
+  after-page : (start : List ℕ) (take : ℕ) (mark : List ℕ) → leads entries targets start ≡ true
+      → IsMarkOf entries targets start (written (Some take) (left_at entries targets start)) mark
+      → (leads entries targets mark ≡ true) × (left_at entries targets mark ≡ drop take (left_at entries targets start))
+  after-page start count mark leads_so is =
+      let edges = edges_by_path entries in
+      mark-keeps_the_rest (makers_in edges) (length edges) (is_phony_in edges) (row_of_paths edges targets) (acyclic edges targets none) (within edges targets none)
+      start (take count (left_at entries targets start)) (drop count (left_at entries targets start)) mark leads_so
+      (sym (take-append-drop count (left_at entries targets start))) is
+
+  lines-split : (count : ℕ) (numbers : List ℕ) → command_lines entries numbers ≡ command_lines entries (take count numbers) ++ command_lines entries (drop count numbers)
+  lines-split count numbers =
+      ap (command_lines entries) (sym (take-append-drop count numbers)) ∙ flat_map-append (command_line entries) (take count numbers) (drop count numbers)
+
+  join : (start takes : List ℕ) (outputs : List (List ℕ)) (rest : List ℕ) → leads entries targets start ≡ true → ArePages entries words start takes outputs rest
+      → output_of entries (commands words None start) ≡ concat outputs ++ rest
+  join start _ _ rest leads_so (no_runs is) = is
+  join start _ _ _ leads_so (ends {take = count} {output = output} ends_so is) =
+      let p = page entries (Some count) start words ended tt ends_so in
+      let left = left_at entries targets start in
+      let none_left : drop count left ≡ [] = subst (λ (ts : List (List ℕ)). drop count (left_at entries ts start) ≡ []) (same-targets entries words targets p.targets named p.named) p.ends_so in
+      output-is entries None start words targets named leads_so
+      ∙ lines-split count left
+      ∙ ap (λ (es : List ℕ). command_lines entries (take count left) ++ command_lines entries es) none_left
+      ∙ ap (λ (t : List ℕ). t ++ []) (sym (output-is entries (Some count) start words targets named leads_so) ∙ is)
+      ∙ ap (λ (t : List ℕ). t ++ []) (sym (append-nil output))
+  join start _ _ rest leads_so (stops {takes = takes} {output = output} {take = count} {outputs = outputs} mark ends_so is more) =
+      let p = page entries (Some count) start words (stopped mark) tt ends_so in
+      let left = left_at entries targets start in
+      let marked : IsMarkOf entries targets start (written (Some count) left) mark =
+      subst (λ (ts : List (List ℕ)). IsMarkOf entries ts start (written (Some count) (left_at entries ts start)) mark) (same-targets entries words targets p.targets named p.named) p.ends_so.1 in
+      let (leads_on, left_on) = after-page start count mark leads_so marked in
+      let on : command_lines entries (drop count left) ≡ concat outputs ++ rest =
+      ap (command_lines entries) (sym left_on) ∙ sym (output-is entries None mark words targets named leads_on) ∙ join mark takes outputs rest leads_on more in
+      output-is entries None start words targets named leads_so
+      ∙ lines-split count left
+      ∙ ap (λ (t : List ℕ). t ++ command_lines entries (drop count left)) (sym (output-is entries (Some count) start words targets named leads_so) ∙ is)
+      ∙ ap (λ (t : List ℕ). output ++ t) on
+      ∙ sym (append_assoc output (concat outputs) rest)
+
+pub pages-join : PagesJoin
+pages-join entries words none start takes outputs rest ends_so pages =
+    let p = page entries None start words ended tt ends_so in
+    join entries words p.targets p.named none start takes outputs rest p.leads_so pages
+
+-- ---- one ending
+
+module _ (entries : List Entry) (take : Option ℕ) (start : List ℕ) (targets : List (List ℕ)) (none : HasNoCycle (edges_by_path entries)) where
+  -- an edge has one first place
+  one-mark : (last : Option ℕ) (mark other : List ℕ)
+      → MatchOption last (mark ≡ start) (λ e. IsFirstPlace (makers_in (edges_by_path entries)) (length (edges_by_path entries)) (row_of_paths (edges_by_path entries) targets) mark e)
+      → MatchOption last (other ≡ start) (λ e. IsFirstPlace (makers_in (edges_by_path entries)) (length (edges_by_path entries)) (row_of_paths (edges_by_path entries) targets) other e)
+      → mark ≡ other
+  one-mark None mark other is so = is ∙ sym so
+  one-mark (Some e) mark other is so =
+      let edges = edges_by_path entries in
+      first-places_are_one (makers_in edges) (length edges) (row_of_paths edges targets) (acyclic edges targets none) (within edges targets none) mark other e is so
+
+  one-page : (ending other : Ending) → PageEnds entries take start targets ending → PageEnds entries take start targets other → ending ≡ other
+  one-page ended ended is so = refl
+  one-page ended (stopped mark) is so = absurd (so.0 is)
+  one-page ended (faulty text) is so = absurd so
+  one-page (stopped mark) ended is so = absurd (is.0 so)
+  one-page (stopped mark) (stopped other) is so = ap stopped (one-mark (last_or None (written take (left_at entries targets start))) mark other is.1 so.1)
+  one-page (stopped mark) (faulty text) is so = absurd so
+  one-page (faulty text) other is so = absurd is
+
+  one-from : (b : Bool) (ending other : Ending) → EndsFrom b entries take start targets ending → EndsFrom b entries take start targets other → ending ≡ other
+  one-from true ending other is so = one-page ending other is so
+  one-from false ending other is so = is ∙ sym so
+
+one-commands : (entries : List Entry) (take : Option ℕ) (start : List ℕ) (targets : Result (List (List ℕ)) GraphFault) (ending other : Ending) → HasNoCycle (edges_by_path entries)
+    → CommandsEnd entries take start targets ending → CommandsEnd entries take start targets other → ending ≡ other
+one-commands entries take start (Ok targets) ending other none is so = one-from entries take start targets none (leads entries targets start) ending other is so
+one-commands entries take start (Err f) ending other none is so = is ∙ sym so
+
+one-singles : (targets : Result (List (List ℕ)) GraphFault) (ending other : Ending) → SinglesEnd targets ending → SinglesEnd targets other → ending ≡ other
+one-singles (Ok targets) ending other is so = is ∙ sym so
+one-singles (Err f) ending other is so = is ∙ sym so
+
+pub one-ending : OneEnding
+one-ending entries (commands words take start) ending other none is so = one-commands entries take start (targets_of entries words) ending other none is so
+one-ending entries (single_commands words) ending other none is so = one-singles (targets_of entries words) ending other is so
