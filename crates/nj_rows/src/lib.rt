@@ -12,6 +12,10 @@ mod graphs;
 #[cfg(test)]
 mod loads;
 #[cfg(test)]
+mod pages;
+#[cfg(test)]
+mod requests;
+#[cfg(test)]
 mod runs;
 #[cfg(test)]
 mod sinks;
