@@ -12,9 +12,9 @@ all:
 	mkdir -p bin
 	cp $(BUILT) bin/ninja-explain
 
-# Builds the program and prints the commands of the quick start's file.
+# Builds the program and prints the commands of a project in three files.
 run: all
-	cd examples/hello && ../../bin/ninja-explain -t commands
+	cd examples/project && ../../bin/ninja-explain -t commands
 
 # Every proof from nothing, the must-fail edits, the tests and the stored run. It leaves the program.
 test:
@@ -31,7 +31,7 @@ smoke: $(BUILT)
 $(BUILT): $(wildcard crates/*/src/*.rt)
 	$(MAKE) all
 
-# Runs the program on the quick start's file before any proof, in seconds.
+# Runs the program on the quick start's file before any proof.
 try:
 	cd $(PROGRAM) && rt try < ../../examples/hello/build.ninja
 
