@@ -2,23 +2,35 @@
 """Runs the built program on real files: smoke.py PROGRAM
 
 Prints what differs from what it should be, and nothing else. The status is 1 if anything differs.
+Where Ninja is installed, the commands of a project of 22 files are compared with those that it
+writes, byte for byte. Where `cc` is, each allocation of some runs fails in turn.
 """
 
 import os
+import shutil
 import subprocess
 import sys
 import tempfile
 from pathlib import Path
 
+from smoke_project import project
+
 PROGRAM = os.path.abspath(sys.argv[1])
-HELLO = Path(__file__).resolve().parent.parent / "examples/hello/build.ninja"
+SCRIPTS = Path(__file__).resolve().parent
+HELLO = SCRIPTS.parent / "examples/hello/build.ninja"
+PROJECT = SCRIPTS.parent / "examples/project"
 HELLO_COMMANDS = b"""\
 cc -c hello.c -o hello.o
 cc -c greet.c -o greet.o
 cc hello.o greet.o -o hello
 """
-DONE, FAULT, USAGE, OUTPUT_FAILED = 0, 1, 2, 4
+COMMANDS = ["-t", "commands"]
+DONE, FAULT, USAGE, STOPPED, OUTPUT_FAILED = range(5)
 EDGES = 200_000
+# A mark in a chain has a number for each edge that is left, and a word of the command line has
+# 128 KB at most.
+TAKEN = 150_000
+PAGE = 7
 MOST_BYTES = 1 << 30
 SECONDS = 60
 
@@ -62,50 +74,148 @@ def run_by_shell(folder, words, before="", after=""):
 
 def run_to_deserter(folder):
     """Runs the program with a reader that goes away after the first byte."""
-    words = [PROGRAM, "-t", "commands"]
     pipes = {"stdout": subprocess.PIPE, "stderr": subprocess.PIPE}
-    with subprocess.Popen(words, cwd=folder, bufsize=0, **pipes) as program:
+    with subprocess.Popen([PROGRAM, *COMMANDS], cwd=folder, bufsize=0, **pipes) as program:
         first = program.stdout.read(1)
         program.stdout.close()
         error = program.stderr.read()
         return program.wait(SECONDS), first, error
 
 
+def run_page(folder, size, mark):
+    """Runs the program for so many commands from a mark on. Gives how it ended, and the mark at
+    which it stopped, or None if it did not."""
+    ran = run(folder, [*COMMANDS, "--take", str(size), "--resume", mark])
+    told = ran[2].decode()
+    return ran, told.removeprefix("mark ").rstrip("\n") if ran[0] == STOPPED else None
+
+
+def run_pages(folder, size):
+    """Runs the program page by page. Gives the pages, and how the last one ended."""
+    pages, mark = [], "start"
+    while mark is not None:
+        (status, output, error), mark = run_page(folder, size, mark)
+        pages.append(output)
+    return pages, (status, error)
+
+
 def try_outputs(folder):
-    commands = ["-t", "commands"]
-    expect("quick start", run(folder, commands), (DONE, HELLO_COMMANDS, b""))
-    first = HELLO_COMMANDS.splitlines(keepends=True)[0]
-    expect("one target", run(folder, [*commands, "hello.o"]), (DONE, first, b""))
-    unknown = [*commands, "nothing"]
-    expect("closed output", run_by_shell(folder, commands, after=">&-"), (OUTPUT_FAILED, b"", b""))
+    expect("quick start", run(folder, COMMANDS), (DONE, HELLO_COMMANDS, b""))
+    lines = HELLO_COMMANDS.splitlines(keepends=True)
+    expect("one target", run(folder, [*COMMANDS, "hello.o"]), (DONE, lines[0], b""))
+    expect("its own command", run(folder, [*COMMANDS, "-s", "hello"]), (DONE, lines[2], b""))
+    unknown = [*COMMANDS, "nothing"]
+    expect("closed output", run_by_shell(folder, COMMANDS, after=">&-"), (OUTPUT_FAILED, b"", b""))
     expect("closed error output", run_by_shell(folder, unknown, after="2>&-"), (FAULT, b"", b""))
     with open("/dev/full", "wb") as full:
-        expect("full output", run(folder, commands, stdout=full), (OUTPUT_FAILED, None, b""))
+        expect("full output", run(folder, COMMANDS, stdout=full), (OUTPUT_FAILED, None, b""))
         expect("full error output", run(folder, unknown, stderr=full), (FAULT, b"", None))
+
+
+def try_stops(folder):
+    lines = HELLO_COMMANDS.splitlines(keepends=True)
+    two = [*COMMANDS, "--take", "2"]
+    expect("two commands", run(folder, two), (STOPPED, b"".join(lines[:2]), b"mark 0.1\n"))
+    rest = [*COMMANDS, "--resume", "0.1"]
+    expect("the rest", run(folder, rest), (DONE, lines[2], b""))
+    lost = run_by_shell(folder, two, after="2>&-")
+    expect("mark to a closed output", lost, (OUTPUT_FAILED, b"".join(lines[:2]), b""))
+    with open("/dev/full", "wb") as full:
+        lost = run(folder, two, stderr=full)
+        expect("mark to a full output", lost, (OUTPUT_FAILED, b"".join(lines[:2]), None))
+    bad = (USAGE, b"", b"ninja-explain: bad mark '0.'\n")
+    expect("no mark", run(folder, [*COMMANDS, "--resume", "0."]), bad)
+    outside = (FAULT, b"", b"ninja-explain: mark out of range\n")
+    expect("mark that leads nowhere", run(folder, [*COMMANDS, "--resume", "0.2"]), outside)
+
+
+def try_names(folder):
+    hello = HELLO.read_bytes()
+    (folder / "other.ninja").write_bytes(hello)
+    other = ["-f", "other.ninja", *COMMANDS]
+    expect("another file", run(folder, other), (DONE, HELLO_COMMANDS, b""))
+    (folder / "other.ninja").unlink()
+    named = run(folder, ["--stdin", *other], input=hello)
+    expect("another file from standard input", named, (DONE, HELLO_COMMANDS, b""))
+    faulty = (FAULT, b"", b"other.ninja:1:2: expected '='\n")
+    expect("its fault", run(folder, ["--stdin", *other], input=b"x\n"), faulty)
 
 
 def try_faults(folder):
     main = folder / "build.ninja"
-    commands = ["-t", "commands"]
     unreadable = (USAGE, b"", b"ninja-explain: cannot read the arguments\n")
-    expect("argument that is not UTF-8", run(folder, [*commands, b"a\xff"]), unreadable)
+    expect("argument that is not UTF-8", run(folder, [*COMMANDS, b"a\xff"]), unreadable)
+    expect("no tool", run(folder, ["-f", "build.ninja"]), unreadable)
     missing = (FAULT, b"", b"build.ninja:1:1: cannot find 'build.ninja'\n")
-    expect("missing file", run(folder, commands), missing)
+    expect("missing file", run(folder, COMMANDS), missing)
     main.mkdir()
     no_file = (FAULT, b"", b"build.ninja:1:1: cannot read 'build.ninja'\n")
-    expect("folder called build.ninja", run(folder, commands), no_file)
+    expect("folder called build.ninja", run(folder, COMMANDS), no_file)
     main.rmdir()
     with main.open("wb") as file:
         file.truncate(MOST_BYTES + 1)
-    small_room = run_by_shell(folder, commands, before="ulimit -v 100000;")
+    small_room = run_by_shell(folder, COMMANDS, before="ulimit -v 100000;")
     expect("file above the limit, in little room", small_room, no_file)
+
+
+def try_project(folder):
+    """Ninja's answers count, and the pages are those of the whole answer."""
+    for name, text in project().items():
+        (folder / name).parent.mkdir(exist_ok=True)
+        (folder / name).write_text(text, newline="")
+    status, whole, error = run(folder, COMMANDS)
+    expect("project", (status, whole, error), (DONE, whole, b""))
+    lines = whole.splitlines(keepends=True)
+    wanted = [b"".join(lines[at : at + PAGE]) for at in range(0, len(lines), PAGE)]
+    if run_pages(folder, PAGE) != (wanted, (DONE, b"")):
+        failures.append(f"project: pages of {PAGE} are not those of the whole")
+    if shutil.which("ninja"):
+        compare_with_ninja(folder)
+
+
+def compare_with_ninja(folder):
+    for targets in (
+        [],
+        ["app"],
+        ["lib_04", "lib_07/4.o"],
+        ["lib_03/with space.cc^"],
+        ["lib_05/check"],
+        ["install", "build.ninja"],
+        ["-s", "app", "lib_01/lib01.a", "all"],
+    ):
+        ninja = subprocess.run(["ninja", *COMMANDS, *targets], cwd=folder, capture_output=True)
+        wanted = (DONE, ninja.stdout, b"")
+        expect(f"project, {targets}", run(folder, [*COMMANDS, *targets]), wanted)
+
+
+def try_memory(room):
+    """Each allocation fails in turn, in runs over the project of the examples: the answer is that of
+    ample memory, or a beginning of it and one line."""
+    library, told = Path(room) / "fail_alloc.so", Path(room) / "told"
+    compiler = ["cc", "-O2", "-shared", "-fPIC", "-o", library, SCRIPTS / "fail_alloc.c"]
+    subprocess.run(compiler, check=True)
+    for words in (["--take", "2"], ["--resume", "0.0", "test"], ["-s", "main.c^"], ["nothing"]):
+        ample, number = run(PROJECT, [*COMMANDS, *words]), 0
+        told.touch()
+        while told.exists():
+            told.unlink()
+            number += 1
+            preloaded = {"LD_PRELOAD": str(library), "FAIL_ALLOC": str(number)}
+            fails = {**os.environ, **preloaded, "FAIL_ALLOC_TOLD": str(told)}
+            ran = run(PROJECT, [*COMMANDS, *words], env=fails)
+            lacks = ran[0] == FAULT and ran[2] == b"ninja-explain: out of memory\n"
+            if ran != ample and not (lacks and ample[1].startswith(ran[1])):
+                failures.append(f"{words}, allocation {number} fails: it answers {ran}")
 
 
 def try_large(folder):
     manifest, wanted = chain()
     expect("chain from standard input", run(folder, [], input=manifest), (DONE, wanted, b""))
     (folder / "build.ninja").write_bytes(manifest)
-    expect("chain", run(folder, ["-t", "commands"]), (DONE, wanted, b""))
+    expect("chain", run(folder, COMMANDS), (DONE, wanted, b""))
+    (status, first, _), mark = run_page(folder, TAKEN, "start")
+    rest = run(folder, [*COMMANDS, "--resume", mark or "start"])
+    expect("chain in two pages", (status, first + rest[1], rest[2]), (STOPPED, wanted, b""))
     expect("reader that goes away", run_to_deserter(folder), (OUTPUT_FAILED, wanted[:1], b""))
 
 
@@ -118,6 +228,11 @@ def main():
         try_faults(folder)
         (folder / "build.ninja").write_bytes(HELLO.read_bytes())
         try_outputs(folder)
+        try_stops(folder)
+        try_names(folder)
+        try_project(folder)
+        if shutil.which("cc"):
+            try_memory(room)
         try_large(folder)
     for failure in failures:
         print(f"smoke: {failure}")
