@@ -1,20 +1,28 @@
 #!/usr/bin/env python3
-"""Measures what it takes to load a manifest and to make the command of each edge:
+"""Measures whole runs of `ninja-explain -t commands`:
 
-    commands.py PROGRAM [--sizes N,M] [--inputs N,M] [--references N,M] [--rounds N]
+    commands.py PROGRAM [--edges OTHER] [--sizes N,M] [--chain N,M] [--inputs N,M]
+                [--references N,M] [--rounds N]
 
-PROGRAM writes the commands of build.ninja of the folder that it runs in, as crates/command_bench
-does. In one run, on the same files, it stands beside `ninja -t commands`, which writes the same
-lines in another order: that they are the same is checked. Both write to a pipe. Each is run three
-times in turn, or N times, and the best times count: by the clock, and of the processor; of memory
-the most. The files are made in a temporary folder.
+In one run, on the same files, PROGRAM stands beside `ninja -t commands`. Both write to a file, and
+what they write has to be the same, byte for byte. OTHER, if it is given, writes the commands of all
+edges of build.ninja, as crates/command_bench does: the same lines in another order. Each is run
+three times in turn, or N times, and the best times count: by the clock, and of the processor; of
+memory the most. The files are made in a temporary folder.
 
 The shapes are those of manifest.py at the sizes of --sizes, without their `default` line, whose
-target has no command; and of shapes.py one edge with many inputs (--inputs), and edges of a rule
-whose command has 1,000 references (--references).
+target has no command; and of shapes.py a chain (--chain), in which Ninja calls itself for each edge
+and may run out of stack, one edge with many inputs (--inputs), and edges of a rule whose command
+has 1,000 references (--references).
+
+For the shapes of manifest.py the run is divided too: half of the commands by `--take`, and the rest
+by `--resume` from the mark at which that stopped. The rest should take no longer than the whole.
+
+In the end the aims that were missed are listed.
 """
 
 import argparse
+import filecmp
 import os
 import shutil
 import tempfile
@@ -24,8 +32,10 @@ from runs import MB, Run, best, measure
 from shapes import write_shape
 
 NINJA = "ninja -t commands"
+STOPPED = 3
 TIME_AIM = 0.40
 MEMORY_AIM = 0.9
+GROWTH_AIM = 1.15
 
 
 def write_commands_of(count, out, shape):
@@ -38,65 +48,138 @@ def write_commands_of(count, out, shape):
         write_shape(count, out, shape)
 
 
-def programs_of(program):
-    programs = {"program": [program]}
+def programs_of(program, other, folder):
+    """What is run. Ninja is left out where it cannot walk so deep."""
+    programs = {"program": [program, "-t", "commands"]}
+    if other:
+        programs["all edges"] = [other]
     if shutil.which("ninja"):
-        programs[NINJA] = NINJA.split()
+        try:
+            Run(NINJA.split(), folder=folder, out=os.path.join(folder, NINJA))
+            programs[NINJA] = NINJA.split()
+        except SystemExit as refused:
+            print(f"  Ninja is left out: {refused}")
     return programs
 
 
+def sum_of_lines(path):
+    """How many lines a file has, and a number that does not hang on their order."""
+    count, total = 0, 0
+    with open(path, "rb") as file:
+        for line in file:
+            count += 1
+            total += hash(line)
+    return count, total
+
+
 def check(programs, folder):
-    """That all programs write the same lines."""
-    outputs = {name: sorted(Run(words, folder=folder).output.splitlines()) for name, words in programs.items()}
-    if NINJA in outputs and outputs["program"] != outputs[NINJA]:
+    """That all programs write the same. Gives the number of lines."""
+    for name, words in programs.items():
+        Run(words, folder=folder, out=os.path.join(folder, name))
+    ours = os.path.join(folder, "program")
+    lines = sum_of_lines(ours)
+    if NINJA in programs and not filecmp.cmp(ours, os.path.join(folder, NINJA), shallow=False):
         raise SystemExit("the program and Ninja write other commands")
-    return len(outputs["program"])
+    if "all edges" in programs and sum_of_lines(os.path.join(folder, "all edges")) != lines:
+        raise SystemExit("the program writes other commands than all edges have")
+    return lines[0]
+
+
+def divided(program, folder, lines, rounds):
+    """The figures of the whole, of the first half of the commands, and of the rest."""
+    out = os.path.join(folder, "out")
+    whole = [program, "-t", "commands"]
+    first = [*whole, "--take", str(lines // 2)]
+    mark = Run(first, folder=folder, status=STOPPED, out=out).errors.decode().split()[1]
+    rest = [*whole, "--resume", mark]
+    runs = {"the whole": [], "the first half": [], "the rest": []}
+    for _ in range(rounds):
+        runs["the whole"].append(Run(whole, folder=folder, out=out))
+        runs["the first half"].append(Run(first, folder=folder, status=STOPPED, out=out))
+        runs["the rest"].append(Run(rest, folder=folder, out=out))
+    return {name: best(all_runs) for name, all_runs in runs.items()}
 
 
 def report(shape, count, size, lines, figures, before):
+    """Prints the figures of one size. Gives the aims that were missed."""
     print(f"{shape}: N = {count}, {size / MB:.1f} MB, {lines} commands")
     for name, (seconds, processor, memory) in figures.items():
-        growth = f" x{processor / before[name][1]:.2f}" if before else ""
-        print(f"  {name:<18} {seconds:7.3f} s | processor {processor:7.3f} s{growth} | memory {memory / MB:7.1f} MB")
+        growth = f" x{processor / before[name][1]:.2f}" if name in before else ""
+        print(
+            f"  {name:<18} {seconds:7.3f} s | processor {processor:7.3f} s{growth}"
+            f" | memory {memory / MB:7.1f} MB"
+        )
+    missed = []
     if NINJA in figures:
         _, processor, memory = (mine / other for mine, other in zip(figures["program"], figures[NINJA]))
-        print(f"  {processor:.2f} of Ninja's processor time, aim {TIME_AIM}; {memory:.2f} of its memory, aim {MEMORY_AIM}")
+        print(f"  {processor:.2f} of Ninja's processor time, {memory:.2f} of its memory")
+        if processor > TIME_AIM:
+            missed.append(f"{shape} {count}: {processor:.2f} of Ninja's time, aim {TIME_AIM}")
+        if memory > MEMORY_AIM:
+            missed.append(f"{shape} {count}: {memory:.2f} of Ninja's memory, aim {MEMORY_AIM}")
+    if "the rest" in figures:
+        rest = figures["the rest"][1] / figures["the whole"][1]
+        print(f"  the rest takes {rest:.2f} of the whole's processor time")
+        if rest > 1:
+            missed.append(f"{shape} {count}: the rest takes {rest:.2f} of the whole, aim 1")
+    return missed
 
 
-def measure_shape(program, shape, counts, rounds):
-    before = {}
+def measure_size(words, shape, count, before):
+    """The figures of one size, and the aims that it missed."""
+    with tempfile.TemporaryDirectory() as folder:
+        path = os.path.join(folder, "build.ninja")
+        with open(path, "w") as file:
+            write_commands_of(count, file, shape)
+        programs = programs_of(words.program, words.edges, folder)
+        lines = check(programs, folder)
+        out = os.path.join(folder, "out")
+        runs = measure(programs, words.rounds, folder=folder, out=out)
+        figures = {name: best(all_runs) for name, all_runs in runs.items()}
+        if shape in MANIFESTS:
+            figures.update(divided(words.program, folder, lines, words.rounds))
+        return figures, report(shape, count, os.path.getsize(path), lines, figures, before)
+
+
+def measure_shape(words, shape, counts):
+    """Measures one shape at these sizes. Gives the aims that were missed."""
+    before, few, missed = {}, None, []
     for count in counts:
-        with tempfile.TemporaryDirectory() as folder:
-            path = os.path.join(folder, "build.ninja")
-            with open(path, "w") as file:
-                write_commands_of(count, file, shape)
-            programs = programs_of(program)
-            lines = check(programs, folder)
-            runs = measure(programs, rounds, folder=folder)
-            figures = {name: best(all_runs) for name, all_runs in runs.items()}
-            report(shape, count, os.path.getsize(path), lines, figures, before)
-        before = figures
+        figures, more = measure_size(words, shape, count, before)
+        missed += more
+        if before:
+            growth = figures["program"][1] / before["program"][1]
+            aim = GROWTH_AIM * count / few
+            if growth > aim:
+                missed.append(f"{shape}: {growth:.2f} of the time for {count / few:.0f} times N, aim {aim:.2f}")
+        before, few = figures, count
+    return missed
 
 
 def numbers(text):
-    return [int(word) for word in text.split(",")]
+    return [int(word) for word in text.split(",")] if text else []
 
 
 def main():
     parser = argparse.ArgumentParser()
-    parser.add_argument("program")
-    parser.add_argument("--sizes", type=numbers, default="10000,100000")
+    parser.add_argument("program", type=os.path.abspath)
+    parser.add_argument("--edges", type=os.path.abspath)
+    parser.add_argument("--sizes", type=numbers, default="100000,1000000")
+    parser.add_argument("--chain", type=numbers, default="100000,1000000")
     parser.add_argument("--inputs", type=numbers, default="100000,1000000")
     parser.add_argument("--references", type=numbers, default="1000,10000")
     parser.add_argument("--rounds", type=int, default=3)
     words = parser.parse_args()
-    program = os.path.abspath(words.program)
     print(f"load before: {os.getloadavg()[0]:.2f} on {os.cpu_count()} processors")
-    for shape in MANIFESTS:
-        measure_shape(program, shape, words.sizes, words.rounds)
-    measure_shape(program, "inputs", words.inputs, words.rounds)
-    measure_shape(program, "references", words.references, words.rounds)
+    shapes = {shape: words.sizes for shape in MANIFESTS}
+    shapes |= {"chain": words.chain, "inputs": words.inputs, "references": words.references}
+    missed = []
+    for shape, counts in shapes.items():
+        missed += measure_shape(words, shape, counts)
     print(f"load after: {os.getloadavg()[0]:.2f}")
+    print("aims missed:" if missed else "no aim was missed")
+    for line in missed:
+        print(f"  {line}")
 
 
 if __name__ == "__main__":

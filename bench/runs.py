@@ -1,5 +1,6 @@
 """Runs of programs that are measured: by the clock, by processor time, and by memory."""
 
+import contextlib
 import os
 import shutil
 import subprocess
@@ -13,14 +14,19 @@ TIME = shutil.which("time")
 
 
 class Run:
-    """A run of a program in a folder, with a file as standard input; without one it has none. It must end with the status."""
+    """A run of a program in a folder, with a file as standard input; without one it has none. Its output goes to the file `out`,
+    or to a pipe from which it is read. It must end with the status."""
 
-    def __init__(self, words, stdin=os.devnull, folder=None, status=0):
-        with open(stdin, "rb") as file, tempfile.NamedTemporaryFile("r") as told, tempfile.TemporaryFile() as errors:
+    def __init__(self, words, stdin=os.devnull, folder=None, status=0, out=None):
+        with contextlib.ExitStack() as files:
+            file = files.enter_context(open(stdin, "rb"))
+            told = files.enter_context(tempfile.NamedTemporaryFile("r"))
+            errors = files.enter_context(tempfile.TemporaryFile())
+            stdout = files.enter_context(open(out, "wb")) if out else subprocess.PIPE
             counting = [TIME, "-q", "-f", "%M", "-o", told.name] if TIME else []
             start = time.perf_counter()
-            process = subprocess.Popen([*counting, *words], stdin=file, stdout=subprocess.PIPE, stderr=errors, cwd=folder)
-            self.output = process.stdout.read()
+            process = subprocess.Popen([*counting, *words], stdin=file, stdout=stdout, stderr=errors, cwd=folder)
+            self.output = b"" if out else process.stdout.read()
             _, ended, usage = os.wait4(process.pid, 0)
             self.seconds = time.perf_counter() - start
             process.returncode = os.waitstatus_to_exitcode(ended)
@@ -32,12 +38,12 @@ class Run:
             self.memory = 1024 * int(told.read() if TIME else usage.ru_maxrss)
 
 
-def measure(programs, rounds, stdin=os.devnull, folder=None, status=0):
+def measure(programs, rounds, stdin=os.devnull, folder=None, status=0, out=None):
     """The runs of each program, taken in turn."""
     runs = {name: [] for name in programs}
     for _ in range(rounds):
         for name, words in programs.items():
-            runs[name].append(Run(words, stdin, folder, status))
+            runs[name].append(Run(words, stdin, folder, status, out))
     return runs
 
 
