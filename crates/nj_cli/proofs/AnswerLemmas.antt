@@ -1,5 +1,5 @@
 -- What a run answers, by the graph of its files.
-use Rattle.std.proofs.Common.{◌≡◌, ◌≢◌, ◌⊎◌, inl, inr, ℕ, Bool, true, false, if◌then◌else◌, Option, Some, None, Result, Ok, Err, IsErrAnd, List, [], ◌∷◌, ◌++◌, length, map, filter, not, refl, sym, ap, subst, ◌∙◌}
+use Rattle.std.proofs.Common.{◌≡◌, ◌≢◌, ◌⊎◌, inl, inr, ℕ, Bool, true, false, if◌then◌else◌, Option, Some, None, Result, Ok, Err, IsErrAnd, List, [], length, filter, not, refl, sym, ap, subst, ◌∙◌}
 use Rattle.std.specs.List.{flat_map}
 use Rattle.nj_scope.specs.ReadingList.{Entry}
 use Rattle.nj_edges.specs.declared.files.FileNo.{FileNo}
@@ -12,7 +12,7 @@ use Rattle.nj_faults.specs.declared.fault.GraphFault.{GraphFault}
 use Rattle.nj_faults.specs.FaultLines.{fault_line}
 use Rattle.nj_faults.specs.Faults.{no_memory}
 use Rattle.nj_graph.specs.Graph.{GraphText, edges_of, files_of, IsGraphOf}
-use Rattle.nj_needs.specs.Graphs.{row_of_paths, makers_in, is_phony_in, row_of, makers_of, count_of, is_phony}
+use Rattle.nj_needs.specs.Graphs.{row_of_paths, makers_in, is_phony_in, row_of, makers_of, count_of}
 use Rattle.nj_needs.specs.Marks.{is_valid, rest}
 use Rattle.nj_needs.specs.Order.{made_by, first_occurrences}
 use Rattle.nj_needs.specs.Pages.{IsMarkAfter}
@@ -28,8 +28,8 @@ use Rattle.nj_tools.specs.Texts.{WritesText, TakesFront, FailsWithin}
 use Rattle.nj_tools.specs.declared.fault.ToolFault.{ToolFault}
 use Rattle.nj_tools.specs.declared.fault.ToolFault.TheVariants as tool
 use Rattle.nj_tools.proofs.SinkLemmas.{Takes-nil}
-use Rattle.nj_cli.specs.Targets.{edges_by_path, targets_named, or_defaults, with_defaults, targets_of}
-use Rattle.nj_cli.specs.Answers.{leads, left_at, IsMarkOf, commands_text, single_commands_text, output_of, Ending, ended, stopped, faulty, out_of_range, EndsFrom, CommandsEnd, SinglesEnd, EndsWith}
+use Rattle.nj_cli.specs.Targets.{edges_by_path, targets_named, or_defaults, targets_or_defaults, targets_of}
+use Rattle.nj_cli.specs.Answers.{leads, commands_left, IsMarkOf, commands_text, single_commands_text, output_of, Ending, finished, stopped, faulty, out_of_range, EndsFrom, CommandsEnd, SinglesEnd, EndsWith}
 use Rattle.nj_cli.specs.RunSteps.{AnswersTo, fault_of_mark, fault_of_tool}
 use Rattle.nj_cli.specs.declared.fault.RunFault.{RunFault}
 use Rattle.nj_cli.specs.declared.fault.RunFault.TheVariants as fault
@@ -51,8 +51,8 @@ module _ (entries : List Entry) (g : GraphText) (is : IsGraphOf g entries) where
   -- ---- targets
 
   targets-are : (words : List (List ℕ)) (answer : Result (List (List ℕ)) GraphFault) → targets_named (edges_of g) words ≡ answer
-      → targets_of entries words ≡ with_defaults entries answer
-  targets-are words answer named = ap (with_defaults entries) (ap (λ (es : List EdgePaths). targets_named es words) (sym edges-are) ∙ named)
+      → targets_of entries words ≡ targets_or_defaults entries answer
+  targets-are words answer named = ap (targets_or_defaults entries) (ap (λ (es : List EdgePaths). targets_named es words) (sym edges-are) ∙ named)
 
   -- the defaults of the graph are those of the statements
   pub defaults-are : (numbers : List FileNo) → AreFiles (files_of g) numbers (defaults_in_force g.built.defaults (edges_of g))
@@ -98,7 +98,7 @@ module _ (entries : List Entry) (g : GraphText) (is : IsGraphOf g entries) where
     pub singles-answered : (old new : SinkState) → Takes old new (command_lines entries (own_commands g.built.graph numbers))
         → AnswersTo entries (single_commands words) old new (Ok None)
     singles-answered old new took =
-        (subst (λ (ts : Result (List (List ℕ)) GraphFault). SinglesEnd ts ended) (sym named-so) refl, subst (Takes old new) singles-text took)
+        (subst (λ (ts : Result (List (List ℕ)) GraphFault). SinglesEnd ts finished) (sym named-so) refl, subst (Takes old new) singles-text took)
 
     pub singles-failed : (old new : SinkState) (f : ToolFault) → WritesText {X = Unit} old new (command_lines entries (own_commands g.built.graph numbers)) (Err f)
         → AnswersTo entries (single_commands words) old new (Err (fault_of_tool f))
@@ -113,7 +113,7 @@ module _ (entries : List Entry) (g : GraphText) (is : IsGraphOf g entries) where
           ap (λ (row : List (Option ℕ)). is_valid (makers_in (edges_of g)) row start) row-is
           ∙ ap (λ (es : List EdgePaths). is_valid (makers_in es) (row_of_paths (edges_by_path entries) targets) start) edges-are
 
-      left-is : rest_of g.built.graph numbers start ≡ left_at entries targets start
+      left-is : rest_of g.built.graph numbers start ≡ commands_left entries targets start
       left-is =
           ap (λ (row : List (Option ℕ)). rest (makers_in (edges_of g)) (length (edges_of g)) (is_phony_in (edges_of g)) row start) row-is
           ∙ ap (λ (es : List EdgePaths). rest (makers_in es) (length es) (is_phony_in es) (row_of_paths (edges_by_path entries) targets) start) edges-are
@@ -138,7 +138,7 @@ module _ (entries : List Entry) (g : GraphText) (is : IsGraphOf g entries) where
       commands-not_resumed s mark.OutOfMemory valid = TakesFront-none s (output_of entries (commands words take start))
 
       module _ (valid : is_valid (makers_of g.built.graph) (row_of g.built.graph numbers) start ≡ true) (w : WalkState) (begins : BeginsAt g.built.graph numbers start w) where
-        walk-left : w.left ≡ left_at entries targets start
+        walk-left : w.left ≡ commands_left entries targets start
         walk-left =
             begins.sound.left
             ∙ ap (λ (h : EdgeGraph). rest_of h w.targets w.mark) begins.graph
@@ -149,7 +149,7 @@ module _ (entries : List Entry) (g : GraphText) (is : IsGraphOf g entries) where
         text-is : command_lines entries (written take w.left) ≡ output_of entries (commands words take start)
         text-is =
             ap (λ (es : List ℕ). command_lines entries (written take es)) walk-left
-            ∙ ap (λ (b : Bool). if b then command_lines entries (written take (left_at entries targets start)) else []) (sym valid ∙ leads-is)
+            ∙ ap (λ (b : Bool). if b then command_lines entries (written take (commands_left entries targets start)) else []) (sym valid ∙ leads-is)
             ∙ ap (commands_text entries take start) (sym named-so)
 
         ends-from : (ending : Ending) → EndsFrom true entries take start targets ending → EndsWith entries (commands words take start) ending
@@ -166,7 +166,7 @@ module _ (entries : List Entry) (g : GraphText) (is : IsGraphOf g entries) where
         pub commands-answered : (old new : SinkState) (mark : Option (List ℕ)) → Takes old new (command_lines entries (written take w.left)) → StopsAt w take mark
             → AnswersTo entries (commands words take start) old new (Ok mark)
         commands-answered old new None took stops = (
-          ends-from ended (subst (λ (es : List ℕ). left_after take es ≡ []) walk-left stops),
+          ends-from finished (subst (λ (es : List ℕ). left_after take es ≡ []) walk-left stops),
           subst (Takes old new) text-is took,
         )
         commands-answered old new (Some mark) took stops = (

@@ -1,5 +1,5 @@
 -- Laws of the runs of `commands`.
-use Rattle.std.proofs.Common.{◌≡◌, ◌≢◌, ℕ, ◌+◌, Bool, true, false, if◌then◌else◌, Option, Some, None, Result, Ok, Err, List, [], ◌∷◌, ◌++◌, length, take, drop, refl, sym, ap, subst, ◌∙◌, append_assoc, take-append-drop}
+use Rattle.std.proofs.Common.{◌≡◌, ℕ, Bool, true, false, if◌then◌else◌, Option, Some, None, Result, Ok, Err, List, [], ◌++◌, length, take, drop, refl, sym, ap, subst, ◌∙◌, append_assoc, take-append-drop}
 use Rattle.std.specs.Prelude.{MatchOption}
 use Rattle.std.specs.List.{concat, last_or}
 use Rattle.std.proofs.lemmas.List.{append-nil}
@@ -9,7 +9,7 @@ use Rattle.nj_edges.specs.Edges.{EdgePaths}
 use Rattle.nj_faults.specs.declared.fault.GraphFault.{GraphFault}
 use Rattle.nj_faults.specs.FaultLines.{fault_line}
 use Rattle.nj_needs.specs.Graphs.{row_of_paths, makers_in, is_phony_in}
-use Rattle.nj_needs.specs.Marks.{is_valid, rest, IsFirstPlace}
+use Rattle.nj_needs.specs.Marks.{rest, IsFirstPlace}
 use Rattle.nj_needs.specs.Needs.{IsAcyclic, AreWithin}
 use Rattle.nj_needs.specs.Order.{needed_commands}
 use Rattle.nj_needs.proofs.Bridges.{IsAcyclic-edges, AreWithin-paths}
@@ -17,18 +17,18 @@ use Rattle.nj_needs.proofs.OrderLaws.{commands-reached, commands-once, commands-
 use Rattle.nj_needs.proofs.PageLaws.{mark-keeps_the_rest}
 use Rattle.nj_needs.proofs.PlaceLaws.{first-places_are_one}
 use Rattle.nj_needs.proofs.Striking.{without-none}
-use Rattle.nj_request.specs.Requests.{ActionText, commands, single_commands}
-use Rattle.nj_tools.specs.CommandTexts.{command_line, command_lines, written, left_after}
-use Rattle.nj_cli.specs.Answers.{leads, left_at, IsMarkOf, commands_text, output_of, Ending, ended, stopped, faulty, out_of_range, PageEnds, EndsFrom, CommandsEnd, SinglesEnd, EndsWith}
-use Rattle.nj_cli.specs.Headline.{HasNoCycle, AreNeeded, WritesTheNeeded, ArePages, PagesJoin, OneEnding}
-use Rattle.nj_cli.specs.Headline.ArePages.{no_runs, ends, stops}
-use Rattle.nj_cli.specs.Targets.{edges_by_path, targets_of}
+use Rattle.nj_request.specs.Requests.{commands, single_commands}
+use Rattle.nj_tools.specs.CommandTexts.{command_line, command_lines, written}
+use Rattle.nj_cli.specs.Answers.{leads, commands_left, IsMarkOf, commands_text, output_of, Ending, finished, stopped, faulty, out_of_range, PageEnds, EndsFrom, CommandsEnd, SinglesEnd, EndsWith}
+use Rattle.nj_cli.specs.Headline.{AreNeeded, WritesTheNeeded, ArePageTexts, PageTextsJoin, OneEnding}
+use Rattle.nj_cli.specs.Headline.ArePageTexts.{no_runs, finishes, stops}
+use Rattle.nj_cli.specs.Targets.{edges_by_path, NoEdgeNeedsItself, targets_of}
 
 -- ---- the targets and the mark of a run that is not refused
 
 -- how a run ends that is not refused
 abbrev Goes : Ending → Type 0
-Goes ended = Unit {0}
+Goes finished = Unit {0}
 Goes (stopped mark) = Unit {0}
 Goes (faulty text) = ⊥
 
@@ -39,7 +39,7 @@ pub record Page (entries : List Entry) (take : Option ℕ) (start : List ℕ) (w
   pub ends_so : PageEnds entries take start targets ending
 
 not-faulty : (ending : Ending) (text : List ℕ) → Goes ending → ending ≡ faulty text → ⊥
-not-faulty ended text goes is = absurd cc
+not-faulty finished text goes is = absurd cc
 not-faulty (stopped mark) text goes is = absurd cc
 not-faulty (faulty other) text goes is = goes
 
@@ -58,21 +58,21 @@ module _ (entries : List Entry) (take : Option ℕ) (start : List ℕ) (words : 
 
 -- its output
 pub output-is : (entries : List Entry) (take : Option ℕ) (start : List ℕ) (words targets : List (List ℕ)) → targets_of entries words ≡ Ok targets → leads entries targets start ≡ true
-    → output_of entries (commands words take start) ≡ command_lines entries (written take (left_at entries targets start))
+    → output_of entries (commands words take start) ≡ command_lines entries (written take (commands_left entries targets start))
 output-is entries take start words targets named leads_so =
     ap (commands_text entries take start) named
-    ∙ ap (λ (b : Bool). if b then command_lines entries (written take (left_at entries targets start)) else []) leads_so
+    ∙ ap (λ (b : Bool). if b then command_lines entries (written take (commands_left entries targets start)) else []) leads_so
 
--- a run with a mark that leads to an edge ends, if nothing limits it
-ends-unlimited : (entries : List Entry) (start : List ℕ) (words targets : List (List ℕ)) → targets_of entries words ≡ Ok targets → leads entries targets start ≡ true
-    → EndsWith entries (commands words None start) ended
-ends-unlimited entries start words targets named leads_so =
-    subst (λ (ts : Result (List (List ℕ)) GraphFault). CommandsEnd entries None start ts ended) (sym named)
-    (subst (λ (b : Bool). EndsFrom b entries None start targets ended) (sym leads_so) refl)
+-- a run with a mark that leads to an edge finishes, if nothing limits it
+finishes-unlimited : (entries : List Entry) (start : List ℕ) (words targets : List (List ℕ)) → targets_of entries words ≡ Ok targets → leads entries targets start ≡ true
+    → EndsWith entries (commands words None start) finished
+finishes-unlimited entries start words targets named leads_so =
+    subst (λ (ts : Result (List (List ℕ)) GraphFault). CommandsEnd entries None start ts finished) (sym named)
+    (subst (λ (b : Bool). EndsFrom b entries None start targets finished) (sym leads_so) refl)
 
 -- ---- the needed commands
 
-module _ (edges : List EdgePaths) (targets : List (List ℕ)) (none : HasNoCycle edges) where
+module _ (edges : List EdgePaths) (targets : List (List ℕ)) (none : NoEdgeNeedsItself edges) where
   acyclic : IsAcyclic (makers_in edges) (length edges)
   acyclic = IsAcyclic-edges edges none
 
@@ -89,7 +89,7 @@ module _ (edges : List EdgePaths) (targets : List (List ℕ)) (none : HasNoCycle
 
 pub writes-the_needed : WritesTheNeeded
 writes-the_needed entries words none ends_so =
-    let p = page entries None [] words ended tt ends_so in
+    let p = page entries None [] words finished tt ends_so in
     let edges = edges_by_path entries in
     let numbers = needed_commands (makers_in edges) (length edges) (is_phony_in edges) (row_of_paths edges p.targets) in (
       p.targets,
@@ -105,28 +105,28 @@ writes-the_needed entries words none ends_so =
 same-targets : (entries : List Entry) (words targets others : List (List ℕ)) → targets_of entries words ≡ Ok targets → targets_of entries words ≡ Ok others → others ≡ targets
 same-targets entries words targets others one other = let e : Ok others ≡ Ok targets = sym other ∙ one in cc
 
-module _ (entries : List Entry) (words targets : List (List ℕ)) (named : targets_of entries words ≡ Ok targets) (none : HasNoCycle (edges_by_path entries)) where
+module _ (entries : List Entry) (words targets : List (List ℕ)) (named : targets_of entries words ≡ Ok targets) (none : NoEdgeNeedsItself (edges_by_path entries)) where
   -- after a page: the mark leads to an edge, and the rest is left there
   after-page : (start : List ℕ) (take : ℕ) (mark : List ℕ) → leads entries targets start ≡ true
-      → IsMarkOf entries targets start (written (Some take) (left_at entries targets start)) mark
-      → (leads entries targets mark ≡ true) × (left_at entries targets mark ≡ drop take (left_at entries targets start))
+      → IsMarkOf entries targets start (written (Some take) (commands_left entries targets start)) mark
+      → (leads entries targets mark ≡ true) × (commands_left entries targets mark ≡ drop take (commands_left entries targets start))
   after-page start count mark leads_so is =
       let edges = edges_by_path entries in
       mark-keeps_the_rest (makers_in edges) (length edges) (is_phony_in edges) (row_of_paths edges targets) (acyclic edges targets none) (within edges targets none)
-      start (take count (left_at entries targets start)) (drop count (left_at entries targets start)) mark leads_so
-      (sym (take-append-drop count (left_at entries targets start))) is
+      start (take count (commands_left entries targets start)) (drop count (commands_left entries targets start)) mark leads_so
+      (sym (take-append-drop count (commands_left entries targets start))) is
 
   lines-split : (count : ℕ) (numbers : List ℕ) → command_lines entries numbers ≡ command_lines entries (take count numbers) ++ command_lines entries (drop count numbers)
   lines-split count numbers =
       ap (command_lines entries) (sym (take-append-drop count numbers)) ∙ flat_map-append (command_line entries) (take count numbers) (drop count numbers)
 
-  join : (start takes : List ℕ) (outputs : List (List ℕ)) (rest : List ℕ) → leads entries targets start ≡ true → ArePages entries words start takes outputs rest
+  join : (start takes : List ℕ) (outputs : List (List ℕ)) (rest : List ℕ) → leads entries targets start ≡ true → ArePageTexts entries words start takes outputs rest
       → output_of entries (commands words None start) ≡ concat outputs ++ rest
   join start _ _ rest leads_so (no_runs is) = is
-  join start _ _ _ leads_so (ends {take = count} {output = output} ends_so is) =
-      let p = page entries (Some count) start words ended tt ends_so in
-      let left = left_at entries targets start in
-      let none_left : drop count left ≡ [] = subst (λ (ts : List (List ℕ)). drop count (left_at entries ts start) ≡ []) (same-targets entries words targets p.targets named p.named) p.ends_so in
+  join start _ _ _ leads_so (finishes {take = count} {output = output} ends_so is) =
+      let p = page entries (Some count) start words finished tt ends_so in
+      let left = commands_left entries targets start in
+      let none_left : drop count left ≡ [] = subst (λ (ts : List (List ℕ)). drop count (commands_left entries ts start) ≡ []) (same-targets entries words targets p.targets named p.named) p.ends_so in
       output-is entries None start words targets named leads_so
       ∙ lines-split count left
       ∙ ap (λ (es : List ℕ). command_lines entries (take count left) ++ command_lines entries es) none_left
@@ -134,9 +134,9 @@ module _ (entries : List Entry) (words targets : List (List ℕ)) (named : targe
       ∙ ap (λ (t : List ℕ). t ++ []) (sym (append-nil output))
   join start _ _ rest leads_so (stops {takes = takes} {output = output} {take = count} {outputs = outputs} mark ends_so is more) =
       let p = page entries (Some count) start words (stopped mark) tt ends_so in
-      let left = left_at entries targets start in
+      let left = commands_left entries targets start in
       let marked : IsMarkOf entries targets start (written (Some count) left) mark =
-      subst (λ (ts : List (List ℕ)). IsMarkOf entries ts start (written (Some count) (left_at entries ts start)) mark) (same-targets entries words targets p.targets named p.named) p.ends_so.1 in
+      subst (λ (ts : List (List ℕ)). IsMarkOf entries ts start (written (Some count) (commands_left entries ts start)) mark) (same-targets entries words targets p.targets named p.named) p.ends_so.1 in
       let (leads_on, left_on) = after-page start count mark leads_so marked in
       let on : command_lines entries (drop count left) ≡ concat outputs ++ rest =
       ap (command_lines entries) (sym left_on) ∙ sym (output-is entries None mark words targets named leads_on) ∙ join mark takes outputs rest leads_on more in
@@ -146,14 +146,14 @@ module _ (entries : List Entry) (words targets : List (List ℕ)) (named : targe
       ∙ ap (λ (t : List ℕ). output ++ t) on
       ∙ sym (append_assoc output (concat outputs) rest)
 
-pub pages-join : PagesJoin
+pub pages-join : PageTextsJoin
 pages-join entries words none start takes outputs rest ends_so pages =
-    let p = page entries None start words ended tt ends_so in
+    let p = page entries None start words finished tt ends_so in
     join entries words p.targets p.named none start takes outputs rest p.leads_so pages
 
 -- ---- one ending
 
-module _ (entries : List Entry) (take : Option ℕ) (start : List ℕ) (targets : List (List ℕ)) (none : HasNoCycle (edges_by_path entries)) where
+module _ (entries : List Entry) (take : Option ℕ) (start : List ℕ) (targets : List (List ℕ)) (none : NoEdgeNeedsItself (edges_by_path entries)) where
   -- an edge has one first place
   one-mark : (last : Option ℕ) (mark other : List ℕ)
       → MatchOption last (mark ≡ start) (λ e. IsFirstPlace (makers_in (edges_by_path entries)) (length (edges_by_path entries)) (row_of_paths (edges_by_path entries) targets) mark e)
@@ -165,11 +165,11 @@ module _ (entries : List Entry) (take : Option ℕ) (start : List ℕ) (targets 
       first-places_are_one (makers_in edges) (length edges) (row_of_paths edges targets) (acyclic edges targets none) (within edges targets none) mark other e is so
 
   one-page : (ending other : Ending) → PageEnds entries take start targets ending → PageEnds entries take start targets other → ending ≡ other
-  one-page ended ended is so = refl
-  one-page ended (stopped mark) is so = absurd (so.0 is)
-  one-page ended (faulty text) is so = absurd so
-  one-page (stopped mark) ended is so = absurd (is.0 so)
-  one-page (stopped mark) (stopped other) is so = ap stopped (one-mark (last_or None (written take (left_at entries targets start))) mark other is.1 so.1)
+  one-page finished finished is so = refl
+  one-page finished (stopped mark) is so = absurd (so.0 is)
+  one-page finished (faulty text) is so = absurd so
+  one-page (stopped mark) finished is so = absurd (is.0 so)
+  one-page (stopped mark) (stopped other) is so = ap stopped (one-mark (last_or None (written take (commands_left entries targets start))) mark other is.1 so.1)
   one-page (stopped mark) (faulty text) is so = absurd so
   one-page (faulty text) other is so = absurd is
 
@@ -177,7 +177,7 @@ module _ (entries : List Entry) (take : Option ℕ) (start : List ℕ) (targets 
   one-from true ending other is so = one-page ending other is so
   one-from false ending other is so = is ∙ sym so
 
-one-commands : (entries : List Entry) (take : Option ℕ) (start : List ℕ) (targets : Result (List (List ℕ)) GraphFault) (ending other : Ending) → HasNoCycle (edges_by_path entries)
+one-commands : (entries : List Entry) (take : Option ℕ) (start : List ℕ) (targets : Result (List (List ℕ)) GraphFault) (ending other : Ending) → NoEdgeNeedsItself (edges_by_path entries)
     → CommandsEnd entries take start targets ending → CommandsEnd entries take start targets other → ending ≡ other
 one-commands entries take start (Ok targets) ending other none is so = one-from entries take start targets none (leads entries targets start) ending other is so
 one-commands entries take start (Err f) ending other none is so = is ∙ sym so

@@ -4,7 +4,7 @@ use Rattle.nj_request.specs.FaultLines as lines
 use Rattle.nj_request.specs.declared.faults.UsageFault.{UsageFault}
 use Rattle.nj_request.specs.declared.faults.UsageFault.TheVariants as usage
 use Rattle.nj_tools.specs.Sinks.{SinkState}
-use Rattle.nj_cli.specs.Answers.{line_of}
+use Rattle.nj_cli.specs.Answers.{with_line_end}
 use Rattle.nj_cli.specs.Reported.{Reported}
 use Rattle.nj_cli.specs.RunSteps.{ReportsMisuse}
 use Rattle.nj_request.specs.Requests.{RequestText, request_of}
@@ -14,7 +14,7 @@ use Rattle.nj_cli.specs.declared.status.Status.TheVariants.{Fault, Usage}
 
 -- a fault other than out of memory has a line of its own
 pub ReportsMisuse-other : (old new : SinkState) (fault : UsageFault) (status : Status) → fault ≢ usage.OutOfMemory
-    → (Reported old new (lines.fault_line fault) × (status ≡ Usage)) ⊎ (Reported old new (line_of out_of_memory) × (status ≡ Fault))
+    → (Reported old new (lines.fault_line fault) × (status ≡ Usage)) ⊎ (Reported old new (with_line_end out_of_memory) × (status ≡ Fault))
     → ReportsMisuse old new fault status
 ReportsMisuse-other old new usage.OutOfMemory status other told = absurd (other refl)
 ReportsMisuse-other old new usage.Unparsed status other told = told
@@ -24,11 +24,11 @@ ReportsMisuse-other old new (usage.BadNumber text) status other told = told
 ReportsMisuse-other old new (usage.BadMark text) status other told = told
 
 module _ (words : List (List ℕ)) (old new : Around) (source : new.source ≡ old.source) (output : new.output ≡ old.output) where
-  early : (status : Status) → Reported old.error new.error (line_of out_of_memory) → status ≡ Fault → RunsWords words old new status
+  early : (status : Status) → Reported old.error new.error (with_line_end out_of_memory) → status ≡ Fault → RunsWords words old new status
   early status reported is = inr (record { source = source; output = output; error = reported; status_is = is })
 
   misused : (fault : UsageFault) (status : Status) → request_of words ≡ Err fault
-      → (Reported old.error new.error (lines.fault_line fault) × (status ≡ Usage)) ⊎ (Reported old.error new.error (line_of out_of_memory) × (status ≡ Fault))
+      → (Reported old.error new.error (lines.fault_line fault) × (status ≡ Usage)) ⊎ (Reported old.error new.error (with_line_end out_of_memory) × (status ≡ Fault))
       → RunsWords words old new status
   misused fault status why (inl told) =
       inl (subst (λ (r : Result RequestText UsageFault). RunsWith r old new status) (sym why) (record { source = source; output = output; error = told.0; status_is = told.1 }))

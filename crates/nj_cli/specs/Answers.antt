@@ -15,13 +15,13 @@ use Rattle.nj_cli.specs.declared.status.Status.TheVariants.{Done, Fault, Stopped
 
 -- ---- what is left to write
 
--- a mark leads from these targets to an edge at each step
+-- each step of a mark leads to an edge, from these targets on; at the start there is no step
 abbrev pub leads : List Entry → (targets : List (List ℕ)) → (mark : List ℕ) → Bool
 leads entries targets mark = is_valid (makers_in (edges_by_path entries)) (row_of_paths (edges_by_path entries) targets) mark
 
 -- the edges whose commands are left at a mark
-abbrev pub left_at : List Entry → (targets : List (List ℕ)) → (mark : List ℕ) → List ℕ
-left_at entries targets mark =
+abbrev pub commands_left : List Entry → (targets : List (List ℕ)) → (mark : List ℕ) → List ℕ
+commands_left entries targets mark =
     rest (makers_in (edges_by_path entries)) (length (edges_by_path entries)) (is_phony_in (edges_by_path entries))
     (row_of_paths (edges_by_path entries) targets) mark
 
@@ -35,7 +35,7 @@ IsMarkOf entries targets begun edges mark =
 
 abbrev pub commands_text : List Entry → (take : Option ℕ) → (start : List ℕ) → (targets : Result (List (List ℕ)) GraphFault) → List ℕ
 commands_text entries take start (Ok targets) =
-    if leads entries targets start then command_lines entries (written take (left_at entries targets start)) else []
+    if leads entries targets start then command_lines entries (written take (commands_left entries targets start)) else []
 commands_text entries take start (Err fault) = []
 
 abbrev pub single_commands_text : List Entry → (targets : Result (List (List ℕ)) GraphFault) → List ℕ
@@ -51,19 +51,19 @@ output_of entries (single_commands words) = single_commands_text entries (target
 
 -- All was written; or the run stopped at a mark, and more is left; or this is what is wrong.
 pub data Ending : Type 0 where
-  ended : Ending
+  finished : Ending
   stopped : (mark : List ℕ) → Ending
   faulty : (text : List ℕ) → Ending
 
 abbrev pub out_of_range : List ℕ
 out_of_range = codes "ninja-explain: mark out of range"
 
--- from a mark that leads to an edge: the edges after those that are written are left, or none
+-- from a mark whose steps lead to edges: nothing is left after what is written; or the run stops at the mark after that
 abbrev pub PageEnds : List Entry → (take : Option ℕ) → (start : List ℕ) → (targets : List (List ℕ)) → Ending → Type 0
-PageEnds entries take start targets ended = left_after take (left_at entries targets start) ≡ []
+PageEnds entries take start targets finished = left_after take (commands_left entries targets start) ≡ []
 PageEnds entries take start targets (stopped mark) =
-    (left_after take (left_at entries targets start) ≢ [])
-    × IsMarkOf entries targets start (written take (left_at entries targets start)) mark
+    (left_after take (commands_left entries targets start) ≢ [])
+    × IsMarkOf entries targets start (written take (commands_left entries targets start)) mark
 PageEnds entries take start targets (faulty text) = ⊥
 
 abbrev pub EndsFrom : (leads : Bool) → List Entry → (take : Option ℕ) → (start : List ℕ) → (targets : List (List ℕ)) → Ending → Type 0
@@ -75,32 +75,32 @@ CommandsEnd entries take start (Ok targets) ending = EndsFrom (leads entries tar
 CommandsEnd entries take start (Err fault) ending = ending ≡ faulty (fault_line fault)
 
 abbrev pub SinglesEnd : (targets : Result (List (List ℕ)) GraphFault) → Ending → Type 0
-SinglesEnd (Ok targets) ending = ending ≡ ended
+SinglesEnd (Ok targets) ending = ending ≡ finished
 SinglesEnd (Err fault) ending = ending ≡ faulty (fault_line fault)
 
--- the ending of a run: targets first, from the left, and then the mark
+-- the ending of a run; the faults of targets, from the left, come before that of the mark
 abbrev pub EndsWith : List Entry → ActionText → Ending → Type 0
 EndsWith entries (commands words take start) ending = CommandsEnd entries take start (targets_of entries words) ending
 EndsWith entries (single_commands words) ending = SinglesEnd (targets_of entries words) ending
 
 -- ---- what is told of it
 
-abbrev pub line_of : List ℕ → List ℕ
-line_of text = text ++ 10 ∷ []
+abbrev pub with_line_end : List ℕ → List ℕ
+with_line_end text = text ++ 10 ∷ []
 
 -- the error output
 abbrev pub error_of : Ending → List ℕ
-error_of ended = []
-error_of (stopped mark) = line_of (codes "mark " ++ mark_text mark)
-error_of (faulty text) = line_of text
+error_of finished = []
+error_of (stopped mark) = with_line_end (codes "mark " ++ mark_text mark)
+error_of (faulty text) = with_line_end text
 
 abbrev pub status_of : Ending → Status
-status_of ended = Done
+status_of finished = Done
 status_of (stopped mark) = Stopped
 status_of (faulty text) = Fault
 
 -- the status where the error output failed: without its mark a run cannot go on
 abbrev pub status_untold : Ending → Status
-status_untold ended = Done
+status_untold finished = Done
 status_untold (stopped mark) = OutputFailed
 status_untold (faulty text) = Fault

@@ -9,8 +9,8 @@ use Rattle.nj_request.specs.Requests.{ActionText}
 use Rattle.nj_request.specs.FaultLines as lines
 use Rattle.nj_request.specs.declared.faults.UsageFault.{UsageFault}
 use Rattle.nj_request.specs.declared.faults.UsageFault.TheVariants as usage
-use Rattle.nj_cli.specs.Answers.{output_of, ended, stopped, faulty, out_of_range, EndsWith, line_of, error_of}
-use Rattle.nj_cli.specs.Reported.{Took, Failed, Reported}
+use Rattle.nj_cli.specs.Answers.{output_of, finished, stopped, faulty, out_of_range, EndsWith, with_line_end, error_of}
+use Rattle.nj_cli.specs.Reported.{Failed, Reported}
 use Rattle.nj_cli.specs.Runs.{out_of_memory}
 use Rattle.nj_cli.specs.declared.fault.RunFault.{RunFault}
 use Rattle.nj_cli.specs.declared.fault.RunFault.TheVariants as fault
@@ -31,7 +31,7 @@ fault_of_tool tool.OutOfMemory = fault.OutOfMemory
 
 -- what was output, and how the run ends by it
 abbrev pub AnswersTo : List Entry → ActionText → (old new : SinkState) → Result (Option (List ℕ)) RunFault → Type 0
-AnswersTo entries action old new (Ok None) = EndsWith entries action ended × Takes old new (output_of entries action)
+AnswersTo entries action old new (Ok None) = EndsWith entries action finished × Takes old new (output_of entries action)
 AnswersTo entries action old new (Ok (Some mark)) = EndsWith entries action (stopped mark) × Takes old new (output_of entries action)
 AnswersTo entries action old new (Err (fault.Graph f)) =
     ((f ≡ no_memory) ⊎ EndsWith entries action (faulty (fault_line f))) × (new ≡ old)
@@ -39,28 +39,28 @@ AnswersTo entries action old new (Err fault.MarkOutOfRange) = EndsWith entries a
 AnswersTo entries action old new (Err fault.Write) = FailsWithin old new (output_of entries action)
 AnswersTo entries action old new (Err fault.OutOfMemory) = TakesFront old new (output_of entries action)
 
--- a line was reported, or that it could not be made
+-- the line was reported, or out of memory if there was no room to make it
 abbrev pub ReportsLine : (old new : SinkState) → (line : List ℕ) → Type 0
-ReportsLine old new line = Reported old new line ⊎ Reported old new (line_of out_of_memory)
+ReportsLine old new line = Reported old new line ⊎ Reported old new (with_line_end out_of_memory)
 
 -- the mark was told; or the error output failed; or its line could not be made
 abbrev pub ReportsMark : (old new : SinkState) → (mark : List ℕ) → Status → Type 0
 ReportsMark old new mark Stopped = Takes old new (error_of (stopped mark))
 ReportsMark old new mark OutputFailed = Failed old new (error_of (stopped mark))
-ReportsMark old new mark Fault = Reported old new (line_of out_of_memory)
+ReportsMark old new mark Fault = Reported old new (with_line_end out_of_memory)
 ReportsMark old new mark other = ⊥
 
 -- what is told of an answer
 abbrev pub Concludes : (old new : SinkState) → Result (Option (List ℕ)) RunFault → Status → Type 0
 Concludes old new (Ok None) status = (new ≡ old) × (status ≡ Done)
 Concludes old new (Ok (Some mark)) status = ReportsMark old new mark status
-Concludes old new (Err (fault.Graph f)) status = ReportsLine old new (line_of (fault_line f)) × (status ≡ Fault)
-Concludes old new (Err fault.MarkOutOfRange) status = Reported old new (line_of out_of_range) × (status ≡ Fault)
+Concludes old new (Err (fault.Graph f)) status = ReportsLine old new (with_line_end (fault_line f)) × (status ≡ Fault)
+Concludes old new (Err fault.MarkOutOfRange) status = Reported old new (with_line_end out_of_range) × (status ≡ Fault)
 Concludes old new (Err fault.Write) status = (new ≡ old) × (status ≡ OutputFailed)
-Concludes old new (Err fault.OutOfMemory) status = Reported old new (line_of out_of_memory) × (status ≡ Fault)
+Concludes old new (Err fault.OutOfMemory) status = Reported old new (with_line_end out_of_memory) × (status ≡ Fault)
 
--- what is told of words that ask for nothing
+-- what is told of words that are no valid request
 abbrev pub ReportsMisuse : (old new : SinkState) → UsageFault → Status → Type 0
-ReportsMisuse old new usage.OutOfMemory status = Reported old new (line_of out_of_memory) × (status ≡ Fault)
+ReportsMisuse old new usage.OutOfMemory status = Reported old new (with_line_end out_of_memory) × (status ≡ Fault)
 ReportsMisuse old new fault status =
-    (Reported old new (lines.fault_line fault) × (status ≡ Usage)) ⊎ (Reported old new (line_of out_of_memory) × (status ≡ Fault))
+    (Reported old new (lines.fault_line fault) × (status ≡ Usage)) ⊎ (Reported old new (with_line_end out_of_memory) × (status ≡ Fault))

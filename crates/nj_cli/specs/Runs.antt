@@ -3,24 +3,21 @@ use Rattle.std.specs.Prelude.{◌≡◌, ◌⊎◌, ℕ, Result, Ok, Err, List, 
 use Rattle.nj_scope.specs.Readings.{Reading}
 use Rattle.nj_scope.specs.Sources.{SourceState}
 use Rattle.nj_scope.specs.ReadingList.{Entry}
-use Rattle.nj_order.specs.Cycles.{IsAcyclic}
-use Rattle.nj_edges.specs.Needs.{makers_of_inputs}
 use Rattle.nj_faults.specs.declared.fault.GraphFault.{GraphFault}
 use Rattle.nj_faults.specs.FaultLines.{fault_line}
 use Rattle.nj_faults.specs.Faults.{no_memory}
-use Rattle.nj_graph.specs.Loads.{LoadedText, IsWhole, LoadedOr}
+use Rattle.nj_graph.specs.Loads.{IsWhole, LoadedOr}
 use Rattle.nj_graph.specs.Runs.{IsRead}
 use Rattle.nj_tools.specs.Sinks.{SinkState, Takes}
 use Rattle.nj_tools.specs.Texts.{FailsWithin, TakesFront}
 use Rattle.nj_request.specs.FaultLines as usage
 use Rattle.nj_request.specs.Requests.{ActionText, RequestText, request_of}
 use Rattle.nj_request.specs.declared.faults.UsageFault.{UsageFault}
-use Rattle.nj_cli.specs.Answers.{output_of, Ending, EndsWith, line_of, error_of, status_of, status_untold}
+use Rattle.nj_cli.specs.Answers.{output_of, Ending, EndsWith, with_line_end, error_of, status_of, status_untold}
 use Rattle.nj_cli.specs.Reported.{Took, Failed, Reported}
-use Rattle.nj_cli.specs.Targets.{edges_by_path}
+use Rattle.nj_cli.specs.Targets.{edges_by_path, NoEdgeNeedsItself}
 use Rattle.nj_cli.specs.declared.status.Status.{Status}
 use Rattle.nj_cli.specs.declared.status.Status.TheVariants.{Fault, Usage, OutputFailed}
-use Rattle.std.specs.Prelude.{length}
 
 -- what is known of a run's source and of its two sinks
 pub record Around : Type 0 where
@@ -53,40 +50,40 @@ pub record IsUntold (entries : List Entry) (action : ActionText) (old new : Arou
   pub status_is : status ≡ status_untold ending
 
 -- the output failed; nothing is told
-pub record IsCutShort (entries : List Entry) (action : ActionText) (old new : Around) (status : Status) : Type 0 where
+pub record OutputFails (entries : List Entry) (action : ActionText) (old new : Around) (status : Status) : Type 0 where
   pub output : FailsWithin old.output new.output (output_of entries action)
   pub error : new.error ≡ old.error
   pub status_is : status ≡ OutputFailed
 
 -- an allocation failed, after a beginning of the output
-pub record LacksMemory (entries : List Entry) (action : ActionText) (old new : Around) (status : Status) : Type 0 where
+pub record MemoryFails (entries : List Entry) (action : ActionText) (old new : Around) (status : Status) : Type 0 where
   pub output : TakesFront old.output new.output (output_of entries action)
-  pub error : Reported old.error new.error (line_of out_of_memory)
+  pub error : Reported old.error new.error (with_line_end out_of_memory)
   pub status_is : status ≡ Fault
 
-pub data Answers (entries : List Entry) (action : ActionText) (old new : Around) (status : Status) : Type 0 where
-  told : IsTold entries action old new status → Answers entries action old new status
-  untold : IsUntold entries action old new status → Answers entries action old new status
-  cut_short : IsCutShort entries action old new status → Answers entries action old new status
-  lacks_memory : LacksMemory entries action old new status → Answers entries action old new status
+pub data RunEnds (entries : List Entry) (action : ActionText) (old new : Around) (status : Status) : Type 0 where
+  told : IsTold entries action old new status → RunEnds entries action old new status
+  untold : IsUntold entries action old new status → RunEnds entries action old new status
+  output_failed : OutputFails entries action old new status → RunEnds entries action old new status
+  memory_failed : MemoryFails entries action old new status → RunEnds entries action old new status
 
 -- ---- by its files
 
--- The files have no graph: a statement has a fault, or an edge lies on a cycle, or the source failed, or an allocation did.
--- Nothing is output. The fault is reported, or out of memory if its line could not be made.
+-- No graph can be made of the files: a statement has a fault, or an edge lies on a cycle, or the source failed, or an allocation did.
+-- Nothing is output. The fault is reported, or out of memory if there was no room for its line.
 pub record IsRefused (main : List ℕ) (files : List Reading) (old new : Around) (status : Status) : Type 0 where
   pub fault : GraphFault
   pub reading : LoadedOr main old.source new.source files (Err fault)
   pub output : new.output ≡ old.output
-  pub error : Reported old.error new.error (line_of (fault_line fault)) ⊎ Reported old.error new.error (line_of out_of_memory)
+  pub error : Reported old.error new.error (with_line_end (fault_line fault)) ⊎ Reported old.error new.error (with_line_end out_of_memory)
   pub status_is : status ≡ Fault
 
 -- the files were read, and no edge of their statements needs itself by a chain
 pub record IsAnswered (main : List ℕ) (files : List Reading) (action : ActionText) (old new : Around) (status : Status) : Type 0 where
   pub entries : List Entry
   pub whole : IsWhole main old.source new.source files entries
-  pub acyclic : IsAcyclic (makers_of_inputs (edges_by_path entries)) (length (edges_by_path entries))
-  pub answers : Answers entries action old new status
+  pub acyclic : NoEdgeNeedsItself (edges_by_path entries)
+  pub answers : RunEnds entries action old new status
 
 -- ---- the run
 
@@ -96,7 +93,7 @@ RunsAs request old new status =
     (files : List Reading) × IsRead old.source new.source [] files
     × (IsRefused request.file files old new status ⊎ IsAnswered request.file files request.action old new status)
 
--- words ask for nothing: no file is read, and the error output says why
+-- the words are no valid request: no file is read, and the error output says why
 pub record IsMisused (fault : UsageFault) (old new : Around) (status : Status) : Type 0 where
   pub source : new.source ≡ old.source
   pub output : new.output ≡ old.output
@@ -104,16 +101,16 @@ pub record IsMisused (fault : UsageFault) (old new : Around) (status : Status) :
   pub status_is : status ≡ Usage
 
 -- an allocation failed before any file was read
-pub record LacksMemoryAtOnce (old new : Around) (status : Status) : Type 0 where
+pub record MemoryFailsAtOnce (old new : Around) (status : Status) : Type 0 where
   pub source : new.source ≡ old.source
   pub output : new.output ≡ old.output
-  pub error : Reported old.error new.error (line_of out_of_memory)
+  pub error : Reported old.error new.error (with_line_end out_of_memory)
   pub status_is : status ≡ Fault
 
--- the same by what the words ask for
+-- what a run with words does, by the request that they are
 abbrev pub RunsWith : Result RequestText UsageFault → (old new : Around) → Status → Type 0
 RunsWith (Ok request) old new status = RunsAs request old new status
 RunsWith (Err fault) old new status = IsMisused fault old new status
 
 abbrev pub RunsWords : (words : List (List ℕ)) → (old new : Around) → Status → Type 0
-RunsWords words old new status = RunsWith (request_of words) old new status ⊎ LacksMemoryAtOnce old new status
+RunsWords words old new status = RunsWith (request_of words) old new status ⊎ MemoryFailsAtOnce old new status

@@ -1,10 +1,12 @@
 -- The targets of a run.
-use Rattle.std.specs.Prelude.{◌≡◌, ◌⊎◌, ℕ, Result, Ok, Err, List, [], ◌∷◌}
+use Rattle.std.specs.Prelude.{◌≡◌, ◌⊎◌, ℕ, Result, Ok, Err, List, [], ◌∷◌, length}
 use Rattle.std.specs.Global.{Vec}
 use Rattle.nj_scope.specs.ReadingList.{Entry}
 use Rattle.nj_edges.specs.declared.files.FileNo.{FileNo}
 use Rattle.nj_edges.specs.Edges.{EdgePaths}
 use Rattle.nj_edges.specs.Files.{AreFiles}
+use Rattle.nj_edges.specs.Needs.{makers_of_inputs}
+use Rattle.nj_order.specs.Cycles.{IsAcyclic}
 use Rattle.nj_build.specs.Built.{defaults_in_force}
 use Rattle.nj_build.specs.EdgeList.{edges_read, paths_of_edges, defaults_read}
 use Rattle.nj_faults.specs.declared.fault.GraphFault.{GraphFault}
@@ -25,18 +27,22 @@ abbrev pub targets_named : List EdgePaths → (words : List (List ℕ)) → Resu
 targets_named edges [] = Ok []
 targets_named edges (word ∷ words) = and_target (picked edges word) (targets_named edges words)
 
+-- no edge needs itself by a chain
+abbrev pub NoEdgeNeedsItself : List EdgePaths → Type 0
+NoEdgeNeedsItself edges = IsAcyclic (makers_of_inputs edges) (length edges)
+
 -- in place of no words the defaults in force
 abbrev pub or_defaults : List Entry → (targets : List (List ℕ)) → List (List ℕ)
 or_defaults entries [] = defaults_in_force (defaults_read entries) (edges_by_path entries)
 or_defaults entries (path ∷ paths) = path ∷ paths
 
-abbrev pub with_defaults : List Entry → Result (List (List ℕ)) GraphFault → Result (List (List ℕ)) GraphFault
-with_defaults entries (Ok targets) = Ok (or_defaults entries targets)
-with_defaults entries (Err fault) = Err fault
+abbrev pub targets_or_defaults : List Entry → Result (List (List ℕ)) GraphFault → Result (List (List ℕ)) GraphFault
+targets_or_defaults entries (Ok targets) = Ok (or_defaults entries targets)
+targets_or_defaults entries (Err fault) = Err fault
 
 -- the targets of a run with these words
 abbrev pub targets_of : List Entry → (words : List (List ℕ)) → Result (List (List ℕ)) GraphFault
-targets_of entries words = with_defaults entries (targets_named (edges_by_path entries) words)
+targets_of entries words = targets_or_defaults entries (targets_named (edges_by_path entries) words)
 
 -- ---- what the code answers
 

@@ -1,6 +1,6 @@
 //! What a run of `commands` is for.
 
-ghost use Rattle.nj_cli.specs.Headline.{WritesTheNeeded, PagesJoin, OneEnding};
+ghost use Rattle.nj_cli.specs.Headline.{WritesTheNeeded, PageTextsJoin, OneEnding};
 
 /// A run of `commands` from the start that ends has written the commands of exactly the edges that
 /// are not phony and that the targets need through any chain of inputs, each once, after those of
@@ -9,6 +9,6 @@ ghost use Rattle.nj_cli.specs.Headline.{WritesTheNeeded, PagesJoin, OneEnding};
 /// runs, one after another, are the output of one that was not stopped.
 pub fn commands_law()
     ensures needed { WritesTheNeeded }
-    ensures pages { PagesJoin }
+    ensures pages { PageTextsJoin }
     ensures ending { OneEnding }
 {}

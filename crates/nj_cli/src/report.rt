@@ -5,7 +5,7 @@ ghost use Rattle.nj_faults.specs.FaultLines.{fault_line};
 ghost use Rattle.nj_marks.specs.Marks.{mark_text};
 ghost use Rattle.nj_request.specs.FaultLines as usage;
 ghost use Rattle.nj_request.specs.declared.faults.UsageFault.TheVariants.{Unparsed};
-ghost use Rattle.nj_cli.specs.Answers.{line_of, error_of, stopped};
+ghost use Rattle.nj_cli.specs.Answers.{with_line_end, error_of, stopped};
 ghost use Rattle.nj_cli.specs.Reported.{Reported};
 ghost use Rattle.nj_cli.specs.RunSteps.{Concludes, ReportsLine, ReportsMark, ReportsMisuse};
 ghost use Rattle.nj_cli.specs.Runs.{out_of_memory};
@@ -72,7 +72,7 @@ fn mark_line(alloc: Global, mark: &Mark) -> Result<Vec<u8>, AllocError>
 /// Reports a fault, or out of memory if its line has to be made first and cannot be.
 pub(crate) fn report_fault<E: Sink>(alloc: Global, err: &mut E, fault: &GraphFault) -> Status
     ensures line { ReportsLine (E.state err.old) (E.state err.new)
-        (line_of (fault_line fault.now)) }
+        (with_line_end (fault_line fault.now)) }
     ensures status { result ≡ Status.Fault }
 {
     match line_of_fault(alloc, fault) {
@@ -84,7 +84,7 @@ pub(crate) fn report_fault<E: Sink>(alloc: Global, err: &mut E, fault: &GraphFau
 
 // The line that reports a fault.
 fn line_of_fault(alloc: Global, fault: &GraphFault) -> Result<Vec<u8>, AllocError>
-    ensures { IfOk result (λ line. line.items ≡ line_of (fault_line fault.now)) }
+    ensures { IfOk result (λ line. line.items ≡ with_line_end (fault_line fault.now)) }
 {
     let mut line = fault.line(alloc)?;
     line.push(b'\n')?;
@@ -119,7 +119,7 @@ pub fn refuse_words<E: Sink>(err: &mut E) -> Status
 
 /// Reports that an allocation failed.
 pub fn report_out_of_memory<E: Sink>(err: &mut E) -> Status
-    ensures line { Reported (E.state err.old) (E.state err.new) (line_of out_of_memory) }
+    ensures line { Reported (E.state err.old) (E.state err.new) (with_line_end out_of_memory) }
     ensures status { result ≡ Status.Fault }
 {
     report_line(err, OUT_OF_MEMORY);

@@ -1,4 +1,4 @@
-use Rattle.std.proofs.Common.{refl, inl, subst, sym, ◌∙◌}
+use Rattle.std.proofs.Common.{refl, inl, subst, ◌∙◌}
 use Rattle.nj_cli.specs.Reported.{Reported}
 use Rattle.nj_cli.proofs.Reports.{ReportsMisuse-other}
 use Rattle.nj_cli.proofs.report.report_misuse.Goals as goal

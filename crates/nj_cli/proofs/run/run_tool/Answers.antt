@@ -2,7 +2,7 @@ use Rattle.std.proofs.Common.{Ok, inr, sym, subst}
 use Rattle.nj_graph.specs.Graph.{IsGraphOf}
 use Rattle.nj_graph.specs.Loads.{Loads}
 use Rattle.nj_request.specs.Requests.{action_text}
-use Rattle.nj_cli.specs.Runs.{Around, around}
+use Rattle.nj_cli.specs.Runs.{around}
 use Rattle.nj_cli.proofs.RunLemmas.{Answers-from, IsAnswered-from}
 use Rattle.nj_cli.proofs.run.run_tool.Goals as goal
 
