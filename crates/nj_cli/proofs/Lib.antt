@@ -2,5 +2,6 @@ pub mod AnswerLemmas
 pub mod HeadlineLaws
 pub mod Pieces
 pub mod Reports
+mod Rows
 pub mod RunLemmas
 pub mod TargetLemmas

@@ -1,0 +1,224 @@
+-- Worked rows, computed on the definitions: what runs answer about one small file.
+use Rattle.std.proofs.Common.{◌≡◌, ℕ, Bool, true, false, true≢false, Some, None, List, [], ◌∷◌, refl, ap}
+use Rattle.std.specs.Fmt.{digits}
+use Rattle.std.specs.Prelude.{⊤, ◌≢◌, codes}
+use Rattle.nj_text.specs.Words.{WordText, Text, Name}
+use Rattle.nj_text.specs.Quotes.{quoted}
+use Rattle.nj_manifest.specs.LineSteps.{NameText}
+use Rattle.nj_manifest.specs.Statements.{StatementText, RuleText, BuildText}
+use Rattle.nj_manifest.proofs.StatementRows.{at}
+use Rattle.nj_scope.specs.ReadingList.{Entry}
+use Rattle.nj_build.specs.EdgeList.{defaults_read}
+use Rattle.nj_graph.proofs.ReadingRows.{main_file, on_files, read_of}
+use Rattle.nj_request.specs.Requests.{ActionText, commands, single_commands}
+use Rattle.nj_cli.specs.declared.status.Status.TheVariants.{Done, Fault, Stopped}
+use Rattle.nj_cli.specs.Answers.{output_of, Ending, finished, stopped, faulty, EndsWith, error_of, status_of}
+use Rattle.nj_cli.specs.Headline.{ArePageTexts}
+use Rattle.nj_cli.specs.Headline.ArePageTexts.{no_runs, finishes, stops}
+
+-- ---- the file
+
+abbrev text : List ℕ
+text = codes "rule mk\n  command = mk $out\nbuild a: mk\nbuild b1: mk a\nbuild b2: mk a\nbuild d: mk b1 b2\n"
+
+abbrev entry : (line : ℕ) → StatementText → Entry
+entry line item = record { file = main_file; spot = at line 1; depth = 0; number = 0; around = []; item = item }
+
+abbrev word : (line column : ℕ) → List ℕ → WordText
+word line column bytes = record { spot = at line column; parts = Text bytes ∷ [] }
+
+abbrev name_at : (line column : ℕ) → List ℕ → NameText
+name_at line column name = record { spot = at line column; name = name }
+
+-- `rule mk` in line 1, with the command `mk $out`
+abbrev the_rule : Entry
+the_rule = entry 1 (RuleText (name_at 1 6 (codes "mk")) (record {
+  spot = at 2 3;
+  name = codes "command";
+  value = record { spot = at 2 13; parts = Text (codes "mk ") ∷ Name (codes "out") ∷ [] };
+} ∷ []))
+
+-- `build OUTPUT: mk INPUTS`
+abbrev made : (line : ℕ) → (output : List ℕ) → (column : ℕ) → (inputs : List WordText) → Entry
+made line output column inputs = entry line (BuildText
+    (record { explicit = word line 7 output ∷ []; implicit = [] })
+    (name_at line column (codes "mk"))
+    (record { explicit = inputs; implicit = []; order_only = []; validations = [] })
+    [])
+
+-- the statements of the file, of which the last read stands first; the edges are 0 for a, 1 for b1, 2 for b2 and 3 for d
+abbrev entries : List Entry
+entries =
+    made 6 (codes "d") 10 (word 6 13 (codes "b1") ∷ word 6 16 (codes "b2") ∷ [])
+    ∷ made 5 (codes "b2") 11 (word 5 14 (codes "a") ∷ [])
+    ∷ made 4 (codes "b1") 11 (word 4 14 (codes "a") ∷ [])
+    ∷ made 3 (codes "a") 10 []
+    ∷ the_rule ∷ []
+
+entries_of_text : (read_of text []).entries ≡ entries
+unfolding on_files
+entries_of_text = refl
+
+-- ---- what a row shows
+
+-- what a row unfolds to compute on the entries
+unfoldable on_entries : ⊤
+unfolding on_files quoted defaults_read
+on_entries = tt
+
+abbrev outputs : ActionText → List ℕ → Type 0
+outputs action output = output_of entries action ≡ output
+
+abbrev ends_so : ActionText → Ending → Type 0
+ends_so action ending = EndsWith entries action ending
+
+abbrev d : List (List ℕ)
+d = codes "d" ∷ []
+
+abbrev is_cons : List ℕ → Bool
+is_cons [] = false
+is_cons (n ∷ ns) = true
+
+more : {n : ℕ} {ns : List ℕ} → (n ∷ ns) ≢ []
+more h = true≢false (ap is_cons h)
+
+-- ---- all commands
+
+all : outputs (commands d None []) (codes "mk a\nmk b1\nmk b2\nmk d\n")
+unfolding on_entries
+all = refl
+
+all_ends : ends_so (commands d None []) finished
+unfolding on_entries
+all_ends = refl
+
+-- without words the defaults are the targets, which are the roots here
+wordless : outputs (commands [] None []) (codes "mk a\nmk b1\nmk b2\nmk d\n")
+unfolding on_entries
+wordless = refl
+
+wordless_ends : ends_so (commands [] None []) finished
+unfolding on_entries
+wordless_ends = refl
+
+-- ---- at most so many
+
+two : outputs (commands d (Some 2) []) (codes "mk a\nmk b1\n")
+unfolding on_entries
+two = refl
+
+two_stops : ends_so (commands d (Some 2) []) (stopped (0 ∷ 0 ∷ []))
+unfolding on_entries
+two_stops = (more, (refl, (0 ∷ [], refl, refl)))
+
+four : outputs (commands d (Some 4) []) (codes "mk a\nmk b1\nmk b2\nmk d\n")
+unfolding on_entries
+four = refl
+
+four_ends : ends_so (commands d (Some 4) []) finished
+unfolding on_entries
+four_ends = refl
+
+none : outputs (commands d (Some 0) []) []
+unfolding on_entries
+none = refl
+
+none_stops : ends_so (commands d (Some 0) []) (stopped [])
+unfolding on_entries
+none_stops = (more, refl)
+
+-- ---- from a mark
+
+from_0_0 : outputs (commands d None (0 ∷ 0 ∷ [])) (codes "mk b2\nmk d\n")
+unfolding on_entries
+from_0_0 = refl
+
+from_0_0_ends : ends_so (commands d None (0 ∷ 0 ∷ [])) finished
+unfolding on_entries
+from_0_0_ends = refl
+
+from_0 : outputs (commands d None (0 ∷ [])) []
+unfolding on_entries
+from_0 = refl
+
+from_0_ends : ends_so (commands d None (0 ∷ [])) finished
+unfolding on_entries
+from_0_ends = refl
+
+-- the second place of `a`, which an earlier one makes already
+from_0_1_0 : outputs (commands d (Some 1) (0 ∷ 1 ∷ 0 ∷ [])) (codes "mk b2\n")
+unfolding on_entries
+from_0_1_0 = refl
+
+from_0_1_0_stops : ends_so (commands d (Some 1) (0 ∷ 1 ∷ 0 ∷ [])) (stopped (0 ∷ 1 ∷ []))
+unfolding on_entries
+from_0_1_0_stops = (more, (refl, (0 ∷ 1 ∷ 0 ∷ [], refl, refl)))
+
+from_0_2 : outputs (commands d None (0 ∷ 2 ∷ [])) []
+unfolding on_entries
+from_0_2 = refl
+
+from_0_2_ends : ends_so (commands d None (0 ∷ 2 ∷ [])) (faulty (codes "ninja-explain: mark out of range"))
+unfolding on_entries
+from_0_2_ends = refl
+
+-- ---- a target that no edge names
+
+unknown : outputs (commands (codes "x" ∷ []) None []) []
+unfolding on_entries
+unknown = refl
+
+unknown_ends : ends_so (commands (codes "x" ∷ []) None []) (faulty (codes "ninja-explain: unknown target 'x'"))
+unfolding on_entries
+unknown_ends = refl
+
+-- ---- the targets' own commands
+
+single : outputs (single_commands (codes "d" ∷ codes "b1" ∷ [])) (codes "mk d\nmk b1\n")
+unfolding on_entries
+single = refl
+
+single_ends : ends_so (single_commands (codes "d" ∷ codes "b1" ∷ [])) finished
+unfolding on_entries
+single_ends = refl
+
+-- ---- runs one after another
+
+five_from_0_0 : outputs (commands d (Some 5) (0 ∷ 0 ∷ [])) (codes "mk b2\nmk d\n")
+unfolding on_entries
+five_from_0_0 = refl
+
+five_from_0_0_ends : ends_so (commands d (Some 5) (0 ∷ 0 ∷ [])) finished
+unfolding on_entries
+five_from_0_0_ends = refl
+
+two_and_five : ArePageTexts entries d [] (2 ∷ 5 ∷ []) (codes "mk a\nmk b1\n" ∷ codes "mk b2\nmk d\n" ∷ []) []
+two_and_five = stops (0 ∷ 0 ∷ []) two_stops two (finishes five_from_0_0_ends five_from_0_0)
+
+-- and one run of two edges, before all that is left
+two_and_rest : ArePageTexts entries d [] (2 ∷ []) (codes "mk a\nmk b1\n" ∷ []) (codes "mk b2\nmk d\n")
+two_and_rest = stops (0 ∷ 0 ∷ []) two_stops two (no_runs from_0_0)
+
+-- ---- what is told
+
+error_of_ended : error_of finished ≡ []
+error_of_ended = refl
+
+error_of_stopped : error_of (stopped (0 ∷ 0 ∷ [])) ≡ codes "mark 0.0\n"
+unfolding digits
+error_of_stopped = refl
+
+error_of_start : error_of (stopped []) ≡ codes "mark start\n"
+error_of_start = refl
+
+error_of_fault : error_of (faulty (codes "ninja-explain: unknown target 'x'")) ≡ codes "ninja-explain: unknown target 'x'\n"
+error_of_fault = refl
+
+status_of_ended : status_of finished ≡ Done
+status_of_ended = refl
+
+status_of_stopped : status_of (stopped (0 ∷ 0 ∷ [])) ≡ Stopped
+status_of_stopped = refl
+
+status_of_fault : status_of (faulty (codes "ninja-explain: unknown target 'x'")) ≡ Fault
+status_of_fault = refl
