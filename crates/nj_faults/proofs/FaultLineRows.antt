@@ -8,7 +8,7 @@ use Rattle.nj_manifest.specs.Faults.{Fault, Bad, Expected, UnknownKey, OutOfMemo
 use Rattle.nj_manifest.specs.declared.fault.Wanted.TheVariants as wanted
 use Rattle.nj_faults.specs.declared.fault.Cause.{Cause}
 use Rattle.nj_faults.specs.declared.fault.GraphFault.{GraphFault}
-use Rattle.nj_faults.specs.declared.fault.Cause.TheVariants.{BadDepth, DuplicateRule, VersionTooNew, Missing, TooManyOpenings, Io, UnknownRule, TwoMakers, UnknownTarget, RuleVariableCycle, UnknownPool, DyndepNotInput, Cycle, NoOutEdge}
+use Rattle.nj_faults.specs.declared.fault.Cause.TheVariants.{BadDepth, DuplicateRule, VersionTooNew, Missing, TooManyOpenings, Io, UnknownRule, TwoMakers, UnknownTarget, RuleVariableCycle, UnknownPool, DyndepNotInput, Cycle, NoOutEdge, TextNotUtf8}
 use Rattle.nj_faults.specs.Faults.{fault_at, fault_in, unplaced, no_memory}
 use Rattle.nj_faults.specs.FaultLines.{fault_line}
 
@@ -87,6 +87,10 @@ dyndep_row = refl
 cycle_row : fault_line (at 9 1 (Cycle (codes "a"))) ≡ codes "build.ninja:9:1: dependency cycle through 'a'"
 unfolding digits
 cycle_row = refl
+
+text_row : fault_line (at 10 1 TextNotUtf8) ≡ codes "build.ninja:10:1: text is not UTF-8"
+unfolding digits
+text_row = refl
 
 -- no place
 target_row : fault_line (unplaced (UnknownTarget (codes "all"))) ≡ codes "ninja-explain: unknown target 'all'"

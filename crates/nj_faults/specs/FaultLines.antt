@@ -31,6 +31,7 @@ cause_text (cause.UnknownPool name) = codes "unknown pool name '" ++ name ++ cod
 cause_text (cause.DyndepNotInput path) = codes "dyndep '" ++ path ++ codes "' is not an input"
 cause_text (cause.Cycle path) = codes "dependency cycle through '" ++ path ++ codes "'"
 cause_text (cause.NoOutEdge path) = codes "'" ++ path ++ codes "' has no out edge"
+cause_text cause.TextNotUtf8 = codes "text is not UTF-8"
 cause_text cause.OutOfMemory = codes "out of memory"
 
 -- `FILE:LINE:COLUMN: TEXT`, or `ninja-explain: TEXT`

@@ -1,4 +1,4 @@
-//! Why files are no graph.
+//! Why files are no graph, or why what is asked of their graph cannot be told.
 
 ghost use Rattle.std.specs.Prelude.{◌≡◌, IfOk, nat_eq};
 ghost use Rattle.std.specs.Cmp.{partial_equiv_from_equiv};
@@ -119,11 +119,14 @@ pub enum Cause {
     /// A file that no build statement has as an input, where the first output made of it was asked
     /// for ("Running Ninja"); the fault has no place.
     NoOutEdge(Name),
+    /// A command or a path that JSON cannot hold, at the build statement of its edge ("Extra
+    /// tools").
+    TextNotUtf8,
     /// An allocation failed; the fault has no place.
     OutOfMemory,
 }
 
-/// The first fault of a run's files in reading order.
+/// The first fault of a run: of its files in reading order, else of what is asked of their graph.
 #[derive(Debug, PartialEq, Eq, Drop)]
 pub struct GraphFault {
     /// `None` where no place is to blame.

@@ -66,6 +66,7 @@ fn cause_text(cause: &Cause) -> FaultText<'_>
         Cause::DyndepNotInput(path) => between("dyndep '", path, "' is not an input"),
         Cause::Cycle(path) => quoted("dependency cycle through '", path),
         Cause::NoOutEdge(path) => between("'", path, "' has no out edge"),
+        Cause::TextNotUtf8 => FaultText::fixed("text is not UTF-8"),
         Cause::OutOfMemory => FaultText::fixed("out of memory"),
     }
 }

@@ -1,4 +1,5 @@
-//! Why the files of a run are no graph, and the line that reports it.
+//! Why the files of a run are no graph, or why what is asked of it cannot be told, and the line
+//! that reports it.
 #![tactic(auto)]
 
 mod fault;
