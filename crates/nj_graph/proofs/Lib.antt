@@ -15,8 +15,11 @@ pub mod OpenScopes
 pub mod OtherFiles
 pub mod ReadingLaws
 pub mod ReadingRows
+pub mod ResponseRows
 pub mod ParsedLemmas
+pub mod Positions
 pub mod SortLemmas
+pub mod Stated
 pub mod TargetRows
 pub mod Tables
 pub mod Turns

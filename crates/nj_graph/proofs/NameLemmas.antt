@@ -36,7 +36,7 @@ strict-insert k (y ∷ ys) others up = by (order y k) refl (strict-insert k ys o
     by Equal h rest = absurd (true≢false (sym (ap is_eq (turned Equal h)) ∙ is_eq-slice_cmp k y ∙ others.0))
     by Greater h rest = ((turned Greater h, above-all k y ys (turned Greater h) up.0), up)
 
-strict-sorted : (ks : List (List ℕ)) → IsDistinct bytes_eq ks → IsStrictlySortedBy order (sorted_by is_before ks)
+pub strict-sorted : (ks : List (List ℕ)) → IsDistinct bytes_eq ks → IsStrictlySortedBy order (sorted_by is_before ks)
 unfolding sorted_by IsDistinct IsStrictlySortedBy
 strict-sorted [] distinct = tt
 strict-sorted (k ∷ ks) distinct = strict-insert k (sorted_by is_before ks) (all-sorted is_before (λ y. bytes_eq k y ≡ false) ks distinct.0) (strict-sorted ks distinct.1)
@@ -52,13 +52,13 @@ names_rise-read entries new = names_rise (rule_texts entries) (names-distinct en
 -- ---- which they are
 
 module _ {X : Type 0} where
-  contains-here : (x : X) (xs : List X) → Contains (x ∷ xs) x
+  pub contains-here : (x : X) (xs : List X) → Contains (x ∷ xs) x
   contains-here x xs = (zero, omega arith, refl)
 
-  contains-later : (x y : X) (xs : List X) → Contains xs y → Contains (x ∷ xs) y
+  pub contains-later : (x y : X) (xs : List X) → Contains xs y → Contains (x ∷ xs) y
   contains-later x y xs h = (suc h.0, omega (arith, h.1), h.2)
 
-  contains-cases : (x y : X) (xs : List X) → Contains (x ∷ xs) y → (y ≡ x) ⊎ Contains xs y
+  pub contains-cases : (x y : X) (xs : List X) → Contains (x ∷ xs) y → (y ≡ x) ⊎ Contains xs y
   contains-cases x y xs h = by h.0 h.1 h.2
     where
       by : (k : ℕ) → k < length (x ∷ xs) → get_or (x ∷ xs) k y ≡ y → (y ≡ x) ⊎ Contains xs y
@@ -84,7 +84,7 @@ module _ {X : Type 0} where
       by true rest = IsPermutation-trans (x ∷ y ∷ ys) (y ∷ x ∷ ys) (y ∷ insert_by lt x ys) (IsPermutation-middle (x ∷ []) y ys) (IsPermutation-cons y (x ∷ ys) (insert_by lt x ys) rest)
       by false rest = IsPermutation-refl (x ∷ y ∷ ys)
 
-  permuted-sorted : (lt : X → X → Bool) (xs : List X) → IsPermutation xs (sorted_by lt xs)
+  pub permuted-sorted : (lt : X → X → Bool) (xs : List X) → IsPermutation xs (sorted_by lt xs)
   unfolding sorted_by
   permuted-sorted lt [] = IsPermutation-refl []
   permuted-sorted lt (x ∷ xs) =

@@ -7,7 +7,7 @@ use Rattle.std.specs.Cmp.Lexicographic.{slice_cmp}
 use Rattle.std.specs.Ordering.{is_lt, nat_cmp}
 use Rattle.nj_text.specs.Words.{PartText}
 use Rattle.nj_scope.specs.Declarations.{DeclarationsText, DeclaredBy}
-use Rattle.nj_scope.specs.ReadingList.{Entry}
+use Rattle.nj_scope.specs.ReadingList.{Entry, rule_texts}
 use Rattle.nj_scope.specs.Late.{parts_written}
 use Rattle.nj_scope.specs.Rules.{RuleText, phony, phony_rule, rules_in, rule_names, given}
 use Rattle.nj_scope.specs.Scopes.{IsScope}
@@ -61,6 +61,25 @@ text_of_edge entries asked None = []
 -- What a variable says for the edge of a number where its rule is used, after all statements.
 abbrev pub late_text_of : List Entry → (number : ℕ) → (asked : List ℕ) → List ℕ
 late_text_of entries number asked = text_of_edge entries asked (slice_get (edges_read entries) number)
+
+-- ---- the rule of an edge
+
+-- the name of a rule, if there is one
+abbrev pub name_of : Option RuleText → List ℕ
+name_of (Some rule) = rule.name
+name_of None = []
+
+-- that of the rule of a number
+abbrev pub rule_name : List RuleText → (number : ℕ) → List ℕ
+rule_name rules number = name_of (slice_get rules number)
+
+-- the name of the rule of an edge: of the rule that is in force before its statement
+abbrev pub rule_name_of : List Entry → EdgeText → List ℕ
+rule_name_of entries e = rule_name (rule_texts entries) e.rule
+
+-- that of the edge of a number; past the last edge it is empty
+abbrev pub rule_name_at : List Entry → (number : ℕ) → List ℕ
+rule_name_at entries number = unwrap_or (option_map (rule_name_of entries) (slice_get (edges_read entries) number)) []
 
 -- ---- the rules that are listed
 

@@ -1,6 +1,6 @@
 -- How a graph holds the rules that it lists.
 use Rattle.std.specs.List.{AllByRecursion}
-use Rattle.std.specs.Prelude.{◌≡◌, ℕ, ◌<◌, Option, Some, None, List, [], map, length, slice_get}
+use Rattle.std.specs.Prelude.{◌≡◌, ℕ, ◌<◌, Some, None, List, map, length, slice_get}
 use Rattle.nj_scope.specs.Declarations.{DeclarationsText}
 use Rattle.nj_scope.specs.Rules.{RuleText}
 use Rattle.nj_scope.specs.ScopesHeld.{parent_at}
@@ -10,14 +10,6 @@ use Rattle.nj_graph.specs.Graph.{main_rules_of}
 -- their numbers, in the order in which they are listed
 abbrev pub HoldsMainRules : List RuleText → (numbers : List ℕ) → Type 0
 HoldsMainRules rules numbers = map (slice_get rules) numbers ≡ map (λ r. Some r) (main_rules_of rules)
-
--- the name of a rule, if there is one
-abbrev pub name_of : Option RuleText → List ℕ
-name_of (Some rule) = rule.name
-name_of None = []
-
-abbrev pub rule_name : List RuleText → (number : ℕ) → List ℕ
-rule_name rules number = name_of (slice_get rules number)
 
 -- the scope and the rule of an edge are there
 abbrev pub IsKnown : DeclarationsText → EdgeDetail → Type 0

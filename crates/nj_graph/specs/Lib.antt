@@ -3,6 +3,7 @@ pub mod Graph
 pub mod Laws
 pub mod Loads
 pub mod Reading
+pub mod ResponseFiles
 pub mod Runs
 pub mod Statements
 pub mod Targets

@@ -3,8 +3,10 @@
 ghost use Rattle.std.specs.Prelude.{◌≡◌, ◌<◌, ◌++◌, List, length, codes, IfOk, OnOk};
 ghost use Rattle.nj_scope.specs.ReadingList.{Entry};
 ghost use Rattle.nj_graph.specs.Graph.{edges_of, IsGraphOf, late_text_of};
+ghost use Rattle.nj_graph.specs.ResponseFiles.{command_with_rsp_of};
 
 use crate::graph::Graph;
+use crate::response::with_content;
 use nj_edges::EdgeNo;
 use nj_late::LateEdge;
 use std::alloc::{AllocError, Global};
@@ -49,8 +51,36 @@ impl Graph {
             → IfOk result (λ text.
             text.items ≡ late_text_of entries edge.0 (codes "command")) }
     {
+        self.variable(alloc, edge, b"command")
+    }
+
+    /// The command of an edge as it is without its response file ("Rule variables" in the Ninja
+    /// manual): where the first occurrence of what `rspfile` says has an `@` directly before it,
+    /// both are replaced by what `rspfile_content` says, with a space for each line feed. A command
+    /// that does not name its response file so stays as it is.
+    ///
+    /// # Errors
+    ///
+    /// If an allocation failed.
+    pub fn command_with_rsp(&self, alloc: Global, edge: EdgeNo) -> Result<Vec<u8>, AllocError>
+        requires { edge.0 < length (edges_of self.now) }
+        ensures { (entries : List Entry) → IsGraphOf self.now entries
+            → IfOk result (λ text. text.items ≡ command_with_rsp_of entries edge.0) }
+    {
+        let command = self.command(alloc, edge)?;
+        let file = self.variable(alloc, edge, b"rspfile")?;
+        let content = self.variable(alloc, edge, b"rspfile_content")?;
+        with_content(alloc, command, &file, &content)
+    }
+
+    // What a variable says for an edge.
+    fn variable(&self, alloc: Global, edge: EdgeNo, name: &[u8]) -> Result<Vec<u8>, AllocError>
+        requires { edge.0 < length (edges_of self.now) }
+        ensures { (entries : List Entry) → IsGraphOf self.now entries
+            → IfOk result (λ text. text.items ≡ late_text_of entries edge.0 name.now) }
+    {
         let mut text = Vec::new(alloc);
-        self.append_variable(&mut text, edge, b"command")?;
+        self.append_variable(&mut text, edge, name)?;
         Ok(text)
     }
 }

@@ -10,6 +10,7 @@ mod laws;
 mod loading;
 mod opening;
 mod reader;
+mod response;
 mod targets;
 
 pub use graph::{Graph, rules_by_name};

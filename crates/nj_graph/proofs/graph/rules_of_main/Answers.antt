@@ -5,7 +5,7 @@ use Rattle.std.proofs.lemmas.Cmp.{nat_list_cmp_total}
 use Rattle.std.proofs.lemmas.List.Sorted.{ranks_by}
 use Rattle.std.proofs.lemmas.Fn.{answers_by}
 use Rattle.nj_scope.specs.Rules.{rules_in}
-use Rattle.nj_graph.specs.GraphHeld.{rule_name}
+use Rattle.nj_graph.specs.Graph.{rule_name}
 use Rattle.nj_graph.proofs.ListedLemmas.{listed-rule, passed-rule, sorted-held, comes_before}
 use Rattle.nj_graph.proofs.graph.rules_of_main.Goals as goal
 use Rattle.nj_graph.proofs.graph.rules_of_main.Goals.{then-scope-eq-MAIN_SCOPE+in_ok-push, else-scope-eq-MAIN_SCOPE}

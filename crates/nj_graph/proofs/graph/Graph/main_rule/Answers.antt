@@ -1,6 +1,5 @@
 use Rattle.std.proofs.Common.{◌<◌, length, ap, sym, subst, ◌∙◌}
-use Rattle.nj_graph.specs.Graph.{main_rules, main_rules_of}
-use Rattle.nj_graph.specs.GraphHeld.{name_of, rule_name}
+use Rattle.nj_graph.specs.Graph.{main_rules, main_rules_of, name_of, rule_name}
 use Rattle.nj_graph.proofs.ListedLemmas.{held-at}
 use Rattle.nj_graph.proofs.graph.Graph.main_rule.Goals as goal
 
