@@ -81,7 +81,7 @@ later-files : (files : List (List ℕ)) (n : FileNo) (ns : List FileNo) (p : Lis
 later-files files n ns p ps are = cc
 
 -- files have the paths that they are said to have
-paths-at : (files : List (List ℕ)) (ns : List FileNo) (paths : List (List ℕ)) → AreFiles files ns paths → map (path_at files) ns ≡ paths
+pub paths-at : (files : List (List ℕ)) (ns : List FileNo) (paths : List (List ℕ)) → AreFiles files ns paths → map (path_at files) ns ≡ paths
 paths-at files [] [] are = refl
 paths-at files [] (p ∷ ps) are = absurd cc
 paths-at files (n ∷ ns) [] are = absurd cc
