@@ -1,14 +1,14 @@
 -- How a text goes to a sink part by part, of which some wait.
-use Rattle.std.proofs.Common.{◌≡◌, ℕ, List, [], ◌∷◌, ◌++◌, Result, Err, refl, sym, ap, subst, ◌∙◌, append_assoc}
+use Rattle.std.proofs.Common.{◌≡◌, ℕ, List, [], ◌∷◌, ◌++◌, Result, Ok, Err, refl, sym, ap, subst, ◌∙◌, append_assoc, append-nil}
 use Rattle.std.proofs.lemmas.Result.{err_from_is_err_and}
 use Rattle.std.specs.Result.{IsErrAnd}
 use Rattle.nj_scope.specs.Readings.{IsPrefix}
 use Rattle.nj_tools.specs.Sinks.{SinkState, Takes}
 use Rattle.nj_tools.specs.declared.fault.ToolFault.{ToolFault}
-use Rattle.nj_tools.specs.declared.fault.ToolFault.TheVariants.{Write, OutOfMemory}
-use Rattle.nj_tools.specs.Blocks.{IsUnderway, PutsLine}
-use Rattle.nj_tools.specs.Texts.{FailsWithin, TakesFront, WritesText}
-use Rattle.nj_tools.proofs.SinkLemmas.{Takes-trans, FailsAfter-trans}
+use Rattle.nj_tools.specs.declared.fault.ToolFault.TheVariants.{TextNotUtf8, Write, OutOfMemory}
+use Rattle.nj_tools.specs.Blocks.{IsUnderway, PutsText}
+use Rattle.nj_tools.specs.Texts.{FailsWithin, TakesFront, StopsWithin, WritesText}
+use Rattle.nj_tools.proofs.SinkLemmas.{Takes-nil, Takes-trans, FailsAfter-trans}
 
 -- a part more
 pub IsUnderway-more : (old before after : SinkState) (text waiting part rest : List ℕ)
@@ -63,6 +63,23 @@ TakesFront-whole old new text waiting whole (others, is) (front, parts, taken) =
   taken,
 )
 
+-- a front of a text is one of any that it begins
+pub TakesFront-longer : (old new : SinkState) (text whole : List ℕ) → IsPrefix text whole → TakesFront old new text → TakesFront old new whole
+TakesFront-longer old new text whole (others, is) (front, (rest, joined), taken) = (
+  front,
+  (rest ++ others, is ∙ ap (λ t. t ++ others) joined ∙ append_assoc front rest others),
+  taken,
+)
+
+-- a front of what waits and a part more was taken
+pub TakesFront-more : (old before after : SinkState) (text waiting part : List ℕ)
+    → IsUnderway old before text waiting → TakesFront before after (waiting ++ part) → TakesFront old after (text ++ part)
+TakesFront-more old before after text waiting part (front, parts, taken) (more, (rest, joined), more_taken) = (
+  front ++ more,
+  (rest, ap (λ t. t ++ part) parts ∙ append_assoc front waiting part ∙ ap (λ t. front ++ t) joined ∙ sym (append_assoc front more rest)),
+  Takes-trans _ _ _ _ _ taken more_taken,
+)
+
 -- ---- what is answered
 
 -- the fault that is answered
@@ -71,16 +88,61 @@ pub stops-with : {X : Type 0} (old new : SinkState) (whole : List ℕ) (fault : 
 stops-with old new whole fault result err stops =
     let (e, is, same) = err_from_is_err_and result err in rw (is, same) stops
 
-line-stops : (X : Type 0) (old before after : SinkState) (text waiting rest line whole : List ℕ) (fault : ToolFault) → IsPrefix (text ++ line) whole
-    → IsUnderway old before text waiting → PutsLine before after waiting rest line (Err fault) → WritesText {X = X} old after whole (Err fault)
-line-stops X old before after text waiting rest line whole Write front so_far put =
-    FailsWithin-whole old after (text ++ line) whole front (FailsWithin-more old before after text waiting line so_far put)
-line-stops X old before after text waiting rest line whole OutOfMemory (others, is) so_far put =
-    rw put (TakesFront-whole old before text waiting whole (line ++ others, is ∙ append_assoc text line others) so_far)
+-- what stops within a text stops within any that it begins
+pub StopsWithin-whole : (old new : SinkState) (text whole : List ℕ) (fault : ToolFault) → IsPrefix text whole
+    → StopsWithin old new text fault → StopsWithin old new whole fault
+StopsWithin-whole old new text whole Write front stops = FailsWithin-whole old new text whole front stops
+StopsWithin-whole old new text whole OutOfMemory front stops = TakesFront-longer old new text whole front stops
+StopsWithin-whole old new text whole (TextNotUtf8 edge) front stops = stops
 
--- a line more, which was not added, or within which the sink failed
-pub stops-at_line : {X : Type 0} (old before after : SinkState) (text waiting rest line whole : List ℕ) (fault : ToolFault) (result : Result X ToolFault)
+-- what stops within what waits and a part more
+pub StopsWithin-more : (old before after : SinkState) (text waiting part : List ℕ) (fault : ToolFault)
+    → IsUnderway old before text waiting → StopsWithin before after (waiting ++ part) fault → StopsWithin old after (text ++ part) fault
+StopsWithin-more old before after text waiting part Write so_far stops = FailsWithin-more old before after text waiting part so_far stops
+StopsWithin-more old before after text waiting part OutOfMemory so_far stops = TakesFront-more old before after text waiting part so_far stops
+StopsWithin-more old before after text waiting part (TextNotUtf8 edge) so_far stops = stops
+
+-- a line more, within which this stopped
+pub stops-at_line : {X : Type 0} (old before after : SinkState) (text waiting line whole : List ℕ) (fault : ToolFault) (result : Result X ToolFault)
     → IsErrAnd result (λ e. e ≡ fault) → IsPrefix (text ++ line) whole
-    → IsUnderway old before text waiting → PutsLine before after waiting rest line (Err fault) → WritesText old after whole result
-stops-at_line {X = X} old before after text waiting rest line whole fault result err front so_far put =
-    stops-with old after whole fault result err (line-stops X old before after text waiting rest line whole fault front so_far put)
+    → IsUnderway old before text waiting → StopsWithin before after (waiting ++ line) fault → WritesText old after whole result
+stops-at_line old before after text waiting line whole fault result err front so_far stops =
+    stops-with old after whole fault result err
+    (StopsWithin-whole old after (text ++ line) whole fault front (StopsWithin-more old before after text waiting line fault so_far stops))
+
+-- ---- texts one after another
+
+-- nothing was added
+pub puts-nothing : (s : SinkState) (waiting : List ℕ) → IsUnderway s s (waiting ++ []) waiting
+puts-nothing s waiting = ([], append-nil waiting, Takes-nil s)
+
+-- one text, and another after it
+pub puts-then : {X : Type 0} (old between new : SinkState) (before waiting after text more : List ℕ) (result : Result X ToolFault)
+    → IsUnderway old between (before ++ text) waiting → PutsText between new waiting after more result
+    → PutsText old new before after (text ++ more) result
+puts-then old between new before waiting after text more (Ok done) first second =
+    subst (λ t. IsUnderway old new t after) (append_assoc before text more) (IsUnderway-more old between new (before ++ text) waiting more after first second)
+puts-then old between new before waiting after text more (Err fault) first second =
+    subst (λ t. StopsWithin old new t fault) (append_assoc before text more) (StopsWithin-more old between new (before ++ text) waiting more fault first second)
+
+-- what stops within one text stops within that and what comes after it
+pub puts-stop : (old new : SinkState) (before text more : List ℕ) (fault : ToolFault)
+    → StopsWithin old new (before ++ text) fault → StopsWithin old new (before ++ (text ++ more)) fault
+puts-stop old new before text more fault stops =
+    StopsWithin-whole old new (before ++ text) (before ++ (text ++ more)) fault (more, sym (append_assoc before text more)) stops
+
+-- one text waits already, and another comes after it
+pub puts-after : {X : Type 0} (old new : SinkState) (before after text more : List ℕ) (result : Result X ToolFault)
+    → PutsText old new (before ++ text) after more result → PutsText old new before after (text ++ more) result
+puts-after old new before after text more (Ok done) puts = subst (λ t. IsUnderway old new t after) (append_assoc before text more) puts
+puts-after old new before after text more (Err fault) puts = subst (λ t. StopsWithin old new t fault) (append_assoc before text more) puts
+
+-- memory ran out before anything was added
+pub puts-no_memory : (s : SinkState) (before text : List ℕ) → StopsWithin s s (before ++ text) OutOfMemory
+puts-no_memory s before text = ([], (before ++ text, refl), Takes-nil s)
+
+-- the fault that is answered
+pub puts-with : {X : Type 0} (old new : SinkState) (before after text : List ℕ) (fault : ToolFault) (result : Result X ToolFault)
+    → IsErrAnd result (λ e. e ≡ fault) → StopsWithin old new (before ++ text) fault → PutsText old new before after text result
+puts-with old new before after text fault result err stops =
+    let (e, is, same) = err_from_is_err_and result err in rw (is, same) stops

@@ -6,7 +6,6 @@ use Rattle.std.proofs.lemmas.List.Concat.{flat_map-append}
 use Rattle.nj_scope.specs.Readings.{IsPrefix}
 use Rattle.nj_scope.specs.ReadingList.{Entry}
 use Rattle.nj_needs.specs.Graphs.{row_of, makers_of, count_of}
-use Rattle.nj_needs.specs.Marks.{IsFirstPlace}
 use Rattle.nj_needs.specs.Pages.{IsMarkAfter}
 use Rattle.nj_needs.proofs.PageLaws.{IsMarkAfter-push}
 use Rattle.nj_needs.specs.Walks.{WalkState, IsFirstPlaceOf}

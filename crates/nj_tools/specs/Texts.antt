@@ -3,7 +3,7 @@ use Rattle.std.specs.Prelude.{ℕ, List, Result, Ok, Err}
 use Rattle.nj_scope.specs.Readings.{IsPrefix}
 use Rattle.nj_tools.specs.Sinks.{SinkState, Takes, FailsAfter, IsCutShort}
 use Rattle.nj_tools.specs.declared.fault.ToolFault.{ToolFault}
-use Rattle.nj_tools.specs.declared.fault.ToolFault.TheVariants.{Write, OutOfMemory}
+use Rattle.nj_tools.specs.declared.fault.ToolFault.TheVariants.{TextNotUtf8, Write, OutOfMemory}
 
 -- the sink took a beginning of the text, and not all of it; then it failed once, and took nothing after that
 abbrev pub FailsWithin : (old new : SinkState) → (text : List ℕ) → Type 0
@@ -13,8 +13,14 @@ FailsWithin old new text = (front : List ℕ) × IsCutShort front text × FailsA
 abbrev pub TakesFront : (old new : SinkState) → (text : List ℕ) → Type 0
 TakesFront old new text = (front : List ℕ) × IsPrefix front text × Takes old new front
 
--- The sink took the whole text; or it failed within it; or memory ran out after a beginning of it.
+-- What a fault says: the sink failed within the text, or memory ran out after a beginning of it. No text of these tools has to be
+-- UTF-8.
+abbrev pub StopsWithin : (old new : SinkState) → (text : List ℕ) → ToolFault → Type 0
+StopsWithin old new text Write = FailsWithin old new text
+StopsWithin old new text OutOfMemory = TakesFront old new text
+StopsWithin old new text (TextNotUtf8 edge) = ⊥
+
+-- The sink took the whole text, or this stopped it within.
 abbrev pub WritesText : {X : Type 0} → (old new : SinkState) → (text : List ℕ) → Result X ToolFault → Type 0
 WritesText old new text (Ok done) = Takes old new text
-WritesText old new text (Err Write) = FailsWithin old new text
-WritesText old new text (Err OutOfMemory) = TakesFront old new text
+WritesText old new text (Err fault) = StopsWithin old new text fault

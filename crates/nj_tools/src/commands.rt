@@ -3,7 +3,7 @@
 ghost use Rattle.std.specs.Prelude.{◌≡◌, ℕ, ◌<◌, ◌-◌, ◌++◌, List, [], ◌∷◌, length, All, IfOk, IfSome, OnOk, option_map};
 ghost use Rattle.nj_scope.specs.ReadingList.{Entry};
 ghost use Rattle.nj_graph.specs.Graph.{edges_of, files_of, IsGraphOf};
-ghost use Rattle.nj_tools.specs.Blocks.{PutsLine};
+ghost use Rattle.nj_tools.specs.Blocks.{PutsText};
 ghost use Rattle.nj_needs.specs.Order.{made_by};
 ghost use Rattle.nj_needs.specs.Walks.{number_of};
 ghost use Rattle.nj_tools.specs.CommandTexts.{command_line, command_lines, written, StopsAt, single, own_makers, own_commands};
@@ -125,7 +125,7 @@ fn write_command<S: Sink>(
 ) -> Result<(), ToolFault>
     requires { edge.0 < length (edges_of graph.now) }
     ensures { (entries : List Entry) → IsGraphOf graph.now entries
-        → PutsLine (S.state out.old) (S.state out.new) text.old.items text.new.items
+        → PutsText (S.state out.old) (S.state out.new) text.old.items text.new.items
         (command_line entries edge.0) result }
 {
     append_command(graph, edge, text)?;

@@ -4,11 +4,14 @@ ghost use Rattle.std.specs.Prelude.{◌≡◌};
 ghost use Rattle.nj_tools.specs.declared.fault.ToolFault.TheVariants.{Write, OutOfMemory};
 
 use crate::sinks::SinkFault;
+use nj_graph::EdgeNo;
 use std::alloc::{AllocError, AllocFailed};
 
 /// Why a tool stopped before the end of its text.
 #[derive(Clone, Copy, Debug, PartialEq, Eq)]
 pub enum ToolFault {
+    /// What is told of this edge is not UTF-8, so that JSON cannot hold it; `compdb` alone.
+    TextNotUtf8(EdgeNo),
     /// The sink failed.
     Write,
     /// An allocation failed.

@@ -2,16 +2,35 @@
 #![tactic(auto)]
 
 mod block;
+mod chosen;
+mod collected;
 mod commands;
+mod compdb;
 mod fault;
+mod inputs;
+mod json;
+mod laws;
+mod lines;
 mod memory;
+mod queries;
+mod rules;
 mod sinks;
+mod targets;
+mod trees;
+mod view;
 mod whole;
 mod writer;
 
 pub use commands::{write_commands, write_single_commands};
+pub use compdb::write_compdb;
 pub use fault::ToolFault;
+pub use inputs::write_inputs;
+pub use laws::{depth_law, list_law};
 pub use memory::MemorySink;
+pub use queries::write_query;
+pub use rules::write_rules;
 pub use sinks::{Sink, SinkFault};
+pub use targets::write_targets;
+pub use view::TargetsView;
 pub use whole::write_whole;
 pub use writer::WriteSink;

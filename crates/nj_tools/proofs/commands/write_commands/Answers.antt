@@ -27,7 +27,7 @@ returns-in_err-write_command-clause-writes g c entries graph =
     let some : c.commands.remaining ≢ Some 0 = search rules in
     let so_far = so_far-next c.args.take c.args.needs.now.left i.edges c.commands.remaining c.commands.needs.left e c.next.new.self.left some c.in-Some.ensures.next.first i.written in
     let front = subst (λ t. IsPrefix t (command_lines entries (written c.args.take c.args.needs.now.left))) (lines-last entries i.edges e) (lines-front entries (i.edges ++ e ∷ []) _ _ so_far) in
-    stops-at_line _ _ _ _ c.commands.text.items c.write_command.new.text.items (command_line entries e) _ c.in_err-write_command.field-0.0 c.from_residual-in_err-write_command.result c.from_residual-in_err-write_command.ensures.1
+    stops-at_line _ _ _ _ c.commands.text.items (command_line entries e) _ c.in_err-write_command.field-0.0 c.from_residual-in_err-write_command.result c.from_residual-in_err-write_command.ensures.1
     front (i.underway entries graph) (c.in_err-write_command.ensures entries graph)
 
 pub commands-preserved : goal.commands-preserved

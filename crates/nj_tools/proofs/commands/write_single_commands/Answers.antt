@@ -21,7 +21,7 @@ returns-in_err-write_command g c entries graph =
     let more = own-more edges targets i (record { 0 = 0 }) (e ∷ []) (omega arith) (c.in-Some.ensures.new (own_makers edges (take i targets)) seen) in
     let lines = ap (command_lines entries) more ∙ lines-last entries (own_commands edges (take i targets)) e in
     let front = subst (λ t. IsPrefix t (command_lines entries (own_commands edges targets))) lines (own-front entries edges targets (i + 1)) in
-    stops-at_line _ _ _ _ c.targets.text.items c.write_command.new.text.items (command_line entries e) _ c.in_err-write_command.field-0.0
+    stops-at_line _ _ _ _ c.targets.text.items (command_line entries e) _ c.in_err-write_command.field-0.0
     c.from_residual-in_err-write_command.result c.from_residual-in_err-write_command.ensures.1
     front (c.targets.invariant.underway entries graph) (c.in_err-write_command.ensures entries graph)
 

@@ -1,0 +1,38 @@
+use Rattle.std.proofs.Common.{◌<◌, length, All, bytes_eq, subst, sym, ap, ◌∙◌, arith}
+use Rattle.nj_edges.specs.declared.files.FileNo.{FileNo}
+use Rattle.nj_graph.specs.Graph.{GraphText, edges_of, files_of}
+use Rattle.nj_tools.specs.Collections.{Collection}
+use Rattle.nj_tools.proofs.CollectedLemmas.{All-with_files}
+use Rattle.nj_tools.proofs.ListingLemmas.{outputs-more, outputs-same}
+use Rattle.nj_tools.proofs.targets.outputs_of_rule.Goals as goal
+use Rattle.nj_tools.proofs.targets.outputs_of_rule.Goals.{then-eq+in_ok-add_all, else-eq}
+
+abbrev IsKnown : GraphText → FileNo → Type 0
+IsKnown g file = file.0 < length (files_of g)
+
+pub edges-preserved : goal.edges-preserved
+edges-preserved c =
+    let g = c.args.graph.now in
+    let n = c.edges.number in
+    let rule = c.args.rule.now in
+    let below : n < length (edges_of g) = omega (arith, c.edge_count-number-end.ensures.count) in
+    elim c.if-eq.branch [
+      | then-eq+in_ok-add_all w ↦
+          record {
+            count = ap (λ (s : Collection). s.count) w.outputs-is ∙ w.in_ok-add_all.ensures.count ∙ c.edges.invariant.count;
+            known = subst (All (IsKnown g)) (sym (ap (λ (s : Collection). s.files) w.outputs-is ∙ w.in_ok-add_all.ensures.files))
+                (All-with_files (IsKnown g) w.outputs.result.now c.edges.outputs.files w.outputs.ensures.known c.edges.invariant.known);
+            are = λ entries graph.
+                outputs-more g entries graph n below rule c.file_count.ensures.each_path_once w.outputs.result.now c.edges.outputs.files c.if-eq.outputs.files
+                w.outputs.ensures.files w.outputs.ensures.known (c.edges.invariant.are entries graph) (ap (λ (s : Collection). s.files) w.outputs-is ∙ w.in_ok-add_all.ensures.files)
+                (ap (λ r. bytes_eq r rule) (sym (c.rule_name.ensures.stated entries graph)) ∙ sym c.eq.ensures ∙ w.if-eq.true);
+          }
+      | else-eq w ↦
+          record {
+            count = ap (λ (s : Collection). s.count) w.outputs-is ∙ c.edges.invariant.count;
+            known = subst (All (IsKnown g)) (sym (ap (λ (s : Collection). s.files) w.outputs-is)) c.edges.invariant.known;
+            are = λ entries graph.
+                outputs-same g entries graph n below rule c.edges.outputs.files c.if-eq.outputs.files (c.edges.invariant.are entries graph) (ap (λ (s : Collection). s.files) w.outputs-is)
+                (ap (λ r. bytes_eq r rule) (sym (c.rule_name.ensures.stated entries graph)) ∙ sym c.eq.ensures ∙ w.if-eq.false);
+          }
+    ]

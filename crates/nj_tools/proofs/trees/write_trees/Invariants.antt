@@ -1,0 +1,19 @@
+use Rattle.std.proofs.Common.{◌≡◌, ◌≤◌, ◌+◌, ◌*◌, ◌++◌, ℕ, List, length}
+use Rattle.nj_scope.specs.ReadingList.{Entry}
+use Rattle.nj_graph.specs.Graph.{edges_of, files_of, IsGraphOf}
+use Rattle.nj_tools.specs.Blocks.{IsUnderway}
+use Rattle.nj_tools.specs.Listings.{trees_text}
+use Rattle.nj_tools.specs.Trees.{rows_text, rows_lines, rows_of, AreKnown}
+use Rattle.nj_tools.proofs.trees.write_trees.Given as goal
+
+abbrev pub invariant-files : goal.invariant-files
+invariant-files g l = record {
+  written : (entries : List Entry) → IsGraphOf l.graph entries → (done : List ℕ)
+      × IsUnderway (g.S.Sink.state l.fn.out) (g.S.Sink.state l.out) (l.fn.text.items ++ done) l.text.items
+      × (trees_text entries l.depth ≡ done ++ rows_text entries (l.below + 1) 0 (rows_of (files_of l.graph) l.rows.items));
+  known : AreKnown (files_of l.graph) l.rows.items;
+  levels : length l.rows.items ≤ l.below + 1;
+}
+
+abbrev pub decreases-files : goal.decreases-files
+decreases-files g l = 2 * rows_lines (edges_of l.graph) (l.below + 1) 0 (rows_of (files_of l.graph) l.rows.items) + length l.rows.items

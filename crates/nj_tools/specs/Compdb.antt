@@ -1,0 +1,116 @@
+-- What `compdb` writes: a compilation database, which is a list of objects in JSON.
+use Rattle.std.specs.Prelude.{◌≡◌, ℕ, ◌<◌, Bool, true, false, ◌&&◌, ◌||◌, not, if◌then◌else◌, Option, Some, None, unwrap_or, List, [], ◌∷◌, ◌++◌}
+use Rattle.std.specs.Prelude.{map, find, take_while, flat_map, slice_get, codes, Result, Ok, Err}
+use Rattle.std.specs.Str.{is_utf8}
+use Rattle.serde_json.specs.Data.{string}
+use Rattle.serde_json.specs.Written.{compact_text}
+use Rattle.nj_scope.specs.ReadingList.{Entry}
+use Rattle.nj_edges.specs.Edges.{edge_at, inputs_of, outputs_of, is_among, edges_from}
+use Rattle.nj_build.specs.EdgeList.{EdgeText, edges_read, paths_of_edges}
+use Rattle.nj_graph.specs.Graph.{late_text_of, rule_name_of}
+use Rattle.nj_graph.specs.ResponseFiles.{command_with_rsp_of}
+use Rattle.nj_tools.specs.Lines.{line}
+use Rattle.nj_tools.specs.Sinks.{SinkState, Takes}
+use Rattle.nj_tools.specs.Texts.{StopsWithin}
+use Rattle.nj_tools.specs.declared.fault.ToolFault.{ToolFault}
+use Rattle.nj_tools.specs.declared.fault.ToolFault.TheVariants.{TextNotUtf8, Write, OutOfMemory}
+
+-- ---- which edges
+
+abbrev pub has_any : List (List ℕ) → Bool
+has_any [] = false
+has_any (path ∷ paths) = true
+
+-- no rule is named, or this one is; a name that is given twice counts once
+abbrev pub is_chosen : (rules : List (List ℕ)) → (rule : List ℕ) → Bool
+is_chosen rules rule = not (has_any rules) || is_among rules rule
+
+-- an edge has an object if it has a command and an input, and its rule is chosen
+abbrev pub has_object : List Entry → (rules : List (List ℕ)) → EdgeText → Bool
+has_object entries rules e = not e.paths.is_phony && has_any (inputs_of e.paths) && is_chosen rules (rule_name_of entries e)
+
+-- the edges that have one, by number
+unfoldable pub listed_edges : List Entry → (rules : List (List ℕ)) → List ℕ
+listed_edges entries rules = edges_from 0 (has_object entries rules) (edges_read entries)
+
+-- ---- what is told of an edge
+
+-- the command of an edge, and its first input and output of any kind
+pub record Compilation : Type 0 where
+  pub command : List ℕ
+  pub file : List ℕ
+  pub output : List ℕ
+
+-- the command, or what it is without its response file
+abbrev pub command_text : List Entry → (expand : Bool) → (edge : ℕ) → List ℕ
+command_text entries expand edge = if expand then command_with_rsp_of entries edge else late_text_of entries edge (codes "command")
+
+abbrev pub first_path : List (List ℕ) → List ℕ
+first_path paths = unwrap_or (slice_get paths 0) []
+
+abbrev pub compilation_of : List Entry → (expand : Bool) → (edge : ℕ) → Compilation
+compilation_of entries expand edge =
+    let e = edge_at (paths_of_edges (edges_read entries)) edge in
+    record {
+      command = command_text entries expand edge;
+      file = first_path (inputs_of e);
+      output = first_path (outputs_of e);
+    }
+
+-- JSON can hold it
+abbrev pub is_text : Compilation → Bool
+is_text c = is_utf8 c.command && is_utf8 c.file && is_utf8 c.output
+
+-- ---- the text
+
+-- a string in JSON
+abbrev pub json_string : List ℕ → List ℕ
+json_string text = compact_text (string text)
+
+-- the directory is a string in JSON
+unfoldable pub object_text : (directory : List ℕ) → Compilation → List ℕ
+object_text directory c =
+    line (codes "  {")
+    ++ line (codes "    \"directory\": " ++ directory ++ codes ",")
+    ++ line (codes "    \"command\": " ++ json_string c.command ++ codes ",")
+    ++ line (codes "    \"file\": " ++ json_string c.file ++ codes ",")
+    ++ line (codes "    \"output\": " ++ json_string c.output)
+    ++ codes "  }"
+
+-- objects in their order: each on a new line, with a comma before each but the first
+unfoldable pub objects_text : (directory : List ℕ) → List Compilation → List ℕ
+objects_text directory [] = []
+objects_text directory (c ∷ others) =
+    10 ∷ (object_text directory c ++ flat_map (λ other. 44 ∷ 10 ∷ object_text directory other) others)
+
+-- those of the edges before the first one that JSON cannot hold
+abbrev pub held_before : List Entry → (rules : List (List ℕ)) → (expand : Bool) → List Compilation
+held_before entries rules expand = take_while is_text (map (compilation_of entries expand) (listed_edges entries rules))
+
+-- that edge
+abbrev pub unheld_edge : List Entry → (rules : List (List ℕ)) → (expand : Bool) → Option ℕ
+unheld_edge entries rules expand = find (λ edge. not (is_text (compilation_of entries expand edge))) (listed_edges entries rules)
+
+-- the end of the list, which is not written if there is such an edge
+abbrev pub end_text : (unheld : Option ℕ) → List ℕ
+end_text None = 10 ∷ line (codes "]")
+end_text (Some edge) = []
+
+unfoldable pub compdb_text : List Entry → (directory : List ℕ) → (rules : List (List ℕ)) → (expand : Bool) → List ℕ
+compdb_text entries directory rules expand =
+    codes "[" ++ objects_text (json_string directory) (held_before entries rules expand) ++ end_text (unheld_edge entries rules expand)
+
+-- ---- what the tool does to its sink
+
+-- The sink took the whole text; or JSON cannot hold what is told of an edge, and the sink took all before that; or it failed
+-- within the text; or memory ran out after a beginning of it.
+abbrev pub WritesCompdb : (old new : SinkState) → (text : List ℕ) → (unheld : Option ℕ) → Result Unit ToolFault → Type 0
+WritesCompdb old new text unheld (Ok done) = (unheld ≡ None) × Takes old new text
+WritesCompdb old new text unheld (Err (TextNotUtf8 edge)) = (unheld ≡ Some edge.0) × Takes old new text
+WritesCompdb old new text unheld (Err fault) = StopsWithin old new text fault
+
+-- the edge of a fault is one of so many
+abbrev pub NamesEdge : (count : ℕ) → ToolFault → Type 0
+NamesEdge count (TextNotUtf8 edge) = edge.0 < count
+NamesEdge count Write = Unit {0}
+NamesEdge count OutOfMemory = Unit {0}

@@ -1,0 +1,26 @@
+-- How the objects of a compilation database are written one after another.
+use Rattle.std.specs.Prelude.{ℕ, if◌then◌else◌, Option, Some, None, List, ◌++◌, codes}
+use Rattle.std.specs.Str.{is_utf8}
+use Rattle.nj_tools.specs.Lines.{line}
+use Rattle.nj_tools.specs.Compdb.{Compilation, is_text, json_string}
+
+-- a text in JSON, if JSON can hold it
+abbrev pub held_string : (text : List ℕ) → Option (List ℕ)
+held_string text = if is_utf8 text then Some (json_string text) else None
+
+-- what is told of an edge, each text as a string in JSON
+abbrev pub in_json : Compilation → Compilation
+in_json c = record { command = json_string c.command; file = json_string c.file; output = json_string c.output }
+
+abbrev pub held_compilation : Compilation → Option Compilation
+held_compilation c = if is_text c then Some (in_json c) else None
+
+-- an object whose texts are strings in JSON already
+unfoldable pub object_of_strings : (directory : List ℕ) → Compilation → List ℕ
+object_of_strings directory c =
+    line (codes "  {")
+    ++ line (codes "    \"directory\": " ++ directory ++ codes ",")
+    ++ line (codes "    \"command\": " ++ c.command ++ codes ",")
+    ++ line (codes "    \"file\": " ++ c.file ++ codes ",")
+    ++ line (codes "    \"output\": " ++ c.output)
+    ++ codes "  }"

@@ -1,0 +1,117 @@
+-- What `inputs` and `targets` write.
+use Rattle.std.specs.Prelude.{◌↔◌, ℕ, zero, suc, ◌+◌, ◌==◌, not, if◌then◌else◌, Option, Some, None, is_none, List, [], ◌∷◌, ◌++◌}
+use Rattle.std.specs.Prelude.{map, filter, flat_map, length, bytes_eq, codes}
+use Rattle.std.specs.List.{Contains}
+use Rattle.std.specs.List.Sorted.{IsStrictlySortedBy}
+use Rattle.std.specs.Cmp.Lexicographic.{slice_cmp}
+use Rattle.std.specs.Ordering.{nat_cmp}
+use Rattle.nj_scope.specs.ReadingList.{Entry}
+use Rattle.nj_text.specs.Quotes.{quoted}
+use Rattle.nj_edges.specs.Edges.{EdgePaths, edge_at, inputs_of, outputs_of, maker_of, roots_of}
+use Rattle.nj_needs.specs.Graphs.{row_of_paths, makers_in, is_phony_in}
+use Rattle.nj_needs.specs.Order.{needed_commands}
+use Rattle.nj_build.specs.EdgeList.{edges_read, paths_of_edges}
+use Rattle.nj_graph.specs.Graph.{sorted_by, is_before, rule_name_of, rule_name_at}
+use Rattle.nj_tools.specs.Lines.{line, lines}
+use Rattle.nj_tools.specs.declared.view.TargetsView.{TargetsView}
+use Rattle.nj_tools.specs.declared.view.TargetsView.TheVariants.{OfRule, Sources, Depth, All}
+
+-- ---- lists of paths
+
+-- the list without its repeats: of each path the first is kept
+abbrev pub each_once : List (List ℕ) → List (List ℕ)
+each_once [] = []
+each_once (path ∷ paths) = path ∷ filter (λ other. not (bytes_eq other path)) (each_once paths)
+
+-- by their bytes
+abbrev pub sorted : List (List ℕ) → List (List ℕ)
+sorted texts = sorted_by is_before texts
+
+-- ---- `inputs`
+
+-- the inputs of the edges whose commands the targets need
+abbrev pub needed_inputs : List EdgePaths → (targets : List (List ℕ)) → List (List ℕ)
+needed_inputs edges targets =
+    flat_map (λ e. inputs_of (edge_at edges e))
+    (needed_commands (makers_in edges) (length edges) (is_phony_in edges) (row_of_paths edges targets))
+
+-- each of them once, as a shell is given it, by the bytes of that text
+unfoldable pub inputs_text : List EdgePaths → (targets : List (List ℕ)) → List ℕ
+inputs_text edges targets = lines (sorted (map quoted (each_once (needed_inputs edges targets))))
+
+-- ---- `targets`: lists
+
+-- the outputs of the edges whose rule has this name
+abbrev pub outputs_of_rule : List Entry → (rule : List ℕ) → List (List ℕ)
+outputs_of_rule entries rule =
+    flat_map (λ e. outputs_of e.paths) (filter (λ e. bytes_eq (rule_name_of entries e) rule) (edges_read entries))
+
+-- the inputs that no edge makes
+abbrev pub sources_in : List EdgePaths → List (List ℕ)
+sources_in edges = filter (λ path. is_none (maker_of edges path)) (flat_map inputs_of edges)
+
+-- each path once, by its bytes
+abbrev pub sorted_lines : List (List ℕ) → List ℕ
+sorted_lines paths = lines (sorted (each_once paths))
+
+-- `PATH: RULE`
+abbrev pub made_line : (path rule : List ℕ) → List ℕ
+made_line path rule = line (path ++ codes ": " ++ rule)
+
+-- all outputs, by edge and then by output
+unfoldable pub outputs_text : List Entry → List ℕ
+outputs_text entries = flat_map (λ e. flat_map (λ path. made_line path (rule_name_of entries e)) (outputs_of e.paths)) (edges_read entries)
+
+-- ---- `targets`: trees
+
+-- a file by the edge that makes it: `PATH: RULE`, or `PATH` for a source
+unfoldable pub file_line : List Entry → (maker : Option ℕ) → (path : List ℕ) → List ℕ
+file_line entries (Some edge) path = made_line path (rule_name_at entries edge)
+file_line entries None path = line path
+
+-- what a file is made of
+abbrev pub inputs_of_maker : List EdgePaths → (maker : Option ℕ) → List (List ℕ)
+inputs_of_maker edges (Some edge) = inputs_of (edge_at edges edge)
+inputs_of_maker edges None = []
+
+-- two spaces for each level above
+abbrev pub indent : (depth : ℕ) → List ℕ
+indent zero = []
+indent (suc depth) = codes "  " ++ indent depth
+
+-- A file at a depth, then what it is made of, one level deeper, and so on: so many levels of it.
+unfoldable pub tree_text : List Entry → (levels depth : ℕ) → (path : List ℕ) → List ℕ
+tree_text entries zero depth path = []
+tree_text entries (suc levels) depth path =
+    let edges = paths_of_edges (edges_read entries) in
+    indent depth ++ file_line entries (maker_of edges path) path
+    ++ flat_map (tree_text entries levels (depth + 1)) (inputs_of_maker edges (maker_of edges path))
+
+-- How many levels are asked for; 0 is all levels. Where no edge needs itself by a chain, a chain of files that are made of each
+-- other has a file for each edge and a source at most.
+abbrev pub levels_of : List EdgePaths → (depth : ℕ) → ℕ
+levels_of edges depth = if depth == 0 then length edges + 1 else depth
+
+-- the trees of the roots
+unfoldable pub trees_text : List Entry → (depth : ℕ) → List ℕ
+trees_text entries depth =
+    let edges = paths_of_edges (edges_read entries) in
+    flat_map (tree_text entries (levels_of edges depth) 0) (roots_of edges)
+
+-- ---- `targets`
+
+abbrev pub targets_text : List Entry → TargetsView → List ℕ
+targets_text entries (OfRule rule) = sorted_lines (outputs_of_rule entries rule)
+targets_text entries Sources = sorted_lines (sources_in (paths_of_edges (edges_read entries)))
+targets_text entries (Depth depth) = trees_text entries depth
+targets_text entries All = outputs_text entries
+
+-- ---- laws
+
+-- The lines of a list rise by their bytes, so that each stands once.
+abbrev pub LinesRise : Type 0
+LinesRise = (paths : List (List ℕ)) → IsStrictlySortedBy (slice_cmp nat_cmp) (sorted (each_once paths))
+
+-- A path has a line exactly when it is listed.
+abbrev pub ListedHaveLines : Type 0
+ListedHaveLines = (paths : List (List ℕ)) (path : List ℕ) → Contains (sorted (each_once paths)) path ↔ Contains paths path

@@ -1,0 +1,54 @@
+-- What `query` writes of a file: what it is made of, and what is made of it.
+use Rattle.std.specs.Prelude.{ℕ, Option, Some, None, List, [], ◌∷◌, ◌++◌, flat_map, codes}
+use Rattle.nj_scope.specs.ReadingList.{Entry}
+use Rattle.nj_edges.specs.Edges.{EdgePaths, edge_at, outputs_of, maker_of, users_of, validation_users_of}
+use Rattle.nj_build.specs.EdgeList.{edges_read, paths_of_edges}
+use Rattle.nj_graph.specs.Graph.{rule_name_at}
+use Rattle.nj_tools.specs.Lines.{line, lines_after}
+
+-- a title and a line for each path
+unfoldable pub section : (title : List ℕ) → (paths : List (List ℕ)) → List ℕ
+section title paths = line title ++ lines_after (codes "    ") paths
+
+-- the inputs of an edge by kind
+unfoldable pub inputs_by_kind : EdgePaths → List ℕ
+inputs_by_kind e =
+    lines_after (codes "    ") e.explicit_inputs
+    ++ lines_after (codes "    | ") e.implicit_inputs
+    ++ lines_after (codes "    || ") e.order_only_inputs
+
+-- only where there are any
+unfoldable pub validations_section : (paths : List (List ℕ)) → List ℕ
+validations_section [] = []
+validations_section (path ∷ paths) = section (codes "  validations:") (path ∷ paths)
+
+-- the edge that makes the file; a source has no such lines
+unfoldable pub maker_text : List Entry → List EdgePaths → (maker : Option ℕ) → List ℕ
+maker_text entries edges None = []
+maker_text entries edges (Some edge) =
+    line (codes "  input: " ++ rule_name_at entries edge)
+    ++ inputs_by_kind (edge_at edges edge) ++ validations_section (edge_at edges edge).validations
+
+-- the outputs of edges
+abbrev pub outputs_of_all : List EdgePaths → (numbers : List ℕ) → List (List ℕ)
+outputs_of_all edges numbers = flat_map (λ edge. outputs_of (edge_at edges edge)) numbers
+
+-- only where an edge names the file as a validation
+unfoldable pub validated_section : List EdgePaths → (users : List ℕ) → List ℕ
+validated_section edges [] = []
+validated_section edges (user ∷ users) = section (codes "  validation for:") (outputs_of_all edges (user ∷ users))
+
+unfoldable pub query_in : List Entry → List EdgePaths → (path : List ℕ) → List ℕ
+query_in entries edges path =
+    line (path ++ codes ":")
+    ++ maker_text entries edges (maker_of edges path)
+    ++ section (codes "  outputs:") (outputs_of_all edges (users_of edges path))
+    ++ validated_section edges (validation_users_of edges path)
+
+-- of one file
+abbrev pub file_query : List Entry → (path : List ℕ) → List ℕ
+file_query entries path = query_in entries (paths_of_edges (edges_read entries)) path
+
+-- of the files in their order; a file that is named twice stands twice
+abbrev pub query_text : List Entry → (paths : List (List ℕ)) → List ℕ
+query_text entries paths = flat_map (file_query entries) paths

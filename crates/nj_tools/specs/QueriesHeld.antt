@@ -1,0 +1,21 @@
+-- How inputs are written one after another.
+use Rattle.std.specs.Prelude.{ℕ, ◌+◌, List, [], ◌∷◌, ◌++◌, codes}
+use Rattle.nj_edges.specs.declared.edges.InputKind.{InputKind}
+use Rattle.nj_edges.specs.declared.edges.InputKind.TheVariants.{Explicit, Implicit, OrderOnly}
+use Rattle.nj_edges.specs.Edges.{EdgePaths, kind_at}
+use Rattle.nj_tools.specs.Lines.{line}
+
+-- what stands before an input of a kind
+abbrev pub sign_of : InputKind → List ℕ
+sign_of Explicit = codes "    "
+sign_of Implicit = codes "    | "
+sign_of OrderOnly = codes "    || "
+
+-- the line of the input at an index
+abbrev pub input_line : EdgePaths → (index : ℕ) → (path : List ℕ) → List ℕ
+input_line e index path = line (sign_of (kind_at e index) ++ path)
+
+-- the lines of the inputs from an index on
+abbrev pub input_lines : EdgePaths → (index : ℕ) → (paths : List (List ℕ)) → List ℕ
+input_lines e index [] = []
+input_lines e index (path ∷ paths) = input_line e index path ++ input_lines e (index + 1) paths

@@ -1,0 +1,44 @@
+-- How trees are written, row by row.
+use Rattle.std.specs.Prelude.{ℕ, zero, suc, ◌+◌, ◌-◌, List, [], ◌∷◌, ◌++◌, map, flat_map, length, sum_by, All, ◌<◌, nat_lt, if◌then◌else◌}
+use Rattle.std.specs.Borrow.{Bor}
+use Rattle.nj_scope.specs.ReadingList.{Entry}
+use Rattle.nj_edges.specs.Edges.{EdgePaths, maker_of}
+use Rattle.nj_edges.specs.Files.{path_at}
+use Rattle.nj_edges.specs.declared.files.FileNo.{FileNo}
+use Rattle.nj_tools.specs.Listings.{inputs_of_maker, tree_text}
+
+-- what is left of rows of files, of which the deepest stands last, where so many levels are written
+unfoldable pub rows_text : List Entry → (levels depth : ℕ) → (rows : List (List (List ℕ))) → List ℕ
+rows_text entries levels depth [] = []
+rows_text entries levels depth (row ∷ deeper) =
+    rows_text entries levels (depth + 1) deeper ++ flat_map (tree_text entries (levels - depth) depth) row
+
+-- the rows after a file was written: what is left of its row, and above the last level what it is made of
+abbrev pub rows_after : List EdgePaths → (levels : ℕ) → (rows : List (List (List ℕ))) → (path : List ℕ) → (others : List (List ℕ))
+    → List (List (List ℕ))
+rows_after edges levels rows path others =
+    if nat_lt (length rows + 1) levels then (rows ++ others ∷ []) ++ inputs_of_maker edges (maker_of edges path) ∷ []
+    else rows ++ others ∷ []
+
+-- ---- how they are held
+
+-- rows of files by their paths
+abbrev pub rows_of : (files : List (List ℕ)) → (rows : List (Bor (List FileNo))) → List (List (List ℕ))
+rows_of files rows = map (λ row. map (path_at files) row.now) rows
+
+-- all of them are numbers of files
+abbrev pub AreKnown : (files : List (List ℕ)) → (rows : List (Bor (List FileNo))) → Type 0
+AreKnown files rows = All (λ row. All (λ file. file.0 < length files) row.now) rows
+
+-- ---- how long it takes
+
+-- how many lines a tree has
+unfoldable pub tree_lines : List EdgePaths → (levels : ℕ) → (path : List ℕ) → ℕ
+tree_lines edges zero path = 0
+tree_lines edges (suc levels) path = 1 + sum_by (tree_lines edges levels) (inputs_of_maker edges (maker_of edges path))
+
+-- how many lines are left of such rows
+unfoldable pub rows_lines : List EdgePaths → (levels depth : ℕ) → (rows : List (List (List ℕ))) → ℕ
+rows_lines edges levels depth [] = 0
+rows_lines edges levels depth (row ∷ deeper) =
+    rows_lines edges levels (depth + 1) deeper + sum_by (tree_lines edges (levels - depth)) row

@@ -1,0 +1,246 @@
+//! Compilation databases.
+
+ghost use Rattle.std.specs.Prelude.{◌≡◌, ◌<◌, ◌++◌, ℕ, List, All, Some, length, map, option_map, slice_get, string_bytes, IfErr, IfOk, IfSome, OnOk};
+ghost use Rattle.nj_scope.specs.ReadingList.{Entry};
+ghost use Rattle.nj_edges.specs.Files.{AreFiles};
+ghost use Rattle.nj_build.specs.EdgeList.{edges_read};
+ghost use Rattle.nj_graph.specs.Graph.{edges_of, files_of, IsGraphOf};
+ghost use Rattle.nj_tools.specs.Blocks.{PutsText};
+ghost use Rattle.nj_tools.specs.Compdb.{
+  has_object,
+  command_text,
+  compilation_of,
+  first_path,
+  objects_text,
+  held_before,
+  compdb_text,
+  unheld_edge,
+  NamesEdge,
+  WritesCompdb,
+};
+ghost use Rattle.nj_tools.specs.CompdbHeld.{held_compilation, object_of_strings};
+
+use crate::block::write_block;
+use crate::chosen::ChosenRules;
+use crate::fault::ToolFault;
+use crate::json::{held_string, json_string};
+use crate::sinks::Sink;
+use crate::whole::write_whole;
+use nj_graph::{EdgeNo, FileNo, Graph};
+use std::alloc::{AllocError, Global};
+use std::marker::Model;
+
+/// Writes a compilation database: a list in JSON with an object for each edge that has a command
+/// and an input and whose rule is named, or for all of them where no rule is named. With `expand`
+/// a command is written as it is without its response file ("Extra tools" in the Ninja manual,
+/// `compdb`).
+///
+/// # Errors
+///
+/// `TextNotUtf8` if the command, the first input or the first output of an edge is not UTF-8: the
+/// sink took the objects before it, without the end of the list. `Write` if the sink failed, and
+/// `OutOfMemory` if an allocation failed; the sink took a beginning of the text then.
+pub fn write_compdb<S: Sink>(
+    alloc: Global,
+    graph: &Graph,
+    directory: &str,
+    rules: &[String],
+    expand: bool,
+    out: &mut S,
+) -> Result<(), ToolFault>
+    ensures writes { (entries : List Entry) → IsGraphOf graph.now entries
+        → WritesCompdb (S.state out.old) (S.state out.new)
+        (compdb_text entries directory.now (map string_bytes rules.now) expand)
+        (unheld_edge entries (map string_bytes rules.now) expand) result }
+    ensures known { IfErr result (NamesEdge (length (edges_of graph.now))) }
+{
+    let chosen = ChosenRules::new(alloc, rules)?;
+    let directory = json_string(alloc, directory)?;
+    let mut text = Vec::from_slice(alloc, b"[")?;
+    match write_objects(alloc, graph, &chosen, &directory, expand, &mut text, out)? {
+        Some(edge) => {
+            write_whole(out, &text)?;
+            Err(ToolFault::TextNotUtf8(edge))
+        }
+        None => {
+            text.extend_from_slice(b"\n]\n")?;
+            write_whole(out, &text)?;
+            Ok(())
+        }
+    }
+}
+
+// Writes the objects of edges. Returns the first edge that JSON cannot hold, before which it stops;
+// `None` if there is none.
+fn write_objects<S: Sink>(
+    alloc: Global,
+    graph: &Graph,
+    chosen: &ChosenRules<'_>,
+    directory: &[u8],
+    expand: bool,
+    text: &mut Vec<u8>,
+    out: &mut S,
+) -> Result<Option<EdgeNo>, ToolFault>
+    ensures text { (entries : List Entry) → IsGraphOf graph.now entries
+        → PutsText (S.state out.old) (S.state out.new) text.old.items text.new.items
+        (objects_text directory.now (held_before entries chosen.now expand)) result }
+    ensures unheld { (entries : List Entry) → IsGraphOf graph.now entries
+        → IfOk result (λ edge. option_map (λ edge. edge.0) edge
+        ≡ unheld_edge entries chosen.now expand) }
+    ensures known { IfOk result (λ edge.
+        IfSome edge (λ edge. edge.0 < length (edges_of graph.now))) }
+    ensures faults { IfErr result (NamesEdge (length (edges_of graph.now))) }
+{
+    let mut separator = b"\n".as_slice();
+    'edges: for number in 0..graph.edge_count() {
+        let edge = EdgeNo(number);
+        if has_object(graph, edge, chosen) {
+            let Some(strings) = strings_of(alloc, graph, edge, expand)? else {
+                return Ok(Some(edge));
+            };
+            write_object(out, text, separator, directory, &strings)?;
+            separator = b",\n";
+        }
+    }
+    Ok(None)
+}
+
+// Whether an edge has an object: it has a command and an input, and its rule is chosen.
+fn has_object(graph: &Graph, edge: EdgeNo, chosen: &ChosenRules<'_>) -> bool
+    requires { edge.0 < length (edges_of graph.now) }
+    ensures { (entries : List Entry) → IsGraphOf graph.now entries
+        → Some result ≡ option_map (has_object entries chosen.now)
+        (slice_get (edges_read entries) edge.0) }
+{
+    !graph.is_phony(edge)
+        && !graph.inputs(edge).is_empty()
+        && chosen.includes(graph.rule_name(edge))
+}
+
+// What is told of an edge, as strings in JSON.
+#[derive(Drop)]
+struct Strings {
+    command: Vec<u8>,
+    file: Vec<u8>,
+    output: Vec<u8>,
+}
+
+impl Model for Strings {
+    ghost use Rattle.nj_tools.specs.Compdb.{Compilation};
+
+    ghost Value = { Compilation };
+
+    ghost view = { λ s. record {
+      command = s.command.items;
+      file = s.file.items;
+      output = s.output.items;
+    } };
+}
+
+// The command of an edge, and its first input and output; `None` if one of them is not UTF-8.
+fn strings_of(
+    alloc: Global,
+    graph: &Graph,
+    edge: EdgeNo,
+    expand: bool,
+) -> Result<Option<Strings>, AllocError>
+    requires { edge.0 < length (edges_of graph.now) }
+    ensures { (entries : List Entry) → IsGraphOf graph.now entries → IfOk result (λ strings.
+        strings ≡ held_compilation (compilation_of entries expand edge.0)) }
+{
+    let command = command_text(alloc, graph, edge, expand)?;
+    let Some(command) = held_string(alloc, &command)? else {
+        return Ok(None);
+    };
+    let Some(file) = held_string(alloc, first_path(graph, graph.inputs(edge)))? else {
+        return Ok(None);
+    };
+    let Some(output) = held_string(alloc, first_path(graph, graph.outputs(edge)))? else {
+        return Ok(None);
+    };
+    Ok(Some(Strings {
+        command,
+        file,
+        output,
+    }))
+}
+
+// The command of an edge, or what it is without its response file.
+fn command_text(
+    alloc: Global,
+    graph: &Graph,
+    edge: EdgeNo,
+    expand: bool,
+) -> Result<Vec<u8>, AllocError>
+    requires { edge.0 < length (edges_of graph.now) }
+    ensures { (entries : List Entry) → IsGraphOf graph.now entries
+        → IfOk result (λ text. text.items ≡ command_text entries expand edge.0) }
+{
+    if expand {
+        graph.command_with_rsp(alloc, edge)
+    } else {
+        graph.command(alloc, edge)
+    }
+}
+
+// The path of the first of these files; empty if there is none.
+fn first_path<'g>(graph: &'g Graph, files: &[FileNo]) -> &'g [u8]
+    requires { All (λ file. file.0 < length (files_of graph.now)) files.now }
+    ensures { (paths : List (List ℕ)) → AreFiles (files_of graph.now) files.now paths
+        → result.now ≡ first_path paths }
+{
+    match files.first() {
+        Some(file) => graph.path(*file),
+        None => b"",
+    }
+}
+
+// Writes an object after the one before.
+fn write_object<S: Sink>(
+    out: &mut S,
+    text: &mut Vec<u8>,
+    separator: &[u8],
+    directory: &[u8],
+    strings: &Strings,
+) -> Result<(), ToolFault>
+    ensures { PutsText (S.state out.old) (S.state out.new) text.old.items text.new.items
+        (separator.now ++ object_of_strings directory.now strings.now) result }
+{
+    append_object(text, separator, directory, strings)?;
+    write_block(out, text)?;
+    Ok(())
+}
+
+// Appends an object after the one before.
+fn append_object(
+    text: &mut Vec<u8>,
+    separator: &[u8],
+    directory: &[u8],
+    strings: &Strings,
+) -> Result<(), AllocError>
+    ensures { OnOk result (text.new.items
+        ≡ text.old.items ++ (separator.now ++ object_of_strings directory.now strings.now)) }
+{
+    text.extend_from_slice(separator)?;
+    text.extend_from_slice(b"  {\n")?;
+    append_member(text, b"    \"directory\": ", directory, b",\n")?;
+    append_member(text, b"    \"command\": ", &strings.command, b",\n")?;
+    append_member(text, b"    \"file\": ", &strings.file, b",\n")?;
+    append_member(text, b"    \"output\": ", &strings.output, b"\n")?;
+    text.extend_from_slice(b"  }")
+}
+
+// Appends a name, its string, and what stands after it.
+fn append_member(
+    text: &mut Vec<u8>,
+    name: &[u8],
+    string: &[u8],
+    after: &[u8],
+) -> Result<(), AllocError>
+    ensures { OnOk result (text.new.items
+        ≡ text.old.items ++ (name.now ++ string.now ++ after.now)) }
+{
+    text.extend_from_slice(name)?;
+    text.extend_from_slice(string)?;
+    text.extend_from_slice(after)
+}

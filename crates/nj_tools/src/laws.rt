@@ -1,0 +1,17 @@
+//! Laws of what the tools write. A law is a theorem, stated as a function with an empty body.
+
+ghost use Rattle.nj_tools.specs.Laws.{DepthZeroShowsAll};
+ghost use Rattle.nj_tools.specs.Listings.{LinesRise, ListedHaveLines};
+
+/// Depth 0 shows each tree whole: where no edge needs itself by a chain, it is the same with more
+/// levels.
+pub fn depth_law()
+    ensures { DepthZeroShowsAll }
+{}
+
+/// The lines of `targets rule` rise by their bytes, so that each path has one line; and the paths
+/// that have a line are those that are listed.
+pub fn list_law()
+    ensures rise { LinesRise }
+    ensures listed { ListedHaveLines }
+{}

@@ -1,0 +1,128 @@
+//! Trees of what targets are made of.
+
+ghost use Rattle.std.specs.Prelude.{◌≡◌, ◌<◌, ◌+◌, ◌++◌, List, [], ◌∷◌, All, length, map, OnOk};
+ghost use Rattle.nj_scope.specs.ReadingList.{Entry};
+ghost use Rattle.nj_edges.specs.Edges.{maker_of};
+ghost use Rattle.nj_edges.specs.Files.{path_at};
+ghost use Rattle.nj_graph.specs.Graph.{edges_of, files_of, IsGraphOf};
+ghost use Rattle.nj_tools.specs.Blocks.{PutsText};
+ghost use Rattle.nj_tools.specs.Listings.{
+  file_line,
+  indent,
+  inputs_of_maker,
+  levels_of,
+  trees_text,
+};
+ghost use Rattle.nj_tools.specs.Trees.{rows_of, AreKnown, rows_after};
+
+use crate::fault::ToolFault;
+use crate::lines::write_line;
+use crate::sinks::Sink;
+use nj_graph::{FileNo, Graph};
+use std::alloc::{AllocError, Global};
+
+/// Writes the trees of the roots: each file, then what it is made of, one level deeper, and so on,
+/// so many levels of it; 0 is all levels.
+pub(crate) fn write_trees<S: Sink>(
+    alloc: Global,
+    graph: &Graph,
+    depth: u32,
+    text: &mut Vec<u8>,
+    out: &mut S,
+) -> Result<(), ToolFault>
+    ensures { (entries : List Entry) → IsGraphOf graph.now entries
+        → PutsText (S.state out.old) (S.state out.new) text.old.items text.new.items
+        (trees_text entries depth) result }
+{
+    let below = levels_below(graph, depth);
+    // What is left of each row of files: the roots at the bottom, the deepest row on top.
+    let mut rows = Vec::new(alloc);
+    rows.push(graph.roots())?;
+    'files: while let Some(row) = rows.pop() {
+        let [file, others @ ..] = row else {
+            continue;
+        };
+        write_at_depth(graph, rows.len(), *file, text, out)?;
+        push_rows(graph, below, *file, others, &mut rows)?;
+    }
+    Ok(())
+}
+
+// How many of the levels that are asked for stand below the roots.
+fn levels_below(graph: &Graph, depth: u32) -> usize
+    ensures { result + 1 ≡ levels_of (edges_of graph.now) depth }
+{
+    match depth {
+        0 => graph.edge_count(),
+        _ => depth as usize - 1,
+    }
+}
+
+// Puts what is left of the row of a file back, and above the last level what it is made of on top.
+fn push_rows<'a>(
+    graph: &'a Graph,
+    below: usize,
+    file: FileNo,
+    others: &'a [FileNo],
+    rows: &mut Vec<&'a [FileNo]>,
+) -> Result<(), AllocError>
+    requires { file.0 < length (files_of graph.now) }
+    ensures rows { OnOk result (rows_of (files_of graph.now) rows.new.items
+        ≡ rows_after (edges_of graph.now) (below + 1) (rows_of (files_of graph.now) rows.old.items)
+        (path_at (files_of graph.now) file) (map (path_at (files_of graph.now)) others.now)) }
+    ensures known { AreKnown (files_of graph.now) rows.old.items
+        → AreKnown (files_of graph.now) (others.entry ∷ [])
+        → OnOk result (AreKnown (files_of graph.now) rows.new.items) }
+{
+    rows.push(others)?;
+    if rows.len() <= below {
+        rows.push(inputs_of_maker(graph, file))?;
+    }
+    Ok(())
+}
+
+// What a file is made of.
+fn inputs_of_maker(graph: &Graph, file: FileNo) -> &[FileNo]
+    requires { file.0 < length (files_of graph.now) }
+    ensures paths { map (path_at (files_of graph.now)) result.now
+        ≡ inputs_of_maker (edges_of graph.now)
+        (maker_of (edges_of graph.now) (path_at (files_of graph.now) file)) }
+    ensures known { All (λ file. file.0 < length (files_of graph.now)) result.now }
+{
+    match graph.maker(file) {
+        Some(edge) => graph.inputs(edge),
+        None => &[],
+    }
+}
+
+// Writes a file at a depth, with the rule of the edge that makes it.
+fn write_at_depth<S: Sink>(
+    graph: &Graph,
+    depth: usize,
+    file: FileNo,
+    text: &mut Vec<u8>,
+    out: &mut S,
+) -> Result<(), ToolFault>
+    requires { file.0 < length (files_of graph.now) }
+    ensures { (entries : List Entry) → IsGraphOf graph.now entries
+        → PutsText (S.state out.old) (S.state out.new) text.old.items text.new.items
+        (indent depth ++ file_line entries
+        (maker_of (edges_of graph.now) (path_at (files_of graph.now) file))
+        (path_at (files_of graph.now) file)) result }
+{
+    append_indent(text, depth)?;
+    match graph.maker(file) {
+        Some(edge) => write_line(out, text, graph.path(file), b": ", graph.rule_name(edge)),
+        None => write_line(out, text, graph.path(file), b"", b""),
+    }
+}
+
+// Appends two spaces for each level above.
+fn append_indent(text: &mut Vec<u8>, depth: usize) -> Result<(), AllocError>
+    ensures { OnOk result (text.new.items ≡ text.old.items ++ indent depth) }
+{
+    'levels: for _ in 0..depth {
+        text.extend_from_slice(b"  ")?;
+    }
+    Ok(())
+}
