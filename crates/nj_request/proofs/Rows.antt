@@ -5,10 +5,11 @@ use Rattle.clap.proofs.OnLiterals.{clap_on_literals}
 use Rattle.nj_marks.specs.Marks.{said_mark}
 use Rattle.nj_request.specs.CommandLine.{command}
 use Rattle.nj_request.specs.FaultLines.{fault_line}
-use Rattle.nj_request.specs.Requests.{ActionText, RequestText, commands, request_of, single_commands}
+use Rattle.nj_request.specs.Requests.{ActionText, RequestText, commands, compdb, inputs, query, request_of, rules, single_commands, targets}
 use Rattle.nj_request.specs.declared.faults.UsageFault.{UsageFault}
-use Rattle.nj_request.specs.declared.faults.UsageFault.TheVariants.{Unparsed, UnknownTool, ForeignOption, BadNumber, BadMark}
-use Rattle.nj_request.specs.declared.faults.ToolOption.TheVariants.{Take, Resume}
+use Rattle.nj_request.specs.declared.faults.UsageFault.TheVariants.{Unparsed, UnknownTool, ForeignOption, BadNumber, BadMark, WrongWords}
+use Rattle.nj_request.specs.declared.faults.ToolOption.TheVariants.{Single, Descriptions, Expand, Directory, Take, Resume}
+use Rattle.nj_tools.specs.declared.view.TargetsView.TheVariants.{OfRule, Sources, Depth, All}
 
 abbrev asks : ActionText → Result RequestText UsageFault
 asks action = Ok (record { file = codes "build.ninja"; from_stdin = false; action = action })
@@ -89,6 +90,78 @@ bundle_row : request_of (codes "-st" ∷ codes "commands" ∷ []) ≡ asks (sing
 unfolding request_of command clap_on_literals
 bundle_row = refl
 
+-- ---- the other tools
+
+inputs_row : request_of (codes "-t" ∷ codes "inputs" ∷ codes "a" ∷ codes "b" ∷ []) ≡ asks (inputs (codes "a" ∷ codes "b" ∷ []))
+unfolding request_of command clap_on_literals
+inputs_row = refl
+
+no_inputs_row : request_of (codes "-t" ∷ codes "inputs" ∷ []) ≡ asks (inputs [])
+unfolding request_of command clap_on_literals
+no_inputs_row = refl
+
+query_row : request_of (codes "-t" ∷ codes "query" ∷ codes "a^" ∷ []) ≡ asks (query (codes "a^" ∷ []))
+unfolding request_of command clap_on_literals
+query_row = refl
+
+rules_row : request_of (codes "-t" ∷ codes "rules" ∷ []) ≡ asks (rules false)
+unfolding request_of command clap_on_literals
+rules_row = refl
+
+descriptions_row : request_of (codes "-t" ∷ codes "rules" ∷ codes "-d" ∷ []) ≡ asks (rules true)
+unfolding request_of command clap_on_literals
+descriptions_row = refl
+
+compdb_row : request_of (codes "-t" ∷ codes "compdb" ∷ []) ≡ asks (compdb [] (codes ".") false)
+unfolding request_of command clap_on_literals
+compdb_row = refl
+
+compdb_rules_row : request_of (codes "-t" ∷ codes "compdb" ∷ codes "-x" ∷ codes "--directory" ∷ codes "/w" ∷ codes "cc" ∷ []) ≡ asks (compdb (codes "cc" ∷ []) (codes "/w") true)
+unfolding request_of command clap_on_literals
+compdb_rules_row = refl
+
+empty_directory_row : request_of (codes "-t" ∷ codes "compdb" ∷ codes "--directory=" ∷ []) ≡ asks (compdb [] [] false)
+unfolding request_of command clap_on_literals
+empty_directory_row = refl
+
+-- ---- the views of `targets`
+
+roots_row : request_of (codes "-t" ∷ codes "targets" ∷ []) ≡ asks (targets (Depth 1))
+unfolding request_of command clap_on_literals
+roots_row = refl
+
+depth_row : request_of (codes "-t" ∷ codes "targets" ∷ codes "depth" ∷ []) ≡ asks (targets (Depth 1))
+unfolding request_of command clap_on_literals
+depth_row = refl
+
+all_levels_row : request_of (codes "-t" ∷ codes "targets" ∷ codes "depth" ∷ codes "0" ∷ []) ≡ asks (targets (Depth 0))
+unfolding request_of command clap_on_literals
+all_levels_row = refl
+
+depth_zeros_row : request_of (codes "-t" ∷ codes "targets" ∷ codes "depth" ∷ codes "007" ∷ []) ≡ asks (targets (Depth 7))
+unfolding request_of command clap_on_literals
+depth_zeros_row = refl
+
+greatest_depth_row : request_of (codes "-t" ∷ codes "targets" ∷ codes "depth" ∷ codes "2147483647" ∷ []) ≡ asks (targets (Depth 2147483647))
+unfolding request_of command clap_on_literals
+greatest_depth_row = refl
+
+all_row : request_of (codes "-t" ∷ codes "targets" ∷ codes "all" ∷ []) ≡ asks (targets All)
+unfolding request_of command clap_on_literals
+all_row = refl
+
+sources_row : request_of (codes "-t" ∷ codes "targets" ∷ codes "rule" ∷ []) ≡ asks (targets Sources)
+unfolding request_of command clap_on_literals
+sources_row = refl
+
+rule_row : request_of (codes "-t" ∷ codes "targets" ∷ codes "rule" ∷ codes "cc" ∷ []) ≡ asks (targets (OfRule (codes "cc")))
+unfolding request_of command clap_on_literals
+rule_row = refl
+
+empty_rule_row : request_of (codes "-t" ∷ codes "targets" ∷ codes "rule" ∷ [] ∷ []) ≡ asks (targets (OfRule []))
+unfolding request_of command clap_on_literals
+empty_rule_row = refl
+
 -- ---- faults
 
 number_row : request_of (codes "-t" ∷ codes "commands" ∷ codes "--take" ∷ codes "x" ∷ []) ≡ Err (BadNumber (codes "x"))
@@ -156,6 +229,68 @@ take_named_first_row : request_of (codes "-t" ∷ codes "commands" ∷ codes "--
 unfolding request_of command clap_on_literals said_mark
 take_named_first_row = refl
 
+single_rules_row : request_of (codes "-t" ∷ codes "rules" ∷ codes "-s" ∷ []) ≡ Err (ForeignOption Single (codes "rules"))
+unfolding request_of command clap_on_literals
+single_rules_row = refl
+
+descriptions_compdb_row : request_of (codes "-t" ∷ codes "compdb" ∷ codes "-d" ∷ []) ≡ Err (ForeignOption Descriptions (codes "compdb"))
+unfolding request_of command clap_on_literals
+descriptions_compdb_row = refl
+
+directory_commands_row : request_of (codes "-t" ∷ codes "commands" ∷ codes "--directory=" ∷ []) ≡ Err (ForeignOption Directory (codes "commands"))
+unfolding request_of command clap_on_literals
+directory_commands_row = refl
+
+expand_named_first_row : request_of (codes "-t" ∷ codes "rules" ∷ codes "--take" ∷ codes "1" ∷ codes "-x" ∷ []) ≡ Err (ForeignOption Expand (codes "rules"))
+unfolding request_of command clap_on_literals
+expand_named_first_row = refl
+
+foreign_before_words_row : request_of (codes "-t" ∷ codes "query" ∷ codes "-d" ∷ []) ≡ Err (ForeignOption Descriptions (codes "query"))
+unfolding request_of command clap_on_literals
+foreign_before_words_row = refl
+
+foreign_before_number_row : request_of (codes "-t" ∷ codes "inputs" ∷ codes "--take" ∷ codes "x" ∷ []) ≡ Err (ForeignOption Take (codes "inputs"))
+unfolding request_of command clap_on_literals
+foreign_before_number_row = refl
+
+foreign_with_target_row : request_of (codes "-t" ∷ codes "commands" ∷ codes "-s" ∷ codes "--take" ∷ codes "1" ∷ codes "d" ∷ []) ≡ Err (ForeignOption Take (codes "commands"))
+unfolding request_of command clap_on_literals
+foreign_with_target_row = refl
+
+-- ---- wrong words
+
+no_file_row : request_of (codes "-t" ∷ codes "query" ∷ []) ≡ Err (WrongWords (codes "query"))
+unfolding request_of command clap_on_literals
+no_file_row = refl
+
+rules_word_row : request_of (codes "-t" ∷ codes "rules" ∷ codes "x" ∷ []) ≡ Err (WrongWords (codes "rules"))
+unfolding request_of command clap_on_literals
+rules_word_row = refl
+
+view_row : request_of (codes "-t" ∷ codes "targets" ∷ codes "x" ∷ []) ≡ Err (WrongWords (codes "targets"))
+unfolding request_of command clap_on_literals
+view_row = refl
+
+empty_view_row : request_of (codes "-t" ∷ codes "targets" ∷ [] ∷ []) ≡ Err (WrongWords (codes "targets"))
+unfolding request_of command clap_on_literals
+empty_view_row = refl
+
+all_word_row : request_of (codes "-t" ∷ codes "targets" ∷ codes "all" ∷ codes "x" ∷ []) ≡ Err (WrongWords (codes "targets"))
+unfolding request_of command clap_on_literals
+all_word_row = refl
+
+depth_words_row : request_of (codes "-t" ∷ codes "targets" ∷ codes "depth" ∷ codes "1" ∷ codes "2" ∷ []) ≡ Err (WrongWords (codes "targets"))
+unfolding request_of command clap_on_literals
+depth_words_row = refl
+
+depth_number_row : request_of (codes "-t" ∷ codes "targets" ∷ codes "depth" ∷ codes "x" ∷ []) ≡ Err (BadNumber (codes "x"))
+unfolding request_of command clap_on_literals
+depth_number_row = refl
+
+depth_too_great_row : request_of (codes "-t" ∷ codes "targets" ∷ codes "depth" ∷ codes "2147483648" ∷ []) ≡ Err (BadNumber (codes "2147483648"))
+unfolding request_of command clap_on_literals
+depth_too_great_row = refl
+
 -- ---- words that are refused
 
 no_value_row : request_of (codes "-f" ∷ []) ≡ Err Unparsed
@@ -165,6 +300,10 @@ no_value_row = refl
 no_tool_row : request_of (codes "d" ∷ []) ≡ Err Unparsed
 unfolding request_of command clap_on_literals
 no_tool_row = refl
+
+no_tool_named_row : request_of (codes "-f" ∷ codes "build.ninja" ∷ []) ≡ Err Unparsed
+unfolding request_of command clap_on_literals
+no_tool_named_row = refl
 
 no_tool_after_file_row : request_of (codes "-ft" ∷ codes "commands" ∷ []) ≡ Err Unparsed
 unfolding request_of command clap_on_literals
@@ -233,3 +372,12 @@ number_line = refl
 
 mark_line : fault_line (BadMark (codes "00")) ≡ codes "ninja-explain: bad mark '00'\n"
 mark_line = refl
+
+single_line : fault_line (ForeignOption Single (codes "rules")) ≡ codes "ninja-explain: option -s does not go with tool 'rules'\n"
+single_line = refl
+
+expand_line : fault_line (ForeignOption Expand (codes "rules")) ≡ codes "ninja-explain: option -x does not go with tool 'rules'\n"
+expand_line = refl
+
+words_line : fault_line (WrongWords (codes "query")) ≡ codes "ninja-explain: wrong words for tool 'query'\n"
+words_line = refl

@@ -31,7 +31,9 @@ nothing_yet = record { top = record (new_shape (codes "ninja-explain")) { no_bin
 abbrev pub arguments : List Rule
 arguments = short_option (codes "tool") 116 ∷ short_option (codes "file") 102
     ∷ long_option (codes "take") ∷ long_option (codes "resume")
-    ∷ short_flag (codes "single") 115 ∷ long_flag (codes "stdin") ∷ all_words ∷ []
+    ∷ short_flag (codes "single") 115 ∷ long_flag (codes "stdin")
+    ∷ short_flag (codes "descriptions") 100 ∷ short_flag (codes "expand") 120 ∷ long_option (codes "directory")
+    ∷ all_words ∷ []
 
 unfoldable pub command : App
 command = record nothing_yet { top = record nothing_yet.top { rules = arguments } }

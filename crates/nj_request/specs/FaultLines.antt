@@ -6,6 +6,10 @@ use Rattle.nj_request.specs.declared.faults.UsageFault.{UsageFault}
 use Rattle.nj_request.specs.declared.faults.UsageFault.TheVariants as fault
 
 abbrev pub option_text : ToolOption → List ℕ
+option_text option.Single = codes "-s"
+option_text option.Descriptions = codes "-d"
+option_text option.Expand = codes "-x"
+option_text option.Directory = codes "--directory"
 option_text option.Take = codes "--take"
 option_text option.Resume = codes "--resume"
 
@@ -19,6 +23,7 @@ fault_text (fault.UnknownTool tool) = quoting (codes "unknown tool ") tool
 fault_text (fault.ForeignOption option tool) = quoting (codes "option " ++ option_text option ++ codes " does not go with tool ") tool
 fault_text (fault.BadNumber text) = quoting (codes "not a number: ") text
 fault_text (fault.BadMark text) = quoting (codes "bad mark ") text
+fault_text (fault.WrongWords tool) = quoting (codes "wrong words for tool ") tool
 fault_text fault.OutOfMemory = codes "out of memory"
 
 -- `ninja-explain: TEXT`, and its line end

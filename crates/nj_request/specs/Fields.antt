@@ -12,7 +12,10 @@ pub record FieldTexts : Type 0 where
   pub file : Option (List ℕ)
   pub take : Option (List ℕ)
   pub resume : Option (List ℕ)
+  pub directory : Option (List ℕ)
   pub is_single : Bool
+  pub descriptions : Bool
+  pub expand : Bool
   pub from_stdin : Bool
   pub words : List (List ℕ)
 
@@ -30,7 +33,10 @@ fields_in rows = record {
   file = first_of (codes "file") rows;
   take = first_of (codes "take") rows;
   resume = first_of (codes "resume") rows;
+  directory = first_of (codes "directory") rows;
   is_single = is_on (codes "single") rows;
+  descriptions = is_on (codes "descriptions") rows;
+  expand = is_on (codes "expand") rows;
   from_stdin = is_on (codes "stdin") rows;
   words = words_in rows;
 }

@@ -18,7 +18,10 @@ field_texts fields = record {
   file = option_copied fields.file;
   take = option_copied fields.take;
   resume = option_copied fields.resume;
+  directory = option_copied fields.directory;
   is_single = fields.is_single;
+  descriptions = fields.descriptions;
+  expand = fields.expand;
   from_stdin = fields.from_stdin;
   words = word_texts fields.words;
 }

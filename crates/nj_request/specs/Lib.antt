@@ -4,3 +4,4 @@ pub mod Fields
 pub mod Held
 pub mod Numbers
 pub mod Requests
+pub mod Tools

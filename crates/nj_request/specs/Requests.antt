@@ -1,22 +1,31 @@
 -- What the words of a command line ask for.
-use Rattle.std.specs.Prelude.{⊤, ℕ, Bool, true, if◌then◌else◌, List, [], ◌∷◌, map, codes, string_bytes}
+use Rattle.std.specs.Prelude.{ℕ, Bool, true, if◌then◌else◌, List, [], ◌∷◌, map, codes, string_bytes}
 use Rattle.std.specs.Prelude.{Option, Some, None, option_map, unwrap_or, ok_or, Result, Ok, Err}
+use Rattle.std.specs.Option.{option_map_or}
 use Rattle.std.specs.Str.{bytes_eq}
 use Rattle.nj_marks.specs.Marks.{said_mark}
+use Rattle.nj_tools.specs.declared.view.TargetsView.{TargetsView}
+use Rattle.nj_tools.specs.declared.view.TargetsView.TheVariants.{OfRule, Sources, Depth, All}
 use Rattle.nj_request.specs.Fields.{FieldTexts, fields_of}
-use Rattle.nj_request.specs.Numbers.{said_number}
-use Rattle.nj_request.specs.declared.faults.ToolOption.{ToolOption}
-use Rattle.nj_request.specs.declared.faults.ToolOption.TheVariants.{Take, Resume}
+use Rattle.nj_request.specs.Numbers.{said_number, said_depth}
+use Rattle.nj_request.specs.Tools.{tool_named, first_foreign}
 use Rattle.nj_request.specs.declared.faults.UsageFault.{UsageFault}
-use Rattle.nj_request.specs.declared.faults.UsageFault.TheVariants.{Unparsed, UnknownTool, ForeignOption, BadNumber, BadMark}
+use Rattle.nj_request.specs.declared.faults.UsageFault.TheVariants.{Unparsed, UnknownTool, ForeignOption, BadNumber, BadMark, WrongWords}
 use Rattle.nj_request.specs.declared.requests.Action.{Action}
-use Rattle.nj_request.specs.declared.requests.Action.TheVariants.{Commands, SingleCommands}
+use Rattle.nj_request.specs.declared.requests.Action.TheVariants as action
 use Rattle.nj_request.specs.declared.requests.Request.{Request}
+use Rattle.nj_request.specs.declared.tools.Tool.{Tool}
+use Rattle.nj_request.specs.declared.tools.Tool.TheVariants as tool
 
--- the targets are paths; `start` is the numbers of a mark
+-- `paths` are of targets or files, `names` of rules; `start` is the numbers of a mark
 pub data ActionText : Type 0 where
-  commands : (targets : List (List ℕ)) (take : Option ℕ) (start : List ℕ) → ActionText
-  single_commands : (targets : List (List ℕ)) → ActionText
+  commands : (paths : List (List ℕ)) (take : Option ℕ) (start : List ℕ) → ActionText
+  single_commands : (paths : List (List ℕ)) → ActionText
+  inputs : (paths : List (List ℕ)) → ActionText
+  targets : (view : TargetsView) → ActionText
+  query : (paths : List (List ℕ)) → ActionText
+  rules : (descriptions : Bool) → ActionText
+  compdb : (names : List (List ℕ)) (directory : List ℕ) (expand : Bool) → ActionText
 
 pub record RequestText : Type 0 where
   pub file : List ℕ
@@ -24,8 +33,13 @@ pub record RequestText : Type 0 where
   pub action : ActionText
 
 abbrev pub action_text : Action → ActionText
-action_text (Commands targets take start) = commands (map string_bytes targets.items) take start
-action_text (SingleCommands targets) = single_commands (map string_bytes targets.items)
+action_text (action.Commands paths take start) = commands (map string_bytes paths.items) take start
+action_text (action.SingleCommands paths) = single_commands (map string_bytes paths.items)
+action_text (action.Inputs paths) = inputs (map string_bytes paths.items)
+action_text (action.Targets view) = targets view
+action_text (action.Query paths) = query (map string_bytes paths.items)
+action_text (action.Rules descriptions) = rules descriptions
+action_text (action.Compdb names directory expand) = compdb (map string_bytes names.items) (string_bytes directory) expand
 
 abbrev pub request_text : Request → RequestText
 request_text request = record {
@@ -39,12 +53,7 @@ abbrev pub ◌>>=◌ : {A B : Type 0} → Result A UsageFault → (A → Result 
 (Ok x) >>= f = f x
 (Err fault) >>= f = Err fault
 
--- ---- the values of options
-
--- an option that does not go with the tool has no value
-abbrev pub refuse : ToolOption → (value : Option (List ℕ)) (tool : List ℕ) → Result ⊤ UsageFault
-refuse option None tool = Ok tt
-refuse option (Some text) tool = Err (ForeignOption option tool)
+-- ---- `commands`
 
 abbrev pub take_of : Option (List ℕ) → Result (Option ℕ) UsageFault
 take_of None = Ok None
@@ -54,28 +63,86 @@ abbrev pub start_of : Option (List ℕ) → Result (List ℕ) UsageFault
 start_of None = Ok []
 start_of (Some text) = ok_or (said_mark text) (BadMark text)
 
--- ---- the tools
-
--- `commands`: the commands of the edges that the targets need, from a mark on, at most so many
+-- the commands of the edges that the targets need, from a mark on, at most so many; or with `-s` those of the edges that make them
 abbrev pub commands_of : FieldTexts → Result ActionText UsageFault
-commands_of fields = do
+commands_of fields = if fields.is_single then Ok (single_commands fields.words) else do
   take ← take_of fields.take
   start ← start_of fields.resume
   Ok (commands fields.words take start)
 
--- `commands` with `-s`: the commands of the edges that make the targets
-abbrev pub single_commands_of : (tool : List ℕ) → FieldTexts → Result ActionText UsageFault
-single_commands_of tool fields = do
-  without_take ← refuse Take fields.take tool
-  without_resume ← refuse Resume fields.resume tool
-  Ok (single_commands fields.words)
+-- ---- `targets`
 
-abbrev pub action_of : (tool : List ℕ) → FieldTexts → Result ActionText UsageFault
-action_of tool fields =
-    if bytes_eq tool (codes "commands") then (if fields.is_single then single_commands_of tool fields else commands_of fields)
-    else Err (UnknownTool tool)
+-- `depth`, `all` or `rule` alone
+abbrev pub view_of_word : (name word : List ℕ) → Result TargetsView UsageFault
+view_of_word name word =
+    if bytes_eq word (codes "depth") then Ok (Depth 1)
+    else if bytes_eq word (codes "all") then Ok All
+    else if bytes_eq word (codes "rule") then Ok Sources
+    else Err (WrongWords name)
+
+-- so many levels
+abbrev pub depth_of : (text : List ℕ) → Result TargetsView UsageFault
+depth_of text = ok_or (option_map Depth (said_depth text)) (BadNumber text)
+
+-- `depth N` or `rule NAME`
+abbrev pub view_of_pair : (name word value : List ℕ) → Result TargetsView UsageFault
+view_of_pair name word value =
+    if bytes_eq word (codes "depth") then depth_of value
+    else if bytes_eq word (codes "rule") then Ok (OfRule value)
+    else Err (WrongWords name)
+
+-- without words as `depth 1`
+abbrev pub view_of : (name : List ℕ) (words : List (List ℕ)) → Result TargetsView UsageFault
+view_of name [] = Ok (Depth 1)
+view_of name (word ∷ []) = view_of_word name word
+view_of name (word ∷ value ∷ []) = view_of_pair name word value
+view_of name (word ∷ value ∷ more ∷ words) = Err (WrongWords name)
+
+abbrev pub targets_of : (name : List ℕ) → FieldTexts → Result ActionText UsageFault
+targets_of name fields = do
+  view ← view_of name fields.words
+  Ok (targets view)
+
+-- ---- the other tools
+
+-- any number of targets
+abbrev pub inputs_of : FieldTexts → Result ActionText UsageFault
+inputs_of fields = Ok (inputs fields.words)
+
+-- one file or more
+abbrev pub query_of : (name : List ℕ) (words : List (List ℕ)) → Result ActionText UsageFault
+query_of name [] = Err (WrongWords name)
+query_of name (word ∷ words) = Ok (query (word ∷ words))
+
+-- no words
+abbrev pub rules_of : (name : List ℕ) (descriptions : Bool) (words : List (List ℕ)) → Result ActionText UsageFault
+rules_of name descriptions [] = Ok (rules descriptions)
+rules_of name descriptions (word ∷ words) = Err (WrongWords name)
+
+-- the working folder
+abbrev pub here : List ℕ
+here = codes "."
+
+-- any number of rules
+abbrev pub compdb_of : FieldTexts → Result ActionText UsageFault
+compdb_of fields = Ok (compdb fields.words (unwrap_or fields.directory here) fields.expand)
 
 -- ---- the request
+
+-- what the tool of this name is asked for, by options that go with it
+abbrev pub asked_of : Tool → (name : List ℕ) → FieldTexts → Result ActionText UsageFault
+asked_of tool.Commands name fields = commands_of fields
+asked_of tool.Inputs name fields = inputs_of fields
+asked_of tool.Targets name fields = targets_of name fields
+asked_of tool.Query name fields = query_of name fields.words
+asked_of tool.Rules name fields = rules_of name fields.descriptions fields.words
+asked_of tool.Compdb name fields = compdb_of fields
+
+-- an option that does not go with the tool is a fault
+abbrev pub action_of : (name : List ℕ) → FieldTexts → Result ActionText UsageFault
+action_of name fields = do
+  tool ← ok_or (tool_named name) (UnknownTool name)
+  option_map_or (λ option. Err (ForeignOption option name)) (first_foreign tool fields) (asked_of tool name fields)
 
 abbrev pub main_file : List ℕ
 main_file = codes "build.ninja"
@@ -83,8 +150,8 @@ main_file = codes "build.ninja"
 -- a tool is required
 abbrev pub request_in : FieldTexts → Result RequestText UsageFault
 request_in fields = do
-  tool ← ok_or fields.tool Unparsed
-  action ← action_of tool fields
+  name ← ok_or fields.tool Unparsed
+  action ← action_of name fields
   Ok (record { file = unwrap_or fields.file main_file; from_stdin = fields.from_stdin; action = action })
 
 -- the fields are those that `clap` reads in the words

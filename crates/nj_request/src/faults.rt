@@ -41,6 +41,14 @@ impl Word {
 /// An option that does not go with every tool.
 #[derive(Clone, Copy, Debug, PartialEq, Eq)]
 pub enum ToolOption {
+    /// `-s`
+    Single,
+    /// `-d`
+    Descriptions,
+    /// `-x`
+    Expand,
+    /// `--directory TEXT`
+    Directory,
     /// `--take K`
     Take,
     /// `--resume MARK`
@@ -53,6 +61,10 @@ impl ToolOption {
         ensures { result.now ≡ option_text self }
     {
         match self {
+            ToolOption::Single => "-s",
+            ToolOption::Descriptions => "-d",
+            ToolOption::Expand => "-x",
+            ToolOption::Directory => "--directory",
             ToolOption::Take => "--take",
             ToolOption::Resume => "--resume",
         }
@@ -67,12 +79,15 @@ pub enum UsageFault {
     Unparsed,
     /// There is no tool of this name ("Extra tools").
     UnknownTool(Word),
-    /// The option does not go with the tool.
+    /// The option does not go with the tool, or not with `-s`.
     ForeignOption { option: ToolOption, tool: Word },
-    /// The text says no number below 2 to the power of 64.
+    /// The text says no number: for `--take` one below 2 to the power of 64, for the words `depth
+    /// N` one of at most 2147483647.
     BadNumber(Word),
     /// The text says no mark.
     BadMark(Word),
+    /// The words that are no options are none that the tool of this name takes ("Extra tools").
+    WrongWords(Word),
     /// An allocation failed.
     OutOfMemory,
 }

@@ -21,7 +21,10 @@ pub struct Fields<'m, 'w> {
     pub file: Option<&'w str>,
     pub take: Option<&'w str>,
     pub resume: Option<&'w str>,
+    pub directory: Option<&'w str>,
     pub is_single: bool,
+    pub descriptions: bool,
+    pub expand: bool,
     pub from_stdin: bool,
     pub words: Option<&'m [&'w str]>,
 }
@@ -60,7 +63,10 @@ pub fn fields_in<'m, 'w>(matches: &'m ArgMatches<'w>) -> Fields<'m, 'w>
         file: text_of(matches, "file"),
         take: text_of(matches, "take"),
         resume: text_of(matches, "resume"),
+        directory: text_of(matches, "directory"),
         is_single: is_on(matches, "single"),
+        descriptions: is_on(matches, "descriptions"),
+        expand: is_on(matches, "expand"),
         from_stdin: is_on(matches, "stdin"),
         words: matches.get_strs("words"),
     }

@@ -7,6 +7,8 @@ mod fields;
 mod lines;
 mod numbers;
 mod requests;
+mod tools;
 
 pub use faults::{ToolOption, UsageFault, Word};
+pub use nj_tools::TargetsView;
 pub use requests::{Action, Request, read_words};

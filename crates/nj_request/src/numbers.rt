@@ -1,8 +1,10 @@
 //! The numbers of a command line.
 
 ghost use Rattle.std.specs.Prelude.{◌≡◌};
-ghost use Rattle.nj_request.specs.Numbers.{said_number};
+ghost use Rattle.nj_request.specs.Numbers.{said_number, said_depth};
 ghost use Rattle.nj_request.specs.Held.{begins_with_plus};
+
+const GREATEST_DEPTH: u64 = 2_147_483_647;
 
 /// The number that decimal digits say, with or without zeros in front.
 pub fn number_in(text: &str) -> Option<u64>
@@ -14,6 +16,16 @@ pub fn number_in(text: &str) -> Option<u64>
     match text.parse::<u64>() {
         Ok(number) => Some(number),
         Err(_no_number) => None,
+    }
+}
+
+/// The number of levels that decimal digits say, in the same way.
+pub fn depth_in(text: &str) -> Option<u32>
+    ensures { result ≡ said_depth text.now }
+{
+    match number_in(text) {
+        Some(depth) if depth <= GREATEST_DEPTH => Some(depth as u32),
+        Some(_) | None => None,
     }
 }
 

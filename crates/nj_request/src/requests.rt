@@ -9,24 +9,38 @@ ghost use Rattle.nj_request.specs.Requests.{
   request_text,
   action_of,
   action_text,
+  asked_of,
   commands_of,
-  single_commands_of,
   take_of,
   start_of,
-  refuse,
+  inputs_of,
+  targets_of,
+  view_of,
+  view_of_word,
+  view_of_pair,
+  depth_of,
+  query_of,
+  rules_of,
+  compdb_of,
   main_file,
   wordless,
 };
 ghost use Rattle.nj_request.specs.Held.{field_texts, word_texts};
 ghost use Rattle.nj_request.specs.declared.faults.UsageFault.TheVariants.{OutOfMemory};
 
-use crate::faults::{ToolOption, UsageFault, Word};
+use crate::faults::{UsageFault, Word};
 use crate::fields::{Fields, fields_in, parse};
-use crate::numbers::number_in;
+use crate::numbers::{depth_in, number_in};
+use crate::tools::{Tool, first_foreign, tool_named};
+use nj_graph::Name;
 use nj_marks::{Mark, MarkTextFault};
+use nj_tools::TargetsView;
 use std::alloc::{AllocError, Global};
 
 const MAIN_FILE: &str = "build.ninja";
+
+// The working folder, which `compdb` names if no other is given.
+const HERE: &str = ".";
 
 /// What the words of a command line ask for.
 #[derive(Drop)]
@@ -38,11 +52,12 @@ pub struct Request {
     pub action: Action,
 }
 
-/// What is to be told of the file. The targets are the words that are no options, as they were
-/// written; without any, the file says which they are ("Default target statements").
+/// What is to be told of the file ("Extra tools"). Targets, files and names of rules are the words
+/// that are no options, as they were written. Without targets, the file says which they are
+/// ("Default target statements").
 #[derive(Drop)]
 pub enum Action {
-    /// `commands`: the commands of the edges that the targets need, from a mark on ("Extra tools").
+    /// `commands`: the commands of the edges that the targets need, from a mark on.
     Commands {
         targets: Vec<String>,
         /// At most so many commands.
@@ -52,6 +67,32 @@ pub enum Action {
     /// `commands` with `-s`: the commands of the edges that make the targets.
     SingleCommands {
         targets: Vec<String>,
+    },
+    /// `inputs`: the inputs of the edges whose commands the targets need.
+    Inputs {
+        targets: Vec<String>,
+    },
+    /// `targets`: files of the graph, by rule, by depth or all.
+    Targets {
+        view: TargetsView,
+    },
+    /// `query`: what each file is made of, and what is made of it. There is one or more.
+    Query {
+        files: Vec<String>,
+    },
+    /// `rules`: the names of the rules.
+    Rules {
+        /// With the description of each.
+        descriptions: bool,
+    },
+    /// `compdb`: a compilation database.
+    Compdb {
+        /// The rules whose edges it has; without any, those of all rules.
+        rules: Vec<String>,
+        /// The folder that it says each command runs in.
+        directory: String,
+        /// Whether response files are expanded in the commands.
+        expand: bool,
     },
 }
 
@@ -110,10 +151,10 @@ fn request_in(alloc: Global, fields: &Fields<'_, '_>) -> Result<Request, UsageFa
     ensures err { IfErr result (λ fault. (fault ≡ OutOfMemory)
         ⊎ (request_in (field_texts fields.now) ≡ Err fault)) }
 {
-    let Some(tool) = fields.tool else {
+    let Some(name) = fields.tool else {
         return Err(UsageFault::Unparsed);
     };
-    let action = action_of(alloc, tool, fields)?;
+    let action = action_of(alloc, name, fields)?;
     Ok(Request {
         file: String::from_str(alloc, fields.file.unwrap_or(MAIN_FILE))?,
         from_stdin: fields.from_stdin,
@@ -121,20 +162,44 @@ fn request_in(alloc: Global, fields: &Fields<'_, '_>) -> Result<Request, UsageFa
     })
 }
 
-// What a tool is asked for.
-fn action_of(alloc: Global, tool: &str, fields: &Fields<'_, '_>) -> Result<Action, UsageFault>
+// What the tool of this name is asked for.
+fn action_of(alloc: Global, name: &str, fields: &Fields<'_, '_>) -> Result<Action, UsageFault>
     ensures ok { IfOk result (λ action.
-        action_of tool.now (field_texts fields.now) ≡ Ok (action_text action)) }
+        action_of name.now (field_texts fields.now) ≡ Ok (action_text action)) }
     ensures err { IfErr result (λ fault. (fault ≡ OutOfMemory)
-        ⊎ (action_of tool.now (field_texts fields.now) ≡ Err fault)) }
+        ⊎ (action_of name.now (field_texts fields.now) ≡ Err fault)) }
 {
-    if tool != "commands" {
-        return Err(UsageFault::UnknownTool(Word::new(alloc, tool)?));
+    let Some(tool) = tool_named(name) else {
+        return Err(UsageFault::UnknownTool(Word::new(alloc, name)?));
+    };
+    match first_foreign(tool, fields) {
+        None => asked_of(alloc, tool, name, fields),
+        Some(option) => {
+            let tool = Word::new(alloc, name)?;
+            Err(UsageFault::ForeignOption { option, tool })
+        }
     }
-    if fields.is_single {
-        single_commands_of(alloc, tool, fields)
-    } else {
-        commands_of(alloc, fields)
+}
+
+// What a tool is asked for, by options that go with it.
+fn asked_of(
+    alloc: Global,
+    tool: Tool,
+    name: &str,
+    fields: &Fields<'_, '_>,
+) -> Result<Action, UsageFault>
+    ensures ok { IfOk result (λ action.
+        asked_of tool name.now (field_texts fields.now) ≡ Ok (action_text action)) }
+    ensures err { IfErr result (λ fault. (fault ≡ OutOfMemory)
+        ⊎ (asked_of tool name.now (field_texts fields.now) ≡ Err fault)) }
+{
+    match tool {
+        Tool::Commands => commands_of(alloc, fields),
+        Tool::Inputs => inputs_of(alloc, fields),
+        Tool::Targets => targets_of(alloc, name, fields),
+        Tool::Query => query_of(alloc, name, fields.words),
+        Tool::Rules => rules_of(alloc, name, fields),
+        Tool::Compdb => compdb_of(alloc, fields),
     }
 }
 
@@ -145,6 +210,10 @@ fn commands_of(alloc: Global, fields: &Fields<'_, '_>) -> Result<Action, UsageFa
     ensures err { IfErr result (λ fault. (fault ≡ OutOfMemory)
         ⊎ (commands_of (field_texts fields.now) ≡ Err fault)) }
 {
+    if fields.is_single {
+        let targets = owned(alloc, fields.words)?;
+        return Ok(Action::SingleCommands { targets });
+    }
     let take = take_of(alloc, fields.take)?;
     let start = start_of(alloc, fields.resume)?;
     Ok(Action::Commands {
@@ -152,44 +221,6 @@ fn commands_of(alloc: Global, fields: &Fields<'_, '_>) -> Result<Action, UsageFa
         take,
         start,
     })
-}
-
-// The action of `commands` with `-s`.
-fn single_commands_of(
-    alloc: Global,
-    tool: &str,
-    fields: &Fields<'_, '_>,
-) -> Result<Action, UsageFault>
-    ensures ok { IfOk result (λ action.
-        single_commands_of tool.now (field_texts fields.now) ≡ Ok (action_text action)) }
-    ensures err { IfErr result (λ fault. (fault ≡ OutOfMemory)
-        ⊎ (single_commands_of tool.now (field_texts fields.now) ≡ Err fault)) }
-{
-    refuse(alloc, ToolOption::Take, fields.take, tool)?;
-    refuse(alloc, ToolOption::Resume, fields.resume, tool)?;
-    Ok(Action::SingleCommands {
-        targets: owned(alloc, fields.words)?,
-    })
-}
-
-// Fails if an option that does not go with the tool has a value.
-fn refuse(
-    alloc: Global,
-    option: ToolOption,
-    value: Option<&str>,
-    tool: &str,
-) -> Result<(), UsageFault>
-    ensures ok { OnOk result (refuse option (option_copied value.entry) tool.now ≡ Ok tt) }
-    ensures err { IfErr result (λ fault. (fault ≡ OutOfMemory)
-        ⊎ (refuse option (option_copied value.entry) tool.now ≡ Err fault)) }
-{
-    match value {
-        None => Ok(()),
-        Some(_) => {
-            let tool = Word::new(alloc, tool)?;
-            Err(UsageFault::ForeignOption { option, tool })
-        }
-    }
 }
 
 // The number of `--take`.
@@ -221,6 +252,130 @@ fn start_of(alloc: Global, text: Option<&str>) -> Result<Mark, UsageFault>
         Err(MarkTextFault::BadMark) => Err(UsageFault::BadMark(Word::new(alloc, text)?)),
         Err(MarkTextFault::OutOfMemory) => Err(UsageFault::OutOfMemory),
     }
+}
+
+// The action of `inputs`.
+fn inputs_of(alloc: Global, fields: &Fields<'_, '_>) -> Result<Action, UsageFault>
+    ensures ok { IfOk result (λ action.
+        inputs_of (field_texts fields.now) ≡ Ok (action_text action)) }
+    ensures err { IfErr result (λ fault. fault ≡ OutOfMemory) }
+{
+    Ok(Action::Inputs {
+        targets: owned(alloc, fields.words)?,
+    })
+}
+
+// The action of `targets`.
+fn targets_of(alloc: Global, name: &str, fields: &Fields<'_, '_>) -> Result<Action, UsageFault>
+    ensures ok { IfOk result (λ action.
+        targets_of name.now (field_texts fields.now) ≡ Ok (action_text action)) }
+    ensures err { IfErr result (λ fault. (fault ≡ OutOfMemory)
+        ⊎ (targets_of name.now (field_texts fields.now) ≡ Err fault)) }
+{
+    Ok(Action::Targets {
+        view: view_of(alloc, name, fields.words)?,
+    })
+}
+
+// What `targets` lists by its words.
+fn view_of(alloc: Global, name: &str, words: Option<&[&str]>) -> Result<TargetsView, UsageFault>
+    ensures ok { IfOk result (λ view. view_of name.now (word_texts words.entry) ≡ Ok view) }
+    ensures err { IfErr result (λ fault. (fault ≡ OutOfMemory)
+        ⊎ (view_of name.now (word_texts words.entry) ≡ Err fault)) }
+{
+    match words {
+        None | Some([]) => Ok(TargetsView::Depth(1)),
+        Some([word]) => view_of_word(alloc, name, word),
+        Some([word, value]) => view_of_pair(alloc, name, word, value),
+        Some([_, _, _, ..]) => Err(UsageFault::WrongWords(Word::new(alloc, name)?)),
+    }
+}
+
+// What `targets` lists by one word.
+fn view_of_word(alloc: Global, name: &str, word: &str) -> Result<TargetsView, UsageFault>
+    ensures ok { IfOk result (λ view. view_of_word name.now word.now ≡ Ok view) }
+    ensures err { IfErr result (λ fault. (fault ≡ OutOfMemory)
+        ⊎ (view_of_word name.now word.now ≡ Err fault)) }
+{
+    match word {
+        "depth" => Ok(TargetsView::Depth(1)),
+        "all" => Ok(TargetsView::All),
+        "rule" => Ok(TargetsView::Sources),
+        _ => Err(UsageFault::WrongWords(Word::new(alloc, name)?)),
+    }
+}
+
+// What `targets` lists by a word and its value.
+fn view_of_pair(
+    alloc: Global,
+    name: &str,
+    word: &str,
+    value: &str,
+) -> Result<TargetsView, UsageFault>
+    ensures ok { IfOk result (λ view. view_of_pair name.now word.now value.now ≡ Ok view) }
+    ensures err { IfErr result (λ fault. (fault ≡ OutOfMemory)
+        ⊎ (view_of_pair name.now word.now value.now ≡ Err fault)) }
+{
+    match word {
+        "depth" => depth_of(alloc, value),
+        "rule" => Ok(TargetsView::OfRule(Name::new(alloc, value.as_bytes())?)),
+        _ => Err(UsageFault::WrongWords(Word::new(alloc, name)?)),
+    }
+}
+
+// The roots, with so many levels.
+fn depth_of(alloc: Global, text: &str) -> Result<TargetsView, UsageFault>
+    ensures ok { IfOk result (λ view. depth_of text.now ≡ Ok view) }
+    ensures err { IfErr result (λ fault. (fault ≡ OutOfMemory)
+        ⊎ (depth_of text.now ≡ Err fault)) }
+{
+    match depth_in(text) {
+        Some(depth) => Ok(TargetsView::Depth(depth)),
+        None => Err(UsageFault::BadNumber(Word::new(alloc, text)?)),
+    }
+}
+
+// The action of `query`.
+fn query_of(alloc: Global, name: &str, words: Option<&[&str]>) -> Result<Action, UsageFault>
+    ensures ok { IfOk result (λ action.
+        query_of name.now (word_texts words.entry) ≡ Ok (action_text action)) }
+    ensures err { IfErr result (λ fault. (fault ≡ OutOfMemory)
+        ⊎ (query_of name.now (word_texts words.entry) ≡ Err fault)) }
+{
+    match words {
+        None | Some([]) => Err(UsageFault::WrongWords(Word::new(alloc, name)?)),
+        Some([_, ..]) => Ok(Action::Query {
+            files: owned(alloc, words)?,
+        }),
+    }
+}
+
+// The action of `rules`.
+fn rules_of(alloc: Global, name: &str, fields: &Fields<'_, '_>) -> Result<Action, UsageFault>
+    ensures ok { IfOk result (λ action.
+        rules_of name.now fields.now.descriptions (word_texts fields.now.words)
+        ≡ Ok (action_text action)) }
+    ensures err { IfErr result (λ fault. (fault ≡ OutOfMemory)
+        ⊎ (rules_of name.now fields.now.descriptions (word_texts fields.now.words) ≡ Err fault)) }
+{
+    let descriptions = fields.descriptions;
+    match fields.words {
+        None | Some([]) => Ok(Action::Rules { descriptions }),
+        Some([_, ..]) => Err(UsageFault::WrongWords(Word::new(alloc, name)?)),
+    }
+}
+
+// The action of `compdb`.
+fn compdb_of(alloc: Global, fields: &Fields<'_, '_>) -> Result<Action, UsageFault>
+    ensures ok { IfOk result (λ action.
+        compdb_of (field_texts fields.now) ≡ Ok (action_text action)) }
+    ensures err { IfErr result (λ fault. fault ≡ OutOfMemory) }
+{
+    Ok(Action::Compdb {
+        rules: owned(alloc, fields.words)?,
+        directory: String::from_str(alloc, fields.directory.unwrap_or(HERE))?,
+        expand: fields.expand,
+    })
 }
 
 // The words, as texts of their own.

@@ -13,7 +13,13 @@ numbers = with_rule (with_rule options (long_option (codes "take"))) (long_optio
 abbrev flags : App
 flags = with_rule (with_rule numbers (short_flag (codes "single") 115)) (long_flag (codes "stdin"))
 
-whole : with_rule flags all_words ≡ command
+abbrev of_rules : App
+of_rules = with_rule flags (short_flag (codes "descriptions") 100)
+
+abbrev of_compdb : App
+of_compdb = with_rule (with_rule of_rules (short_flag (codes "expand") 120)) (long_option (codes "directory"))
+
+whole : with_rule of_compdb all_words ≡ command
 unfolding command
 whole = refl
 
@@ -25,4 +31,7 @@ returns c =
     let resume : app_of c.in_ok-numbers.numbers ≡ numbers = c.in_ok-numbers.ensures ∙ ap₂ with_rule take c.long_option-resume.ensures.rule in
     let single = c.in_ok-with-3.ensures ∙ ap₂ with_rule resume c.short_flag-single.ensures.rule in
     let input : app_of c.in_ok-flags.flags ≡ flags = c.in_ok-flags.ensures ∙ ap₂ with_rule single c.long_flag-input.ensures.rule in
-    IfOk-weaker c.with-7.result _ _ (λ made h. h ∙ ap₂ with_rule input c.all_words.ensures.rule ∙ whole) c.with-7.ensures
+    let descriptions : app_of c.in_ok-of_rules.of_rules ≡ of_rules = c.in_ok-of_rules.ensures ∙ ap₂ with_rule input c.short_flag-descriptions.ensures.rule in
+    let expand = c.in_ok-with-4.ensures ∙ ap₂ with_rule descriptions c.short_flag-expand.ensures.rule in
+    let directory : app_of c.in_ok-of_compdb.of_compdb ≡ of_compdb = c.in_ok-of_compdb.ensures ∙ ap₂ with_rule expand c.long_option-directory.ensures.rule in
+    IfOk-weaker c.with-10.result _ _ (λ made h. h ∙ ap₂ with_rule directory c.all_words.ensures.rule ∙ whole) c.with-10.ensures
