@@ -1,13 +1,14 @@
 -- What a run answers, by the graph of its files.
-use Rattle.std.proofs.Common.{◌≡◌, ◌≢◌, ◌⊎◌, inl, inr, ℕ, Bool, true, false, if◌then◌else◌, Option, Some, None, Result, Ok, Err, IsErrAnd, List, [], length, filter, not, refl, sym, ap, subst, ◌∙◌}
+use Rattle.std.proofs.Common.{◌≡◌, ◌≢◌, ◌⊎◌, inl, inr, ℕ, Bool, true, false, if◌then◌else◌, Option, Some, None, Result, Ok, Err, IsErrAnd, List, [], length, map, filter, not, refl, sym, ap, subst, ◌∙◌}
 use Rattle.std.specs.List.{flat_map}
+use Rattle.std.specs.Prelude.{slice_get}
 use Rattle.nj_scope.specs.ReadingList.{Entry}
 use Rattle.nj_edges.specs.declared.files.FileNo.{FileNo}
 use Rattle.nj_edges.specs.EdgeGraphs.{EdgeGraph}
 use Rattle.nj_edges.specs.Edges.{EdgePaths}
-use Rattle.nj_edges.specs.Files.{AreFiles}
+use Rattle.nj_edges.specs.Files.{AreFiles, path_at}
 use Rattle.nj_build.specs.Built.{defaults_in_force}
-use Rattle.nj_build.specs.EdgeList.{defaults_read}
+use Rattle.nj_build.specs.EdgeList.{defaults_read, edges_read}
 use Rattle.nj_faults.specs.declared.fault.GraphFault.{GraphFault}
 use Rattle.nj_faults.specs.FaultLines.{fault_line}
 use Rattle.nj_faults.specs.Faults.{no_memory}
@@ -20,16 +21,20 @@ use Rattle.nj_needs.specs.Resuming.{ResumeIs}
 use Rattle.nj_needs.specs.declared.fault.MarkFault.{MarkFault}
 use Rattle.nj_needs.specs.declared.fault.MarkFault.TheVariants as mark
 use Rattle.nj_needs.specs.Walks.{WalkState, BeginsAt, rest_of}
-use Rattle.nj_needs.proofs.Bridges.{row-paths}
+use Rattle.nj_needs.proofs.Bridges.{paths-at, row-paths}
 use Rattle.nj_request.specs.Requests.{ActionText, commands, single_commands}
+use Rattle.nj_request.specs.Requests as ask
 use Rattle.nj_tools.specs.CommandTexts.{command_lines, written, left_after, StopsAt, single, own_commands_in, own_commands}
 use Rattle.nj_tools.specs.Sinks.{SinkState, Takes}
-use Rattle.nj_tools.specs.Texts.{WritesText, TakesFront, FailsWithin}
+use Rattle.nj_tools.specs.Compdb.{compdb_text, unheld_edge}
+use Rattle.nj_tools.specs.Listings.{inputs_text}
+use Rattle.nj_tools.specs.Queries.{query_text}
+use Rattle.nj_tools.specs.Texts.{StopsWithin, TakesFront}
 use Rattle.nj_tools.specs.declared.fault.ToolFault.{ToolFault}
 use Rattle.nj_tools.specs.declared.fault.ToolFault.TheVariants as tool
 use Rattle.nj_tools.proofs.SinkLemmas.{Takes-nil}
 use Rattle.nj_cli.specs.Targets.{edges_by_path, targets_named, or_defaults, targets_or_defaults, targets_of}
-use Rattle.nj_cli.specs.Answers.{leads, commands_left, IsMarkOf, commands_text, single_commands_text, output_of, Ending, finished, stopped, faulty, out_of_range, EndsFrom, CommandsEnd, SinglesEnd, EndsWith}
+use Rattle.nj_cli.specs.Answers.{leads, commands_left, IsMarkOf, commands_text, for_targets, single_commands_text, output_of, Ending, finished, stopped, faulty, out_of_range, EndsFrom, CommandsEnd, TargetsEnd, text_fault, CompdbEnds, EndsWith}
 use Rattle.nj_cli.specs.RunSteps.{AnswersTo, fault_of_mark, fault_of_tool}
 use Rattle.nj_cli.specs.declared.fault.RunFault.{RunFault}
 use Rattle.nj_cli.specs.declared.fault.RunFault.TheVariants as fault
@@ -65,15 +70,81 @@ module _ (entries : List Entry) (g : GraphText) (is : IsGraphOf g entries) where
   -- no target: the fault is the answer
   pub commands-refused : (words : List (List ℕ)) (take : Option ℕ) (start : List ℕ) (f : GraphFault) (s : SinkState)
       → (f ≡ no_memory) ⊎ (targets_named (edges_of g) words ≡ Err f) → AnswersTo entries (commands words take start) s s (Err (fault.Graph f))
-  commands-refused words take start f s (inl none) = (inl none, refl)
+  commands-refused words take start f s (inl none) = inl (none, refl)
   commands-refused words take start f s (inr named) =
-      (inr (subst (λ (ts : Result (List (List ℕ)) GraphFault). CommandsEnd entries take start ts (faulty (fault_line f))) (sym (targets-are words (Err f) named)) refl), refl)
+      inr (subst (λ (ts : Result (List (List ℕ)) GraphFault). CommandsEnd entries take start ts (faulty (fault_line f)) × Takes s s (commands_text entries take start ts))
+      (sym (targets-are words (Err f) named)) (refl, Takes-nil s))
+
+  for_targets-refused : (text : List (List ℕ) → List ℕ) (ts : Result (List (List ℕ)) GraphFault) (f : GraphFault) (s : SinkState) → ts ≡ Err f
+      → TargetsEnd ts (faulty (fault_line f)) × Takes s s (for_targets text ts)
+  for_targets-refused text ts f s is =
+      subst (λ (t : Result (List (List ℕ)) GraphFault). TargetsEnd t (faulty (fault_line f)) × Takes s s (for_targets text t)) (sym is) (refl, Takes-nil s)
 
   pub singles-refused : (words : List (List ℕ)) (f : GraphFault) (s : SinkState)
       → (f ≡ no_memory) ⊎ (targets_named (edges_of g) words ≡ Err f) → AnswersTo entries (single_commands words) s s (Err (fault.Graph f))
-  singles-refused words f s (inl none) = (inl none, refl)
-  singles-refused words f s (inr named) =
-      (inr (subst (λ (ts : Result (List (List ℕ)) GraphFault). SinglesEnd ts (faulty (fault_line f))) (sym (targets-are words (Err f) named)) refl), refl)
+  singles-refused words f s (inl none) = inl (none, refl)
+  singles-refused words f s (inr named) = inr (for_targets-refused (single_commands_text entries) (targets_of entries words) f s (targets-are words (Err f) named))
+
+  pub inputs-refused : (words : List (List ℕ)) (f : GraphFault) (s : SinkState)
+      → (f ≡ no_memory) ⊎ (targets_named (edges_of g) words ≡ Err f) → AnswersTo entries (ask.inputs words) s s (Err (fault.Graph f))
+  inputs-refused words f s (inl none) = inl (none, refl)
+  inputs-refused words f s (inr named) = inr (for_targets-refused (inputs_text (edges_by_path entries)) (targets_of entries words) f s (targets-are words (Err f) named))
+
+  files-are : (words : List (List ℕ)) (answer : Result (List (List ℕ)) GraphFault) → targets_named (edges_of g) words ≡ answer
+      → targets_named (edges_by_path entries) words ≡ answer
+  files-are words answer named = ap (λ (es : List EdgePaths). targets_named es words) (sym edges-are) ∙ named
+
+  pub query-refused : (words : List (List ℕ)) (f : GraphFault) (s : SinkState)
+      → (f ≡ no_memory) ⊎ (targets_named (edges_of g) words ≡ Err f) → AnswersTo entries (ask.query words) s s (Err (fault.Graph f))
+  query-refused words f s (inl none) = inl (none, refl)
+  query-refused words f s (inr named) = inr (for_targets-refused (query_text entries) (targets_named (edges_by_path entries) words) f s (files-are words (Err f) named))
+
+  -- ---- tools without targets
+
+  -- what a tool did to its sink
+  finishes : (action : ActionText) (old new : SinkState) → EndsWith entries action finished → Takes old new (output_of entries action)
+      → AnswersTo entries action old new (Ok None)
+  finishes action old new ends took = (ends, took)
+
+  -- a tool that does not finish
+  pub stops : (action : ActionText) (old new : SinkState) (f : ToolFault) → StopsWithin old new (output_of entries action) f
+      → AnswersTo entries action old new (Err (fault_of_tool f))
+  stops action old new tool.Write stopped_so = stopped_so
+  stops action old new tool.OutOfMemory stopped_so = stopped_so
+  stops action old new (tool.TextNotUtf8 edge) stopped_so = absurd stopped_so
+
+  -- ---- files that are asked about
+
+  module _ (words paths : List (List ℕ)) (named : targets_named (edges_of g) words ≡ Ok paths) (numbers : List FileNo) (are : AreFiles (files_of g) numbers paths) where
+    query-text : query_text entries (map (path_at (files_of g)) numbers) ≡ output_of entries (ask.query words)
+    query-text =
+        ap (query_text entries) (paths-at (files_of g) numbers paths are)
+        ∙ ap (for_targets (query_text entries)) (sym (files-are words (Ok paths) named))
+
+    pub query-answered : (old new : SinkState) → Takes old new (query_text entries (map (path_at (files_of g)) numbers))
+        → AnswersTo entries (ask.query words) old new (Ok None)
+    query-answered old new took = (
+      subst (λ (ts : Result (List (List ℕ)) GraphFault). TargetsEnd ts finished) (sym (files-are words (Ok paths) named)) refl,
+      subst (Takes old new) query-text took,
+    )
+
+    pub query-failed : (old new : SinkState) (f : ToolFault) → StopsWithin old new (query_text entries (map (path_at (files_of g)) numbers)) f
+        → AnswersTo entries (ask.query words) old new (Err (fault_of_tool f))
+    query-failed old new f stopped_so = stops (ask.query words) old new f (subst (λ t. StopsWithin old new t f) query-text stopped_so)
+
+  -- ---- a text that JSON cannot hold
+
+  pub compdb-unheld : (names : List (List ℕ)) (directory : List ℕ) (expand : Bool) (edge : ℕ) (f : GraphFault) (old new : SinkState)
+      → unheld_edge entries names expand ≡ Some edge → f ≡ text_fault (slice_get (edges_read entries) edge)
+      → Takes old new (compdb_text entries directory names expand) → AnswersTo entries (ask.compdb names directory expand) old new (Err (fault.Graph f))
+  compdb-unheld names directory expand edge f old new unheld is took =
+      inr (subst (λ (u : Option ℕ). CompdbEnds entries u (faulty (fault_line f))) (sym unheld) (ap (λ (h : GraphFault). faulty (fault_line h)) is), took)
+
+  pub compdb-answered : (names : List (List ℕ)) (directory : List ℕ) (expand : Bool) (old new : SinkState)
+      → unheld_edge entries names expand ≡ None → Takes old new (compdb_text entries directory names expand)
+      → AnswersTo entries (ask.compdb names directory expand) old new (Ok None)
+  compdb-answered names directory expand old new unheld took =
+      (subst (λ (u : Option ℕ). CompdbEnds entries u finished) (sym unheld) refl, took)
 
   module _ (words paths : List (List ℕ)) (named : targets_named (edges_of g) words ≡ Ok paths) (numbers : List FileNo) (are : AreFiles (files_of g) numbers (or_defaults entries paths)) where
     abbrev targets : List (List ℕ)
@@ -93,17 +164,34 @@ module _ (entries : List Entry) (g : GraphText) (is : IsGraphOf g entries) where
         ∙ ap (λ (es : List EdgePaths). filter (λ e. not (is_phony_in es e)) (first_occurrences (flat_map (made_by single) (row_of_paths (edges_by_path entries) targets)))) edges-are
 
     singles-text : command_lines entries (own_commands g.built.graph numbers) ≡ output_of entries (single_commands words)
-    singles-text = ap (command_lines entries) own-are ∙ ap (single_commands_text entries) (sym named-so)
+    singles-text = ap (command_lines entries) own-are ∙ ap (for_targets (single_commands_text entries)) (sym named-so)
+
+    ends-well : TargetsEnd (targets_of entries words) finished
+    ends-well = subst (λ (ts : Result (List (List ℕ)) GraphFault). TargetsEnd ts finished) (sym named-so) refl
 
     pub singles-answered : (old new : SinkState) → Takes old new (command_lines entries (own_commands g.built.graph numbers))
         → AnswersTo entries (single_commands words) old new (Ok None)
-    singles-answered old new took =
-        (subst (λ (ts : Result (List (List ℕ)) GraphFault). SinglesEnd ts finished) (sym named-so) refl, subst (Takes old new) singles-text took)
+    singles-answered old new took = (ends-well, subst (Takes old new) singles-text took)
 
-    pub singles-failed : (old new : SinkState) (f : ToolFault) → WritesText {X = Unit} old new (command_lines entries (own_commands g.built.graph numbers)) (Err f)
+    pub singles-failed : (old new : SinkState) (f : ToolFault) → StopsWithin old new (command_lines entries (own_commands g.built.graph numbers)) f
         → AnswersTo entries (single_commands words) old new (Err (fault_of_tool f))
-    singles-failed old new tool.Write writes = subst (FailsWithin old new) singles-text writes
-    singles-failed old new tool.OutOfMemory writes = subst (TakesFront old new) singles-text writes
+    singles-failed old new f stopped_so = stops (single_commands words) old new f (subst (λ t. StopsWithin old new t f) singles-text stopped_so)
+
+    -- ---- the inputs that they need
+
+    inputs-are : inputs_text (edges_of g) (map (path_at (files_of g)) numbers) ≡ output_of entries (ask.inputs words)
+    inputs-are =
+        ap (inputs_text (edges_of g)) (paths-at (files_of g) numbers targets are)
+        ∙ ap (λ (es : List EdgePaths). inputs_text es targets) edges-are
+        ∙ ap (for_targets (inputs_text (edges_by_path entries))) (sym named-so)
+
+    pub inputs-answered : (old new : SinkState) → Takes old new (inputs_text (edges_of g) (map (path_at (files_of g)) numbers))
+        → AnswersTo entries (ask.inputs words) old new (Ok None)
+    inputs-answered old new took = (ends-well, subst (Takes old new) inputs-are took)
+
+    pub inputs-failed : (old new : SinkState) (f : ToolFault) → StopsWithin old new (inputs_text (edges_of g) (map (path_at (files_of g)) numbers)) f
+        → AnswersTo entries (ask.inputs words) old new (Err (fault_of_tool f))
+    inputs-failed old new f stopped_so = stops (ask.inputs words) old new f (subst (λ t. StopsWithin old new t f) inputs-are stopped_so)
 
     -- ---- the needed commands, from a mark
 
@@ -130,7 +218,12 @@ module _ (entries : List Entry) (g : GraphText) (is : IsGraphOf g entries) where
       commands-out_of_range : (s : SinkState) → is_valid (makers_of g.built.graph) (row_of g.built.graph numbers) start ≡ false
           → AnswersTo entries (commands words take start) s s (Err fault.MarkOutOfRange)
       commands-out_of_range s invalid =
-          (ends-so (faulty out_of_range) (subst (λ (b : Bool). EndsFrom b entries take start targets (faulty out_of_range)) (sym invalid ∙ leads-is) refl), refl)
+          let misled : leads entries targets start ≡ false = sym leads-is ∙ invalid in (
+            ends-so (faulty out_of_range) (subst (λ (b : Bool). EndsFrom b entries take start targets (faulty out_of_range)) (sym misled) refl),
+            subst (Takes s s)
+                (ap (λ (b : Bool). if b then command_lines entries (written take (commands_left entries targets start)) else []) (sym misled) ∙ ap (commands_text entries take start) (sym named-so))
+                (Takes-nil s),
+          )
 
       pub commands-not_resumed : (s : SinkState) (f : MarkFault) → ResumeIs g.built.graph numbers start (Err f)
           → AnswersTo entries (commands words take start) s s (Err (fault_of_mark f))
@@ -177,7 +270,6 @@ module _ (entries : List Entry) (g : GraphText) (is : IsGraphOf g entries) where
           subst (Takes old new) text-is took,
         )
 
-        pub commands-failed : (old new : SinkState) (f : ToolFault) → WritesText {X = Unit} old new (command_lines entries (written take w.left)) (Err f)
+        pub commands-failed : (old new : SinkState) (f : ToolFault) → StopsWithin old new (command_lines entries (written take w.left)) f
             → AnswersTo entries (commands words take start) old new (Err (fault_of_tool f))
-        commands-failed old new tool.Write writes = subst (FailsWithin old new) text-is writes
-        commands-failed old new tool.OutOfMemory writes = subst (TakesFront old new) text-is writes
+        commands-failed old new f stopped_so = stops (commands words take start) old new f (subst (λ t. StopsWithin old new t f) text-is stopped_so)

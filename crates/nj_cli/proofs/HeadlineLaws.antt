@@ -18,11 +18,13 @@ use Rattle.nj_needs.proofs.PageLaws.{mark-keeps_the_rest}
 use Rattle.nj_needs.proofs.PlaceLaws.{first-places_are_one}
 use Rattle.nj_needs.proofs.Striking.{without-none}
 use Rattle.nj_request.specs.Requests.{commands, single_commands}
+use Rattle.nj_request.specs.Requests as ask
+use Rattle.nj_tools.specs.Compdb.{unheld_edge}
 use Rattle.nj_tools.specs.CommandTexts.{command_line, command_lines, written}
-use Rattle.nj_cli.specs.Answers.{leads, commands_left, IsMarkOf, commands_text, output_of, Ending, finished, stopped, faulty, out_of_range, PageEnds, EndsFrom, CommandsEnd, SinglesEnd, EndsWith}
+use Rattle.nj_cli.specs.Answers.{leads, commands_left, IsMarkOf, commands_text, output_of, Ending, finished, stopped, faulty, out_of_range, PageEnds, EndsFrom, CommandsEnd, TargetsEnd, CompdbEnds, EndsWith}
 use Rattle.nj_cli.specs.Headline.{AreNeeded, WritesTheNeeded, ArePageTexts, PageTextsJoin, OneEnding}
 use Rattle.nj_cli.specs.Headline.ArePageTexts.{no_runs, finishes, stops}
-use Rattle.nj_cli.specs.Targets.{edges_by_path, NoEdgeNeedsItself, targets_of}
+use Rattle.nj_cli.specs.Targets.{edges_by_path, NoEdgeNeedsItself, targets_named, targets_of}
 
 -- ---- the targets and the mark of a run that is not refused
 
@@ -182,10 +184,19 @@ one-commands : (entries : List Entry) (take : Option ℕ) (start : List ℕ) (ta
 one-commands entries take start (Ok targets) ending other none is so = one-from entries take start targets none (leads entries targets start) ending other is so
 one-commands entries take start (Err f) ending other none is so = is ∙ sym so
 
-one-singles : (targets : Result (List (List ℕ)) GraphFault) (ending other : Ending) → SinglesEnd targets ending → SinglesEnd targets other → ending ≡ other
-one-singles (Ok targets) ending other is so = is ∙ sym so
-one-singles (Err f) ending other is so = is ∙ sym so
+one-for_targets : (targets : Result (List (List ℕ)) GraphFault) (ending other : Ending) → TargetsEnd targets ending → TargetsEnd targets other → ending ≡ other
+one-for_targets (Ok targets) ending other is so = is ∙ sym so
+one-for_targets (Err f) ending other is so = is ∙ sym so
+
+one-compdb : (entries : List Entry) (unheld : Option ℕ) (ending other : Ending) → CompdbEnds entries unheld ending → CompdbEnds entries unheld other → ending ≡ other
+one-compdb entries None ending other is so = is ∙ sym so
+one-compdb entries (Some edge) ending other is so = is ∙ sym so
 
 pub one-ending : OneEnding
 one-ending entries (commands words take start) ending other none is so = one-commands entries take start (targets_of entries words) ending other none is so
-one-ending entries (single_commands words) ending other none is so = one-singles (targets_of entries words) ending other is so
+one-ending entries (single_commands words) ending other none is so = one-for_targets (targets_of entries words) ending other is so
+one-ending entries (ask.inputs words) ending other none is so = one-for_targets (targets_of entries words) ending other is so
+one-ending entries (ask.targets view) ending other none is so = is ∙ sym so
+one-ending entries (ask.query words) ending other none is so = one-for_targets (targets_named (edges_by_path entries) words) ending other is so
+one-ending entries (ask.rules descriptions) ending other none is so = is ∙ sym so
+one-ending entries (ask.compdb names directory expand) ending other none is so = one-compdb entries (unheld_edge entries names expand) ending other is so

@@ -1,5 +1,5 @@
 -- How a run ends.
-use Rattle.std.proofs.Common.{◌≡◌, ◌⊎◌, inl, inr, ℕ, Bool, true, false, if◌then◌else◌, Option, Some, None, Result, Ok, Err, List, [], length, refl, sym, subst}
+use Rattle.std.proofs.Common.{◌≡◌, ◌⊎◌, inl, inr, ℕ, Option, Some, None, Result, Ok, Err, List, [], length, refl, sym, subst}
 use Rattle.std.proofs.lemmas.List.{append-nil}
 use Rattle.nj_scope.specs.Readings.{Reading}
 use Rattle.nj_scope.specs.ReadingList.{Entry}
@@ -10,12 +10,10 @@ use Rattle.nj_faults.specs.declared.fault.GraphFault.{GraphFault}
 use Rattle.nj_faults.specs.FaultLines.{fault_line}
 use Rattle.nj_faults.specs.Faults.{no_memory}
 use Rattle.nj_graph.specs.Loads.{LoadedText, IsLoaded}
-use Rattle.nj_request.specs.Requests.{ActionText, commands, single_commands}
+use Rattle.nj_request.specs.Requests.{ActionText}
 use Rattle.nj_tools.specs.Sinks.{SinkState, Takes}
 use Rattle.nj_tools.specs.Texts.{TakesFront}
-use Rattle.nj_tools.proofs.SinkLemmas.{Takes-nil}
-use Rattle.nj_cli.specs.Targets.{targets_of}
-use Rattle.nj_cli.specs.Answers.{leads, commands_text, single_commands_text, output_of, finished, stopped, faulty, out_of_range, EndsFrom, CommandsEnd, SinglesEnd, EndsWith, with_line_end}
+use Rattle.nj_cli.specs.Answers.{output_of, finished, stopped, faulty, out_of_range, EndsWith, with_line_end}
 use Rattle.nj_cli.specs.Reported.{Reported}
 use Rattle.nj_cli.specs.RunSteps.{AnswersTo, ReportsMark, Concludes}
 use Rattle.nj_cli.specs.Runs.{Around, out_of_memory, RunEnds, IsAnswered}
@@ -27,26 +25,6 @@ use Rattle.nj_cli.specs.declared.status.Status.TheVariants.{Done, Fault, Usage, 
 use Rattle.nj_cli.proofs.AnswerLemmas.{TakesFront-none}
 
 -- ---- faults
-
--- at a fault nothing is output
-faulty-from : (leads : Bool) (entries : List Entry) (take : Option ℕ) (start : List ℕ) (targets : List (List ℕ)) (text all : List ℕ)
-    → EndsFrom leads entries take start targets (faulty text) → (if leads then all else []) ≡ []
-faulty-from true entries take start targets text all ends = absurd ends
-faulty-from false entries take start targets text all ends = refl
-
-faulty-commands : (entries : List Entry) (take : Option ℕ) (start : List ℕ) (targets : Result (List (List ℕ)) GraphFault) (text : List ℕ)
-    → CommandsEnd entries take start targets (faulty text) → commands_text entries take start targets ≡ []
-faulty-commands entries take start (Ok targets) text ends = faulty-from (leads entries targets start) entries take start targets text _ ends
-faulty-commands entries take start (Err f) text ends = refl
-
-faulty-singles : (entries : List Entry) (targets : Result (List (List ℕ)) GraphFault) (text : List ℕ)
-    → SinglesEnd targets (faulty text) → single_commands_text entries targets ≡ []
-faulty-singles entries (Ok targets) text ends = absurd cc
-faulty-singles entries (Err f) text ends = refl
-
-faulty-output : (entries : List Entry) (action : ActionText) (text : List ℕ) → EndsWith entries action (faulty text) → output_of entries action ≡ []
-faulty-output entries (commands words take start) text ends = faulty-commands entries take start (targets_of entries words) text ends
-faulty-output entries (single_commands words) text ends = faulty-singles entries (targets_of entries words) text ends
 
 -- ---- the ends
 
@@ -60,35 +38,29 @@ module _ (entries : List Entry) (action : ActionText) (old new : Around) where
   })
 
   -- the line of a fault was reported
-  reported-fault : (text : List ℕ) → EndsWith entries action (faulty text) → new.output ≡ old.output → Reported old.error new.error (with_line_end text) → RunEnds entries action old new Fault
-  reported-fault text ends same (inl took) = told (record {
-    ending = faulty text;
-    ends = ends;
-    output = subst (Takes old.output new.output) (sym (faulty-output entries action text ends)) (subst (λ (s : SinkState). Takes old.output s []) (sym same) (Takes-nil old.output));
-    error = took;
-    status_is = refl;
-  })
-  reported-fault text ends same (inr failed) = untold (record {
-    ending = faulty text;
-    ends = ends;
-    output = subst (Takes old.output new.output) (sym (faulty-output entries action text ends)) (subst (λ (s : SinkState). Takes old.output s []) (sym same) (Takes-nil old.output));
-    error = failed;
-    status_is = refl;
-  })
+  reported-fault : (text : List ℕ) → EndsWith entries action (faulty text) → Takes old.output new.output (output_of entries action)
+      → Reported old.error new.error (with_line_end text) → RunEnds entries action old new Fault
+  reported-fault text ends took (inl told_so) = told (record { ending = faulty text; ends = ends; output = took; error = told_so; status_is = refl })
+  reported-fault text ends took (inr failed) = untold (record { ending = faulty text; ends = ends; output = took; error = failed; status_is = refl })
 
-  graph-fault : (f : GraphFault) → (f ≡ no_memory) ⊎ EndsWith entries action (faulty (fault_line f)) → new.output ≡ old.output
+  -- there was no room for the line of a fault
+  late : Takes old.output new.output (output_of entries action) → Reported old.error new.error (with_line_end out_of_memory) → RunEnds entries action old new Fault
+  late took reported =
+      memory_failed (record { output = (output_of entries action, ([], sym (append-nil (output_of entries action))), took); error = reported; status_is = refl })
+
+  graph-fault : (f : GraphFault)
+      → ((f ≡ no_memory) × (new.output ≡ old.output)) ⊎ (EndsWith entries action (faulty (fault_line f)) × Takes old.output new.output (output_of entries action))
       → Reported old.error new.error (with_line_end (fault_line f)) ⊎ Reported old.error new.error (with_line_end out_of_memory) → RunEnds entries action old new Fault
-  graph-fault f (inl none) same (inl reported) = early same (subst (λ (k : GraphFault). Reported old.error new.error (with_line_end (fault_line k))) none reported)
-  graph-fault f (inl none) same (inr reported) = early same reported
-  graph-fault f (inr ends) same (inl reported) = reported-fault (fault_line f) ends same reported
-  graph-fault f (inr ends) same (inr reported) = early same reported
+  graph-fault f (inl (none, same)) (inl reported) = early same (subst (λ (k : GraphFault). Reported old.error new.error (with_line_end (fault_line k))) none reported)
+  graph-fault f (inl (none, same)) (inr reported) = early same reported
+  graph-fault f (inr (ends, took)) (inl reported) = reported-fault (fault_line f) ends took reported
+  graph-fault f (inr (ends, took)) (inr reported) = late took reported
 
   stopped-at : (mark : List ℕ) (status : Status) → EndsWith entries action (stopped mark) → Takes old.output new.output (output_of entries action)
       → ReportsMark old.error new.error mark status → RunEnds entries action old new status
   stopped-at mark Stopped ends took reported = told (record { ending = stopped mark; ends = ends; output = took; error = reported; status_is = refl })
   stopped-at mark OutputFailed ends took reported = untold (record { ending = stopped mark; ends = ends; output = took; error = reported; status_is = refl })
-  stopped-at mark Fault ends took reported =
-      memory_failed (record { output = (output_of entries action, ([], sym (append-nil (output_of entries action))), took); error = reported; status_is = refl })
+  stopped-at mark Fault ends took reported = late took reported
   stopped-at mark Done ends took reported = absurd reported
   stopped-at mark Usage ends took reported = absurd reported
 
@@ -98,7 +70,7 @@ module _ (entries : List Entry) (action : ActionText) (old new : Around) where
       told (record { ending = finished; ends = answers.0; output = answers.1; error = concludes.0; status_is = concludes.1 })
   Answers-from status (Ok (Some mark)) answers concludes = stopped-at mark status answers.0 answers.1 concludes
   Answers-from status (Err (fault.Graph f)) answers concludes =
-      subst (RunEnds entries action old new) (sym concludes.1) (graph-fault f answers.0 answers.1 concludes.0)
+      subst (RunEnds entries action old new) (sym concludes.1) (graph-fault f answers concludes.0)
   Answers-from status (Err fault.MarkOutOfRange) answers concludes =
       subst (RunEnds entries action old new) (sym concludes.1) (reported-fault out_of_range answers.0 answers.1 concludes.0)
   Answers-from status (Err fault.Write) answers concludes = output_failed (record { output = answers; error = concludes.0; status_is = concludes.1 })

@@ -1,15 +1,23 @@
 -- What a run answers, by the statements of its files and by what is asked for: its output, and how it ends.
-use Rattle.std.specs.Prelude.{◌≡◌, ◌≢◌, ℕ, Bool, true, false, if◌then◌else◌, Option, Result, Ok, Err, List, [], ◌∷◌, ◌++◌, length, codes}
+use Rattle.std.specs.Prelude.{◌≡◌, ◌≢◌, ℕ, Bool, true, false, if◌then◌else◌, Option, Some, None, Result, Ok, Err, List, [], ◌∷◌, ◌++◌, length, slice_get, codes}
 use Rattle.nj_scope.specs.ReadingList.{Entry}
+use Rattle.nj_build.specs.EdgeList.{EdgeText, edges_read}
+use Rattle.nj_faults.specs.declared.fault.Cause.TheVariants.{TextNotUtf8}
 use Rattle.nj_faults.specs.declared.fault.GraphFault.{GraphFault}
+use Rattle.nj_faults.specs.Faults.{fault_at, unplaced}
 use Rattle.nj_faults.specs.FaultLines.{fault_line}
 use Rattle.nj_marks.specs.Marks.{mark_text}
 use Rattle.nj_needs.specs.Graphs.{row_of_paths, makers_in, is_phony_in}
 use Rattle.nj_needs.specs.Marks.{is_valid, rest}
 use Rattle.nj_needs.specs.Pages.{IsMarkAfter}
 use Rattle.nj_tools.specs.CommandTexts.{command_lines, written, left_after, own_commands_in}
+use Rattle.nj_tools.specs.Compdb.{compdb_text, unheld_edge}
+use Rattle.nj_tools.specs.Listings.{inputs_text, targets_text}
+use Rattle.nj_tools.specs.Queries.{query_text}
+use Rattle.nj_tools.specs.RuleLists.{rules_text}
 use Rattle.nj_request.specs.Requests.{ActionText, commands, single_commands}
-use Rattle.nj_cli.specs.Targets.{edges_by_path, targets_of}
+use Rattle.nj_request.specs.Requests as ask
+use Rattle.nj_cli.specs.Targets.{edges_by_path, targets_named, targets_of}
 use Rattle.nj_cli.specs.declared.status.Status.{Status}
 use Rattle.nj_cli.specs.declared.status.Status.TheVariants.{Done, Fault, Stopped, OutputFailed}
 
@@ -38,14 +46,24 @@ commands_text entries take start (Ok targets) =
     if leads entries targets start then command_lines entries (written take (commands_left entries targets start)) else []
 commands_text entries take start (Err fault) = []
 
-abbrev pub single_commands_text : List Entry → (targets : Result (List (List ℕ)) GraphFault) → List ℕ
-single_commands_text entries (Ok targets) = command_lines entries (own_commands_in (edges_by_path entries) targets)
-single_commands_text entries (Err fault) = []
+-- a text for targets; nothing at a fault of theirs
+abbrev pub for_targets : (text : List (List ℕ) → List ℕ) → (targets : Result (List (List ℕ)) GraphFault) → List ℕ
+for_targets text (Ok targets) = text targets
+for_targets text (Err fault) = []
 
--- the whole output; nothing at a fault
+-- the commands of the edges that make the targets
+abbrev pub single_commands_text : List Entry → (targets : List (List ℕ)) → List ℕ
+single_commands_text entries targets = command_lines entries (own_commands_in (edges_by_path entries) targets)
+
+-- the whole output; nothing at a fault, but what `compdb` writes before one
 abbrev pub output_of : List Entry → ActionText → List ℕ
 output_of entries (commands words take start) = commands_text entries take start (targets_of entries words)
-output_of entries (single_commands words) = single_commands_text entries (targets_of entries words)
+output_of entries (single_commands words) = for_targets (single_commands_text entries) (targets_of entries words)
+output_of entries (ask.inputs words) = for_targets (inputs_text (edges_by_path entries)) (targets_of entries words)
+output_of entries (ask.targets view) = targets_text entries view
+output_of entries (ask.query words) = for_targets (query_text entries) (targets_named (edges_by_path entries) words)
+output_of entries (ask.rules descriptions) = rules_text entries descriptions
+output_of entries (ask.compdb names directory expand) = compdb_text entries directory names expand
 
 -- ---- how it ends
 
@@ -74,14 +92,30 @@ abbrev pub CommandsEnd : List Entry → (take : Option ℕ) → (start : List �
 CommandsEnd entries take start (Ok targets) ending = EndsFrom (leads entries targets start) entries take start targets ending
 CommandsEnd entries take start (Err fault) ending = ending ≡ faulty (fault_line fault)
 
-abbrev pub SinglesEnd : (targets : Result (List (List ℕ)) GraphFault) → Ending → Type 0
-SinglesEnd (Ok targets) ending = ending ≡ finished
-SinglesEnd (Err fault) ending = ending ≡ faulty (fault_line fault)
+-- all is written, where the targets have no fault
+abbrev pub TargetsEnd : (targets : Result (List (List ℕ)) GraphFault) → Ending → Type 0
+TargetsEnd (Ok targets) ending = ending ≡ finished
+TargetsEnd (Err fault) ending = ending ≡ faulty (fault_line fault)
+
+-- JSON cannot hold what is told of an edge: the fault stands at its build statement
+abbrev pub text_fault : Option EdgeText → GraphFault
+text_fault (Some e) = fault_at e.file e.spot TextNotUtf8
+text_fault None = unplaced TextNotUtf8
+
+-- there may be such an edge
+abbrev pub CompdbEnds : List Entry → (unheld : Option ℕ) → Ending → Type 0
+CompdbEnds entries None ending = ending ≡ finished
+CompdbEnds entries (Some edge) ending = ending ≡ faulty (fault_line (text_fault (slice_get (edges_read entries) edge)))
 
 -- the ending of a run; the faults of targets, from the left, come before that of the mark
 abbrev pub EndsWith : List Entry → ActionText → Ending → Type 0
 EndsWith entries (commands words take start) ending = CommandsEnd entries take start (targets_of entries words) ending
-EndsWith entries (single_commands words) ending = SinglesEnd (targets_of entries words) ending
+EndsWith entries (single_commands words) ending = TargetsEnd (targets_of entries words) ending
+EndsWith entries (ask.inputs words) ending = TargetsEnd (targets_of entries words) ending
+EndsWith entries (ask.targets view) ending = ending ≡ finished
+EndsWith entries (ask.query words) ending = TargetsEnd (targets_named (edges_by_path entries) words) ending
+EndsWith entries (ask.rules descriptions) ending = ending ≡ finished
+EndsWith entries (ask.compdb names directory expand) ending = CompdbEnds entries (unheld_edge entries names expand) ending
 
 -- ---- what is told of it
 

@@ -2,7 +2,8 @@
 use Rattle.std.specs.Prelude.{◌≡◌, ◌⊎◌, ℕ, Option, Some, None, Result, Ok, Err, List}
 use Rattle.nj_scope.specs.ReadingList.{Entry}
 use Rattle.nj_faults.specs.FaultLines.{fault_line}
-use Rattle.nj_faults.specs.Faults.{no_memory}
+use Rattle.nj_faults.specs.declared.fault.Cause.TheVariants.{TextNotUtf8}
+use Rattle.nj_faults.specs.Faults.{no_memory, unplaced}
 use Rattle.nj_tools.specs.Sinks.{SinkState, Takes}
 use Rattle.nj_tools.specs.Texts.{FailsWithin, TakesFront}
 use Rattle.nj_request.specs.Requests.{ActionText}
@@ -26,6 +27,7 @@ fault_of_mark mark.OutOfRange = fault.MarkOutOfRange
 fault_of_mark mark.OutOfMemory = fault.OutOfMemory
 
 abbrev pub fault_of_tool : ToolFault → RunFault
+fault_of_tool (tool.TextNotUtf8 edge) = fault.Graph (unplaced TextNotUtf8)
 fault_of_tool tool.Write = fault.Write
 fault_of_tool tool.OutOfMemory = fault.OutOfMemory
 
@@ -34,8 +36,9 @@ abbrev pub AnswersTo : List Entry → ActionText → (old new : SinkState) → R
 AnswersTo entries action old new (Ok None) = EndsWith entries action finished × Takes old new (output_of entries action)
 AnswersTo entries action old new (Ok (Some mark)) = EndsWith entries action (stopped mark) × Takes old new (output_of entries action)
 AnswersTo entries action old new (Err (fault.Graph f)) =
-    ((f ≡ no_memory) ⊎ EndsWith entries action (faulty (fault_line f))) × (new ≡ old)
-AnswersTo entries action old new (Err fault.MarkOutOfRange) = EndsWith entries action (faulty out_of_range) × (new ≡ old)
+    ((f ≡ no_memory) × (new ≡ old)) ⊎ (EndsWith entries action (faulty (fault_line f)) × Takes old new (output_of entries action))
+AnswersTo entries action old new (Err fault.MarkOutOfRange) =
+    EndsWith entries action (faulty out_of_range) × Takes old new (output_of entries action)
 AnswersTo entries action old new (Err fault.Write) = FailsWithin old new (output_of entries action)
 AnswersTo entries action old new (Err fault.OutOfMemory) = TakesFront old new (output_of entries action)
 

@@ -3,15 +3,15 @@
 ghost use Rattle.std.specs.Prelude.{◌≡◌};
 ghost use Rattle.nj_cli.specs.declared.fault.RunFault.TheVariants as fault;
 
-use nj_graph::GraphFault;
+use nj_graph::{Cause, GraphFault};
 use nj_needs::MarkFault;
 use nj_tools::ToolFault;
-use std::alloc::{AllocError, AllocFailed};
+use std::alloc::AllocError;
 
 /// Why a run does not reach its end.
 #[derive(Drop)]
 pub(crate) enum RunFault {
-    /// A target is none.
+    /// A target is none, or a text is not UTF-8.
     Graph(GraphFault),
     /// The mark leads to no edge.
     MarkOutOfRange,
@@ -49,8 +49,20 @@ impl From<ToolFault> for RunFault {
 
     fn from(f: ToolFault) -> RunFault {
         match f {
+            // The tool that says so has a place for it (`answer_compdb`).
+            ToolFault::TextNotUtf8(_edge) => RunFault::Graph(GraphFault::unplaced(
+                Cause::TextNotUtf8,
+            )),
             ToolFault::Write => RunFault::Write,
             ToolFault::OutOfMemory => RunFault::OutOfMemory,
         }
+    }
+}
+
+impl From<AllocError> for RunFault {
+    ghost from_gives = { λ _ e. e ≡ fault.OutOfMemory };
+
+    fn from(_e: AllocError) -> RunFault {
+        RunFault::OutOfMemory
     }
 }
