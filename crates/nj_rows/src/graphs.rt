@@ -402,3 +402,45 @@ fn a_phony_edge_has_the_command_of_its_block(rt: HostRuntime) -> Result<(), Fail
         )],
     )
 }
+
+/// The commands of the edges of a graph as they are without their response files, a line each.
+fn expanded_in(rt: &impl AllocGlobal, graph: &Graph) -> Result<Vec<u8>, Fail> {
+    let mut text = Vec::new(rt.alloc());
+    'edges: for number in 0..graph.edge_count() {
+        let command = graph.command_with_rsp(rt.alloc(), EdgeNo(number))?;
+        text.extend_from_slice(&command)?;
+        text.push(b'\n')?;
+    }
+    Ok(text)
+}
+
+/// Those of a main file.
+fn expanded(rt: &impl AllocGlobal, main: &[u8]) -> Result<Vec<u8>, Fail> {
+    let loaded = loaded(rt, main)?;
+    expanded_in(rt, loaded.graph())
+}
+
+const RESPONSES: &[u8] = b"rule r
+  command = $line
+  rspfile = f
+  rspfile_content = $in_newline
+rule c
+  command = c @
+build p: r a b
+  line = ld @f -o p @f
+build q: r a
+  line = ld f @f
+build s: r a
+  line = f
+build u: c a
+";
+
+#[test]
+fn a_response_file_is_expanded_where_it_is_named_first(rt: HostRuntime) -> Result<(), Fail> {
+    let text = expanded(&rt, RESPONSES)?;
+    assert_eq!(rt;
+        text.as_slice(),
+        b"ld a b -o p @f\nld f @f\nf\nc @\n".as_slice()
+    );
+    Ok(())
+}

@@ -19,3 +19,5 @@ mod requests;
 mod runs;
 #[cfg(test)]
 mod sinks;
+#[cfg(test)]
+mod tools;

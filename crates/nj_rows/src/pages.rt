@@ -209,7 +209,8 @@ fn put_row(text: &mut String, len: usize, times: usize) -> Result<(), AllocError
     text.push('\n')
 }
 
-fn row_of(alloc: Global, len: usize, times: usize) -> Result<String, AllocError> {
+/// The text of such a row.
+pub(crate) fn row_of(alloc: Global, len: usize, times: usize) -> Result<String, AllocError> {
     let mut text = String::new(alloc);
     put_row(&mut text, len, times)?;
     Ok(text)

@@ -1,7 +1,9 @@
 //! What command lines ask for.
 
-use nj_request::{Action, Request, read_words};
+use nj_needs::Mark;
+use nj_request::{Action, Request, TargetsView, read_words};
 use std::alloc::{AllocError, Global};
+use std::fmt::Write;
 use std::process::Abort;
 use std::test::*;
 
@@ -15,29 +17,69 @@ fn put_words(text: &mut String, words: &[String]) -> Result<(), AllocError> {
     Ok(())
 }
 
-/// What a request asks for.
-fn request_text(alloc: Global, request: &Request) -> Result<String, AllocError> {
-    let input = if request.from_stdin { "stdin as " } else { "" };
-    let mut text = format!(in alloc; "{input}{}:", request.file.as_str())?;
-    match &request.action {
+/// What the tool is, with its words.
+fn put_tool(text: &mut String, tool: &str, words: &[String]) -> Result<(), AllocError> {
+    text.push_str(tool)?;
+    put_words(text, words)
+}
+
+/// What is asked for of `commands`.
+fn put_commands(
+    alloc: Global,
+    text: &mut String,
+    targets: &[String],
+    take: Option<u64>,
+    start: &Mark,
+) -> Result<(), AllocError> {
+    put_tool(text, "commands", targets)?;
+    if let Some(number) = take {
+        write!(text, " take {number}")?;
+    }
+    write!(text, " from {}", start.to_text(alloc)?.as_str())
+}
+
+/// What `targets` is to list.
+fn put_view(text: &mut String, view: &TargetsView) -> Result<(), AllocError> {
+    match view {
+        TargetsView::OfRule(rule) => {
+            let name = str::from_utf8(rule.as_bytes()).unwrap_or("");
+            write!(text, "targets of rule {name}")
+        }
+        TargetsView::Sources => text.push_str("sources"),
+        TargetsView::Depth(depth) => write!(text, "targets to depth {depth}"),
+        TargetsView::All => text.push_str("all targets"),
+    }
+}
+
+/// What is asked for.
+fn put_action(alloc: Global, text: &mut String, action: &Action) -> Result<(), AllocError> {
+    match action {
         Action::Commands {
             targets,
             take,
             start,
+        } => put_commands(alloc, text, targets, *take, start),
+        Action::SingleCommands { targets } => put_tool(text, "single commands", targets),
+        Action::Inputs { targets } => put_tool(text, "inputs", targets),
+        Action::Targets { view } => put_view(text, view),
+        Action::Query { files } => put_tool(text, "query", files),
+        Action::Rules { descriptions } => write!(text, "rules, descriptions {descriptions}"),
+        Action::Compdb {
+            rules,
+            directory,
+            expand,
         } => {
-            text.push_str(" commands")?;
-            put_words(&mut text, targets.as_slice())?;
-            if let Some(number) = take {
-                text.push_str(format!(in alloc; " take {number}")?.as_str())?;
-            }
-            text.push_str(" from ")?;
-            text.push_str(start.to_text(alloc)?.as_str())?;
-        }
-        Action::SingleCommands { targets } => {
-            text.push_str(" single commands")?;
-            put_words(&mut text, targets.as_slice())?;
+            put_tool(text, "compdb", rules)?;
+            write!(text, " in {}, expand {expand}", directory.as_str())
         }
     }
+}
+
+/// What a request asks for.
+fn request_text(alloc: Global, request: &Request) -> Result<String, AllocError> {
+    let input = if request.from_stdin { "stdin as " } else { "" };
+    let mut text = format!(in alloc; "{input}{}: ", request.file.as_str())?;
+    put_action(alloc, &mut text, &request.action)?;
     Ok(text)
 }
 
@@ -87,6 +129,44 @@ fn requests(rt: HostRuntime) -> Result<(), Fail> {
             (
                 &["-t", "commands", "--take=007", "-"],
                 "build.ninja: commands [-] take 7 from start",
+            ),
+        ],
+    )
+}
+
+#[test]
+fn requests_of_other_tools(rt: HostRuntime) -> Result<(), Fail> {
+    compare(
+        &rt,
+        &[
+            (&["-t", "inputs"], "build.ninja: inputs"),
+            (&["a", "-t", "inputs", "b"], "build.ninja: inputs [a] [b]"),
+            (&["-t", "query", "a^"], "build.ninja: query [a^]"),
+            (&["-t", "rules"], "build.ninja: rules, descriptions false"),
+            (&["-dt", "rules"], "build.ninja: rules, descriptions true"),
+            (&["-t", "compdb"], "build.ninja: compdb in ., expand false"),
+            (
+                &["-xt", "compdb", "cc", "--directory=", "cc"],
+                "build.ninja: compdb [cc] [cc] in , expand true",
+            ),
+            (&["-t", "targets"], "build.ninja: targets to depth 1"),
+            (
+                &["-t", "targets", "depth"],
+                "build.ninja: targets to depth 1",
+            ),
+            (
+                &["-t", "targets", "depth", "0"],
+                "build.ninja: targets to depth 0",
+            ),
+            (
+                &["-t", "targets", "depth", "02147483647"],
+                "build.ninja: targets to depth 2147483647",
+            ),
+            (&["-t", "targets", "all"], "build.ninja: all targets"),
+            (&["-t", "targets", "rule"], "build.ninja: sources"),
+            (
+                &["-t", "targets", "rule", "cc"],
+                "build.ninja: targets of rule cc",
             ),
         ],
     )

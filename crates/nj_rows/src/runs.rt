@@ -11,7 +11,7 @@ pub(crate) const DIAMOND: &[u8] =
 
 const ALL: &str = "mk a\nmk b1\nmk b2\nmk d\n[0] ";
 
-const PHONY: &[u8] = b"rule t\n  command = t $out\nbuild x: t\nbuild all: phony all x\n";
+pub(crate) const PHONY: &[u8] = b"rule t\n  command = t $out\nbuild x: t\nbuild all: phony all x\n";
 
 /// Two scopes, each with a rule of the same name.
 const TWO_SCOPES: &[(&str, &[u8])] = &[
@@ -29,7 +29,7 @@ pub(crate) struct Limits {
     pub error: Option<usize>,
 }
 
-const NO_LIMITS: Limits = Limits {
+pub(crate) const NO_LIMITS: Limits = Limits {
     output: None,
     error: None,
 };
@@ -82,7 +82,7 @@ fn run(
 }
 
 /// With each list of words the run over these files ends as is said beside it.
-fn end_so(
+pub(crate) fn end_so(
     rt: &(impl Abort + AllocGlobal),
     files: &mut MemoryFiles,
     rows: &[(&[&str], &str)],
@@ -474,7 +474,7 @@ fn reports_failed_readings(rt: HostRuntime) -> Result<(), Fail> {
 }
 
 /// How a run over a main file ends with sinks that take so many bytes.
-fn run_within(
+pub(crate) fn run_within(
     alloc: Global,
     main: &[u8],
     words: &[&str],
