@@ -1,0 +1,94 @@
+# Completion of ninja-explain in bash.
+
+# The options that go with a tool, beside those of all tools.
+_ninja_explain_options() {
+    case $1 in
+        commands) echo '-s --take --resume' ;;
+        rules) echo '-d' ;;
+        compdb) echo '-x --directory' ;;
+    esac
+}
+
+# The names of the rules in the scope of a main file.
+_ninja_explain_rules() {
+    ninja-explain -f "$1" -t rules 2>/dev/null
+}
+
+# Reads the words before the cursor into variables of the caller: the tool, the main file, the words
+# that are no options, whether `--` ended the options, and the option whose value is at the cursor.
+_ninja_explain_words() {
+    local index option
+    for ((index = 1; index < COMP_CWORD; index++)); do
+        option=${COMP_WORDS[index]}
+        if [[ $ended || $option != -* ]]; then
+            words+=("$option")
+            continue
+        fi
+        case $option in
+            --) ended=yes ;;
+            -t | -f | --take | --resume | --directory)
+                [[ ${COMP_WORDS[index + 1]} == '=' ]] && ((index++))
+                if ((++index >= COMP_CWORD)); then
+                    wanted=$option
+                elif [[ $option == -t ]]; then
+                    tool=${COMP_WORDS[index]}
+                elif [[ $option == -f ]]; then
+                    file=${COMP_WORDS[index]}
+                fi
+                ;;
+            -t*) tool=${option#-t} ;;
+            -f*) file=${option#-f} ;;
+        esac
+    done
+}
+
+# What `compgen` offers in place of a word that is no option.
+_ninja_explain_offer_words() {
+    case $tool in
+        commands | inputs | query) offer=(-f) ;;
+        compdb) offer=(-W "$(_ninja_explain_rules "$file")") ;;
+        targets)
+            if ((${#words[@]} == 0)); then
+                offer=(-W 'all depth rule')
+            elif [[ ${#words[@]} == 1 && ${words[0]} == rule ]]; then
+                offer=(-W "$(_ninja_explain_rules "$file")")
+            fi
+            ;;
+    esac
+}
+
+# What it offers as the value of the option that wants one.
+_ninja_explain_offer_value() {
+    # bash cuts `--directory=x` into three words
+    [[ $current == '=' ]] && current=''
+    case $wanted in
+        -t) offer=(-W "$tools") ;;
+        -f) offer=(-f) ;;
+        --directory) offer=(-d) ;;
+    esac
+}
+
+_ninja_explain() {
+    local tools='commands inputs targets query rules compdb'
+    local tool='' file=build.ninja words=() ended='' wanted=''
+    local current=${COMP_WORDS[COMP_CWORD]} offer=()
+    _ninja_explain_words
+
+    if [[ $wanted ]]; then
+        _ninja_explain_offer_value
+    elif [[ ! $ended && $current == -t?* ]]; then
+        current=${current#-t}
+        offer=(-P -t -W "$tools")
+    elif [[ ! $ended && $current == -* ]]; then
+        offer=(-W "-t -f --stdin -- $(_ninja_explain_options "$tool")")
+    else
+        _ninja_explain_offer_words
+    fi
+
+    COMPREPLY=()
+    ((${#offer[@]} == 0)) && return
+    [[ ${offer[0]} == -[fd] ]] && compopt -o filenames 2>/dev/null
+    mapfile -t COMPREPLY < <(compgen "${offer[@]}" -- "$current")
+}
+
+complete -F _ninja_explain ninja-explain
