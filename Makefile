@@ -4,7 +4,16 @@ BUILT := $(PROGRAM)/out/ninja_explain
 # How many proofs run side by side. The prover runs fewer where memory is short.
 JOBS ?= $(shell nproc)
 
-.PHONY: all run test smoke try clean
+# Where `make install` puts things; DESTDIR stands before all of it.
+PREFIX ?= /usr/local
+SHARE := $(DESTDIR)$(PREFIX)/share
+INSTALLED_PROGRAM := $(DESTDIR)$(PREFIX)/bin/ninja-explain
+INSTALLED_PAGE := $(SHARE)/man/man1/ninja-explain.1
+INSTALLED_BASH := $(SHARE)/bash-completion/completions/ninja-explain
+INSTALLED_ZSH := $(SHARE)/zsh/site-functions/_ninja-explain
+INSTALLED_FISH := $(SHARE)/fish/vendor_completions.d/ninja-explain.fish
+
+.PHONY: all run test smoke try install uninstall clean
 
 # Proves and builds the program, and leaves it as bin/ninja-explain.
 all:
@@ -20,10 +29,12 @@ run: all
 test:
 	rt ci
 
-# Runs the built program on real files, and looks whether docs/ARCHITECTURE.md names every module.
+# Runs the built program on real files, and looks whether docs/ARCHITECTURE.md names every module,
+# and the man page and the completions every tool and option.
 smoke: $(BUILT)
 	@status=0; \
 	python3 scripts/check_docs.py || status=1; \
+	python3 scripts/check_words.py $(BUILT) || status=1; \
 	python3 scripts/smoke.py $(BUILT) || status=1; \
 	exit $$status
 
@@ -34,6 +45,21 @@ $(BUILT): $(wildcard crates/*/src/*.rt)
 # Runs the program on the quick start's file before any proof.
 try:
 	cd $(PROGRAM) && rt try < ../../examples/hello/build.ninja
+
+# Installs the program that `make run` left, its man page, and completions for three shells.
+install:
+	@test -x bin/ninja-explain || \
+	{ echo "there is no bin/ninja-explain to install: build it first, with 'make run'" >&2; exit 1; }
+	install -D -m 755 bin/ninja-explain "$(INSTALLED_PROGRAM)"
+	install -D -m 644 man/ninja-explain.1 "$(INSTALLED_PAGE)"
+	install -D -m 644 completions/ninja-explain.bash "$(INSTALLED_BASH)"
+	install -D -m 644 completions/_ninja-explain "$(INSTALLED_ZSH)"
+	install -D -m 644 completions/ninja-explain.fish "$(INSTALLED_FISH)"
+
+# Removes what `make install` with the same PREFIX and DESTDIR installed; folders stay.
+uninstall:
+	rm -f "$(INSTALLED_PROGRAM)" "$(INSTALLED_PAGE)" "$(INSTALLED_BASH)" "$(INSTALLED_ZSH)" \
+	"$(INSTALLED_FISH)"
 
 clean:
 	rm -rf bin crates/*/out

@@ -2,10 +2,11 @@
 """Runs the built program on real files: smoke.py PROGRAM
 
 Prints what differs from what it should be, and nothing else. The status is 1 if anything differs.
-Where Ninja is installed, the commands of a project of 22 files are compared with those that it
-writes, byte for byte. Where `cc` is, each allocation of some runs fails in turn.
+Where Ninja is installed, what the tools write of a project of 22 files is compared with what it
+writes. Where `cc` is, each allocation of some runs fails in turn.
 """
 
+import json
 import os
 import shutil
 import subprocess
@@ -13,6 +14,7 @@ import sys
 import tempfile
 from pathlib import Path
 
+import smoke_tools
 from smoke_project import project
 
 PROGRAM = os.path.abspath(sys.argv[1])
@@ -43,6 +45,19 @@ def chain():
     lines += [f"build e{i}: r e{i - 1}\n" for i in range(1, EDGES)]
     commands = ["mk s e0\n"] + [f"mk e{i - 1} e{i}\n" for i in range(1, EDGES)]
     return "".join(lines).encode(), "".join(commands).encode()
+
+
+def tools_of_chain():
+    """What some tools write of the chain, by their words."""
+    outputs = [f"e{i}" for i in range(EDGES)]
+    last = [f"{'  ' * level}e{EDGES - 1 - level}: r\n" for level in range(3)]
+    return {
+        "-t inputs": "".join(f"{path}\n" for path in sorted([*outputs[:-1], "s"])).encode(),
+        "-t targets all": "".join(f"{path}: r\n" for path in outputs).encode(),
+        "-t targets depth 3": "".join(last).encode(),
+        "-t targets rule r": "".join(f"{path}\n" for path in sorted(outputs)).encode(),
+        "-t query e7": b"e7:\n  input: r\n    e6\n  outputs:\n    e8\n",
+    }
 
 
 def shown(text):
@@ -112,6 +127,37 @@ def try_outputs(folder):
         expect("full error output", run(folder, unknown, stderr=full), (FAULT, b"", None))
 
 
+def try_tools(folder):
+    """The answers of each tool, also to a full output, and the examples of the man page."""
+    (folder / "build.ninja").write_text(smoke_tools.KINDS)
+    for place, answers in (PROJECT, smoke_tools.ANSWERS), (folder, smoke_tools.KINDS_ANSWERS):
+        for words, output in answers.items():
+            expect(words, run(place, words.split()), (DONE, output.encode(), b""))
+            if output:
+                with open("/dev/full", "wb") as full:
+                    ran = run(place, words.split(), stdout=full)
+                expect(f"{words}, full output", ran, (OUTPUT_FAILED, None, b""))
+    for place, words, written in smoke_tools.page_examples():
+        ran = run(SCRIPTS.parent / place, words, stderr=subprocess.STDOUT)
+        status = STOPPED if "--take" in words else DONE
+        expect(f"man page, {words}", ran, (status, written.encode(), None))
+
+
+def try_usage(folder):
+    for words, text in smoke_tools.USAGE_FAULTS.items():
+        wanted = (USAGE, b"", f"ninja-explain: {text}\n".encode())
+        expect(words, run(folder, words.split()), wanted)
+
+
+def try_text_that_is_none(folder):
+    """What of the output comes before the fault is a beginning of the array."""
+    (folder / "build.ninja").write_bytes(smoke_tools.NOT_TEXT)
+    status, output, error = run(folder, ["-t", "compdb"])
+    expect("bytes in JSON", (status, None, error), (FAULT, None, smoke_tools.NOT_TEXT_FAULT))
+    if not output.startswith(b"[") or b"good" not in output or b"bad" in output:
+        failures.append(f"bytes in JSON: the output is {output!r}")
+
+
 def try_stops(folder):
     lines = HELLO_COMMANDS.splitlines(keepends=True)
     two = [*COMMANDS, "--take", "2"]
@@ -173,6 +219,11 @@ def try_project(folder):
         compare_with_ninja(folder)
 
 
+def ninja(folder, words):
+    ran = subprocess.run(["ninja", *words], cwd=folder, capture_output=True, timeout=SECONDS)
+    return ran.stdout
+
+
 def compare_with_ninja(folder):
     for targets in (
         [],
@@ -183,26 +234,63 @@ def compare_with_ninja(folder):
         ["install", "build.ninja"],
         ["-s", "app", "lib_01/lib01.a", "all"],
     ):
-        ninja = subprocess.run(["ninja", *COMMANDS, *targets], cwd=folder, capture_output=True)
-        wanted = (DONE, ninja.stdout, b"")
+        wanted = (DONE, ninja(folder, [*COMMANDS, *targets]), b"")
         expect(f"project, {targets}", run(folder, [*COMMANDS, *targets]), wanted)
+    for words in (
+        ["targets", "all"],
+        ["targets", "depth", "3"],
+        ["targets", "rule", "ARCHIVE"],
+        ["targets", "rule", "CXX_COMPILER"],
+        ["targets", "rule", "phony"],
+        ["query", "app", "lib_04/lib04.a", "lib_04/check", "lib_03/it's.cc", "generated/config.h"],
+        ["rules", "-d"],
+    ):
+        wanted = (DONE, ninja(folder, ["-t", *words]), b"")
+        expect(f"project, {words}", run(folder, ["-t", *words]), wanted)
+    for words in [], ["ARCHIVE", "LINK"], ["-x"], ["-x", "ARCHIVE"]:
+        compare_databases(folder, words)
+
+
+def compare_databases(folder, words):
+    """Compilation databases are compared as JSON. Some versions of Ninja write phony edges too."""
+    phony = set(ninja(folder, ["-t", "targets", "rule", "phony"]).decode().splitlines())
+    theirs = json.loads(ninja(folder, ["-t", "compdb", *words]))
+    wanted = [entry for entry in theirs if entry["output"] not in phony]
+    here = ["--directory", os.path.realpath(folder)]
+    status, output, error = run(folder, ["-t", "compdb", *here, *words])
+    expect(f"project, compdb {words}", (status, None, error), (DONE, None, b""))
+    if json.loads(output or "[]") != wanted:
+        failures.append(f"project, compdb {words}: the objects are not those of Ninja")
 
 
 def try_memory(room):
-    """Each allocation fails in turn, in runs over the project of the examples: the answer is that of
-    ample memory, or a beginning of it and one line."""
+    """Each allocation fails in turn, in runs over the project of the examples: the answer is that
+    of ample memory, or a beginning of it and one line."""
     library, told = Path(room) / "fail_alloc.so", Path(room) / "told"
     compiler = ["cc", "-O2", "-shared", "-fPIC", "-o", library, SCRIPTS / "fail_alloc.c"]
     subprocess.run(compiler, check=True)
-    for words in (["--take", "2"], ["--resume", "0.0", "test"], ["-s", "main.c^"], ["nothing"]):
-        ample, number = run(PROJECT, [*COMMANDS, *words]), 0
+    for words in (
+        [*COMMANDS, "--take", "2"],
+        [*COMMANDS, "--resume", "0.0", "test"],
+        [*COMMANDS, "-s", "main.c^"],
+        [*COMMANDS, "nothing"],
+        ["-t", "inputs", "test"],
+        ["-t", "targets", "depth", "0"],
+        ["-t", "targets", "all"],
+        ["-t", "targets", "rule", "cc"],
+        ["-t", "targets", "rule"],
+        ["-t", "query", "out/libtext.a", "main.c^"],
+        ["-t", "rules", "-d"],
+        ["-t", "compdb", "-x", "cc", "link"],
+    ):
+        ample, number = run(PROJECT, words), 0
         told.touch()
         while told.exists():
             told.unlink()
             number += 1
             preloaded = {"LD_PRELOAD": str(library), "FAIL_ALLOC": str(number)}
             fails = {**os.environ, **preloaded, "FAIL_ALLOC_TOLD": str(told)}
-            ran = run(PROJECT, [*COMMANDS, *words], env=fails)
+            ran = run(PROJECT, words, env=fails)
             lacks = ran[0] == FAULT and ran[2] == b"ninja-explain: out of memory\n"
             if ran != ample and not (lacks and ample[1].startswith(ran[1])):
                 failures.append(f"{words}, allocation {number} fails: it answers {ran}")
@@ -213,6 +301,8 @@ def try_large(folder):
     expect("chain from standard input", run(folder, [], input=manifest), (DONE, wanted, b""))
     (folder / "build.ninja").write_bytes(manifest)
     expect("chain", run(folder, COMMANDS), (DONE, wanted, b""))
+    for words, lines in tools_of_chain().items():
+        expect(f"chain, {words}", run(folder, words.split()), (DONE, lines, b""))
     (status, first, _), mark = run_page(folder, TAKEN, "start")
     rest = run(folder, [*COMMANDS, "--resume", mark or "start"])
     expect("chain in two pages", (status, first + rest[1], rest[2]), (STOPPED, wanted, b""))
@@ -225,11 +315,14 @@ def main():
         return 1
     with tempfile.TemporaryDirectory() as room:
         folder = Path(room)
+        try_usage(folder)
         try_faults(folder)
         (folder / "build.ninja").write_bytes(HELLO.read_bytes())
         try_outputs(folder)
         try_stops(folder)
         try_names(folder)
+        try_tools(folder)
+        try_text_that_is_none(folder)
         try_project(folder)
         if shutil.which("cc"):
             try_memory(room)

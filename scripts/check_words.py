@@ -1,0 +1,250 @@
+#!/usr/bin/env python3
+"""Compares the options and tools of the man page and of the completions with those of the program:
+
+    check_words.py [PROGRAM]
+
+PROGRAM is the built program, else bin/ninja-explain. The options are those that
+crates/nj_request/specs/CommandLine.antt gives to `clap`; the tools, and the options that go with
+each, are the table TOOLS below. The program is asked for each tool and option whether it agrees.
+The completion of bash is run, where bash is; the other two are read. The page has to have the text
+of each fault too, as the definitions write it.
+
+Prints what differs, and nothing else. The status is 1 if anything differs.
+"""
+
+import os
+import re
+import shutil
+import subprocess
+import sys
+import tempfile
+from pathlib import Path
+
+ROOT = Path(__file__).resolve().parent.parent
+PROGRAM = os.path.abspath(sys.argv[1]) if len(sys.argv) > 1 else str(ROOT / "bin/ninja-explain")
+COMMAND_LINE = ROOT / "crates/nj_request/specs/CommandLine.antt"
+PAGE = ROOT / "man/ninja-explain.1"
+BASH = ROOT / "completions/ninja-explain.bash"
+ZSH = ROOT / "completions/_ninja-explain"
+FISH = ROOT / "completions/ninja-explain.fish"
+
+# For each tool the options that go with it alone, and words that it takes.
+TOOLS = {
+    "commands": ({"-s", "--take", "--resume"}, []),
+    "inputs": (set(), []),
+    "targets": (set(), ["all"]),
+    "query": (set(), ["file"]),
+    "rules": ({"-d"}, []),
+    "compdb": ({"-x", "--directory"}, []),
+}
+EVERY_TOOL = {"-t", "-f", "--stdin"}
+# `--` ends the options, and is none itself.
+END = "--"
+VALUES = {"-f": "build.ninja", "--take": "1", "--resume": "start", "--directory": "here"}
+# The definitions that write texts of faults, from the first line of each group to an empty one, and
+# texts that are those of dyndep files alone, which the program does not read.
+FAULT_TEXTS = {
+    "crates/nj_faults/specs/FaultLines.antt": ["cause_text"],
+    "crates/nj_manifest/specs/Faults.antt": ["wanted_text", "unit_text", "text_of"],
+    "crates/nj_request/specs/FaultLines.antt": ["fault_text"],
+    "crates/nj_cli/specs/Answers.antt": ["out_of_range"],
+}
+OF_DYNDEP_FILES = {"expected 'ninja_dyndep_version = 1'", "not a dyndep statement"}
+REFUSED = ["-h", "--help", "-V", "--version", "-C", "--nothing"]
+UNREAD = b"ninja-explain: cannot read the arguments\n"
+USAGE = 2
+SECONDS = 60
+
+faults = []
+
+
+def report(where, fault):
+    faults.append(f"{where}: {fault}")
+
+
+def compare(where, what, found, wanted):
+    """Both are sets of words."""
+    for word in sorted(found - wanted):
+        report(where, f"{what} {word} is none of the program")
+    for word in sorted(wanted - found):
+        report(where, f"{what} {word} is missing")
+
+
+def options_of(tool):
+    return TOOLS[tool][0]
+
+
+def compare_options(where, found):
+    """`found` has a set of options for each tool, with or without those of every tool."""
+    for tool in sorted(found.keys() - TOOLS):
+        report(where, f"the tool {tool} is none of the program")
+    for tool in TOOLS:
+        own = found.get(tool, set()) - EVERY_TOOL
+        compare(where, f"with {tool}, the option", own, options_of(tool))
+
+
+# ---- the program
+
+
+def options_of_clap():
+    """The options that the definition gives to `clap`."""
+    kinds = r'(short|long)_(?:option|flag) \(codes "([\w-]+)"\)(?: (\d+))?'
+    found = re.findall(kinds, COMMAND_LINE.read_text())
+    return {f"-{chr(int(code))}" if kind == "short" else f"--{name}" for kind, name, code in found}
+
+
+def ask(folder, words):
+    """The status and the error output of the program, in a folder without files."""
+    how = {"cwd": folder, "stdin": subprocess.DEVNULL, "capture_output": True, "timeout": SECONDS}
+    ran = subprocess.run([PROGRAM, *words], **how)
+    return ran.returncode, ran.stderr
+
+
+def ask_option(folder, tool, option):
+    value = [VALUES[option]] if option in VALUES else []
+    status, error = ask(folder, [option, *value, "-t", tool, *TOOLS[tool][1]])
+    if option in EVERY_TOOL | options_of(tool):
+        if status == USAGE:
+            report("the program", f"with {tool}, {option} is refused: {error.decode().rstrip()}")
+        return
+    foreign = f"ninja-explain: option {option} does not go with tool '{tool}'\n"
+    if (status, error) != (USAGE, foreign.encode()):
+        report("the program", f"with {tool}, {option} is not refused as one of another tool")
+
+
+def check_program(folder):
+    options = options_of_clap()
+    wanted = EVERY_TOOL.union(*map(options_of, TOOLS))
+    compare(COMMAND_LINE.relative_to(ROOT), "the option", options, wanted)
+    for tool, (_, words) in TOOLS.items():
+        status, error = ask(folder, ["-t", tool, END, *words])
+        if status == USAGE:
+            report("the program", f"{tool} is refused: {error.decode().rstrip()}")
+        for option in sorted(options - {"-t"}):
+            ask_option(folder, tool, option)
+    if ask(folder, ["-t", "nothing"]) != (USAGE, b"ninja-explain: unknown tool 'nothing'\n"):
+        report("the program", "it knows the tool nothing")
+    for option in REFUSED:
+        if ask(folder, [option, "-t", "commands"]) != (USAGE, UNREAD):
+            report("the program", f"it takes {option}")
+
+
+# ---- the man page
+
+
+def tagged(section):
+    """The tags of a section's paragraphs, without fonts and escapes."""
+    text = re.search(rf"^\.SH {section}\n(.*?)^\.SH ", PAGE.read_text(), re.M | re.S)[1]
+    tags = re.findall(r'^\.TP\n\.B[IR]? (.*)\n((?:\.RB .*\n)?(?:not with\n.*\n|,\n)*)', text, re.M)
+    return [(re.sub(r"\\f.", "", tag.replace("\\-", "-")), about) for tag, about in tags]
+
+
+def check_page():
+    where = PAGE.relative_to(ROOT)
+    compare(where, "the tool", {tag.split()[0] for tag, _ in tagged("TOOLS")}, set(TOOLS))
+    found, every = {tool: set() for tool in TOOLS}, set()
+    for tag, about in tagged("OPTIONS"):
+        option = tag.split()[0]
+        tools = re.findall(r"^\.RB \( (\w+)", about)
+        for tool in tools:
+            found.setdefault(tool, set()).add(option)
+        if not tools:
+            every.add(option)
+    compare(where, "the option of every tool", every, EVERY_TOOL | {END})
+    compare_options(where, found)
+
+
+def fault_texts(file, name):
+    """The texts between the names and paths of a definition's faults."""
+    text = (ROOT / file).read_text()
+    equations = re.search(rf"^abbrev pub {name} :.*\n((?:.+\n)+)", text, re.M)
+    if not equations:
+        report(file, f"there is no {name}")
+        return []
+    texts = re.findall(r'codes "([^"]*)"', equations[1])
+    return [text.removeprefix("ninja-explain: ").strip() for text in texts if len(text) > 1]
+
+
+def check_faults():
+    section = re.search(r"^\.SH FAULTS\n(.*?)^\.SH ", PAGE.read_text(), re.M | re.S)[1]
+    plain = re.sub(r"\\f.", "", section.replace("\\(aq", "'").replace("\\-", "-"))
+    for file, names in FAULT_TEXTS.items():
+        for text in (text for name in names for text in fault_texts(file, name)):
+            if text not in plain and text not in OF_DYNDEP_FILES:
+                report(PAGE.relative_to(ROOT), f"the fault {text} is missing")
+
+
+# ---- the completions
+
+
+def completed(folder, words):
+    """What the completion of bash offers in place of the last word."""
+    script = (
+        'source "$1"; shift; COMP_WORDS=("$@"); COMP_CWORD=$(($# - 1)); _ninja_explain;'
+        ' printf "%s\\n" "${COMPREPLY[@]}"'
+    )
+    bash = ["bash", "-c", script, "bash", BASH, "ninja-explain", *words]
+    ran = subprocess.run(bash, cwd=folder, capture_output=True, text=True, timeout=SECONDS)
+    if ran.returncode or ran.stderr:
+        report(BASH.relative_to(ROOT), f"it fails: {ran.stderr.rstrip()}")
+    return set(ran.stdout.split())
+
+
+def check_bash(folder):
+    where = BASH.relative_to(ROOT)
+    compare(where, "the tool", completed(folder, ["-t", ""]), set(TOOLS))
+    compare(where, "without a tool, the option", completed(folder, ["-"]), EVERY_TOOL | {END})
+    for tool in TOOLS:
+        wanted = EVERY_TOOL | options_of(tool) | {END}
+        compare(where, f"with {tool}, the option", completed(folder, ["-t", tool, "-"]), wanted)
+
+
+def check_zsh():
+    where, text = ZSH.relative_to(ROOT), ZSH.read_text()
+    tools = re.search(r"tools=\(\n(.*?)\n  \)", text, re.S)[1]
+    compare(where, "the tool", set(re.findall(r"'(\w+):", tools)), set(TOOLS))
+    found, every, tool = {}, set(), None
+    for line in text.splitlines():
+        if head := re.fullmatch(r"\s*\((\w+)\)", line):
+            tool = head[1]
+        elif option := re.match(r"""\s*['"](?:\([^)]*\))?(--?\w+)[+=]?\[""", line):
+            (found.setdefault(tool, set()) if tool else every).add(option[1])
+    compare(where, "the option of every tool", every, EVERY_TOOL)
+    compare_options(where, found)
+
+
+def check_fish():
+    where, text = FISH.relative_to(ROOT), FISH.read_text().replace("\\\n", "")
+    tools = re.search(r"function __ninja_explain_tools\n(.*?)\nend", text, re.S)[1]
+    compare(where, "the tool", set(re.findall(r"(\w+) '", tools.split("' ", 1)[1])), set(TOOLS))
+    found, every = {}, set()
+    for line in re.findall(r"^complete -c ninja-explain .*", text, re.M):
+        option = re.search(r" -(?:s (\w)|l (\w+))", line)
+        if not option:
+            continue
+        tool = re.search(r"-n '__ninja_explain_tool_is (\w+)'", line)
+        said = f"-{option[1]}" if option[1] else f"--{option[2]}"
+        (found.setdefault(tool[1], set()) if tool else every).add(said)
+    compare(where, "the option of every tool", every, EVERY_TOOL)
+    compare_options(where, found)
+
+
+def main():
+    if not os.path.isfile(PROGRAM):
+        print(f"check_words: there is no program {PROGRAM}")
+        return 1
+    with tempfile.TemporaryDirectory() as folder:
+        check_program(folder)
+        if shutil.which("bash"):
+            check_bash(folder)
+    check_page()
+    check_faults()
+    check_zsh()
+    check_fish()
+    for fault in faults:
+        print(fault)
+    return 1 if faults else 0
+
+
+if __name__ == "__main__":
+    sys.exit(main())
