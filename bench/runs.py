@@ -3,6 +3,7 @@
 import contextlib
 import os
 import shutil
+import statistics
 import subprocess
 import tempfile
 import time
@@ -50,3 +51,9 @@ def measure(programs, rounds, stdin=os.devnull, folder=None, status=0, out=None)
 def best(runs):
     """The least time by the clock, the least of the processor, and the greatest memory."""
     return min(run.seconds for run in runs), min(run.processor_seconds for run in runs), max(run.memory for run in runs)
+
+
+def middle(runs):
+    """The median time by the clock, that of the processor, and the greatest memory."""
+    seconds = statistics.median(run.seconds for run in runs)
+    return seconds, statistics.median(run.processor_seconds for run in runs), max(run.memory for run in runs)

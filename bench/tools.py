@@ -1,0 +1,245 @@
+#!/usr/bin/env python3
+"""Measures whole runs of each tool of ninja-explain beside the same tool of Ninja:
+
+    tools.py PROGRAM [--sizes N,M] [--shapes cmake,dense] [--only TOOL,TOOL] [--rounds N]
+
+In one run, on the same files, `PROGRAM -t TOOL` stands beside `ninja -t TOOL`. Both write to a
+file, and what they write has to be the same: byte for byte, or for compdb the same objects, but for
+those of phony edges, which some versions of Ninja write too. Then all of them are run in turn, five
+times or N times, and the medians count, of memory the most. Ratios are those of processor time and
+of the greatest memory. Where there is no Ninja, the program is measured alone.
+
+The manifests are those of manifest.py at the sizes of --sizes, without their `default` line and
+with a response file for each link. They are made in a temporary folder. `query many` asks for
+10,000 files, or fewer in a manifest that has fewer, and `compdb many rules` names 1,000 rules, of
+which the last is there. In the end it is listed what missed its aim (0.40 of Ninja's time, 0.90 of
+its memory), what wrote something else, and what grew by more than the manifest did.
+"""
+
+import argparse
+import filecmp
+import itertools
+import os
+import shutil
+import tempfile
+
+from manifest import PER_TARGET, SHAPES, dense_object, object_file, source
+from runs import MB, Run, measure, middle
+
+SIZES = [10_000, 100_000]
+ROUNDS = 5
+MANY_FILES = 10_000
+MANY_RULES = 1_000
+TIME_AIM = 0.40
+MEMORY_AIM = 0.90
+GROWTH_AIM = 1.15
+
+# For each shape the compiler's rule, and the command of its links with and without a response file.
+RULES = {
+    "cmake": (
+        "CXX_COMPILER",
+        "$LINK_FLAGS $in && $POST_BUILD\n",
+        "$LINK_FLAGS @$TARGET_FILE.rsp && $POST_BUILD\n"
+        "  rspfile = $TARGET_FILE.rsp\n  rspfile_content = $in_newline\n",
+    ),
+    "dense": (
+        "cxx",
+        "ar qc $out $in\n",
+        "ar qc $out @$out.rsp\n  rspfile = $out.rsp\n  rspfile_content = $in_newline\n",
+    ),
+}
+
+
+def head_of(shape):
+    """The head of a manifest, in which links have response files."""
+    head, (_, plain, by_response) = SHAPES[shape][0], RULES[shape]
+    if plain not in head:
+        raise SystemExit(f"manifest.py has no such link in {shape}")
+    return head.replace(plain, by_response)
+
+
+def make(folder, shape, count):
+    """Writes build.ninja into a folder of its own. Gives this folder."""
+    place = os.path.join(os.path.realpath(folder), str(count))
+    os.mkdir(place)
+    with open(os.path.join(place, "build.ninja"), "w") as file:
+        file.write(head_of(shape))
+        file.writelines(map(SHAPES[shape][1], range(count)))
+    return place
+
+
+def files_of(shape, count):
+    """Objects and sources from all over the manifest, but for paths that have to be escaped."""
+    targets = count // PER_TARGET
+    for number in range(1, PER_TARGET - 1):
+        for target in range(targets):
+            if shape == "dense":
+                yield dense_object(target, number)
+                yield f"src/base_{target:05}/source/unit_{number:02}.cc"
+            elif "$" not in source(target, number):
+                yield object_file(target, number)
+                yield source(target, number)
+
+
+def tools_of(shape, count):
+    """The words of each tool."""
+    rule = RULES[shape][0]
+    files = list(itertools.islice(files_of(shape, count), MANY_FILES))
+    rules = [*(f"no_rule_{number:03}" for number in range(MANY_RULES - 1)), rule]
+    return {
+        "commands": ["commands"],
+        "inputs": ["inputs"],
+        "targets all": ["targets", "all"],
+        "targets depth 1": ["targets", "depth", "1"],
+        "targets depth 2": ["targets", "depth", "2"],
+        "targets rule": ["targets", "rule", rule],
+        "query 1": ["query", files[len(files) // 2]],
+        "query many": ["query", *files],
+        "rules": ["rules"],
+        "compdb": ["compdb"],
+        "compdb 1 rule": ["compdb", rule],
+        "compdb many rules": ["compdb", *rules],
+        "compdb -x": ["compdb", "-x"],
+    }
+
+
+def command_of(program, words, place):
+    """The words of a run. Ninja writes the folder in which it is run as `directory`."""
+    here = ["--directory", place] if words[0] == "compdb" and program != "ninja" else []
+    return [program, "-t", words[0], *here, *words[1:]]
+
+
+def objects_in(path):
+    """The objects of a compilation database as lists of lines, but for those without a command."""
+    members = []
+    with open(path, "rb") as file:
+        for line in file:
+            if line.startswith(b"    "):
+                members.append(line.rstrip(b",\n"))
+            elif members:
+                if b'    "command": ""' not in members:
+                    yield members
+                members = []
+
+
+def is_same(words, ours, theirs):
+    if words[0] != "compdb":
+        return filecmp.cmp(ours, theirs, shallow=False)
+    pairs = itertools.zip_longest(objects_in(ours), objects_in(theirs))
+    return all(mine == other for mine, other in pairs)
+
+
+def commands_of(tool, words, program, place):
+    """The words of the runs of a tool, by program, and whether both write the same. Ninja is left
+    out where it is not there, or does not end well."""
+    ours, theirs = os.path.join(place, "program"), os.path.join(place, "ninja")
+    commands = {"program": command_of(program, words, place)}
+    Run(commands["program"], folder=place, out=ours)
+    if not shutil.which("ninja"):
+        return commands, True
+    try:
+        Run(command_of("ninja", words, place), folder=place, out=theirs)
+    except SystemExit as refused:
+        print(f"  Ninja is left out of {tool}: {refused}")
+        return commands, True
+    commands["ninja"] = command_of("ninja", words, place)
+    return commands, is_same(words, ours, theirs)
+
+
+def runs_of(words, shape, count, place):
+    """The runs of the tools that are asked for, by tool and program, all in turn; and the tools
+    that write something else than Ninja's."""
+    commands, other = {}, []
+    for tool, of_tool in tools_of(shape, count).items():
+        if words.only and of_tool[0] not in words.only and tool not in words.only:
+            continue
+        by_program, same = commands_of(tool, of_tool, words.program, place)
+        commands |= {(tool, who): command for who, command in by_program.items()}
+        if not same:
+            other.append(tool)
+    return measure(commands, words.rounds, folder=place, out=os.path.join(place, "out")), other
+
+
+def report(shape, count, size, figures):
+    """Prints the figures of one size, tool by tool. Gives the aims that were missed."""
+    print(f"{shape}: N = {count}, {size / MB:.1f} MB")
+    missed = []
+    for tool, of_tool in figures.items():
+        line = f"  {tool:<18}"
+        for who, (seconds, processor, memory) in of_tool.items():
+            line += f" {who} {seconds:6.3f} s, {processor:6.3f} s, {memory / MB:6.1f} MB |"
+        if "ninja" in of_tool:
+            time, memory = (of_tool["program"][of] / of_tool["ninja"][of] for of in (1, 2))
+            line += f" time {time:.2f}, memory {memory:.2f}"
+            where = f"{shape} {count}, {tool}"
+            if time > TIME_AIM:
+                missed.append(f"{where}: {time:.2f} of Ninja's time, aim {TIME_AIM}")
+            if memory > MEMORY_AIM:
+                missed.append(f"{where}: {memory:.2f} of Ninja's memory, aim {MEMORY_AIM}")
+        print(line)
+    return missed
+
+
+def report_growth(shape, few, many, before, after):
+    """Prints how the program's figures grow with the size. Gives the aims that were missed."""
+    more = many / few
+    print(f"{shape}: from {few} to {many} statements, {more:.0f} times as many")
+    missed = []
+    for tool, old in before.items():
+        time, memory = (after[tool]["program"][of] / old["program"][of] for of in (1, 2))
+        print(f"  {tool:<18} {time:6.2f} of the processor time, {memory:6.2f} of the memory")
+        if time > GROWTH_AIM * more:
+            missed.append(f"{shape}, {tool}: {time:.2f} of the time for {more:.0f} times N")
+    return missed
+
+
+def measure_size(words, shape, count):
+    """The figures of one size by tool and program, and the aims that were missed."""
+    with tempfile.TemporaryDirectory() as folder:
+        place = make(folder, shape, count)
+        size = os.path.getsize(os.path.join(place, "build.ninja"))
+        runs, other = runs_of(words, shape, count, place)
+    figures = {}
+    for (tool, who), of_both in runs.items():
+        figures.setdefault(tool, {})[who] = middle(of_both)
+    missed = [f"{shape} {count}, {tool}: Ninja writes something else" for tool in other]
+    return figures, missed + report(shape, count, size, figures)
+
+
+def measure_shape(words, shape):
+    """Measures one shape at all sizes. Gives the aims that were missed."""
+    before, few, missed = None, None, []
+    for count in words.sizes:
+        figures, more = measure_size(words, shape, count)
+        missed += more
+        if before:
+            missed += report_growth(shape, few, count, before, figures)
+        before, few = figures, count
+    return missed
+
+
+def numbers(text):
+    return [int(word) for word in text.split(",")]
+
+
+def main():
+    parser = argparse.ArgumentParser()
+    parser.add_argument("program", type=os.path.abspath)
+    parser.add_argument("--sizes", type=numbers, default=SIZES)
+    parser.add_argument("--shapes", default=",".join(SHAPES))
+    parser.add_argument("--only", type=lambda text: text.split(","), default=[])
+    parser.add_argument("--rounds", type=int, default=ROUNDS)
+    words = parser.parse_args()
+    print(f"load before: {os.getloadavg()[0]:.2f} on {os.cpu_count()} processors")
+    print("by the clock, of the processor, and the greatest memory:")
+    missed = []
+    for shape in words.shapes.split(","):
+        missed += measure_shape(words, shape)
+    print(f"load after: {os.getloadavg()[0]:.2f}")
+    print("aims missed:" if missed else "no aim was missed")
+    for line in missed:
+        print(f"  {line}")
+
+
+if __name__ == "__main__":
+    main()
