@@ -13,7 +13,7 @@ rows_text entries levels depth [] = []
 rows_text entries levels depth (row ∷ deeper) =
     rows_text entries levels (depth + 1) deeper ++ flat_map (tree_text entries (levels - depth) depth) row
 
--- the rows after a file was written: what is left of its row, and above the last level what it is made of
+-- the rows after a file was written: what is left of its row, and then what it is made of, unless it stands on the last level
 abbrev pub rows_after : List EdgePaths → (levels : ℕ) → (rows : List (List (List ℕ))) → (path : List ℕ) → (others : List (List ℕ))
     → List (List (List ℕ))
 rows_after edges levels rows path others =

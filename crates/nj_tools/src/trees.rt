@@ -58,7 +58,8 @@ fn levels_below(graph: &Graph, depth: u32) -> usize
     }
 }
 
-// Puts what is left of the row of a file back, and above the last level what it is made of on top.
+// Pushes what is left of a file's row back, and then what the file is made of, unless the file
+// stands on the last level.
 fn push_rows<'a>(
     graph: &'a Graph,
     below: usize,
