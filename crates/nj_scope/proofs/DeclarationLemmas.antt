@@ -162,15 +162,15 @@ nothing-more held entries e item no_value no_rule no_scope same_rules same_pools
 module _ (held : DeclarationsText) (number : ℕ) (around : List ℕ) where
   pub takes-include : (word : WordText) → TakesIn held held number around (IncludeText word)
   takes-include word entries file spot depth by =
-      nothing-more held entries (record { file = file; spot = spot; depth = depth; number = number; around = around; item = IncludeText word }) (IncludeText word) (λ value x. refl) (λ x. refl) refl refl refl by
+      nothing-more held entries (record { file = file; spot = spot; depth = depth; number = number; around = around; item = IncludeText word; discovered = None }) (IncludeText word) (λ value x. refl) (λ x. refl) refl refl refl by
 
   pub takes-build : (outputs : OutputsText) (rule : NameText) (inputs : InputsText) (lines : List LineText) → TakesIn held held number around (BuildText outputs rule inputs lines)
   takes-build outputs rule inputs lines entries file spot depth by =
-      nothing-more held entries (record { file = file; spot = spot; depth = depth; number = number; around = around; item = BuildText outputs rule inputs lines }) (BuildText outputs rule inputs lines) (λ value x. refl) (λ x. refl) refl refl refl by
+      nothing-more held entries (record { file = file; spot = spot; depth = depth; number = number; around = around; item = BuildText outputs rule inputs lines; discovered = None }) (BuildText outputs rule inputs lines) (λ value x. refl) (λ x. refl) refl refl refl by
 
   pub takes-default : (words : List WordText) → TakesIn held held number around (DefaultText words)
   takes-default words entries file spot depth by =
-      nothing-more held entries (record { file = file; spot = spot; depth = depth; number = number; around = around; item = DefaultText words }) (DefaultText words) (λ value x. refl) (λ x. refl) refl refl refl by
+      nothing-more held entries (record { file = file; spot = spot; depth = depth; number = number; around = around; item = DefaultText words; discovered = None }) (DefaultText words) (λ value x. refl) (λ x. refl) refl refl refl by
 
 -- ---- look-ups
 

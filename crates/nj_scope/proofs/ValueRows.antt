@@ -20,10 +20,10 @@ word parts = record { spot = first_spot; parts = parts }
 
 -- where the statements stand; their spots say nothing here
 abbrev at_main : Entry
-at_main = record { file = codes "build.ninja"; spot = first_spot; depth = 0; number = 0; around = []; item = DefaultText [] }
+at_main = record { file = codes "build.ninja"; spot = first_spot; depth = 0; number = 0; around = []; item = DefaultText []; discovered = None }
 
 abbrev at_child : Entry
-at_child = record { file = codes "s"; spot = first_spot; depth = 1; number = 1; around = 0 ∷ []; item = DefaultText [] }
+at_child = record { file = codes "s"; spot = first_spot; depth = 1; number = 1; around = 0 ∷ []; item = DefaultText []; discovered = None }
 
 -- x = 1, y = a$x, x = 2: a value expands at once
 abbrev at_once : List Entry

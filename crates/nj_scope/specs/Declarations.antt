@@ -1,5 +1,5 @@
 -- What is held of the statements that were read: that the scopes, rules and pools are those that the statements declare.
-use Rattle.std.specs.Prelude.{◌≡◌, ℕ, List, length, ◌∷◌}
+use Rattle.std.specs.Prelude.{◌≡◌, ℕ, None, List, length, ◌∷◌}
 use Rattle.nj_text.specs.declared.spot.Spot.{Spot}
 use Rattle.nj_manifest.specs.Statements.{StatementText}
 use Rattle.nj_scope.specs.ScopesHeld.{ScopeText, parent_at, bound_at, rule_at}
@@ -25,7 +25,7 @@ pub record DeclaredBy (held : DeclarationsText) (entries : List list.Entry) : Ty
 abbrev pub TakesIn : (old new : DeclarationsText) → (number : ℕ) → (around : List ℕ) → StatementText → Type 0
 TakesIn old new number around item =
     (entries : List list.Entry) (file : List ℕ) (spot : Spot) (depth : ℕ) → DeclaredBy old entries
-    → DeclaredBy new (record { file = file; spot = spot; depth = depth; number = number; around = around; item = item } ∷ entries)
+    → DeclaredBy new (record { file = file; spot = spot; depth = depth; number = number; around = around; item = item; discovered = None } ∷ entries)
 
 -- What was held before is held still.
 abbrev pub Keeps : (old new : DeclarationsText) → Type 0

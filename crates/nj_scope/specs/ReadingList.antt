@@ -6,6 +6,12 @@ use Rattle.nj_scope.specs.Rules.{line_kept, phony, phony_rule}
 use Rattle.nj_manifest.specs.Statements.{StatementText, BindingText, RuleText, PoolText, IncludeText, SubninjaText}
 use Rattle.nj_scope.specs.Scopes.{or_else, nearest, Bounds, value_in, expanded}
 
+-- What a dyndep file adds to a build statement ("Dynamic Dependencies" in the manual): outputs and inputs that it has besides, by
+-- their clean paths.
+pub record Discovered : Type 0 where
+  pub outputs : List (List ℕ)
+  pub inputs : List (List ℕ)
+
 -- A statement that was read: where it stands, and what it says.
 pub record Entry : Type 0 where
   -- the file, by the name under which it was opened
@@ -18,6 +24,8 @@ pub record Entry : Type 0 where
   pub number : ℕ
   pub around : List ℕ
   pub item : StatementText
+  -- what was discovered for it; `None` as long as no dyndep file was joined to it
+  pub discovered : Option Discovered
 
 -- its scope, with those around it
 abbrev pub scope_of : Entry → List ℕ

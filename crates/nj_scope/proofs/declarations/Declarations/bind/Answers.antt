@@ -1,4 +1,4 @@
-use Rattle.std.proofs.Common.{◌∷◌, ◌++◌, ◌∙◌, ap, subst, sym, refl}
+use Rattle.std.proofs.Common.{None, ◌∷◌, ◌++◌, ◌∙◌, ap, subst, sym, refl}
 use Rattle.nj_text.specs.Words.{word_text}
 use Rattle.nj_manifest.specs.Statements.{BindingText}
 use Rattle.nj_scope.specs.Scopes.{IsScope, value_in, expanded}
@@ -11,7 +11,7 @@ pub returns-clause-bound : goal.returns-clause-bound
 returns-clause-bound c = λ around scope. at_ok c.bind.result c.bind.ensures.bound (λ bound entries file spot depth by.
     with-binding (record { scopes = c.self.inside.scopes; rules = c.self.inside.rules.items; pools = c.self.inside.pools })
     (record { scopes = c.bind.new.self; rules = c.self.inside.rules.items; pools = c.self.inside.pools })
-    entries (record { file = file; spot = spot; depth = depth; number = c.args.scope; around = around; item = BindingText c.args.name.now (word_text c.args.value.now) })
+    entries (record { file = file; spot = spot; depth = depth; number = c.args.scope; around = around; item = BindingText c.args.name.now (word_text c.args.value.now); discovered = None })
     c.args.name.now c.in_ok-value.value.items (word_text c.args.value.now)
     (subst (λ held. DeclaredBy held entries) (sym c.self.view_is) by)
     (c.in_ok-value.ensures.items ∙ c.deref.ensures.value
