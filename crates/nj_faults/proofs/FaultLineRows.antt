@@ -8,7 +8,7 @@ use Rattle.nj_manifest.specs.Faults.{Fault, Bad, Expected, UnknownKey, OutOfMemo
 use Rattle.nj_manifest.specs.declared.fault.Wanted.TheVariants as wanted
 use Rattle.nj_faults.specs.declared.fault.Cause.{Cause}
 use Rattle.nj_faults.specs.declared.fault.GraphFault.{GraphFault}
-use Rattle.nj_faults.specs.declared.fault.Cause.TheVariants.{BadDepth, DuplicateRule, VersionTooNew, Missing, TooManyOpenings, Io, UnknownRule, TwoMakers, UnknownTarget, RuleVariableCycle, UnknownPool, DyndepNotInput, Cycle, NoOutEdge, TextNotUtf8}
+use Rattle.nj_faults.specs.declared.fault.Cause.TheVariants.{BadDepth, DuplicateRule, VersionTooNew, Missing, TooManyOpenings, Io, UnknownRule, TwoMakers, UnknownTarget, RuleVariableCycle, UnknownPool, DyndepNotInput, DyndepNoStatement, DyndepTwice, DyndepExtra, Cycle, NoOutEdge, TextNotUtf8}
 use Rattle.nj_faults.specs.Faults.{fault_at, fault_in, unplaced, no_memory}
 use Rattle.nj_faults.specs.FaultLines.{fault_line}
 
@@ -83,6 +83,22 @@ pool_row = refl
 dyndep_row : fault_line (at 8 1 (DyndepNotInput (codes "a.dd"))) ≡ codes "build.ninja:8:1: dyndep 'a.dd' is not an input"
 unfolding digits
 dyndep_row = refl
+
+-- at a place of the dyndep file `dd`
+abbrev at_dyndep : (line column : ℕ) → Cause → GraphFault
+at_dyndep line column cause = fault_at (codes "dd") (spot line column) cause
+
+statement_row : fault_line (at 3 1 (DyndepNoStatement (codes "o") (codes "dd"))) ≡ codes "build.ninja:3:1: 'o' not mentioned in its dyndep file 'dd'"
+unfolding digits
+statement_row = refl
+
+twice_row : fault_line (at_dyndep 3 7 (DyndepTwice (codes "o"))) ≡ codes "dd:3:7: multiple statements for 'o'"
+unfolding digits
+twice_row = refl
+
+extra_row : fault_line (at_dyndep 2 7 (DyndepExtra (codes "g"))) ≡ codes "dd:2:7: 'g' has no dyndep binding for this file"
+unfolding digits
+extra_row = refl
 
 cycle_row : fault_line (at 9 1 (Cycle (codes "a"))) ≡ codes "build.ninja:9:1: dependency cycle through 'a'"
 unfolding digits

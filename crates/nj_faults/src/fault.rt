@@ -113,6 +113,14 @@ pub enum Cause {
     /// A dyndep file that is none of the inputs of its edge, at the build statement ("Dynamic
     /// Dependencies").
     DyndepNotInput(Name),
+    /// An edge of which its dyndep file says nothing, at its build statement: its first output, and
+    /// the path of the dyndep file ("Dynamic Dependencies").
+    DyndepNoStatement(Name, Name),
+    /// A path whose build statement an entry before means already, at the word of the dyndep file.
+    DyndepTwice(Name),
+    /// A path that no build statement makes which is bound to this dyndep file, at the word of the
+    /// dyndep file.
+    DyndepExtra(Name),
     /// A path that is needed to make itself, at the build statement that makes it ("Build
     /// statements").
     Cycle(Name),

@@ -1,6 +1,6 @@
 //! The line that reports a fault.
 
-ghost use Rattle.std.specs.Prelude.{◌≡◌, ◌++◌, IfOk, codes};
+ghost use Rattle.std.specs.Prelude.{◌≡◌, ◌++◌, IfOk, OnOk, codes};
 ghost use Rattle.nj_faults.specs.FaultLines.{fault_line, place_text, cause_text};
 
 use crate::fault::{Cause, GraphFault, Name, Place};
@@ -19,7 +19,7 @@ impl GraphFault {
     {
         let mut line = place_text(alloc, &self.place)?;
         line.extend_from_slice(b": ")?;
-        cause_text(&self.cause).append_to(&mut line)?;
+        append_cause(&mut line, &self.cause)?;
         Ok(line)
     }
 }
@@ -40,47 +40,74 @@ fn place_text(alloc: Global, place: &Option<Place>) -> Result<Vec<u8>, AllocErro
     }
 }
 
-// The text of a cause.
-fn cause_text(cause: &Cause) -> FaultText<'_>
-    ensures { result ≡ cause_text cause.now }
+// Appends the text of a cause.
+fn append_cause(line: &mut Vec<u8>, cause: &Cause) -> Result<(), AllocError>
+    ensures { OnOk result (line.new.items ≡ line.old.items ++ cause_text cause.now) }
 {
     match cause {
-        Cause::Syntax(text) => between("", text, ""),
-        Cause::EmptyPath => FaultText::fixed("empty path"),
-        Cause::BadDepth => FaultText::fixed("invalid pool depth"),
-        Cause::DuplicateRule(name) => quoted("duplicate rule '", name),
-        Cause::DuplicatePool(name) => quoted("duplicate pool '", name),
+        Cause::Syntax(text) => append_naming(line, "", text, ""),
+        Cause::EmptyPath => append_fixed(line, "empty path"),
+        Cause::BadDepth => append_fixed(line, "invalid pool depth"),
+        Cause::DuplicateRule(name) => append_quoted(line, "duplicate rule '", name),
+        Cause::DuplicatePool(name) => append_quoted(line, "duplicate pool '", name),
         Cause::VersionTooNew(version) => {
-            between("ninja_required_version ", version, " is newer than 1.11")
+            append_naming(
+                line,
+                "ninja_required_version ",
+                version,
+                " is newer than 1.11",
+            )
         }
-        Cause::Missing(path) => quoted("cannot find '", path),
-        Cause::PathNotText => FaultText::fixed("path is not UTF-8"),
-        Cause::TooDeep => FaultText::fixed("more than 32 files open"),
-        Cause::TooManyOpenings => FaultText::fixed("more than 65536 files opened"),
-        Cause::Io(path) => quoted("cannot read '", path),
-        Cause::UnknownRule(name) => quoted("unknown build rule '", name),
-        Cause::TwoMakers(path) => between("multiple rules generate ", path, ""),
-        Cause::UnknownTarget(path) => quoted("unknown target '", path),
-        Cause::RuleVariableCycle(key) => quoted("cycle in rule variables at '", key),
-        Cause::UnknownPool(name) => quoted("unknown pool name '", name),
-        Cause::DyndepNotInput(path) => between("dyndep '", path, "' is not an input"),
-        Cause::Cycle(path) => quoted("dependency cycle through '", path),
-        Cause::NoOutEdge(path) => between("'", path, "' has no out edge"),
-        Cause::TextNotUtf8 => FaultText::fixed("text is not UTF-8"),
-        Cause::OutOfMemory => FaultText::fixed("out of memory"),
+        Cause::Missing(path) => append_quoted(line, "cannot find '", path),
+        Cause::PathNotText => append_fixed(line, "path is not UTF-8"),
+        Cause::TooDeep => append_fixed(line, "more than 32 files open"),
+        Cause::TooManyOpenings => append_fixed(line, "more than 65536 files opened"),
+        Cause::Io(path) => append_quoted(line, "cannot read '", path),
+        Cause::UnknownRule(name) => append_quoted(line, "unknown build rule '", name),
+        Cause::TwoMakers(path) => append_naming(line, "multiple rules generate ", path, ""),
+        Cause::UnknownTarget(path) => append_quoted(line, "unknown target '", path),
+        Cause::RuleVariableCycle(key) => append_quoted(line, "cycle in rule variables at '", key),
+        Cause::UnknownPool(name) => append_quoted(line, "unknown pool name '", name),
+        Cause::DyndepNotInput(path) => append_naming(line, "dyndep '", path, "' is not an input"),
+        Cause::DyndepNoStatement(path, file) => {
+            append_naming(line, "'", path, "' not mentioned in its dyndep file ")?;
+            append_quoted(line, "'", file)
+        }
+        Cause::DyndepTwice(path) => append_quoted(line, "multiple statements for '", path),
+        Cause::DyndepExtra(path) => {
+            append_naming(line, "'", path, "' has no dyndep binding for this file")
+        }
+        Cause::Cycle(path) => append_quoted(line, "dependency cycle through '", path),
+        Cause::NoOutEdge(path) => append_naming(line, "'", path, "' has no out edge"),
+        Cause::TextNotUtf8 => append_fixed(line, "text is not UTF-8"),
+        Cause::OutOfMemory => append_fixed(line, "out of memory"),
     }
 }
 
-// A name after a fixed text that ends in a quote, with the quote that closes it.
-fn quoted<'a>(before: &'static str, name: &'a Name) -> FaultText<'a>
-    ensures { result ≡ before.now ++ name.now ++ codes "'" }
+// Appends a fixed text.
+fn append_fixed(line: &mut Vec<u8>, text: &'static str) -> Result<(), AllocError>
+    ensures { OnOk result (line.new.items ≡ line.old.items ++ text.now) }
 {
-    between(before, name, "'")
+    FaultText::fixed(text).append_to(line)
 }
 
-// A name between two fixed texts.
-fn between<'a>(before: &'static str, name: &'a Name, after: &'static str) -> FaultText<'a>
-    ensures { result ≡ before.now ++ name.now ++ after.now }
+// Appends a name after a fixed text that ends in a quote, with the quote that closes it.
+fn append_quoted(line: &mut Vec<u8>, before: &'static str, name: &Name) -> Result<(), AllocError>
+    ensures { OnOk result (line.new.items
+        ≡ line.old.items ++ (before.now ++ name.now ++ codes "'")) }
 {
-    FaultText::naming(before, name.as_bytes(), after)
+    append_naming(line, before, name, "'")
+}
+
+// Appends a name between two fixed texts.
+fn append_naming(
+    line: &mut Vec<u8>,
+    before: &'static str,
+    name: &Name,
+    after: &'static str,
+) -> Result<(), AllocError>
+    ensures { OnOk result (line.new.items
+        ≡ line.old.items ++ (before.now ++ name.now ++ after.now)) }
+{
+    FaultText::naming(before, name.as_bytes(), after).append_to(line)
 }
