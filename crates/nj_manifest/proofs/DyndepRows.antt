@@ -91,6 +91,14 @@ newer_version : first_of (codes "ninja_dyndep_version = 1.1\nbuild o p") ≡ Err
 unfolding on_dyndeps
 newer_version = refl
 
+version_with_a_suffix : first_of (codes "ninja_dyndep_version = 1.0-x") ≡ Ok None
+unfolding on_dyndeps
+version_with_a_suffix = refl
+
+second_major_version : first_of (codes "ninja_dyndep_version = 2") ≡ Err (DyndepVersion (at 1 1))
+unfolding on_dyndeps
+second_major_version = refl
+
 version_of_a_reference : first_of (codes "ninja_dyndep_version = ${one}") ≡ Err (DyndepVersion (at 1 1))
 unfolding on_dyndeps
 version_of_a_reference = refl
@@ -145,6 +153,10 @@ no_output : entry_in (codes "build : dyndep") ≡ Err (Expected (at 1 7) wanted.
 unfolding on_dyndeps
 no_output = refl
 
+order_only_outputs : entry_in (codes "build o || p: dyndep") ≡ Err (Expected (at 1 9) wanted.Colon)
+unfolding on_dyndeps
+order_only_outputs = refl
+
 no_colon : entry_in (codes "build o") ≡ Err (Expected (at 1 8) wanted.Colon)
 unfolding on_dyndeps
 no_colon = refl
@@ -190,6 +202,10 @@ second_line = refl
 second_line_without_key : entry_in (codes "build o: dyndep\n  restat = 1\n  = 1") ≡ Err (Expected (at 3 3) wanted.VariableName)
 unfolding on_dyndeps
 second_line_without_key = refl
+
+second_line_behind_a_join : entry_in (codes "build o: dyndep\n  restat = 1\n  $\n  restat = 1") ≡ Err (DyndepShape (at 4 3))
+unfolding on_dyndeps
+second_line_behind_a_join = refl
 
 tab_in_block : entry_in (codes "build o: dyndep\n\trestat = 1") ≡ Err (Bad (unit_fault.Tab (at 2 1)))
 unfolding on_dyndeps

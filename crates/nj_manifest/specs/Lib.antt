@@ -1,6 +1,8 @@
 pub mod Contents
 pub mod DyndepForms
+pub mod DyndepLeftmost
 pub mod DyndepParsers
+pub mod DyndepVersions
 pub mod Dyndeps
 pub mod Faults
 pub mod Grammar

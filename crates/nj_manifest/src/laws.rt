@@ -3,6 +3,8 @@
 ghost use Rattle.nj_manifest.specs.Laws.{StatementsAreTheForms, MissingLinesAreLacking};
 ghost use Rattle.nj_manifest.specs.DyndepForms.{EntriesAreTheForms, NextEntriesAreTheForms};
 ghost use Rattle.nj_manifest.specs.Leftmost.{FaultsAreLeftmost};
+ghost use Rattle.nj_manifest.specs.DyndepVersions.{VersionsAreTheForms};
+ghost use Rattle.nj_manifest.specs.DyndepLeftmost.{DyndepFaultsAreLeftmost, UnitsOfTextsAreApart};
 
 /// A statement is read from lines, or none at their end, exactly where the forms of Ninja's manual
 /// say so.
@@ -32,4 +34,22 @@ pub fn dyndep_entries_are_the_forms()
 /// so.
 pub fn next_entries_are_the_forms()
     ensures { NextEntriesAreTheForms }
+{}
+
+/// The version of a dyndep file is read from lines exactly where the form says so.
+pub fn dyndep_versions_are_the_forms()
+    ensures { VersionsAreTheForms }
+{}
+
+/// A fault of an entry of a dyndep file stands at the first element with which no entry goes on:
+/// whatever follows it, the answer is this fault. From what is before that element an entry does go
+/// on, with what the fault says is expected; in place of a line too many of a block an entry ends.
+pub fn dyndep_faults_are_leftmost()
+    ensures { DyndepFaultsAreLeftmost }
+{}
+
+/// Each unit of a text has a place of its own, and so have those that are left after the version of
+/// a dyndep file, and after an entry.
+pub fn units_of_texts_are_apart()
+    ensures { UnitsOfTextsAreApart }
 {}

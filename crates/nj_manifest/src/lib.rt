@@ -22,8 +22,9 @@ pub use entries::Entry;
 pub use fault::{ParseFault, Wanted};
 pub use fault_text::FaultText;
 pub use laws::{
-    dyndep_entries_are_the_forms, faults_are_leftmost, missing_lines_are_lacking,
-    statements_are_the_forms,
+    dyndep_entries_are_the_forms, dyndep_faults_are_leftmost, dyndep_versions_are_the_forms,
+    faults_are_leftmost, missing_lines_are_lacking, next_entries_are_the_forms,
+    statements_are_the_forms, units_of_texts_are_apart,
 };
 pub use nj_text::{LexFault, Part, Spot, UnitFault, Word};
 pub use parser::Parser;

@@ -1,0 +1,300 @@
+-- The line of an entry in steps. A departure from the form is marked by the fault of an unknown key, which names its place
+-- too.
+use Rattle.std.proofs.Common.{◌≡◌, ℕ, zero, suc, Bool, true, false, not, Option, Some, None, Result, Ok, Err, List, [], refl, ap, ◌∙◌, sym, codes}
+use Rattle.std.specs.Str.{bytes_eq}
+use Rattle.nj_text.specs.declared.fault.UnitFault.{UnitFault}
+use Rattle.nj_text.specs.declared.sign.Sign.{Sign}
+use Rattle.nj_text.specs.declared.sign.Sign.TheVariants as sign
+use Rattle.nj_text.specs.declared.spot.Spot.{Spot}
+use Rattle.nj_text.specs.Words.{WordText}
+use Rattle.nj_text.specs.Calls.{State, Reply, skip_blanks_of, ident_of, sign_of, path_word_of, value_of, spot_of, fault_spot}
+use Rattle.nj_manifest.specs.declared.fault.Wanted.{Wanted}
+use Rattle.nj_manifest.specs.declared.fault.Wanted.TheVariants as wanted
+use Rattle.nj_manifest.specs.Faults.{Fault, Bad, Expected, UnknownKey, DyndepShape}
+use Rattle.nj_manifest.specs.LineSteps.{Step, ◌>>=◌, answered, called, NameText, named, name_next, if_there, expect_sign, words_from, words_within, words_next, words_if, section_next}
+use Rattle.nj_manifest.specs.Statements.{unless_missing, equals_value}
+use Rattle.nj_manifest.specs.Dyndeps.{EntryText, word_of_form, is_same_spot, no_path_by, no_path, no_section, first_output, output_next, added_inputs, entry_line}
+use Rattle.nj_manifest.proofs.LeftmostSteps.{bind-bind}
+use Rattle.nj_manifest.proofs.LeftmostSigns.{sign_step, led_on, ending}
+
+-- ---- marks
+
+abbrev pub marked : Spot → Fault
+marked spot = UnknownKey spot []
+
+abbrev pub real : Fault → Fault
+real (UnknownKey spot key) = DyndepShape spot
+real fault = fault
+
+-- what is read, with the faults that are meant
+abbrev pub told : {A : Type 0} → Result A Fault → Result A Fault
+told (Ok x) = Ok x
+told (Err f) = Err (real f)
+
+-- a reading that marks nothing
+abbrev pub Kept : {A : Type 0} → Result A Fault → Type 0
+Kept (Ok x) = Unit {0}
+Kept (Err f) = real f ≡ f
+
+pub told-same : {A : Type 0} (r : Result A Fault) → Kept r → told r ≡ r
+told-same (Ok x) k = refl
+told-same (Err f) k = ap Err k
+
+pub told-bind : {A B : Type 0} (r : Result A Fault) (f g : A → Result B Fault) → Kept r → ((x : A) → told (f x) ≡ g x) → told (r >>= f) ≡ (r >>= g)
+told-bind (Ok x) f g k h = h x
+told-bind (Err e) f g k h = ap Err k
+
+kept-bind : {A B : Type 0} (r : Result A Fault) (f : A → Result B Fault) → Kept r → ((x : A) → Kept (f x)) → Kept (r >>= f)
+kept-bind (Ok x) f k h = h x
+kept-bind (Err e) f k h = k
+
+kept-answered : {A : Type 0} (a : Result A UnitFault) (s : State) → Kept (answered a s)
+kept-answered (Ok x) s = tt
+kept-answered (Err f) s = refl
+
+pub kept-called : {A : Type 0} (r : Reply A) → Kept (called r)
+kept-called r = kept-answered r.answer r.after
+
+kept-named : (want : Wanted) (spot : Spot) (name : Option (List ℕ)) (s : State) → Kept (named want spot name s)
+kept-named want spot (Some name) s = tt
+kept-named want spot None s = refl
+
+pub kept-name : (want : Wanted) (s : State) → Kept (name_next want s)
+unfolding name_next
+kept-name want s = kept-bind (called (ident_of (skip_blanks_of s))) _ (kept-called (ident_of (skip_blanks_of s))) (λ n. kept-named want (spot_of (skip_blanks_of s)) n.0 n.1)
+
+kept-there : (want : Wanted) (t : Bool) (s : State) → Kept (if_there want t s)
+kept-there want true s = tt
+kept-there want false s = refl
+
+pub kept-sign : (want : Sign) (miss : Wanted) (s : State) → Kept (expect_sign want miss s)
+unfolding expect_sign
+kept-sign want miss s = kept-bind (called (sign_of want s)) _ (kept-called (sign_of want s)) (λ t. kept-there miss t.0 t.1)
+
+kept-from : (found : Option WordText) (s : State) (others : Step (List WordText)) → Kept others → Kept (words_from found s others)
+kept-from None s others k = tt
+kept-from (Some w) s others k = kept-bind others _ k (λ more. tt)
+
+kept-within : (limit : ℕ) (s : State) → Kept (words_within limit s)
+unfolding words_within
+kept-within zero s = tt
+kept-within (suc limit) s = by_word (called (path_word_of s)) (kept-called (path_word_of s)) (λ t. kept-within limit t)
+  where
+    by_word : (r : Step (Option WordText)) → Kept r → ((t : State) → Kept (words_within limit t)) → Kept (r >>= λ word. words_from word.0 word.1 (words_within limit word.1))
+    by_word (Ok word) k others = kept-from word.0 word.1 (words_within limit word.1) (others word.1)
+    by_word (Err f) k others = k
+
+kept-words : (s : State) → Kept (words_next s)
+unfolding words_next
+kept-words s = kept-within _ s
+
+pub kept-section : (want : Sign) (s : State) → Kept (section_next want s)
+unfolding section_next
+kept-section want s = kept-bind (called (sign_of want s)) _ (kept-called (sign_of want s)) (λ t. by_test t.0 t.1)
+  where
+    by_test : (t : Bool) (s : State) → Kept (words_if t s)
+    by_test true s = kept-words s
+    by_test false s = tt
+
+pub kept-ending : {B : Type 0} (value : B) (r : Result State Fault) → Kept r → Kept (ending value r)
+kept-ending value r k = kept-bind r _ k (λ end. tt)
+
+pub kept-value : (s : State) → Kept (equals_value s)
+unfolding equals_value
+kept-value s =
+    kept-bind (expect_sign sign.Equals wanted.Equals s) _ (kept-sign sign.Equals wanted.Equals s)
+    (λ equals. kept-bind (called (value_of equals)) _ (kept-called (value_of equals)) (λ value. kept-ending value.0 _ (kept-sign sign.LineEnd wanted.Newline value.1)))
+
+-- ---- steps
+
+-- this identifier, and what is read behind it
+abbrev pub this_word : {B : Type 0} → (word : List ℕ) → (State → Step B) → NameText × State → Step B
+this_word word next name = unless_missing (bytes_eq name.0.name word) (marked name.0.spot) (next name.1)
+
+pub word-told : {B : Type 0} (word : List ℕ) (want : Wanted) (s : State) (f g : State → Step B) → ((t : State) → told (f t) ≡ g t) → told (name_next want s >>= this_word word f) ≡ (word_of_form word want s >>= g)
+unfolding word_of_form
+word-told {B = B} word want s f g h = by_name (name_next want s) (kept-name want s)
+  where
+    by_test : (t : Bool) (n : NameText × State) → told (unless_missing t (marked n.0.spot) (f n.1)) ≡ (unless_missing t (DyndepShape n.0.spot) (Ok n.1) >>= g)
+    by_test true n = h n.1
+    by_test false n = refl
+
+    by_name : (r : Step NameText) → Kept r → told (r >>= this_word word f) ≡ ((r >>= λ name. unless_missing (bytes_eq name.0.name word) (DyndepShape name.0.spot) (Ok name.1)) >>= g)
+    by_name (Ok n) k = by_test (bytes_eq n.0.name word) n
+    by_name (Err e) k = ap Err k
+
+-- no path
+abbrev pub path_by : Spot → Result (Option WordText) UnitFault → State → Step Bool
+path_by spot (Ok None) after = Ok (true, after)
+path_by spot (Ok (Some word)) after = Err (marked spot)
+path_by spot (Err unit) after = unless_missing (is_same_spot (fault_spot unit) spot) (marked spot) (Err (Bad unit))
+
+abbrev pub path_step : State → Step Bool
+path_step s = let here = skip_blanks_of s in path_by (spot_of here) (path_word_of here).answer (path_word_of here).after
+
+path-told : {B : Type 0} (s : State) (f g : State → Result B Fault) → ((t : State) → told (f t) ≡ g t) → told (path_step s >>= λ c. f c.1) ≡ (no_path s >>= g)
+unfolding no_path
+path-told {B = B} s f g h = let here = skip_blanks_of s in by_answer (spot_of here) (path_word_of here).answer (path_word_of here).after
+  where
+    by_test : (t : Bool) (spot : Spot) (unit : UnitFault) → told (◌>>=◌ {A = Bool × State} (unless_missing t (marked spot) (Err (Bad unit))) (λ c. f c.1)) ≡ (◌>>=◌ {A = State} (unless_missing t (DyndepShape spot) (Err (Bad unit))) g)
+    by_test true spot unit = refl
+    by_test false spot unit = refl
+
+    by_answer : (spot : Spot) (a : Result (Option WordText) UnitFault) (after : State) → told (path_by spot a after >>= λ c. f c.1) ≡ (no_path_by spot a after >>= g)
+    by_answer spot (Ok None) after = h after
+    by_answer spot (Ok (Some word)) after = refl
+    by_answer spot (Err unit) after = by_test (is_same_spot (fault_spot unit) spot) spot unit
+
+-- no section with this sign
+abbrev pub unbarred : Spot → Bool × State → Step Bool
+unbarred spot there = unless_missing (not there.0) (marked spot) (Ok (true, there.1))
+
+abbrev no_bar : Spot → Bool × State → Result State Fault
+no_bar spot there = unless_missing (not there.0) (DyndepShape spot) (Ok there.1)
+
+abbrev pub bar_step : Sign → State → Step Bool
+bar_step want s = called (sign_of want (skip_blanks_of s)) >>= unbarred (spot_of (skip_blanks_of s))
+
+bar-told : {B : Type 0} (want : Sign) (s : State) (f g : State → Result B Fault) → ((t : State) → told (f t) ≡ g t) → told (bar_step want s >>= λ c. f c.1) ≡ (no_section want s >>= g)
+unfolding no_section
+bar-told {B = B} want s f g h = by_sign (called (sign_of want (skip_blanks_of s))) (kept-called (sign_of want (skip_blanks_of s))) (spot_of (skip_blanks_of s))
+  where
+    by_test : (t : Bool) (after : State) (spot : Spot) → told (◌>>=◌ {A = Bool × State} (unless_missing t (marked spot) (Ok (true, after))) (λ c. f c.1)) ≡ (◌>>=◌ {A = State} (unless_missing t (DyndepShape spot) (Ok after)) g)
+    by_test true after spot = h after
+    by_test false after spot = refl
+
+    by_sign : (r : Step Bool) → Kept r → (spot : Spot)
+        → told ((r >>= unbarred spot) >>= λ c. f c.1) ≡ ((r >>= no_bar spot) >>= g)
+    by_sign (Ok there) k spot = by_test (not there.0) there.1 spot
+    by_sign (Err e) k spot = ap Err k
+
+-- the first output
+abbrev pub output_there : Option WordText → State → Step WordText
+output_there (Some word) after = Ok (word, after)
+output_there None after = called (sign_of sign.Pipe after) >>= λ pipe. unless_missing (not pipe.0) (marked (spot_of after)) (Err (Expected (spot_of after) wanted.Path))
+
+abbrev pub output_word : State → Step WordText
+output_word s = called (path_word_of s) >>= λ found. output_there found.0 found.1
+
+output-told : {B : Type 0} (s : State) (f g : WordText → State → Result B Fault) → ((w : WordText) (t : State) → told (f w t) ≡ g w t) → told (output_word s >>= λ o. path_step o.1 >>= λ c. f o.0 c.1) ≡ (output_next s >>= λ out. g out.0 out.1)
+unfolding output_next
+output-told {B = B} s f g h = by_word (called (path_word_of s)) (kept-called (path_word_of s))
+  where
+    then : WordText × State → Result B Fault
+    then o = path_step o.1 >>= λ c. f o.0 c.1
+
+    read : WordText → State → Step WordText
+    read w end = Ok (w, end)
+
+    after_word : (w : WordText) (a : State) → told (path_step a >>= λ c. f w c.1) ≡ ((no_path a >>= read w) >>= λ out. g out.0 out.1)
+    after_word w a = path-told a (f w) (g w) (h w) ∙ sym (bind-bind (no_path a) (read w) (λ out. g out.0 out.1))
+
+    by_pipe : (r : Step Bool) → Kept r → (spot : Spot)
+        → told (◌>>=◌ {A = WordText × State} (r >>= λ pipe. unless_missing (not pipe.0) (marked spot) (Err (Expected spot wanted.Path))) then)
+        ≡ (◌>>=◌ {A = WordText × State} (◌>>=◌ {A = WordText × State} (r >>= λ pipe. unless_missing (not pipe.0) (DyndepShape spot) (Err (Expected spot wanted.Path))) (λ out. no_path out.1 >>= read out.0)) (λ out. g out.0 out.1))
+    by_pipe (Ok (true, after)) k spot = refl
+    by_pipe (Ok (false, after)) k spot = refl
+    by_pipe (Err e) k spot = ap Err k
+
+    by_found : (found : Option WordText) (a : State) → told (output_there found a >>= then) ≡ ((first_output found a >>= λ out. no_path out.1 >>= read out.0) >>= λ out. g out.0 out.1)
+    by_found (Some w) a = after_word w a
+    by_found None a = by_pipe (called (sign_of sign.Pipe a)) (kept-called (sign_of sign.Pipe a)) (spot_of a)
+
+    by_word : (r : Step (Option WordText)) → Kept r → told ((r >>= λ found. output_there found.0 found.1) >>= then) ≡ ((r >>= λ found. first_output found.0 found.1 >>= λ out. no_path out.1 >>= read out.0) >>= λ out. g out.0 out.1)
+    by_word (Ok found) k = by_found found.0 found.1
+    by_word (Err e) k = ap Err k
+
+-- ---- the line
+
+abbrev pub entry_of : WordText → (outs ins : List WordText) → EntryText
+entry_of out outs ins = record { out = out; outs = outs; ins = ins }
+
+abbrev pub at_end : EntryText → State → Step EntryText
+at_end entry s = ending entry (expect_sign sign.LineEnd wanted.Newline s)
+
+abbrev pub at_second_bar : EntryText → State → Step EntryText
+at_second_bar entry s = bar_step sign.PipeAt s >>= λ b. at_end entry b.1
+
+abbrev pub at_first_bar : EntryText → State → Step EntryText
+at_first_bar entry s = bar_step sign.Pipe2 s >>= λ b. at_second_bar entry b.1
+
+abbrev pub with_ins : WordText → List WordText → List WordText × State → Step EntryText
+with_ins out outs ins = at_first_bar (entry_of out outs ins.0) ins.1
+
+abbrev pub at_ins : WordText → List WordText → State → Step EntryText
+at_ins out outs s = section_next sign.Pipe s >>= with_ins out outs
+
+abbrev pub at_inputs : WordText → List WordText → State → Step EntryText
+at_inputs out outs s = path_step s >>= λ c. at_ins out outs c.1
+
+abbrev pub at_rule : WordText → List WordText → State → Step EntryText
+at_rule out outs s = name_next wanted.CommandName s >>= this_word (codes "dyndep") (at_inputs out outs)
+
+abbrev pub with_outs : WordText → List WordText × State → Step EntryText
+with_outs out outs = sign_step sign.Colon wanted.Colon outs.1 >>= λ c. at_rule out outs.0 c.1
+
+abbrev pub at_outs : WordText → State → Step EntryText
+at_outs out s = section_next sign.Pipe s >>= with_outs out
+
+abbrev pub with_output : WordText × State → Step EntryText
+with_output o = path_step o.1 >>= λ c. at_outs o.0 c.1
+
+abbrev pub at_output : State → Step EntryText
+at_output s = output_word s >>= with_output
+
+abbrev pub entry_marked : State → Step EntryText
+entry_marked s = name_next wanted.Statement s >>= this_word (codes "build") at_output
+
+inputs-told : (out : WordText) (outs : List WordText) (s : State) → told (at_inputs out outs s) ≡ (added_inputs s >>= λ ins. Ok (entry_of out outs ins.0, ins.1))
+unfolding added_inputs
+inputs-told out outs s =
+    path-told s (at_ins out outs) (λ alone. after_path alone >>= whole) (λ alone.
+    told-bind (section_next sign.Pipe alone) (with_ins out outs) (λ ins. after_ins ins >>= whole) (kept-section sign.Pipe alone) (λ ins.
+    bar-told sign.Pipe2 ins.1 (at_second_bar (entry_of out outs ins.0)) (λ order_only. after_first ins.0 order_only >>= whole) (λ order_only.
+    bar-told sign.PipeAt order_only (at_end (entry_of out outs ins.0)) (λ v. after_second ins.0 v >>= whole) (λ v. ended ins.0 (expect_sign sign.LineEnd wanted.Newline v) (kept-sign sign.LineEnd wanted.Newline v))
+    ∙ sym (bind-bind (no_section sign.PipeAt order_only) (after_second ins.0) whole))
+    ∙ sym (bind-bind (no_section sign.Pipe2 ins.1) (after_first ins.0) whole))
+    ∙ sym (bind-bind (section_next sign.Pipe alone) after_ins whole))
+    ∙ sym (bind-bind (no_path s) after_path whole)
+  where
+    whole : List WordText × State → Step EntryText
+    whole ins = Ok (entry_of out outs ins.0, ins.1)
+
+    after_second : List WordText → State → Step (List WordText)
+    after_second ins v = expect_sign sign.LineEnd wanted.Newline v >>= λ end. Ok (ins, end)
+
+    after_first : List WordText → State → Step (List WordText)
+    after_first ins order_only = no_section sign.PipeAt order_only >>= after_second ins
+
+    after_ins : List WordText × State → Step (List WordText)
+    after_ins ins = no_section sign.Pipe2 ins.1 >>= after_first ins.0
+
+    after_path : State → Step (List WordText)
+    after_path alone = section_next sign.Pipe alone >>= after_ins
+
+    ended : (ins : List WordText) (r : Result State Fault) → Kept r → told (ending (entry_of out outs ins) r) ≡ ((r >>= λ end. Ok (ins, end)) >>= whole)
+    ended ins (Ok end) k = refl
+    ended ins (Err f) k = ap Err k
+
+colon-told : (r : Result State Fault) (f g : State → Step EntryText) → Kept r → ((t : State) → told (f t) ≡ g t) → told (led_on r >>= λ c. f c.1) ≡ (r >>= g)
+colon-told (Ok s) f g k h = h s
+colon-told (Err e) f g k h = ap Err k
+
+-- The line, with its marks told.
+pub entry-told : (s : State) → told (entry_marked s) ≡ entry_line s
+unfolding entry_line
+entry-told s =
+    word-told (codes "build") wanted.Statement s at_output (λ build. output_next build >>= λ out. outs_of out.0 out.1) (λ build.
+    output-told build at_outs outs_of (λ out t.
+    told-bind (section_next sign.Pipe t) (with_outs out) (λ outs. colon_of out outs) (kept-section sign.Pipe t) (λ outs.
+    colon-told (expect_sign sign.Colon wanted.Colon outs.1) (at_rule out outs.0) (rule_of out outs.0) (kept-sign sign.Colon wanted.Colon outs.1) (λ colon.
+    word-told (codes "dyndep") wanted.CommandName colon (at_inputs out outs.0) (λ rule. added_inputs rule >>= λ ins. Ok (entry_of out outs.0 ins.0, ins.1)) (inputs-told out outs.0)))))
+  where
+    rule_of : WordText → List WordText → State → Step EntryText
+    rule_of out outs colon = word_of_form (codes "dyndep") wanted.CommandName colon >>= λ rule. added_inputs rule >>= λ ins. Ok (entry_of out outs ins.0, ins.1)
+
+    colon_of : WordText → List WordText × State → Step EntryText
+    colon_of out outs = expect_sign sign.Colon wanted.Colon outs.1 >>= rule_of out outs.0
+
+    outs_of : WordText → State → Step EntryText
+    outs_of out t = section_next sign.Pipe t >>= colon_of out
