@@ -480,7 +480,7 @@ none-front test es e none = by (first_edge test es) (sym (first-some test es e) 
     by None h = refl
     by (Some n) h = absurd (true≢false h)
 
-no-more : (o : Option ℕ) → option_map (λ n. n + 1) o ≡ None → o ≡ None
+pub no-more : (o : Option ℕ) → option_map (λ n. n + 1) o ≡ None → o ≡ None
 no-more None h = refl
 no-more (Some n) h = absurd (true≢false (ap is_some h))
 
@@ -494,7 +494,7 @@ first-last test (x ∷ es) e none passes = by (test x) none (λ h. first-last te
     by false h more = ap (option_map (λ n. n + 1)) (more (no-more (first_edge test es) h)) ∙ ap Some (add-one (length es))
 
 -- another row at the end, which the test tells no differently
-first-other : {E : Type 0} (test : E → Bool) (es : List E) (e e' : E) → test e ≡ test e' → first_edge test (es ++ e ∷ []) ≡ first_edge test (es ++ e' ∷ [])
+pub first-other : {E : Type 0} (test : E → Bool) (es : List E) (e e' : E) → test e ≡ test e' → first_edge test (es ++ e ∷ []) ≡ first_edge test (es ++ e' ∷ [])
 first-other test [] e e' same = ap (λ b. cond b (Some 0) None) same
 first-other test (x ∷ es) e e' same = ap (λ o. cond (test x) (Some 0) (option_map (λ n. n + 1) o)) (first-other test es e e' same)
 

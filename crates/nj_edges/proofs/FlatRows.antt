@@ -41,7 +41,7 @@ starts-within from (row ∷ rows) (suc k) d below =
 
 -- ---- the numbers are those of files
 
-all-append : {X : Type 0} (P : X → Type 0) (xs ys : List X) → AllByRecursion P xs → AllByRecursion P ys → AllByRecursion P (xs ++ ys)
+pub all-append : {X : Type 0} (P : X → Type 0) (xs ys : List X) → AllByRecursion P xs → AllByRecursion P ys → AllByRecursion P (xs ++ ys)
 all-append P [] ys these those = those
 all-append P (x ∷ xs) ys these those = (these.0, all-append P xs ys these.1 those)
 

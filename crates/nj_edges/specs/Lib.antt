@@ -8,3 +8,5 @@ pub mod GraphHeld
 pub mod Needs
 pub mod RootsHeld
 pub mod UsersHeld
+pub mod Joining
+pub mod JoiningHeld

@@ -1,6 +1,6 @@
 //! Edges, which are build statements with the files that they name.
 
-ghost use Rattle.std.specs.Prelude.{◌≡◌, ℕ, ◌<◌, List, [], ◌∷◌, ◌++◌, Some, not, if◌then◌else◌, option_map, position, slice_get, slice_index_or, is_some, length, bytes_eq, IfOk, OnOk, OnErr};
+ghost use Rattle.std.specs.Prelude.{◌≡◌, ℕ, ◌<◌, List, [], ◌∷◌, ◌++◌, Some, not, if◌then◌else◌, option_map, position, slice_get, slice_index_or, is_some, length, bytes_eq, IfOk, IfSome, OnOk, OnErr};
 ghost use Rattle.std.specs.List.{IsDistinct, list_any};
 ghost use Rattle.nj_edges.specs.Edges.{is_among, is_named};
 ghost use Rattle.nj_edges.specs.Files.{AreFiles, with_path};
@@ -203,15 +203,17 @@ impl Edges {
         after(&self.inputs, self.starts.inputs)
     }
 
-    /// Whether the edge that is being read has the file at this path as an input so far. Takes time
-    /// in proportion to these inputs.
-    pub fn has_open_input(&self, path: &[u8]) -> bool
-        ensures { result ≡ is_among self.now.«open».inputs path.now }
+    /// The number of the file at this path, if the edge that is being read has it as an input so
+    /// far; else `None`. Takes time in proportion to these inputs.
+    pub fn open_input(&self, path: &[u8]) -> Option<FileNo>
+        ensures input { is_some result ≡ is_among self.now.«open».inputs path.now }
+        ensures file { IfSome result (λ file. slice_get self.now.files file.0 ≡ Some path.now) }
     {
-        match self.files.number(path) {
-            Some(file) => has_file(after(&self.inputs, self.starts.inputs), file),
-            None => false,
+        let file = self.files.number(path)?;
+        if has_file(after(&self.inputs, self.starts.inputs), file) {
+            return Some(file);
         }
+        None
     }
 
     /// How many outputs the edge that is being read has so far.
@@ -251,7 +253,7 @@ impl Edges {
 }
 
 // The number of the file at this path, which is named from now on. A new file has no maker.
-fn name(
+pub(crate) fn name(
     files: &mut Files,
     makers: &mut Vec<Option<usize>>,
     path: &[u8],

@@ -23,12 +23,12 @@ use std::marker::Model;
 /// The edges of a run and the files that they name, without a dependency cycle.
 #[derive(Drop)]
 pub struct EdgeGraph {
-    files: Files,
-    makers: Vec<Option<usize>>,
-    outputs: Vec<FileNo>,
-    inputs: Vec<FileNo>,
-    validations: Vec<FileNo>,
-    rows: Vec<EdgeRow>,
+    pub(crate) files: Files,
+    pub(crate) makers: Vec<Option<usize>>,
+    pub(crate) outputs: Vec<FileNo>,
+    pub(crate) inputs: Vec<FileNo>,
+    pub(crate) validations: Vec<FileNo>,
+    pub(crate) rows: Vec<EdgeRow>,
     roots: Vec<FileNo>,
     users: Users,
     validation_users: Users,
