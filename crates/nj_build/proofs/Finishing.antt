@@ -1,8 +1,8 @@
 -- What the statements come to is what was held of them.
-use Rattle.std.proofs.Common.{◌≡◌, ◌<◌, ◌==◌, ℕ, false, List, [], ◌∷◌, map, length, slice_get, get_or, Option, Some, None, Ok, unwrap_or, is_some, refl, sym, ap, subst, ◌∙◌, true≢false, suc, zero, arith}
+use Rattle.std.proofs.Common.{◌≡◌, ◌<◌, ◌+◌, ◌==◌, ℕ, false, List, [], ◌∷◌, ◌++◌, map, length, slice_get, get_or, Option, Some, None, Ok, unwrap_or, is_some, refl, sym, ap, subst, ◌∙◌, true≢false, suc, zero, arith}
 use Rattle.std.specs.Prelude.{All}
 use Rattle.std.specs.List.{AllByRecursion}
-use Rattle.std.proofs.lemmas.List.{length-map}
+use Rattle.std.proofs.lemmas.List.{length-append, length-map}
 use Rattle.std.proofs.lemmas.List.Elements.{All-from_recursion}
 use Rattle.std.proofs.lemmas.Option.{slice_get_within, slice_get-get_or}
 use Rattle.nj_edges.specs.declared.files.FileNo.{FileNo}
@@ -16,12 +16,14 @@ use Rattle.nj_faults.specs.Faults.{fault_at}
 use Rattle.nj_edges.specs.EdgesHeld.{AreNumbers, paths_at}
 use Rattle.nj_edges.specs.Files.{path_at, AreFiles}
 use Rattle.nj_edges.proofs.GraphLemmas.{files-at}
-use Rattle.nj_scope.specs.ReadingList.{Entry}
+use Rattle.nj_manifest.specs.Statements.{StatementText, BindingText, RuleText, PoolText, BuildText, DefaultText, IncludeText, SubninjaText}
+use Rattle.nj_scope.specs.ReadingList.{Discovered, Entry}
 use Rattle.nj_build.specs.declared.building.Detail.{Detail}
-use Rattle.nj_build.specs.EdgeList.{EdgeText, edges_read, paths_of_edges, defaults_read}
+use Rattle.nj_build.specs.declared.building.DyndepEdge.{DyndepEdge}
+use Rattle.nj_build.specs.EdgeList.{EdgeText, Pending, edge_of_build, with_edge, edges_read, paths_of_edges, defaults_read, dyndep_of, pending_at, with_pending, pending_read}
 use Rattle.nj_build.specs.Answers.{BuildingText, HoldsEdges, IsDetail, AreDetails, detail_text}
 use Rattle.nj_build.specs.Built.{BuiltText, ComesTo, defaults_in_force, IsCycleFault, detail_of}
-use Rattle.nj_build.specs.BuiltHeld.{detail_named, built_of, BuiltIsHeld}
+use Rattle.nj_build.specs.BuiltHeld.{detail_named, pending_named, built_of, BuiltIsHeld}
 use Rattle.nj_build.proofs.Holding.{details-count}
 
 -- the numbers of files with some paths
@@ -67,6 +69,86 @@ in-force held built ns defaults is same paths are some =
     by : (fs : List FileNo) → false ≡ (length fs == 0) → AreNumbers (length held.graph.files) fs → AreFiles held.graph.files fs (defaults_in_force (paths_at held.graph.files fs) held.graph.edges)
     by [] some are = absurd (true≢false (sym some))
     by (f ∷ fs) some are = files-at held.graph.files (f ∷ fs) are
+
+-- ---- edges that wait
+
+pending-named : (files : List (List ℕ)) (ds : List DyndepEdge) (ps : List Pending) → map (λ d. d.edge) ds ≡ map (λ p. p.edge) ps
+    → AreFiles files (map (λ d. d.file) ds) (map (λ p. p.file) ps) → map (pending_named files) ds ≡ ps
+pending-named files [] [] edges are = refl
+pending-named files [] (p ∷ ps) edges are = absurd (omega (arith, ap length edges))
+pending-named files (d ∷ ds) [] edges are = absurd (omega (arith, ap length edges))
+pending-named files (d ∷ ds) (p ∷ ps) edges are =
+    ap (λ n. record { edge = n; file = path_at files d.file } ∷ map (pending_named files) ds) (ap first edges)
+    ∙ ap (λ o. record { edge = p.edge; file = unwrap_or o [] } ∷ map (pending_named files) ds) (ap file are)
+    ∙ ap (λ qs. p ∷ qs) (pending-named files ds ps (ap others edges) (ap files_after are))
+  where
+    first : List ℕ → ℕ
+    first [] = 0
+    first (n ∷ ns) = n
+
+    others : List ℕ → List ℕ
+    others [] = []
+    others (n ∷ ns) = ns
+
+    file : List (Option (List ℕ)) → Option (List ℕ)
+    file [] = None
+    file (o ∷ os) = o
+
+    files_after : List (Option (List ℕ)) → List (Option (List ℕ))
+    files_after [] = []
+    files_after (o ∷ os) = os
+
+files-known-of : (count : ℕ) (ds : List DyndepEdge) → AreNumbers count (map (λ d. d.file) ds) → AllByRecursion (λ (d : DyndepEdge). d.file.0 < count) ds
+files-known-of count [] all = tt
+files-known-of count (d ∷ ds) all = (all.0, files-known-of count ds all.1)
+
+edges-known-of : (count : ℕ) (ds : List DyndepEdge) (ps : List Pending) → map (λ d. d.edge) ds ≡ map (λ p. p.edge) ps
+    → AllByRecursion (λ (p : Pending). p.edge < count) ps → AllByRecursion (λ (d : DyndepEdge). d.edge < count) ds
+edges-known-of count [] ps same all = tt
+edges-known-of count (d ∷ ds) [] same all = absurd (omega (arith, ap length same))
+edges-known-of count (d ∷ ds) (p ∷ ps) same all = (subst (λ n. n < count) (sym (ap first same)) all.0, edges-known-of count ds ps (ap others same) all.1)
+  where
+    first : List ℕ → ℕ
+    first [] = 0
+    first (n ∷ ns) = n
+
+    others : List ℕ → List ℕ
+    others [] = []
+    others (n ∷ ns) = ns
+
+waiting-more : (count more : ℕ) (ps : List Pending) → AllByRecursion (λ (p : Pending). p.edge < count) ps → AllByRecursion (λ (p : Pending). p.edge < count + more) ps
+waiting-more count more [] all = tt
+waiting-more count more (p ∷ ps) all = (omega (arith, all.0), waiting-more count more ps all.1)
+
+waiting-append : (count : ℕ) (ps qs : List Pending) → AllByRecursion (λ (p : Pending). p.edge < count) ps → AllByRecursion (λ (p : Pending). p.edge < count) qs → AllByRecursion (λ (p : Pending). p.edge < count) (ps ++ qs)
+waiting-append count [] qs all others = others
+waiting-append count (p ∷ ps) qs all others = (all.0, waiting-append count ps qs all.1 others)
+
+waiting-last : (edge : ℕ) (joined : Option Discovered) (file : Option (List ℕ)) → AllByRecursion (λ (p : Pending). p.edge < edge + 1) (pending_at edge joined file)
+waiting-last edge (Some found) file = tt
+waiting-last edge None (Some file) = (omega arith, tt)
+waiting-last edge None None = tt
+
+-- what waits is an edge that was read
+pub waiting-known : (entries : List Entry) → AllByRecursion (λ (p : Pending). p.edge < length (edges_read entries)) (pending_read entries)
+unfolding edges_read pending_read
+waiting-known [] = tt
+waiting-known (e ∷ before) = by e.item (waiting-known before)
+  where
+    by : (item : StatementText) → AllByRecursion (λ (p : Pending). p.edge < length (edges_read before)) (pending_read before)
+        → AllByRecursion (λ (p : Pending). p.edge < length (with_edge e before item (edges_read before))) (with_pending e before item (pending_read before))
+    by (BuildText outputs rule inputs lines) all =
+        let edge = edge_of_build e before outputs rule inputs lines in
+        let count = length (edges_read before) in
+        let longer : length (edges_read before ++ edge ∷ []) ≡ count + 1 = length-append (edges_read before) (edge ∷ []) in
+        subst (λ n. AllByRecursion (λ (p : Pending). p.edge < n) (pending_read before ++ pending_at count e.discovered (dyndep_of before edge))) (sym longer)
+        (waiting-append (count + 1) (pending_read before) (pending_at count e.discovered (dyndep_of before edge)) (waiting-more count 1 (pending_read before) all) (waiting-last count e.discovered (dyndep_of before edge)))
+    by (BindingText bound word) all = all
+    by (RuleText declared lines) all = all
+    by (PoolText declared lines) all = all
+    by (DefaultText words) all = all
+    by (IncludeText word) all = all
+    by (SubninjaText word) all = all
 
 -- ---- details
 
@@ -126,20 +208,25 @@ module _ (held : BuildingText) (entries : List Entry) (holds : HoldsEdges held e
       slice_get_within held.names d.file.0 found.0.file (detail-at held.names ds (edges_read entries) n d found.0 all-details at found.1).file
 
   module _ (g : EdgeGraph) (is : g ≡ record { files = held.table.files; edges = held.table.edges }) where
-    pub built-held : BuiltIsHeld g held.names ds held.defaults
+    pub built-held : BuiltIsHeld g held.names ds held.defaults held.dyndeps
     built-held = record {
       as_many = detail-count ∙ ap (λ (v : EdgeGraph). length v.edges) (sym is);
       names_known = names-known held.names ds (edges_read entries) all-details;
       defaults_known = subst (λ (v : EdgeGraph). AreNumbers (length v.files) held.defaults) (sym is) (files-numbers held.table.files held.defaults (defaults_read entries) holds.defaults);
+      dyndep_files_known = subst (λ (v : EdgeGraph). AllByRecursion (λ (d : DyndepEdge). d.file.0 < length v.files) held.dyndeps) (sym is)
+          (files-known-of (length held.table.files) held.dyndeps (files-numbers held.table.files (map (λ d. d.file) held.dyndeps) (map (λ p. p.file) (pending_read entries)) holds.dyndeps.files_are));
+      dyndep_edges_known = subst (λ (v : EdgeGraph). AllByRecursion (λ (d : DyndepEdge). d.edge < length v.edges) held.dyndeps) (sym is)
+          (edges-known-of (length held.table.edges) held.dyndeps (pending_read entries) holds.dyndeps.edges_are (subst (λ n. AllByRecursion (λ (p : Pending). p.edge < n) (pending_read entries)) (sym edge-count) (waiting-known entries)));
     }
 
-    pub built-of : IsAcyclic (makers_of_inputs held.table.edges) (length held.table.edges) → ComesTo entries (Ok (built_of g held.blocks held.names ds held.defaults))
+    pub built-of : IsAcyclic (makers_of_inputs held.table.edges) (length held.table.edges) → ComesTo entries (Ok (built_of g held.blocks held.names ds held.defaults held.dyndeps))
     built-of acyclic = (
       record {
         paths = ap (λ (v : EdgeGraph). v.edges) is ∙ holds.edges;
         details = details-named held.names ds (edges_read entries) all-details;
         blocks = holds.blocks;
         defaults = ap (λ (v : EdgeGraph). paths_at v.files held.defaults) is ∙ files-paths held.table.files held.defaults (defaults_read entries) holds.defaults;
+        pending = ap (λ (v : EdgeGraph). map (pending_named v.files) held.dyndeps) is ∙ pending-named held.table.files held.dyndeps (pending_read entries) holds.dyndeps.edges_are holds.dyndeps.files_are;
       },
       subst (λ n. IsAcyclic (makers_of_inputs (paths_of_edges (edges_read entries))) n) (length-map (edges_read entries) (λ (e : EdgeText). e.paths))
           (subst (λ es. IsAcyclic (makers_of_inputs es) (length es)) holds.edges acyclic),

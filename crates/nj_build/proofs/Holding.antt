@@ -1,6 +1,6 @@
 -- What is held of no statement, and of one statement more.
-use Rattle.std.proofs.Common.{◌≡◌, ◌⊎◌, inl, inr, ℕ, ◌+◌, ◌<◌, ◌≤◌, ◌==◌, Bool, true, false, true≢false, if◌then◌else◌, List, [], ◌∷◌, ◌++◌, length, get_or, Option, Some, None, Result, Ok, Err, OnOk, IsErrAnd, map, slice_get, refl, sym, ap, subst, ◌∙◌, arith, ◌≢◌, suc}
-use Rattle.std.proofs.lemmas.List.{length-append, map-append}
+use Rattle.std.proofs.Common.{◌≡◌, ◌⊎◌, inl, inr, ℕ, ◌+◌, ◌<◌, ◌≤◌, ◌==◌, Bool, true, false, true≢false, if◌then◌else◌, List, [], ◌∷◌, ◌++◌, length, get_or, Option, Some, None, is_some, unwrap_or, Result, Ok, Err, OnOk, IsErrAnd, map, slice_get, refl, sym, ap, subst, ◌∙◌, arith, ◌≢◌, suc}
+use Rattle.std.proofs.lemmas.List.{append-nil, length-append, map-append}
 use Rattle.std.proofs.lemmas.Bool.{cases_lt}
 use Rattle.std.proofs.lemmas.Bool.Decides.{eqb_tells}
 use Rattle.std.proofs.Math.Seq.{get_or-append_seam}
@@ -18,20 +18,22 @@ use Rattle.nj_edges.specs.declared.files.FileNo.{FileNo}
 use Rattle.nj_edges.specs.EdgesHeld.{no_files}
 use Rattle.nj_edges.specs.Files.{AreFiles}
 use Rattle.nj_faults.specs.declared.fault.GraphFault.{GraphFault}
-use Rattle.nj_build.specs.EdgeList.{Block, EdgeText, build_block, paths_said, edge_of_build, edges_read, defaults_read}
-use Rattle.nj_build.specs.Answers.{BuildingText, HoldsEdges, DetailText, IsDetail, AreDetails, AddsEdge, AddsTargets, Checks, IsFault, ReadsStatement, HoldsReferences, block_at, block_of_edge}
+use Rattle.nj_build.specs.EdgeList.{Block, EdgeText, Pending, build_block, paths_said, edge_of_build, edges_read, defaults_read, dyndep_of, pending_at, pending_read}
+use Rattle.nj_build.specs.declared.building.DyndepEdge.{DyndepEdge}
+use Rattle.nj_build.specs.Answers.{BuildingText, ArePending, IsFileSaid, with_dyndep, HoldsEdges, DetailText, IsDetail, AreDetails, AddsEdge, AddsTargets, Checks, IsFault, ReadsStatement, HoldsReferences, block_at, block_of_edge}
 use Rattle.nj_build.proofs.Lists.{get-longer}
 use Rattle.nj_build.proofs.ReferenceLemmas.{references-none, references-longer}
 
 pub holds-none : (held : BuildingText) → held.table ≡ record { files = []; edges = []; «open» = no_files }
-    → ((edge : ℕ) (name : List ℕ) → bound_in held.blocks edge name ≡ None) → held.details ≡ [] → held.defaults ≡ [] → held.references ≡ [] → HoldsEdges held []
-unfolding edges_read defaults_read
-holds-none held table blocks details defaults references = record {
+    → ((edge : ℕ) (name : List ℕ) → bound_in held.blocks edge name ≡ None) → held.details ≡ [] → held.defaults ≡ [] → held.dyndeps ≡ [] → held.references ≡ [] → HoldsEdges held []
+unfolding edges_read defaults_read pending_read
+holds-none held table blocks details defaults dyndeps references = record {
   edges = ap (λ t. t.edges) table;
   none_open = ap (λ t. t.«open») table;
   blocks = blocks;
   details = subst (λ ds. AreDetails held.names ds []) (sym details) tt;
   defaults = subst (λ ds. AreFiles held.table.files ds []) (sym defaults) refl;
+  dyndeps = subst (λ ds. ArePending held.table.files ds []) (sym dyndeps) (record { edges_are = refl; files_are = refl });
   references = subst (λ kept. HoldsReferences kept (rule_texts [])) (sym references) (references-none (rule_texts []));
 }
 
@@ -80,9 +82,9 @@ files-append files ns ms ps qs are others =
 pub holds-default : (old new : BuildingText) (e : Entry) (before : List Entry) (words : List WordText) → HoldsEdges old before
     → new.table ≡ old.table → new.blocks ≡ old.blocks → new.names ≡ old.names → new.details ≡ old.details
     → AddsTargets old.table.files old.defaults new.defaults (paths_said (value_after before (scope_of e)) words)
-    → new.references ≡ old.references → HoldsEdges new (record e { item = DefaultText words } ∷ before)
-unfolding edges_read defaults_read
-holds-default old new e before words holds table blocks names details adds references = record {
+    → new.dyndeps ≡ old.dyndeps → new.references ≡ old.references → HoldsEdges new (record e { item = DefaultText words } ∷ before)
+unfolding edges_read defaults_read pending_read
+holds-default old new e before words holds table blocks names details adds dyndeps references = record {
   edges = ap (λ t. t.edges) table ∙ holds.edges;
   none_open = ap (λ t. t.«open») table ∙ holds.none_open;
   blocks = λ number name. ap (λ b. bound_in b number name) blocks ∙ holds.blocks number name;
@@ -90,6 +92,7 @@ holds-default old new e before words holds table blocks names details adds refer
   defaults = subst (λ t. AreFiles t.files new.defaults (defaults_read before ++ paths_said (value_after before (scope_of e)) words)) (sym table)
       (subst (λ ns. AreFiles old.table.files ns (defaults_read before ++ paths_said (value_after before (scope_of e)) words)) (sym adds.after_is)
       (files-append old.table.files old.defaults adds.added (defaults_read before) (paths_said (value_after before (scope_of e)) words) holds.defaults adds.are));
+  dyndeps = subst (λ t. ArePending t.files new.dyndeps (pending_read before)) (sym table) (subst (λ ds. ArePending old.table.files ds (pending_read before)) (sym dyndeps) holds.dyndeps);
   references = subst (λ kept. HoldsReferences kept (rule_texts before)) (sym references) holds.references;
 }
 
@@ -138,13 +141,40 @@ block-more edges e n name = by (eqb_tells n (length edges)) (cases_lt n (length 
         ap (λ b. if b then or_else (e.block name) (block_at edges n name) else block_at edges n name) other
         ∙ ap (λ o. bound-by o name) (slice_get_past edges n above ∙ sym (slice_get_past (edges ++ e ∷ []) n (omega (arith, above, apart, whole))))
 
-pub holds-build : (old new : BuildingText) (e : Entry) (before : List Entry) (outputs : OutputsText) (rule : NameText) (inputs : InputsText) (lines : List LineText) (d : DetailText) → HoldsEdges old before
-    → AddsEdge old.table new.table (edge_of_build e before outputs rule inputs lines).paths
+-- what waits with one edge more
+pending-more : (files longer : List (List ℕ)) (held : List DyndepEdge) (expected : List Pending) (edge : ℕ) (number : Option FileNo) (file : Option (List ℕ))
+    → IsPrefix files longer → ArePending files held expected → IsFileSaid longer number file → ArePending longer (with_dyndep edge number held) (expected ++ pending_at edge None file)
+pending-more files longer held expected edge None None grows are said =
+    subst (ArePending longer held) (sym (append-nil expected))
+    (record { edges_are = are.edges_are; files_are = files-longer files longer (map (λ d. d.file) held) (map (λ p. p.file) expected) grows are.files_are })
+pending-more files longer held expected edge None (Some path) grows are said = absurd (true≢false (sym (ap is_some said)))
+pending-more files longer held expected edge (Some file) None grows are said = absurd (true≢false (ap is_some said))
+pending-more files longer held expected edge (Some file) (Some path) grows are said = record {
+  edges_are = map-append (λ (d : DyndepEdge). d.edge) held (added ∷ []) ∙ ap (λ es. es ++ edge ∷ []) are.edges_are ∙ sym (map-append (λ (p : Pending). p.edge) expected (waits ∷ []));
+  files_are = subst (λ fs. AreFiles longer fs (map (λ p. p.file) (expected ++ waits ∷ []))) (sym (map-append (λ (d : DyndepEdge). d.file) held (added ∷ [])))
+      (subst (AreFiles longer (map (λ d. d.file) held ++ file ∷ [])) (sym (map-append (λ (p : Pending). p.file) expected (waits ∷ [])))
+      (files-append longer (map (λ d. d.file) held) (file ∷ []) (map (λ p. p.file) expected) (path ∷ []) (files-longer files longer (map (λ d. d.file) held) (map (λ p. p.file) expected) grows are.files_are)
+      (ap (λ o. o ∷ []) (ap (λ o. unwrap_or o None) said))));
+}
+  where
+    added : DyndepEdge
+    added = record { edge = edge; file = file }
+
+    waits : Pending
+    waits = record { edge = edge; file = path }
+
+-- a statement to which nothing was joined
+abbrev fresh : Entry → Entry
+fresh e = record e { discovered = None }
+
+pub holds-build : (old new : BuildingText) (e : Entry) (before : List Entry) (outputs : OutputsText) (rule : NameText) (inputs : InputsText) (lines : List LineText) (d : DetailText) (dyndep : Option FileNo) → HoldsEdges old before
+    → AddsEdge old.table new.table (edge_of_build (fresh e) before outputs rule inputs lines).paths
     → ((n : ℕ) (name : List ℕ) → bound_in new.blocks n name ≡ (if n == length old.details then or_else (build_block e before lines name) (bound_in old.blocks n name) else bound_in old.blocks n name))
-    → IsPrefix old.names new.names → new.details ≡ old.details ++ d ∷ [] → IsDetail new.names d (edge_of_build e before outputs rule inputs lines) → new.defaults ≡ old.defaults
-    → HoldsReferences new.references (rule_texts before) → HoldsEdges new (record e { item = BuildText outputs rule inputs lines } ∷ before)
-unfolding edges_read defaults_read
-holds-build old new e before outputs rule inputs lines d holds adds blocks names details is defaults references = record {
+    → IsPrefix old.names new.names → new.details ≡ old.details ++ d ∷ [] → IsDetail new.names d (edge_of_build (fresh e) before outputs rule inputs lines) → new.defaults ≡ old.defaults
+    → new.dyndeps ≡ with_dyndep (length old.details) dyndep old.dyndeps → IsFileSaid new.table.files dyndep (dyndep_of before (edge_of_build (fresh e) before outputs rule inputs lines))
+    → HoldsReferences new.references (rule_texts before) → HoldsEdges new (record e { item = BuildText outputs rule inputs lines; discovered = None } ∷ before)
+unfolding edges_read defaults_read pending_read
+holds-build old new e before outputs rule inputs lines d dyndep holds adds blocks names details is defaults dyndeps said references = record {
   edges = adds.edges ∙ ap (λ es. es ++ edge.paths ∷ []) holds.edges ∙ sym (map-append (λ (x : EdgeText). x.paths) (edges_read before) (edge ∷ []));
   none_open = adds.none_open;
   blocks = λ n name.
@@ -154,11 +184,14 @@ holds-build old new e before outputs rule inputs lines d holds adds blocks names
       ∙ block-more (edges_read before) edge n name;
   details = subst (λ ds. AreDetails new.names ds (edges_read before ++ edge ∷ [])) (sym details) (details-more old.names new.names old.details (edges_read before) d edge names holds.details is);
   defaults = subst (λ ns. AreFiles new.table.files ns (defaults_read before)) (sym defaults) (files-longer old.table.files new.table.files old.defaults (defaults_read before) adds.files holds.defaults);
+  dyndeps = subst (λ n. ArePending new.table.files new.dyndeps (pending_read before ++ pending_at n None (dyndep_of before edge))) (details-count old.names old.details (edges_read before) holds.details)
+      (subst (λ ds. ArePending new.table.files ds (pending_read before ++ pending_at (length old.details) None (dyndep_of before edge))) (sym dyndeps)
+      (pending-more old.table.files new.table.files old.dyndeps (pending_read before) (length old.details) dyndep (dyndep_of before edge) adds.files holds.dyndeps said));
   references = references;
 }
   where
     edge : EdgeText
-    edge = edge_of_build e before outputs rule inputs lines
+    edge = edge_of_build (fresh e) before outputs rule inputs lines
 
 -- what the block of the edge that is being read binds
 pub open-block : (old : BuildingText) (before : List Entry) (block : Block) (new : BlocksText) (edge : ℕ) → HoldsEdges old before → edge ≡ length old.details
@@ -190,15 +223,15 @@ names_files (DefaultText words) = true
 names_files item = false
 
 holds-item : (held : BuildingText) (e : Entry) (before : List Entry) (item : StatementText) → names_files item ≡ false → HoldsEdges held before → HoldsEdges held (record e { item = item } ∷ before)
-unfolding edges_read defaults_read
-holds-item held e before (BindingText bound word) other holds = record { edges = holds.edges; none_open = holds.none_open; blocks = holds.blocks; details = holds.details; defaults = holds.defaults; references = holds.references }
+unfolding edges_read defaults_read pending_read
+holds-item held e before (BindingText bound word) other holds = record { edges = holds.edges; none_open = holds.none_open; blocks = holds.blocks; details = holds.details; defaults = holds.defaults; dyndeps = holds.dyndeps; references = holds.references }
 holds-item held e before (RuleText declared lines) other holds =
-    record { edges = holds.edges; none_open = holds.none_open; blocks = holds.blocks; details = holds.details; defaults = holds.defaults; references = references-longer held.references (rule_texts before) (record { scope = e.number; name = declared.name; lines = map line_kept lines } ∷ []) holds.references }
-holds-item held e before (PoolText declared lines) other holds = record { edges = holds.edges; none_open = holds.none_open; blocks = holds.blocks; details = holds.details; defaults = holds.defaults; references = holds.references }
+    record { edges = holds.edges; none_open = holds.none_open; blocks = holds.blocks; details = holds.details; defaults = holds.defaults; dyndeps = holds.dyndeps; references = references-longer held.references (rule_texts before) (record { scope = e.number; name = declared.name; lines = map line_kept lines } ∷ []) holds.references }
+holds-item held e before (PoolText declared lines) other holds = record { edges = holds.edges; none_open = holds.none_open; blocks = holds.blocks; details = holds.details; defaults = holds.defaults; dyndeps = holds.dyndeps; references = holds.references }
 holds-item held e before (BuildText outputs rule inputs lines) other holds = absurd (true≢false other)
 holds-item held e before (DefaultText words) other holds = absurd (true≢false other)
-holds-item held e before (IncludeText word) other holds = record { edges = holds.edges; none_open = holds.none_open; blocks = holds.blocks; details = holds.details; defaults = holds.defaults; references = holds.references }
-holds-item held e before (SubninjaText word) other holds = record { edges = holds.edges; none_open = holds.none_open; blocks = holds.blocks; details = holds.details; defaults = holds.defaults; references = holds.references }
+holds-item held e before (IncludeText word) other holds = record { edges = holds.edges; none_open = holds.none_open; blocks = holds.blocks; details = holds.details; defaults = holds.defaults; dyndeps = holds.dyndeps; references = holds.references }
+holds-item held e before (SubninjaText word) other holds = record { edges = holds.edges; none_open = holds.none_open; blocks = holds.blocks; details = holds.details; defaults = holds.defaults; dyndeps = holds.dyndeps; references = holds.references }
 
 -- What is held is held still after a statement that names no files.
 pub holds-other : (held : BuildingText) (e : Entry) (before : List Entry) → names_files e.item ≡ false → HoldsEdges held before → HoldsEdges held (e ∷ before)

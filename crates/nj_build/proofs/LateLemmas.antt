@@ -23,7 +23,7 @@ use Rattle.nj_edges.proofs.GraphLemmas.{kinds-joined}
 use Rattle.nj_late.specs.declared.edge.LateEdge.{LateEdge}
 use Rattle.nj_late.specs.LateTexts.{LateNames}
 use Rattle.nj_late.specs.LateEdges.{late_names}
-use Rattle.nj_build.specs.EdgeList.{Block, Values, line_values, loses_own, without_own, edge_paths, stated_paths, build_block, edge_of_build, lines_of_rule}
+use Rattle.nj_build.specs.EdgeList.{Block, Values, EdgeText, line_values, loses_own, without_own, edge_paths, stated_paths, build_block, edge_of_build, lines_of_rule, names_of_edge}
 use Rattle.nj_build.specs.BuildFaults.{names_fault, late_fault}
 use Rattle.nj_build.specs.Answers.{names_read, SeesLate}
 
@@ -90,7 +90,14 @@ module _ (e : Entry) (entries : List Entry) (outputs : OutputsText) (rule : Name
       ∙ ap (λ (b : Block). record (names number) { lines = text.lines; is_phony = bytes_eq text.name phony; block = b })
       (sym (same-everywhere block (build_block e entries lines) block_is))
 
-  pub late-fault : names_fault e.file e.spot (pools entries) (inputs_of (paths_by number)) (names_read (paths_by number) block text file) ≡ late_fault entries (edge_of_build e entries outputs rule inputs lines)
+  -- the edge, to which nothing was joined
+  abbrev edge : EdgeText
+  edge = edge_of_build (record e { discovered = None }) entries outputs rule inputs lines
+
+  pub names-of-edge : names_of_edge entries edge ≡ names_read (paths_by number) block text file
+  names-of-edge = ap (λ (o : Option ℕ). names (unwrap_or o 0)) is ∙ names-read
+
+  pub late-fault : names_fault e.file e.spot (pools entries) (inputs_of (paths_by number)) (names_read (paths_by number) block text file) ≡ late_fault entries edge
   late-fault =
       ap (names_fault e.file e.spot (pools entries) (inputs_of (paths_by number))) (sym names-read)
       ∙ ap (λ (o : Option ℕ). names_fault e.file e.spot (pools entries) (inputs_of (paths_by (unwrap_or o 0))) (names (unwrap_or o 0))) (sym is)

@@ -8,6 +8,15 @@ pub mod LateLemmas
 pub mod ReferenceLemmas
 pub mod Holding
 pub mod Adding
+pub mod DiscoverLemmas
+pub mod DiscoverEdges
+pub mod DiscoverMakers
+pub mod DyndepFiles
 pub mod Rows
 pub mod Finishing
 pub mod BuiltRows
+pub mod WaitingLemmas
+pub mod AddedLemmas
+pub mod JoiningLemmas
+pub mod StartLemmas
+pub mod JoiningRows

@@ -1,5 +1,5 @@
 -- Worked rows, computed on the definitions: the edges of statements, and what is wrong with them.
-use Rattle.std.proofs.Common.{◌≡◌, ℕ, Some, None, List, [], ◌∷◌, map, refl}
+use Rattle.std.proofs.Common.{◌≡◌, ℕ, true, Some, None, List, [], ◌∷◌, map, refl}
 use Rattle.std.specs.Prelude.{codes, Option}
 use Rattle.nj_text.specs.declared.spot.Spot.{Spot}
 use Rattle.nj_text.specs.Words.{PartText, Text, Name, WordText}
@@ -8,14 +8,14 @@ use Rattle.nj_text.specs.Quotes.{quoted}
 use Rattle.nj_manifest.specs.LineSteps.{NameText}
 use Rattle.nj_manifest.specs.Statements.{LineText, OutputsText, InputsText, StatementText, BindingText, RuleText, PoolText, BuildText, DefaultText}
 use Rattle.nj_scope.specs.ReadingList.{Entry, bounds}
-use Rattle.nj_edges.specs.Edges.{EdgePaths}
+use Rattle.nj_edges.specs.Edges.{EdgePaths, inputs_of}
 use Rattle.nj_faults.specs.declared.fault.GraphFault.{GraphFault}
 use Rattle.nj_faults.specs.declared.fault.Cause.{Cause}
 use Rattle.nj_faults.specs.declared.fault.Cause.TheVariants.{EmptyPath, UnknownRule, TwoMakers, UnknownTarget}
 use Rattle.nj_faults.specs.declared.fault.Cause.TheVariants.{RuleVariableCycle, UnknownPool, DyndepNotInput}
 use Rattle.nj_faults.specs.Faults.{fault_at}
 use Rattle.nj_late.specs.VariableCycles.{variable_cycle_of}
-use Rattle.nj_build.specs.EdgeList.{EdgeText, edges_read}
+use Rattle.nj_build.specs.EdgeList.{EdgeText, Pending, edges_read, pending_read}
 use Rattle.nj_build.specs.BuildFaults.{build_fault, default_fault}
 
 -- ---- statements of a main file
@@ -45,7 +45,7 @@ abbrev phony : NameText
 phony = by_rule (codes "phony")
 
 abbrev entry : StatementText → Entry
-entry item = record { file = codes "build.ninja"; spot = at 1; depth = 0; number = 0; around = []; item = item }
+entry item = record { file = codes "build.ninja"; spot = at 1; depth = 0; number = 0; around = []; item = item; discovered = None }
 
 abbrev entries : List StatementText → List Entry
 entries items = map entry items
@@ -228,3 +228,55 @@ row-dyndep_lost = refl
 pub row-dyndep_of_file : wrong_with (BindingText (codes "dyndep") (path (codes "q")) ∷ []) (to (a ∷ [])) phony no_inputs [] ≡ wrong 1 (DyndepNotInput (codes "q"))
 unfolding clean_path_of without_leftmost_pair edges_read bounds variable_cycle_of
 row-dyndep_of_file = refl
+
+-- ---- edges that wait for their dyndep files
+
+-- an edge of this number that waits for `dd`
+abbrev waits : (edge : ℕ) → Pending
+waits edge = record { edge = edge; file = codes "dd" }
+
+-- `build OUT: RULE || dd`
+abbrev build_with_dd : (output : List ℕ) → NameText → List LineText → StatementText
+build_with_dd output rule lines = BuildText (to (path output ∷ [])) rule (record no_inputs { order_only = path (codes "dd") ∷ [] }) lines
+
+-- `build a: phony || dd` with `dyndep = .//dd` in its block: a clean path
+pub row-pending_block : pending_read (entries (build_with_dd (codes "a") phony (line (codes "dyndep") (codes ".//dd") ∷ []) ∷ [])) ≡ waits 0 ∷ []
+unfolding clean_path_of without_leftmost_pair edges_read pending_read bounds
+row-pending_block = refl
+
+-- `rule r` with `dyndep = dd`, then `build a: phony || dd`, and then `build b: r || dd`: the rule binds the second edge
+pub row-pending_rule : pending_read (entries (build_with_dd (codes "b") by_r [] ∷ build_with_dd (codes "a") phony [] ∷ rule_r (line (codes "dyndep") (codes "dd") ∷ []) ∷ [])) ≡ waits 1 ∷ []
+unfolding clean_path_of without_leftmost_pair edges_read pending_read bounds
+row-pending_rule = refl
+
+-- the same, where the block of `b` has `dyndep = $e`, which is empty
+pub row-pending_empty : pending_read (entries (build_with_dd (codes "b") by_r (line_of_name (codes "dyndep") (codes "e") ∷ []) ∷ rule_r (line (codes "dyndep") (codes "dd") ∷ []) ∷ [])) ≡ []
+unfolding clean_path_of without_leftmost_pair edges_read pending_read bounds
+row-pending_empty = refl
+
+-- `build a: phony || dd` with `dyndep = dd`, joined to an output `x` and an input `y`
+abbrev joined_a : Entry
+joined_a = record (entry (build_with_dd (codes "a") phony (line (codes "dyndep") (codes "dd") ∷ []))) { discovered = Some (record { outputs = codes "x" ∷ []; inputs = codes "y" ∷ [] }) }
+
+-- it does not wait, and `build b: phony || dd` with `dyndep = dd` does
+pub row-pending_joined : pending_read (entry (build_with_dd (codes "b") phony (line (codes "dyndep") (codes "dd") ∷ [])) ∷ joined_a ∷ []) ≡ waits 1 ∷ []
+unfolding clean_path_of without_leftmost_pair edges_read pending_read bounds
+row-pending_joined = refl
+
+-- its edge has them besides
+pub row-discovered : map (λ e. e.paths) (edges_read (joined_a ∷ [])) ≡ record {
+  explicit_outputs = codes "a" ∷ [];
+  implicit_outputs = codes "x" ∷ [];
+  explicit_inputs = [];
+  implicit_inputs = codes "y" ∷ [];
+  order_only_inputs = codes "dd" ∷ [];
+  validations = [];
+  is_phony = true;
+} ∷ []
+unfolding clean_path_of without_leftmost_pair edges_read bounds
+row-discovered = refl
+
+-- `build a: phony a` with an input that was discovered: it still loses `a`
+pub row-discovered_own : map (λ (e : EdgePaths). inputs_of e) (map (λ e. e.paths) (edges_read (record (entry (BuildText (to (a ∷ [])) phony (from (a ∷ [])) [])) { discovered = Some (record { outputs = []; inputs = codes "y" ∷ [] }) } ∷ []))) ≡ (codes "y" ∷ []) ∷ []
+unfolding clean_path_of without_leftmost_pair edges_read bounds
+row-discovered_own = refl

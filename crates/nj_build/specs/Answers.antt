@@ -1,6 +1,6 @@
 -- What the reading of a statement answers, and how what is read is held.
-use Rattle.std.specs.Prelude.{◌≡◌, ◌⊎◌, ℕ, Bool, true, false, if◌then◌else◌, Option, Some, None, Result, Ok, Err}
-use Rattle.std.specs.Prelude.{List, [], ◌∷◌, ◌++◌, ◌+◌, ◌≤◌, length, slice_get, slice_index_or, bytes_eq}
+use Rattle.std.specs.Prelude.{◌≡◌, ◌⊎◌, ℕ, Bool, true, false, if◌then◌else◌, Option, Some, None, option_map, Result, Ok, Err}
+use Rattle.std.specs.Prelude.{List, [], ◌∷◌, ◌++◌, ◌+◌, ◌≤◌, map, length, slice_get, slice_index_or, bytes_eq}
 use Rattle.nj_text.specs.declared.spot.Spot.{Spot}
 use Rattle.nj_manifest.specs.Contents.{words_text, lines_text}
 use Rattle.nj_manifest.specs.Statements.{OutputsText, InputsText, StatementText, BuildText}
@@ -26,8 +26,9 @@ use Rattle.nj_build.specs.declared.edge.Build.{Build}
 use Rattle.nj_build.specs.declared.names.Names.{Names}
 use Rattle.nj_build.specs.declared.names.EdgeBlock.{EdgeBlock}
 use Rattle.nj_build.specs.declared.building.Detail.{Detail}
+use Rattle.nj_build.specs.declared.building.DyndepEdge.{DyndepEdge}
 use Rattle.nj_build.specs.declared.place.StatementPlace.{StatementPlace}
-use Rattle.nj_build.specs.EdgeList.{Values, Block, EdgeText, on_line, paths_said, edges_read, paths_of_edges, defaults_read}
+use Rattle.nj_build.specs.EdgeList.{Values, Block, EdgeText, Pending, on_line, paths_said, edges_read, paths_of_edges, defaults_read, pending_read}
 
 -- ---- faults
 
@@ -155,6 +156,10 @@ pub record SeesLate (edge : LateEdge) (entries : List Entry) (n : LateNames) : T
   pub within : IsScope (parent_at edge.declarations.now.scopes) edge.scope (edge.scope ∷ around)
   pub are : n ≡ late_names edge (value_after entries (edge.scope ∷ around))
 
+-- the number of the file at this path, if there is one
+abbrev pub IsFileSaid : (files : List (List ℕ)) → Option FileNo → Option (List ℕ) → Type 0
+IsFileSaid files number path = option_map (λ f. slice_get files f.0) number ≡ option_map Some path
+
 -- what is kept of rules tells of their cycles
 abbrev pub HoldsReferences : (kept : List (Option (List ReferringKeyText))) → List RuleText → Type 0
 HoldsReferences kept rules =
@@ -181,6 +186,8 @@ pub record BuildingText : Type 0 where
   pub names : List (List ℕ)
   pub details : List DetailText
   pub defaults : List FileNo
+  -- the edges with dyndep files
+  pub dyndeps : List DyndepEdge
   -- of each rule by number, which of its variables refer to which, where an edge has used it
   pub references : List (Option (List ReferringKeyText))
 
@@ -205,6 +212,16 @@ AreDetails names [] [] = Unit {0}
 AreDetails names (d ∷ details) (e ∷ edges) = IsDetail names d e × AreDetails names details edges
 AreDetails names details edges = ⊥
 
+-- with the edge of this number, if it is bound to a dyndep file
+abbrev pub with_dyndep : (edge : ℕ) → Option FileNo → List DyndepEdge → List DyndepEdge
+with_dyndep edge None held = held
+with_dyndep edge (Some file) held = held ++ record { edge = edge; file = file } ∷ []
+
+-- these edges, by number, with the numbers of these files
+pub record ArePending (files : List (List ℕ)) (held : List DyndepEdge) (expected : List Pending) : Type 0 where
+  pub edges_are : map (λ d. d.edge) held ≡ map (λ p. p.edge) expected
+  pub files_are : AreFiles files (map (λ d. d.file) held) (map (λ p. p.file) expected)
+
 -- It holds the edges and defaults of these statements, of which the last read stands first.
 pub record HoldsEdges (held : BuildingText) (entries : List Entry) : Type 0 where
   pub edges : held.table.edges ≡ paths_of_edges (edges_read entries)
@@ -212,6 +229,7 @@ pub record HoldsEdges (held : BuildingText) (entries : List Entry) : Type 0 wher
   pub blocks : (number : ℕ) (name : List ℕ) → bound_in held.blocks number name ≡ block_at (edges_read entries) number name
   pub details : AreDetails held.names held.details (edges_read entries)
   pub defaults : AreFiles held.table.files held.defaults (defaults_read entries)
+  pub dyndeps : ArePending held.table.files held.dyndeps (pending_read entries)
   pub references : HoldsReferences held.references (rule_texts entries)
 
 -- ---- a statement
@@ -224,6 +242,7 @@ entry_at_place place around depth item = record {
   number = place.scope;
   around = around;
   item = item;
+  discovered = None;
 }
 
 -- the statement has no fault and is held, or its fault is answered

@@ -1,17 +1,18 @@
 -- The edges of a run: one for each build statement, in reading order.
 use Rattle.std.specs.Prelude.{ℕ, ◌==◌, Bool, ◌&&◌, not, if◌then◌else◌, Option, option_map, unwrap_or, Some, None, List}
-use Rattle.std.specs.Prelude.{[], ◌∷◌, ◌++◌, map, find, reverse, length, slice_get, bytes_eq}
+use Rattle.std.specs.Prelude.{[], ◌∷◌, ◌++◌, map, find, reverse, length, slice_get, bytes_eq, codes}
 use Rattle.std.specs.List.{filter}
 use Rattle.nj_text.specs.declared.spot.Spot.{Spot}
 use Rattle.nj_text.specs.Words.{WordText}
 use Rattle.nj_text.specs.Paths.{clean_path_of}
+use Rattle.nj_text.specs.Calls.{is_empty}
 use Rattle.nj_manifest.specs.LineSteps.{NameText}
 use Rattle.nj_manifest.specs.Statements.{LineText, OutputsText, InputsText, StatementText, BuildText, DefaultText}
 use Rattle.nj_scope.specs.Rules.{RuleText, RuleLineText}
 use Rattle.nj_scope.specs.Scopes.{expanded}
-use Rattle.nj_scope.specs.ReadingList.{Entry, scope_of, value_after, rule_in_force, rule_texts}
+use Rattle.nj_scope.specs.ReadingList.{Discovered, Entry, scope_of, value_after, rule_in_force, rule_texts}
 use Rattle.nj_edges.specs.Edges.{EdgePaths, outputs_of, is_among}
-use Rattle.nj_late.specs.LateTexts.{LateNames}
+use Rattle.nj_late.specs.LateTexts.{LateNames, asked_text}
 
 -- ---- names and paths
 
@@ -88,7 +89,16 @@ build_block e before lines = block_of (value_after before (scope_of e)) lines
 abbrev pub line_values : Entry → (before : List Entry) → List LineText → Values
 line_values e before lines = on_line (value_after before (scope_of e)) (build_block e before lines)
 
--- the edge of a build statement, by the statements before it, of which the last read stands first
+-- Discovered files are implicit: they stand after those that the statement itself names so, its inputs before the order-only ones.
+abbrev pub with_discovered : Option Discovered → EdgePaths → EdgePaths
+with_discovered None e = e
+with_discovered (Some found) e = record e {
+  implicit_outputs = e.implicit_outputs ++ found.outputs;
+  implicit_inputs = e.implicit_inputs ++ found.inputs;
+}
+
+-- The edge of a build statement, by the statements before it, of which the last read stands first. It loses its own outputs as
+-- inputs before discovered files are added.
 abbrev pub edge_of_build : Entry → (before : List Entry) → OutputsText → NameText → InputsText → List LineText → EdgeText
 edge_of_build e before outputs rule inputs lines = record {
   file = e.file;
@@ -97,7 +107,8 @@ edge_of_build e before outputs rule inputs lines = record {
   around = e.around;
   rule = rule_number e before rule;
   block = build_block e before lines;
-  paths = edge_paths (stated_paths (line_values e before lines) outputs inputs (rule_number e before rule == 0));
+  paths = with_discovered e.discovered
+      (edge_paths (stated_paths (line_values e before lines) outputs inputs (rule_number e before rule == 0)));
 }
 
 abbrev pub with_edge : Entry → (before : List Entry) → StatementText → List EdgeText → List EdgeText
@@ -140,3 +151,34 @@ names_of_edge entries e = record {
   is_phony = e.paths.is_phony;
   file = value_after entries (e.number ∷ e.around);
 }
+
+-- ---- dyndep files
+
+-- An edge and the dyndep file to which it is bound, by its clean path.
+pub record Pending : Type 0 where
+  pub edge : ℕ
+  pub file : List ℕ
+
+-- an empty text is no file
+abbrev pub file_said : (text : List ℕ) → Option (List ℕ)
+file_said text = if is_empty text then None else Some (clean_path_of text)
+
+-- the dyndep file of an edge: what the variable says at its build statement
+abbrev pub dyndep_of : (before : List Entry) → EdgeText → Option (List ℕ)
+dyndep_of before edge = file_said (asked_text (names_of_edge before edge) (codes "dyndep"))
+
+-- an edge to which its dyndep file was not joined yet
+abbrev pub pending_at : (edge : ℕ) → (joined : Option Discovered) → (file : Option (List ℕ)) → List Pending
+pending_at edge (Some found) file = []
+pending_at edge None (Some file) = record { edge = edge; file = file } ∷ []
+pending_at edge None None = []
+
+abbrev pub with_pending : Entry → (before : List Entry) → StatementText → List Pending → List Pending
+with_pending e before (BuildText outputs rule inputs lines) others =
+    others ++ pending_at (length (edges_read before)) e.discovered (dyndep_of before (edge_of_build e before outputs rule inputs lines))
+with_pending e before item others = others
+
+-- the edges that wait for what their dyndep files say, by number
+unfoldable pub pending_read : List Entry → List Pending
+pending_read [] = []
+pending_read (e ∷ before) = with_pending e before e.item (pending_read before)

@@ -10,7 +10,7 @@ ghost use Rattle.nj_scope.specs.ReadingList.{Entry, rule_in_force, rule_texts};
 ghost use Rattle.nj_edges.specs.EdgesHeld.{no_files};
 ghost use Rattle.nj_build.specs.EdgeList.{Values, paths_said, line_values, edge_of_build, edges_read, paths_of_edges};
 ghost use Rattle.nj_build.specs.BuildFaults.{or_then, first_fault, paths_fault, late_fault, target_fault, build_fault, default_fault};
-ghost use Rattle.nj_build.specs.Answers.{Checks, SeesNames, HoldsEdges, AddsTargets, ReadsStatement, build_text, entry_at_place, outputs_of_build, inputs_of_build};
+ghost use Rattle.nj_build.specs.Answers.{Checks, SeesNames, HoldsEdges, AddsTargets, ReadsStatement, with_dyndep, build_text, entry_at_place, outputs_of_build, inputs_of_build};
 
 use crate::block::bind_block;
 use crate::edge::{Build, EdgeRule, NamedLine, add_edge};
@@ -23,7 +23,7 @@ use nj_faults::{Cause, GraphFault, Name};
 use nj_late::KeyReferences;
 use nj_scope::{Declarations, HashKeys};
 use nj_text::{Spot, Word};
-use std::alloc::Global;
+use std::alloc::{AllocError, Global};
 use std::marker::Model;
 
 // The number of the rule `phony`.
@@ -39,6 +39,13 @@ pub(crate) struct Detail {
     pub(crate) rule: usize,
 }
 
+// An edge that is bound to a dyndep file ("Dynamic Dependencies" in the Ninja manual).
+#[derive(Clone, Copy)]
+pub(crate) struct DyndepEdge {
+    pub(crate) edge: usize,
+    pub(crate) file: FileNo,
+}
+
 /// The edges of the build statements that were read so far, and the defaults ("Build statements"
 /// and "Default target statements" in the Ninja manual).
 #[derive(Drop)]
@@ -48,6 +55,7 @@ pub struct Building {
     pub(crate) names: Files,
     pub(crate) details: Vec<Detail>,
     pub(crate) defaults: Vec<FileNo>,
+    pub(crate) dyndeps: Vec<DyndepEdge>,
     // of each rule by number, which of its variables refer to which, where an edge has used it
     references: Vec<Option<KeyReferences>>,
     room: Room,
@@ -65,6 +73,7 @@ impl Model for Building {
       names = b.names;
       details = map detail_text b.details.items;
       defaults = b.defaults.items;
+      dyndeps = b.dyndeps.items;
       references = b.references.items;
     } };
 
@@ -82,6 +91,7 @@ impl Building {
             names: Files::new(alloc, keys),
             details: Vec::new(alloc),
             defaults: Vec::new(alloc),
+            dyndeps: Vec::new(alloc),
             references: Vec::new(alloc),
             room: Room::new(alloc),
         }
@@ -181,7 +191,8 @@ impl Building {
             references: rule_references(&self.references, rule.number),
             block,
         };
-        add_edge(line, &mut self.room, &mut self.edges, build, used)?;
+        let dyndep = add_edge(line, &mut self.room, &mut self.edges, build, used)?;
+        push_dyndep(&mut self.dyndeps, edge, dyndep)?;
         let file = self.names.name(place.file.as_bytes())?;
         self.details.push(Detail {
             file,
@@ -227,6 +238,20 @@ impl Building {
         };
         add_targets(line, &mut self.room, &self.edges, &mut self.defaults, words)
     }
+}
+
+// Appends the edge of this number, if it is bound to a dyndep file.
+fn push_dyndep(
+    dyndeps: &mut Vec<DyndepEdge>,
+    edge: usize,
+    file: Option<FileNo>,
+) -> Result<(), AllocError>
+    ensures { OnOk result (dyndeps.new.items ≡ with_dyndep edge file dyndeps.old.items) }
+{
+    if let Some(file) = file {
+        dyndeps.push(DyndepEdge { edge, file })?;
+    }
+    Ok(())
 }
 
 // Appends the files that words name, which an edge before has to name.

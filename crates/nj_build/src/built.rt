@@ -9,7 +9,7 @@ ghost use Rattle.nj_faults.specs.Faults.{fault_at};
 ghost use Rattle.nj_build.specs.Answers.{HoldsEdges};
 ghost use Rattle.nj_build.specs.Built.{ComesTo, defaults_in_force, detail_at};
 
-use crate::building::{Building, Detail};
+use crate::building::{Building, Detail, DyndepEdge};
 use nj_blocks::Blocks;
 use nj_edges::{EdgeGraph, EdgeNo, FileNo, Files, Finished};
 use nj_faults::{Cause, GraphFault, Name, Place};
@@ -28,11 +28,13 @@ pub struct PlaceRef<'a> {
 /// The edges of a run, without a dependency cycle, and its defaults.
 #[derive(Drop)]
 pub struct Built {
-    graph: EdgeGraph,
-    blocks: Blocks,
-    names: Files,
-    details: Vec<Detail>,
-    defaults: Vec<FileNo>,
+    pub(crate) graph: EdgeGraph,
+    pub(crate) blocks: Blocks,
+    pub(crate) names: Files,
+    pub(crate) details: Vec<Detail>,
+    pub(crate) defaults: Vec<FileNo>,
+    // the edges to which dyndep files are still to be joined
+    pub(crate) dyndeps: Vec<DyndepEdge>,
 }
 
 impl Model for Built {
@@ -42,9 +44,11 @@ impl Model for Built {
 
     ghost use Rattle.nj_build.specs.BuiltHeld.{BuiltIsHeld, built_of};
 
-    ghost view = { λ b. built_of b.graph b.blocks b.names b.details.items b.defaults.items };
+    ghost view = { λ b. built_of b.graph b.blocks b.names b.details.items b.defaults.items
+        b.dyndeps.items };
 
-    ghost invariant = { λ b. BuiltIsHeld b.graph b.names b.details.items b.defaults.items };
+    ghost invariant = { λ b. BuiltIsHeld b.graph b.names b.details.items b.defaults.items
+        b.dyndeps.items };
 }
 
 impl Building {
@@ -65,6 +69,7 @@ impl Building {
             names,
             details,
             defaults,
+            dyndeps,
             ..
         } = self;
         match edges.finish(alloc)? {
@@ -74,6 +79,7 @@ impl Building {
                 names,
                 details,
                 defaults,
+                dyndeps,
             }),
             Finished::Cycle(cycle) => {
                 let detail = details[cycle.edge.0];
@@ -85,7 +91,7 @@ impl Building {
 }
 
 // The fault of a cycle at the statement of this edge, with this output of it.
-fn cycle_fault(
+pub(crate) fn cycle_fault(
     alloc: Global,
     names: &Files,
     detail: Detail,

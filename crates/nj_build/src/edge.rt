@@ -1,16 +1,17 @@
 //! The files that a build statement names.
 
-ghost use Rattle.std.specs.Prelude.{◌≡◌, ◌<◌, ◌≤◌, ◌+◌, ◌++◌, ◌∷◌, false, Some, length, slice_get, IfOk, OnOk};
+ghost use Rattle.std.specs.Prelude.{◌≡◌, ◌<◌, ◌≤◌, ◌+◌, ◌++◌, ◌∷◌, false, Some, length, slice_get, codes, IfOk, OnOk};
 ghost use Rattle.nj_text.specs.Words.{word_text};
 ghost use Rattle.nj_manifest.specs.Contents.{words_text};
 ghost use Rattle.nj_scope.specs.ReadingList.{value_after, pools};
 ghost use Rattle.nj_edges.specs.Edges.{inputs_of};
 ghost use Rattle.nj_edges.specs.EdgesHeld.{no_files, EndWithin, edge_read};
 ghost use Rattle.nj_late.specs.LateEdges.{late_names};
+ghost use Rattle.nj_late.specs.LateTexts.{asked_text};
 ghost use Rattle.nj_late.specs.ReferencesHeld.{TellsCycles};
-ghost use Rattle.nj_build.specs.EdgeList.{Values, path_said, paths_said, stated_paths, loses_own, edge_paths};
+ghost use Rattle.nj_build.specs.EdgeList.{Values, path_said, paths_said, stated_paths, loses_own, edge_paths, file_said};
 ghost use Rattle.nj_build.specs.BuildFaults.{or_then, empty_path, first_fault, target_fault, outputs_fault, inputs_fault, paths_fault, names_fault};
-ghost use Rattle.nj_build.specs.Answers.{Checks, SeesNames, bound_by, Grows, AddsInputs, NamesFiles, AddsEdge, names_read, outputs_of_build, inputs_of_build, with_outputs, with_inputs, with_validations};
+ghost use Rattle.nj_build.specs.Answers.{Checks, SeesNames, IsFileSaid, bound_by, Grows, AddsInputs, NamesFiles, AddsEdge, names_read, outputs_of_build, inputs_of_build, with_outputs, with_inputs, with_validations};
 
 use crate::late::LateLine;
 use crate::names::{EdgeBlock, Names, Room};
@@ -296,14 +297,15 @@ fn late_edge<'a>(
     }
 }
 
-/// Reads a build statement as an edge, which is the last one then.
+/// Reads a build statement as an edge, which is the last one then. Returns its dyndep file, if it is
+/// bound to one.
 pub(crate) fn add_edge(
     line: NamedLine<'_, '_, '_>,
     room: &mut Room,
     edges: &mut Edges,
     build: Build<'_>,
     rule: EdgeRule<'_, '_>,
-) -> Result<(), GraphFault>
+) -> Result<Option<FileNo>, GraphFault>
     requires { line.names.scope < length line.names.declarations.now.scopes }
     ensures fault { (values : Values) (sees : SeesNames line.entry.names values)
         → edges.old.«open» ≡ no_files
@@ -319,6 +321,13 @@ pub(crate) fn add_edge(
         → edges.old.«open» ≡ no_files
         → OnOk result (AddsEdge edges.old edges.new (edge_paths (stated_paths values
         (outputs_of_build build.entry) (inputs_of_build build.entry) rule.entry.is_phony))) }
+    ensures dyndep { (values : Values) (sees : SeesNames line.entry.names values)
+        → edges.old.«open» ≡ no_files
+        → let paths = edge_paths (stated_paths values (outputs_of_build build.entry)
+        (inputs_of_build build.entry) rule.entry.is_phony) in
+        IfOk result (λ file. IsFileSaid edges.new.files file (file_said (asked_text
+        (names_read paths (bound_by rule.entry.block) rule.entry.rule.now
+        (value_after sees.entries (line.entry.names.scope ∷ sees.around))) (codes "dyndep")))) }
 {
     let kinds = add_files(line, room, edges, build, rule.is_phony)?;
     let late = LateLine {
@@ -332,9 +341,9 @@ pub(crate) fn add_edge(
             rule,
         ),
     };
-    late.check(room, edges, rule.references)?;
+    let dyndep = late.check(room, edges, rule.references)?;
     edges.end_edge(kinds, rule.is_phony)?;
-    Ok(())
+    Ok(dyndep)
 }
 
 // Whether the edge of a build statement loses the inputs that are its own output.

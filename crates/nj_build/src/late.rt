@@ -1,15 +1,16 @@
 //! What is wrong with the edge that is being read by the variables of its rule.
 
-ghost use Rattle.std.specs.Prelude.{◌≡◌, List, false, codes, OnOk};
+ghost use Rattle.std.specs.Prelude.{◌≡◌, List, false, codes, IfOk, OnOk};
 ghost use Rattle.nj_late.specs.LateTexts.{LateNames, asked_text};
 ghost use Rattle.nj_late.specs.ReferencesHeld.{TellsCycles};
 ghost use Rattle.nj_scope.specs.ReadingList.{Entry, pools};
 ghost use Rattle.nj_build.specs.BuildFaults.{variable_cycle_fault, unknown_pool, dyndep_not_input, names_fault};
-ghost use Rattle.nj_build.specs.Answers.{Checks, SeesLate};
+ghost use Rattle.nj_build.specs.EdgeList.{file_said};
+ghost use Rattle.nj_build.specs.Answers.{Checks, SeesLate, IsFileSaid};
 
 use crate::names::Room;
 use crate::place::StatementPlace;
-use nj_edges::Edges;
+use nj_edges::{Edges, FileNo};
 use nj_faults::{Cause, GraphFault, Name};
 use nj_late::{KeyReferences, LateEdge};
 use nj_text::TextFault;
@@ -25,17 +26,21 @@ pub(crate) struct LateLine<'p, 'e> {
 }
 
 impl LateLine<'_, '_> {
-    /// Checks the variables of the rule, then the pool, then the dyndep file.
+    /// Checks the variables of the rule, then the pool, then the dyndep file, which is returned if
+    /// the edge is bound to one.
     pub(crate) fn check(
         self,
         room: &mut Room,
         edges: &Edges,
         references: &KeyReferences,
-    ) -> Result<(), GraphFault>
-        ensures { (entries : List Entry) (n : LateNames) → SeesLate self.entry.edge entries n
+    ) -> Result<Option<FileNo>, GraphFault>
+        ensures fault { (entries : List Entry) (n : LateNames) → SeesLate self.entry.edge entries n
             → TellsCycles n.lines references.now
             → Checks (names_fault self.entry.place.file.now self.entry.place.spot (pools entries)
             edges.now.«open».inputs n) result }
+        ensures file { (entries : List Entry) (n : LateNames) → SeesLate self.entry.edge entries n
+            → IfOk result (λ file. IsFileSaid edges.now.files file
+            (file_said (asked_text n (codes "dyndep")))) }
     {
         self.check_cycle(references)?;
         self.check_pool(&mut room.text)?;
@@ -82,20 +87,23 @@ impl LateLine<'_, '_> {
         Err(self.place.fault(self.alloc, self.place.spot, cause))
     }
 
-    // Refuses a dyndep file that is no input of the edge.
-    fn check_dyndep(self, room: &mut Room, edges: &Edges) -> Result<(), GraphFault>
-        ensures { (entries : List Entry) (n : LateNames) → SeesLate self.entry.edge entries n
+    // The dyndep file of the edge, if there is one. Refuses one that is no input of the edge.
+    fn check_dyndep(self, room: &mut Room, edges: &Edges) -> Result<Option<FileNo>, GraphFault>
+        ensures fault { (entries : List Entry) (n : LateNames) → SeesLate self.entry.edge entries n
             → Checks (dyndep_not_input self.entry.place.file.now self.entry.place.spot
             edges.now.«open».inputs (asked_text n (codes "dyndep"))) result }
+        ensures file { (entries : List Entry) (n : LateNames) → SeesLate self.entry.edge entries n
+            → IfOk result (λ file. IsFileSaid edges.now.files file
+            (file_said (asked_text n (codes "dyndep")))) }
     {
         self.say(&mut room.text, b"dyndep")?;
         let path = match room.clean_path() {
             Ok(path) => path,
-            Err(TextFault::EmptyPath) => return Ok(()),
+            Err(TextFault::EmptyPath) => return Ok(None),
             Err(TextFault::OutOfMemory) => return Err(GraphFault::out_of_memory()),
         };
-        if edges.has_open_input(path) {
-            return Ok(());
+        if let Some(file) = edges.open_input(path) {
+            return Ok(Some(file));
         }
         let cause = Cause::DyndepNotInput(Name::new(self.alloc, path)?);
         Err(self.place.fault(self.alloc, self.place.spot, cause))

@@ -5,7 +5,9 @@ mod block;
 mod building;
 mod built;
 mod edge;
+mod joining;
 mod late;
+mod laws;
 mod names;
 mod place;
 mod references;
@@ -13,4 +15,9 @@ mod references;
 pub use building::Building;
 pub use built::{Built, PlaceRef};
 pub use edge::Build;
+pub use joining::{DyndepFile, Joining};
+pub use laws::{
+    discovered_files_are_added, dyndep_files_stand_once, entries_add_to_their_edges,
+    pending_edges_rise,
+};
 pub use place::StatementPlace;

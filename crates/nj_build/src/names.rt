@@ -7,6 +7,7 @@ ghost use Rattle.nj_text.specs.Words.{Text, part_text, word_text};
 ghost use Rattle.nj_text.specs.declared.paths.TextFault.TheVariants.{EmptyPath};
 ghost use Rattle.nj_scope.specs.Scopes.{part_expanded, expanded};
 ghost use Rattle.nj_build.specs.EdgeList.{Values, path_said};
+ghost use Rattle.nj_build.specs.Joining.{no_values};
 ghost use Rattle.nj_build.specs.Answers.{SeesNames};
 
 use nj_blocks::Blocks;
@@ -56,6 +57,26 @@ impl Room {
             Ok(()) => Ok(self.path.as_slice()),
             Err(fault) => Err(fault),
         }
+    }
+
+    /// The path that a word says in which each reference is empty: a slice of its file where that is
+    /// clean.
+    ///
+    /// # Errors
+    ///
+    /// `EmptyPath` if it says nothing, and `OutOfMemory` if an allocation failed.
+    pub(crate) fn plain_path<'w>(&'w mut self, word: &'w Word<'_>) -> Result<&'w [u8], TextFault>
+        ensures path { IfOk result (λ path. path.now ≡ path_said no_values (word_text word.now)) }
+        ensures said { OnOk result (is_empty (expanded no_values (word_text word.now).parts)
+            ≡ false) }
+        ensures empty { result ≡ Err EmptyPath
+            → expanded no_values (word_text word.now).parts ≡ [] }
+    {
+        if let Some(path) = clean_bytes(word) {
+            return Ok(path);
+        }
+        plain_text(&mut self.text, word)?;
+        self.clean_path()
     }
 }
 
@@ -116,14 +137,36 @@ impl Names<'_, '_> {
         ensures empty { (values : Values) → SeesNames self.now values
             → result ≡ Err EmptyPath → expanded values (word_text word.now).parts ≡ [] }
     {
-        if let Some(bytes) = only_bytes(word) {
-            if is_clean(bytes) {
-                return Ok(bytes);
-            }
+        if let Some(path) = clean_bytes(word) {
+            return Ok(path);
         }
         self.expand(&mut room.text, word)?;
         room.clean_path()
     }
+}
+
+// Sets a text to what a word says in which each reference is empty.
+fn plain_text(text: &mut Vec<u8>, word: &Word<'_>) -> Result<(), AllocError>
+    ensures { OnOk result (text.new.items ≡ expanded no_values (word_text word.now).parts) }
+{
+    text.clear();
+    'parts: for part in word.parts.as_slice() {
+        if let Part::Bytes(bytes) = part {
+            text.extend_from_slice(bytes)?;
+        }
+    }
+    Ok(())
+}
+
+// The bytes of a word that is a clean path as it stands.
+fn clean_bytes<'b>(word: &'b Word<'_>) -> Option<&'b [u8]>
+    ensures path { (values : Values)
+        → IfSome result (λ path. path.now ≡ path_said values (word_text word.now)) }
+    ensures said { (values : Values)
+        → IfSome result (λ path. is_empty (expanded values (word_text word.now).parts) ≡ false) }
+{
+    let bytes = only_bytes(word)?;
+    if is_clean(bytes) { Some(bytes) } else { None }
 }
 
 // The bytes of a word that has no reference and no escape.

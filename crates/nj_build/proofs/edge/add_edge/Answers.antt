@@ -1,18 +1,18 @@
-use Rattle.std.proofs.Common.{◌≡◌, ◌∷◌, None, length, sym, ap, subst, ◌∙◌}
+use Rattle.std.proofs.Common.{◌≡◌, ◌∷◌, None, codes, length, sym, ap, subst, ◌∙◌}
 use Rattle.nj_scope.specs.ReadingList.{value_after, pools}
 use Rattle.nj_edges.specs.Edges.{EdgePaths, inputs_of}
 use Rattle.nj_edges.specs.EdgesHeld.{edge_read}
-use Rattle.nj_late.specs.LateTexts.{LateNames}
-use Rattle.nj_build.specs.EdgeList.{stated_paths, edge_paths}
+use Rattle.nj_late.specs.LateTexts.{LateNames, asked_text}
+use Rattle.nj_build.specs.EdgeList.{stated_paths, edge_paths, file_said}
 use Rattle.nj_build.specs.BuildFaults.{or_then, paths_fault, names_fault}
-use Rattle.nj_build.specs.Answers.{IsFault, SeesLate, bound_by, names_read, outputs_of_build, inputs_of_build}
+use Rattle.nj_build.specs.Answers.{IsFault, IsFileSaid, SeesLate, bound_by, names_read, outputs_of_build, inputs_of_build}
 use Rattle.nj_build.proofs.Faults.{fault-second, both-none, err-checks}
 use Rattle.nj_build.proofs.Adding.{adds-edge}
 use Rattle.nj_build.proofs.LateLemmas.{inputs-read, sees-late}
 use Rattle.nj_build.proofs.edge.add_edge.Goals as goal
 
-pub returns-in_err-check-clause-fault : goal.returns-in_err-check-clause-fault
-returns-in_err-check-clause-fault c = λ values sees none tells.
+pub returns-in_err-dyndep-clause-fault : goal.returns-in_err-dyndep-clause-fault
+returns-in_err-dyndep-clause-fault c = λ values sees none tells.
     let file = c.args.line.place.file.now in
     let spot = c.args.line.place.spot in
     let outputs = outputs_of_build c.args.build in
@@ -25,12 +25,12 @@ returns-in_err-check-clause-fault c = λ values sees none tells.
     let inputs_are : inputs_of paths ≡ open_edge.inputs = sym (ap inputs_of named.edge_is) ∙ inputs-read open_edge c.in_ok-kinds.kinds c.args.rule.is_phony (length open_edge.outputs) c.in_ok-kinds.ensures.within in
     let late : SeesLate c.late_edge.result sees.entries n = sees-late c.late_edge.result c.args.line.names.declarations.now c.args.line.names.scope sees.entries sees.around (edge_read open_edge c.in_ok-kinds.kinds c.args.rule.is_phony) paths block c.args.rule.rule.now
     c.late_edge.ensures.declarations c.late_edge.ensures.scope c.late_edge.ensures.names named.edge_is sees.declared sees.within in
-    let f = c.in_err-check.field-0.0 in
+    let f = c.in_err-dyndep.field-0.0 in
     let before = paths_fault file values c.args.edges.now.edges outputs inputs in
     let after = names_fault file spot (pools sees.entries) (inputs_of paths) n in
-    err-checks c.from_residual-in_err-check.result f (or_then before after) c.from_residual-in_err-check.ensures.1
+    err-checks c.from_residual-in_err-dyndep.result f (or_then before after) c.from_residual-in_err-dyndep.ensures.1
     (fault-second before after f (c.in_ok-kinds.ensures.fault values sees none)
-    (subst (λ is. IsFault (names_fault file spot (pools sees.entries) is n) f) (sym inputs_are) (c.in_err-check.ensures sees.entries n late tells)))
+    (subst (λ is. IsFault (names_fault file spot (pools sees.entries) is n) f) (sym inputs_are) (c.in_err-dyndep.ensures.fault sees.entries n late tells)))
 
 pub returns-clause-fault : goal.returns-clause-fault
 returns-clause-fault c = λ values sees none tells.
@@ -47,9 +47,22 @@ returns-clause-fault c = λ values sees none tells.
     let late : SeesLate c.late_edge.result sees.entries n = sees-late c.late_edge.result c.args.line.names.declarations.now c.args.line.names.scope sees.entries sees.around (edge_read open_edge c.in_ok-kinds.kinds c.args.rule.is_phony) paths block c.args.rule.rule.now
     c.late_edge.ensures.declarations c.late_edge.ensures.scope c.late_edge.ensures.names named.edge_is sees.declared sees.within in
     both-none (paths_fault file values c.args.edges.now.edges outputs inputs) (names_fault file spot (pools sees.entries) (inputs_of paths) n) (c.in_ok-kinds.ensures.fault values sees none)
-    (subst (λ is. names_fault file spot (pools sees.entries) is n ≡ None) (sym inputs_are) (c.in_ok-check.ensures sees.entries n late tells))
+    (subst (λ is. names_fault file spot (pools sees.entries) is n ≡ None) (sym inputs_are) (c.in_ok-dyndep.ensures.fault sees.entries n late tells))
 
 pub returns-clause-added : goal.returns-clause-added
 returns-clause-added c = λ values sees none.
     adds-edge c.args.edges.now c.add_files.new.edges c.end_edge.new.self c.in_ok-kinds.kinds c.args.rule.is_phony (edge_paths (stated_paths values (outputs_of_build c.args.build) (inputs_of_build c.args.build) c.args.rule.is_phony))
     (c.in_ok-kinds.ensures.named values sees none) c.in_ok-end_edge.ensures
+
+pub returns-clause-dyndep : goal.returns-clause-dyndep
+returns-clause-dyndep c = λ values sees none.
+    let outputs = outputs_of_build c.args.build in
+    let inputs = inputs_of_build c.args.build in
+    let block = bound_by c.args.rule.block in
+    let open_edge = c.add_files.new.edges.«open» in
+    let paths : EdgePaths = edge_paths (stated_paths values outputs inputs c.args.rule.is_phony) in
+    let n : LateNames = names_read paths block c.args.rule.rule.now (value_after sees.entries (c.args.line.names.scope ∷ sees.around)) in
+    let named = c.in_ok-kinds.ensures.named values sees none in
+    let late : SeesLate c.late_edge.result sees.entries n = sees-late c.late_edge.result c.args.line.names.declarations.now c.args.line.names.scope sees.entries sees.around (edge_read open_edge c.in_ok-kinds.kinds c.args.rule.is_phony) paths block c.args.rule.rule.now
+    c.late_edge.ensures.declarations c.late_edge.ensures.scope c.late_edge.ensures.names named.edge_is sees.declared sees.within in
+    subst (λ t. IsFileSaid t.files c.in_ok-dyndep.dyndep (file_said (asked_text n (codes "dyndep")))) (sym c.in_ok-end_edge.ensures) (c.in_ok-dyndep.ensures.file sees.entries n late)

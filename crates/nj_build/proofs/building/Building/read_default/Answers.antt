@@ -14,9 +14,9 @@ returns c = λ entries around depth by within holds.
     let words = words_text c.args.words.now in
     let e = entry_at_place c.args.place around depth (DefaultText words) in
     let sees : Sees c.args.declarations.now c.args.place.scope no_block values = record { entries = entries; around = around; declared = by; within = within; are = λ name. refl } in
-    let old : BuildingText = record { table = c.self.inside.edges; blocks = c.self.inside.block_values; names = c.self.inside.names; details = map detail_text c.self.inside.details.items; defaults = c.self.inside.defaults.items; references = c.self.inside.references.items } in
+    let old : BuildingText = record { table = c.self.inside.edges; blocks = c.self.inside.block_values; names = c.self.inside.names; details = map detail_text c.self.inside.details.items; defaults = c.self.inside.defaults.items; dyndeps = c.self.inside.dyndeps.items; references = c.self.inside.references.items } in
     let new : BuildingText = record old { defaults = c.add_targets.new.targets.items } in
     let held : HoldsEdges old entries = subst (λ b. HoldsEdges b entries) (sym c.self.view_is) holds in
     reads-by new (default_fault e entries words) e entries c.add_targets.result
     (subst (λ es. Checks (first_fault (target_fault c.args.place.file.now values es) words) c.add_targets.result) held.edges (c.add_targets.ensures.fault values sees held.none_open))
-    (on-ok c.add_targets.result (c.add_targets.ensures.added values sees) (λ adds. holds-default old new e entries words held refl refl refl refl adds refl))
+    (on-ok c.add_targets.result (c.add_targets.ensures.added values sees) (λ adds. holds-default old new e entries words held refl refl refl refl adds refl refl))

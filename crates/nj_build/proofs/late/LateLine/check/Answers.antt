@@ -5,8 +5,8 @@ use Rattle.nj_build.specs.BuildFaults.{or_then, variable_cycle_fault, unknown_po
 use Rattle.nj_build.proofs.Faults.{fault-first, fault-second, checks-second, err-checks}
 use Rattle.nj_build.proofs.late.LateLine.check.Goals as goal
 
-pub returns-in_err-check_cycle : goal.returns-in_err-check_cycle
-returns-in_err-check_cycle c = λ entries n sees tells.
+pub returns-in_err-check_cycle-clause-fault : goal.returns-in_err-check_cycle-clause-fault
+returns-in_err-check_cycle-clause-fault c = λ entries n sees tells.
     let file = c.args.self.place.file.now in
     let spot = c.args.self.place.spot in
     let f = c.in_err-check_cycle.field-0.0 in
@@ -16,8 +16,8 @@ returns-in_err-check_cycle c = λ entries n sees tells.
     err-checks c.from_residual.result f (or_then cycle (or_then pool dyndep)) c.from_residual.ensures.1
     (fault-first cycle (or_then pool dyndep) f (c.in_err-check_cycle.ensures entries n sees tells))
 
-pub returns-in_err-check_pool : goal.returns-in_err-check_pool
-returns-in_err-check_pool c = λ entries n sees tells.
+pub returns-in_err-check_pool-clause-fault : goal.returns-in_err-check_pool-clause-fault
+returns-in_err-check_pool-clause-fault c = λ entries n sees tells.
     let file = c.args.self.place.file.now in
     let spot = c.args.self.place.spot in
     let f = c.in_err-check_pool.field-0.0 in
@@ -27,12 +27,12 @@ returns-in_err-check_pool c = λ entries n sees tells.
     err-checks c.from_residual-in_err-check_pool.result f (or_then cycle (or_then pool dyndep)) c.from_residual-in_err-check_pool.ensures.1
     (fault-second cycle (or_then pool dyndep) f (c.in_ok-check_cycle.ensures entries n sees tells) (fault-first pool dyndep f (c.in_err-check_pool.ensures entries n sees)))
 
-pub returns : goal.returns
-returns c = λ entries n sees tells.
+pub returns-clause-fault : goal.returns-clause-fault
+returns-clause-fault c = λ entries n sees tells.
     let file = c.args.self.place.file.now in
     let spot = c.args.self.place.spot in
     let cycle = variable_cycle_fault file spot n in
     let pool = unknown_pool file spot (pools entries) (asked_text n (codes "pool")) in
     let dyndep = dyndep_not_input file spot c.args.edges.now.«open».inputs (asked_text n (codes "dyndep")) in
     checks-second cycle (or_then pool dyndep) c.check_dyndep.result (c.in_ok-check_cycle.ensures entries n sees tells)
-    (checks-second pool dyndep c.check_dyndep.result (c.in_ok-check_pool.ensures entries n sees) (c.check_dyndep.ensures entries n sees))
+    (checks-second pool dyndep c.check_dyndep.result (c.in_ok-check_pool.ensures entries n sees) (c.check_dyndep.ensures.fault entries n sees))

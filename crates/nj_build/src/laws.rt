@@ -1,0 +1,33 @@
+//! Laws of what dyndep files add to edges. A law is a theorem, stated as a function with an empty
+//! body.
+
+ghost use Rattle.nj_build.specs.Laws.{AddsToOneEdge, OthersWaitAsBefore, NamesStay};
+ghost use Rattle.nj_build.specs.Laws.{EntriesAddToTheirEdges, NoFileGetsTwoMakers};
+ghost use Rattle.nj_build.specs.Laws.{PendingEdgesRise, DyndepFilesStandOnce};
+
+/// What a dyndep file says is added to one edge that waits for it, which waits no more. The other
+/// edges stay as they are and wait as before, and what names, rules and defaults say does not
+/// change.
+pub fn discovered_files_are_added()
+    ensures added { AddsToOneEdge }
+    ensures waiting { OthersWaitAsBefore }
+    ensures names { NamesStay }
+{}
+
+/// An entry of a dyndep file that has no fault means one edge that waits for the file, and what it
+/// discovers is added to that edge: it makes the outputs, which no edge made before, and each other
+/// file has the maker that it had.
+pub fn entries_add_to_their_edges()
+    ensures added { EntriesAddToTheirEdges }
+    ensures makers { NoFileGetsTwoMakers }
+{}
+
+/// The edges that wait for dyndep files stand by number, each once.
+pub fn pending_edges_rise()
+    ensures { PendingEdgesRise }
+{}
+
+/// The dyndep files of the edges that wait stand in the order of their first edges, each once.
+pub fn dyndep_files_stand_once()
+    ensures { DyndepFilesStandOnce }
+{}
