@@ -7,12 +7,13 @@ use Rattle.nj_manifest.specs.Statements.{StatementText, BindingText, RuleText, P
 use Rattle.nj_scope.specs.Rules as kept
 use Rattle.nj_scope.specs.ScopesHeld.{ScopeText}
 use Rattle.nj_scope.specs.Declarations.{DeclarationsText}
-use Rattle.nj_scope.specs.ReadingList.{Entry, scope_of, rule_in_force, rule_texts, with_rule}
+use Rattle.nj_scope.specs.ReadingList.{Discovered, Entry, scope_of, rule_in_force, rule_texts, with_rule}
 use Rattle.nj_scope.proofs.InForce.{in_force}
 use Rattle.nj_faults.specs.declared.fault.GraphFault.{GraphFault}
 use Rattle.nj_faults.specs.declared.fault.Cause.TheVariants.{UnknownRule}
 use Rattle.nj_faults.specs.Faults.{fault_at}
-use Rattle.nj_build.specs.EdgeList.{EdgeText, line_values, stated_paths, edge_of_build, with_edge, edges_read}
+use Rattle.nj_edges.specs.Edges.{EdgePaths}
+use Rattle.nj_build.specs.EdgeList.{EdgeText, line_values, edge_paths, stated_paths, with_discovered, edge_of_build, with_edge, edges_read}
 use Rattle.nj_build.specs.BuildFaults.{unknown_rule}
 use Rattle.nj_build.specs.Built.{detail_of}
 use Rattle.nj_build.proofs.Lists.{get-longer}
@@ -43,6 +44,11 @@ first-none : (first others : Option GraphFault) → or_then first others ≡ Non
 first-none (Some first) others h = h
 first-none None others h = refl
 
+-- files that were discovered change no rule
+discovered-phony : (found : Option Discovered) (paths : EdgePaths) → (with_discovered found paths).is_phony ≡ paths.is_phony
+discovered-phony None paths = refl
+discovered-phony (Some found) paths = refl
+
 module _ (e : Entry) (before : List Entry) (outputs : OutputsText) (rule : NameText) (inputs : InputsText) (lines : List LineText) where
   abbrev edge : EdgeText
   edge = edge_of_build e before outputs rule inputs lines
@@ -53,10 +59,11 @@ module _ (e : Entry) (before : List Entry) (outputs : OutputsText) (rule : NameT
   by-rule (Some number) is h =
       let (text, at, its, others) = in_force before (scope_of e) rule.name number is in
       let same : edge.rule ≡ number = ap (λ o. unwrap_or o 0) is in
+      let stated = stated_paths (line_values e before lines) outputs inputs (edge.rule == 0) in
       record {
         rule = text;
         rule_is = ap (slice_get (rule_texts before)) same ∙ at;
-        phony_is = is-phony before (scope_of e) rule.name number text is at ∙ ap (λ n. n == 0) (sym same) ∙ sym (kept-phony (stated_paths (line_values e before lines) outputs inputs (edge.rule == 0)));
+        phony_is = is-phony before (scope_of e) rule.name number text is at ∙ ap (λ n. n == 0) (sym same) ∙ sym (kept-phony stated) ∙ sym (discovered-phony e.discovered (edge_paths stated));
       }
 
   new-rule : item_fault e before (BuildText outputs rule inputs lines) ≡ None → HasRule (rule_texts before) edge

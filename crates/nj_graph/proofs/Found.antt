@@ -3,6 +3,7 @@ use Rattle.std.proofs.Common.{inl, inr, ◌≡◌, ◌⊎◌, ℕ, true, false, 
 use Rattle.std.specs.Global.{Global}
 use Rattle.std.specs.Rc.{rc_slice_items}
 use Rattle.std.specs.declared.rc.RcSlice.{RcSlice}
+use Rattle.nj_text.specs.declared.spot.Spot.{Spot}
 use Rattle.nj_scope.specs.Readings.{Reading, EachPathOnce, reading_of, is_read, paths_of}
 use Rattle.nj_scope.specs.Sources.{SourceState, HasRead, Rises}
 use Rattle.nj_scope.specs.Opening as table
@@ -48,6 +49,11 @@ pub record HasNoMemory (before after : SourceState) (old : List Reading) (path :
   pub failures : after.failures ≡ before.failures
   pub came_to : (paths_of files ≡ paths_of old) ⊎ ((paths_of files ≡ with_new (paths_of old) path) × (is_read files path ≡ true))
   pub answered : fault ≡ no_memory
+
+-- a fault is that of the word, where its file has this name
+pub answers-named : (before after : SourceState) (old held : List Reading) (name file : List ℕ) (spot : Spot) (path : List ℕ) (fault : GraphFault) → name ≡ file
+    → AnswersText before after old held (record { file = name; spot = spot }) path (Err fault) → AnswersText before after old held (record { file = file; spot = spot }) path (Err fault)
+answers-named before after old held name file spot path fault is answers = subst (λ f. AnswersText before after old held (record { file = f; spot = spot }) path (Err fault)) is answers
 
 module _ (before after : SourceState) (old held : List Reading) (path : List ℕ) (once : EachPathOnce old) where
   -- the path was known, or was read now

@@ -5,6 +5,13 @@ pub mod Faultless
 pub mod Found
 pub mod GraphRows
 pub mod Holding
+pub mod JoinRows
+pub mod JoiningFiles
+pub mod JoiningGraphs
+pub mod JoiningRuns
+pub mod JoiningTables
+pub mod JoiningTexts
+pub mod JoiningWaits
 pub mod LaterBindings
 pub mod ListedLemmas
 pub mod MainFiles

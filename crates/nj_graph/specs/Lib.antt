@@ -1,5 +1,6 @@
 -- what must be believed
 pub mod Graph
+pub mod Joining
 pub mod Laws
 pub mod Loads
 pub mod Reading
@@ -9,4 +10,5 @@ pub mod Statements
 pub mod Targets
 -- how what the code holds is that
 pub mod GraphHeld
+pub mod JoiningContracts
 pub mod ReaderContracts

@@ -47,6 +47,7 @@ entry_at site s = record {
   number = site.number;
   around = site.around;
   item = s.item;
+  discovered = None;
 }
 
 -- a word that is expanded in a scope, by the statements before it, of which the last read stands first

@@ -21,7 +21,7 @@ pub struct Graph {
     pub(crate) declarations: Declarations,
     pub(crate) built: Built,
     // The numbers of the rules that are listed.
-    main_rules: Vec<usize>,
+    pub(crate) main_rules: Vec<usize>,
 }
 
 impl Model for Graph {

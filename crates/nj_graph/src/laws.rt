@@ -1,5 +1,6 @@
 //! Laws of the reading of files.
 
+ghost use Rattle.nj_graph.specs.Joining.{JoinedStaysJoined};
 ghost use Rattle.nj_graph.specs.Laws.{ReadIsFaultless, OpenFilesAreBounded, OpeningsAreBounded, OthersAreNotRead, MainRulesRise, LaterBindingsCount, LaterBindingsChangeNoEdge};
 
 /// What holds of the statements that are read of a run's files up to the first fault: none of them
@@ -20,4 +21,10 @@ pub fn statements_up_to_the_first_fault()
 pub fn bindings_after_an_edge()
     ensures count { LaterBindingsCount }
     ensures edges { LaterBindingsChangeNoEdge }
+{}
+
+/// What was joined stays joined: after a whole joining no edge waits for a dyndep file, so that
+/// joining again changes no statement, and comes to no file.
+pub fn joined_dyndeps_stay_joined()
+    ensures { JoinedStaysJoined }
 {}

@@ -5,6 +5,7 @@ mod building;
 mod declaring;
 mod edges;
 mod graph;
+mod joining;
 mod late;
 mod laws;
 mod loading;
@@ -14,7 +15,10 @@ mod response;
 mod targets;
 
 pub use graph::{Graph, rules_by_name};
-pub use laws::{bindings_after_an_edge, statements_up_to_the_first_fault};
+pub use joining::join_dyndeps;
+pub use laws::{
+    bindings_after_an_edge, joined_dyndeps_stay_joined, statements_up_to_the_first_fault,
+};
 pub use loading::{Loaded, load};
 pub use nj_build::PlaceRef;
 pub use nj_edges::{EdgeGraph, EdgeNo, FileNo, InputKind};

@@ -13,8 +13,8 @@ use std::marker::Model;
 /// The files of a run, and their graph.
 #[derive(Drop)]
 pub struct Loaded {
-    files: FileTable,
-    graph: Graph,
+    pub(crate) files: FileTable,
+    pub(crate) graph: Graph,
 }
 
 impl Model for Loaded {
@@ -23,6 +23,13 @@ impl Model for Loaded {
     ghost Value = { LoadedText };
 
     ghost view = { λ l. record { files = l.files; graph = l.graph } };
+
+    ghost use Rattle.std.specs.Prelude.{List};
+    ghost use Rattle.nj_scope.specs.ReadingList.{Entry};
+    ghost use Rattle.nj_graph.specs.Graph.{IsGraphOf};
+
+    // it is the graph of some statements
+    ghost invariant = { λ l. (entries : List Entry) × IsGraphOf l.graph entries };
 }
 
 impl Loaded {

@@ -91,7 +91,8 @@ impl Reader {
         if self.opened >= MOST_OPENED {
             return Err(file.fault(alloc, spot, Cause::TooManyOpenings));
         }
-        let text = text_at(alloc, source, &mut self.files, file.name, spot, path)?;
+        let name = file.name.as_bytes();
+        let text = text_at(alloc, source, &mut self.files, name, spot, path)?;
         self.opened += 1;
         Ok(text)
     }
@@ -125,7 +126,7 @@ pub(crate) fn text_at<S: FileSource>(
     alloc: Global,
     source: &mut S,
     files: &mut FileTable,
-    file: &str,
+    file: &[u8],
     spot: Spot,
     path: &str,
 ) -> Result<RcSlice<u8>, GraphFault>
@@ -133,7 +134,7 @@ pub(crate) fn text_at<S: FileSource>(
         (record { file = file.now; spot = spot }) path.now result }
 {
     let name = Name::new(alloc, path.as_bytes())?;
-    let file = Name::new(alloc, file.as_bytes())?;
+    let file = Name::new(alloc, file)?;
     let place = Some(Place { file, spot });
     match files.open(alloc, source, path) {
         Ok(Some(text)) => Ok(text),

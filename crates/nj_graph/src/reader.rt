@@ -84,7 +84,7 @@ impl Reader {
         ensures outermost { OnOk result (parent_at self.new.declarations.scopes 0 ≡ None) }
     {
         let front = Spot { line: 1, column: 1 };
-        let text = text_at(alloc, source, &mut self.files, main, front, main)?;
+        let text = text_at(alloc, source, &mut self.files, main.as_bytes(), front, main)?;
         let file = OpenFile {
             name: main,
             scope: 0,

@@ -1,10 +1,11 @@
 use Rattle.std.proofs.Common.{[], sym, subst, refl}
 use Rattle.std.specs.Rc.{rc_slice_items}
+use Rattle.nj_text.specs.declared.spot.Spot.{Spot}
 use Rattle.nj_scope.specs.Readings.{EachPathOnce}
 use Rattle.nj_graph.specs.declared.reader.Reader.{Reader}
 use Rattle.nj_graph.specs.Reading.{opened_in, text_read, most_within, main_site, main_place}
 use Rattle.nj_graph.specs.ReaderContracts.{ReadsOrStops}
-use Rattle.nj_graph.proofs.Found.{found-text, unfound}
+use Rattle.nj_graph.proofs.Found.{answers-named, found-text, unfound}
 use Rattle.nj_graph.proofs.Naming.{handed}
 use Rattle.nj_graph.proofs.MainFiles.{main-fault, main-stands, main-holds, main-reads}
 use Rattle.nj_graph.proofs.reader.Reader.read_main.Goals as goal
@@ -13,9 +14,11 @@ pub returns-in_err-text-clause-reads : goal.returns-in_err-text-clause-reads
 returns-in_err-text-clause-reads g c =
     let before = g.S.FileSource.state c.args.source.now in
     let after = g.S.FileSource.state c.text_at.new.source in
+    let front : Spot = record { line = 1; column = 1 } in
     rw (handed c.in_err-text.field-0.0 c.from_residual.result c.from_residual.ensures)
     (main-fault c.args.main.now before after c.in_err-text.field-0.0 c.args.self.now.files c.requires.files
-    (unfound before after c.args.self.now.files c.text_at.new.files c.args.main.now (subst EachPathOnce (sym c.requires.files) tt) (main_place c.args.main.now) c.in_err-text.field-0.0 c.in_err-text.ensures))
+    (unfound before after c.args.self.now.files c.text_at.new.files c.args.main.now (subst EachPathOnce (sym c.requires.files) tt) (main_place c.args.main.now) c.in_err-text.field-0.0
+    (answers-named before after c.args.self.now.files c.text_at.new.files c.as_bytes.result.now c.args.main.now front c.args.main.now c.in_err-text.field-0.0 c.as_bytes.ensures.value c.in_err-text.ensures)))
 
 pub returns-clause-reads : goal.returns-clause-reads
 returns-clause-reads g c =

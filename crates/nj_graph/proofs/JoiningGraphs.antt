@@ -1,0 +1,127 @@
+-- What the joining of all dyndep files comes to: the graph of the statements with what was joined, a cycle, or where it stops.
+use Rattle.std.proofs.Common.{◌≡◌, ◌⊎◌, ℕ, inl, inr, false, Ok, Err, List, [], ◌∷◌, length, append-nil, refl, sym, ap, subst, ◌∙◌, true≢false}
+use Rattle.std.specs.List.{AllByRecursion}
+use Rattle.std.proofs.lemmas.List.{length-map}
+use Rattle.nj_scope.specs.Readings.{Reading, EachPathOnce, paths_of, IsPrefix}
+use Rattle.nj_scope.specs.Declarations.{DeclaredBy}
+use Rattle.nj_scope.specs.ReadingList.{Discovered, Entry}
+use Rattle.nj_scope.specs.Sources.{SourceState}
+use Rattle.nj_scope.specs.Rules as kept
+use Rattle.nj_order.specs.Cycles.{IsAcyclic}
+use Rattle.nj_edges.specs.Needs.{makers_of_inputs}
+use Rattle.nj_faults.specs.declared.fault.GraphFault.{GraphFault}
+use Rattle.nj_faults.specs.Faults.{no_memory}
+use Rattle.nj_build.specs.EdgeList.{Pending, edges_read, paths_of_edges, pending_read}
+use Rattle.nj_build.specs.Built.{BuiltText, ComesTo, detail_of}
+use Rattle.nj_build.specs.Joining.{discover}
+use Rattle.nj_build.specs.JoiningHeld.{JoiningText, has_pending}
+use Rattle.nj_build.proofs.DiscoverLemmas.{declared-discover, all-discover}
+use Rattle.nj_build.proofs.DiscoverEdges.{all_edges-discover}
+use Rattle.nj_graph.specs.Graph.{GraphText, IsOpenScope, HasRule, IsGraphOf}
+use Rattle.nj_graph.specs.GraphHeld.{IsKnown, IsGraph}
+use Rattle.nj_graph.specs.Loads.{LoadedText}
+use Rattle.nj_graph.specs.Joining.{JoinedText, all_joined, with_all_new, IsJoined, JoiningLacksMemory, JoiningEnds, JoinedOr, Joins}
+use Rattle.nj_graph.specs.JoiningContracts.{FilesJoined, FilesStop}
+use Rattle.nj_graph.proofs.Comes.{prefix-self}
+use Rattle.nj_graph.proofs.Tables.{read-nothing}
+use Rattle.nj_graph.proofs.JoiningTables.{all_new-prefix}
+use Rattle.nj_graph.proofs.JoiningWaits.{kept-by-all, none-waits, nothing-joined}
+
+-- ---- nothing is read
+
+none-pending : (ps : List Pending) → has_pending ps ≡ false → ps ≡ []
+none-pending [] h = refl
+none-pending (p ∷ ps) h = absurd (true≢false h)
+
+module _ (stated : List Entry) (source : SourceState) (old : List Reading) (once : EachPathOnce old) where
+  pub joins-nothing : (loaded : LoadedText) (g : GraphText) → loaded ≡ record { files = old; graph = g } → IsGraphOf g stated → has_pending g.built.pending ≡ false → Joins stated old source source (Ok loaded)
+  joins-nothing loaded g same is none = (
+    old,
+    read-nothing source old once,
+    record {
+      files_are = ap (λ (l : LoadedText). l.files) same;
+      joined = stated;
+      whole = record { paths = []; joins = nothing-joined old stated (sym is.built.pending ∙ none-pending g.built.pending none); came_to = refl; failures = refl };
+      graph_is = subst (λ (l : LoadedText). IsGraphOf l.graph stated) (sym same) is;
+    },
+  )
+
+  pub joins-memory : (fault : GraphFault) → fault ≡ no_memory → Joins stated old source source (Err fault)
+  joins-memory fault none = (old, read-nothing source old once, inl (record { answered = none; failures = refl; came_to = λ all ext. all_new-prefix (paths_of old) (all_joined all stated).paths }))
+
+module _ (stated : List Entry) (before after : SourceState) (old : List Reading) where
+  pub joins-stop : (fault : GraphFault) → FilesStop stated before after old fault → Joins stated old before after (Err fault)
+  joins-stop fault s = (s.files, s.reads, by s.stops)
+    where
+      by : JoiningLacksMemory stated old s.files before after fault ⊎ JoiningEnds stated old s.files before after fault → JoinedOr stated old s.files before after (Err fault)
+      by (inl m) = inl m
+      by (inr e) = inr (inl e)
+
+  -- ---- all is joined
+
+  module _ (table : List Reading) (held : JoiningText) (f : FilesJoined stated before after old table held) where
+    itself : IsPrefix f.files f.files
+    itself = ([], sym (append-nil f.files))
+
+    whole : IsJoined stated f.now old f.files before after
+    whole = record { paths = f.paths; joins = f.joins f.files itself; came_to = f.came_to; failures = f.reads.failures }
+
+    pub none-pending-then : pending_read f.now ≡ []
+    none-pending-then = subst (λ (j : JoinedText). pending_read j.read.entries ≡ []) whole.joins (none-waits f.files stated (ap (λ (j : JoinedText). j.read.end) whole.joins))
+
+    -- what stays of the statements
+    stays : (P : List Entry → Type 0) → ((edge : ℕ) (found : Discovered) (entries : List Entry) → P entries → P (discover edge found entries)) → P stated → P f.now
+    stays P keeps h = subst (λ (j : JoinedText). P j.read.entries) whole.joins (kept-by-all P keeps f.files stated h)
+
+    pub joins-fault : (fault : GraphFault) → ComesTo f.now (Err fault) → Joins stated old before after (Err fault)
+    joins-fault fault (inl none) = (
+      f.files,
+      f.reads.reads,
+      inl (record {
+        answered = none;
+        failures = f.reads.failures;
+        came_to = λ all ext. subst (λ ps. IsPrefix (paths_of f.files) ps) (sym (ap (λ (j : JoinedText). with_all_new (paths_of old) j.paths) (f.joins all ext) ∙ f.came_to)) (prefix-self (paths_of f.files));
+      }),
+    )
+    joins-fault fault (inr cycle) = (f.files, f.reads.reads, inr (inr (record { joined = f.now; whole = whole; cycle = cycle })))
+
+    -- ---- the graph
+
+    module _ (g : GraphText) (is : IsGraphOf g stated) (built : BuiltText) (comes : ComesTo f.now (Ok built)) where
+      has-rules : AllByRecursion (HasRule g.declarations.rules) (edges_read f.now)
+      has-rules =
+          stays (λ entries. AllByRecursion (HasRule g.declarations.rules) (edges_read entries))
+          (all_edges-discover (HasRule g.declarations.rules) (λ e outs ins h. record { rule = h.rule; rule_is = h.rule_is; phony_is = h.phony_is })) is.rules
+
+      pub joined-graph : IsGraphOf (record { declarations = g.declarations; built = built }) f.now
+      joined-graph = record {
+        declares = stays (DeclaredBy g.declarations) (declared-discover g.declarations) is.declares;
+        scopes = stays (AllByRecursion (λ e. IsOpenScope g.declarations.scopes e.number e.around)) (all-discover (λ e. IsOpenScope g.declarations.scopes e.number e.around) (λ e d h. h)) is.scopes;
+        built = comes.0;
+        rules = has-rules;
+        acyclic = subst (λ es. IsAcyclic (makers_of_inputs es) (length es)) (sym comes.0.paths) (subst (λ n. IsAcyclic (makers_of_inputs (paths_of_edges (edges_read f.now))) n) (sym (length-map (edges_read f.now) (λ e. e.paths))) comes.1);
+      }
+
+      pub joins-graph : (loaded : LoadedText) → loaded ≡ record { files = table; graph = record { declarations = g.declarations; built = built } } → Joins stated old before after (Ok loaded)
+      joins-graph loaded same = (
+        f.files,
+        f.reads.reads,
+        record {
+          files_are = ap (λ (l : LoadedText). l.files) same ∙ f.reads.held_is;
+          joined = f.now;
+          whole = whole;
+          graph_is = subst (λ (l : LoadedText). IsGraphOf l.graph f.now) (sym same) joined-graph;
+        },
+      )
+
+      details-same : built.details ≡ g.built.details
+      details-same = comes.0.details ∙ sym f.holds.details ∙ f.holds.stated_details ∙ sym is.built.details
+
+      -- and it holds what a graph holds
+      pub joined-held : (numbers : List ℕ) → IsGraph g.declarations g.built numbers → IsGraph g.declarations built numbers
+      joined-held numbers h = record {
+        listed = h.listed;
+        outermost = h.outermost;
+        count = ap length comes.0.details ∙ length-map (edges_read f.now) detail_of ∙ sym (ap length comes.0.paths ∙ length-map (edges_read f.now) (λ e. e.paths));
+        known = subst (AllByRecursion (IsKnown g.declarations)) (sym details-same) h.known;
+      }

@@ -1,0 +1,13 @@
+use Rattle.std.proofs.Common.{Some, IsUtf8, inr, ap, sym, subst, ◌∙◌, true≢false}
+use Rattle.nj_faults.specs.declared.fault.Cause.TheVariants.{PathNotText}
+use Rattle.nj_graph.proofs.JoiningTables.{name-utf8, name-bad}
+use Rattle.nj_graph.proofs.joining.file_name.Goals as goal
+
+pub returns-in-Ok : goal.returns-in-Ok
+returns-in-Ok c =
+    let says = ap (λ v. v.items) c.in-Ok.ensures.ok ∙ c.in_ok-bytes.ensures.items in
+    (name-utf8 c.args.path.now c.in-Ok.path says, says)
+
+pub returns : goal.returns
+returns c =
+    inr (name-bad c.args.path.now (λ good. true≢false (sym (c.in-Err.ensures.succeeds (subst IsUtf8 (sym c.in_ok-bytes.ensures.items) good)))), ap (λ file. record { place = Some (record { file = file; spot = c.args.place.spot }); cause = PathNotText }) c.in_ok-new-in-Err.ensures)

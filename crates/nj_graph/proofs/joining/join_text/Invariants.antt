@@ -1,0 +1,19 @@
+use Rattle.std.proofs.Common.{◌≡◌, Bool, List, Some, slice_get}
+use Rattle.nj_text.specs.Lines.{Line}
+use Rattle.nj_manifest.specs.DyndepParsers.{left_by}
+use Rattle.nj_scope.specs.Readings.{IsPrefix}
+use Rattle.nj_scope.specs.ReadingList.{Entry}
+use Rattle.nj_build.specs.JoiningHeld.{HoldsJoined}
+use Rattle.nj_graph.proofs.JoiningTexts.{TextUnderway, lines_to_come}
+use Rattle.nj_graph.proofs.joining.join_text.Given as goal
+
+abbrev pub invariant-entries : goal.invariant-entries
+invariant-entries l =
+    (version_read : Bool) × (lines : List Line) × (l.parser ≡ left_by version_read lines)
+    × (slice_get l.joining.table.files l.file.0 ≡ Some l.name)
+    × IsPrefix l.initial.joining.table.files l.joining.table.files
+    × (l.joining.dyndep_files ≡ l.initial.joining.dyndep_files)
+    × ((stated joined : List Entry) → HoldsJoined l.initial.joining stated joined → TextUnderway l.name stated l.text joined l.joining version_read lines)
+
+abbrev pub decreases-entries : goal.decreases-entries
+decreases-entries l = lines_to_come l.parser

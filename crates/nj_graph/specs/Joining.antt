@@ -1,0 +1,182 @@
+-- The joining of dyndep files to the statements of a run ("Dynamic Dependencies" in the manual), up to the first fault.
+use Rattle.std.specs.Prelude.{◌≡◌, ◌⊎◌, ℕ, zero, suc, not, if◌then◌else◌, Option, Some, None, Result, Ok, Err, List, [], ◌∷◌, ◌++◌, map, length}
+use Rattle.std.specs.Str.{is_utf8}
+use Rattle.nj_text.specs.Lines.{Line, text_lines}
+use Rattle.nj_manifest.specs.Faults.{Fault}
+use Rattle.nj_manifest.specs.Statements.{Parse}
+use Rattle.nj_manifest.specs.Dyndeps.{EntryText, version_next, next_entry}
+use Rattle.nj_scope.specs.Readings.{Reading, reading_of, paths_of, IsPrefix}
+use Rattle.nj_scope.specs.Sources.{SourceState}
+use Rattle.nj_scope.specs.ReadingList.{Entry}
+use Rattle.nj_faults.specs.declared.fault.Place.{Place}
+use Rattle.nj_faults.specs.declared.fault.GraphFault.{GraphFault}
+use Rattle.nj_faults.specs.declared.fault.Cause.TheVariants.{Missing, PathNotText}
+use Rattle.nj_faults.specs.Faults.{fault_in, no_memory}
+use Rattle.nj_build.specs.EdgeList.{Pending, edges_read, pending_read}
+use Rattle.nj_build.specs.Built.{detail_at, detail_of, IsCycleFault}
+use Rattle.nj_build.specs.Joining.{entry_fault, with_entry, lacking_fault, dyndep_files}
+use Rattle.nj_graph.specs.Graph.{IsGraphOf}
+use Rattle.nj_graph.specs.Reading.{End, Whole, Refused, Lacking, ReadingText, stopped, with_new}
+use Rattle.nj_graph.specs.Runs.{IsRead, IsEnd, IsLacking, paths_with}
+use Rattle.nj_graph.specs.Loads.{LoadedText}
+
+-- ---- the entries of a text
+
+-- the entries up to the end, or up to the first fault of syntax
+pub record Entries : Type 0 where
+  pub entries : List EntryText
+  pub fault : Option Fault
+
+abbrev pub and_entry : EntryText → Entries → Entries
+and_entry entry others = record { entries = entry ∷ others.entries; fault = others.fault }
+
+abbrev pub entries_by : Parse (Option EntryText) → (List Line → Entries) → Entries
+entries_by (Ok (Some entry, rest)) others = and_entry entry (others rest)
+entries_by (Ok (None, rest)) others = record { entries = []; fault = None }
+entries_by (Err fault) others = record { entries = []; fault = Some fault }
+
+-- the entries of the lines, where there are fewer of them than this number
+unfoldable pub entries_in : (most : ℕ) → List Line → Entries
+entries_in zero lines = record { entries = []; fault = None }
+entries_in (suc most) lines = entries_by (next_entry lines) (entries_in most)
+
+abbrev pub after_version : (most : ℕ) → Result (List Line) Fault → Entries
+after_version most (Ok lines) = entries_in most lines
+after_version most (Err fault) = record { entries = []; fault = Some fault }
+
+-- First the version. An entry has a byte at least.
+unfoldable pub entries_of : (text : List ℕ) → Entries
+entries_of text = after_version (suc (length text)) (version_next (text_lines text))
+
+-- ---- one file
+
+-- after its last entry
+abbrev pub end_by : Option GraphFault → End
+end_by None = Whole
+end_by (Some fault) = Refused fault
+
+abbrev pub at_end : (file : List ℕ) → Option Fault → (joined : List Entry) → ReadingText
+at_end file None joined = record { entries = joined; end = end_by (lacking_fault file joined) }
+at_end file (Some fault) joined = record { entries = joined; end = Refused (fault_in file fault) }
+
+abbrev pub unless_fault : Option GraphFault → (joined : List Entry) → ReadingText → ReadingText
+unless_fault (Some fault) joined others = record { entries = joined; end = Refused fault }
+unless_fault None joined others = others
+
+-- Its entries, one after the other: the statements as they were read, and as they are with what was joined so far.
+unfoldable pub entries_joined : (file : List ℕ) → (stated : List Entry) → List EntryText → Option Fault → (joined : List Entry) → ReadingText
+entries_joined file stated [] fault joined = at_end file fault joined
+entries_joined file stated (entry ∷ others) fault joined =
+    unless_fault (entry_fault file stated joined entry) joined
+    (entries_joined file stated others fault (with_entry stated joined entry))
+
+abbrev pub text_joined : (file : List ℕ) → (stated : List Entry) → (text : List ℕ) → (joined : List Entry) → ReadingText
+text_joined file stated text joined = entries_joined file stated (entries_of text).entries (entries_of text).fault joined
+
+-- the build statement of an edge
+abbrev pub statement_place : (stated : List Entry) → (edge : ℕ) → Place
+statement_place stated edge =
+    let detail = detail_at (map detail_of (edges_read stated)) edge in
+    record { file = detail.file; spot = detail.spot }
+
+-- by what was found at its path; where there is no file, or none that can be read, the first edge that is bound to it is to blame
+abbrev pub found_joined : (stated : List Entry) → Pending → Option (List ℕ) → (joined : List Entry) → ReadingText
+found_joined stated p None joined = stopped joined (statement_place stated p.edge) (Missing p.file)
+found_joined stated p (Some text) joined = text_joined p.file stated text joined
+
+abbrev pub answer_joined : (stated : List Entry) → Pending → Option Reading → (joined : List Entry) → ReadingText
+answer_joined stated p None joined = record { entries = joined; end = Lacking p.file (statement_place stated p.edge) }
+answer_joined stated p (Some reading) joined = found_joined stated p reading.bytes joined
+
+unfoldable pub file_joined : (files : List Reading) → (stated : List Entry) → Pending → (joined : List Entry) → ReadingText
+file_joined files stated p joined =
+    if is_utf8 p.file then answer_joined stated p (reading_of files p.file) joined
+    else stopped joined (statement_place stated p.edge) PathNotText
+
+-- ---- all files
+
+-- the statements with what was joined, how that ends, and the paths of the dyndep files to which it comes
+pub record JoinedText : Type 0 where
+  pub read : ReadingText
+  pub paths : List (List ℕ)
+
+-- a path that is not UTF-8 is not asked for
+abbrev pub path_asked : Pending → List (List ℕ)
+path_asked p = if is_utf8 p.file then p.file ∷ [] else []
+
+abbrev pub go_on : End → Pending → List Entry → (List Entry → JoinedText) → JoinedText
+go_on Whole p joined others = record { read = (others joined).read; paths = path_asked p ++ (others joined).paths }
+go_on end p joined others = record { read = record { entries = joined; end = end }; paths = path_asked p }
+
+unfoldable pub files_joined : (files : List Reading) → (stated : List Entry) → List Pending → (joined : List Entry) → JoinedText
+files_joined files stated [] joined = record { read = record { entries = joined; end = Whole }; paths = [] }
+files_joined files stated (p ∷ others) joined =
+    let file = file_joined files stated p joined in
+    go_on file.end p file.entries (files_joined files stated others)
+
+-- The dyndep files of all edges that wait for one, each once, in the order of their first edges: the whole file is joined before the
+-- next one is opened.
+unfoldable pub all_joined : (files : List Reading) → (stated : List Entry) → JoinedText
+all_joined files stated = files_joined files stated (dyndep_files (pending_read stated)) stated
+
+-- ---- what joining answers
+
+-- the paths with others, each at its first occurrence
+abbrev pub with_all_new : (before paths : List (List ℕ)) → List (List ℕ)
+with_all_new before [] = before
+with_all_new before (path ∷ paths) = with_all_new (with_new before path) paths
+
+-- All dyndep files are joined. What was read are those of them that were not read before. The source did not fail.
+pub record IsJoined (stated joined : List Entry) (old files : List Reading) (before after : SourceState) : Type 0 where
+  pub paths : List (List ℕ)
+  pub joins : all_joined files stated ≡ record { read = record { entries = joined; end = Whole }; paths = paths }
+  pub came_to : with_all_new (paths_of old) paths ≡ paths_of files
+  pub failures : after.failures ≡ before.failures
+
+-- The joining ends by these files as it was answered, whatever others hold; and all paths that it comes to were read.
+pub record JoiningEnds (stated : List Entry) (old files : List Reading) (before after : SourceState) (fault : GraphFault) : Type 0 where
+  pub joined : JoinedText
+  pub answered : IsEnd before after joined.read.end fault
+  pub joins : (all : List Reading) → IsPrefix files all → IsLacking joined.read.end all → all_joined all stated ≡ joined
+  pub came_to : with_all_new (paths_of old) joined.paths ≡ paths_with joined.read.end files
+
+-- Out of memory. The paths that were read are those to which the joining comes first, and the source did not fail.
+pub record JoiningLacksMemory (stated : List Entry) (old files : List Reading) (before after : SourceState) (fault : GraphFault)
+    : Type 0 where
+  pub answered : fault ≡ no_memory
+  pub failures : after.failures ≡ before.failures
+  pub came_to : (all : List Reading) → IsPrefix files all
+      → IsPrefix (paths_of files) (with_all_new (paths_of old) (all_joined all stated).paths)
+
+-- All was joined, and the edges have a dependency cycle.
+pub record JoinsCycle (stated : List Entry) (old files : List Reading) (before after : SourceState) (fault : GraphFault) : Type 0 where
+  pub joined : List Entry
+  pub whole : IsJoined stated joined old files before after
+  pub cycle : IsCycleFault (edges_read joined) fault
+
+-- the graph is that of the statements with what was joined to them
+pub record JoinsGraph (stated : List Entry) (old files : List Reading) (before after : SourceState) (loaded : LoadedText) : Type 0 where
+  pub files_are : loaded.files ≡ files
+  pub joined : List Entry
+  pub whole : IsJoined stated joined old files before after
+  pub graph_is : IsGraphOf loaded.graph joined
+
+-- by the files that were read before and now
+abbrev pub JoinedOr : (stated : List Entry) → (old files : List Reading) → (before after : SourceState) → Result LoadedText GraphFault → Type 0
+JoinedOr stated old files before after (Ok loaded) = JoinsGraph stated old files before after loaded
+JoinedOr stated old files before after (Err fault) =
+    JoiningLacksMemory stated old files before after fault
+    ⊎ (JoiningEnds stated old files before after fault ⊎ JoinsCycle stated old files before after fault)
+
+-- These files were read of the source besides, each path once; by them all is joined, or the first fault is answered.
+abbrev pub Joins : (stated : List Entry) → (old : List Reading) → (before after : SourceState) → Result LoadedText GraphFault → Type 0
+Joins stated old before after result =
+    (files : List Reading) × IsRead before after old files × JoinedOr stated old files before after result
+
+-- ---- laws
+
+-- What was joined is joined: it changes no statement any more, and comes to no file.
+abbrev pub JoinedStaysJoined : Type 0
+JoinedStaysJoined = (files others : List Reading) (stated : List Entry) (joined : JoinedText)
+    → all_joined files stated ≡ joined → joined.read.end ≡ Whole
+    → all_joined others joined.read.entries ≡ record { read = joined.read; paths = [] }
