@@ -12,24 +12,34 @@ use Rattle.nj_request.specs.declared.faults.ToolOption.TheVariants.{Single, Desc
 use Rattle.nj_tools.specs.declared.view.TargetsView.TheVariants.{OfRule, Sources, Depth, All}
 
 abbrev asks : ActionText → Result RequestText UsageFault
-asks action = Ok (record { file = codes "build.ninja"; from_stdin = false; action = action })
+asks action = Ok (record { file = codes "build.ninja"; from_stdin = false; dyndep = false; action = action })
 
 -- ---- the file
 
 wordless_row : request_of []
-    ≡ Ok (record { file = codes "build.ninja"; from_stdin = true; action = commands [] None [] })
+    ≡ Ok (record { file = codes "build.ninja"; from_stdin = true; dyndep = false; action = commands [] None [] })
 unfolding request_of
 wordless_row = refl
 
 file_row : request_of (codes "-f" ∷ codes "a.ninja" ∷ codes "-t" ∷ codes "commands" ∷ [])
-    ≡ Ok (record { file = codes "a.ninja"; from_stdin = false; action = commands [] None [] })
+    ≡ Ok (record { file = codes "a.ninja"; from_stdin = false; dyndep = false; action = commands [] None [] })
 unfolding request_of command clap_on_literals
 file_row = refl
 
 input_row : request_of (codes "--stdin" ∷ codes "-f=" ∷ codes "-t" ∷ codes "commands" ∷ [])
-    ≡ Ok (record { file = []; from_stdin = true; action = commands [] None [] })
+    ≡ Ok (record { file = []; from_stdin = true; dyndep = false; action = commands [] None [] })
 unfolding request_of command clap_on_literals
 input_row = refl
+
+dyndep_row : request_of (codes "-t" ∷ codes "commands" ∷ codes "--dyndep" ∷ [])
+    ≡ Ok (record { file = codes "build.ninja"; from_stdin = false; dyndep = true; action = commands [] None [] })
+unfolding request_of command clap_on_literals
+dyndep_row = refl
+
+dyndep_rules_row : request_of (codes "--dyndep" ∷ codes "-t" ∷ codes "rules" ∷ [])
+    ≡ Ok (record { file = codes "build.ninja"; from_stdin = false; dyndep = true; action = rules false })
+unfolding request_of command clap_on_literals
+dyndep_rules_row = refl
 
 -- ---- requests
 
@@ -324,6 +334,10 @@ tool_twice_row = refl
 flag_twice_row : request_of (codes "-t" ∷ codes "commands" ∷ codes "-ss" ∷ []) ≡ Err Unparsed
 unfolding request_of command clap_on_literals
 flag_twice_row = refl
+
+dyndep_twice_row : request_of (codes "-t" ∷ codes "commands" ∷ codes "--dyndep" ∷ codes "--dyndep" ∷ []) ≡ Err Unparsed
+unfolding request_of command clap_on_literals
+dyndep_twice_row = refl
 
 take_twice_row : request_of (codes "-t" ∷ codes "commands" ∷ codes "--take=1" ∷ codes "--take=1" ∷ []) ≡ Err Unparsed
 unfolding request_of command clap_on_literals

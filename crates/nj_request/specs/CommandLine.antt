@@ -33,6 +33,7 @@ arguments = short_option (codes "tool") 116 ∷ short_option (codes "file") 102
     ∷ long_option (codes "take") ∷ long_option (codes "resume")
     ∷ short_flag (codes "single") 115 ∷ long_flag (codes "stdin")
     ∷ short_flag (codes "descriptions") 100 ∷ short_flag (codes "expand") 120 ∷ long_option (codes "directory")
+    ∷ long_flag (codes "dyndep")
     ∷ all_words ∷ []
 
 unfoldable pub command : App

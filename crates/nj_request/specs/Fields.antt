@@ -17,6 +17,7 @@ pub record FieldTexts : Type 0 where
   pub descriptions : Bool
   pub expand : Bool
   pub from_stdin : Bool
+  pub dyndep : Bool
   pub words : List (List ℕ)
 
 -- a flag that was given has the text `true`
@@ -38,6 +39,7 @@ fields_in rows = record {
   descriptions = is_on (codes "descriptions") rows;
   expand = is_on (codes "expand") rows;
   from_stdin = is_on (codes "stdin") rows;
+  dyndep = is_on (codes "dyndep") rows;
   words = words_in rows;
 }
 

@@ -23,6 +23,7 @@ field_texts fields = record {
   descriptions = fields.descriptions;
   expand = fields.expand;
   from_stdin = fields.from_stdin;
+  dyndep = fields.dyndep;
   words = word_texts fields.words;
 }
 

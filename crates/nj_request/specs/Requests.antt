@@ -1,5 +1,5 @@
 -- What the words of a command line ask for.
-use Rattle.std.specs.Prelude.{ℕ, Bool, true, if◌then◌else◌, List, [], ◌∷◌, map, codes, string_bytes}
+use Rattle.std.specs.Prelude.{ℕ, Bool, true, false, if◌then◌else◌, List, [], ◌∷◌, map, codes, string_bytes}
 use Rattle.std.specs.Prelude.{Option, Some, None, option_map, unwrap_or, ok_or, Result, Ok, Err}
 use Rattle.std.specs.Option.{option_map_or}
 use Rattle.std.specs.Str.{bytes_eq}
@@ -27,9 +27,11 @@ pub data ActionText : Type 0 where
   rules : (descriptions : Bool) → ActionText
   compdb : (names : List (List ℕ)) (directory : List ℕ) (expand : Bool) → ActionText
 
+-- `dyndep`: what dyndep files discover is joined first
 pub record RequestText : Type 0 where
   pub file : List ℕ
   pub from_stdin : Bool
+  pub dyndep : Bool
   pub action : ActionText
 
 abbrev pub action_text : Action → ActionText
@@ -45,6 +47,7 @@ abbrev pub request_text : Request → RequestText
 request_text request = record {
   file = string_bytes request.file;
   from_stdin = request.from_stdin;
+  dyndep = request.dyndep;
   action = action_text request.action;
 }
 
@@ -152,7 +155,7 @@ abbrev pub request_in : FieldTexts → Result RequestText UsageFault
 request_in fields = do
   name ← ok_or fields.tool Unparsed
   action ← action_of name fields
-  Ok (record { file = unwrap_or fields.file main_file; from_stdin = fields.from_stdin; action = action })
+  Ok (record { file = unwrap_or fields.file main_file; from_stdin = fields.from_stdin; dyndep = fields.dyndep; action = action })
 
 -- the fields are those that `clap` reads in the words
 abbrev pub given_request : (words : List (List ℕ)) → Result RequestText UsageFault
@@ -160,7 +163,7 @@ given_request words = ok_or (fields_of words) Unparsed >>= request_in
 
 -- without any words: all commands of a file that standard input gives
 abbrev pub wordless : RequestText
-wordless = record { file = main_file; from_stdin = true; action = commands [] None [] }
+wordless = record { file = main_file; from_stdin = true; dyndep = false; action = commands [] None [] }
 
 unfoldable pub request_of : (words : List (List ℕ)) → Result RequestText UsageFault
 request_of [] = Ok wordless

@@ -28,12 +28,14 @@ pub fn command<'a>(alloc: Global) -> Result<Command<'a>, AllocError>
     let descriptions = short_flag(alloc, "descriptions", 'd');
     let expand = short_flag(alloc, "expand", 'x');
     let directory = long_option(alloc, "directory");
+    let dyndep = long_flag(alloc, "dyndep");
     let options = with(with(nothing_yet(alloc), tool)?, file)?;
     let numbers = with(with(options, take)?, resume)?;
     let flags = with(with(numbers, single)?, input)?;
     let of_rules = with(flags, descriptions)?;
     let of_compdb = with(with(of_rules, expand)?, directory)?;
-    with(of_compdb, all_words(alloc))
+    let joined = with(of_compdb, dyndep)?;
+    with(joined, all_words(alloc))
 }
 
 // The command without options and words. It knows neither help nor a version.

@@ -26,6 +26,7 @@ pub struct Fields<'m, 'w> {
     pub descriptions: bool,
     pub expand: bool,
     pub from_stdin: bool,
+    pub dyndep: bool,
     pub words: Option<&'m [&'w str]>,
 }
 
@@ -68,6 +69,7 @@ pub fn fields_in<'m, 'w>(matches: &'m ArgMatches<'w>) -> Fields<'m, 'w>
         descriptions: is_on(matches, "descriptions"),
         expand: is_on(matches, "expand"),
         from_stdin: is_on(matches, "stdin"),
+        dyndep: is_on(matches, "dyndep"),
         words: matches.get_strs("words"),
     }
 }

@@ -49,6 +49,8 @@ pub struct Request {
     pub file: String,
     /// Whether standard input stands for the main file.
     pub from_stdin: bool,
+    /// Whether what dyndep files discover is joined first.
+    pub dyndep: bool,
     pub action: Action,
 }
 
@@ -127,6 +129,7 @@ fn wordless(alloc: Global) -> Result<Request, UsageFault>
     Ok(Request {
         file: String::from_str(alloc, MAIN_FILE)?,
         from_stdin: true,
+        dyndep: false,
         action,
     })
 }
@@ -158,6 +161,7 @@ fn request_in(alloc: Global, fields: &Fields<'_, '_>) -> Result<Request, UsageFa
     Ok(Request {
         file: String::from_str(alloc, fields.file.unwrap_or(MAIN_FILE))?,
         from_stdin: fields.from_stdin,
+        dyndep: fields.dyndep,
         action,
     })
 }

@@ -19,7 +19,10 @@ of_rules = with_rule flags (short_flag (codes "descriptions") 100)
 abbrev of_compdb : App
 of_compdb = with_rule (with_rule of_rules (short_flag (codes "expand") 120)) (long_option (codes "directory"))
 
-whole : with_rule of_compdb all_words ≡ command
+abbrev joined : App
+joined = with_rule of_compdb (long_flag (codes "dyndep"))
+
+whole : with_rule joined all_words ≡ command
 unfolding command
 whole = refl
 
@@ -34,4 +37,5 @@ returns c =
     let descriptions : app_of c.in_ok-of_rules.of_rules ≡ of_rules = c.in_ok-of_rules.ensures ∙ ap₂ with_rule input c.short_flag-descriptions.ensures.rule in
     let expand = c.in_ok-with-4.ensures ∙ ap₂ with_rule descriptions c.short_flag-expand.ensures.rule in
     let directory : app_of c.in_ok-of_compdb.of_compdb ≡ of_compdb = c.in_ok-of_compdb.ensures ∙ ap₂ with_rule expand c.long_option-directory.ensures.rule in
-    IfOk-weaker c.with-10.result _ _ (λ made h. h ∙ ap₂ with_rule directory c.all_words.ensures.rule ∙ whole) c.with-10.ensures
+    let dyndep : app_of c.in_ok-joined.joined ≡ joined = c.in_ok-joined.ensures ∙ ap₂ with_rule directory c.long_flag-dyndep.ensures.rule in
+    IfOk-weaker c.with-11.result _ _ (λ made h. h ∙ ap₂ with_rule dyndep c.all_words.ensures.rule ∙ whole) c.with-11.ensures
