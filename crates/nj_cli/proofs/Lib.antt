@@ -1,5 +1,6 @@
 pub mod AnswerLemmas
 pub mod HeadlineLaws
+pub mod JoinedRuns
 pub mod Pieces
 pub mod Reports
 mod Rows

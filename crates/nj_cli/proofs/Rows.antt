@@ -22,7 +22,7 @@ abbrev text : List ℕ
 text = codes "rule mk\n  command = mk $out\nbuild a: mk\nbuild b1: mk a\nbuild b2: mk a\nbuild d: mk b1 b2\n"
 
 abbrev entry : (line : ℕ) → StatementText → Entry
-entry line item = record { file = main_file; spot = at line 1; depth = 0; number = 0; around = []; item = item }
+entry line item = record { file = main_file; spot = at line 1; depth = 0; number = 0; around = []; item = item; discovered = None }
 
 abbrev word : (line column : ℕ) → List ℕ → WordText
 word line column bytes = record { spot = at line column; parts = Text bytes ∷ [] }

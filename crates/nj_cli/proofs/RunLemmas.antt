@@ -9,14 +9,14 @@ use Rattle.nj_edges.specs.Needs.{makers_of_inputs}
 use Rattle.nj_faults.specs.declared.fault.GraphFault.{GraphFault}
 use Rattle.nj_faults.specs.FaultLines.{fault_line}
 use Rattle.nj_faults.specs.Faults.{no_memory}
-use Rattle.nj_graph.specs.Loads.{LoadedText, IsLoaded}
-use Rattle.nj_request.specs.Requests.{ActionText}
+use Rattle.nj_graph.specs.Graph.{GraphText, IsGraphOf}
+use Rattle.nj_request.specs.Requests.{ActionText, RequestText}
 use Rattle.nj_tools.specs.Sinks.{SinkState, Takes}
 use Rattle.nj_tools.specs.Texts.{TakesFront}
 use Rattle.nj_cli.specs.Answers.{output_of, finished, stopped, faulty, out_of_range, EndsWith, with_line_end}
 use Rattle.nj_cli.specs.Reported.{Reported}
 use Rattle.nj_cli.specs.RunSteps.{AnswersTo, ReportsMark, Concludes}
-use Rattle.nj_cli.specs.Runs.{Around, out_of_memory, RunEnds, IsAnswered}
+use Rattle.nj_cli.specs.Runs.{Around, out_of_memory, RunEnds, AreStatements, IsAnswered}
 use Rattle.nj_cli.specs.Runs.RunEnds.{told, untold, output_failed, memory_failed}
 use Rattle.nj_cli.specs.declared.fault.RunFault.{RunFault}
 use Rattle.nj_cli.specs.declared.fault.RunFault.TheVariants as fault
@@ -76,12 +76,13 @@ module _ (entries : List Entry) (action : ActionText) (old new : Around) where
   Answers-from status (Err fault.Write) answers concludes = output_failed (record { output = answers; error = concludes.0; status_is = concludes.1 })
   Answers-from status (Err fault.OutOfMemory) answers concludes = memory_failed (record { output = answers; error = concludes.0; status_is = concludes.1 })
 
--- all files were read
-pub IsAnswered-from : (main : List ℕ) (files : List Reading) (action : ActionText) (old new : Around) (loaded : LoadedText) (status : Status)
-    → (l : IsLoaded main old.source new.source files loaded) → RunEnds l.entries action old new status → IsAnswered main files action old new status
-IsAnswered-from main files action old new loaded status l answers = record {
-  entries = l.entries;
-  whole = l.whole;
-  acyclic = subst (λ (es : List EdgePaths). IsAcyclic (makers_of_inputs es) (length es)) l.graph_is.built.paths l.graph_is.acyclic;
+-- all files were read, and this is the graph of their statements
+pub IsAnswered-from : (request : RequestText) (files : List Reading) (old new : Around) (graph : GraphText) (entries : List Entry) (status : Status)
+    → AreStatements request.file request.dyndep old.source new.source files entries → IsGraphOf graph entries
+    → RunEnds entries request.action old new status → IsAnswered request files old new status
+IsAnswered-from request files old new graph entries status statements graph_is answers = record {
+  entries = entries;
+  statements = statements;
+  acyclic = subst (λ (es : List EdgePaths). IsAcyclic (makers_of_inputs es) (length es)) graph_is.built.paths graph_is.acyclic;
   answers = answers;
 }

@@ -1,18 +1,24 @@
 -- What the steps of a run do, on the way to its end.
-use Rattle.std.specs.Prelude.{◌≡◌, ◌⊎◌, ℕ, Option, Some, None, Result, Ok, Err, List}
+use Rattle.std.specs.Prelude.{◌≡◌, ◌⊎◌, ℕ, Option, Some, None, Result, Ok, Err, List, []}
+use Rattle.nj_scope.specs.Readings.{Reading}
+use Rattle.nj_scope.specs.Sources.{SourceState}
 use Rattle.nj_scope.specs.ReadingList.{Entry}
+use Rattle.nj_faults.specs.declared.fault.GraphFault.{GraphFault}
 use Rattle.nj_faults.specs.FaultLines.{fault_line}
 use Rattle.nj_faults.specs.declared.fault.Cause.TheVariants.{TextNotUtf8}
 use Rattle.nj_faults.specs.Faults.{no_memory, unplaced}
+use Rattle.nj_graph.specs.Graph.{IsGraphOf}
+use Rattle.nj_graph.specs.Loads.{LoadedText}
+use Rattle.nj_graph.specs.Runs.{IsRead}
 use Rattle.nj_tools.specs.Sinks.{SinkState, Takes}
 use Rattle.nj_tools.specs.Texts.{FailsWithin, TakesFront}
-use Rattle.nj_request.specs.Requests.{ActionText}
+use Rattle.nj_request.specs.Requests.{ActionText, RequestText}
 use Rattle.nj_request.specs.FaultLines as lines
 use Rattle.nj_request.specs.declared.faults.UsageFault.{UsageFault}
 use Rattle.nj_request.specs.declared.faults.UsageFault.TheVariants as usage
 use Rattle.nj_cli.specs.Answers.{output_of, finished, stopped, faulty, out_of_range, EndsWith, with_line_end, error_of}
 use Rattle.nj_cli.specs.Reported.{Failed, Reported}
-use Rattle.nj_cli.specs.Runs.{out_of_memory}
+use Rattle.nj_cli.specs.Runs.{out_of_memory, AreStatements, HaveFault}
 use Rattle.nj_cli.specs.declared.fault.RunFault.{RunFault}
 use Rattle.nj_cli.specs.declared.fault.RunFault.TheVariants as fault
 use Rattle.nj_needs.specs.declared.fault.MarkFault.{MarkFault}
@@ -21,6 +27,16 @@ use Rattle.nj_tools.specs.declared.fault.ToolFault.{ToolFault}
 use Rattle.nj_tools.specs.declared.fault.ToolFault.TheVariants as tool
 use Rattle.nj_cli.specs.declared.status.Status.{Status}
 use Rattle.nj_cli.specs.declared.status.Status.TheVariants.{Done, Fault, Usage, Stopped, OutputFailed}
+
+-- the graph of the statements of the files, or what is wrong with these
+abbrev pub GraphOr : RequestText → (before after : SourceState) → List Reading → Result LoadedText GraphFault → Type 0
+GraphOr request before after files (Ok loaded) =
+    (entries : List Entry) × AreStatements request.file request.dyndep before after files entries × IsGraphOf loaded.graph entries
+GraphOr request before after files (Err fault) = HaveFault request.file request.dyndep before after files fault
+
+-- these files were read, each path once
+abbrev pub ReadsGraph : RequestText → (before after : SourceState) → Result LoadedText GraphFault → Type 0
+ReadsGraph request before after result = (files : List Reading) × IsRead before after [] files × GraphOr request before after files result
 
 abbrev pub fault_of_mark : MarkFault → RunFault
 fault_of_mark mark.OutOfRange = fault.MarkOutOfRange

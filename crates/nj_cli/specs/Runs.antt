@@ -1,11 +1,12 @@
 -- What a run does to its source and to its two sinks.
-use Rattle.std.specs.Prelude.{◌≡◌, ◌⊎◌, ℕ, Result, Ok, Err, List, []}
+use Rattle.std.specs.Prelude.{◌≡◌, ◌⊎◌, ℕ, Bool, true, false, Result, Ok, Err, List, []}
 use Rattle.nj_scope.specs.Readings.{Reading}
 use Rattle.nj_scope.specs.Sources.{SourceState}
 use Rattle.nj_scope.specs.ReadingList.{Entry}
 use Rattle.nj_faults.specs.declared.fault.GraphFault.{GraphFault}
 use Rattle.nj_faults.specs.FaultLines.{fault_line}
 use Rattle.nj_faults.specs.Faults.{no_memory}
+use Rattle.nj_graph.specs.Joining.{IsJoined, JoinedOr}
 use Rattle.nj_graph.specs.Loads.{IsWhole, LoadedOr}
 use Rattle.nj_graph.specs.Runs.{IsRead}
 use Rattle.nj_tools.specs.Sinks.{SinkState, Takes}
@@ -69,21 +70,46 @@ pub data RunEnds (entries : List Entry) (action : ActionText) (old new : Around)
 
 -- ---- by its files
 
+-- The main file and all that it includes were read: these statements, none of which has a fault. After that, up to the end, more
+-- files were read.
+pub record ReadsMore (main : List ℕ) (before after : SourceState) (files : List Reading) : Type 0 where
+  pub between : SourceState
+  pub read : List Reading
+  pub stated : List Entry
+  pub reads : IsRead before between [] read
+  pub whole : IsWhole main before between read stated
+  pub adds : IsRead between after read files
+
+-- The statements of the files: those of the main file and all that it includes; with `--dyndep` what dyndep files discover is
+-- joined to them.
+abbrev pub AreStatements : (main : List ℕ) → (dyndep : Bool) → (before after : SourceState) → List Reading → List Entry → Type 0
+AreStatements main false before after files entries = IsWhole main before after files entries
+AreStatements main true before after files entries =
+    (more : ReadsMore main before after files) × IsJoined more.stated entries more.read files more.between after
+
+-- This is what is wrong with the files: what ended the reading of the main file and all that it includes; with `--dyndep` also
+-- what ended the joining after it.
+abbrev pub HaveFault : (main : List ℕ) → (dyndep : Bool) → (before after : SourceState) → List Reading → GraphFault → Type 0
+HaveFault main false before after files fault = LoadedOr main before after files (Err fault)
+HaveFault main true before after files fault =
+    LoadedOr main before after files (Err fault)
+    ⊎ ((more : ReadsMore main before after files) × JoinedOr more.stated more.read files more.between after (Err fault))
+
 -- No graph can be made of the files: a statement has a fault, or an edge lies on a cycle, or the source failed, or an allocation did.
 -- Nothing is output. The fault is reported, or out of memory if there was no room for its line.
-pub record IsRefused (main : List ℕ) (files : List Reading) (old new : Around) (status : Status) : Type 0 where
+pub record IsRefused (request : RequestText) (files : List Reading) (old new : Around) (status : Status) : Type 0 where
   pub fault : GraphFault
-  pub reading : LoadedOr main old.source new.source files (Err fault)
+  pub reading : HaveFault request.file request.dyndep old.source new.source files fault
   pub output : new.output ≡ old.output
   pub error : Reported old.error new.error (with_line_end (fault_line fault)) ⊎ Reported old.error new.error (with_line_end out_of_memory)
   pub status_is : status ≡ Fault
 
 -- the files were read, and no edge of their statements needs itself by a chain
-pub record IsAnswered (main : List ℕ) (files : List Reading) (action : ActionText) (old new : Around) (status : Status) : Type 0 where
+pub record IsAnswered (request : RequestText) (files : List Reading) (old new : Around) (status : Status) : Type 0 where
   pub entries : List Entry
-  pub whole : IsWhole main old.source new.source files entries
+  pub statements : AreStatements request.file request.dyndep old.source new.source files entries
   pub acyclic : NoEdgeNeedsItself (edges_by_path entries)
-  pub answers : RunEnds entries action old new status
+  pub answers : RunEnds entries request.action old new status
 
 -- ---- the run
 
@@ -91,7 +117,7 @@ pub record IsAnswered (main : List ℕ) (files : List Reading) (action : ActionT
 abbrev pub RunsAs : RequestText → (old new : Around) → Status → Type 0
 RunsAs request old new status =
     (files : List Reading) × IsRead old.source new.source [] files
-    × (IsRefused request.file files old new status ⊎ IsAnswered request.file files request.action old new status)
+    × (IsRefused request files old new status ⊎ IsAnswered request files old new status)
 
 -- the words are no valid request: no file is read, and the error output says why
 pub record IsMisused (fault : UsageFault) (old new : Around) (status : Status) : Type 0 where

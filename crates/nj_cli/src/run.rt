@@ -2,12 +2,13 @@
 
 ghost use Rattle.std.specs.Prelude.{map, string_bytes};
 ghost use Rattle.nj_request.specs.Requests.{request_text};
+ghost use Rattle.nj_cli.specs.RunSteps.{ReadsGraph};
 ghost use Rattle.nj_cli.specs.Runs.{RunsAs, RunsWords, around};
 
 use crate::answer::answer;
 use crate::report::{conclude, report_fault, report_misuse};
 use crate::status::Status;
-use nj_graph::load;
+use nj_graph::{GraphFault, Loaded, join_dyndeps, load};
 use nj_request::{Request, read_words};
 use nj_scope::FileSource;
 use nj_tools::Sink;
@@ -32,8 +33,9 @@ pub fn run_words<S: FileSource, O: Sink, E: Sink>(
     }
 }
 
-/// Answers a request: reads the main file and all that it includes, and writes what is asked for of
-/// their graph. A fault, or the mark at which the run was stopped, is a line on the error output.
+/// Answers a request: reads the main file and all that it includes, joins what dyndep files discover
+/// if that is asked for, and writes what is asked for of the graph. A fault, or the mark at which the
+/// run was stopped, is a line on the error output.
 pub fn run_tool<S: FileSource, O: Sink, E: Sink>(
     alloc: Global,
     source: &mut S,
@@ -45,10 +47,26 @@ pub fn run_tool<S: FileSource, O: Sink, E: Sink>(
         (around (S.state source.old) (O.state out.old) (E.state err.old))
         (around (S.state source.new) (O.state out.new) (E.state err.new)) result }
 {
-    let loaded = match load(alloc, source, &request.file) {
+    let loaded = match read_graph(alloc, source, request) {
         Ok(loaded) => loaded,
         Err(fault) => return report_fault(alloc, err, &fault),
     };
     let answer = answer(alloc, loaded.graph(), &request.action, out);
     conclude(alloc, err, answer)
+}
+
+// The files of a request, and their graph.
+fn read_graph<S: FileSource>(
+    alloc: Global,
+    source: &mut S,
+    request: &Request,
+) -> Result<Loaded, GraphFault>
+    ensures { ReadsGraph (request_text request.now)
+        (S.state source.old) (S.state source.new) result }
+{
+    let loaded = load(alloc, source, &request.file)?;
+    if request.dyndep {
+        return join_dyndeps(alloc, loaded, source);
+    }
+    Ok(loaded)
 }

@@ -1,0 +1,51 @@
+-- What was read of files, with what dyndep files discover.
+use Rattle.std.proofs.Common.{◌≡◌, ◌⊎◌, inl, inr, ℕ, Bool, true, false, Result, Ok, Err, List, [], sym, subst}
+use Rattle.nj_scope.specs.Readings.{Reading}
+use Rattle.nj_scope.specs.Sources.{SourceState}
+use Rattle.nj_scope.specs.ReadingList.{Entry}
+use Rattle.nj_faults.specs.declared.fault.GraphFault.{GraphFault}
+use Rattle.nj_graph.specs.Joining.{IsJoined, JoinedOr, Joins}
+use Rattle.nj_graph.specs.Loads.{LoadedText, IsLoaded}
+use Rattle.nj_graph.specs.Runs.{IsRead}
+use Rattle.nj_graph.proofs.Tables.{reads-then}
+use Rattle.nj_request.specs.Requests.{RequestText}
+use Rattle.nj_cli.specs.RunSteps.{GraphOr, ReadsGraph}
+use Rattle.nj_cli.specs.Runs.{ReadsMore, AreStatements, HaveFault}
+
+statements-joined : (main : List ℕ) (dyndep : Bool) (before after : SourceState) (files : List Reading) (entries : List Entry) → dyndep ≡ true
+    → (more : ReadsMore main before after files) → IsJoined more.stated entries more.read files more.between after
+    → AreStatements main dyndep before after files entries
+statements-joined main true before after files entries asked more joined = (more, joined)
+statements-joined main false before after files entries asked more joined = absurd (cc)
+
+joining-fault : (main : List ℕ) (dyndep : Bool) (before after : SourceState) (files : List Reading) (fault : GraphFault) → dyndep ≡ true
+    → (more : ReadsMore main before after files) → JoinedOr more.stated more.read files more.between after (Err fault)
+    → HaveFault main dyndep before after files fault
+joining-fault main true before after files fault asked more refused = inr (more, refused)
+joining-fault main false before after files fault asked more refused = absurd (cc)
+
+module _ (request : RequestText) (asked : request.dyndep ≡ true) (before after : SourceState) (files : List Reading)
+    (more : ReadsMore request.file before after files) where
+  graph-joined : (result : Result LoadedText GraphFault) → JoinedOr more.stated more.read files more.between after result
+      → GraphOr request before after files result
+  graph-joined (Ok loaded) graph =
+      (graph.joined, statements-joined request.file request.dyndep before after files graph.joined asked more graph.whole, graph.graph_is)
+  graph-joined (Err fault) refused = joining-fault request.file request.dyndep before after files fault asked more refused
+
+-- the files of a request whose dyndep files were joined
+pub ReadsGraph-joined : (request : RequestText) → request.dyndep ≡ true → (before between after : SourceState) (read : List Reading)
+    (loaded : LoadedText) (result : Result LoadedText GraphFault) → IsRead before between [] read
+    → (l : IsLoaded request.file before between read loaded) → Joins l.entries loaded.files between after result
+    → ReadsGraph request before after result
+ReadsGraph-joined request asked before between after read loaded result reads l joins =
+    let of_read = subst (λ old. Joins l.entries old between after result) l.files_are joins in
+    let files = of_read.0 in
+    let more : ReadsMore request.file before after files = record {
+      between = between;
+      read = read;
+      stated = l.entries;
+      reads = reads;
+      whole = l.whole;
+      adds = of_read.1;
+    } in
+    (files, reads-then before between after [] read files reads of_read.1, graph-joined request asked before after files more result of_read.2)
