@@ -6,6 +6,8 @@ mod builds;
 #[cfg(test)]
 mod disk;
 #[cfg(test)]
+mod dyndeps;
+#[cfg(test)]
 mod files;
 #[cfg(test)]
 mod graphs;

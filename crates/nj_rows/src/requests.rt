@@ -78,7 +78,8 @@ fn put_action(alloc: Global, text: &mut String, action: &Action) -> Result<(), A
 /// What a request asks for.
 fn request_text(alloc: Global, request: &Request) -> Result<String, AllocError> {
     let input = if request.from_stdin { "stdin as " } else { "" };
-    let mut text = format!(in alloc; "{input}{}: ", request.file.as_str())?;
+    let joined = if request.dyndep { "joined " } else { "" };
+    let mut text = format!(in alloc; "{joined}{input}{}: ", request.file.as_str())?;
     put_action(alloc, &mut text, &request.action)?;
     Ok(text)
 }

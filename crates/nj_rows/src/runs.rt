@@ -419,6 +419,7 @@ fn request_for(alloc: Global, file: &str, target: &str) -> Result<Request, Alloc
     Ok(Request {
         file: String::from_str(alloc, file)?,
         from_stdin: false,
+        dyndep: false,
         action,
     })
 }

@@ -31,7 +31,7 @@ fn has_no_own_outputs(rt: &impl Abort, edges: &mut Edges) -> Result<(), Fail> {
     assert!(rt; edges.add_output(b"a")?);
     edges.add_input_of_another(b"a")?;
     edges.add_input_of_another(b"b")?;
-    assert!(rt; edges.has_open_input(b"b") && !edges.has_open_input(b"a"));
+    assert!(rt; edges.open_input(b"b").is_some() && edges.open_input(b"a").is_none());
     assert_eq!(rt; edges.open_output_files().len(), 1);
     assert_eq!(rt; edges.open_input_files().len(), 1);
     end_edge(edges, 1, false)?;
