@@ -80,7 +80,7 @@ _ninja_explain() {
         current=${current#-t}
         offer=(-P -t -W "$tools")
     elif [[ ! $ended && $current == -* ]]; then
-        offer=(-W "-t -f --stdin -- $(_ninja_explain_options "$tool")")
+        offer=(-W "-t -f --stdin --dyndep -- $(_ninja_explain_options "$tool")")
     else
         _ninja_explain_offer_words
     fi

@@ -74,6 +74,7 @@ complete -c ninja-explain -f
 complete -c ninja-explain -s t -x -a '(__ninja_explain_tools)' -d 'The tool'
 complete -c ninja-explain -s f -r -F -d 'The main file, else build.ninja'
 complete -c ninja-explain -l stdin -d 'Read the main file from standard input'
+complete -c ninja-explain -l dyndep -d 'Join what dyndep files discover first'
 
 complete -c ninja-explain -n '__ninja_explain_tool_is commands' -s s -d 'Only the targets\' own edges'
 complete -c ninja-explain -n '__ninja_explain_tool_is commands' -l take -x -d 'At most so many commands'

@@ -37,19 +37,17 @@ TOOLS = {
     "rules": ({"-d"}, []),
     "compdb": ({"-x", "--directory"}, []),
 }
-EVERY_TOOL = {"-t", "-f", "--stdin"}
+EVERY_TOOL = {"-t", "-f", "--stdin", "--dyndep"}
 # `--` ends the options, and is none itself.
 END = "--"
 VALUES = {"-f": "build.ninja", "--take": "1", "--resume": "start", "--directory": "here"}
-# The definitions that write texts of faults, from the first line of each group to an empty one, and
-# texts that are those of dyndep files alone, which the program does not read.
+# The definitions that write texts of faults, from the first line of each group to an empty one.
 FAULT_TEXTS = {
     "crates/nj_faults/specs/FaultLines.antt": ["cause_text"],
     "crates/nj_manifest/specs/Faults.antt": ["wanted_text", "unit_text", "text_of"],
     "crates/nj_request/specs/FaultLines.antt": ["fault_text"],
     "crates/nj_cli/specs/Answers.antt": ["out_of_range"],
 }
-OF_DYNDEP_FILES = {"expected 'ninja_dyndep_version = 1'", "not a dyndep statement"}
 REFUSED = ["-h", "--help", "-V", "--version", "-C", "--nothing"]
 UNREAD = b"ninja-explain: cannot read the arguments\n"
 USAGE = 2
@@ -170,7 +168,7 @@ def check_faults():
     plain = re.sub(r"\\f.", "", section.replace("\\(aq", "'").replace("\\-", "-"))
     for file, names in FAULT_TEXTS.items():
         for text in (text for name in names for text in fault_texts(file, name)):
-            if text not in plain and text not in OF_DYNDEP_FILES:
+            if text not in plain:
                 report(PAGE.relative_to(ROOT), f"the fault {text} is missing")
 
 
