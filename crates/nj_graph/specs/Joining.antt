@@ -64,7 +64,8 @@ unless_fault (Some fault) joined others = record { entries = joined; end = Refus
 unless_fault None joined others = others
 
 -- Its entries, one after the other: the statements as they were read, and as they are with what was joined so far.
-unfoldable pub entries_joined : (file : List ℕ) → (stated : List Entry) → List EntryText → Option Fault → (joined : List Entry) → ReadingText
+unfoldable pub entries_joined : (file : List ℕ) → (stated : List Entry) → List EntryText → Option Fault → (joined : List Entry)
+    → ReadingText
 entries_joined file stated [] fault joined = at_end file fault joined
 entries_joined file stated (entry ∷ others) fault joined =
     unless_fault (entry_fault file stated joined entry) joined
@@ -162,7 +163,8 @@ pub record JoinsGraph (stated : List Entry) (old files : List Reading) (before a
   pub graph_is : IsGraphOf loaded.graph joined
 
 -- by the files that were read before and now
-abbrev pub JoinedOr : (stated : List Entry) → (old files : List Reading) → (before after : SourceState) → Result LoadedText GraphFault → Type 0
+abbrev pub JoinedOr : (stated : List Entry) → (old files : List Reading) → (before after : SourceState)
+    → Result LoadedText GraphFault → Type 0
 JoinedOr stated old files before after (Ok loaded) = JoinsGraph stated old files before after loaded
 JoinedOr stated old files before after (Err fault) =
     JoiningLacksMemory stated old files before after fault

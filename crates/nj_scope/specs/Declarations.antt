@@ -25,7 +25,15 @@ pub record DeclaredBy (held : DeclarationsText) (entries : List list.Entry) : Ty
 abbrev pub TakesIn : (old new : DeclarationsText) → (number : ℕ) → (around : List ℕ) → StatementText → Type 0
 TakesIn old new number around item =
     (entries : List list.Entry) (file : List ℕ) (spot : Spot) (depth : ℕ) → DeclaredBy old entries
-    → DeclaredBy new (record { file = file; spot = spot; depth = depth; number = number; around = around; item = item; discovered = None } ∷ entries)
+    → DeclaredBy new (record {
+      file = file;
+      spot = spot;
+      depth = depth;
+      number = number;
+      around = around;
+      item = item;
+      discovered = None;
+    } ∷ entries)
 
 -- What was held before is held still.
 abbrev pub Keeps : (old new : DeclarationsText) → Type 0
