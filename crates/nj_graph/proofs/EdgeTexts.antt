@@ -1,13 +1,10 @@
 -- What variables say for an edge of the graph of statements.
-use Rattle.std.proofs.Common.{◌≡◌, ℕ, zero, suc, ◌<◌, ◌++◌, ◌∷◌, Bool, Option, Some, None, option_map, unwrap_or, List, [], map, length, get_or, slice_get, slice_index_or, bytes_eq, refl, sym, ap, subst, ◌∙◌, arith, true≢false, is_some, OnOk, Result, Ok, Err}
+use Rattle.std.proofs.Common.{◌≡◌, ℕ, zero, suc, ◌<◌, ◌∷◌, Bool, Option, Some, option_map, unwrap_or, List, [], map, length, get_or, slice_get, slice_index_or, bytes_eq, sym, ap, subst, ◌∙◌, arith, true≢false, is_some}
 use Rattle.std.specs.List.{AllByRecursion}
 use Rattle.std.proofs.lemmas.List.{length-map}
 use Rattle.std.proofs.lemmas.Option.{slice_get-map, slice_get-get_or, get_or_from_slice_get}
 use Rattle.nj_scope.specs.Rules.{RuleText, RuleLineText, phony}
-use Rattle.nj_scope.specs.Declarations.{DeclarationsText, DeclaredBy}
-use Rattle.nj_scope.specs.ReadingList.{Entry, value_after, rule_texts}
-use Rattle.nj_scope.specs.Scopes.{IsScope}
-use Rattle.nj_scope.specs.ScopesHeld.{parent_at}
+use Rattle.nj_scope.specs.ReadingList.{Entry, value_after}
 use Rattle.nj_blocks.specs.Blocks.{BlocksText, bound_in}
 use Rattle.nj_edges.specs.Edges.{EdgePaths, edge_at}
 use Rattle.nj_edges.specs.Files.{AreFiles, path_at}
@@ -15,10 +12,9 @@ use Rattle.nj_edges.specs.declared.files.FileNo.{FileNo}
 use Rattle.nj_late.specs.LateTexts.{LateNames, asked_text}
 use Rattle.nj_build.specs.EdgeList.{EdgeText, edges_read, names_of_edge, lines_of_rule}
 use Rattle.nj_build.specs.Answers.{block_of_edge}
-use Rattle.nj_build.specs.Built.{BuiltText, EdgeDetail, detail_at, detail_of}
+use Rattle.nj_build.specs.Built.{EdgeDetail, detail_at, detail_of}
 use Rattle.nj_build.proofs.LateLemmas.{paths-are, same-everywhere}
 use Rattle.nj_graph.specs.Graph.{GraphText, edges_of, files_of, IsOpenScope, HasRule, IsGraphOf, text_of_edge, late_text_of}
-use Rattle.nj_graph.specs.GraphHeld.{IsKnown}
 use Rattle.nj_graph.proofs.EdgeRules.{edges-open}
 
 -- ---- elements of lists

@@ -1,5 +1,5 @@
 -- Bindings after the statement of an edge.
-use Rattle.std.proofs.Common.{◌≡◌, ℕ, ◌==◌, Bool, true, if◌then◌else◌, Option, Some, None, unwrap_or, List, [], ◌∷◌, bytes_eq, refl, sym, ap, ◌∙◌, eq-eqb}
+use Rattle.std.proofs.Common.{◌≡◌, ℕ, if◌then◌else◌, Some, None, unwrap_or, List, [], ◌∷◌, refl, sym, ap, ◌∙◌, eq-eqb}
 use Rattle.std.proofs.lemmas.Slice.Eq.{bytes_eq-Decides}
 use Rattle.nj_text.specs.Words.{WordText}
 use Rattle.nj_manifest.specs.Statements.{StatementText, BindingText}

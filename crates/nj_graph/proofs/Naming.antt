@@ -1,14 +1,13 @@
 -- What is read of a statement, where it has a fault of its own, and where it names a file.
-use Rattle.std.proofs.Common.{◌≡◌, ℕ, suc, ◌+◌, ◌<◌, ◌≤◌, Result, Ok, Err, IsErr, IfOk, OnOk, length, arith, Bool, true, false, true≢false, inl, inr, Option, Some, None, option_map, List, [], ◌∷◌, ◌++◌, refl, sym, ap, subst, ◌∙◌, add-one}
-use Rattle.std.specs.List.{AllByRecursion}
+use Rattle.std.proofs.Common.{◌≡◌, ℕ, suc, ◌+◌, ◌<◌, Result, Ok, Err, IsErr, IfOk, OnOk, length, arith, Bool, true, false, true≢false, inl, inr, Option, Some, None, option_map, List, [], ◌∷◌, ◌++◌, refl, sym, ap, subst, ◌∙◌, add-one}
 use Rattle.std.specs.Result.{IsErrAnd}
 use Rattle.nj_text.specs.declared.spot.Spot.{Spot}
 use Rattle.nj_text.specs.Words.{WordText}
 use Rattle.nj_manifest.specs.Faults.{Fault, place_of, text_of}
 use Rattle.nj_manifest.specs.Statements.{StatementText, BindingText, RuleText, PoolText, BuildText, DefaultText, IncludeText, SubninjaText, LineText, OutputsText, InputsText}
 use Rattle.nj_scope.specs.Readings.{Reading, EachPathOnce, IsPrefix, paths_of}
-use Rattle.nj_scope.specs.Scopes.{IsScope, outermost, child}
-use Rattle.nj_scope.specs.ScopesHeld.{ScopeText, parent_at}
+use Rattle.nj_scope.specs.Scopes.{child}
+use Rattle.nj_scope.specs.ScopesHeld.{parent_at}
 use Rattle.nj_scope.specs.Declarations.{DeclarationsText, DeclaredBy, TakesIn}
 use Rattle.nj_scope.specs.ReadingList.{Entry, scope_of, value_after, files_opened, opens_file}
 use Rattle.nj_scope.specs.Sources.{SourceState}

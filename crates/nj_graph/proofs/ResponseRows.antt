@@ -1,5 +1,5 @@
 -- Small commands with response files, worked out on the definitions.
-use Rattle.std.proofs.Common.{◌≡◌, ℕ, Option, Some, None, List, [], ◌∷◌, ◌++◌, refl}
+use Rattle.std.proofs.Common.{◌≡◌, Some, None, [], refl}
 use Rattle.std.specs.Prelude.{codes}
 use Rattle.nj_graph.specs.ResponseFiles.{first_position, sign_position, with_content}
 

@@ -9,7 +9,6 @@ use Rattle.nj_manifest.specs.Contents.{placed_text}
 use Rattle.nj_manifest.specs.Statements.{PlacedText, next_statement, Left, Lines, Refused}
 use Rattle.nj_manifest.proofs.Starts.{ahead}
 use Rattle.nj_manifest.proofs.Consumed.{statement_takes}
-use Rattle.nj_scope.specs.ScopesHeld.{ScopeText}
 use Rattle.nj_scope.specs.Readings.{Reading, IsPrefix, paths_of}
 use Rattle.nj_scope.specs.ReadingList.{Entry}
 use Rattle.nj_scope.specs.Sources.{SourceState, Rises}
@@ -20,7 +19,7 @@ use Rattle.nj_graph.specs.Statements.{Parsed, parsed_in, and_parsed}
 use Rattle.nj_graph.specs.Reading as reading
 use Rattle.nj_graph.specs.Reading.{Site, entry_at, End, Whole, Lacking, ReadingText, Opens, go_on, and_then, opened_in, statement_read, statements_read, text_read, end_by, with_named, paths_read, path_at_fault, paths_come_to}
 use Rattle.nj_graph.specs.Runs.{IsRead, IsEnd, Stops}
-use Rattle.nj_graph.specs.ReaderContracts.{Holds, Grows, ReadsAll, ReadsOne, StopsAt, OpensNamed, ReadsText, ReadsOrStops, NextOf, NextIs}
+use Rattle.nj_graph.specs.ReaderContracts.{Holds, ReadsAll, ReadsOne, StopsAt, OpensNamed, ReadsText, ReadsOrStops, NextOf, NextIs}
 use Rattle.nj_graph.proofs.Comes.{and_then-comes, statements-come}
 use Rattle.nj_graph.proofs.Tables.{extends-trans, read-extends, reads-then, reads-all-then}
 use Rattle.nj_graph.proofs.ParsedLemmas.{parsed-step, parsed-end, parsed-fault}

@@ -1,7 +1,6 @@
 -- Lemmas on the last lines of the keys of a rule.
 use Rattle.std.proofs.Common.{◌≡◌, ◌<◌, ◌≤◌, ◌+◌, ◌-◌, ◌⊎◌, inl, inr, ℕ, zero, suc, Bool, true, false, ◌||◌, if◌then◌else◌, List, [], ◌∷◌, ◌++◌, map, length, drop, slice_get, get_or, Option, Some, None, is_some, option_map, unwrap_or, bytes_eq, refl, sym, ap, subst, ◌∙◌, true≢false, arith}
 use Rattle.std.specs.Prelude.{find, reverse, slice_index, All, IfSome, IfNone}
-use Rattle.std.specs.List.{list_any}
 use Rattle.std.proofs.lemmas.List.{map_push, reverse-append, length-map, drop_more}
 use Rattle.std.proofs.Math.Seq.{drop-length}
 use Rattle.std.proofs.lemmas.List.Elements.{All-get_or, All-from_get_or}

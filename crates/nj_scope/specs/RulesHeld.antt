@@ -1,5 +1,5 @@
 -- How a rule is held: its lines, and of each key where the last line stands.
-use Rattle.std.specs.Prelude.{◌≡◌, ℕ, ◌<◌, Bool, if◌then◌else◌, Option, Some, None, option_map, unwrap_or, List, [], ◌∷◌, ◌++◌, map, length, slice_get, bytes_eq}
+use Rattle.std.specs.Prelude.{◌≡◌, ℕ, ◌<◌, Bool, if◌then◌else◌, Some, option_map, unwrap_or, List, [], ◌∷◌, ◌++◌, map, length, slice_get, bytes_eq}
 use Rattle.std.specs.List.{list_any}
 use Rattle.nj_text.specs.Words.{PartText}
 use Rattle.nj_scope.specs.declared.rule.RuleLine.{RuleLine}

@@ -1,4 +1,4 @@
-use Rattle.std.proofs.Common.{◌<◌, ◌≤◌, length, arith}
+use Rattle.std.proofs.Common.{arith}
 use Rattle.nj_scope.proofs.KeyLemmas.{none_yet, indexes_within, turn_taken, turn_passed}
 use Rattle.nj_scope.proofs.rule.last_of_keys.Goals as goal
 

@@ -1,5 +1,4 @@
 use Rattle.std.proofs.Common.{get_or, ◌≡◌, ◌++◌, ◌∷◌, sym, ap, subst, ◌∙◌}
-use Rattle.nj_scope.specs.Rules.{phony}
 use Rattle.nj_scope.specs.Scopes.{IsScope}
 use Rattle.nj_scope.specs.ScopesHeld.{parent_at}
 use Rattle.nj_build.proofs.Holding.{on-ok}

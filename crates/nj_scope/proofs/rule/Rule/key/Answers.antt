@@ -1,6 +1,6 @@
 use Rattle.std.proofs.Common.{◌∙◌, ap}
 use Rattle.nj_scope.specs.Rules.{RuleText}
-use Rattle.nj_scope.proofs.KeyLemmas.{index_told, key_told, value_told}
+use Rattle.nj_scope.proofs.KeyLemmas.{index_told, key_told}
 use Rattle.nj_scope.proofs.rule.Rule.key.Goals as goal
 
 pub line_at-requires-clause-index : goal.line_at-requires-clause-index

@@ -1,5 +1,3 @@
-use Rattle.std.proofs.Common.{◌∙◌, ap, map, subst, sym}
-use Rattle.nj_scope.specs.RulesHeld.{line_held, last_lines, key_count, KeysAreNumbered, NumbersDiffer}
 use Rattle.nj_scope.proofs.KeyLemmas.{keys_are_numbered, numbers_differ}
 use Rattle.nj_scope.proofs.rule.Rule.key_count.Goals as goal
 

@@ -1,7 +1,5 @@
-use Rattle.std.proofs.Common.{◌≡◌, ◌<◌, ap, ℕ, List, length, None, slice_index}
-use Rattle.std.specs.Prelude.{IfSome, IfNone}
-use Rattle.nj_scope.specs.Rules.{RuleText, given}
-use Rattle.nj_scope.specs.RulesHeld.{HasKeyAt, IsNumber}
+use Rattle.std.proofs.Common.{ap}
+use Rattle.nj_scope.specs.Rules.{RuleText}
 use Rattle.nj_scope.proofs.KeyLemmas.{all_told, number_told, none_told, some_weaker, none_weaker}
 use Rattle.nj_scope.proofs.rule.Rule.key_number.Goals as goal
 
