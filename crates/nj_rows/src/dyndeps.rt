@@ -160,7 +160,7 @@ fn every_tool_reports_dyndep_files_before_words(rt: HostRuntime) -> Result<(), F
 }
 
 #[test]
-fn refuses_dyndep_files(rt: HostRuntime) -> Result<(), Fail> {
+fn refuses_entries_that_mean_no_edge(rt: HostRuntime) -> Result<(), Fail> {
     dds_end(
         &rt,
         KINDS,
@@ -192,6 +192,17 @@ fn refuses_dyndep_files(rt: HostRuntime) -> Result<(), Fail> {
                 b"ninja_dyndep_version = 1\nbuild ./x/../a: dyndep\n",
                 "[1] dd:2:7: 'a' has no dyndep binding for this file\n",
             ),
+        ],
+    )
+}
+
+#[test]
+fn refuses_what_entries_discover(rt: HostRuntime) -> Result<(), Fail> {
+    dds_end(
+        &rt,
+        KINDS,
+        COMMANDS,
+        &[
             // references are empty
             (
                 b"ninja_dyndep_version = 1\nbuild $o: dyndep\n",
@@ -219,6 +230,17 @@ fn refuses_dyndep_files(rt: HostRuntime) -> Result<(), Fail> {
                 b"ninja_dyndep_version = 1\nbuild o: dyndep | o\n",
                 "[1] build.ninja:3:1: dependency cycle through 'o'\n",
             ),
+        ],
+    )
+}
+
+#[test]
+fn refuses_other_forms(rt: HostRuntime) -> Result<(), Fail> {
+    dds_end(
+        &rt,
+        KINDS,
+        COMMANDS,
+        &[
             (
                 b"ninja_dyndep_version = 1\nbuild o p: dyndep\n",
                 "[1] dd:2:9: not a dyndep statement\n",
