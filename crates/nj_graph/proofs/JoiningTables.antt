@@ -1,7 +1,6 @@
 -- The paths that a joining asks for, and the table of what was read.
-use Rattle.std.proofs.Common.{◌≡◌, ℕ, zero, suc, ◌<◌, ◌≤◌, Bool, true, false, cond, true≢false, Some, unwrap_or, Result, Ok, Err, IsErr, OnOk, List, [], ◌∷◌, ◌++◌, length, drop, slice_get, String, string_bytes, IsUtf8, refl, sym, ap, subst, arith}
+use Rattle.std.proofs.Common.{◌≡◌, ℕ, zero, suc, ◌<◌, ◌≤◌, Bool, true, false, cond, Some, unwrap_or, Result, Ok, Err, OnOk, List, [], ◌∷◌, ◌++◌, length, drop, slice_get, String, string_bytes, IsUtf8, refl, sym, ap, subst, arith}
 use Rattle.std.specs.Str.{is_utf8}
-use Rattle.std.specs.Result.{IsErrAnd}
 use Rattle.std.proofs.lemmas.Str.{IsUtf8-string_bytes, IsUtf8-from_is_utf8, is_utf8-from_IsUtf8}
 use Rattle.nj_scope.specs.Readings.{IsPrefix}
 use Rattle.nj_edges.specs.declared.files.FileNo.{FileNo}
@@ -11,14 +10,6 @@ use Rattle.nj_build.proofs.Lists.{get-longer}
 use Rattle.nj_graph.specs.Reading.{with_new}
 use Rattle.nj_graph.specs.Joining.{path_asked, with_all_new}
 use Rattle.nj_graph.proofs.Comes.{prefix-self, prefix-then, prefix-new}
-
-pub handed : {X E : Type 0} (f : E) (r : Result X E) → IsErr r × IsErrAnd r (λ e. e ≡ f) → r ≡ Err f
-handed f (Ok x) (no_fault, is) = absurd (true≢false (sym no_fault))
-handed f (Err e) (no_fault, is) = ap (λ x. Err x) is
-
-pub handed-as : {X E : Type 0} (P : E → Type 0) (r : Result X E) → IsErr r × IsErrAnd r P → (e : E) × (r ≡ Err e) × P e
-handed-as P (Ok x) (no_fault, is) = absurd (true≢false (sym no_fault))
-handed-as P (Err e) (no_fault, is) = (e, refl, is)
 
 pub for-ok : {X E P : Type 0} (r : Result X E) → P → OnOk r P
 for-ok (Ok x) h = h

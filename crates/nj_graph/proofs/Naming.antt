@@ -1,6 +1,5 @@
 -- What is read of a statement, where it has a fault of its own, and where it names a file.
-use Rattle.std.proofs.Common.{◌≡◌, ℕ, suc, ◌+◌, ◌<◌, Result, Ok, Err, IsErr, IfOk, OnOk, length, arith, Bool, true, false, true≢false, inl, inr, Option, Some, None, option_map, List, [], ◌∷◌, ◌++◌, refl, sym, ap, subst, ◌∙◌, add-one}
-use Rattle.std.specs.Result.{IsErrAnd}
+use Rattle.std.proofs.Common.{◌≡◌, ℕ, suc, ◌+◌, ◌<◌, Result, Ok, Err, IfOk, OnOk, length, arith, Bool, true, false, inl, inr, Option, Some, None, option_map, List, [], ◌∷◌, ◌++◌, refl, sym, ap, subst, ◌∙◌, add-one}
 use Rattle.nj_text.specs.declared.spot.Spot.{Spot}
 use Rattle.nj_text.specs.Words.{WordText}
 use Rattle.nj_manifest.specs.Faults.{Fault, place_of, text_of}
@@ -32,16 +31,6 @@ use Rattle.nj_graph.specs.ReaderContracts.{named_item, named_site, site_of, Ente
 use Rattle.nj_graph.proofs.Comes.{item-comes, statements-come}
 use Rattle.nj_graph.proofs.Tables.{read-nothing}
 use Rattle.nj_graph.proofs.OpenScopes.{open-grown, open-next}
-
--- ---- a fault that is handed on
-
-pub handed : {X E : Type 0} (f : E) (r : Result X E) → IsErr r × IsErrAnd r (λ e. e ≡ f) → r ≡ Err f
-handed f (Ok x) (no_fault, is) = absurd (true≢false (sym no_fault))
-handed f (Err e) (no_fault, is) = ap (λ x. Err x) is
-
-pub handed-as : {X E : Type 0} (P : E → Type 0) (r : Result X E) → IsErr r × IsErrAnd r P → (e : E) × (r ≡ Err e) × P e
-handed-as P (Ok x) (no_fault, is) = absurd (true≢false (sym no_fault))
-handed-as P (Err e) (no_fault, is) = (e, refl, is)
 
 -- ---- no fault of a statement by itself names a path
 

@@ -1,5 +1,5 @@
 -- What a call of the lexer gave, as a step.
-use Rattle.std.proofs.Common.{◌≡◌, Result, Ok, Err, refl, ap}
+use Rattle.std.proofs.Common.{◌≡◌, Result, Ok, Err, refl}
 use Rattle.std.specs.Result.{IsErr, IsErrAnd}
 use Rattle.nj_text.specs.declared.fault.UnitFault.{UnitFault}
 use Rattle.nj_text.specs.declared.fault.LexFault.{LexFault}
@@ -40,7 +40,3 @@ fails-so (fault.UnknownKey s k) whole h = h
 fails-so (fault.MissingDepth s) whole h = h
 fails-so (fault.DyndepVersion s) whole h = h
 fails-so (fault.DyndepShape s) whole h = h
-
-pub handed : {X : Type 0} (f : ParseFault) (r : Result X ParseFault) → IsErr r × IsErrAnd r (λ e. e ≡ f) → r ≡ Err f
-handed f (Ok x) h = absurd cc
-handed f (Err e) h = ap Err h.1

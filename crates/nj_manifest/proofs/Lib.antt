@@ -28,6 +28,7 @@ pub mod FormsTokens
 pub mod FormsValues
 pub mod FormsWords
 pub mod Framing
+pub mod Handed
 pub mod GivenKeys
 pub mod Heres
 pub mod LeftmostBlocks

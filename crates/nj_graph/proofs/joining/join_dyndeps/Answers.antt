@@ -2,7 +2,7 @@ use Rattle.std.proofs.Common.{◌≡◌, Ok, Err, refl, sym, ap, subst, ◌∙�
 use Rattle.nj_faults.specs.Faults.{no_memory}
 use Rattle.nj_graph.specs.Graph.{GraphText, IsGraphOf}
 use Rattle.nj_graph.specs.Joining.{Joins}
-use Rattle.nj_graph.proofs.JoiningTables.{handed, handed-as}
+use Rattle.nj_manifest.proofs.Handed.{handed, handed-as}
 use Rattle.nj_graph.proofs.JoiningGraphs.{joins-nothing, joins-memory, joins-stop, none-pending-then, joins-fault, joined-graph, joins-graph, joined-held}
 use Rattle.nj_graph.proofs.joining.join_dyndeps.Goals as goal
 

@@ -9,7 +9,8 @@ use Rattle.nj_graph.specs.ReaderContracts.{AnswersText}
 use Rattle.nj_graph.specs.Joining.{statement_place}
 use Rattle.nj_graph.specs.JoiningContracts.{JoinsText, JoinsFile}
 use Rattle.nj_graph.proofs.Found.{found-text, unfound}
-use Rattle.nj_graph.proofs.JoiningTables.{handed, for-ok, get-prefix, path-is, some-is}
+use Rattle.nj_manifest.proofs.Handed.{handed}
+use Rattle.nj_graph.proofs.JoiningTables.{for-ok, get-prefix, path-is, some-is}
 use Rattle.nj_graph.proofs.JoiningFiles.{is-place, stops-name, stops-unfound, stops-text, ends-file}
 use Rattle.nj_graph.proofs.joining.join_file.Goals as goal
 

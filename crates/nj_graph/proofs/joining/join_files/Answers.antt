@@ -1,5 +1,6 @@
 use Rattle.std.proofs.Common.{◌≡◌, ◌<◌, ◌≤◌, ◌+◌, suc, length, slice_get, drop, refl, sym, ap, subst, ◌∙◌, arith}
-use Rattle.nj_graph.proofs.JoiningTables.{handed, drop-next, drop-past}
+use Rattle.nj_manifest.proofs.Handed.{handed}
+use Rattle.nj_graph.proofs.JoiningTables.{drop-next, drop-past}
 use Rattle.nj_graph.proofs.JoiningRuns.{FilesUnderway, files-at-first, files-turn, files-stop, files-end}
 use Rattle.nj_graph.proofs.joining.join_files.Goals as goal
 

@@ -2,7 +2,8 @@ use Rattle.std.proofs.Common.{true, false, [], refl, sym, ◌∙◌, append-nil}
 use Rattle.nj_text.specs.Lines.{text_lines}
 use Rattle.nj_manifest.specs.DyndepParsers.{entry_text}
 use Rattle.nj_graph.proofs.Comes.{prefix-then}
-use Rattle.nj_graph.proofs.JoiningTables.{handed, get-prefix}
+use Rattle.nj_manifest.proofs.Handed.{handed}
+use Rattle.nj_graph.proofs.JoiningTables.{get-prefix}
 use Rattle.nj_graph.proofs.JoiningTexts.{text-at-first, text-ends, text-turn, text-refused, next-some, next-none, next-stops, fewer-to-come}
 use Rattle.nj_graph.proofs.joining.join_text.Goals as goal
 

@@ -1,4 +1,4 @@
-use Rattle.nj_manifest.proofs.CallsTaken.{handed}
+use Rattle.nj_manifest.proofs.Handed.{handed}
 use Rattle.nj_manifest.proofs.DyndepCalls.{entry-no_line, entry-no_block, entry-read}
 use Rattle.nj_manifest.proofs.dyndep.entry_at.Goals as goal
 

@@ -2,7 +2,7 @@ use Rattle.std.proofs.Common.{subst, refl, option_map, Ok}
 use Rattle.nj_manifest.specs.ParserContracts.{FindsOpening}
 use Rattle.nj_manifest.specs.Dyndeps.{entry_at, entry_from, next_entry}
 use Rattle.nj_manifest.specs.DyndepParsers.{entry_text}
-use Rattle.nj_manifest.proofs.CallsTaken.{handed}
+use Rattle.nj_manifest.proofs.Handed.{handed}
 use Rattle.nj_manifest.proofs.Nexts.{fails-opening, none-left, read-on}
 use Rattle.nj_manifest.proofs.DyndepCalls.{entry-is}
 use Rattle.nj_manifest.proofs.dyndep.next_entry.Goals as goal

@@ -1,5 +1,5 @@
 use Rattle.nj_manifest.specs.Contents.{head_text}
-use Rattle.nj_manifest.proofs.CallsTaken.{handed}
+use Rattle.nj_manifest.proofs.Handed.{handed}
 use Rattle.nj_manifest.proofs.Heres.{here-ok, here-fails}
 use Rattle.nj_manifest.proofs.next.statement_at.Goals as goal
 

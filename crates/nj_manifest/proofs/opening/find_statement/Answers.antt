@@ -3,7 +3,7 @@ use Rattle.nj_text.specs.declared.sign.LineStart.TheVariants as start
 use Rattle.nj_manifest.specs.declared.fault.ParseFault.TheVariants as fault
 use Rattle.nj_manifest.specs.Faults.{UnexpectedIndent}
 use Rattle.nj_manifest.specs.Parsers.{Fails}
-use Rattle.nj_manifest.proofs.CallsTaken.{handed}
+use Rattle.nj_manifest.proofs.Handed.{handed}
 use Rattle.nj_manifest.proofs.Starts.{front_at, begins-badly, begins-as, blank-falls-as, found-end, found-line}
 use Rattle.nj_manifest.proofs.opening.find_statement.Goals as goal
 

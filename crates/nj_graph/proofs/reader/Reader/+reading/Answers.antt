@@ -5,7 +5,7 @@ use Rattle.nj_manifest.specs.Contents.{placed_text}
 use Rattle.nj_graph.specs.Reading.{Site, entry_at, opened_in, text_read}
 use Rattle.nj_graph.specs.ReaderContracts.{ReadsItem, ReadsOrStops, site_of}
 use Rattle.nj_graph.proofs.OpenScopes.{grows-self, grows-then, open-grown}
-use Rattle.nj_graph.proofs.Naming.{handed}
+use Rattle.nj_manifest.proofs.Handed.{handed}
 use Rattle.nj_graph.proofs.ParsedLemmas.{parsed-at-first}
 use Rattle.nj_graph.proofs.Tables.{reads-all-nothing}
 use Rattle.nj_graph.proofs.Turns.{reads-named, one-read, ends-text, turn, turn-stops, next-some, next-none, next-stops, fewer-left, site-same}

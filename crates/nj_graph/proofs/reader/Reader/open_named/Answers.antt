@@ -6,7 +6,8 @@ use Rattle.nj_faults.specs.Faults.{no_memory}
 use Rattle.nj_graph.specs.Reading.{Site, entry_at, site_scope, expanded_in, opened_in, statement_read}
 use Rattle.nj_graph.specs.Graph.{IsOpenScope}
 use Rattle.nj_graph.specs.ReaderContracts.{Grows, IsFault, site_of, place_in, named_item, named_site}
-use Rattle.nj_graph.proofs.Naming.{handed, handed-as, stops-own, stops-same, stops-open, opens-file, named-fault, named-path, named-file, named-opens, named-builds, named-read}
+use Rattle.nj_manifest.proofs.Handed.{handed, handed-as}
+use Rattle.nj_graph.proofs.Naming.{stops-own, stops-same, stops-open, opens-file, named-fault, named-path, named-file, named-opens, named-builds, named-read}
 use Rattle.nj_graph.proofs.reader.Reader.open_named.Goals as goal
 
 pub returns-in_err-path-clause-opens : goal.returns-in_err-path-clause-opens

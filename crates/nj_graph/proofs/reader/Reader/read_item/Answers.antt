@@ -11,7 +11,8 @@ use Rattle.nj_build.specs.Answers.{build_text}
 use Rattle.nj_graph.specs.Reading.{entry_at, own_fault}
 use Rattle.nj_graph.specs.ReaderContracts.{Holds, IsFault, Declares, site_of}
 use Rattle.nj_graph.proofs.Holding.{build-same}
-use Rattle.nj_graph.proofs.Naming.{handed, stops-own, reads-one}
+use Rattle.nj_manifest.proofs.Handed.{handed}
+use Rattle.nj_graph.proofs.Naming.{stops-own, reads-one}
 use Rattle.nj_graph.proofs.reader.Reader.read_item.Goals as goal
 
 pub returns-in_err-bind-in-Binding-clause-reads : goal.returns-in_err-bind-in-Binding-clause-reads

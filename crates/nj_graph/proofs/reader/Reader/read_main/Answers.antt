@@ -6,7 +6,7 @@ use Rattle.nj_graph.specs.declared.reader.Reader.{Reader}
 use Rattle.nj_graph.specs.Reading.{opened_in, text_read, most_within, main_site, main_place}
 use Rattle.nj_graph.specs.ReaderContracts.{ReadsOrStops}
 use Rattle.nj_graph.proofs.Found.{answers-named, found-text, unfound}
-use Rattle.nj_graph.proofs.Naming.{handed}
+use Rattle.nj_manifest.proofs.Handed.{handed}
 use Rattle.nj_graph.proofs.MainFiles.{main-fault, main-stands, main-holds, main-reads}
 use Rattle.nj_graph.proofs.reader.Reader.read_main.Goals as goal
 
