@@ -9,7 +9,7 @@ use Rattle.nj_scope.specs.Readings.{reading_of, IsPrefix}
 use Rattle.nj_scope.specs.ReadingList.{Entry, files_opened}
 use Rattle.nj_faults.specs.declared.fault.Place.{Place}
 use Rattle.nj_faults.specs.declared.fault.GraphFault.{GraphFault}
-use Rattle.nj_graph.specs.Statements.{parsed}
+use Rattle.nj_graph.specs.Parsed.{parsed}
 use Rattle.nj_graph.specs.Reading.{Site, entry_at, own_fault, End, Whole, Refused, Lacking, ReadingText, go_on, and_then, Opens, item_read, unless_fault, statement_read, end_by, statements_read, most_opened, most_within, found_read, answer_read, if_room, opened_in, main_site, main_read, path_named, with_new, with_named, paths_read, path_at_end, paths_come_to}
 
 -- ---- paths before others
@@ -82,7 +82,7 @@ statements_read-come main opens comes site (s ∷ others) fault before =
 found_read-comes : (main : List ℕ) (within : Opens) → OpensCome main within → (site : Site) (place : Place) (entries before : List Entry) → IsPrefix (paths_read main before) (paths_read main entries) → (text : Option (List ℕ)) → ComesTo main before (found_read within site place entries before text)
 found_read-comes main within comes site place entries before more None = prefix-new (paths_read main before) site.file
 found_read-comes main within comes site place entries before more (Some text) =
-    prefix-then (paths_read main before) (paths_read main entries) _ more (statements_read-come main within comes site (parsed text).statements (parsed text).fault entries)
+    prefix-then (paths_read main before) (paths_read main entries) _ more (statements_read-come main within comes site (parsed text).items (parsed text).fault entries)
 
 answer_read-comes : (main : List ℕ) (within : Opens) → OpensCome main within → (site : Site) (place : Place) (entries before : List Entry) → IsPrefix (paths_read main before) (paths_read main entries) → (r : Option table.Reading) → ComesTo main before (answer_read within site place entries before r)
 answer_read-comes main within comes site place entries before more None = prefix-new (paths_read main before) site.file
@@ -125,7 +125,7 @@ opened-names main files left site place e before names room =
 
     by_text : (text : Option (List ℕ)) → Front (found_read (opened_in files left) site place (e ∷ before) before text)
     by_text None = prefix-self front
-    by_text (Some text) = subst (λ paths. IsPrefix paths (paths_come_to main (found_read (opened_in files left) site place (e ∷ before) before (Some text)))) named (statements-come main files left site (parsed text).statements (parsed text).fault (e ∷ before))
+    by_text (Some text) = subst (λ paths. IsPrefix paths (paths_come_to main (found_read (opened_in files left) site place (e ∷ before) before (Some text)))) named (statements-come main files left site (parsed text).items (parsed text).fault (e ∷ before))
 
     by_answer : (r : Option table.Reading) → Front (answer_read (opened_in files left) site place (e ∷ before) before r)
     by_answer None = prefix-self front

@@ -19,14 +19,14 @@ use Rattle.nj_faults.specs.declared.fault.Cause.TheVariants.{Syntax, Missing, Pa
 use Rattle.nj_faults.specs.Faults.{fault_at}
 use Rattle.nj_build.specs.EdgeList.{edges_read, paths_of_edges, pending_read}
 use Rattle.nj_build.specs.Joining.{discover}
-use Rattle.nj_graph.specs.Statements.{parsed_in}
+use Rattle.nj_graph.specs.Parsed.{parsed_in}
 use Rattle.nj_graph.specs.Reading.{Whole, Refused, Lacking, statements_read, opened_in, main_read}
-use Rattle.nj_graph.specs.Joining.{JoinedText, entries_in, entries_of, entries_joined, file_joined, files_joined, all_joined}
+use Rattle.nj_graph.specs.Joining.{JoinedText, entries_of, entries_joined, file_joined, files_joined, all_joined}
 use Rattle.nj_graph.proofs.ReadingRows.{main_file, file, missing, read_of}
 
 -- what a row unfolds to compute on its files
 unfoldable pub on_dyndeps : ⊤
-unfolding on_texts value_of_digits is_utf8 chars encode_utf8 bounds clean_path_of without_leftmost_pair edges_read pending_read discover variable_cycle_of parsed_in statements_read opened_in main_read cut opening next_entry entry_at restat_block line_too_many restat_line entry_line added_inputs output_next no_section no_path word_of_form version_next version_line equals_value name_next expect_sign words_next words_within section_next entries_in entries_of entries_joined file_joined files_joined all_joined
+unfolding on_texts value_of_digits is_utf8 chars encode_utf8 bounds clean_path_of without_leftmost_pair edges_read pending_read discover variable_cycle_of parsed_in statements_read opened_in main_read cut opening next_entry entry_at restat_block line_too_many restat_line entry_line added_inputs output_next no_section no_path word_of_form version_next version_line equals_value name_next expect_sign words_next words_within section_next entries_of entries_joined file_joined files_joined all_joined
 on_dyndeps = tt
 
 -- ---- what a row shows

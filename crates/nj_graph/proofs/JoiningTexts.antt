@@ -1,5 +1,5 @@
 -- The entries of a dyndep file's text, joined one after the other.
-use Rattle.std.proofs.Common.{◌≡◌, ◌⊎◌, ℕ, zero, suc, ◌<◌, inl, inr, Bool, true, false, Option, Some, None, Result, Ok, Err, List, [], length, refl, sym, ap, subst, ◌∙◌, arith}
+use Rattle.std.proofs.Common.{◌≡◌, ◌⊎◌, ℕ, suc, ◌<◌, inl, inr, Bool, true, false, Option, Some, None, Result, Ok, Err, List, length, refl, sym, ap, subst, ◌∙◌, arith}
 use Rattle.nj_text.specs.Lines.{Line, text_lines}
 use Rattle.nj_manifest.specs.declared.entries.Entry as text
 use Rattle.nj_manifest.specs.Faults.{Fault}
@@ -15,8 +15,10 @@ use Rattle.nj_faults.specs.Faults.{fault_in, no_memory}
 use Rattle.nj_build.specs.Answers.{IsFault}
 use Rattle.nj_build.specs.Joining.{entry_fault, with_entry}
 use Rattle.nj_build.specs.JoiningHeld.{JoiningText, HoldsJoined}
+use Rattle.nj_graph.specs.Parsed.{Parsed, none_parsed, and_parsed, parsed_in}
 use Rattle.nj_graph.specs.Reading.{Refused}
-use Rattle.nj_graph.specs.Joining.{Entries, and_entry, entries_by, entries_in, after_version, entries_of, unless_fault, entries_joined, text_joined}
+use Rattle.nj_graph.specs.Joining.{after_version, entries_of, unless_fault, entries_joined, text_joined}
+use Rattle.nj_graph.proofs.ParsedLemmas.{parsed-step, parsed-end, parsed-fault}
 use Rattle.nj_graph.specs.JoiningContracts.{TextJoined, TextRefused, NextEntryOf, NextEntryIs}
 
 bind-ok : {A B : Type 0} (r : Result A Fault) (k : A → Result B Fault) (y : B) → (r >>= k) ≡ Ok y → (x : A) × (r ≡ Ok x) × (k x ≡ Ok y)
@@ -30,52 +32,35 @@ bind-err (Err e) k f h = inl cc
 -- ---- the entries to come
 
 -- the entries of the lines that a parser has before it, the version first if it was not read
-abbrev pub entries_left : (most : ℕ) → (version_read : Bool) → List Line → Entries
-entries_left most true lines = entries_in most lines
+abbrev pub entries_left : (most : ℕ) → (version_read : Bool) → List Line → Parsed EntryText
+entries_left most true lines = parsed_in next_entry most lines
 entries_left most false lines = after_version most (version_next lines)
-
-in-step : (most : ℕ) (ls rest : List Line) (entry : EntryText) → next_entry ls ≡ Ok (Some entry, rest) → ahead ls < most → (fewer : ℕ) × (entries_in most ls ≡ and_entry entry (entries_in fewer rest)) × (ahead rest < fewer)
-unfolding entries_in
-in-step zero ls rest entry h less = absurd (omega (arith, less))
-in-step (suc fewer) ls rest entry h less =
-    let takes = entry-takes ls entry rest h in
-    (fewer, ap (λ r. entries_by r (entries_in fewer)) h, omega (arith, less, takes))
-
-in-end : (most : ℕ) (ls rest : List Line) → next_entry ls ≡ Ok (None, rest) → entries_in most ls ≡ record { entries = []; fault = None }
-unfolding entries_in
-in-end zero ls rest h = refl
-in-end (suc most) ls rest h = ap (λ r. entries_by r (entries_in most)) h
-
-in-fault : (most : ℕ) (ls : List Line) (f : Fault) → next_entry ls ≡ Err f → ahead ls < most → entries_in most ls ≡ record { entries = []; fault = Some f }
-unfolding entries_in
-in-fault zero ls f h less = absurd (omega (arith, less))
-in-fault (suc most) ls f h less = ap (λ r. entries_by r (entries_in most)) h
 
 -- An entry is the first of those to come; after it there are fewer lines.
 pub entries-step : (most : ℕ) (b : Bool) (ls rest : List Line) (entry : EntryText) → left_entry b ls ≡ Ok (Some entry, rest) → ahead ls < most
-    → (fewer : ℕ) × (entries_left most b ls ≡ and_entry entry (entries_left fewer true rest)) × (ahead rest < fewer)
-entries-step most true ls rest entry h less = in-step most ls rest entry h less
+    → (fewer : ℕ) × (entries_left most b ls ≡ and_parsed entry (entries_left fewer true rest)) × (ahead rest < fewer)
+entries-step most true ls rest entry h less = parsed-step next_entry most ls rest entry h (entry-takes ls entry rest h) less
 entries-step most false ls rest entry h less =
     let version = bind-ok (version_next ls) next_entry (Some entry, rest) h in
     let first = version-takes ls version.0 version.1 in
-    let step = in-step most version.0 rest entry version.2 (omega (arith, first, less)) in
+    let step = parsed-step next_entry most version.0 rest entry version.2 (entry-takes version.0 entry rest version.2) (omega (arith, first, less)) in
     (step.0, ap (after_version most) version.1 ∙ step.1, step.2)
 
-pub entries-end : (most : ℕ) (b : Bool) (ls rest : List Line) → left_entry b ls ≡ Ok (None, rest) → entries_left most b ls ≡ record { entries = []; fault = None }
-entries-end most true ls rest h = in-end most ls rest h
+pub entries-end : (most : ℕ) (b : Bool) (ls rest : List Line) → left_entry b ls ≡ Ok (None, rest) → entries_left most b ls ≡ none_parsed None
+entries-end most true ls rest h = parsed-end next_entry most ls rest h
 entries-end most false ls rest h =
     let version = bind-ok (version_next ls) next_entry (None, rest) h in
-    ap (after_version most) version.1 ∙ in-end most version.0 rest version.2
+    ap (after_version most) version.1 ∙ parsed-end next_entry most version.0 rest version.2
 
-pub entries-fault : (most : ℕ) (b : Bool) (ls : List Line) (f : Fault) → left_entry b ls ≡ Err f → ahead ls < most → entries_left most b ls ≡ record { entries = []; fault = Some f }
-entries-fault most true ls f h less = in-fault most ls f h less
+pub entries-fault : (most : ℕ) (b : Bool) (ls : List Line) (f : Fault) → left_entry b ls ≡ Err f → ahead ls < most → entries_left most b ls ≡ none_parsed (Some f)
+entries-fault most true ls f h less = parsed-fault next_entry most ls f h less
 entries-fault most false ls f h less = by (bind-err (version_next ls) next_entry f h)
   where
-    by : (version_next ls ≡ Err f) ⊎ ((rest : List Line) × (version_next ls ≡ Ok rest) × (next_entry rest ≡ Err f)) → entries_left most false ls ≡ record { entries = []; fault = Some f }
+    by : (version_next ls ≡ Err f) ⊎ ((rest : List Line) × (version_next ls ≡ Ok rest) × (next_entry rest ≡ Err f)) → entries_left most false ls ≡ none_parsed (Some f)
     by (inl version) = ap (after_version most) version
     by (inr (rest, version, next)) =
         let first = version-takes ls rest version in
-        ap (after_version most) version ∙ in-fault most rest f next (omega (arith, first, less))
+        ap (after_version most) version ∙ parsed-fault next_entry most rest f next (omega (arith, first, less))
 
 -- ---- the entries so far
 
@@ -85,7 +70,7 @@ pub record TextUnderway (file : List ℕ) (stated : List Entry) (text : List ℕ
   pub holds : HoldsJoined held stated now
   pub most : ℕ
   pub room : ahead lines < most
-  pub goes_on : text_joined file stated text joined ≡ entries_joined file stated (entries_left most version_read lines).entries (entries_left most version_read lines).fault now
+  pub goes_on : text_joined file stated text joined ≡ entries_joined file stated (entries_left most version_read lines).items (entries_left most version_read lines).fault now
 
 module _ (file : List ℕ) (stated : List Entry) (text : List ℕ) (joined : List Entry) (held : JoiningText) where
   pub text-at-first : HoldsJoined held stated joined → TextUnderway file stated text joined held false (text_lines text)
@@ -98,24 +83,24 @@ module _ (file : List ℕ) (stated : List Entry) (text : List ℕ) (joined : Lis
     text-ends rest h = record {
       now = u.now;
       holds = u.holds;
-      joins = u.goes_on ∙ ap (λ (es : Entries). entries_joined file stated es.entries es.fault u.now) (entries-end u.most b lines rest h);
+      joins = u.goes_on ∙ ap (λ (es : Parsed EntryText). entries_joined file stated es.items es.fault u.now) (entries-end u.most b lines rest h);
     }
 
     pub text-fault : (fault : GraphFault) (found : Fault) → left_entry b lines ≡ Err found → fault ≡ fault_in file found → TextRefused file stated text joined fault
     unfolding entries_joined
     text-fault fault found h is = record {
       now = u.now;
-      joins = u.goes_on ∙ ap (λ (es : Entries). entries_joined file stated es.entries es.fault u.now) (entries-fault u.most b lines found h u.room) ∙ ap (λ f. record { entries = u.now; end = Refused f }) (sym is);
+      joins = u.goes_on ∙ ap (λ (es : Parsed EntryText). entries_joined file stated es.items es.fault u.now) (entries-fault u.most b lines found h u.room) ∙ ap (λ f. record { entries = u.now; end = Refused f }) (sym is);
     }
 
     module _ (entry : EntryText) (rest : List Line) (next : left_entry b lines ≡ Ok (Some entry, rest)) where
-      step : (fewer : ℕ) × (entries_left u.most b lines ≡ and_entry entry (entries_left fewer true rest)) × (ahead rest < fewer)
+      step : (fewer : ℕ) × (entries_left u.most b lines ≡ and_parsed entry (entries_left fewer true rest)) × (ahead rest < fewer)
       step = entries-step u.most b lines rest entry next u.room
 
       joins-next : text_joined file stated text joined ≡ unless_fault (entry_fault file stated u.now entry) u.now
-          (entries_joined file stated (entries_left step.0 true rest).entries (entries_left step.0 true rest).fault (with_entry stated u.now entry))
+          (entries_joined file stated (entries_left step.0 true rest).items (entries_left step.0 true rest).fault (with_entry stated u.now entry))
       unfolding entries_joined
-      joins-next = u.goes_on ∙ ap (λ (es : Entries). entries_joined file stated es.entries es.fault u.now) step.1
+      joins-next = u.goes_on ∙ ap (λ (es : Parsed EntryText). entries_joined file stated es.items es.fault u.now) step.1
 
       pub text-turn : (later : JoiningText) → entry_fault file stated u.now entry ≡ None → HoldsJoined later stated (with_entry stated u.now entry) → TextUnderway file stated text joined later true rest
       text-turn later none holds = record {
@@ -123,14 +108,14 @@ module _ (file : List ℕ) (stated : List Entry) (text : List ℕ) (joined : Lis
         holds = holds;
         most = step.0;
         room = step.2;
-        goes_on = joins-next ∙ ap (λ f. unless_fault f u.now (entries_joined file stated (entries_left step.0 true rest).entries (entries_left step.0 true rest).fault (with_entry stated u.now entry))) none;
+        goes_on = joins-next ∙ ap (λ f. unless_fault f u.now (entries_joined file stated (entries_left step.0 true rest).items (entries_left step.0 true rest).fault (with_entry stated u.now entry))) none;
       }
 
       pub text-refused : (fault : GraphFault) → IsFault (entry_fault file stated u.now entry) fault → (fault ≡ no_memory) ⊎ TextRefused file stated text joined fault
       text-refused fault (inl none) = inl none
       text-refused fault (inr is) = inr (record {
         now = u.now;
-        joins = joins-next ∙ ap (λ f. unless_fault f u.now (entries_joined file stated (entries_left step.0 true rest).entries (entries_left step.0 true rest).fault (with_entry stated u.now entry))) is;
+        joins = joins-next ∙ ap (λ f. unless_fault f u.now (entries_joined file stated (entries_left step.0 true rest).items (entries_left step.0 true rest).fault (with_entry stated u.now entry))) is;
       })
 
 -- ---- what a parser answers

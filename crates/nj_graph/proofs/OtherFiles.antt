@@ -7,7 +7,7 @@ use Rattle.nj_scope.specs.Readings.{reading_of, is_read, IsPrefix}
 use Rattle.nj_scope.specs.ReadingList.{Entry, files_opened}
 use Rattle.nj_faults.specs.declared.fault.Place.{Place}
 use Rattle.nj_faults.specs.declared.fault.GraphFault.{GraphFault}
-use Rattle.nj_graph.specs.Statements.{parsed}
+use Rattle.nj_graph.specs.Parsed.{parsed}
 use Rattle.nj_graph.specs.Reading.{Site, entry_at, own_fault, End, Whole, Refused, Lacking, ReadingText, and_then, Opens, item_read, unless_fault, statement_read, statements_read, found_read, answer_read, if_room, most_opened, most_within, opened_in, main_site, main_read}
 use Rattle.nj_graph.specs.Runs.{IsLacking}
 use Rattle.nj_graph.specs.Laws.{OthersAreNotRead}
@@ -68,7 +68,7 @@ answer-same files all few more extends same site place entries before = by (read
 
     found : (text : Option (List ℕ)) → SameReading all (found_read few site place entries before text) (found_read more site place entries before text)
     found None = λ lacks. refl
-    found (Some text) = statements-same all few more same site (parsed text).statements (parsed text).fault entries
+    found (Some text) = statements-same all few more same site (parsed text).items (parsed text).fault entries
 
     by : (r : Option table.Reading) → reading_of files site.file ≡ r → SameReading all (answer_read few site place entries before r) (answer_read more site place entries before (reading_of all site.file))
     by None is = λ lacks. ap (λ r. answer_read more site place entries before r) (none (reading_of all site.file) lacks)

@@ -11,7 +11,7 @@ use Rattle.nj_faults.specs.declared.fault.Place.{Place}
 use Rattle.nj_faults.specs.declared.fault.GraphFault.{GraphFault}
 use Rattle.nj_faults.specs.declared.fault.Cause.TheVariants.{DuplicateRule}
 use Rattle.nj_faults.specs.Faults.{fault_at}
-use Rattle.nj_graph.specs.Statements.{parsed}
+use Rattle.nj_graph.specs.Parsed.{parsed}
 use Rattle.nj_graph.specs.Reading.{Site, entry_at, fault_if, item_fault, own_fault, End, Whole, Refused, Lacking, ReadingText, go_on, and_then, Opens, item_read, unless_fault, statement_read, statements_read, found_read, answer_read, if_room, most_opened, most_within, opened_in, main_site, main_read}
 use Rattle.nj_graph.specs.Laws.{Faultless, ReadIsFaultless, OpenFilesAreBounded, OpeningsAreBounded, MainRulesRise}
 use Rattle.nj_graph.proofs.NameLemmas.{names_rise-read}
@@ -72,7 +72,7 @@ module _ (P : List Entry → Type 0) (next : (e : Entry) (before : List Entry) �
       where
         by : (text : Option (List ℕ)) → P (found_read opens site place entries before text).entries
         by None = q
-        by (Some text) = statements-keep site (parsed text).statements (parsed text).fault entries depth p
+        by (Some text) = statements-keep site (parsed text).items (parsed text).fault entries depth p
 
   opened-keeps : (files : List table.Reading) (left : ℕ) → OpensKeep left (opened_in files left)
   unfolding opened_in

@@ -11,7 +11,7 @@ use Rattle.nj_scope.specs.ReadingList.{bounds}
 use Rattle.nj_text.specs.Paths.{clean_path_of, without_leftmost_pair}
 use Rattle.nj_late.specs.VariableCycles.{variable_cycle_of}
 use Rattle.nj_build.specs.EdgeList.{edges_read}
-use Rattle.nj_graph.specs.Statements.{parsed_in}
+use Rattle.nj_graph.specs.Parsed.{parsed_in}
 use Rattle.nj_faults.specs.declared.fault.Cause.{Cause}
 use Rattle.nj_faults.specs.declared.fault.Cause.TheVariants.{Syntax, EmptyPath, BadDepth, DuplicateRule, DuplicatePool, VersionTooNew, Missing, PathNotText, TooDeep, UnknownRule, TwoMakers, UnknownTarget}
 use Rattle.nj_faults.specs.Faults.{fault_at}

@@ -15,7 +15,7 @@ use Rattle.nj_scope.specs.Sources.{SourceState, Rises}
 use Rattle.nj_faults.specs.declared.fault.GraphFault.{GraphFault}
 use Rattle.nj_graph.specs.declared.reader.Reader.{Reader}
 use Rattle.nj_faults.specs.Faults.{fault_in, no_memory}
-use Rattle.nj_graph.specs.Statements.{Parsed, parsed_in, and_parsed}
+use Rattle.nj_graph.specs.Parsed.{Parsed, parsed_in, and_parsed}
 use Rattle.nj_graph.specs.Reading as reading
 use Rattle.nj_graph.specs.Reading.{Site, entry_at, End, Whole, Lacking, ReadingText, Opens, go_on, and_then, opened_in, statement_read, statements_read, text_read, end_by, with_named, paths_read, path_at_fault, paths_come_to}
 use Rattle.nj_graph.specs.Runs.{IsRead, IsEnd, Stops}
@@ -126,7 +126,7 @@ pub record Underway (main : List ℕ) (before after : SourceState) (old held : R
   pub holds : Holds main held now
   pub most : ℕ
   pub room : ahead lines < most
-  pub goes_on : (all : List Reading) → IsPrefix files all → text_read (opened_in all left) site text entries ≡ statements_read (opened_in all left) site (parsed_in most lines).statements (parsed_in most lines).fault now
+  pub goes_on : (all : List Reading) → IsPrefix files all → text_read (opened_in all left) site text entries ≡ statements_read (opened_in all left) site (parsed_in next_statement most lines).items (parsed_in next_statement most lines).fault now
 
 module _ (main : List ℕ) (before after : SourceState) (old held : Reader) (left : ℕ) (site : Site) (text : List ℕ) (entries : List Entry) (lines : List Line) where
   abbrev reading_of_text : List Reading → ReadingText
@@ -140,7 +140,7 @@ module _ (main : List ℕ) (before after : SourceState) (old held : Reader) (lef
     reads = u.reads;
     entries = u.now;
     holds = u.holds;
-    read = λ all ext. u.goes_on all ext ∙ ap (λ (s : Parsed). statements_read (opened_in all left) site s.statements s.fault u.now) (parsed-end u.most lines rest h);
+    read = λ all ext. u.goes_on all ext ∙ ap (λ (s : Parsed PlacedText). statements_read (opened_in all left) site s.items s.fault u.now) (parsed-end next_statement u.most lines rest h);
   }
 
   -- there was no memory for the next statement
@@ -148,7 +148,7 @@ module _ (main : List ℕ) (before after : SourceState) (old held : Reader) (lef
   ends-memory fault u none = record {
     files = u.files;
     reads = u.reads.reads;
-    stops = inl (record { answered = none; failures = u.reads.failures; came_to = λ all ext. subst (λ r. IsPrefix (paths_of u.files) (paths_come_to main r)) (sym (u.goes_on all ext)) (subst (λ ps. IsPrefix ps (paths_come_to main (statements_read (opened_in all left) site (parsed_in u.most lines).statements (parsed_in u.most lines).fault u.now))) listed (statements-come main all left site (parsed_in u.most lines).statements (parsed_in u.most lines).fault u.now)) });
+    stops = inl (record { answered = none; failures = u.reads.failures; came_to = λ all ext. subst (λ r. IsPrefix (paths_of u.files) (paths_come_to main r)) (sym (u.goes_on all ext)) (subst (λ ps. IsPrefix ps (paths_come_to main (statements_read (opened_in all left) site (parsed_in next_statement u.most lines).items (parsed_in next_statement u.most lines).fault u.now))) listed (statements-come main all left site (parsed_in next_statement u.most lines).items (parsed_in next_statement u.most lines).fault u.now)) });
   }
     where
       listed : paths_read main u.now ≡ paths_of u.files
@@ -165,7 +165,7 @@ module _ (main : List ℕ) (before after : SourceState) (old held : Reader) (lef
       entries = u.now;
       end = reading.Refused (fault_in site.file found);
       answered = (told, u.reads.failures);
-      read = λ all ext lacks. u.goes_on all ext ∙ ap (λ (s : Parsed). statements_read (opened_in all left) site s.statements s.fault u.now) (parsed-fault u.most lines found h u.room);
+      read = λ all ext lacks. u.goes_on all ext ∙ ap (λ (s : Parsed PlacedText). statements_read (opened_in all left) site s.items s.fault u.now) (parsed-fault next_statement u.most lines found h u.room);
       came_to = ap (with_named (paths_read main u.now)) (syntax-names site.file found) ∙ sym u.holds.paths_are ∙ ap paths_of u.reads.held_is;
     });
   }
@@ -174,17 +174,17 @@ module _ (main : List ℕ) (before after : SourceState) (old held : Reader) (lef
 
   module _ (last : SourceState) (later : Reader) (s : PlacedText) (rest : List Line) (next : next_statement lines ≡ Ok (Some s, rest)) where
     abbrev behind : (fewer : ℕ) → List Reading → List Entry → ReadingText
-    behind fewer all es = statements_read (opened_in all left) site (parsed_in fewer rest).statements (parsed_in fewer rest).fault es
+    behind fewer all es = statements_read (opened_in all left) site (parsed_in next_statement fewer rest).items (parsed_in next_statement fewer rest).fault es
 
-    first : (u : Underway main before after old held left site text entries lines) (fewer : ℕ) → parsed_in u.most lines ≡ and_parsed s (parsed_in fewer rest)
+    first : (u : Underway main before after old held left site text entries lines) (fewer : ℕ) → parsed_in next_statement u.most lines ≡ and_parsed s (parsed_in next_statement fewer rest)
         → (all : List Reading) → IsPrefix u.files all → reading_of_text all ≡ and_then (statement_read (opened_in all left) (entry_at site s) u.now) (behind fewer all)
     unfolding statements_read
-    first u fewer is all ext = u.goes_on all ext ∙ ap (λ (x : Parsed). statements_read (opened_in all left) site x.statements x.fault u.now) is
+    first u fewer is all ext = u.goes_on all ext ∙ ap (λ (x : Parsed PlacedText). statements_read (opened_in all left) site x.items x.fault u.now) is
 
     pub turn : (u : Underway main before after old held left site text entries lines) → ReadsText main after last held later (λ all. statement_read (opened_in all left) (entry_at site s) u.now)
         → Underway main before last old later left site text entries rest
     turn u r =
-        let step = parsed-step u.most lines rest s next u.room in
+        let step = parsed-step next_statement u.most lines rest s next (statement_takes lines s rest next) u.room in
         let there = subst (λ fs. ReadsAll after last fs r.files later.files) u.reads.held_is r.reads in
         record {
           files = r.files;
@@ -199,10 +199,10 @@ module _ (main : List ℕ) (before after : SourceState) (old held : Reader) (lef
     pub turn-stops : (fault : GraphFault) (u : Underway main before after old held left site text entries lines) → StopsAt main after last held.files (λ all. statement_read (opened_in all left) (entry_at site s) u.now) fault
         → StopsAt main before last old.files reading_of_text fault
     turn-stops fault u stops =
-        let step = parsed-step u.most lines rest s next u.room in
+        let step = parsed-step next_statement u.most lines rest s next (statement_takes lines s rest next) u.room in
         stops-then main before after last old.files u.files held.files (λ all. statement_read (opened_in all left) (entry_at site s) u.now) reading_of_text u.reads (record {
           comes = λ all ext front h. subst (λ r. IsPrefix front (paths_come_to main r)) (sym (first u step.0 step.1 all ext))
-              (and_then-comes main front (statement_read (opened_in all left) (entry_at site s) u.now) (behind step.0 all) h (λ es. statements-come main all left site (parsed_in step.0 rest).statements (parsed_in step.0 rest).fault es));
+              (and_then-comes main front (statement_read (opened_in all left) (entry_at site s) u.now) (behind step.0 all) h (λ es. statements-come main all left site (parsed_in next_statement step.0 rest).items (parsed_in next_statement step.0 rest).fault es));
           ends = λ all ext es end stopped h. first u step.0 step.1 all ext ∙ ap (λ x. and_then x (behind step.0 all)) h ∙ stays es end (behind step.0 all) stopped;
         }) fault stops
       where

@@ -1,9 +1,8 @@
 -- The joining of dyndep files to the statements of a run ("Dynamic Dependencies" in the manual), up to the first fault.
-use Rattle.std.specs.Prelude.{◌≡◌, ◌⊎◌, ℕ, zero, suc, if◌then◌else◌, Option, Some, None, Result, Ok, Err, List, [], ◌∷◌, ◌++◌, map, length}
+use Rattle.std.specs.Prelude.{◌≡◌, ◌⊎◌, ℕ, suc, if◌then◌else◌, Option, Some, None, Result, Ok, Err, List, [], ◌∷◌, ◌++◌, map, length}
 use Rattle.std.specs.Str.{is_utf8}
 use Rattle.nj_text.specs.Lines.{Line, text_lines}
 use Rattle.nj_manifest.specs.Faults.{Fault}
-use Rattle.nj_manifest.specs.Statements.{Parse}
 use Rattle.nj_manifest.specs.Dyndeps.{EntryText, version_next, next_entry}
 use Rattle.nj_scope.specs.Readings.{Reading, reading_of, paths_of, IsPrefix}
 use Rattle.nj_scope.specs.Sources.{SourceState}
@@ -16,36 +15,19 @@ use Rattle.nj_build.specs.EdgeList.{Pending, edges_read, pending_read}
 use Rattle.nj_build.specs.Built.{detail_at, detail_of, IsCycleFault}
 use Rattle.nj_build.specs.Joining.{entry_fault, with_entry, lacking_fault, dyndep_files}
 use Rattle.nj_graph.specs.Graph.{IsGraphOf}
+use Rattle.nj_graph.specs.Parsed.{Parsed, none_parsed, parsed_in}
 use Rattle.nj_graph.specs.Reading.{End, Whole, Refused, Lacking, ReadingText, stopped, with_new}
 use Rattle.nj_graph.specs.Runs.{IsRead, IsEnd, IsLacking, paths_with}
 use Rattle.nj_graph.specs.Loads.{LoadedText}
 
 -- ---- the entries of a text
 
--- the entries up to the end, or up to the first fault of syntax
-pub record Entries : Type 0 where
-  pub entries : List EntryText
-  pub fault : Option Fault
-
-abbrev pub and_entry : EntryText → Entries → Entries
-and_entry entry others = record { entries = entry ∷ others.entries; fault = others.fault }
-
-abbrev pub entries_by : Parse (Option EntryText) → (List Line → Entries) → Entries
-entries_by (Ok (Some entry, rest)) others = and_entry entry (others rest)
-entries_by (Ok (None, rest)) others = record { entries = []; fault = None }
-entries_by (Err fault) others = record { entries = []; fault = Some fault }
-
--- the entries of the lines, where there are fewer of them than this number
-unfoldable pub entries_in : (most : ℕ) → List Line → Entries
-entries_in zero lines = record { entries = []; fault = None }
-entries_in (suc most) lines = entries_by (next_entry lines) (entries_in most)
-
-abbrev pub after_version : (most : ℕ) → Result (List Line) Fault → Entries
-after_version most (Ok lines) = entries_in most lines
-after_version most (Err fault) = record { entries = []; fault = Some fault }
+abbrev pub after_version : (most : ℕ) → Result (List Line) Fault → Parsed EntryText
+after_version most (Ok lines) = parsed_in next_entry most lines
+after_version most (Err fault) = none_parsed (Some fault)
 
 -- First the version. An entry has a byte at least.
-unfoldable pub entries_of : (text : List ℕ) → Entries
+unfoldable pub entries_of : (text : List ℕ) → Parsed EntryText
 entries_of text = after_version (suc (length text)) (version_next (text_lines text))
 
 -- ---- one file
@@ -72,7 +54,7 @@ entries_joined file stated (entry ∷ others) fault joined =
     (entries_joined file stated others fault (with_entry stated joined entry))
 
 abbrev pub text_joined : (file : List ℕ) → (stated : List Entry) → (text : List ℕ) → (joined : List Entry) → ReadingText
-text_joined file stated text joined = entries_joined file stated (entries_of text).entries (entries_of text).fault joined
+text_joined file stated text joined = entries_joined file stated (entries_of text).items (entries_of text).fault joined
 
 -- the build statement of an edge
 abbrev pub statement_place : (stated : List Entry) → (edge : ℕ) → Place

@@ -3,10 +3,10 @@ pub mod Graph
 pub mod Joining
 pub mod Laws
 pub mod Loads
+pub mod Parsed
 pub mod Reading
 pub mod ResponseFiles
 pub mod Runs
-pub mod Statements
 pub mod Targets
 -- how what the code holds is that
 pub mod GraphHeld

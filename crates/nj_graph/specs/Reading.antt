@@ -24,7 +24,7 @@ use Rattle.nj_faults.specs.declared.fault.Cause.TheVariants.{PathNotText, TooDee
 use Rattle.nj_faults.specs.Faults.{fault_at, fault_in}
 use Rattle.nj_build.specs.BuildFaults.{build_fault, default_fault}
 pub use Rattle.nj_build.specs.BuildFaults.{fault_if, or_then}
-use Rattle.nj_graph.specs.Statements.{parsed}
+use Rattle.nj_graph.specs.Parsed.{parsed}
 
 -- ---- where a statement stands
 
@@ -165,7 +165,7 @@ statements_read opens site (s ∷ others) fault before =
     and_then (statement_read opens (entry_at site s) before) (λ entries. statements_read opens site others fault entries)
 
 abbrev pub text_read : Opens → Site → (text : List ℕ) → (before : List Entry) → ReadingText
-text_read opens site text before = statements_read opens site (parsed text).statements (parsed text).fault before
+text_read opens site text before = statements_read opens site (parsed text).items (parsed text).fault before
 
 -- how many files may be opened in a run, the main file and repeated ones among them
 abbrev pub most_opened : ℕ
