@@ -2,8 +2,7 @@
 use Rattle.std.specs.Prelude.{◌≡◌, ◌⊎◌, ℕ, Bool, true, false, if◌then◌else◌, Option, Some, None, option_map, Result, Ok, Err}
 use Rattle.std.specs.Prelude.{List, [], ◌∷◌, ◌++◌, ◌+◌, ◌≤◌, map, length, slice_get, slice_index_or, bytes_eq}
 use Rattle.nj_text.specs.declared.spot.Spot.{Spot}
-use Rattle.nj_manifest.specs.Contents.{words_text, lines_text}
-use Rattle.nj_manifest.specs.Statements.{OutputsText, InputsText, StatementText, BuildText}
+use Rattle.nj_manifest.specs.Statements.{InputsText, StatementText}
 use Rattle.nj_scope.specs.Rules.{RuleText, phony}
 use Rattle.nj_scope.specs.Readings.{IsPrefix}
 use Rattle.nj_scope.specs.Scopes.{IsScope}
@@ -22,7 +21,6 @@ use Rattle.nj_late.specs.declared.edge.LateEdge.{LateEdge}
 use Rattle.nj_late.specs.LateTexts.{LateNames}
 use Rattle.nj_late.specs.LateEdges.{late_names}
 use Rattle.nj_late.specs.ReferencesHeld.{ReferringKeyText, TellsCycles}
-use Rattle.nj_build.specs.declared.edge.Build.{Build}
 use Rattle.nj_build.specs.declared.names.Names.{Names}
 use Rattle.nj_build.specs.declared.names.EdgeBlock.{EdgeBlock}
 use Rattle.nj_build.specs.declared.building.Detail.{Detail}
@@ -63,23 +61,6 @@ block_seen (Some b) = bound_by b
 
 abbrev pub SeesNames : Names → Values → Type 0
 SeesNames names values = Sees names.declarations.now names.scope (block_seen names.block) values
-
--- ---- the words of a statement
-
-abbrev pub outputs_of_build : Build → OutputsText
-outputs_of_build b = record { explicit = words_text b.explicit_outputs.now; implicit = words_text b.implicit_outputs.now }
-
-abbrev pub inputs_of_build : Build → InputsText
-inputs_of_build b = record {
-  explicit = words_text b.explicit_inputs.now;
-  implicit = words_text b.implicit_inputs.now;
-  order_only = words_text b.order_only_inputs.now;
-  validations = words_text b.validations.now;
-}
-
-abbrev pub build_text : Build → StatementText
-build_text b =
-    BuildText (outputs_of_build b) (record { spot = b.rule_spot; name = b.rule.now }) (inputs_of_build b) (lines_text b.lines.now)
 
 -- ---- the files of an edge
 

@@ -1,7 +1,7 @@
 //! The edges that were read so far, and the defaults.
 
 ghost use Rattle.std.specs.Prelude.{◌≡◌, ℕ, ◌<◌, List, [], ◌∷◌, Some, option_map, length, slice_get, OnOk, IfSome};
-ghost use Rattle.nj_manifest.specs.Contents.{words_text, lines_text};
+ghost use Rattle.nj_manifest.specs.Contents.{name_text, words_text, outputs_text, inputs_text, lines_text, build_text};
 ghost use Rattle.nj_manifest.specs.Statements.{DefaultText};
 ghost use Rattle.nj_scope.specs.Scopes.{IsScope};
 ghost use Rattle.nj_scope.specs.ScopesHeld.{parent_at};
@@ -10,10 +10,10 @@ ghost use Rattle.nj_scope.specs.ReadingList.{Entry, rule_in_force, rule_texts};
 ghost use Rattle.nj_edges.specs.EdgesHeld.{no_files};
 ghost use Rattle.nj_build.specs.EdgeList.{Values, paths_said, line_values, edge_of_build, edges_read, paths_of_edges};
 ghost use Rattle.nj_build.specs.BuildFaults.{or_then, first_fault, paths_fault, late_fault, target_fault, build_fault, default_fault};
-ghost use Rattle.nj_build.specs.Answers.{Checks, SeesNames, HoldsEdges, AddsTargets, ReadsStatement, with_dyndep, build_text, entry_at_place, outputs_of_build, inputs_of_build};
+ghost use Rattle.nj_build.specs.Answers.{Checks, SeesNames, HoldsEdges, AddsTargets, ReadsStatement, with_dyndep, entry_at_place};
 
 use crate::block::bind_block;
-use crate::edge::{Build, EdgeRule, NamedLine, add_edge};
+use crate::edge::{EdgeRule, NamedLine, add_edge};
 use crate::names::{EdgeBlock, Names, Room};
 use crate::place::StatementPlace;
 use crate::references::{NumberedRule, keep_references, rule_references};
@@ -21,6 +21,7 @@ use nj_blocks::Blocks;
 use nj_edges::{Edges, FileNo, Files};
 use nj_faults::{Cause, GraphFault, Name};
 use nj_late::KeyReferences;
+use nj_manifest::Build;
 use nj_scope::{Declarations, HashKeys};
 use nj_text::{Spot, Word};
 use std::alloc::{AllocError, Global};
@@ -111,7 +112,7 @@ impl Building {
         alloc: Global,
         declarations: &Declarations,
         place: StatementPlace<'_>,
-        build: Build<'_>,
+        build: &Build<'_>,
     ) -> Result<(), GraphFault>
         requires { place.scope < length declarations.now.scopes }
         ensures { (entries : List Entry) (around : List ℕ) (depth : ℕ)
@@ -119,16 +120,16 @@ impl Building {
             → IsScope (parent_at declarations.now.scopes) place.entry.scope
             (place.entry.scope ∷ around)
             → HoldsEdges self.old entries
-            → let e = entry_at_place place.entry around depth (build_text build.entry) in
-            ReadsStatement self.new (build_fault e entries (outputs_of_build build.entry)
-            (record { spot = build.entry.rule_spot; name = build.entry.rule.now })
-            (inputs_of_build build.entry) (lines_text build.entry.lines.now)) e entries result }
+            → let e = entry_at_place place.entry around depth (build_text build.now) in
+            ReadsStatement self.new (build_fault e entries (outputs_text build.now.outputs)
+            (name_text build.now.rule) (inputs_text build.now.inputs)
+            (lines_text build.now.lines.items)) e entries result }
     {
-        let rule = match rule_named(declarations, place.scope, build.rule) {
+        let rule = match rule_named(declarations, place.scope, build.rule.name) {
             Some(rule) => rule,
             None => {
-                let cause = Cause::UnknownRule(Name::new(alloc, build.rule)?);
-                return Err(place.fault(alloc, build.rule_spot, cause));
+                let cause = Cause::UnknownRule(Name::new(alloc, build.rule.name)?);
+                return Err(place.fault(alloc, build.rule.spot, cause));
             }
         };
         self.read_edge(alloc, declarations, place, build, rule)
@@ -140,7 +141,7 @@ impl Building {
         alloc: Global,
         declarations: &Declarations,
         place: StatementPlace<'_>,
-        build: Build<'_>,
+        build: &Build<'_>,
         rule: NumberedRule<'_>,
     ) -> Result<(), GraphFault>
         requires { place.scope < length declarations.now.scopes }
@@ -148,18 +149,18 @@ impl Building {
             → DeclaredBy declarations.now entries
             → IsScope (parent_at declarations.now.scopes) place.entry.scope
             (place.entry.scope ∷ around)
-            → rule_in_force entries (place.entry.scope ∷ around) build.entry.rule.now
+            → rule_in_force entries (place.entry.scope ∷ around) build.now.rule.name.now
             ≡ Some rule.entry.number
             → slice_get (rule_texts entries) rule.entry.number ≡ Some rule.entry.rule.now
             → HoldsEdges self.old entries
-            → let e = entry_at_place place.entry around depth (build_text build.entry) in
-            let lines = lines_text build.entry.lines.now in
+            → let e = entry_at_place place.entry around depth (build_text build.now) in
+            let outputs = outputs_text build.now.outputs in
+            let inputs = inputs_text build.now.inputs in
+            let lines = lines_text build.now.lines.items in
             ReadsStatement self.new (or_then (paths_fault e.file (line_values e entries lines)
-            (paths_of_edges (edges_read entries)) (outputs_of_build build.entry)
-            (inputs_of_build build.entry)) (late_fault entries (edge_of_build e entries
-            (outputs_of_build build.entry)
-            (record { spot = build.entry.rule_spot; name = build.entry.rule.now })
-            (inputs_of_build build.entry) lines))) e entries result }
+            (paths_of_edges (edges_read entries)) outputs inputs) (late_fault entries
+            (edge_of_build e entries outputs (name_text build.now.rule) inputs lines)))
+            e entries result }
     {
         let edge = self.details.as_slice().len();
         keep_references(alloc, &mut self.references, rule)?;
@@ -169,7 +170,7 @@ impl Building {
             declarations,
             place.scope,
             edge,
-            build.lines,
+            build.lines.as_slice(),
         )?;
         let block = EdgeBlock {
             blocks: &self.block_values,

@@ -2,7 +2,7 @@
 
 ghost use Rattle.std.specs.Prelude.{◌≡◌, ◌<◌, ◌≤◌, ◌+◌, ◌++◌, ◌∷◌, false, Some, length, slice_get, codes, IfOk, OnOk};
 ghost use Rattle.nj_text.specs.Words.{word_text};
-ghost use Rattle.nj_manifest.specs.Contents.{words_text};
+ghost use Rattle.nj_manifest.specs.Contents.{words_text, outputs_text, inputs_text};
 ghost use Rattle.nj_scope.specs.ReadingList.{value_after, pools};
 ghost use Rattle.nj_edges.specs.Edges.{inputs_of};
 ghost use Rattle.nj_edges.specs.EdgesHeld.{no_files, EndWithin, edge_read};
@@ -11,7 +11,7 @@ ghost use Rattle.nj_late.specs.LateTexts.{asked_text};
 ghost use Rattle.nj_late.specs.ReferencesHeld.{TellsCycles};
 ghost use Rattle.nj_build.specs.EdgeList.{Values, path_said, paths_said, stated_paths, loses_own, edge_paths, file_said};
 ghost use Rattle.nj_build.specs.BuildFaults.{or_then, empty_path, first_fault, target_fault, outputs_fault, inputs_fault, paths_fault, names_fault};
-ghost use Rattle.nj_build.specs.Answers.{Checks, SeesNames, IsFileSaid, bound_by, Grows, AddsInputs, NamesFiles, AddsEdge, names_read, outputs_of_build, inputs_of_build, with_outputs, with_inputs, with_validations};
+ghost use Rattle.nj_build.specs.Answers.{Checks, SeesNames, IsFileSaid, bound_by, Grows, AddsInputs, NamesFiles, AddsEdge, names_read, with_outputs, with_inputs, with_validations};
 
 use crate::late::LateLine;
 use crate::names::{EdgeBlock, Names, Room};
@@ -19,26 +19,10 @@ use crate::place::StatementPlace;
 use nj_edges::{Edges, FileNo, KindEnds};
 use nj_faults::{Cause, GraphFault, Name};
 use nj_late::{KeyReferences, LateEdge};
-use nj_manifest::{Line, Word};
+use nj_manifest::{Build, Inputs, Outputs, Word};
 use nj_scope::{Declarations, Rule};
 use nj_text::{Spot, TextFault};
 use std::alloc::Global;
-
-/// The words of a build statement, and the lines of its block ("Build statements" in the Ninja
-/// manual).
-#[derive(Clone, Copy)]
-pub struct Build<'a> {
-    pub explicit_outputs: &'a [Word<'a>],
-    pub implicit_outputs: &'a [Word<'a>],
-    pub rule: &'a [u8],
-    /// The place of the rule's name.
-    pub rule_spot: Spot,
-    pub explicit_inputs: &'a [Word<'a>],
-    pub implicit_inputs: &'a [Word<'a>],
-    pub order_only_inputs: &'a [Word<'a>],
-    pub validations: &'a [Word<'a>],
-    pub lines: &'a [Line<'a>],
-}
 
 /// A line that is read: where it stands, and the names on it.
 #[derive(Clone, Copy)]
@@ -179,22 +163,22 @@ fn add_all_outputs(
     line: NamedLine<'_, '_, '_>,
     room: &mut Room,
     edges: &mut Edges,
-    build: Build<'_>,
+    outputs: &Outputs<'_>,
 ) -> Result<(), GraphFault>
     requires { line.names.scope < length line.names.declarations.now.scopes }
     ensures fault { (values : Values) → SeesNames line.entry.names values
         → Checks (outputs_fault line.entry.place.file.now values edges.old.edges
-        edges.old.«open».outputs (words_text build.entry.explicit_outputs.now
-        ++ words_text build.entry.implicit_outputs.now)) result }
+        edges.old.«open».outputs ((outputs_text outputs.now).explicit
+        ++ (outputs_text outputs.now).implicit)) result }
     ensures added { (values : Values) → SeesNames line.entry.names values
         → OnOk result (edges.new ≡ with_outputs (with_outputs edges.old
-        (paths_said values (words_text build.entry.explicit_outputs.now)))
-        (paths_said values (words_text build.entry.implicit_outputs.now))) }
-    ensures grows { OnOk result (Grows (length build.entry.explicit_outputs.now
-        + length build.entry.implicit_outputs.now) edges.old edges.new) }
+        (paths_said values (outputs_text outputs.now).explicit))
+        (paths_said values (outputs_text outputs.now).implicit)) }
+    ensures grows { OnOk result (Grows (length outputs.now.explicit.items
+        + length outputs.now.implicit.items) edges.old edges.new) }
 {
-    line.add_outputs(room, edges, build.explicit_outputs)?;
-    line.add_outputs(room, edges, build.implicit_outputs)
+    line.add_outputs(room, edges, outputs.explicit.as_slice())?;
+    line.add_outputs(room, edges, outputs.implicit.as_slice())
 }
 
 // Appends all inputs and validations of a build statement to the edge that is being read. Returns
@@ -203,26 +187,25 @@ fn add_all_inputs(
     line: NamedLine<'_, '_, '_>,
     room: &mut Room,
     edges: &mut Edges,
-    build: Build<'_>,
+    inputs: &Inputs<'_>,
     loses_own: bool,
 ) -> Result<(usize, usize), GraphFault>
     requires { line.names.scope < length line.names.declarations.now.scopes }
     ensures fault { (values : Values) → SeesNames line.entry.names values
-        → Checks (inputs_fault line.entry.place.file.now values
-        (inputs_of_build build.entry)) result }
+        → Checks (inputs_fault line.entry.place.file.now values (inputs_text inputs.now)) result }
     ensures added { (values : Values) → SeesNames line.entry.names values
-        → IfOk result (λ ends. AddsInputs loses_own values (inputs_of_build build.entry)
+        → IfOk result (λ ends. AddsInputs loses_own values (inputs_text inputs.now)
         edges.old edges.new ends) }
     ensures within { IfOk result (λ ends. (ends.0 ≤ ends.1)
         × (ends.1 ≤ length edges.new.«open».inputs)) }
     ensures grows { OnOk result (Grows 0 edges.old edges.new) }
 {
-    line.add_inputs(room, edges, build.explicit_inputs, loses_own)?;
+    line.add_inputs(room, edges, inputs.explicit.as_slice(), loses_own)?;
     let explicit = edges.open_inputs();
-    line.add_inputs(room, edges, build.implicit_inputs, loses_own)?;
+    line.add_inputs(room, edges, inputs.implicit.as_slice(), loses_own)?;
     let implicit = edges.open_inputs();
-    line.add_inputs(room, edges, build.order_only_inputs, loses_own)?;
-    line.add_validations(room, edges, build.validations)?;
+    line.add_inputs(room, edges, inputs.order_only.as_slice(), loses_own)?;
+    line.add_validations(room, edges, inputs.validations.as_slice())?;
     Ok((explicit, implicit))
 }
 
@@ -242,27 +225,33 @@ fn add_files(
     line: NamedLine<'_, '_, '_>,
     room: &mut Room,
     edges: &mut Edges,
-    build: Build<'_>,
+    build: &Build<'_>,
     is_phony: bool,
 ) -> Result<KindEnds, GraphFault>
     requires { line.names.scope < length line.names.declarations.now.scopes }
     ensures fault { (values : Values) → SeesNames line.entry.names values
         → edges.old.«open» ≡ no_files
         → Checks (paths_fault line.entry.place.file.now values edges.old.edges
-        (outputs_of_build build.entry) (inputs_of_build build.entry)) result }
+        (outputs_text build.now.outputs) (inputs_text build.now.inputs)) result }
     ensures named { (values : Values) → SeesNames line.entry.names values
         → edges.old.«open» ≡ no_files
         → IfOk result (λ kinds. NamesFiles edges.old edges.new kinds is_phony (edge_paths
-        (stated_paths values (outputs_of_build build.entry) (inputs_of_build build.entry)
+        (stated_paths values (outputs_text build.now.outputs) (inputs_text build.now.inputs)
         is_phony))) }
     ensures within { IfOk result (λ kinds. EndWithin kinds (length edges.new.«open».outputs)
         (length edges.new.«open».inputs)) }
 {
-    add_all_outputs(line, room, edges, build)?;
+    add_all_outputs(line, room, edges, &build.outputs)?;
     let loses_own = loses_own(build, is_phony);
-    let (explicit_inputs, implicit_inputs) = add_all_inputs(line, room, edges, build, loses_own)?;
+    let (explicit_inputs, implicit_inputs) = add_all_inputs(
+        line,
+        room,
+        edges,
+        &build.inputs,
+        loses_own,
+    )?;
     Ok(KindEnds {
-        explicit_outputs: build.explicit_outputs.len(),
+        explicit_outputs: build.outputs.explicit.as_slice().len(),
         explicit_inputs,
         implicit_inputs,
     })
@@ -297,34 +286,34 @@ fn late_edge<'a>(
     }
 }
 
-/// Reads a build statement as an edge, which is the last one then. Returns its dyndep file, if it is
-/// bound to one.
+/// Reads a build statement as an edge, which is the last one then. Returns its dyndep file, if it
+/// is bound to one.
 pub(crate) fn add_edge(
     line: NamedLine<'_, '_, '_>,
     room: &mut Room,
     edges: &mut Edges,
-    build: Build<'_>,
+    build: &Build<'_>,
     rule: EdgeRule<'_, '_>,
 ) -> Result<Option<FileNo>, GraphFault>
     requires { line.names.scope < length line.names.declarations.now.scopes }
     ensures fault { (values : Values) (sees : SeesNames line.entry.names values)
         → edges.old.«open» ≡ no_files
         → TellsCycles rule.entry.rule.now.lines rule.entry.references.now
-        → let paths = edge_paths (stated_paths values (outputs_of_build build.entry)
-        (inputs_of_build build.entry) rule.entry.is_phony) in
+        → let paths = edge_paths (stated_paths values (outputs_text build.now.outputs)
+        (inputs_text build.now.inputs) rule.entry.is_phony) in
         Checks (or_then (paths_fault line.entry.place.file.now values edges.old.edges
-        (outputs_of_build build.entry) (inputs_of_build build.entry))
+        (outputs_text build.now.outputs) (inputs_text build.now.inputs))
         (names_fault line.entry.place.file.now line.entry.place.spot (pools sees.entries)
         (inputs_of paths) (names_read paths (bound_by rule.entry.block) rule.entry.rule.now
         (value_after sees.entries (line.entry.names.scope ∷ sees.around))))) result }
     ensures added { (values : Values) → SeesNames line.entry.names values
         → edges.old.«open» ≡ no_files
         → OnOk result (AddsEdge edges.old edges.new (edge_paths (stated_paths values
-        (outputs_of_build build.entry) (inputs_of_build build.entry) rule.entry.is_phony))) }
+        (outputs_text build.now.outputs) (inputs_text build.now.inputs) rule.entry.is_phony))) }
     ensures dyndep { (values : Values) (sees : SeesNames line.entry.names values)
         → edges.old.«open» ≡ no_files
-        → let paths = edge_paths (stated_paths values (outputs_of_build build.entry)
-        (inputs_of_build build.entry) rule.entry.is_phony) in
+        → let paths = edge_paths (stated_paths values (outputs_text build.now.outputs)
+        (inputs_text build.now.inputs) rule.entry.is_phony) in
         IfOk result (λ file. IsFileSaid edges.new.files file (file_said (asked_text
         (names_read paths (bound_by rule.entry.block) rule.entry.rule.now
         (value_after sees.entries (line.entry.names.scope ∷ sees.around))) (codes "dyndep")))) }
@@ -347,12 +336,12 @@ pub(crate) fn add_edge(
 }
 
 // Whether the edge of a build statement loses the inputs that are its own output.
-fn loses_own(build: Build<'_>, is_phony: bool) -> bool
+fn loses_own(build: &Build<'_>, is_phony: bool) -> bool
     ensures { (values : Values) → result ≡ loses_own (stated_paths values
-        (outputs_of_build build.entry) (inputs_of_build build.entry) is_phony) }
+        (outputs_text build.now.outputs) (inputs_text build.now.inputs) is_phony) }
 {
     is_phony
-        && build.explicit_outputs.len() == 1
-        && build.implicit_outputs.is_empty()
-        && build.implicit_inputs.is_empty()
+        && build.outputs.explicit.len() == 1
+        && build.outputs.implicit.is_empty()
+        && build.inputs.implicit.is_empty()
 }

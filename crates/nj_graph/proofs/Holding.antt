@@ -3,10 +3,7 @@ use Rattle.std.proofs.Common.{◌≡◌, ℕ, ◌+◌, ◌==◌, ◌&&◌, if◌
 use mathlib.Core.Path.{fun_ext}
 use Rattle.nj_text.specs.Words.{WordText}
 use Rattle.nj_manifest.specs.LineSteps.{NameText}
-use Rattle.nj_text.specs.declared.word.Word.{Word}
-use Rattle.nj_manifest.specs.declared.statement.Line.{Line}
-use Rattle.nj_manifest.specs.Contents.{words_text, lines_text}
-use Rattle.nj_manifest.specs.Statements.{LineText, BuildText}
+use Rattle.nj_manifest.specs.Statements.{LineText}
 use Rattle.nj_scope.specs.Readings.{EachPathOnce, paths_of}
 use Rattle.nj_scope.specs.Scopes.{or_else, Bounds, value_in, expanded}
 use Rattle.nj_scope.specs.ScopesHeld.{rule_at}
@@ -19,8 +16,7 @@ use Rattle.nj_graph.specs.declared.reader.Reader.{Reader}
 use Rattle.nj_faults.specs.declared.fault.Cause.TheVariants.{BadDepth, DuplicateRule, DuplicatePool}
 use Rattle.nj_faults.specs.Faults.{fault_at}
 use Rattle.nj_graph.specs.Reading.{expanded_in, fault_if, or_then, rule_fault, depth_fault, pool_fault, own_fault, path_named, with_named, paths_read}
-use Rattle.nj_build.specs.declared.edge.Build.{Build}
-use Rattle.nj_build.specs.Answers.{HoldsEdges, ReadsStatement, build_text}
+use Rattle.nj_build.specs.Answers.{HoldsEdges, ReadsStatement}
 use Rattle.nj_graph.specs.Graph.{IsOpenScope}
 use Rattle.nj_graph.proofs.OpenScopes.{open-next}
 use Rattle.nj_graph.specs.ReaderContracts.{Holds, Grows, Checks, Declares}
@@ -113,10 +109,3 @@ pub built-declares : (main : List ℕ) (old held : Reader) (entries : List Entry
 built-declares main old held entries e (Ok done) holds follows opened files none names grows inside reads =
     (reads.0, holds-next main old held entries e holds follows opened files none names reads.1 grows inside)
 built-declares main old held entries e (Err fault) holds follows opened files none names grows inside reads = reads
-
--- the words of a statement, as they are in memory
-pub build-same : (b : Build) (outs implicit_outs ins implicit order_only validations : List Word) (lines : List Line)
-    → b.explicit_outputs.now ≡ outs → b.implicit_outputs.now ≡ implicit_outs → b.explicit_inputs.now ≡ ins → b.implicit_inputs.now ≡ implicit → b.order_only_inputs.now ≡ order_only → b.validations.now ≡ validations → b.lines.now ≡ lines
-    → build_text b ≡ BuildText (record { explicit = words_text outs; implicit = words_text implicit_outs }) (record { spot = b.rule_spot; name = b.rule.now })
-    (record { explicit = words_text ins; implicit = words_text implicit; order_only = words_text order_only; validations = words_text validations }) (lines_text lines)
-build-same b outs implicit_outs ins implicit order_only validations lines h1 h2 h3 h4 h5 h6 h7 = rw (h1, h2, h3, h4, h5, h6, h7) refl

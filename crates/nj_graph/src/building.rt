@@ -1,16 +1,15 @@
 //! The statements that say what is built: `build` and `default`.
 
 ghost use Rattle.std.specs.Prelude.{◌≡◌, ◌<◌, length, OnOk};
-ghost use Rattle.nj_manifest.specs.Contents.{words_text};
+ghost use Rattle.nj_manifest.specs.Contents.{words_text, build_text};
 ghost use Rattle.nj_manifest.specs.Statements.{DefaultText};
-ghost use Rattle.nj_build.specs.Answers.{build_text};
 ghost use Rattle.nj_graph.specs.Reading.{entry_at};
 ghost use Rattle.nj_graph.specs.ReaderContracts.{InFile, ScopesGrow, Declares};
 
 use crate::reader::{OpenFile, Reader};
-use nj_build::{Build, StatementPlace};
+use nj_build::StatementPlace;
 use nj_faults::GraphFault;
-use nj_manifest::{Spot, Word};
+use nj_manifest::{Build, Spot, Word};
 use std::alloc::Global;
 
 impl Reader {
@@ -20,11 +19,11 @@ impl Reader {
         alloc: Global,
         file: OpenFile<'_>,
         spot: Spot,
-        build: Build<'_>,
+        build: &Build<'_>,
     ) -> Result<(), GraphFault>
         requires { file.scope < length self.old.declarations.scopes }
         ensures declares { InFile self.old file.entry (λ main site entries.
-            let e = entry_at site (record { spot = spot; item = build_text build.entry }) in
+            let e = entry_at site (record { spot = spot; item = build_text build.now }) in
             Declares main self.new e entries result) }
         ensures files { self.new.files ≡ self.old.files }
         ensures grows { OnOk result (ScopesGrow self.old self.new) }

@@ -4,13 +4,13 @@ ghost use Rattle.std.specs.Prelude.{◌≡◌, ◌<◌, length, OnOk};
 ghost use Rattle.nj_text.specs.declared.spot.Spot.{Spot};
 ghost use Rattle.nj_text.specs.Words.{word_text};
 ghost use Rattle.nj_manifest.specs.Statements.{BindingText, RuleText, PoolText};
-ghost use Rattle.nj_manifest.specs.Contents.{lines_text};
+ghost use Rattle.nj_manifest.specs.Contents.{name_text, lines_text};
 ghost use Rattle.nj_graph.specs.Reading.{entry_at, site_scope, depth_fault};
 ghost use Rattle.nj_graph.specs.ReaderContracts.{InFile, ScopesGrow, Checks, Declares};
 
 use crate::reader::{OpenFile, Reader};
 use nj_faults::{Cause, GraphFault, Name};
-use nj_manifest::{Line, Spot, Word};
+use nj_manifest::{Line, PlacedName, Spot, Word};
 use nj_scope::{is_depth, is_newer};
 use std::alloc::Global;
 
@@ -43,18 +43,17 @@ impl Reader {
         Ok(())
     }
 
-    /// Reads a rule, whose name stands at this place.
+    /// Reads a rule.
     pub(crate) fn declare_rule(
         &mut self,
         alloc: Global,
         file: OpenFile<'_>,
-        spot: Spot,
-        name: &[u8],
+        rule: PlacedName<'_>,
         lines: &[Line<'_>],
     ) -> Result<(), GraphFault>
         requires { file.scope < length self.old.declarations.scopes }
         ensures declares { (start : Spot) → InFile self.old file.entry (λ main site entries.
-            let item = RuleText (record { spot = spot; name = name.now }) (lines_text lines.now) in
+            let item = RuleText (name_text rule.entry) (lines_text lines.now) in
             let e = entry_at site (record { spot = start; item = item }) in
             Declares main self.new e entries result) }
         ensures files { self.new.files ≡ self.old.files }
@@ -62,34 +61,33 @@ impl Reader {
     {
         if self
             .declarations
-            .declare_rule(alloc, file.scope, name, lines)?
+            .declare_rule(alloc, file.scope, rule.name, lines)?
         {
             return Ok(());
         }
-        let cause = Cause::DuplicateRule(Name::new(alloc, name)?);
-        Err(file.fault(alloc, spot, cause))
+        let cause = Cause::DuplicateRule(Name::new(alloc, rule.name)?);
+        Err(file.fault(alloc, rule.spot, cause))
     }
 
-    /// Reads a pool, whose name stands at this place.
+    /// Reads a pool.
     pub(crate) fn declare_pool(
         &mut self,
         alloc: Global,
         file: OpenFile<'_>,
-        spot: Spot,
-        name: &[u8],
+        pool: PlacedName<'_>,
         lines: &[Line<'_>],
     ) -> Result<(), GraphFault>
         requires { file.scope < length self.old.declarations.scopes }
         ensures declares { (start : Spot) → InFile self.old file.entry (λ main site entries.
-            let item = PoolText (record { spot = spot; name = name.now }) (lines_text lines.now) in
+            let item = PoolText (name_text pool.entry) (lines_text lines.now) in
             let e = entry_at site (record { spot = start; item = item }) in
             Declares main self.new e entries result) }
         ensures files { self.new.files ≡ self.old.files }
         ensures grows { OnOk result (ScopesGrow self.old self.new) }
     {
-        if !self.declarations.declare_pool(name)? {
-            let cause = Cause::DuplicatePool(Name::new(alloc, name)?);
-            return Err(file.fault(alloc, spot, cause));
+        if !self.declarations.declare_pool(pool.name)? {
+            let cause = Cause::DuplicatePool(Name::new(alloc, pool.name)?);
+            return Err(file.fault(alloc, pool.spot, cause));
         }
         self.check_depths(alloc, file, lines)
     }

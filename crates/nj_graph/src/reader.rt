@@ -8,7 +8,7 @@ ghost use Rattle.nj_graph.specs.Reading.{entry_at, opened_in, text_read, stateme
 ghost use Rattle.nj_graph.specs.ReaderContracts.{IsNew, InFile, ScopesGrow, IsFault, ReadsItem, ReadsOrStops, NextIs};
 
 use crate::opening::{Naming, text_at};
-use nj_build::{Build, Building};
+use nj_build::Building;
 use nj_faults::{Cause, GraphFault};
 use nj_manifest::{Parser, Placed, Spot, Statement};
 use nj_scope::{Declarations, FileSource, FileTable, HashKeys};
@@ -167,44 +167,15 @@ impl Reader {
                 self.bind(alloc, file, statement.spot, name, value)?;
                 Ok(None)
             }
-            Statement::Rule {
-                name,
-                name_spot,
-                lines,
-            } => {
-                self.declare_rule(alloc, file, *name_spot, name, lines)?;
+            Statement::Rule { name, lines } => {
+                self.declare_rule(alloc, file, *name, lines)?;
                 Ok(None)
             }
-            Statement::Pool {
-                name,
-                name_spot,
-                lines,
-            } => {
-                self.declare_pool(alloc, file, *name_spot, name, lines)?;
+            Statement::Pool { name, lines } => {
+                self.declare_pool(alloc, file, *name, lines)?;
                 Ok(None)
             }
-            Statement::Build {
-                explicit_outs,
-                implicit_outs,
-                rule,
-                rule_spot,
-                explicit,
-                implicit,
-                order_only,
-                validations,
-                lines,
-            } => {
-                let build = Build {
-                    explicit_outputs: explicit_outs.as_slice(),
-                    implicit_outputs: implicit_outs.as_slice(),
-                    rule,
-                    rule_spot: *rule_spot,
-                    explicit_inputs: explicit.as_slice(),
-                    implicit_inputs: implicit.as_slice(),
-                    order_only_inputs: order_only.as_slice(),
-                    validations: validations.as_slice(),
-                    lines: lines.as_slice(),
-                };
+            Statement::Build(build) => {
                 self.build(alloc, file, statement.spot, build)?;
                 Ok(None)
             }

@@ -2,8 +2,9 @@
 use Rattle.std.specs.Prelude.{List, map}
 use Rattle.nj_text.specs.declared.word.Word.{Word}
 use Rattle.nj_text.specs.Words.{WordText, word_text}
-use Rattle.nj_manifest.specs.declared.steps.Name.{Name}
+use Rattle.nj_manifest.specs.declared.steps.PlacedName.{PlacedName}
 use Rattle.nj_manifest.specs.declared.statement.Line.{Line}
+use Rattle.nj_manifest.specs.declared.statement.Build.{Build}
 use Rattle.nj_manifest.specs.declared.heads.Outputs.{Outputs}
 use Rattle.nj_manifest.specs.declared.heads.Inputs.{Inputs}
 use Rattle.nj_manifest.specs.declared.heads.Head.{Head}
@@ -16,7 +17,7 @@ use Rattle.nj_manifest.specs.Statements.{LineText, OutputsText, InputsText, Head
 use Rattle.nj_manifest.specs.Statements.{StatementText, BindingText, RuleText, PoolText, BuildText, DefaultText, IncludeText}
 use Rattle.nj_manifest.specs.Statements.{SubninjaText, PlacedText}
 
-abbrev pub name_text : Name → NameText
+abbrev pub name_text : PlacedName → NameText
 name_text n = record { spot = n.spot; name = n.name.now }
 
 abbrev pub line_text : Line → LineText
@@ -53,22 +54,14 @@ head_text (head.Subninja word) = Alone (SubninjaText (word_text word))
 
 -- ---- statements
 
+abbrev pub build_text : Build → StatementText
+build_text b = BuildText (outputs_text b.outputs) (name_text b.rule) (inputs_text b.inputs) (lines_text b.lines.items)
+
 abbrev pub statement_text : Statement → StatementText
 statement_text (statement.Binding name value) = BindingText name.now (word_text value)
-statement_text (statement.Rule name name_spot lines) = RuleText (record { spot = name_spot; name = name.now }) (lines_text lines.items)
-statement_text (statement.Pool name name_spot lines) = PoolText (record { spot = name_spot; name = name.now }) (lines_text lines.items)
-statement_text (statement.Build outs implicit_outs rule rule_spot ins implicit order_only validations lines) =
-    BuildText (record { explicit = words_text outs.items; implicit = words_text implicit_outs.items })
-    (record { spot = rule_spot; name = rule.now })
-    (
-    record {
-      explicit = words_text ins.items;
-      implicit = words_text implicit.items;
-      order_only = words_text order_only.items;
-      validations = words_text validations.items;
-    }
-    )
-    (lines_text lines.items)
+statement_text (statement.Rule name lines) = RuleText (name_text name) (lines_text lines.items)
+statement_text (statement.Pool name lines) = PoolText (name_text name) (lines_text lines.items)
+statement_text (statement.Build b) = build_text b
 statement_text (statement.Default words) = DefaultText (words_text words.items)
 statement_text (statement.Include word) = IncludeText (word_text word)
 statement_text (statement.Subninja word) = SubninjaText (word_text word)

@@ -9,19 +9,19 @@ ghost use Rattle.nj_manifest.specs.Contents.{words_text, outputs_text, inputs_te
 
 use crate::block::equals_value;
 use crate::fault::{ParseFault, Wanted};
-use crate::steps::{Name, expect_sign, name_next, section_next, words_next};
+use crate::steps::{PlacedName, expect_sign, name_next, section_next, words_next};
 use nj_text::{Lexer, Sign, Word};
 use std::alloc::Global;
 
 /// The outputs of a build statement.
-#[derive(Drop)]
+#[derive(Debug, Drop)]
 pub struct Outputs<'a> {
     pub explicit: Vec<Word<'a>>,
     pub implicit: Vec<Word<'a>>,
 }
 
 /// The inputs of a build statement.
-#[derive(Drop)]
+#[derive(Debug, Drop)]
 pub struct Inputs<'a> {
     pub explicit: Vec<Word<'a>>,
     pub implicit: Vec<Word<'a>>,
@@ -35,11 +35,11 @@ pub enum Head<'a> {
     /// `NAME = VALUE`
     Binding(&'a [u8], Word<'a>),
     /// `rule NAME`
-    Rule(Name<'a>),
+    Rule(PlacedName<'a>),
     /// `pool NAME`
-    Pool(Name<'a>),
+    Pool(PlacedName<'a>),
     /// `build OUTPUTS : RULE INPUTS`
-    Build(Outputs<'a>, Name<'a>, Inputs<'a>),
+    Build(Outputs<'a>, PlacedName<'a>, Inputs<'a>),
     /// `default TARGETS`
     Default(Vec<Word<'a>>),
     /// `include FILE`
@@ -50,7 +50,7 @@ pub enum Head<'a> {
 
 /// After `rule` or `pool`: a name and the end of the line.
 #[tactic(auto, unfolding(crate::specs::Statements::name_alone))]
-fn name_alone<'a>(lexer: &mut Lexer<'a>, wanted: Wanted) -> Result<Name<'a>, ParseFault<'a>>
+fn name_alone<'a>(lexer: &mut Lexer<'a>, wanted: Wanted) -> Result<PlacedName<'a>, ParseFault<'a>>
     ensures { TakesStep name_text result lexer.new (name_alone wanted lexer.old) }
 {
     let name = name_next(lexer, wanted)?;

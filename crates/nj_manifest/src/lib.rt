@@ -21,6 +21,7 @@ pub use dyndep::DyndepParser;
 pub use entries::Entry;
 pub use fault::{ParseFault, Wanted};
 pub use fault_text::FaultText;
+pub use heads::{Inputs, Outputs};
 pub use laws::{
     dyndep_entries_are_the_forms, dyndep_faults_are_leftmost, dyndep_versions_are_the_forms,
     faults_are_leftmost, missing_lines_are_lacking, next_entries_are_the_forms,
@@ -28,4 +29,5 @@ pub use laws::{
 };
 pub use nj_text::{LexFault, Part, Spot, UnitFault, Word};
 pub use parser::Parser;
-pub use statement::{Line, Placed, Statement};
+pub use statement::{Build, Line, Placed, Statement};
+pub use steps::PlacedName;

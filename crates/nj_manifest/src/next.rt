@@ -12,8 +12,8 @@ use crate::block::{Keys, block, whole_pool, whole_rule};
 use crate::fault::ParseFault;
 use crate::heads::{Head, Inputs, Outputs, head_next};
 use crate::opening::find_statement;
-use crate::statement::{Placed, Statement};
-use crate::steps::Name;
+use crate::statement::{Build, Placed, Statement};
+use crate::steps::PlacedName;
 use nj_text::{Lexer, Spot};
 use std::alloc::Global;
 
@@ -23,18 +23,14 @@ fn rule_with_block<'a>(
     alloc: Global,
     lexer: &mut Lexer<'a>,
     spot: Spot,
-    name: Name<'a>,
+    name: PlacedName<'a>,
 ) -> Result<Statement<'a>, ParseFault<'a>>
     ensures { ParsesFrom statement_text lexer.old lexer.new
         (with_block spot (head_text (Head.Rule name.entry))) result }
 {
     let lines = block(alloc, lexer, Keys::OfRule)?;
     whole_rule(spot, &lines)?;
-    Ok(Statement::Rule {
-        name: name.name,
-        name_spot: name.spot,
-        lines,
-    })
+    Ok(Statement::Rule { name, lines })
 }
 
 /// A pool with its block.
@@ -43,18 +39,14 @@ fn pool_with_block<'a>(
     alloc: Global,
     lexer: &mut Lexer<'a>,
     spot: Spot,
-    name: Name<'a>,
+    name: PlacedName<'a>,
 ) -> Result<Statement<'a>, ParseFault<'a>>
     ensures { ParsesFrom statement_text lexer.old lexer.new
         (with_block spot (head_text (Head.Pool name.entry))) result }
 {
     let lines = block(alloc, lexer, Keys::OfPool)?;
     whole_pool(spot, &lines)?;
-    Ok(Statement::Pool {
-        name: name.name,
-        name_spot: name.spot,
-        lines,
-    })
+    Ok(Statement::Pool { name, lines })
 }
 
 /// A build statement with its block.
@@ -63,24 +55,19 @@ fn build_with_block<'a>(
     alloc: Global,
     lexer: &mut Lexer<'a>,
     outputs: Outputs<'a>,
-    rule: Name<'a>,
+    rule: PlacedName<'a>,
     inputs: Inputs<'a>,
 ) -> Result<Statement<'a>, ParseFault<'a>>
     ensures { (spot : Spot) → ParsesFrom statement_text lexer.old lexer.new
         (with_block spot (head_text (Head.Build outputs.entry rule.entry inputs.entry))) result }
 {
     let lines = block(alloc, lexer, Keys::All)?;
-    Ok(Statement::Build {
-        explicit_outs: outputs.explicit,
-        implicit_outs: outputs.implicit,
-        rule: rule.name,
-        rule_spot: rule.spot,
-        explicit: inputs.explicit,
-        implicit: inputs.implicit,
-        order_only: inputs.order_only,
-        validations: inputs.validations,
+    Ok(Statement::Build(Build {
+        outputs,
+        rule,
+        inputs,
         lines,
-    })
+    }))
 }
 
 /// A statement with its block.

@@ -1,5 +1,7 @@
 //! Statements ("Ninja file reference" in the Ninja manual).
 
+use crate::heads::{Inputs, Outputs};
+use crate::steps::PlacedName;
 use nj_text::{Spot, Word};
 
 /// Something and the place of its first byte.
@@ -18,6 +20,16 @@ pub struct Line<'a> {
     pub value: Word<'a>,
 }
 
+/// A `build` statement ("Build statements" in the Ninja manual).
+#[derive(Debug, Drop)]
+pub struct Build<'a> {
+    pub outputs: Outputs<'a>,
+    pub rule: PlacedName<'a>,
+    pub inputs: Inputs<'a>,
+    /// The lines of its block.
+    pub lines: Vec<Line<'a>>,
+}
+
 /// A statement with its block.
 #[derive(Debug, Drop)]
 pub enum Statement<'a> {
@@ -28,29 +40,17 @@ pub enum Statement<'a> {
     },
     /// `rule name`, and the lines of its block
     Rule {
-        name: &'a [u8],
-        name_spot: Spot,
+        name: PlacedName<'a>,
         lines: Vec<Line<'a>>,
     },
     /// `pool name`, and the lines of its block
     Pool {
-        name: &'a [u8],
-        name_spot: Spot,
+        name: PlacedName<'a>,
         lines: Vec<Line<'a>>,
     },
     /// `build outs | implicit outs : rule ins | implicit || order-only |@ validations`, and the
     /// lines of its block
-    Build {
-        explicit_outs: Vec<Word<'a>>,
-        implicit_outs: Vec<Word<'a>>,
-        rule: &'a [u8],
-        rule_spot: Spot,
-        explicit: Vec<Word<'a>>,
-        implicit: Vec<Word<'a>>,
-        order_only: Vec<Word<'a>>,
-        validations: Vec<Word<'a>>,
-        lines: Vec<Line<'a>>,
-    },
+    Build(Build<'a>),
     /// `default targets`
     Default {
         words: Vec<Word<'a>>,

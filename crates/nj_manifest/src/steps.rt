@@ -11,21 +11,24 @@ use nj_text::{Lexer, Sign, Spot, Word};
 use std::alloc::Global;
 
 /// A name and the place of its first byte.
-#[derive(Clone, Copy)]
-pub struct Name<'a> {
+#[derive(Clone, Copy, Debug)]
+pub struct PlacedName<'a> {
     pub spot: Spot,
     pub name: &'a [u8],
 }
 
 /// An identifier.
 #[tactic(auto, unfolding(crate::specs::LineSteps::name_next))]
-pub fn name_next<'a>(lexer: &mut Lexer<'a>, wanted: Wanted) -> Result<Name<'a>, ParseFault<'a>>
+pub fn name_next<'a>(
+    lexer: &mut Lexer<'a>,
+    wanted: Wanted,
+) -> Result<PlacedName<'a>, ParseFault<'a>>
     ensures { TakesStep name_text result lexer.new (name_next wanted lexer.old) }
 {
     lexer.skip_blanks();
     let spot = lexer.spot();
     match lexer.ident()? {
-        Some(name) => Ok(Name { spot, name }),
+        Some(name) => Ok(PlacedName { spot, name }),
         None => Err(ParseFault::Expected(spot, wanted)),
     }
 }

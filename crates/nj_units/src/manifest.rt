@@ -4,7 +4,9 @@
 //! fault or `end`, which each call answers from then on.
 
 use crate::words::{ascii, put_spot, put_word};
-use nj_manifest::{DyndepParser, Entry, Line, ParseFault, Parser, Placed, Statement, Wanted};
+use nj_manifest::{
+    Build, DyndepParser, Entry, Line, ParseFault, Parser, Placed, PlacedName, Statement, Wanted,
+};
 use nj_text::{Spot, Word};
 use std::alloc::{AllocError, Global};
 use std::process::Abort;
@@ -30,11 +32,11 @@ fn put_binding(text: &mut String, name: &[u8], value: &Word<'_>) -> Result<(), A
 }
 
 /// A keyword, and a name at its place.
-fn put_named(text: &mut String, keyword: &str, spot: Spot, name: &[u8]) -> Result<(), AllocError> {
+fn put_named(text: &mut String, keyword: &str, name: PlacedName<'_>) -> Result<(), AllocError> {
     text.push_str(keyword)?;
-    put_spot(text, spot)?;
+    put_spot(text, name.spot)?;
     text.push(' ')?;
-    text.push_str(ascii(name))
+    text.push_str(ascii(name.name))
 }
 
 /// The lines of a block: `; place name = value`.
@@ -48,41 +50,27 @@ fn put_block(text: &mut String, lines: &[Line<'_>]) -> Result<(), AllocError> {
     Ok(())
 }
 
-/// A build statement; nothing for any other.
-fn put_build(text: &mut String, item: &Statement<'_>) -> Result<(), AllocError> {
-    let Statement::Build {
-        explicit_outs,
-        implicit_outs,
-        rule,
-        rule_spot,
-        explicit,
-        implicit,
-        order_only,
-        validations,
-        lines,
-    } = item
-    else {
-        return Ok(());
-    };
-    put_words(text, "", explicit_outs.as_slice())?;
-    put_words(text, " |", implicit_outs.as_slice())?;
-    put_named(text, " : ", *rule_spot, rule)?;
-    put_words(text, "", explicit.as_slice())?;
-    put_words(text, " |", implicit.as_slice())?;
-    put_words(text, " ||", order_only.as_slice())?;
-    put_words(text, " |@", validations.as_slice())?;
-    put_block(text, lines.as_slice())
+/// A build statement.
+fn put_build(text: &mut String, build: &Build<'_>) -> Result<(), AllocError> {
+    text.push_str("build")?;
+    put_words(text, "", build.outputs.explicit.as_slice())?;
+    put_words(text, " |", build.outputs.implicit.as_slice())?;
+    put_named(text, " : ", build.rule)?;
+    put_words(text, "", build.inputs.explicit.as_slice())?;
+    put_words(text, " |", build.inputs.implicit.as_slice())?;
+    put_words(text, " ||", build.inputs.order_only.as_slice())?;
+    put_words(text, " |@", build.inputs.validations.as_slice())?;
+    put_block(text, build.lines.as_slice())
 }
 
 /// A rule or a pool.
 fn put_declaration(
     text: &mut String,
     keyword: &str,
-    spot: Spot,
-    name: &[u8],
+    name: PlacedName<'_>,
     lines: &[Line<'_>],
 ) -> Result<(), AllocError> {
-    put_named(text, keyword, spot, name)?;
+    put_named(text, keyword, name)?;
     put_block(text, lines)
 }
 
@@ -96,20 +84,13 @@ fn put_file(text: &mut String, keyword: &str, word: &Word<'_>) -> Result<(), All
 fn put_item(text: &mut String, item: &Statement<'_>) -> Result<(), AllocError> {
     match item {
         Statement::Binding { name, value } => put_binding(text, name, value),
-        Statement::Rule {
-            name,
-            name_spot,
-            lines,
-        } => put_declaration(text, "rule ", *name_spot, name, lines.as_slice()),
-        Statement::Pool {
-            name,
-            name_spot,
-            lines,
-        } => put_declaration(text, "pool ", *name_spot, name, lines.as_slice()),
-        Statement::Build { .. } => {
-            text.push_str("build")?;
-            put_build(text, item)
+        Statement::Rule { name, lines } => {
+            put_declaration(text, "rule ", *name, lines.as_slice())
         }
+        Statement::Pool { name, lines } => {
+            put_declaration(text, "pool ", *name, lines.as_slice())
+        }
+        Statement::Build(build) => put_build(text, build),
         Statement::Default { words } => put_words(text, "default", words.as_slice()),
         Statement::Include { word } => put_file(text, "include ", word),
         Statement::Subninja { word } => put_file(text, "subninja ", word),

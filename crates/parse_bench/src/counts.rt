@@ -46,7 +46,7 @@ impl Counts {
             Statement::Binding { .. } => self.bindings += 1,
             Statement::Rule { .. } => self.rules += 1,
             Statement::Pool { .. } => self.pools += 1,
-            Statement::Build { .. } => self.builds += 1,
+            Statement::Build(_) => self.builds += 1,
             Statement::Default { .. } => self.defaults += 1,
             Statement::Include { .. } => self.includes += 1,
             Statement::Subninja { .. } => self.subninjas += 1,

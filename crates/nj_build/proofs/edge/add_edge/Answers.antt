@@ -1,11 +1,12 @@
 use Rattle.std.proofs.Common.{◌≡◌, ◌∷◌, None, codes, length, sym, ap, subst, ◌∙◌}
+use Rattle.nj_manifest.specs.Contents.{outputs_text, inputs_text}
 use Rattle.nj_scope.specs.ReadingList.{value_after, pools}
 use Rattle.nj_edges.specs.Edges.{EdgePaths, inputs_of}
 use Rattle.nj_edges.specs.EdgesHeld.{edge_read}
 use Rattle.nj_late.specs.LateTexts.{LateNames, asked_text}
 use Rattle.nj_build.specs.EdgeList.{stated_paths, edge_paths, file_said}
 use Rattle.nj_build.specs.BuildFaults.{or_then, paths_fault, names_fault}
-use Rattle.nj_build.specs.Answers.{IsFault, IsFileSaid, SeesLate, bound_by, names_read, outputs_of_build, inputs_of_build}
+use Rattle.nj_build.specs.Answers.{IsFault, IsFileSaid, SeesLate, bound_by, names_read}
 use Rattle.nj_build.proofs.Faults.{fault-second, both-none, err-checks}
 use Rattle.nj_build.proofs.Adding.{adds-edge}
 use Rattle.nj_build.proofs.LateLemmas.{inputs-read, sees-late}
@@ -15,8 +16,8 @@ pub returns-in_err-dyndep-clause-fault : goal.returns-in_err-dyndep-clause-fault
 returns-in_err-dyndep-clause-fault c = λ values sees none tells.
     let file = c.args.line.place.file.now in
     let spot = c.args.line.place.spot in
-    let outputs = outputs_of_build c.args.build in
-    let inputs = inputs_of_build c.args.build in
+    let outputs = outputs_text c.args.build.now.outputs in
+    let inputs = inputs_text c.args.build.now.inputs in
     let block = bound_by c.args.rule.block in
     let open_edge = c.add_files.new.edges.«open» in
     let paths : EdgePaths = edge_paths (stated_paths values outputs inputs c.args.rule.is_phony) in
@@ -36,8 +37,8 @@ pub returns-clause-fault : goal.returns-clause-fault
 returns-clause-fault c = λ values sees none tells.
     let file = c.args.line.place.file.now in
     let spot = c.args.line.place.spot in
-    let outputs = outputs_of_build c.args.build in
-    let inputs = inputs_of_build c.args.build in
+    let outputs = outputs_text c.args.build.now.outputs in
+    let inputs = inputs_text c.args.build.now.inputs in
     let block = bound_by c.args.rule.block in
     let open_edge = c.add_files.new.edges.«open» in
     let paths : EdgePaths = edge_paths (stated_paths values outputs inputs c.args.rule.is_phony) in
@@ -51,13 +52,13 @@ returns-clause-fault c = λ values sees none tells.
 
 pub returns-clause-added : goal.returns-clause-added
 returns-clause-added c = λ values sees none.
-    adds-edge c.args.edges.now c.add_files.new.edges c.end_edge.new.self c.in_ok-kinds.kinds c.args.rule.is_phony (edge_paths (stated_paths values (outputs_of_build c.args.build) (inputs_of_build c.args.build) c.args.rule.is_phony))
+    adds-edge c.args.edges.now c.add_files.new.edges c.end_edge.new.self c.in_ok-kinds.kinds c.args.rule.is_phony (edge_paths (stated_paths values (outputs_text c.args.build.now.outputs) (inputs_text c.args.build.now.inputs) c.args.rule.is_phony))
     (c.in_ok-kinds.ensures.named values sees none) c.in_ok-end_edge.ensures
 
 pub returns-clause-dyndep : goal.returns-clause-dyndep
 returns-clause-dyndep c = λ values sees none.
-    let outputs = outputs_of_build c.args.build in
-    let inputs = inputs_of_build c.args.build in
+    let outputs = outputs_text c.args.build.now.outputs in
+    let inputs = inputs_text c.args.build.now.inputs in
     let block = bound_by c.args.rule.block in
     let open_edge = c.add_files.new.edges.«open» in
     let paths : EdgePaths = edge_paths (stated_paths values outputs inputs c.args.rule.is_phony) in

@@ -1,8 +1,8 @@
-use Rattle.std.proofs.Common.{◌≡◌, ◌==◌, if◌then◌else◌, ◌∷◌, [], ℕ, Option, Some, None, unwrap_or, length, map, codes, refl, sym, ap, subst, ◌∙◌}
+use Rattle.std.proofs.Common.{◌≡◌, ◌==◌, if◌then◌else◌, List, ◌∷◌, [], ℕ, Option, Some, None, unwrap_or, length, map, codes, refl, sym, ap, subst, ◌∙◌}
 use Rattle.std.specs.Prelude.{slice_index_or}
 use Rattle.std.proofs.lemmas.List.{length-map, map-append}
 use Rattle.nj_manifest.specs.LineSteps.{NameText}
-use Rattle.nj_manifest.specs.Contents.{lines_text}
+use Rattle.nj_manifest.specs.Contents.{name_text, outputs_text, inputs_text, lines_text, build_text}
 use Rattle.nj_scope.specs.Readings.{IsPrefix}
 use Rattle.nj_scope.specs.Rules.{RuleText}
 use Rattle.nj_scope.specs.Scopes.{or_else}
@@ -12,7 +12,7 @@ use Rattle.nj_edges.specs.Edges.{inputs_of}
 use Rattle.nj_build.specs.declared.building.Detail.{Detail}
 use Rattle.nj_build.specs.EdgeList.{Values, Block, block_of, on_line, edges_read, edge_of_build, file_said, paths_of_edges, stated_paths, edge_paths}
 use Rattle.nj_build.specs.BuildFaults.{or_then, paths_fault, names_fault, late_fault}
-use Rattle.nj_build.specs.Answers.{BuildingText, HoldsEdges, Sees, IsFault, AddsEdge, names_read, detail_text, IsFileSaid, with_dyndep, entry_at_place, build_text, outputs_of_build, inputs_of_build, no_block}
+use Rattle.nj_build.specs.Answers.{BuildingText, HoldsEdges, Sees, IsFault, AddsEdge, names_read, detail_text, IsFileSaid, with_dyndep, entry_at_place, no_block}
 use Rattle.nj_late.specs.LateTexts.{asked_text}
 use Rattle.nj_late.specs.ReferencesHeld.{TellsCycles}
 use Rattle.nj_build.proofs.ReferenceLemmas.{same-rule}
@@ -23,11 +23,11 @@ use Rattle.nj_build.proofs.building.Building.read_edge.Goals as goal
 
 pub returns-in_err-dyndep : goal.returns-in_err-dyndep
 returns-in_err-dyndep c = λ entries around depth by within rule_is there holds.
-    let lines = lines_text c.args.build.lines.now in
-    let outputs = outputs_of_build c.args.build in
-    let inputs = inputs_of_build c.args.build in
-    let rule_text : NameText = record { spot = c.args.build.rule_spot; name = c.args.build.rule.now } in
-    let e = entry_at_place c.args.place around depth (build_text c.args.build) in
+    let lines = lines_text c.args.build.now.lines.items in
+    let outputs = outputs_text c.args.build.now.outputs in
+    let inputs = inputs_text c.args.build.now.inputs in
+    let rule_text : NameText = name_text c.args.build.now.rule in
+    let e = entry_at_place c.args.place around depth (build_text c.args.build.now) in
     let scope_values : Values = value_after entries (c.args.place.scope ∷ around) in
     let block : Block = block_of scope_values lines in
     let values : Values = on_line scope_values block in
@@ -36,7 +36,8 @@ returns-in_err-dyndep c = λ entries around depth by within rule_is there holds.
     let edge = length c.as_slice-edge.result.now in
     let count : edge ≡ length old.details = ap length c.as_slice-edge.ensures.value ∙ sym (length-map c.self.inside.details.items detail_text) in
     let sees_scope : Sees c.args.declarations.now c.args.place.scope no_block scope_values = record { entries = entries; around = around; declared = by; within = within; are = λ name. refl } in
-    let bound = c.in_ok-bind_block.ensures.bound scope_values sees_scope in
+    let bound = subst (λ ls. (n : ℕ) (name : List ℕ) → bound_in c.bind_block.new.blocks n name ≡ if n == edge then or_else (block_of scope_values (lines_text ls) name) (bound_in c.self.inside.block_values n name) else bound_in c.self.inside.block_values n name) c.as_slice.ensures.value
+    (c.in_ok-bind_block.ensures.bound scope_values sees_scope) in
     let block_is = open-block old entries block c.bind_block.new.blocks edge held count bound in
     let sees : Sees c.args.declarations.now c.args.place.scope (bound_in c.bind_block.new.blocks edge) values = record { entries = entries; around = around; declared = by; within = within; are = λ name. ap (λ o. unwrap_or o (scope_values name)) (sym (block_is name)) } in
     let late = late-fault e entries outputs rule_text inputs lines c.args.rule.number c.args.rule.rule.now (bound_in c.bind_block.new.blocks edge) rule_is there block_is in
@@ -52,11 +53,11 @@ returns-in_err-dyndep c = λ entries around depth by within rule_is there holds.
 
 pub returns : goal.returns
 returns c = λ entries around depth by within rule_is there holds.
-    let lines = lines_text c.args.build.lines.now in
-    let outputs = outputs_of_build c.args.build in
-    let inputs = inputs_of_build c.args.build in
-    let rule_text : NameText = record { spot = c.args.build.rule_spot; name = c.args.build.rule.now } in
-    let e = entry_at_place c.args.place around depth (build_text c.args.build) in
+    let lines = lines_text c.args.build.now.lines.items in
+    let outputs = outputs_text c.args.build.now.outputs in
+    let inputs = inputs_text c.args.build.now.inputs in
+    let rule_text : NameText = name_text c.args.build.now.rule in
+    let e = entry_at_place c.args.place around depth (build_text c.args.build.now) in
     let scope_values : Values = value_after entries (c.args.place.scope ∷ around) in
     let block : Block = block_of scope_values lines in
     let values : Values = on_line scope_values block in
@@ -65,7 +66,8 @@ returns c = λ entries around depth by within rule_is there holds.
     let edge = length c.as_slice-edge.result.now in
     let count : edge ≡ length old.details = ap length c.as_slice-edge.ensures.value ∙ sym (length-map c.self.inside.details.items detail_text) in
     let sees_scope : Sees c.args.declarations.now c.args.place.scope no_block scope_values = record { entries = entries; around = around; declared = by; within = within; are = λ name. refl } in
-    let bound = c.in_ok-bind_block.ensures.bound scope_values sees_scope in
+    let bound = subst (λ ls. (n : ℕ) (name : List ℕ) → bound_in c.bind_block.new.blocks n name ≡ if n == edge then or_else (block_of scope_values (lines_text ls) name) (bound_in c.self.inside.block_values n name) else bound_in c.self.inside.block_values n name) c.as_slice.ensures.value
+    (c.in_ok-bind_block.ensures.bound scope_values sees_scope) in
     let block_is = open-block old entries block c.bind_block.new.blocks edge held count bound in
     let sees : Sees c.args.declarations.now c.args.place.scope (bound_in c.bind_block.new.blocks edge) values = record { entries = entries; around = around; declared = by; within = within; are = λ name. ap (λ o. unwrap_or o (scope_values name)) (sym (block_is name)) } in
     let late = late-fault e entries outputs rule_text inputs lines c.args.rule.number c.args.rule.rule.now (bound_in c.bind_block.new.blocks edge) rule_is there block_is in

@@ -1,16 +1,12 @@
-use Rattle.std.proofs.Common.{◌≡◌, List, ◌∷◌, Ok, refl, ap, subst}
+use Rattle.std.proofs.Common.{List, ◌∷◌, Ok, refl, ap, subst}
 use Rattle.nj_text.specs.declared.word.Word.{Word}
 use Rattle.nj_text.specs.Words.{word_text}
 use Rattle.nj_manifest.specs.LineSteps.{NameText}
-use Rattle.nj_manifest.specs.Statements.{StatementText, BindingText, RuleText, PoolText, DefaultText}
-use Rattle.nj_manifest.specs.declared.statement.Statement.TheVariants as statement
-use Rattle.nj_manifest.specs.Contents.{statement_text, words_text, lines_text}
+use Rattle.nj_manifest.specs.Statements.{BindingText, RuleText, PoolText, DefaultText}
+use Rattle.nj_manifest.specs.Contents.{name_text, words_text, lines_text, build_text, statement_text}
 use Rattle.nj_scope.specs.ReadingList.{Entry}
-use Rattle.nj_build.specs.declared.edge.Build.{Build}
-use Rattle.nj_build.specs.Answers.{build_text}
 use Rattle.nj_graph.specs.Reading.{entry_at, own_fault}
 use Rattle.nj_graph.specs.ReaderContracts.{Holds, IsFault, Declares, site_of}
-use Rattle.nj_graph.proofs.Holding.{build-same}
 use Rattle.nj_manifest.proofs.Handed.{handed}
 use Rattle.nj_graph.proofs.Naming.{stops-own, reads-one}
 use Rattle.nj_graph.proofs.reader.Reader.read_item.Goals as goal
@@ -26,7 +22,7 @@ returns-in_err-bind-in-Binding-clause-reads g c = λ main entries around depth h
 
 pub returns-in_err-declare_rule-in-Rule-clause-reads : goal.returns-in_err-declare_rule-in-Rule-clause-reads
 returns-in_err-declare_rule-in-Rule-clause-reads g c = λ main entries around depth holds inside.
-    let name : NameText = record { spot = c.in-Rule.name_spot; name = c.in-Rule.name.now } in
+    let name : NameText = name_text c.in-Rule.name in
     let start = c.args.statement.now.spot in
     let e : Entry = entry_at (site_of c.args.file around depth) (record { spot = start; item = RuleText name (lines_text c.in-Rule.lines.items) }) in
     let source = g.S.FileSource.state c.args.source.now in
@@ -36,7 +32,7 @@ returns-in_err-declare_rule-in-Rule-clause-reads g c = λ main entries around de
 
 pub returns-in_err-declare_pool-in-Pool-clause-reads : goal.returns-in_err-declare_pool-in-Pool-clause-reads
 returns-in_err-declare_pool-in-Pool-clause-reads g c = λ main entries around depth holds inside.
-    let name : NameText = record { spot = c.in-Pool.name_spot; name = c.in-Pool.name.now } in
+    let name : NameText = name_text c.in-Pool.name in
     let start = c.args.statement.now.spot in
     let e : Entry = entry_at (site_of c.args.file around depth) (record { spot = start; item = PoolText name (lines_text c.in-Pool.lines.items) }) in
     let source = g.S.FileSource.state c.args.source.now in
@@ -48,7 +44,7 @@ returns-in_err-declare_pool-in-Pool-clause-reads g c = λ main entries around de
 
 pub returns-in_ok-declare_rule-in-Rule-clause-reads : goal.returns-in_ok-declare_rule-in-Rule-clause-reads
 returns-in_ok-declare_rule-in-Rule-clause-reads g c = λ main entries around depth holds inside.
-    let name : NameText = record { spot = c.in-Rule.name_spot; name = c.in-Rule.name.now } in
+    let name : NameText = name_text c.in-Rule.name in
     let start = c.args.statement.now.spot in
     let e : Entry = entry_at (site_of c.args.file around depth) (record { spot = start; item = RuleText name (lines_text c.in-Rule.lines.items) }) in
     let source = g.S.FileSource.state c.args.source.now in
@@ -61,25 +57,18 @@ returns-in_ok-declare_rule-in-Rule-clause-reads g c = λ main entries around dep
 pub returns-in_err-build-in-Build-clause-reads : goal.returns-in_err-build-in-Build-clause-reads
 returns-in_err-build-in-Build-clause-reads g c = λ main entries around depth holds inside.
     let source = g.S.FileSource.state c.args.source.now in
-    let item : StatementText = statement_text (statement.Build c.in-Build.explicit_outs c.in-Build.implicit_outs c.in-Build.rule c.in-Build.rule_spot c.in-Build.explicit c.in-Build.implicit c.in-Build.order_only c.in-Build.validations c.in-Build.lines) in
-    let b : Build = record { explicit_outputs = c.as_slice.result; implicit_outputs = c.as_slice-in-Build.result; rule = c.in-Build.rule; rule_spot = c.in-Build.rule_spot; explicit_inputs = c.as_slice-in-Build-2.result; implicit_inputs = c.as_slice-in-Build-3.result; order_only_inputs = c.as_slice-in-Build-4.result; validations = c.as_slice-in-Build-5.result; lines = c.as_slice-in-Build-6.result } in
-    let same : build_text b ≡ item = build-same b _ _ _ _ _ _ _ c.as_slice.ensures.value c.as_slice-in-Build.ensures.value c.as_slice-in-Build-2.ensures.value c.as_slice-in-Build-3.ensures.value c.as_slice-in-Build-4.ensures.value c.as_slice-in-Build-5.ensures.value c.as_slice-in-Build-6.ensures.value in
-    let at : StatementText → Entry = λ i. entry_at (site_of c.args.file around depth) (record { spot = c.args.statement.now.spot; item = i }) in
+    let e : Entry = entry_at (site_of c.args.file around depth) (record { spot = c.args.statement.now.spot; item = build_text c.in-Build.build }) in
     let fault = c.in_err-build-in-Build.field-0.0 in
     rw (handed fault c.from_residual-in_err-build-in-Build.result c.from_residual-in_err-build-in-Build.ensures, ap statement_text c.in-Build.is)
-    (stops-own main source source c.args.self.now entries holds refl c.args.file.left (at item) fault
-    (subst (λ i. IsFault (own_fault (at i) entries) fault) same (c.in_err-build-in-Build.ensures.declares main entries around depth holds inside)))
+    (stops-own main source source c.args.self.now entries holds refl c.args.file.left e fault (c.in_err-build-in-Build.ensures.declares main entries around depth holds inside))
 
 pub returns-in_ok-build-in-Build-clause-reads : goal.returns-in_ok-build-in-Build-clause-reads
 returns-in_ok-build-in-Build-clause-reads g c = λ main entries around depth holds inside.
     let source = g.S.FileSource.state c.args.source.now in
-    let item : StatementText = statement_text (statement.Build c.in-Build.explicit_outs c.in-Build.implicit_outs c.in-Build.rule c.in-Build.rule_spot c.in-Build.explicit c.in-Build.implicit c.in-Build.order_only c.in-Build.validations c.in-Build.lines) in
-    let b : Build = record { explicit_outputs = c.as_slice.result; implicit_outputs = c.as_slice-in-Build.result; rule = c.in-Build.rule; rule_spot = c.in-Build.rule_spot; explicit_inputs = c.as_slice-in-Build-2.result; implicit_inputs = c.as_slice-in-Build-3.result; order_only_inputs = c.as_slice-in-Build-4.result; validations = c.as_slice-in-Build-5.result; lines = c.as_slice-in-Build-6.result } in
-    let same : build_text b ≡ item = build-same b _ _ _ _ _ _ _ c.as_slice.ensures.value c.as_slice-in-Build.ensures.value c.as_slice-in-Build-2.ensures.value c.as_slice-in-Build-3.ensures.value c.as_slice-in-Build-4.ensures.value c.as_slice-in-Build-5.ensures.value c.as_slice-in-Build-6.ensures.value in
-    let at : StatementText → Entry = λ i. entry_at (site_of c.args.file around depth) (record { spot = c.args.statement.now.spot; item = i }) in
-    let declares = subst (λ i. Declares main c.build.new.self (at i) entries (Ok tt)) same (c.in_ok-build-in-Build.ensures.declares main entries around depth holds inside) in
+    let e : Entry = entry_at (site_of c.args.file around depth) (record { spot = c.args.statement.now.spot; item = build_text c.in-Build.build }) in
+    let declares = c.in_ok-build-in-Build.ensures.declares main entries around depth holds inside in
     rw (ap statement_text c.in-Build.is)
-    (reads-one main source c.args.self.now c.build.new.self (at item) entries holds declares.1 declares.0 c.in_ok-build-in-Build.ensures.files (λ opens. refl))
+    (reads-one main source c.args.self.now c.build.new.self e entries holds declares.1 declares.0 c.in_ok-build-in-Build.ensures.files (λ opens. refl))
 
 pub returns-in_err-add_defaults-in-Default-clause-reads :
     goal.returns-in_err-add_defaults-in-Default-clause-reads
@@ -89,14 +78,14 @@ returns-in_err-add_defaults-in-Default-clause-reads g c = λ main entries around
     let fault = c.in_err-add_defaults-in-Default.field-0.0 in
     rw (handed fault c.from_residual-in_err-add_defaults-in-Default.result c.from_residual-in_err-add_defaults-in-Default.ensures, ap statement_text c.in-Default.is)
     (stops-own main source source c.args.self.now entries holds refl c.args.file.left (at c.in-Default.words.items) fault
-    (subst (λ words. IsFault (own_fault (at words) entries) fault) c.as_slice-in-Default.ensures.value (c.in_err-add_defaults-in-Default.ensures.declares main entries around depth holds inside)))
+    (subst (λ words. IsFault (own_fault (at words) entries) fault) c.as_slice.ensures.value (c.in_err-add_defaults-in-Default.ensures.declares main entries around depth holds inside)))
 
 pub returns-in_ok-add_defaults-in-Default-clause-reads :
     goal.returns-in_ok-add_defaults-in-Default-clause-reads
 returns-in_ok-add_defaults-in-Default-clause-reads g c = λ main entries around depth holds inside.
     let source = g.S.FileSource.state c.args.source.now in
     let at : List Word → Entry = λ words. entry_at (site_of c.args.file around depth) (record { spot = c.args.statement.now.spot; item = DefaultText (words_text words) }) in
-    let declares = subst (λ words. Declares main c.add_defaults.new.self (at words) entries (Ok tt)) c.as_slice-in-Default.ensures.value (c.in_ok-add_defaults-in-Default.ensures.declares main entries around depth holds inside) in
+    let declares = subst (λ words. Declares main c.add_defaults.new.self (at words) entries (Ok tt)) c.as_slice.ensures.value (c.in_ok-add_defaults-in-Default.ensures.declares main entries around depth holds inside) in
     rw (ap statement_text c.in-Default.is)
     (reads-one main source c.args.self.now c.add_defaults.new.self (at c.in-Default.words.items) entries holds declares.1 declares.0 c.in_ok-add_defaults-in-Default.ensures.files (λ opens. refl))
 
@@ -118,7 +107,7 @@ returns-in_ok-bind-in-Binding-clause-reads g c = λ main entries around depth ho
 
 pub returns-in_ok-declare_pool-in-Pool-clause-reads : goal.returns-in_ok-declare_pool-in-Pool-clause-reads
 returns-in_ok-declare_pool-in-Pool-clause-reads g c = λ main entries around depth holds inside.
-    let name : NameText = record { spot = c.in-Pool.name_spot; name = c.in-Pool.name.now } in
+    let name : NameText = name_text c.in-Pool.name in
     let start = c.args.statement.now.spot in
     let e : Entry = entry_at (site_of c.args.file around depth) (record { spot = start; item = PoolText name (lines_text c.in-Pool.lines.items) }) in
     let declares = subst (λ ls. Declares main c.declare_pool.new.self (entry_at (site_of c.args.file around depth) (record { spot = start; item = PoolText name (lines_text ls) })) entries (Ok tt)) c.deref-in-Pool.ensures.value
