@@ -1,12 +1,15 @@
 -- The lines of a list of paths: they rise, and are the listed paths.
-use Rattle.std.proofs.Common.{◌≡◌, ◌⊎◌, inl, inr, ℕ, Bool, true, false, not, ◌||◌, cond, List, [], ◌∷◌, bytes_eq, refl, sym, ap, subst, ◌∙◌, true≢false, arith}
+use Rattle.std.proofs.Common.{◌≡◌, ◌≢◌, ◌⊎◌, inl, inr, ℕ, Bool, true, false, not, ◌||◌, cond, Some, None, List, [], ◌∷◌, map, bytes_eq, refl, sym, ap, subst, ◌∙◌, true≢false, arith}
 use Rattle.std.specs.List.{AllByRecursion, Contains, filter, IsDistinct}
 use Rattle.std.proofs.lemmas.List.Sorted.{IsPermutation-sym, Contains-permutation}
 use Rattle.std.proofs.lemmas.Slice.Eq.{bytes_eq-Decides}
 use Rattle.nj_edges.specs.Edges.{is_among}
 use Rattle.nj_graph.specs.Graph.{is_before}
 use Rattle.nj_graph.proofs.NameLemmas.{strict-sorted, permuted-sorted, contains-here, contains-later, contains-cases}
-use Rattle.nj_tools.specs.Listings.{each_once, sorted, LinesRise, ListedHaveLines}
+use Rattle.nj_text.specs.Quotes.{quoted}
+use Rattle.nj_text.specs.QuoteLaws.{shell_word}
+use Rattle.nj_text.proofs.QuotedTexts.{takes_the_path}
+use Rattle.nj_tools.specs.Listings.{each_once, sorted, LinesRise, ListedHaveLines, QuotedLinesRise, QuotesHaveLines}
 use Rattle.nj_tools.proofs.CollectedLemmas.{among-once}
 
 -- ---- they rise
@@ -82,4 +85,74 @@ listed-have_lines paths path =
     let moved = permuted-sorted is_before once in (
       λ h. contains-among paths path (sym (among-once paths path) ∙ among-contains once path (Contains-permutation (sorted once) once path (IsPermutation-sym once (sorted once) moved) h)),
       λ h. Contains-permutation once (sorted once) path moved (contains-among once path (among-once paths path ∙ among-contains paths path h)),
+    )
+
+-- ---- quoted
+
+has-byte : (a : ℕ) (x : List ℕ) → a ∷ x ≢ []
+has-byte a x h = absurd cc
+
+some-same : (x y : List ℕ) → Some x ≡ Some y → x ≡ y
+some-same x y h = cc
+
+quoted-some : (a : ℕ) (x : List ℕ) → quoted (a ∷ x) ≡ [] → [] ≡ a ∷ x
+quoted-some a x h = by (ap shell_word (sym h) ∙ takes_the_path (a ∷ x) (has-byte a x))
+  where
+    by : None ≡ Some (a ∷ x) → [] ≡ a ∷ x
+    by e = absurd cc
+
+-- a shell takes a quote for its path, so no two paths have the same one
+quoted-apart : (x y : List ℕ) → quoted x ≡ quoted y → x ≡ y
+unfolding quoted
+quoted-apart [] [] h = refl
+quoted-apart [] (b ∷ y) h = quoted-some b y (sym h)
+quoted-apart (a ∷ x) [] h = sym (quoted-some a x h)
+quoted-apart (a ∷ x) (b ∷ y) h =
+    some-same (a ∷ x) (b ∷ y) (sym (takes_the_path (a ∷ x) (has-byte a x)) ∙ ap shell_word h ∙ takes_the_path (b ∷ y) (has-byte b y))
+
+quotes-differ : (x y : List ℕ) → bytes_eq x y ≡ false → bytes_eq (quoted x) (quoted y) ≡ false
+quotes-differ x y h = by (bytes_eq (quoted x) (quoted y)) (bytes_eq-Decides (quoted x) (quoted y)).0
+  where
+    by : (b : Bool) → (b ≡ true → quoted x ≡ quoted y) → b ≡ false
+    by true same = absurd (true≢false (sym ((bytes_eq-Decides x y).1 (quoted-apart x y (same refl))) ∙ h))
+    by false same = refl
+
+all-quotes : (x : List ℕ) (ys : List (List ℕ)) → AllByRecursion (λ y. bytes_eq x y ≡ false) ys → AllByRecursion (λ z. bytes_eq (quoted x) z ≡ false) (map quoted ys)
+all-quotes x [] all = tt
+all-quotes x (y ∷ ys) all = (quotes-differ x y all.0, all-quotes x ys all.1)
+
+distinct-quotes : (xs : List (List ℕ)) → IsDistinct bytes_eq xs → IsDistinct bytes_eq (map quoted xs)
+unfolding IsDistinct
+distinct-quotes [] distinct = tt
+distinct-quotes (x ∷ xs) distinct = (all-quotes x xs distinct.0, distinct-quotes xs distinct.1)
+
+pub quoted-rise : QuotedLinesRise
+quoted-rise paths = strict-sorted (map quoted (each_once paths)) (distinct-quotes (each_once paths) (distinct-once paths))
+
+quote-of : (xs : List (List ℕ)) (text : List ℕ) → Contains (map quoted xs) text → (path : List ℕ) × Contains xs path × (quoted path ≡ text)
+quote-of [] text c = absurd (omega (arith, c.1))
+quote-of (x ∷ xs) text c = by (contains-cases (quoted x) text (map quoted xs) c) (quote-of xs text)
+  where
+    by : (text ≡ quoted x) ⊎ Contains (map quoted xs) text → (Contains (map quoted xs) text → (path : List ℕ) × Contains xs path × (quoted path ≡ text))
+        → (path : List ℕ) × Contains (x ∷ xs) path × (quoted path ≡ text)
+    by (inl is) rest = (x, contains-here x xs, sym is)
+    by (inr later) rest = let r = rest later in (r.0, contains-later x r.0 xs r.1, r.2)
+
+has-quote : (xs : List (List ℕ)) (path : List ℕ) → Contains xs path → Contains (map quoted xs) (quoted path)
+has-quote [] path c = absurd (omega (arith, c.1))
+has-quote (x ∷ xs) path c = by (contains-cases x path xs c) (has-quote xs path)
+  where
+    by : (path ≡ x) ⊎ Contains xs path → (Contains xs path → Contains (map quoted xs) (quoted path)) → Contains (map quoted (x ∷ xs)) (quoted path)
+    by (inl is) rest = subst (λ p. Contains (quoted p ∷ map quoted xs) (quoted path)) is (contains-here (quoted path) (map quoted xs))
+    by (inr later) rest = contains-later (quoted x) (quoted path) (map quoted xs) (rest later)
+
+pub quotes-have_lines : QuotesHaveLines
+quotes-have_lines paths text =
+    let once = each_once paths in
+    let moved = permuted-sorted is_before (map quoted once) in (
+      λ h.
+          let of = quote-of once text (Contains-permutation (sorted (map quoted once)) (map quoted once) text (IsPermutation-sym (map quoted once) (sorted (map quoted once)) moved) h) in
+          (of.0, contains-among paths of.0 (sym (among-once paths of.0) ∙ among-contains once of.0 of.1), of.2),
+      λ h. Contains-permutation (map quoted once) (sorted (map quoted once)) text moved
+          (subst (Contains (map quoted once)) h.2 (has-quote once h.0 (contains-among once h.0 (among-once paths h.0 ∙ among-contains paths h.0 h.1)))),
     )

@@ -1,5 +1,5 @@
 -- What `inputs` and `targets` write.
-use Rattle.std.specs.Prelude.{◌↔◌, ℕ, zero, suc, ◌+◌, ◌==◌, not, if◌then◌else◌, Option, Some, None, is_none, List, [], ◌∷◌, ◌++◌}
+use Rattle.std.specs.Prelude.{◌≡◌, ◌↔◌, ℕ, zero, suc, ◌+◌, ◌==◌, not, if◌then◌else◌, Option, Some, None, is_none, List, [], ◌∷◌, ◌++◌}
 use Rattle.std.specs.Prelude.{map, filter, flat_map, length, bytes_eq, codes}
 use Rattle.std.specs.List.{Contains}
 use Rattle.std.specs.List.Sorted.{IsStrictlySortedBy}
@@ -115,3 +115,13 @@ LinesRise = (paths : List (List ℕ)) → IsStrictlySortedBy (slice_cmp nat_cmp)
 -- A path has a line exactly when it is listed.
 abbrev pub ListedHaveLines : Type 0
 ListedHaveLines = (paths : List (List ℕ)) (path : List ℕ) → Contains (sorted (each_once paths)) path ↔ Contains paths path
+
+-- The lines of `inputs` rise by their bytes, so that each stands once.
+abbrev pub QuotedLinesRise : Type 0
+QuotedLinesRise =
+    (paths : List (List ℕ)) → IsStrictlySortedBy (slice_cmp nat_cmp) (sorted (map quoted (each_once paths)))
+
+-- A text is one of them exactly when it is the quote of a path that is listed.
+abbrev pub QuotesHaveLines : Type 0
+QuotesHaveLines = (paths : List (List ℕ)) (text : List ℕ)
+    → Contains (sorted (map quoted (each_once paths))) text ↔ ((path : List ℕ) × Contains paths path × (quoted path ≡ text))

@@ -1,7 +1,7 @@
 //! Laws of what the tools write. A law is a theorem, stated as a function with an empty body.
 
 ghost use Rattle.nj_tools.specs.Laws.{DepthZeroShowsAll};
-ghost use Rattle.nj_tools.specs.Listings.{LinesRise, ListedHaveLines};
+ghost use Rattle.nj_tools.specs.Listings.{LinesRise, ListedHaveLines, QuotedLinesRise, QuotesHaveLines};
 
 /// Depth 0 shows each tree whole: where no edge needs itself by a chain, it is the same with more
 /// levels.
@@ -14,4 +14,11 @@ pub fn depth_law()
 pub fn list_law()
     ensures rise { LinesRise }
     ensures listed { ListedHaveLines }
+{}
+
+/// The lines of `inputs` rise by their bytes, so that no two inputs have the same line; and the
+/// lines are the quotes of the inputs.
+pub fn input_lines_law()
+    ensures rise { QuotedLinesRise }
+    ensures quotes { QuotesHaveLines }
 {}

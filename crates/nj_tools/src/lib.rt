@@ -25,7 +25,7 @@ pub use commands::{write_commands, write_single_commands};
 pub use compdb::write_compdb;
 pub use fault::ToolFault;
 pub use inputs::write_inputs;
-pub use laws::{depth_law, list_law};
+pub use laws::{depth_law, input_lines_law, list_law};
 pub use memory::MemorySink;
 pub use queries::write_query;
 pub use rules::write_rules;
