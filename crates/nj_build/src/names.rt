@@ -59,8 +59,8 @@ impl Room {
         }
     }
 
-    /// The path that a word says in which each reference is empty: a slice of its file where that is
-    /// clean.
+    /// The path that a word says in which each reference is empty: a slice of its file where that
+    /// is clean.
     ///
     /// # Errors
     ///

@@ -33,9 +33,9 @@ pub fn run_words<S: FileSource, O: Sink, E: Sink>(
     }
 }
 
-/// Answers a request: reads the main file and all that it includes, joins what dyndep files discover
-/// if that is asked for, and writes what is asked for of the graph. A fault, or the mark at which the
-/// run was stopped, is a line on the error output.
+/// Answers a request: reads the main file and all that it includes, joins what dyndep files
+/// discover if that is asked for, and writes what is asked for of the graph. A fault, or the mark
+/// at which the run was stopped, is a line on the error output.
 pub fn run_tool<S: FileSource, O: Sink, E: Sink>(
     alloc: Global,
     source: &mut S,

@@ -85,7 +85,8 @@ impl Hasher for NameHasher {
         folded_product(self.state ^ self.pending, self.factor)
     }
 
-    /// Eight bytes at once are a number, as the length that comes before a name: a block of its own.
+    /// Eight bytes at once are a number, as the length that comes before a name: a block of its
+    /// own.
     #[inline(always)]
     fn write(&mut self, bytes: &[u8]) {
         match <[u8; 8]>::try_from(bytes) {

@@ -20,9 +20,9 @@ struct ReferringKey {
 }
 
 /// Which keys of a rule refer to which where no block binds one ("Rule variables" in the Ninja
-/// manual). It is made once for a rule, and tells of each edge that uses the rule whether variables
-/// refer to each other in a cycle, in time that the number of keys bounds. It holds no key of a rule
-/// of which no block leaves a cycle.
+/// manual). It is made once for a rule, and says of each edge that uses the rule whether variables
+/// refer to each other in a cycle, in time that the number of keys bounds. It holds no key of a
+/// rule of which no block leaves a cycle.
 #[derive(Drop)]
 pub struct KeyReferences {
     keys: Vec<ReferringKey>,
