@@ -42,9 +42,9 @@ stays (Lacking path place) p entries others h = refl
 
 -- ---- the files so far
 
--- a joining behind one that came to these paths
-abbrev behind : List (List ℕ) → JoinedText → JoinedText
-behind paths j = record { read = j.read; paths = paths ++ j.paths }
+-- a joining after one that came to these paths
+abbrev remainder : List (List ℕ) → JoinedText → JoinedText
+remainder paths j = record { read = j.read; paths = paths ++ j.paths }
 
 -- What was joined is held, and the whole joins what the files that are left join from here on.
 pub record FilesUnderway (stated : List Entry) (before after : SourceState) (old table : List Reading) (held : JoiningText) (left : List Pending) : Type 0 where
@@ -54,7 +54,7 @@ pub record FilesUnderway (stated : List Entry) (before after : SourceState) (old
   pub holds : HoldsJoined held stated now
   pub paths : List (List ℕ)
   pub came_to : with_all_new (paths_of old) paths ≡ paths_of files
-  pub goes_on : (all : List Reading) → IsPrefix files all → all_joined all stated ≡ behind paths (files_joined all stated left now)
+  pub goes_on : (all : List Reading) → IsPrefix files all → all_joined all stated ≡ remainder paths (files_joined all stated left now)
 
 module _ (stated : List Entry) (before : SourceState) (old : List Reading) where
   pub files-at-first : (held : JoiningText) → EachPathOnce old → HoldsJoined held stated stated → FilesUnderway stated before before old old held (dyndep_files (pending_read stated))
@@ -76,9 +76,9 @@ module _ (stated : List Entry) (before : SourceState) (old : List Reading) where
 
     module _ (p : Pending) (others : List Pending) (u : FilesUnderway stated before mid old table held (p ∷ others)) where
       -- the next file
-      next : (all : List Reading) → IsPrefix u.files all → (r : ReadingText) → file_joined all stated p u.now ≡ r → all_joined all stated ≡ behind u.paths (go_on r.end p r.entries (files_joined all stated others))
+      next : (all : List Reading) → IsPrefix u.files all → (r : ReadingText) → file_joined all stated p u.now ≡ r → all_joined all stated ≡ remainder u.paths (go_on r.end p r.entries (files_joined all stated others))
       unfolding files_joined
-      next all ext r is = u.goes_on all ext ∙ ap (λ (x : ReadingText). behind u.paths (go_on x.end p x.entries (files_joined all stated others))) is
+      next all ext r is = u.goes_on all ext ∙ ap (λ (x : ReadingText). remainder u.paths (go_on x.end p x.entries (files_joined all stated others))) is
 
       came : with_all_new (paths_of old) (u.paths ++ path_asked p) ≡ with_all_new (paths_of u.files) (path_asked p)
       came = all_new-append (paths_of old) u.paths (path_asked p) ∙ ap (λ ps. with_all_new ps (path_asked p)) u.came_to
@@ -132,6 +132,6 @@ module _ (stated : List Entry) (before : SourceState) (old : List Reading) where
           by (inr e) = inr (record {
             joined = record { read = record { entries = e.now; end = e.end }; paths = u.paths ++ path_asked p };
             answered = end-before before mid after e.end fault u.reads.failures e.answered;
-            joins = λ all ext lacks. next all (within all ext) (record { entries = e.now; end = e.end }) (e.joins all ext lacks) ∙ ap (behind u.paths) (stays e.end p e.now (files_joined all stated others) (is-stopped mid after e.end fault e.answered));
+            joins = λ all ext lacks. next all (within all ext) (record { entries = e.now; end = e.end }) (e.joins all ext lacks) ∙ ap (remainder u.paths) (stays e.end p e.now (files_joined all stated others) (is-stopped mid after e.end fault e.answered));
             came_to = came ∙ subst (λ fs. with_all_new (paths_of fs) (path_asked p) ≡ paths_with e.end s.files) u.reads.held_is e.came_to;
           })

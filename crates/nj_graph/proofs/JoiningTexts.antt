@@ -145,10 +145,10 @@ to-come false lines = refl
 
 pub fewer-to-come : (before after : DyndepLeft) (b : Bool) (lines rest : List Line) (entry : EntryText) → before ≡ left_by b lines → after ≡ left_by true rest → left_entry b lines ≡ Ok (Some entry, rest)
     → lines_to_come after < lines_to_come before
-fewer-to-come before after b lines rest entry at behind next =
+fewer-to-come before after b lines rest entry at remainder next =
     let takes = left_entry-takes b lines entry rest next in
     let here : lines_to_come before ≡ ahead lines = ap lines_to_come at ∙ to-come b lines in
-    let there : lines_to_come after ≡ ahead rest = ap lines_to_come behind in
+    let there : lines_to_come after ≡ ahead rest = ap lines_to_come remainder in
     omega (arith, takes, here, there)
 
 pub next-stops : (file : List ℕ) (stated : List Entry) (text : List ℕ) (joined : List Entry) (held : JoiningText) (b : Bool) (lines : List Line) (before after : DyndepLeft) (fault : GraphFault)

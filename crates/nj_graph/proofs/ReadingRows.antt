@@ -155,9 +155,9 @@ rule_hidden : reads_all (codes "rule r\n  command = d\nsubninja s\n") (a_rule �
 unfolding on_files
 rule_hidden = refl
 
-rule_behind_included : refuses (codes "include s\nrule r\n  command = d\n") (a_rule ∷ []) main_file (at 2 6) (DuplicateRule (codes "r"))
+rule_after_included : refuses (codes "include s\nrule r\n  command = d\n") (a_rule ∷ []) main_file (at 2 6) (DuplicateRule (codes "r"))
 unfolding on_files
-rule_behind_included = refl
+rule_after_included = refl
 
 -- ---- files
 
@@ -188,21 +188,21 @@ unfolding on_files
 openings_within_itself = refl
 
 -- the name of the file with so many others after it
-abbrev name_behind : ℕ → List ℕ
-name_behind zero = codes "x"
-name_behind (suc n) = codes "a" ++ name_behind n
+abbrev name_remainder : ℕ → List ℕ
+name_remainder zero = codes "x"
+name_remainder (suc n) = codes "a" ++ name_remainder n
 
 -- so many files, each of which includes the next; the last one includes `x`, which is not there
 abbrev chain : ℕ → List Reading
 chain zero = missing (codes "x") ∷ []
-chain (suc n) = file (name_behind (suc n)) (codes "include " ++ name_behind n) ∷ chain n
+chain (suc n) = file (name_remainder (suc n)) (codes "include " ++ name_remainder n) ∷ chain n
 
-missing_in_room : refuses (codes "include " ++ name_behind 30) (chain 30) (codes "ax") (at 1 9) (Missing (codes "x"))
+missing_in_room : refuses (codes "include " ++ name_remainder 30) (chain 30) (codes "ax") (at 1 9) (Missing (codes "x"))
 unfolding on_files
 missing_in_room = refl
 
 -- where 32 files are open, no other is looked for
-missing_without_room : refuses (codes "include " ++ name_behind 31) (chain 31) (codes "ax") (at 1 9) TooDeep
+missing_without_room : refuses (codes "include " ++ name_remainder 31) (chain 31) (codes "ax") (at 1 9) TooDeep
 unfolding on_files
 missing_without_room = refl
 

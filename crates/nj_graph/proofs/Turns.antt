@@ -173,11 +173,11 @@ module _ (main : List ℕ) (before after : SourceState) (old held : Reader) (lef
   -- ---- a statement
 
   module _ (last : SourceState) (later : Reader) (s : PlacedText) (rest : List Line) (next : next_statement lines ≡ Ok (Some s, rest)) where
-    abbrev behind : (fewer : ℕ) → List Reading → List Entry → ReadingText
-    behind fewer all es = statements_read (opened_in all left) site (parsed_in next_statement fewer rest).items (parsed_in next_statement fewer rest).fault es
+    abbrev remainder : (fewer : ℕ) → List Reading → List Entry → ReadingText
+    remainder fewer all es = statements_read (opened_in all left) site (parsed_in next_statement fewer rest).items (parsed_in next_statement fewer rest).fault es
 
     first : (u : Underway main before after old held left site text entries lines) (fewer : ℕ) → parsed_in next_statement u.most lines ≡ and_parsed s (parsed_in next_statement fewer rest)
-        → (all : List Reading) → IsPrefix u.files all → reading_of_text all ≡ and_then (statement_read (opened_in all left) (entry_at site s) u.now) (behind fewer all)
+        → (all : List Reading) → IsPrefix u.files all → reading_of_text all ≡ and_then (statement_read (opened_in all left) (entry_at site s) u.now) (remainder fewer all)
     unfolding statements_read
     first u fewer is all ext = u.goes_on all ext ∙ ap (λ (x : Parsed PlacedText). statements_read (opened_in all left) site x.items x.fault u.now) is
 
@@ -193,7 +193,7 @@ module _ (main : List ℕ) (before after : SourceState) (old held : Reader) (lef
           holds = r.holds;
           most = step.0;
           room = step.2;
-          goes_on = λ all ext. first u step.0 step.1 all (extends-trans all r.files u.files ext (read-extends after last u.files r.files there.reads)) ∙ ap (λ x. and_then x (behind step.0 all)) (r.read all ext);
+          goes_on = λ all ext. first u step.0 step.1 all (extends-trans all r.files u.files ext (read-extends after last u.files r.files there.reads)) ∙ ap (λ x. and_then x (remainder step.0 all)) (r.read all ext);
         }
 
     pub turn-stops : (fault : GraphFault) (u : Underway main before after old held left site text entries lines) → StopsAt main after last held.files (λ all. statement_read (opened_in all left) (entry_at site s) u.now) fault
@@ -202,8 +202,8 @@ module _ (main : List ℕ) (before after : SourceState) (old held : Reader) (lef
         let step = parsed-step next_statement u.most lines rest s next (statement_takes lines s rest next) u.room in
         stops-then main before after last old.files u.files held.files (λ all. statement_read (opened_in all left) (entry_at site s) u.now) reading_of_text u.reads (record {
           comes = λ all ext front h. subst (λ r. IsPrefix front (paths_come_to main r)) (sym (first u step.0 step.1 all ext))
-              (and_then-comes main front (statement_read (opened_in all left) (entry_at site s) u.now) (behind step.0 all) h (λ es. statements-come main all left site (parsed_in next_statement step.0 rest).items (parsed_in next_statement step.0 rest).fault es));
-          ends = λ all ext es end stopped h. first u step.0 step.1 all ext ∙ ap (λ x. and_then x (behind step.0 all)) h ∙ stays es end (behind step.0 all) stopped;
+              (and_then-comes main front (statement_read (opened_in all left) (entry_at site s) u.now) (remainder step.0 all) h (λ es. statements-come main all left site (parsed_in next_statement step.0 rest).items (parsed_in next_statement step.0 rest).fault es));
+          ends = λ all ext es end stopped h. first u step.0 step.1 all ext ∙ ap (λ x. and_then x (remainder step.0 all)) h ∙ stays es end (remainder step.0 all) stopped;
         }) fault stops
       where
         stays : (es : List Entry) (end : End) (k : List Entry → ReadingText) → IsStopped end → go_on end es k ≡ record { entries = es; end = end }
@@ -221,7 +221,7 @@ pub next-none : (file : List ℕ) (before after : Left) (lines : List Line) (fou
 next-none file before after lines found at is next = subst (λ f. NextOf file lines after (Ok f)) is (subst (λ b. NextIs file b after (Ok found)) at next)
 
 pub fewer-left : (before after : Left) (lines rest : List Line) (s : PlacedText) → before ≡ Lines lines → after ≡ Lines rest → next_statement lines ≡ Ok (Some s, rest) → lines_left after < lines_left before
-fewer-left before after lines rest s at behind next = rw (at, behind) (statement_takes lines s rest next)
+fewer-left before after lines rest s at remainder next = rw (at, remainder) (statement_takes lines s rest next)
 
 pub next-stops : (main : List ℕ) (told after : SourceState) (old held : Reader) (left : ℕ) (site : Site) (text : List ℕ) (entries : List Entry) (lines : List Line) (before later : Left) (fault : GraphFault)
     → Underway main told after old held left site text entries lines → before ≡ Lines lines → NextIs site.file before later (Err fault)

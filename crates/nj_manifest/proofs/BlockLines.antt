@@ -127,7 +127,7 @@ pub start-begins : (allowed : Keys) (ls : List Line) (answer : Result LineStart 
 start-begins allowed ls answer s h =
     subst (λ a. Begins allowed (lines_weight ls) (block allowed ls) a s) h.0 (subst (Begins allowed (lines_weight ls) (block allowed ls) (begun (without_comments ls)).answer) (sym h.1) (begun-begins allowed (lines_weight ls) ls (omega arith)))
 
--- behind a line stands the block that follows it
+-- after a line stands the block that follows it
 pub block-after : (allowed : Keys) (l : Line) (ls : List Line) → block allowed (lines_after l ls) ≡ or_last l (no_lines (lines_after l ls)) (block allowed ls)
 unfolding block
 block-after allowed l ls = by_last l.is_last refl
@@ -160,7 +160,7 @@ still-begins allowed (Failed f) = tt
 abbrev pub Started : LineStart → (before after : State) → Type 0
 Started start before after = Answers {X = LineStart} (λ s. s) (Ok start) after (start_line_of before)
 
--- An indented line stands behind the start of a line only.
+-- An indented line stands after the start of a line only.
 started-indented : (allowed : Keys) (s middle : State) → Started start.Indented s middle → (ms : List Line) × (s ≡ Between ms) × BeginsLine allowed (lines_weight ms) (block allowed ms) middle
 started-indented allowed (Between ms) middle h = (ms, refl, start-begins allowed ms (Ok start.Indented) middle h)
 started-indented allowed (Inside l ls) middle h = absurd (middle_is_indented h.0)
@@ -183,7 +183,7 @@ lines_left-line allowed s middle line after h e =
     let here : lines_left s ≡ lines_weight b.0 = ap lines_left b.1 in
     let there : lines_left after ≡ lines_weight (lines_after b.2.0 b.2.1) = ap lines_left (line-after allowed b.2.0 b.2.1 middle line after b.2.2 e) in
     let fewer : lines_weight b.2.1 < lines_weight b.0 = b.2.4 in
-    let behind = weight-after b.2.0 b.2.1 in
+    let remainder = weight-after b.2.0 b.2.1 in
     omega arith
 
 in_front-more : (front : List LineText) (line : LineText) (after : State) (l : Line) (last others : Parse (List LineText)) (x : Step LineText) → x ≡ Ok (line, after)
@@ -194,7 +194,7 @@ in_front-more front line after l last others x h = rw h (with_more (or_last l la
     with_more (Err f) = refl
     with_more (Ok o) = ap (λ (x : List LineText). Ok (x, o.1)) (sym (append_assoc front (line ∷ []) o.0))
 
--- the block behind a line
+-- the block after a line
 after-turn : (allowed : Keys) (front : List LineText) (l : Line) (ms : List Line) (middle : State) (line : LineText) (after : State) (left whole : Parse (List LineText)) → middle ≡ Inside (without_spaces l) ms
     → left ≡ block_by allowed IndentedLine l ms (block allowed ms) → in_front front left ≡ whole → line_next allowed middle ≡ Ok (line, after) → in_front (front ++ line ∷ []) (block allowed (lines_after l ms)) ≡ whole
 after-turn allowed front l ms middle line after left whole i b w e =

@@ -36,7 +36,7 @@ no_statement ended s rest h = absurd (apart (ap (λ (r : Parse (Option PlacedTex
     apart : None ≡ Some s → ⊥
     apart e = absurd cc
 
--- ---- behind a line
+-- ---- after a line
 
 no_fewer : (l : Line) (ls : List Line) → ahead (lines_after l ls) ≤ ahead (l ∷ ls)
 no_fewer l ls = by_last l.is_last refl
@@ -117,7 +117,7 @@ statement-takes l ls s rest e h =
     let head = bind-ok (head_next (Inside l ls)) _ (Some s, rest) h in
     let item = bind-ok (with_block (line_spot l) head.0.0 (lines_from head.0.1)) _ (Some s, rest) head.2 in
     let there = head-inside l ls head.0.0 head.0.1 head.1 in
-    let behind : ahead item.0.1 ≤ ahead (lines_from head.0.1) = with_block-within (line_spot l) head.0.0 (lines_from head.0.1) item.0.0 item.0.1 item.1 in
+    let remainder : ahead item.0.1 ≤ ahead (lines_from head.0.1) = with_block-within (line_spot l) head.0.0 (lines_from head.0.1) item.0.0 item.0.1 item.1 in
     let same : ahead (lines_from head.0.1) ≡ ahead (lines_after l ls) = ap (λ s. ahead (lines_from s)) there in
     let last : ahead item.0.1 ≡ ahead rest = ap ahead (rest-is _ (Some s) item.0.1 rest item.2) in
     let taken = fewer l ls (plain-units l e) in

@@ -148,7 +148,7 @@ goes_after : (k j : State → Result State Fault) (l : Line) (before : List Line
 goes_after k j l before begun fault same (with_text bytes plain offered end some) = with_text bytes plain offered end (same (goes_on before begun (written bytes) []) ∙ some)
 goes_after k j l before begun fault same (with_end spaces gap cut of_spaces of_blanks end some) = with_end spaces gap cut of_spaces of_blanks end (same (goes_on before spaces (written []) []) ∙ some)
 
--- behind a line that says nothing, or is read, and is not the last
+-- after a line that says nothing, or is read, and is not the last
 lines_after_one : (k j : State → Result State Fault) (l : Line) (ls : List Line) (fault : Fault) → ((ms : List Line) → in_lines j (l ∷ ms) ≡ in_lines k ms) → LinesStuck k ls fault → LinesStuck j (l ∷ ls) fault
 lines_after_one k j l ls fault same r = record {
   before = l ∷ r.before;
@@ -204,7 +204,7 @@ all_pass : (p : TextUnit → Bool) (us : List TextUnit) → AllIn p us → list_
 all_pass p [] a = refl
 all_pass p (u ∷ us) a = and_from _ _ a.0 (all_pass p us a.1)
 
--- the reading fails behind the first blanks, and so with each rest that begins with the same element
+-- the reading fails after the first blanks, and so with each rest that begins with the same element
 many_here : (l : Line) (ls : List Line) (fault : Fault) → kind_of l ≡ IndentedLine → NamesPlaceInEntry fault (with_units (skip (after_spaces l.units)) l)
     → ((x : List TextUnit) (d : Line) (ms : List Line) → element x ≡ element (skip (after_spaces l.units)) → line_too_many (at (gap_of (after_spaces l.units) ++ x) d ms) ≡ Err (met_before (with_units x d) fault)) → LinesStuck line_too_many (l ∷ ls) fault
 many_here l ls fault h place refuses =
@@ -275,7 +275,7 @@ restat-told s =
     ended : State → Result State Fault
     ended key = equals_value key >>= λ v. Ok v.1
 
--- what is said of an indented line, by the units behind its spaces
+-- what is said of an indented line, by the units after its spaces
 abbrev Spaced : (spaces : List TextUnit) → Said Bool
 Spaced sp x e ms r = (kind_units (sp ++ x) ≡ IndentedLine) × (after_spaces (sp ++ x) ≡ x) × (led_on (restat_line (at x e ms)) ≡ told r)
 
@@ -297,7 +297,7 @@ restat_outcome l h = restat_turn l (after_spaces l.units) (begin (Spaced (spaces
 
 -- ---- the block
 
--- behind a line of the block
+-- after a line of the block
 abbrev pub first_line : State → Result State Fault
 first_line line = restat_line line >>= λ restat. called (start_line_of restat) >>= λ second. if_indented second.0 second.1 line_too_many
 
@@ -315,11 +315,11 @@ first_fails s f h = by_line (restat_line s) h
 first_reads : (s : State) (v : Bool) (ls : List Line) → led_on (restat_line s) ≡ Ok (v, Between ls) → first_line s ≡ in_lines line_too_many ls
 first_reads s v ls h = by_line (restat_line s) h
   where
-    behind : (t : State) → ◌≡◌ {A = Step Bool} (Ok (true, t)) (Ok (v, Between ls)) → t ≡ Between ls
-    behind t g = after-is true t (v, Between ls) g
+    remainder : (t : State) → ◌≡◌ {A = Step Bool} (Ok (true, t)) (Ok (v, Between ls)) → t ≡ Between ls
+    remainder t g = after-is true t (v, Between ls) g
 
     by_line : (r : Result State Fault) → led_on r ≡ Ok (v, Between ls) → (r >>= λ restat. called (start_line_of restat) >>= λ second. if_indented second.0 second.1 line_too_many) ≡ in_lines line_too_many ls
-    by_line (Ok t) g = ap (λ (u : State). called (start_line_of u) >>= λ second. if_indented second.0 second.1 line_too_many) (behind t g)
+    by_line (Ok t) g = ap (λ (u : State). called (start_line_of u) >>= λ second. if_indented second.0 second.1 line_too_many) (remainder t g)
     by_line (Err e) g = absurd cc
 
 -- the fault is in the line

@@ -122,12 +122,12 @@ module _ {whole : List TextUnit} (e : Line) where
   output_turn : (us : List TextUnit) → Along EntryPlain whole at_output after_name us → Outcome EntryPlain whole e
   output_turn us a = by_output (output_seen us e)
     where
-      behind : (out : WordText) (left : List TextUnit) → Along EntryPlain whole (λ s. with_output (out, s)) after_words left → Outcome EntryPlain whole e
-      behind out left b =
+      remainder : (out : WordText) (left : List TextUnit) → Along EntryPlain whole (λ s. with_output (out, s)) after_words left → Outcome EntryPlain whole e
+      remainder out left b =
           clear_turn e (λ s. clear_step s >>= λ c. at_outs out c.1) (λ c. at_outs out c.1) (λ s. refl) (along-clear (λ s. with_output (out, s)) (λ c. at_outs out c.1) (λ s. refl) b) (λ x h. h) after_output refl refl (ends_output out) (λ h c. outs_turn out (skip left) h c)
 
       by_output : OutputSeen us e → Outcome EntryPlain whole e
-      by_output (reads_on p) = behind p.value p.left (pass at_output output_word with_output (λ s. refl) a p)
+      by_output (reads_on p) = remainder p.value p.left (pass at_output output_word with_output (λ s. refl) a p)
       by_output (ends_here fault n) =
           let d = ends_word n.word in
           stuck fault (stick at_output output_word with_output (λ s. refl) a n.here n.bytes n.plain n.offered d.0 n.fits (λ ms. ap (λ r. r >>= with_output) (n.reads (written []) ms) ∙ d.1 ms))

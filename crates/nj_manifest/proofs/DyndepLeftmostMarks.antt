@@ -107,7 +107,7 @@ kept-value s =
 
 -- ---- steps
 
--- this identifier, and what is read behind it
+-- this identifier, and what is read after it
 abbrev pub this_word : {B : Type 0} → (word : List ℕ) → (State → Step B) → NameText × State → Step B
 this_word word next name = unless_missing (bytes_eq name.0.name word) (marked name.0.spot) (next name.1)
 

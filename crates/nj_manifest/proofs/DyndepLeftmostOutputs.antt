@@ -1,4 +1,4 @@
--- The one output behind `build`: it is read, or stuck where it is missing or broken.
+-- The one output after `build`: it is read, or stuck where it is missing or broken.
 use Rattle.std.proofs.Common.{◌≡◌, ℕ, Bool, true, false, cond, not, Option, Some, None, Ok, Err, inl, inr, List, [], ◌∷◌, ◌++◌, take, refl, sym, ap, ◌∙◌, append_assoc, codes}
 use Rattle.std.specs.List.{take_while}
 use Rattle.nj_text.specs.declared.fault.UnitFault.{UnitFault}
@@ -23,7 +23,7 @@ use Rattle.nj_manifest.proofs.LeftmostWords.{settled, settled_so, settled_blank,
 use Rattle.nj_manifest.proofs.LeftmostSections.{colon_settled}
 use Rattle.nj_manifest.proofs.DyndepLeftmostMarks.{marked, output_there, output_word}
 
--- what is written behind the output
+-- what is written after the output
 abbrev pub after_output : List ℕ
 after_output = codes ":dyndep"
 

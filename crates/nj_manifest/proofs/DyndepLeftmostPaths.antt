@@ -80,7 +80,7 @@ fault_there : (us : List TextUnit) (bad : UnitFault) → next_fault us ≡ Some 
 fault_there [] bad h = absurd cc
 fault_there (u ∷ us) bad h = refl
 
--- by the fault there, whether a word opens there, and the fault behind it
+-- by the fault there, whether a word opens there, and the fault after it
 abbrev word_by : Option UnitFault → Bool → Option UnitFault → (there other : Reply (Option WordText)) → Reply (Option WordText)
 word_by f t g there other = unless_fault f (cond t (unless_fault g there) other)
 
@@ -105,23 +105,23 @@ module _ (us : List TextUnit) (e : Line) (ms : List Line) where
 path_by-after : (spot : Spot) (bad : UnitFault) (s t : State) → path_by spot (Err bad) s ≡ path_by spot (Err bad) t
 path_by-after spot bad s t = refl
 
-word_behind : (us : List TextUnit) (e : Line) (bad : UnitFault) → are_apart us ≡ true → begins opens_word us ≡ true → next_fault (drop_while in_word us) ≡ Some bad → is_same_spot (fault_spot bad) (spot_of_first us e.end) ≡ false
-word_behind [] e bad a o h = absurd cc
-word_behind (u ∷ us) e bad a o h =
+word_after : (us : List TextUnit) (e : Line) (bad : UnitFault) → are_apart us ≡ true → begins opens_word us ≡ true → next_fault (drop_while in_word us) ≡ Some bad → is_same_spot (fault_spot bad) (spot_of_first us e.end) ≡ false
+word_after [] e bad a o h = absurd cc
+word_after (u ∷ us) e bad a o h =
     let dropped : drop_while in_word (u ∷ us) ≡ drop_while in_word us = ap (λ (t : Bool). cond t (drop_while in_word us) (u ∷ us)) (opening_in u.means o) in
-    let behind : next_fault (drop_while in_word us) ≡ Some bad = ap next_fault (sym dropped) ∙ h in
-    ap (λ (p : Spot). is_same_spot p u.spot) (fault-place (drop_while in_word us) e.end bad behind)
-    ∙ elsewhere in_word u.spot e.end us (and_parts _ _ a).0 (fault_there (drop_while in_word us) bad behind)
+    let remainder : next_fault (drop_while in_word us) ≡ Some bad = ap next_fault (sym dropped) ∙ h in
+    ap (λ (p : Spot). is_same_spot p u.spot) (fault-place (drop_while in_word us) e.end bad remainder)
+    ∙ elsewhere in_word u.spot e.end us (and_parts _ _ a).0 (fault_there (drop_while in_word us) bad remainder)
 
 path_cleared : (us : List TextUnit) (e : Line) (ms : List Line) → are_apart us ≡ true → path_here us e ms ≡ clear_at us e ms
 path_cleared us e ms a = by_fault (next_fault us) refl
   where
-    by_behind : (g : Option UnitFault) → next_fault (drop_while in_word us) ≡ g → begins opens_word us ≡ true → by_parts us e ms None true g ≡ Err (marked (spot_of_first us e.end))
-    by_behind None h o = refl
-    by_behind (Some bad) h o = same_spot us e ms bad false (word_behind us e bad a o h)
+    by_after : (g : Option UnitFault) → next_fault (drop_while in_word us) ≡ g → begins opens_word us ≡ true → by_parts us e ms None true g ≡ Err (marked (spot_of_first us e.end))
+    by_after None h o = refl
+    by_after (Some bad) h o = same_spot us e ms bad false (word_after us e bad a o h)
 
     by_opens : (t : Bool) → begins opens_word us ≡ t → by_parts us e ms None t (next_fault (drop_while in_word us)) ≡ clear_by None t (spot_of_first us e.end) (at us e ms)
-    by_opens true o = by_behind (next_fault (drop_while in_word us)) refl o
+    by_opens true o = by_after (next_fault (drop_while in_word us)) refl o
     by_opens false o = refl
 
     none : path_here us e ms ≡ by_parts us e ms (next_fault us) (begins opens_word us) (next_fault (drop_while in_word us))
@@ -171,8 +171,8 @@ clear_word f t spot s h g = rw (h, g) refl
 clear_bad : (f : Option UnitFault) (t : Bool) (spot : Spot) (s : State) (bad : UnitFault) → f ≡ Some bad → clear_by f t spot s ≡ Err (Bad bad)
 clear_bad f t spot s bad h = rw h refl
 
-clear_behind : (gap x : List TextUnit) (d : Line) (ms : List Line) → AllIn is_blank gap → begins is_blank x ≡ false → clear_step (at (gap ++ x) d ms) ≡ clear_at x d ms
-clear_behind gap x d ms a n = ap (λ (y : List TextUnit). clear_at y d ms) (skip_gap gap x a ∙ none_passed is_blank x n)
+clear_after : (gap x : List TextUnit) (d : Line) (ms : List Line) → AllIn is_blank gap → begins is_blank x ≡ false → clear_step (at (gap ++ x) d ms) ≡ clear_at x d ms
+clear_after gap x d ms a n = ap (λ (y : List TextUnit). clear_at y d ms) (skip_gap gap x a ∙ none_passed is_blank x n)
 
 settled_opens : (us : List TextUnit) → settled us ≡ true → begins opens_word us ≡ false
 settled_opens us h = not_so _ (and_parts _ _ (and_parts _ _ h).1).0
@@ -185,7 +185,7 @@ clear_passes t us more h = record {
   cut = gap_cut us;
   goes = λ x d ms fit.
       let stays = fits_settled (skip us) x h fit in
-      clear_behind (gap_of us) x d ms (gap_passes us) (settled_blank x stays) ∙ clear_ok _ _ _ _ (settled_fault x stays) (settled_opens x stays);
+      clear_after (gap_of us) x d ms (gap_passes us) (settled_blank x stays) ∙ clear_ok _ _ _ _ (settled_fault x stays) (settled_opens x stays);
   settled = λ x fit. by_fit x fit;
 }
   where
@@ -198,7 +198,7 @@ bad_there us e bad f = record {
   cut = gap_cut us;
   place = fault-place (skip us) e.end bad f;
   fails = λ ms. clear_bad _ _ _ _ bad f;
-  refuses = λ x d ms same. clear_behind (gap_of us) x d ms (gap_passes us) (no_blank_there us x same) ∙ clear_bad _ _ _ _ bad (fault-same x (skip us) (element-front x (skip us) same) ∙ f);
+  refuses = λ x d ms same. clear_after (gap_of us) x d ms (gap_passes us) (no_blank_there us x same) ∙ clear_bad _ _ _ _ bad (fault-same x (skip us) (element-front x (skip us) same) ∙ f);
 }
 
 opening_there : (us : List TextUnit) → begins opens_word us ≡ true → is_empty us ≡ false
@@ -212,7 +212,7 @@ word_there us e f o = record {
   fails = λ ms. clear_word _ _ _ _ f o;
   refuses = λ x d ms same.
       let sees = element-front x (skip us) same in
-      clear_behind (gap_of us) x d ms (gap_passes us) (no_blank_there us x same)
+      clear_after (gap_of us) x d ms (gap_passes us) (no_blank_there us x same)
       ∙ (clear_word _ _ _ _ (fault-same x (skip us) sees ∙ f) (begins-same opens_word x (skip us) sees ∙ o)
       ∙ ap (λ (p : Spot). Err (marked p)) (spot-same x (skip us) d.end e.end sees (opening_there (skip us) o)));
 }

@@ -17,7 +17,7 @@ use Rattle.nj_manifest.proofs.Consumed.{text_has_bytes}
 use Rattle.nj_manifest.proofs.DyndepEnds.{oks, version-ends}
 use Rattle.nj_manifest.proofs.DyndepNexts.{next_entries_are}
 
--- ---- behind a line
+-- ---- after a line
 
 no_fewer : (l : Line) (ls : List Line) → ahead (lines_after l ls) ≤ ahead (l ∷ ls)
 no_fewer l ls = by_last l.is_last refl

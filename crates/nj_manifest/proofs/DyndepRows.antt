@@ -203,9 +203,9 @@ second_line_without_key : entry_in (codes "build o: dyndep\n  restat = 1\n  = 1"
 unfolding on_dyndeps
 second_line_without_key = refl
 
-second_line_behind_a_join : entry_in (codes "build o: dyndep\n  restat = 1\n  $\n  restat = 1") ≡ Err (DyndepShape (at 4 3))
+second_line_after_a_join : entry_in (codes "build o: dyndep\n  restat = 1\n  $\n  restat = 1") ≡ Err (DyndepShape (at 4 3))
 unfolding on_dyndeps
-second_line_behind_a_join = refl
+second_line_after_a_join = refl
 
 tab_in_block : entry_in (codes "build o: dyndep\n\trestat = 1") ≡ Err (Bad (unit_fault.Tab (at 2 1)))
 unfolding on_dyndeps

@@ -49,7 +49,7 @@ name_after_spaces want l ls us =
 
 -- ---- a line
 
--- a line behind its name
+-- a line after its name
 abbrev line_after : Keys → NameText × State → Step LineText
 line_after allowed key = if_allowed (allows allowed key.0.name) key.0 (equals_value key.1) >>= λ value. Ok (record { spot = key.0.spot; name = key.0.name; value = value.0 }, value.1)
 
@@ -90,12 +90,12 @@ reads-it {A} x ls y rest e =
     (ap (λ (r : A × List Line). r.0) same, ap (λ (r : A × List Line). r.1) same)
 
 -- a block without lines
-no_lines-are : (allowed : Keys) (ls behind rest : List Line) (lines : List LineText) → no_lines behind ≡ Ok (lines, rest) → BlockForm allowed ls [] behind → BlockForm allowed ls lines rest
-no_lines-are allowed ls behind rest lines h f =
-    let same = reads-it [] behind lines rest h in
+no_lines-are : (allowed : Keys) (ls remainder rest : List Line) (lines : List LineText) → no_lines remainder ≡ Ok (lines, rest) → BlockForm allowed ls [] remainder → BlockForm allowed ls lines rest
+no_lines-are allowed ls remainder rest lines h f =
+    let same = reads-it [] remainder lines rest h in
     subst (λ (ms : List LineText). BlockForm allowed ls ms rest) same.0 (subst (BlockForm allowed ls []) same.1 f)
 
--- the block behind a line, which may be the last
+-- the block after a line, which may be the last
 block_after-form : (allowed : Keys) (l : Line) (ls rest : List Line) (lines : List LineText) → (block allowed ls ≡ Ok (lines, rest) → BlockForm allowed ls lines rest) → or_last l (no_lines (lines_after l ls)) (block allowed ls) ≡ Ok (lines, rest)
     → BlockForm allowed (lines_after l ls) lines rest
 block_after-form allowed l ls rest lines others h = by_last l.is_last refl h

@@ -30,7 +30,7 @@ gives-it x s y t h = (value-is x s (y, t) h, after-is x s (y, t) h)
 leads_to : (one s t : State) → one ≡ s → one ≡ t → s ≡ t
 leads_to one s t e f = sym e ∙ f
 
--- the end of the line behind blanks that are passed already
+-- the end of the line after blanks that are passed already
 end_after-form : (miss : Wanted) (l : Line) (ls : List Line) (us : List TextUnit) (s : State) → expect_sign sign.LineEnd miss (within l ls (skip us)) ≡ Ok s → AreBlanks us × (s ≡ Between (lines_after l ls))
 end_after-form miss l ls us s h = end-form miss l ls us s (sym (after_skips sign.LineEnd miss l ls us) ∙ h)
 
@@ -77,7 +77,7 @@ targets-read l ls us rest words f some e =
     let stops = end_stops rest e in
     rw (words-read l ls f stops.no_fault stops.no_word, some, end_after-read wanted.Newline l ls rest e) refl
 
--- the end of the line behind a file
+-- the end of the line after a file
 abbrev file_end : WordText × State → Step WordText
 file_end word = expect_sign sign.LineEnd wanted.Newline word.1 >>= λ end. Ok (word.0, end)
 
@@ -108,15 +108,15 @@ file-read l ls us rest word f e =
 -- what is next before a section
 at_validations : {us rest : List TextUnit} {words : List WordText} → SectionForm sign.PipeAt us words rest → Stops rest false false false → (at : Bool) × Stops us false false at
 at_validations left_out stops = (false, stops)
-at_validations {us} (there {after = behind} s ws) stops = (true, pipe_at_stops us behind s)
+at_validations {us} (there {after = remainder} s ws) stops = (true, pipe_at_stops us remainder s)
 
 at_order_only : {us rest : List TextUnit} {words : List WordText} {at : Bool} → SectionForm sign.Pipe2 us words rest → Stops rest false false at → (two at : Bool) × Stops us false two at
 at_order_only {at = at} left_out stops = (false, at, stops)
-at_order_only {us} (there {after = behind} s ws) stops = (true, false, pipe2_stops us behind s)
+at_order_only {us} (there {after = remainder} s ws) stops = (true, false, pipe2_stops us remainder s)
 
 pub at_implicit : {us rest : List TextUnit} {words : List WordText} {two at : Bool} → SectionForm sign.Pipe us words rest → Stops rest false two at → (one two at : Bool) × Stops us one two at
 at_implicit {two = two} {at = at} left_out stops = (false, two, at, stops)
-at_implicit {us} (there {after = behind} s ws) stops = (true, false, false, pipe_stops us behind s)
+at_implicit {us} (there {after = remainder} s ws) stops = (true, false, false, pipe_stops us remainder s)
 
 pub pipe_is_no_end : sign.Pipe ≡ sign.LineEnd → ⊥
 pipe_is_no_end e = absurd cc
@@ -130,7 +130,7 @@ pipe_at_is_no_end e = absurd cc
 pub colon_is_no_end : sign.Colon ≡ sign.LineEnd → ⊥
 colon_is_no_end e = absurd cc
 
--- a section behind blanks that are passed already
+-- a section after blanks that are passed already
 pub section_after-form : (want : Sign) (l : Line) (ls : List Line) (us : List TextUnit) (s s' : State) (words : List WordText) → (want ≡ sign.LineEnd → ⊥) → s ≡ within l ls (skip us) → section_next want s ≡ Ok (words, s')
     → (rest : List TextUnit) × SectionForm want us words rest × (s' ≡ within l ls (skip rest))
 section_after-form want l ls us s s' words n e h = section-form want l ls us words s' n (sym (section_skips want l ls us) ∙ sym (ap (section_next want) e) ∙ h)
@@ -204,7 +204,7 @@ inputs-read l ls us rest inputs f stops =
 
 -- ---- `build`
 
--- behind the keyword: `OUTPUTS: RULE INPUTS`
+-- after the keyword: `OUTPUTS: RULE INPUTS`
 record PartsForm (us : List TextUnit) (outputs : OutputsText) (rule : NameText) (inputs : InputsText) : Type 0 where
   pub after_outputs : List TextUnit
   pub after_colon : List TextUnit

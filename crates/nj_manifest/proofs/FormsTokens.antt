@@ -82,7 +82,7 @@ identifier_no_blank u h = ordinary_no_blank is_identifier_byte refl u.means h
 abbrev name_of : Wanted → Option UnitFault → Spot → (run : List TextUnit) → State → Step NameText
 name_of want f spot run s = called (calls.unless_fault f (calls.reply (some_bytes (bytes_of run)) s)) >>= λ n. named want spot n.0 n.1
 
--- the same behind the blanks
+-- the same after the blanks
 abbrev name_here : Wanted → Line → List Line → List TextUnit → Step NameText
 name_here want l ls us = name_of want (next_fault us) (spot_of_first us l.end) (take_while in_identifier us) (within l ls (drop_while in_identifier us))
 
@@ -147,7 +147,7 @@ name_of-gives want f run taken spot s t name e r h p b some =
     ∙ ap (λ (n : NameText). Ok (n, s)) (same_name name spot (bytes_of run) p b)
     ∙ ap (λ (s : State). Ok (name, s)) h
 
--- what is behind the blanks before an identifier
+-- what is after the blanks before an identifier
 identifier_next : {us rest : List TextUnit} {name : NameText} → (f : IdentifierForm us name rest) → skip us ≡ (f.first ∷ f.others) ++ rest
 identifier_next {us} {rest} f = skip_gap us f.gap ((f.first ∷ f.others) ++ rest) (f.cut ∙ append_assoc f.gap (f.first ∷ f.others) rest) f.blanks (identifier_no_blank f.first (and_parts (in_identifier f.first) (list_all in_identifier f.others) f.of_name).0)
 
@@ -172,11 +172,11 @@ pub sign_skips : (want : Sign) (l : Line) (ls : List Line) (us : List TextUnit) 
 unfolding sign_at_units
 sign_skips want l ls us = ap (sign_at_units want l ls) (skip_again us)
 
--- the lexer behind a sign that stands next
+-- the lexer after a sign that stands next
 abbrev after_it : Sign → Line → List Line → List TextUnit → State
 after_it want l ls us = state_after_sign want (with_units us l) ls
 
--- the sign stands next, and the lexer behind it
+-- the sign stands next, and the lexer after it
 abbrev IsThere : Sign → Line → List Line → List TextUnit → Bool × State → Type 0
 IsThere want l ls us y = (is_sign want us ≡ true) × (y.0 ≡ true) × (y.1 ≡ after_it want l ls us)
 
@@ -244,11 +244,11 @@ pipe_at_stops us rest f =
 
 -- ---- a sign that is there
 
--- a run behind the blanks
+-- a run after the blanks
 cut_here : (us run rest : List TextUnit) → skip us ≡ run ++ rest → us ≡ gap_of us ++ run ++ rest
 cut_here us run rest e = gap_cut us ∙ ap (λ (vs : List TextUnit). gap_of us ++ vs) e ∙ sym (append_assoc (gap_of us) run rest)
 
--- a sign that stands behind the blanks, and the lexer behind it
+-- a sign that stands after the blanks, and the lexer after it
 pub form_of_sign : (want : Sign) (l : Line) (ls : List Line) (us vs : List TextUnit) → (want ≡ sign.LineEnd → ⊥) → skip us ≡ vs → is_sign want vs ≡ true → (rest : List TextUnit) × SignForm want us rest × (after_it want l ls vs ≡ within l ls rest)
 form_of_sign sign.LineEnd l ls us vs n e h = absurd (n refl)
 form_of_sign sign.Colon l ls us [] n e h = absurd cc
@@ -281,7 +281,7 @@ sign-form want l ls us s n h = by_case (sign-cases want l ls us (true, s) h)
     by_case (inl there) = let f = form_of_sign want l ls us (skip us) n refl there.0 in (f.0, f.1, there.2 ∙ f.2)
     by_case (inr not_there) = absurd (false≢true (sym not_there.1))
 
--- A sign that is not read leaves the lexer behind the blanks.
+-- A sign that is not read leaves the lexer after the blanks.
 pub sign-left_out : (want : Sign) (l : Line) (ls : List Line) (us : List TextUnit) (s : State) → called (sign_of want (within l ls us)) ≡ Ok (false, s) → s ≡ within l ls (skip us)
 sign-left_out want l ls us s h = by_case (sign-cases want l ls us (false, s) h)
   where
@@ -296,7 +296,7 @@ sign_at-gives want l ls us f t e h = rw (e, h) refl
 pub sign-none : (want : Sign) (l : Line) (ls : List Line) (us : List TextUnit) → next_fault (skip us) ≡ None → is_sign want (skip us) ≡ false → called (sign_of want (within l ls us)) ≡ Ok (false, within l ls (skip us))
 sign-none want l ls us n h = sign_at-gives want l ls (skip us) (next_fault (skip us)) false n h
 
--- what a sign that is there is behind the blanks
+-- what a sign that is there is after the blanks
 pub record IsBetweenStatements (want : Sign) (l : Line) (ls : List Line) (us rest : List TextUnit) : Type 0 where
   pub no_fault : next_fault (skip us) ≡ None
   pub is_there : is_sign want (skip us) ≡ true

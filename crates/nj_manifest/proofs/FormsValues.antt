@@ -88,8 +88,8 @@ same_value value spot run s p = rw (← s, ← p) refl
 -- A value that is there is read.
 pub value-read : (l : Line) (ls : List Line) (us : List TextUnit) (value : WordText) → ValueForm us l.end value → called (value_of (within l ls us)) ≡ Ok (value, within l ls [])
 value-read l ls us value f =
-    let behind = opening_passed us f.opening (f.gap ++ f.run) (record { cut = f.cut ∙ append_assoc f.opening f.gap f.run; opens = f.opens; longest = f.longest_opening }) in
-    let next = skip_gap (after_opening us) f.gap f.run behind f.blanks f.longest in
+    let remainder = opening_passed us f.opening (f.gap ++ f.run) (record { cut = f.cut ∙ append_assoc f.opening f.gap f.run; opens = f.opens; longest = f.longest_opening }) in
+    let next = skip_gap (after_opening us) f.gap f.run remainder f.blanks f.longest in
     ap (λ (vs : List TextUnit). value_by l ls (first_fault vs) vs) next
     ∙ ap (λ (g : Option UnitFault). value_by l ls g f.run) f.good
     ∙ ap (λ (w : WordText). Ok (w, within l ls [])) (same_value value (spot_of_first f.run l.end) f.run f.place f.parts)

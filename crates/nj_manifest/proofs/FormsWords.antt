@@ -49,7 +49,7 @@ fault_after_blanks (u ∷ us) h = by_test (is_blank u) refl h
 -- ---- one word
 
 -- what a call gives, of its parts
-abbrev word_by : Line → List Line → (here behind : Option UnitFault) → (opens : Bool) → (us run rest : List TextUnit) → Step (Option WordText)
+abbrev word_by : Line → List Line → (here remainder : Option UnitFault) → (opens : Bool) → (us run rest : List TextUnit) → Step (Option WordText)
 word_by l ls f g t us run rest =
     called (calls.unless_fault f (cond t (calls.unless_fault g (calls.reply (Some (record { spot = spot_of_first us l.end; parts = parts_of run })) (within l ls rest))) (calls.reply None (within l ls us))))
 
@@ -189,9 +189,9 @@ words-form l ls (word ∷ words) us s h = by_call (called (path_word_of (within 
     by_call (Ok (Some w, after)) e others =
         let rest = words_from-read w after (words_next after) (word ∷ words) s (sym (words_next-more (within l ls us) w after e) ∙ h) in
         let first : w ≡ word = cc in
-        let behind : rest.0 ≡ words = cc in
+        let remainder : rest.0 ≡ words = cc in
         let here = word-form l ls us w after e in
-        let last = others here.0 (ap words_next (sym here.2) ∙ rest.1 ∙ ap (λ (ws : List WordText). Ok (ws, s)) behind) in
+        let last = others here.0 (ap words_next (sym here.2) ∙ rest.1 ∙ ap (λ (ws : List WordText). Ok (ws, s)) remainder) in
         (last.0, more (subst (λ (v : WordText). WordForm us v here.0) first here.1) last.1, last.2)
 
 words_without_fault : {us rest : List TextUnit} {words : List WordText} → WordsForm us words rest → next_fault (skip rest) ≡ None → next_fault (skip us) ≡ None
@@ -201,9 +201,9 @@ words_without_fault (more f fs) n = word_without_fault f
 -- Words that are there are read, where neither a word nor a bad unit is next.
 pub words-read : (l : Line) (ls : List Line) {us rest : List TextUnit} {words : List WordText} → WordsForm us words rest → next_fault (skip rest) ≡ None → begins_word (skip rest) ≡ false → words_next (within l ls us) ≡ Ok (words, within l ls (skip rest))
 words-read l ls {us = us} none n b = words_next-ends (within l ls us) (within l ls (skip us)) (no_word-read l ls us n b)
-words-read l ls {us = us} {rest = rest} (more {after = behind} {word = word} f fs) n b =
-    let first = word-read l ls us behind word f (fault_after_blanks behind (words_without_fault fs n)) in
-    words_next-more (within l ls us) word (within l ls behind) first ∙ ap (words_from (Some word) (within l ls behind)) (words-read l ls fs n b)
+words-read l ls {us = us} {rest = rest} (more {after = remainder} {word = word} f fs) n b =
+    let first = word-read l ls us remainder word f (fault_after_blanks remainder (words_without_fault fs n)) in
+    words_next-more (within l ls us) word (within l ls remainder) first ∙ ap (words_from (Some word) (within l ls remainder)) (words-read l ls fs n b)
 
 -- ---- sections
 
@@ -231,4 +231,4 @@ pub section-read : (want : Sign) (l : Line) (ls : List Line) {us rest : List Tex
     → next_fault (skip rest) ≡ None → begins_word (skip rest) ≡ false → is_sign want (skip rest) ≡ false → section_next want (within l ls us) ≡ Ok (words, within l ls (skip rest))
 unfolding section_next
 section-read want l ls {us = us} n left_out f b i = rw (sign-none want l ls us f i) refl
-section-read want l ls {us = us} n (there {after = behind} s ws) f b i = rw (sign-read want l ls us behind n s) (words-read l ls ws f b)
+section-read want l ls {us = us} n (there {after = remainder} s ws) f b i = rw (sign-read want l ls us remainder n s) (words-read l ls ws f b)

@@ -36,7 +36,7 @@ called-fault (Some f) r y h = absurd cc
 abbrev pub On : Line → List Line → State → Type 0
 On l ls s = (us : List TextUnit) × (s ≡ Inside (with_units us l) ls)
 
--- behind the line
+-- after the line
 abbrev pub Ended : Line → List Line → State → Type 0
 Ended l ls s = s ≡ Between (lines_after l ls)
 
@@ -150,7 +150,7 @@ section-inside want l ls s y i o h =
 
 -- ---- lines
 
--- What ends its line leaves the lexer behind it.
+-- What ends its line leaves the lexer after it.
 pub ends-line : {A : Type 0} (l : Line) (ls : List Line) (x : A) (s : State) (y : A × State) → On l ls s → (expect_sign sign.LineEnd wanted.Newline s >>= λ end. Ok (x, end)) ≡ Ok y → Ended l ls y.1
 ends-line l ls x s y o h =
     let end = bind-ok (expect_sign sign.LineEnd wanted.Newline s) (λ end. Ok (x, end)) y h in

@@ -18,7 +18,7 @@ use Rattle.nj_manifest.proofs.LeftmostHeads.{starts}
 use Rattle.nj_manifest.proofs.LeftmostLines.{line_turn, key_bytes, key_line, key_plain, key_starts}
 use Rattle.nj_manifest.proofs.LeftmostKinds.{kind_units, spaces_of, after_spaces, spaces_cut, spaces_pass, unspaced, kind_replaced, no_space_same, identifier_no_space, identifier_spaced, indented_spaces, tab_place}
 
--- Where the block of some lines fails: no element like this one helps there, and some text does, with a block behind it.
+-- Where the block of some lines fails: no element like this one helps there, and some text does, with a block after it.
 pub record BlockStuck (allowed : Keys) (ls : List Line) (fault : Fault) : Type 0 where
   pub before : List Line
   pub begun : List TextUnit
@@ -35,7 +35,7 @@ pub record BlockStuck (allowed : Keys) (ls : List Line) (fault : Fault) : Type 0
 
 -- ---- one line
 
--- what is said of an indented line, by the units behind its spaces
+-- what is said of an indented line, by the units after its spaces
 abbrev Spaced : Keys → (spaces : List TextUnit) → Said LineText
 Spaced allowed sp x e ms r = (kind_units (sp ++ x) ≡ IndentedLine) × (after_spaces (sp ++ x) ≡ x) × (line_next allowed (at x e ms) ≡ r)
 
@@ -158,9 +158,9 @@ tab_here allowed l ls tab h =
           ∙ one_in_front d.0 (Between ms) (block allowed ms);
     }
 
--- ---- where it stands behind the first line
+-- ---- where it stands after the first line
 
--- behind a line that says nothing, and is not the last
+-- after a line that says nothing, and is not the last
 stuck_after_comment : (allowed : Keys) (l : Line) (ls : List Line) (fault : Fault) → ((ms : List Line) → block allowed (l ∷ ms) ≡ block allowed ms) → BlockStuck allowed ls fault → BlockStuck allowed (l ∷ ls) fault
 stuck_after_comment allowed l ls fault same r = record {
   before = l ∷ r.before;
@@ -177,7 +177,7 @@ stuck_after_comment allowed l ls fault same r = record {
   some = λ ms. same (goes_on r.before r.begun (written r.bytes) ms) ∙ r.some ms;
 }
 
--- behind a line that is read, and is not the last
+-- after a line that is read, and is not the last
 stuck_after_line : (allowed : Keys) (l : Line) (ls : List Line) (fault : Fault) (v : LineText) → ((ms : List Line) → block allowed (l ∷ ms) ≡ line_then (block allowed ms) (v, Between (lines_after l ms))) → BlockStuck allowed ls fault → BlockStuck allowed (l ∷ ls) fault
 stuck_after_line allowed l ls fault v reads r = record {
   before = l ∷ r.before;

@@ -149,7 +149,7 @@ itself (Err f) = refl
 there_is : (ex im : List WordText) → (is_empty ex && is_empty im) ≡ false → (s : State) → with_implicit_outputs ex (im, s) ≡ with_outputs (outputs_of ex im, s)
 there_is ex im h s = ap (λ (t : Bool). unless_none t wanted.Path s (Ok (outputs_of ex im, s)) >>= with_outputs) h
 
--- no output behind `build`
+-- no output after `build`
 no_explicit : (e : Line) (us : List TextUnit) (n : WordsPass us) → is_empty n.value ≡ true → is_sign sign.Pipe n.run.left ≡ false → FailsAt build_next us e (Expected (spot_of_first n.run.left e.end) wanted.Path) n.run.used n.run.left
 no_explicit e us n empty none = record {
   cut = n.run.cut;
@@ -168,7 +168,7 @@ no_explicit e us n empty none = record {
     nothing_read x d ms h g =
         build_is (at (n.run.used ++ x) d ms) ∙ (ap (λ r. r >>= with_explicit_outputs) (n.goes x d ms h) ∙ (ap (λ r. r >>= with_implicit_outputs n.value) (section_none sign.Pipe x d ms h g) ∙ missing true n.value x d ms empty refl))
 
--- `|` with no words behind it, and none before
+-- `|` with no words after it, and none before
 no_implicit : (e : Line) (ex : List WordText) (left : List TextUnit) (run : SectionRun sign.Pipe left) (m : SectionPass sign.Pipe left run) → (is_empty ex && is_empty m.value) ≡ true
     → FailsAt (λ s. with_explicit_outputs (ex, s)) left e (Expected (spot_of_first run.left e.end) wanted.Path) run.used run.left
 no_implicit e ex left run m empty = record {
@@ -235,7 +235,7 @@ module _ {P : Said HeadText} {whole : List TextUnit} (e : Line) where
       by_empty n true h none b = stuck_first n h none
       by_empty n false h none b = at_outputs n.value [] n.run.left (ap (λ (t : Bool). t && true) h) b
 
-      -- `|` with no words behind it, and none before
+      -- `|` with no words after it, and none before
       stuck_second : (ex : List WordText) (left : List TextUnit) (run : SectionRun sign.Pipe left) (m : SectionPass sign.Pipe left run) → Along P whole (λ s. with_explicit_outputs (ex, s)) after_words left → (is_empty ex && is_empty m.value) ≡ true → Outcome P whole e
       stuck_second ex left run m b empty =
           let d = ends_implicit_outputs ex run.word run.words in

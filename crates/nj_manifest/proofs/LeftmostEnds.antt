@@ -96,7 +96,7 @@ closed spot (BuildHead outputs rule inputs) ls front e =
     let read : block keys.All ls ≡ Ok (lines, []) = e ∙ ap (in_front front) (closing_block (BuildHead outputs rule inputs)) in
     (BuildText outputs rule inputs lines, [], ap (λ (r : Parse (List LineText)). r >>= λ ls. Ok (BuildText outputs rule inputs ls.0, ls.1)) read)
 
--- ---- where a statement fails behind its first line
+-- ---- where a statement fails after its first line
 
 -- A fault of its block is the statement's.
 pub block_refuses : (spot : Spot) (h : HeadText) (ls : List Line) (f : Fault) (all : (item : StatementText) → h ≡ Alone item → ⊥) → block (keys_of h) ls ≡ Err f → with_block spot h ls ≡ Err f
@@ -147,7 +147,7 @@ by_block : {A : Type 0} (r : Parse (List LineText)) (k : List LineText × List L
 by_block (Ok lines) k f n h = absurd (n lines h)
 by_block (Err g) k f n h = same_err g f h
 
--- A fault of syntax behind the first line is one of the block.
+-- A fault of syntax after the first line is one of the block.
 pub fault_of_block : (spot : Spot) (h : HeadText) (ls : List Line) (f : Fault) → with_block spot h ls ≡ Err f → is_syntax f ≡ true → ((item : StatementText) → h ≡ Alone item → ⊥) × (block (keys_of h) ls ≡ Err f)
 fault_of_block spot (Alone item) ls f e s = absurd (no_err e)
 fault_of_block spot (RuleHead name) ls f e s = ((λ item h. absurd cc), by_block (block keys.OfRule ls) (rule_then spot name) f (λ lines. rule_fault spot name lines f s) e)

@@ -97,7 +97,7 @@ sign-front s (u ∷ v ∷ vs) = sign-two s u v vs _ refl
 pub sign-same : (s : Sign) (x y : List TextUnit) → front x ≡ front y → is_sign s x ≡ is_sign s y
 sign-same s x y h = sign-front s x ∙ (ap (is_sign s) h ∙ sym (sign-front s y))
 
--- ---- behind other units
+-- ---- after other units
 
 element-pair : (t : Bool) (u v : TextUnit) (x y : List TextUnit) → element_by false t (u ∷ v ∷ x) ≡ element_by false t (u ∷ v ∷ y)
 element-pair true u v x y = refl

@@ -92,7 +92,7 @@ ends_binding = (_, λ ms. refl)
 
 -- ---- along the line
 
--- no word behind `default`
+-- no word after `default`
 no_target : (head : List WordText → HeadText) (e : Line) (us : List TextUnit) (n : WordsPass us) → is_empty n.value ≡ true
     → FailsAt (λ s. words_next s >>= targets_end head) us e (Expected (spot_of_first n.run.left e.end) wanted.TargetName) n.run.used n.run.left
 no_target head e us n empty = record {

@@ -1,4 +1,4 @@
--- The kind of a line, by its leading spaces and the unit behind them.
+-- The kind of a line, by its leading spaces and the unit after them.
 use Rattle.std.proofs.Common.{◌≡◌, Bool, true, false, List, [], ◌∷◌, ◌++◌, take, refl, sym, ap, ◌∙◌}
 use Rattle.std.specs.List.{take_while}
 use Rattle.nj_text.specs.declared.spot.Spot.{Spot}
@@ -40,11 +40,11 @@ spaced_begins (u ∷ sp) x h = refl
 pub unspaced : (sp x : List TextUnit) → AllIn is_space_unit sp → begins is_space_unit x ≡ false → after_spaces (sp ++ x) ≡ x
 unspaced sp x a h = run_passed is_space_unit sp x a h
 
--- behind some spaces, or none
+-- after some spaces, or none
 pub kind_spaced : (sp x : List TextUnit) → AllIn is_space_unit sp → begins is_space_unit x ≡ false → kind_units (sp ++ x) ≡ kind_after_spaces x (begins_with_space sp)
 kind_spaced sp x a h = ap (λ (y : List TextUnit). kind_after_spaces y (begins_with_space (sp ++ x))) (unspaced sp x a h) ∙ ap (λ (t : Bool). kind_after_spaces x t) (spaced_begins sp x h)
 
--- the kind of the whole is that behind its own spaces
+-- the kind of the whole is that after its own spaces
 pub kind_here : (us : List TextUnit) → kind_units us ≡ kind_after_spaces (after_spaces us) (begins_with_space (spaces_of us))
 kind_here us = ap kind_units (spaces_cut us) ∙ kind_spaced (spaces_of us) (after_spaces us) (spaces_pass us) (spaces_stop us)
 
@@ -58,7 +58,7 @@ kind_same x y t h = kind_head x t ∙ (ap (λ (z : List TextUnit). kind_after_sp
 pub no_space_same : (us x : List TextUnit) → front x ≡ front (after_spaces us) → begins is_space_unit x ≡ false
 no_space_same us x h = begins-same is_space_unit x (after_spaces us) h ∙ spaces_stop us
 
--- units in place of those behind the spaces
+-- units in place of those after the spaces
 pub kind_replaced : (us x : List TextUnit) → front x ≡ front (after_spaces us) → kind_units (spaces_of us ++ x) ≡ kind_units us
 kind_replaced us x h =
     kind_spaced (spaces_of us) x (spaces_pass us) (no_space_same us x h) ∙ (kind_same x (after_spaces us) (begins_with_space (spaces_of us)) h ∙ sym (kind_here us))

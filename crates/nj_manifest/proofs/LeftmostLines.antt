@@ -1,4 +1,4 @@
--- A line of a block, behind its spaces: it is read to its end, or stuck at its first fault.
+-- A line of a block, after its spaces: it is read to its end, or stuck at its first fault.
 use Rattle.std.proofs.Common.{◌≡◌, ℕ, Bool, true, false, Ok, Err, List, [], ◌++◌, refl, ap, ◌∙◌, codes}
 use Rattle.nj_text.specs.Units.{TextUnit}
 use Rattle.nj_text.specs.Lines.{Line}

@@ -23,9 +23,9 @@ identifier_no_blank u h = no_other is_identifier_byte is_blank_meaning (not_byte
 identifier_no_fault : (u : TextUnit) → in_identifier u ≡ true → fault_of_meaning u.means u.spot ≡ None
 identifier_no_fault u h = ordinary_no_fault is_identifier_byte u.means u.spot h
 
--- ---- what is read behind the blanks
+-- ---- what is read after the blanks
 
--- by the fault there, the identifier, its place, and what is behind it
+-- by the fault there, the identifier, its place, and what is after it
 abbrev named_by : Wanted → Option UnitFault → List TextUnit → Spot → State → Step NameText
 named_by want f run spot s = called (unless_fault f (reply (some_bytes (bytes_of run)) s)) >>= λ n. named want spot n.0 n.1
 
@@ -36,7 +36,7 @@ name_is_here : (want : Wanted) (us : List TextUnit) (e : Line) (ms : List Line) 
 unfolding name_next
 name_is_here want us e ms = rw (skip_again us) refl
 
--- behind blanks
+-- after blanks
 name_after : (want : Wanted) (gap x : List TextUnit) (e : Line) (ms : List Line) → AllIn is_blank gap → begins is_blank x ≡ false → name_next want (at (gap ++ x) e ms) ≡ name_here want x e ms
 name_after want gap x e ms h n = name_is_here want (gap ++ x) e ms ∙ ap (λ (y : List TextUnit). name_here want y e ms) (skip_gap gap x h ∙ none_passed is_blank x n)
 
@@ -75,7 +75,7 @@ same_run x y h = by_test (begins in_identifier y) refl
     by_test true e = sym (element-identifier x (seen ∙ e)) ∙ (h ∙ element-identifier y e)
     by_test false e = none_taken in_identifier x (seen ∙ e) ∙ sym (none_taken in_identifier y e)
 
--- what stands behind the blanks is seen so in place of them
+-- what stands after the blanks is seen so in place of them
 pub no_blank_there : (us x : List TextUnit) → element x ≡ element (skip us) → begins is_blank x ≡ false
 no_blank_there us x h = begins-same is_blank x (skip us) (element-front x (skip us) h) ∙ skip_stops us
 

@@ -12,7 +12,7 @@ abbrev pub begins : (TextUnit → Bool) → List TextUnit → Bool
 begins p [] = false
 begins p (u ∷ us) = p u
 
--- the front and what is behind it
+-- the front and what is after it
 pub both_parts : (p : TextUnit → Bool) (us : List TextUnit) → us ≡ take_while p us ++ drop_while p us
 both_parts p [] = refl
 both_parts p (u ∷ us) = by_test (p u) refl (both_parts p us)
@@ -47,7 +47,7 @@ run_taken p (u ∷ run) us h n = take_while-cons_yes p u (run ++ us) h.0 ∙ ap 
 
 -- ---- blanks
 
--- what is behind the blanks
+-- what is after the blanks
 abbrev pub skip : List TextUnit → List TextUnit
 skip us = drop_while is_blank us
 

@@ -197,7 +197,7 @@ fits_settled us x h (inl f) = colon_settled x f
 fits_settled us x h (inr f) = settled_same x us f ∙ h
 
 module _ (want : Sign) (us : List TextUnit) (e : Line) (m : Mark want us) where
-  -- behind the words of the section the sign stays that sign
+  -- after the words of the section the sign stays that sign
   still_follows : (run : WordsRun m.rest) (x : List TextUnit) → Fits m.follows m.rest (run.used ++ x) → m.follows (run.used ++ x) ≡ true
   still_follows run x (inl h) = h
   still_follows run x (inr h) = m.same (run.used ++ x) m.rest h ∙ m.so

@@ -93,13 +93,13 @@ pub record IsSingle (want : Sign) : Type 0 where
   pub no_pipe : eqb 124 byte ≡ false
   pub none : is_sign want [] ≡ false
   pub one : (u : TextUnit) (x : List TextUnit) → is_sign want (u ∷ x) ≡ is_ordinary_in (λ c. eqb c byte) u.means
-  pub behind : (u : TextUnit) (x : List TextUnit) (e : Line) (ms : List Line) → state_after_sign want (with_units (u ∷ x) e) ms ≡ at x e ms
+  pub remainder : (u : TextUnit) (x : List TextUnit) (e : Line) (ms : List Line) → state_after_sign want (with_units (u ∷ x) e) ms ≡ at x e ms
 
 pub colon_single : IsSingle sign.Colon
-colon_single = record { byte = 58; no_pipe = refl; none = refl; one = λ u x. refl; behind = λ u x e ms. refl }
+colon_single = record { byte = 58; no_pipe = refl; none = refl; one = λ u x. refl; remainder = λ u x e ms. refl }
 
 pub equals_single : IsSingle sign.Equals
-equals_single = record { byte = 61; no_pipe = refl; none = refl; one = λ u x. refl; behind = λ u x e ms. refl }
+equals_single = record { byte = 61; no_pipe = refl; none = refl; one = λ u x. refl; remainder = λ u x e ms. refl }
 
 pub data SignSeen (want : Sign) (miss : Wanted) (t t' : List TextUnit → Bool) (us : List TextUnit) (e : Line) : Type 0 where
   there : (passes : Passes (sign_step want miss) t t' us) → SignSeen want miss t t' us e
@@ -124,7 +124,7 @@ passes_sign want miss t t' us s u left r h =
       goes = λ x d ms fit.
           step_ok _ _ (ap (λ (y : List TextUnit). expect_sign want miss (at y d ms)) (append_assoc (gap_of us) (u ∷ []) x)
           ∙ (sign_after want miss (gap_of us) (u ∷ x) d ms (gap_passes us) (none_passed is_blank (u ∷ x) blank)
-          ∙ sign_ok miss _ _ _ _ _ (ordinary_no_fault (λ c. eqb c s.byte) u.means u.spot is) (s.one u x ∙ is) (s.behind u x d ms)));
+          ∙ sign_ok miss _ _ _ _ _ (ordinary_no_fault (λ c. eqb c s.byte) u.means u.spot is) (s.one u x ∙ is) (s.remainder u x d ms)));
       settled = λ x fit. settled_by (gap_of us) (gap_passes us) x cut;
     }
   where

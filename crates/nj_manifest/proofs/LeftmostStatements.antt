@@ -31,7 +31,7 @@ head_outcome l h = head_turn l l.units (begin Plain head_next starts l.units by_
     by_fit x e ms (inl f) = (identifier_plain x f, refl)
     by_fit x e ms (inr f) = (plain_same l.units x h f, refl)
 
--- the statement behind its first line
+-- the statement after its first line
 abbrev placed_then : Spot → HeadText × State → Parse (Option PlacedText)
 placed_then spot head = with_block spot head.0 (lines_from head.1) >>= λ item. Ok (Some (record { spot = spot; item = item.0 }), item.1)
 
@@ -91,7 +91,7 @@ stuck_first l ls fault s =
           plain_bad (with_units (s.begun ++ m.units) m) ms (met_before m fault) n.0 n.1;
     }
 
--- the lines behind one that is not the last
+-- the lines after one that is not the last
 after_more : (l : Line) (ms : List Line) → l.is_last ≡ false → lines_after l ms ≡ ms
 after_more l ms h = ap (λ (t : Bool). cond t (with_units [] l ∷ ms) ms) h
 
@@ -157,7 +157,7 @@ one_statement = (_, _, refl)
 blank_then : (sp : List TextUnit) → AllIn is_space_unit sp → SomeOf (with_units (sp ++ text []) (written []) ∷ written (codes "a=b") ∷ [])
 blank_then sp a = (one_statement.0, one_statement.1, by_kind_next (with_units (sp ++ []) (written [])) (written (codes "a=b") ∷ []) BlankLine (kind_spaced sp [] a refl) ∙ one_statement.2)
 
--- The fault is that of the line's kind, whatever is behind its first unit.
+-- The fault is that of the line's kind, whatever is after its first unit.
 of_kind : (l : Line) (ls : List Line) (fault : Fault) → offers fault [] ≡ true → NamesThePlaceOf fault (with_units (after_spaces l.units) l)
     → ((m : Line) (ms : List Line) → element m.units ≡ element (after_spaces l.units) → next_statement (with_units (spaces_of l.units ++ m.units) m ∷ ms) ≡ Err (met_before m fault)) → StandsLeftmost (l ∷ ls) fault
 of_kind l ls fault offered place refuses =
@@ -178,7 +178,7 @@ tab_leftmost l ls tab k =
     of_kind l ls (Bad (lex.Tab tab)) refl (tab_place l.units tab l.end k)
     (λ m ms same. (by_kind_next (with_units (spaces_of l.units ++ m.units) m) ms (TabLine tab) (kind_replaced l.units m.units (element-front m.units (after_spaces l.units) same) ∙ k)))
 
--- an indented line whose units behind its spaces these are
+-- an indented line whose units after its spaces these are
 abbrev unexpected_at : Line → Parse (Option PlacedText)
 unexpected_at l = Err (UnexpectedIndent (record { line = (line_spot l).line; column = 1 }))
 
@@ -190,7 +190,7 @@ indented_leftmost l ls k =
     by_kind_next (with_units (spaces_of l.units ++ m.units) m) ms IndentedLine (kind_replaced l.units m.units sees ∙ k)
     ∙ ap (λ (y : List TextUnit). unexpected_at (with_units y m)) (unspaced (spaces_of l.units) m.units (spaces_pass l.units) (no_space_same l.units m.units sees)))
 
--- behind a line that says nothing, and is not the last
+-- after a line that says nothing, and is not the last
 leftmost_after : (l : Line) (ls : List Line) (fault : Fault) → ((ms : List Line) → next_statement (l ∷ ms) ≡ next_statement ms) → StandsLeftmost ls fault → StandsLeftmost (l ∷ ls) fault
 leftmost_after l ls fault same r = record {
   before = l ∷ r.before;

@@ -25,7 +25,7 @@ at us e ms = Inside (with_units us e) ms
 abbrev pub text : List ℕ → List TextUnit
 text bytes = map written_unit bytes
 
--- ---- what may be written behind a front
+-- ---- what may be written after a front
 
 -- nothing, or an ordinary byte that passes
 abbrev pub opens : (ℕ → Bool) → List TextUnit → Bool
@@ -41,7 +41,7 @@ is_space_or_colon b = b == 32 || b == 58
 abbrev pub is_separator : ℕ → Bool
 is_separator b = b == 32 || b == 58 || b == 61
 
--- behind words; behind a word; behind a name
+-- after words; after a word; after a name
 abbrev pub after_words : List TextUnit → Bool
 after_words us = opens is_colon us
 
@@ -119,7 +119,7 @@ fits-gap t us x g = fits-blanks t us (gap_of us) (skip us) x (gap_passes us) (ga
 
 -- ---- one reading
 
--- It passes some units and stands behind them, whatever follows that fits.
+-- It passes some units and stands after them, whatever follows that fits.
 pub record Passes {A : Type 0} (f : State → Step A) (t t' : List TextUnit → Bool) (us : List TextUnit) : Type 0 where
   pub used : List TextUnit
   pub left : List TextUnit
@@ -128,7 +128,7 @@ pub record Passes {A : Type 0} (f : State → Step A) (t t' : List TextUnit → 
   pub goes : (x : List TextUnit) (e : Line) (ms : List Line) → Fits t' left x → f (at (used ++ x) e ms) ≡ Ok (value, at x e ms)
   pub settled : (x : List TextUnit) → Fits t' left x → Fits t us (used ++ x)
 
--- It fails behind some units, and so with each rest that begins with the same element.
+-- It fails after some units, and so with each rest that begins with the same element.
 pub record FailsAt {A : Type 0} (f : State → Step A) (us : List TextUnit) (e : Line) (fault : Fault) (used left : List TextUnit) : Type 0 where
   pub cut : us ≡ used ++ left
   pub place : NamesThePlaceOf fault (with_units left e)
@@ -155,7 +155,7 @@ OfWanted want fault = (bytes : List ℕ) → offers_next want (drop_while is_spa
 
 -- ---- a whole line
 
--- what is said of a line's reading: its units, its end, the lines behind it, and the reading
+-- what is said of a line's reading: its units, its end, the lines after it, and the reading
 abbrev pub Said : Type 0 → Type 1
 Said B = List TextUnit → Line → List Line → Step B → Type 0
 

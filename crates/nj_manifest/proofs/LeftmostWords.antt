@@ -123,7 +123,7 @@ begins_word-is (u ∷ us) = refl
 abbrev pub word_call : State → Step (Option WordText)
 word_call s = called (path_word_of s)
 
--- by the fault there, whether a word begins there, the fault behind it, and the word
+-- by the fault there, whether a word begins there, the fault after it, and the word
 abbrev word_by : Option UnitFault → Bool → Option UnitFault → WordText → (there other : State) → Step (Option WordText)
 word_by f t g w there other = called (unless_fault f (cond t (unless_fault g (reply (Some w) there)) (reply None other)))
 
@@ -195,7 +195,7 @@ no_word_reads gap x e ms g h = word_at_units (gap ++ x) x e ms (skip_gap gap x g
 pub bad_word_reads : (gap x : List TextUnit) (e : Line) (ms : List Line) (bad : UnitFault) → AllIn is_blank gap → begins is_blank x ≡ false → next_fault x ≡ Some bad → word_call (at (gap ++ x) e ms) ≡ Err (Bad bad)
 bad_word_reads gap x e ms bad g n h = word_at_units (gap ++ x) x e ms (skip_gap gap x g ∙ none_passed is_blank x n) ∙ bad_reads x e ms bad h
 
--- ` x`, written behind blanks
+-- ` x`, written after blanks
 abbrev pub one_more : List TextUnit → List TextUnit
 one_more z = written_unit 32 ∷ written_unit 120 ∷ z
 
@@ -271,7 +271,7 @@ pub fits-word : (t : List TextUnit → Bool) (us gap : List TextUnit) (u : TextU
 fits-word t us [] u run left x g o c = fits-alone t us u run left x (opening_no_pipe u.means o) c
 fits-word t us (v ∷ gap) u run left x g o c = fits-alone t us v (gap ++ u ∷ run) left x (blank_no_pipe v.means g.0) c
 
--- what is read behind a word that is not the last
+-- what is read after a word that is not the last
 from_more : (w : WordText) (s : State) (others : Step (List WordText)) (ws : List WordText) (after : State) → others ≡ Ok (ws, after) → words_from (Some w) s others ≡ Ok (w ∷ ws, after)
 from_more w s others ws after h = rw h refl
 
@@ -283,7 +283,7 @@ module _ (us gap : List TextUnit) (u : TextUnit) (run rest : List TextUnit) (e :
   word_before : (y : List TextUnit) (d : Line) (ms : List Line) → ends_word y ≡ true → words_next (at ((gap ++ u ∷ run) ++ y) d ms) ≡ words_from (Some (word_of u run)) (at y d ms) (words_next (at y d ms))
   word_before y d ms h = words_next-more (at ((gap ++ u ∷ run) ++ y) d ms) (word_of u run) (at y d ms) (word_reads gap u run y d ms g o a h)
 
-  -- a fault right behind the word
+  -- a fault right after the word
   broken_after : (bad : UnitFault) → next_fault rest ≡ Some bad → WordsSeen us e
   broken_after bad f = broken (Bad bad) (λ bytes. refl) (record {
     used = gap ++ u ∷ run;
@@ -300,7 +300,7 @@ module _ (us gap : List TextUnit) (u : TextUnit) (run rest : List TextUnit) (e :
     refuses = λ x d ms same. words_next-fails (at ((gap ++ u ∷ run) ++ x) d ms) (Bad bad) (word_fails gap u run x d ms bad g o a (fault-same x rest (element-front x rest same) ∙ f));
   })
 
-  -- what ends the word ends it with other units behind it too
+  -- what ends the word ends it with other units after it too
   module _ (ends : ends_word rest ≡ true) (others : WordsRun rest) where
     ends_before : (x : List TextUnit) → ends_word x ≡ true → ends_word (others.used ++ x) ≡ true
     ends_before x h = by_fit (others.fits ends_word x h)

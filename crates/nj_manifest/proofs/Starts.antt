@@ -36,7 +36,7 @@ Begins next (Ok start.Plain) s = BeginsHere next s
 Begins next (Ok start.Middle) s = BeginsHere next s
 Begins next (Err f) s = next ≡ Err (Bad f)
 
--- a last line without units is blank, and nothing comes behind it
+-- a last line without units is blank, and nothing comes after it
 next-empty : (l : Line) (ls : List Line) → l.is_last ≡ true → opening (with_units [] l ∷ ls) ≡ ended (with_units [] l ∷ ls)
 unfolding opening
 next-empty l ls e = rw e refl
@@ -146,7 +146,7 @@ ahead-comments (l ∷ ls) = by_comment (is_comment (kind_of l)) (ahead-comments 
     by_comment false h = omega arith
     by_comment true h = by_last l.is_last refl h
 
--- the lines behind a blank one
+-- the lines after a blank one
 blank-kind : (k : Kind) (l : Line) (ls : List Line) (after : State) → (begun_by k l ls).answer ≡ Ok start.Blank → after ≡ (begun_by k l ls).after → lines_ahead after < ahead (l ∷ ls)
 blank-kind CommentLine l ls after a s = absurd cc
 blank-kind (TabLine tab) l ls after a s = absurd cc

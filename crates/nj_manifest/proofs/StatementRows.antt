@@ -16,7 +16,7 @@ on_texts = tt
 
 -- ---- what a row shows
 
--- the statement, without the lines behind it
+-- the statement, without the lines after it
 abbrev pub item_of : Parse (Option PlacedText) → Result (Option PlacedText) Fault
 item_of (Ok r) = Ok r.0
 item_of (Err f) = Err f
@@ -30,7 +30,7 @@ abbrev answers_from : Parse (Option PlacedText) → (List Line → List (Result 
 answers_from (Ok r) others = Ok r.0 ∷ others r.1
 answers_from (Err f) others = Err f ∷ []
 
--- the answers of so many readings, each from the lines behind the one before
+-- the answers of so many readings, each from the lines after the one before
 abbrev answers : (turns : ℕ) → List Line → List (Result (Option PlacedText) Fault)
 answers zero ls = []
 answers (suc turns) ls = answers_from (next_statement ls) (answers turns)
@@ -79,7 +79,7 @@ joined_word : first_of (codes "build o: cp a$\n  b") ≡ placed 1 1 (BuildText
 unfolding on_texts
 joined_word = refl
 
--- a join behind a space stands between words
+-- a join after a space stands between words
 parted_words : first_of (codes "build o: cp a $\n  b") ≡ placed 1 1 (BuildText
     (to (word 1 7 (codes "o") ∷ []))
     (name_at 1 10 (codes "cp"))

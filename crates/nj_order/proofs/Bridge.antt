@@ -14,14 +14,14 @@ use Rattle.nj_order.proofs.InputPlaces.{first_bound}
 
 -- ---- what a row has
 
-behind_option : (o : Option ℕ) (zs : List ℕ) (f : ℕ) → Contains zs f → Contains (cons_option o zs) f
-behind_option None zs f c = c
-behind_option (Some x) zs f c = Contains-append_right (x ∷ []) zs f c
+after_option : (o : Option ℕ) (zs : List ℕ) (f : ℕ) → Contains zs f → Contains (cons_option o zs) f
+after_option None zs f c = c
+after_option (Some x) zs f c = Contains-append_right (x ∷ []) zs f c
 
 in_filter_map : (h : ℕ → Option ℕ) (ys : List ℕ) (i f : ℕ) → i < length ys → h (slice_index ys i) ≡ Some f → Contains (filter_map h ys) f
 in_filter_map h [] i f lt is = absurd (omega (arith, lt))
 in_filter_map h (y ∷ ys) zero f lt is = subst (λ o. Contains (cons_option o (filter_map h ys)) f) (sym is) (Contains-append_left (f ∷ []) (filter_map h ys) f (0, omega arith, refl))
-in_filter_map h (y ∷ ys) (suc i) f lt is = behind_option (h y) (filter_map h ys) f (in_filter_map h ys i f (omega (arith, lt)) is)
+in_filter_map h (y ∷ ys) (suc i) f lt is = after_option (h y) (filter_map h ys) f (in_filter_map h ys i f (omega (arith, lt)) is)
 
 abbrev MadeAt : (ℕ → Option ℕ) → List ℕ → ℕ → Type 0
 MadeAt h ys f = (i : ℕ) × (i < length ys) × (h (slice_index ys i) ≡ Some f)

@@ -529,7 +529,7 @@ fn sinks_may_fail(rt: HostRuntime) -> Result<(), Fail> {
             Some(9),
             "mk a\nmk b1\n[3] mark 0.0\n",
         ),
-        // nothing is told of an output that failed
+        // nothing is reported of an output that failed
         (
             DIAMOND,
             &["-t", "commands", "--take", "2", "d"],

@@ -388,7 +388,7 @@ fn a_database_is_utf8(rt: HostRuntime) -> Result<(), Fail> {
                     (&["-t", "compdb", "cc"], "[\n]\n[0] "),
                 ],
             ),
-            // the second input is told only in the command
+            // the second input stands only in the command
             (
                 SECOND_NOT_UTF8,
                 &[

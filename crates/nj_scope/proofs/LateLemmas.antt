@@ -46,17 +46,17 @@ within-longer text more (p ∷ ps) within = ((within.0.0, longer text more p.end
 
 -- ---- one part more
 
-abbrev pub part_behind : (text bytes : List ℕ) → Bool → LatePart
-part_behind text bytes is_name = record { start = length text; end = length (text ++ bytes); is_name = is_name }
+abbrev pub part_after : (text bytes : List ℕ) → Bool → LatePart
+part_after text bytes is_name = record { start = length text; end = length (text ++ bytes); is_name = is_name }
 
 pub parts-pushed : (text bytes : List ℕ) (is_name : Bool) (ps : List LatePart) → AreWithin text ps
-    → late_parts (text ++ bytes) (ps ++ part_behind text bytes is_name ∷ []) ≡ late_parts text ps ++ text_or_name is_name bytes ∷ []
+    → late_parts (text ++ bytes) (ps ++ part_after text bytes is_name ∷ []) ≡ late_parts text ps ++ text_or_name is_name bytes ∷ []
 parts-pushed text bytes is_name ps within =
-    map_push (late_part (text ++ bytes)) ps (part_behind text bytes is_name)
-    ∙ ap (λ qs. qs ++ late_part (text ++ bytes) (part_behind text bytes is_name) ∷ []) (parts-longer text bytes ps within)
+    map_push (late_part (text ++ bytes)) ps (part_after text bytes is_name)
+    ∙ ap (λ qs. qs ++ late_part (text ++ bytes) (part_after text bytes is_name) ∷ []) (parts-longer text bytes ps within)
     ∙ ap (λ range. late_parts text ps ++ text_or_name is_name range ∷ []) (range-back text bytes)
 
-pub within-pushed : (text bytes : List ℕ) (is_name : Bool) (ps : List LatePart) → AreWithin text ps → AreWithin (text ++ bytes) (ps ++ part_behind text bytes is_name ∷ [])
+pub within-pushed : (text bytes : List ℕ) (is_name : Bool) (ps : List LatePart) → AreWithin text ps → AreWithin (text ++ bytes) (ps ++ part_after text bytes is_name ∷ [])
 within-pushed text bytes is_name [] within = ((subst (λ m. length text ≤ m) (sym (length-append text bytes)) (le-add_right (length text) (length bytes)), le_refl (length (text ++ bytes))), tt)
 within-pushed text bytes is_name (p ∷ ps) within = ((within.0.0, longer text bytes p.end within.0.1), within-pushed text bytes is_name ps within.1)
 
@@ -65,7 +65,7 @@ pub parts-counted : (text longer bytes : List ℕ) (is_name : Bool) (ps qs : Lis
     → qs ≡ ps ++ record { start = start; end = end; is_name = is_name } ∷ [] → late_parts longer qs ≡ late_parts text ps ++ text_or_name is_name bytes ∷ []
 parts-counted text longer bytes is_name ps qs start end within is from to pushed =
     ap (late_parts longer) (pushed ∙ ap (λ s. ps ++ record { start = s; end = end; is_name = is_name } ∷ []) from ∙ ap (λ e. ps ++ record { start = length text; end = e; is_name = is_name } ∷ []) (to ∙ ap length is))
-    ∙ ap (λ t. late_parts t (ps ++ part_behind text bytes is_name ∷ [])) is
+    ∙ ap (λ t. late_parts t (ps ++ part_after text bytes is_name ∷ [])) is
     ∙ parts-pushed text bytes is_name ps within
 
 -- ---- a part written

@@ -1,4 +1,4 @@
--- From the units that are left of a text to the line that is left, and the lines behind it.
+-- From the units that are left of a text to the line that is left, and the lines after it.
 use Rattle.std.proofs.Common.{◌≡◌, ℕ, Bool, true, false, cond, eqb, List, [], ◌∷◌, take, drop, Option, Some, None, refl, sym, ap, ◌∙◌, ◌⊎◌, inl, inr}
 use Rattle.std.specs.Prelude.{is_some}
 use Rattle.std.specs.List.{take_while}
@@ -87,7 +87,7 @@ words_end u b e = ends_fail_by in_word_meaning refl refl u.means b e
 pub values_end : EndsFail (in_text kind.Value)
 values_end u b e = ends_fail_by in_value_meaning refl refl u.means b e
 
--- the line that is left when a front of it was passed, and the lines behind it
+-- the line that is left when a front of it was passed, and the lines after it
 pub passed_by : (t : TextUnit → Bool) → EndsFail t → (us : List TextUnit) → inside (lines_of (drop_while t us)) ≡ Inside (with_units (drop_while t (first_line (lines_of us)).units) (first_line (lines_of us))) (other_lines (lines_of us))
 passed_by t ends [] = refl
 passed_by t ends (u ∷ us) = by_end (ending_of u.means) refl (passed_by t ends us)
@@ -218,7 +218,7 @@ of_value u = in_text kind.Value u
 absurd_fault : (f : UnitFault) → Some f ≡ None → ⊥
 absurd_fault f e = absurd cc
 
--- behind a unit of the value
+-- after a unit of the value
 value_goes_on : (u : TextUnit) (us : List TextUnit) (l : Line) (ls : List Line) → lines_of us ≡ l ∷ ls → ending_of u.means ≡ None → of_value u ≡ true → fault_of u ≡ None → IsValue us → IsValue (u ∷ us)
 value_goes_on u us l ls e n t f rest =
     let first : first_line (lines_of (u ∷ us)) ≡ record { units = u ∷ l.units; end = l.end; is_last = l.is_last } = rw (n, e) refl in

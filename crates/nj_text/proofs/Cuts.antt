@@ -94,7 +94,7 @@ AllIn-append : (p : ℕ → Bool) (xs ys : List ℕ) → AllIn p xs → AllIn p 
 AllIn-append p [] ys h k = k
 AllIn-append p (x ∷ xs) ys h k = (h.0, AllIn-append p xs ys h.1 k)
 
--- a name in braces behind one more byte
+-- a name in braces after one more byte
 pub braces_land : (b : ℕ) (name rest bytes : List ℕ) (spot : Spot) → is_line_feed b ≡ false → AllIn (λ c. not (is_line_feed c)) name → bytes ≡ name ++ 125 ∷ rest
     → spots_after (take (length name + 2) (b ∷ bytes)) spot ≡ along (length name + 2) spot
 braces_land b name rest bytes spot no_feed h e =
@@ -106,7 +106,7 @@ braces_land b name rest bytes spot no_feed h e =
 spaces-no_feed : (b : ℕ) → is_space b ≡ true → not (is_line_feed b) ≡ true
 spaces-no_feed b h = rw (eqb-true b 32 h) refl
 
--- the spaces behind a line end
+-- the spaces after a line end
 spaces_land : (bs : List ℕ) (spot : Spot) → spots_after (take_while is_space bs) (record { line = spot.line + 1; column = 1 }) ≡ on_next_line (prefix_len is_space bs) spot
 spaces_land bs spot =
     let start : Spot = record { line = spot.line + 1; column = 1 } in

@@ -19,7 +19,7 @@ weigh c n v d =
     by_power : (p : ℕ) → c * (p * 10) + (v * 10 + d) ≡ (c * p + v) * 10 + d
     by_power p = grind arith
 
--- a digit behind: ten times the number, and the digit
+-- a digit after: ten times the number, and the digit
 value_of_digits-push : (ds : List ℕ) (d : ℕ) → value_of_digits (ds ++ d ∷ []) ≡ value_of_digits ds * 10 + (d - 48)
 unfolding value_of_digits
 value_of_digits-push [] d = grind arith

@@ -24,13 +24,13 @@ pub text_ends : (k : TextKind) (u : TextUnit) (us : List TextUnit) → in_text k
 text_ends k u us h = (ap parts_of (take_while-cons_no (in_text k) u us h), drop_while-cons_no (in_text k) u us h)
 
 -- a unit that is none of a text's, at the place of a cursor
-pub ends_by : (k : TextKind) (spot : Spot) (bytes : List ℕ) (m : Meaning) (n : ℕ) (behind : List TextUnit) → Begins spot bytes m n behind → in_text k (record { spot = spot; bytes = take n bytes; means = m }) ≡ false
+pub ends_by : (k : TextKind) (spot : Spot) (bytes : List ℕ) (m : Meaning) (n : ℕ) (remainder : List TextUnit) → Begins spot bytes m n remainder → in_text k (record { spot = spot; bytes = take n bytes; means = m }) ≡ false
     → (gathered k (units_within spot bytes) ≡ []) × (after_text k (units_within spot bytes) ≡ units_within spot bytes)
-ends_by k spot bytes m n behind e h = rw e (text_ends k (record { spot = spot; bytes = take n bytes; means = m }) behind h)
+ends_by k spot bytes m n remainder e h = rw e (text_ends k (record { spot = spot; bytes = take n bytes; means = m }) remainder h)
 
-pub bad_at : (k : TextKind) (spot : Spot) (bytes : List ℕ) (m : Meaning) (n : ℕ) (behind : List TextUnit) (f : UnitFault) → Begins spot bytes m n behind → in_text k (record { spot = spot; bytes = take n bytes; means = m }) ≡ false → fault_of_meaning m spot ≡ Some f
+pub bad_at : (k : TextKind) (spot : Spot) (bytes : List ℕ) (m : Meaning) (n : ℕ) (remainder : List TextUnit) (f : UnitFault) → Begins spot bytes m n remainder → in_text k (record { spot = spot; bytes = take n bytes; means = m }) ≡ false → fault_of_meaning m spot ≡ Some f
     → next_fault (after_text k (units_within spot bytes)) ≡ Some f
-bad_at k spot bytes m n behind f e h g = ap next_fault (ends_by k spot bytes m n behind e h).1 ∙ ap next_fault e ∙ g
+bad_at k spot bytes m n remainder f e h g = ap next_fault (ends_by k spot bytes m n remainder e h).1 ∙ ap next_fault e ∙ g
 
 bad_byte_is_no_text : (k : TextKind) (spot : Spot) (bytes : List ℕ) → in_text k (record { spot = spot; bytes = bytes; means = BadByte }) ≡ false
 bad_byte_is_no_text kind.Word spot bytes = refl
@@ -124,7 +124,7 @@ plain_is_ordinary b e = by_tests (eqb b 36) (eqb b 10) (eqb b 13) (eqb b 0) e
 pub not_ordinary : (b : ℕ) (bs : List ℕ) → is_ordinary_byte b ≡ false → is_byte (unit_at b bs) ≡ false
 not_ordinary b bs h = class_is_no_byte (class_of b) b bs (λ e. false≢true (sym h ∙ plain_is_ordinary b e))
 
--- behind a run the text goes on with no ordinary byte
+-- after a run the text goes on with no ordinary byte
 front_is_no_byte : (t : TextUnit → Bool) (u : TextUnit) (us : List TextUnit) → (t u ≡ true → is_ordinary_in (λ c. true) u.means ≡ false) → begins_with_ordinary (take_while t (u ∷ us)) ≡ false
 front_is_no_byte t u us h = by_test (t u) refl
   where
@@ -173,14 +173,14 @@ none_after p (b ∷ bs) = by_test (p b) refl (none_after p bs)
 -- the run that stands at a place, read off
 pub run_read : (k : TextKind) (r : Run) (spot there : Spot) (bytes xs ys : List ℕ) → r ≡ run_of k → xs ≡ take_while (in_run r) bytes → ys ≡ drop_while (in_run r) bytes → bytes ≡ xs ++ ys → there ≡ along (length xs) spot → eqb (length xs) 0 ≡ false
     → (gathered k (units_within spot bytes) ≡ Text xs ∷ gathered k (units_within there ys)) × (after_text k (units_within spot bytes) ≡ after_text k (units_within there ys))
-run_read k r spot there bytes xs ys is_r run behind whole e nonempty =
+run_read k r spot there bytes xs ys is_r run remainder whole e nonempty =
     let all : AllIn (in_run (run_of k)) xs = rw (← is_r, run) (AllIn-take_while (in_run r) bytes) in
-    let none : NoneInRun (in_run (run_of k)) ys = rw (← is_r, behind) (none_after (in_run r) bytes) in
+    let none : NoneInRun (in_run (run_of k)) ys = rw (← is_r, remainder) (none_after (in_run r) bytes) in
     rw e (run_piece k spot bytes xs ys whole all none (λ h. false≢true (sym nonempty ∙ ap (λ zs. eqb (length zs) 0) h)))
 
--- behind the run that stands at a place none of its bytes stands
+-- after the run that stands at a place none of its bytes stands
 pub run_over : (k : TextKind) (r : Run) (bytes ys : List ℕ) → r ≡ run_of k → ys ≡ drop_while (in_run r) bytes → NoneInRun (in_run (run_of k)) ys
-run_over k r bytes ys is_r behind = rw (← is_r, behind) (none_after (in_run r) bytes)
+run_over k r bytes ys is_r remainder = rw (← is_r, remainder) (none_after (in_run r) bytes)
 
 -- ---- turns of the loop
 

@@ -161,10 +161,10 @@ cut-spaces spot [] s t = refl
 cut-spaces spot (b ∷ bs) s t = rw (t, spaces_position (unit_at b bs).0 (unit_is_no_space b bs s)) refl
 
 -- a unit that is no tab begins with none
-no_tab : (spot : Spot) (bs : List ℕ) (m : Meaning) (n : ℕ) (behind : List TextUnit) → Begins spot bs m n behind → (m ≡ Ordinary 9 → ⊥) → begins_with 9 bs ≡ false
+no_tab : (spot : Spot) (bs : List ℕ) (m : Meaning) (n : ℕ) (remainder : List TextUnit) → Begins spot bs m n remainder → (m ≡ Ordinary 9 → ⊥) → begins_with 9 bs ≡ false
 unfolding cut
-no_tab spot [] m n behind e h = refl
-no_tab spot (b ∷ bs) m n behind e h = by_test (eqb b 9) refl
+no_tab spot [] m n remainder e h = refl
+no_tab spot (b ∷ bs) m n remainder e h = by_test (eqb b 9) refl
   where
     first_meaning : List TextUnit → Meaning
     first_meaning [] = TextEnd
@@ -186,15 +186,15 @@ at_once_line_end spot there bs n c s e =
     let found = cut-start spot bs c s (no_tab spot bs LineEnd n (cut AtStart 0 there (drop n bs)) e (λ h. absurd cc)) ∙ ap reopened e in
     ap (λ us. begun (lines_of us)) found
 
-pub at_once_plain : (spot : Spot) (bs : List ℕ) (m : Meaning) (n : ℕ) (behind : List TextUnit) → opens_comment bs ≡ false → begins_with_space_byte bs ≡ false → (m ≡ Ordinary 9 → ⊥) → opening m ≡ m → starts_plainly m ≡ true
-    → Begins spot bs m n behind → begun (lines_from spot bs) ≡ reply start.Plain (inside (lines_within spot bs))
-at_once_plain spot bs m n behind c s t o p e =
+pub at_once_plain : (spot : Spot) (bs : List ℕ) (m : Meaning) (n : ℕ) (remainder : List TextUnit) → opens_comment bs ≡ false → begins_with_space_byte bs ≡ false → (m ≡ Ordinary 9 → ⊥) → opening m ≡ m → starts_plainly m ≡ true
+    → Begins spot bs m n remainder → begun (lines_from spot bs) ≡ reply start.Plain (inside (lines_within spot bs))
+at_once_plain spot bs m n remainder c s t o p e =
     let u : TextUnit = record { spot = spot; bytes = take n bs; means = m } in
-    let same : reopened (u ∷ behind) ≡ u ∷ behind = ap (λ x. record { spot = spot; bytes = take n bs; means = x } ∷ behind) o in
-    let found = cut-start spot bs c s (no_tab spot bs m n behind e t) ∙ ap reopened e ∙ same in
-    let whole : HasLine (lines_of (u ∷ behind)) = subst (λ us. HasLine (lines_of us)) e (cut_has_line Within 0 spot bs) in
-    let has : HasLine (lines_of behind) = HasLine-after u (lines_of behind) (rw (plainly m p).no_end at whole) in
-    ap (λ us. begun (lines_of us)) found ∙ plain_begun u behind has p ∙ ap (λ us. reply start.Plain (inside (lines_of us))) (sym e)
+    let same : reopened (u ∷ remainder) ≡ u ∷ remainder = ap (λ x. record { spot = spot; bytes = take n bs; means = x } ∷ remainder) o in
+    let found = cut-start spot bs c s (no_tab spot bs m n remainder e t) ∙ ap reopened e ∙ same in
+    let whole : HasLine (lines_of (u ∷ remainder)) = subst (λ us. HasLine (lines_of us)) e (cut_has_line Within 0 spot bs) in
+    let has : HasLine (lines_of remainder) = HasLine-after u (lines_of remainder) (rw (plainly m p).no_end at whole) in
+    ap (λ us. begun (lines_of us)) found ∙ plain_begun u remainder has p ∙ ap (λ us. reply start.Plain (inside (lines_of us))) (sym e)
 
 pub at_once_badly : (spot : Spot) (bs : List ℕ) (m : Meaning) → opens_comment bs ≡ false → begins_with_space_byte bs ≡ false → (m ≡ Ordinary 9 → ⊥) → opening m ≡ m → starts_plainly m ≡ true
     → BeginsBadly spot bs m → begun (lines_from spot bs) ≡ reply start.Plain (inside (lines_within spot bs))
@@ -203,9 +203,9 @@ at_once_badly spot bs m c s t o p b = at_once_plain spot bs m b.0 b.1 c s t o p 
 pub at_once_join : (spot there : Spot) (bs : List ℕ) (n : ℕ) → opens_comment bs ≡ false → begins_with_space_byte bs ≡ false → Begins spot bs Join n (units_within there (drop n bs))
     → begun (lines_from spot bs) ≡ reply start.Plain (inside (before_first_line (record { spot = spot; bytes = take n bs; means = OpeningJoin }) (lines_within there (drop n bs))))
 at_once_join spot there bs n c s e =
-    let behind = units_within there (drop n bs) in
-    let found = cut-start spot bs c s (no_tab spot bs Join n behind e (λ h. absurd cc)) ∙ ap reopened e in
-    ap (λ us. begun (lines_of us)) found ∙ plain_begun (record { spot = spot; bytes = take n bs; means = OpeningJoin }) behind (cut_has_line Within 0 there (drop n bs)) refl
+    let remainder = units_within there (drop n bs) in
+    let found = cut-start spot bs c s (no_tab spot bs Join n remainder e (λ h. absurd cc)) ∙ ap reopened e in
+    ap (λ us. begun (lines_of us)) found ∙ plain_begun (record { spot = spot; bytes = take n bs; means = OpeningJoin }) remainder (cut_has_line Within 0 there (drop n bs)) refl
 
 tab_by : (spot : Spot) (bytes : List ℕ) (us : List TextUnit) → HasLine (lines_of us) → begun (lines_of (record { spot = spot; bytes = bytes; means = LeadingTab } ∷ us)) ≡ failing (fault.Tab spot)
 tab_by spot bytes us h = rw h.2 refl
@@ -219,7 +219,7 @@ at_once_tab spot b (x ∷ bs) c e t =
     let found : cut AtStart 0 spot (x ∷ bs) ≡ record { spot = spot; bytes = 9 ∷ []; means = LeadingTab } ∷ rest = rw (c, is_tab) refl in
     ap (λ us. begun (lines_of us)) found ∙ tab_by spot (9 ∷ []) rest (cut_has_line Within 0 (spot_after 9 spot) bs)
 
--- ---- behind leading spaces
+-- ---- after leading spaces
 
 abbrev AreSpaces : List ℕ → Type 0
 AreSpaces bs = AllByRecursion (λ x. x ≡ 32) bs
@@ -251,10 +251,10 @@ after_end spot b bs here rest h e = rw e (begun_after spot b bs (cut AfterSpaces
 pub after_line_end : (spot : Spot) (b : ℕ) (bs : List ℕ) (here there : Spot) (rest : List ℕ) (n : ℕ) → AreSpaces (b ∷ bs) → begins_with_space_byte rest ≡ false → Begins here rest LineEnd n (cut AtStart 0 there (drop n rest))
     → begun (lines_of (space_units spot (b ∷ bs) ++ cut AfterSpaces 0 here rest)) ≡ reply start.Blank (Between (lines_from there (drop n rest)))
 after_line_end spot b bs here there rest n h s e =
-    let behind = cut AtStart 0 there (drop n rest) in
-    let found = cut-spaces here rest s (no_tab here rest LineEnd n behind e (λ k. absurd cc)) ∙ e in
+    let remainder = cut AtStart 0 there (drop n rest) in
+    let found = cut-spaces here rest s (no_tab here rest LineEnd n remainder e (λ k. absurd cc)) ∙ e in
     ap (λ us. begun (lines_of (space_units spot (b ∷ bs) ++ us))) found
-    ∙ begun_after spot b bs (record { spot = here; bytes = take n rest; means = LineEnd } ∷ behind) (record { units = []; end = here; is_last = false }) (lines_of behind) h refl
+    ∙ begun_after spot b bs (record { spot = here; bytes = take n rest; means = LineEnd } ∷ remainder) (record { units = []; end = here; is_last = false }) (lines_of remainder) h refl
 
 indented_by : (spot : Spot) (b : ℕ) (bs : List ℕ) (u : TextUnit) (us : List TextUnit) (l : Line) (ls : List Line) → AreSpaces (b ∷ bs) → lines_of us ≡ l ∷ ls → StartsPlainly u.means
     → begun (lines_of (space_units spot (b ∷ bs) ++ (u ∷ us))) ≡ reply start.Indented (inside (lines_of (u ∷ us)))
@@ -268,14 +268,14 @@ indented_by spot b bs u us l ls h e p =
     ∙ ap (λ vs. reply start.Indented (Inside (with_units vs line) ls)) dropped
     ∙ ap (λ lines. reply start.Indented (inside lines)) (sym first)
 
-pub after_plain : (spot : Spot) (b : ℕ) (bs : List ℕ) (here : Spot) (rest : List ℕ) (m : Meaning) (n : ℕ) (behind : List TextUnit) → AreSpaces (b ∷ bs) → begins_with_space_byte rest ≡ false → (m ≡ Ordinary 9 → ⊥) → starts_plainly m ≡ true
-    → Begins here rest m n behind → begun (lines_of (space_units spot (b ∷ bs) ++ cut AfterSpaces 0 here rest)) ≡ reply start.Indented (inside (lines_within here rest))
-after_plain spot b bs here rest m n behind h s t p e =
+pub after_plain : (spot : Spot) (b : ℕ) (bs : List ℕ) (here : Spot) (rest : List ℕ) (m : Meaning) (n : ℕ) (remainder : List TextUnit) → AreSpaces (b ∷ bs) → begins_with_space_byte rest ≡ false → (m ≡ Ordinary 9 → ⊥) → starts_plainly m ≡ true
+    → Begins here rest m n remainder → begun (lines_of (space_units spot (b ∷ bs) ++ cut AfterSpaces 0 here rest)) ≡ reply start.Indented (inside (lines_within here rest))
+after_plain spot b bs here rest m n remainder h s t p e =
     let u : TextUnit = record { spot = here; bytes = take n rest; means = m } in
-    let found = cut-spaces here rest s (no_tab here rest m n behind e t) ∙ e in
-    let whole : HasLine (lines_of (u ∷ behind)) = subst (λ us. HasLine (lines_of us)) e (cut_has_line Within 0 here rest) in
-    let has : HasLine (lines_of behind) = HasLine-after u (lines_of behind) (rw (plainly m p).no_end at whole) in
-    ap (λ us. begun (lines_of (space_units spot (b ∷ bs) ++ us))) found ∙ indented_by spot b bs u behind has.0 has.1 h has.2 (plainly m p)
+    let found = cut-spaces here rest s (no_tab here rest m n remainder e t) ∙ e in
+    let whole : HasLine (lines_of (u ∷ remainder)) = subst (λ us. HasLine (lines_of us)) e (cut_has_line Within 0 here rest) in
+    let has : HasLine (lines_of remainder) = HasLine-after u (lines_of remainder) (rw (plainly m p).no_end at whole) in
+    ap (λ us. begun (lines_of (space_units spot (b ∷ bs) ++ us))) found ∙ indented_by spot b bs u remainder has.0 has.1 h has.2 (plainly m p)
     ∙ ap (λ us. reply start.Indented (inside (lines_of us))) (sym e)
 
 pub after_badly : (spot : Spot) (b : ℕ) (bs : List ℕ) (here : Spot) (rest : List ℕ) (m : Meaning) → AreSpaces (b ∷ bs) → begins_with_space_byte rest ≡ false → (m ≡ Ordinary 9 → ⊥) → starts_plainly m ≡ true
@@ -288,12 +288,12 @@ unfolding cut
 after_tab spot b bs here byte [] h e t = absurd cc
 after_tab spot b bs here byte (x ∷ rest) h e t =
     let is_tab : x ≡ 9 = eqb-true x byte e ∙ t in
-    let behind = cut Within 0 (spot_after 9 here) rest in
+    let remainder = cut Within 0 (spot_after 9 here) rest in
     let has = cut_has_line Within 0 (spot_after 9 here) rest in
     let u : TextUnit = record { spot = here; bytes = 9 ∷ []; means = LeadingTab } in
-    let found : cut AfterSpaces 0 here (x ∷ rest) ≡ u ∷ behind = rw is_tab refl in
-    let first : lines_of (u ∷ behind) ≡ record { units = u ∷ has.0.units; end = has.0.end; is_last = has.0.is_last } ∷ has.1 = ap (before_first_line u) has.2 in
-    ap (λ us. begun (lines_of (space_units spot (b ∷ bs) ++ us))) found ∙ begun_after spot b bs (u ∷ behind) (record { units = u ∷ has.0.units; end = has.0.end; is_last = has.0.is_last }) has.1 h first
+    let found : cut AfterSpaces 0 here (x ∷ rest) ≡ u ∷ remainder = rw is_tab refl in
+    let first : lines_of (u ∷ remainder) ≡ record { units = u ∷ has.0.units; end = has.0.end; is_last = has.0.is_last } ∷ has.1 = ap (before_first_line u) has.2 in
+    ap (λ us. begun (lines_of (space_units spot (b ∷ bs) ++ us))) found ∙ begun_after spot b bs (u ∷ remainder) (record { units = u ∷ has.0.units; end = has.0.end; is_last = has.0.is_last }) has.1 h first
 
 -- ---- comments
 
@@ -374,7 +374,7 @@ spaces_first spot x xs ys h c =
 
 -- ---- the answers' facts
 
--- behind a run of spaces
+-- after a run of spaces
 pub spaces_cut : (spot : Spot) (bytes xs ys : List ℕ) (there : Spot) → bytes ≡ xs ++ ys → xs ≡ take_while is_space bytes → there ≡ along (length xs) spot → opens_comment bytes ≡ false → eqb (length xs) 0 ≡ false
     → (b : ℕ) × (bs : List ℕ) × AreSpaces (b ∷ bs) × (cut AtStart 0 spot bytes ≡ space_units spot (b ∷ bs) ++ cut AfterSpaces 0 there ys)
 spaces_cut spot bytes [] ys there whole run t c e = absurd (true≢false e)
@@ -389,7 +389,7 @@ spaces_cut spot bytes (x ∷ xs) ys there whole run t c e =
 pub not_nine : (b : ℕ) → (b ≡ 9 → ⊥) → Ordinary b ≡ Ordinary 9 → ⊥
 not_nine b h e = h cc
 
--- a place behind a line end, as the cursor has it
+-- a place after a line end, as the cursor has it
 pub lines_moved : (spot there : Spot) (bs rest : List ℕ) (n : ℕ) → there ≡ spot → rest ≡ drop (n + 0) bs → lines_from there rest ≡ lines_from spot (drop n bs)
 lines_moved spot there bs rest n s r = let e : n + 0 ≡ n = omega arith in ap (λ p. lines_from p rest) s ∙ ap (lines_from spot) (r ∙ ap (λ k. drop k bs) e)
 
@@ -406,8 +406,8 @@ begun_after_spaces spot bytes xs c found whole run there no_comment some h =
     let s = spaces_cut spot bytes xs c.rest.now c.spot whole run there no_comment some in
     subst (λ us. BegunIs (lines_of us) found) (sym s.3) (h spot s.0 s.1 s.2)
 
-pub comment_opens : (bytes behind rest : List ℕ) (b : ℕ) → behind ≡ drop_while is_space bytes → behind ≡ b ∷ rest → b ≡ 35 → opens_comment bytes ≡ true
-comment_opens bytes behind rest b d e h = ap (begins_with 35) (sym d ∙ e) ∙ rw h refl
+pub comment_opens : (bytes remainder rest : List ℕ) (b : ℕ) → remainder ≡ drop_while is_space bytes → remainder ≡ b ∷ rest → b ≡ 35 → opens_comment bytes ≡ true
+comment_opens bytes remainder rest b d e h = ap (begins_with 35) (sym d ∙ e) ∙ rw h refl
 
 pub over_comment_read : (spot there end : Spot) (bs rest after : List ℕ) → opens_comment bs ≡ true → there ≡ along (length (take_while no_feed bs)) spot → rest ≡ drop_while no_feed bs → eqb (length rest) 0 ≡ false → end ≡ on_next_line 0 there → after ≡ drop 1 rest
     → without_comments (lines_from spot bs) ≡ without_comments (lines_from end after)

@@ -36,7 +36,7 @@ run_and_rest p (x ∷ xs) = by_test (p x) refl (run_and_rest p xs)
     by_test true e h = rw (take_while-cons_yes p x xs e) (ap (λ zs. x ∷ zs) h)
     by_test false e h = rw (take_while-cons_no p x xs e) refl
 
--- a name in braces, behind the `$` and the `{`
+-- a name in braces, after the `$` and the `{`
 named_says : (b c : ℕ) (cs name rest : List ℕ) (closed : Bool) → cs ≡ name ++ rest → SaysFound b (c ∷ cs) (named name closed)
 named_says b c cs [] rest closed e = tt
 named_says b c cs (x ∷ xs) rest false e = tt

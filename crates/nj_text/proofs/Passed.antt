@@ -11,8 +11,8 @@ use Rattle.nj_text.proofs.Lists.{AllIn, AllIn-weaker, AllIn-take_while, drop_whi
 use Rattle.nj_text.proofs.Cuts.{plain_units, cut-run}
 
 -- a unit that is no blank stops them
-pub blanks_stop : (spot : Spot) (bytes : List ℕ) (m : Meaning) (n : ℕ) (behind : List TextUnit) → Begins spot bytes m n behind → is_blank_meaning m ≡ false → drop_while is_blank (units_within spot bytes) ≡ units_within spot bytes
-blanks_stop spot bytes m n behind e h = rw e (rw h refl)
+pub blanks_stop : (spot : Spot) (bytes : List ℕ) (m : Meaning) (n : ℕ) (remainder : List TextUnit) → Begins spot bytes m n remainder → is_blank_meaning m ≡ false → drop_while is_blank (units_within spot bytes) ≡ units_within spot bytes
+blanks_stop spot bytes m n remainder e h = rw e (rw h refl)
 
 pub blanks_stop_badly : (spot : Spot) (bytes : List ℕ) (m : Meaning) → BeginsBadly spot bytes m → is_blank_meaning m ≡ false → drop_while is_blank (units_within spot bytes) ≡ units_within spot bytes
 blanks_stop_badly spot bytes m b h = blanks_stop spot bytes m b.0 b.1 b.2 h
@@ -26,8 +26,8 @@ first_is_no_space b [] e h = absurd cc
 first_is_no_space b (x ∷ bs) e h = ap is_space (sym (eqb-true x b e)) ∙ h
 
 -- a join is one
-pub blanks_over_join : (spot : Spot) (bytes : List ℕ) (n : ℕ) (behind : List TextUnit) → Begins spot bytes Join n behind → drop_while is_blank (units_within spot bytes) ≡ drop_while is_blank behind
-blanks_over_join spot bytes n behind e = rw e refl
+pub blanks_over_join : (spot : Spot) (bytes : List ℕ) (n : ℕ) (remainder : List TextUnit) → Begins spot bytes Join n remainder → drop_while is_blank (units_within spot bytes) ≡ drop_while is_blank remainder
+blanks_over_join spot bytes n remainder e = rw e refl
 
 space_is_ordinary : (b : ℕ) → is_space b ≡ true → is_ordinary_byte b ≡ true
 space_is_ordinary b h = rw (eqb-true b 32 h) refl

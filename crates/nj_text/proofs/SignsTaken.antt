@@ -71,7 +71,7 @@ byte_of_line b o spot bytes = begins_with_byte_of_line b (units_within spot byte
 abbrev plain_unit : Spot → ℕ → TextUnit
 plain_unit spot b = record { spot = spot; bytes = b ∷ []; means = Ordinary b }
 
--- the line behind an ordinary byte
+-- the line after an ordinary byte
 line_after_byte : (spot : Spot) (x : ℕ) (xs : List ℕ) → is_ordinary_byte x ≡ true
     → inside (lines_within spot (x ∷ xs)) ≡ Inside (with_units (plain_unit spot x ∷ (line (along 1 spot) xs).units) (line (along 1 spot) xs)) (others (along 1 spot) xs)
 line_after_byte spot x xs o = ap (λ us. inside (lines_of us)) (cut-ordinary spot x xs o) ∙ by_line (lines_within (along 1 spot) xs) (cut_has_line Within 0 (along 1 spot) xs)
@@ -87,7 +87,7 @@ abbrev lines_in : State → List Line
 lines_in (Inside l ls) = ls
 lines_in other = []
 
--- behind one ordinary byte, and behind two
+-- after one ordinary byte, and after two
 after_one : (spot : Spot) (x : ℕ) (xs : List ℕ) → is_ordinary_byte x ≡ true → Inside (with_units (drop 1 (line spot (x ∷ xs)).units) (line spot (x ∷ xs))) (others spot (x ∷ xs)) ≡ inside (lines_within (along 1 spot) xs)
 after_one spot x xs o = ap (λ s. Inside (with_units (drop 1 (line_in s).units) (line_in s)) (lines_in s)) (line_after_byte spot x xs o)
 
@@ -97,7 +97,7 @@ after_two spot x y ys o p =
     ap (λ s. Inside (with_units (drop 2 (line_in s).units) (line_in s)) (lines_in s)) (line_after_byte spot x (y ∷ ys) o)
     ∙ after_one (along 1 spot) y ys p ∙ ap (λ q. inside (lines_within q ys)) (along-along 1 1 spot)
 
--- the second byte, behind an ordinary one
+-- the second byte, after an ordinary one
 second_byte : (b : ℕ) → is_ordinary_byte b ≡ true → (spot : Spot) (x : ℕ) (xs : List ℕ) → is_ordinary_byte x ≡ true → begins_with_byte b (drop 1 (line spot (x ∷ xs)).units) ≡ begins_with b xs
 second_byte b o spot x xs p = ap (λ s. begins_with_byte b (drop 1 (line_in s).units)) (line_after_byte spot x xs p) ∙ byte_of_line b o (along 1 spot) xs
 

@@ -111,7 +111,7 @@ settled old new expected (Err f) result i v e h = rw v (settled_fault old new ex
 pub value_between : (spot : Spot) (bytes : List ℕ) (parts : List Part) → parts ≡ [] → value_of (Between (lines_from spot bytes)) ≡ reply (record { spot = spot; parts = map part_text parts }) (Between (lines_from spot bytes))
 value_between spot bytes parts e = ap (λ p. reply (no_word p) (Between (lines_from spot bytes))) (spot_between spot bytes) ∙ ap (λ ps. reply (record { spot = spot; parts = map part_text ps }) (Between (lines_from spot bytes))) (sym e)
 
--- ---- behind blanks
+-- ---- after blanks
 
 pub blanks_skipped : (spot there : Spot) (bytes rest : List ℕ) → units_within there rest ≡ drop_while is_blank (units_within spot bytes) → inside (lines_within there rest) ≡ skip_blanks_of (inside (lines_within spot bytes))
 blanks_skipped spot there bytes rest e = ap (λ us. inside (lines_of us)) e ∙ passed_by is_blank blanks_end (units_within spot bytes)

@@ -23,7 +23,7 @@ use Rattle.nj_text.proofs.LineStarts.{cut_has_line, fails_if_no_byte}
 use Rattle.nj_text.proofs.Bridges.{passed_by, front_of, blanks_end, identifiers_end, words_end, next_fault_of_line, begins_word_of_line, spot_of_line, value_of_line, passed_has_line}
 use Rattle.nj_text.specs.Gathering.{NoneInRun}
 
--- ---- behind the blanks
+-- ---- after the blanks
 
 abbrev line_of_state : State → Line
 line_of_state (Inside l ls) = l
@@ -33,7 +33,7 @@ abbrev lines_of_state : State → List Line
 lines_of_state (Inside l ls) = ls
 lines_of_state other = []
 
--- a reading of the line behind the blanks is one of the line at the cursor that the blanks lead to
+-- a reading of the line after the blanks is one of the line at the cursor that the blanks lead to
 pub at_cursor : {A : Type 0} (f : Line → List Line → A) (spot there : Spot) (bytes rest : List ℕ) → units_within there rest ≡ drop_while is_blank (units_within spot bytes)
     → f (after_blanks (first_line (lines_within spot bytes))) (other_lines (lines_within spot bytes)) ≡ f (first_line (lines_within there rest)) (other_lines (lines_within there rest))
 at_cursor f spot there bytes rest e =
@@ -79,7 +79,7 @@ bytes_of_plain : (spot : Spot) (xs : List ℕ) → bytes_of (plain_units spot xs
 bytes_of_plain spot [] = refl
 bytes_of_plain spot (x ∷ xs) = ap (λ ys. x ∷ ys) (bytes_of_plain (along 1 spot) xs)
 
--- behind an identifier stands no unit of one
+-- after an identifier stands no unit of one
 identifier_stops : (spot : Spot) (ys : List ℕ) → NoneInRun is_identifier_byte ys → (take_while in_identifier (units_within spot ys) ≡ []) × (drop_while in_identifier (units_within spot ys) ≡ units_within spot ys)
 unfolding cut
 identifier_stops spot [] h = (refl, refl)
@@ -108,9 +108,9 @@ identifier_units spot bytes xs ys e h n =
 
 pub identifier_here : (spot there : Spot) (bytes xs ys : List ℕ) → bytes ≡ xs ++ ys → xs ≡ take_while is_identifier_byte bytes → ys ≡ drop_while is_identifier_byte bytes → there ≡ along (length xs) spot → None ≡ next_fault (units_within spot bytes)
     → ident_at (line spot bytes) (others spot bytes) ≡ reply (some_bytes xs) (inside (lines_within there ys))
-identifier_here spot there bytes xs ys whole run behind t f =
+identifier_here spot there bytes xs ys whole run remainder t f =
     let us = units_within spot bytes in
-    let parts = identifier_units spot bytes xs ys whole (subst (AllIn is_identifier_byte) (sym run) (AllIn-take_while is_identifier_byte bytes)) (subst (NoneInRun is_identifier_byte) (sym behind) (none_after is_identifier_byte bytes)) in
+    let parts = identifier_units spot bytes xs ys whole (subst (AllIn is_identifier_byte) (sym run) (AllIn-take_while is_identifier_byte bytes)) (subst (NoneInRun is_identifier_byte) (sym remainder) (none_after is_identifier_byte bytes)) in
     let front = front_of in_identifier identifiers_end us (cut_has_line Within 0 spot bytes) ∙ parts.0 in
     goes_on_here spot bytes (reply (some_bytes (bytes_of (take_while in_identifier (line spot bytes).units))) (Inside (with_units (drop_while in_identifier (line spot bytes).units) (line spot bytes)) (others spot bytes))) f
     ∙ ap (λ vs. reply (some_bytes (bytes_of vs)) (Inside (with_units (drop_while in_identifier (line spot bytes).units) (line spot bytes)) (others spot bytes))) front

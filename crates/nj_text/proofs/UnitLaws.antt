@@ -10,7 +10,7 @@ use Rattle.nj_text.specs.Lines.{Line, spot_of_first, lines_of, lines_before, end
 use Rattle.nj_text.specs.Calls.{bytes_of}
 use Rattle.nj_text.specs.Laws.{UnitsAreTheText, UnitsStandInPlace, counted_spot, LinesAreTheUnits, Mark, InLine, AtEnd, mark_by, mark_of, marks_of}
 
--- the units of the bytes behind those that are skipped
+-- the units of the bytes after those that are skipped
 bytes_of-cut : (position : Position) (skip : ℕ) (spot : Spot) (bs : List ℕ) → bytes_of (cut position skip spot bs) ≡ drop skip bs
 unfolding cut
 bytes_of-cut position zero spot [] = refl

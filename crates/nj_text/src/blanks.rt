@@ -41,9 +41,9 @@ pub fn skip_blanks(start: Cursor<'_>) -> Cursor<'_>
 {
     let mut cursor = start;
     'blanks: loop {
-        let (_, behind) = cursor.run(Run::Spaces);
-        let Some(after) = past_join(behind) else {
-            return behind;
+        let (_, remainder) = cursor.run(Run::Spaces);
+        let Some(after) = past_join(remainder) else {
+            return remainder;
         };
         cursor = after;
     }

@@ -72,9 +72,9 @@ impl<'a> Cursor<'a> {
         ensures whole { self.entry.rest.now ≡ result.0.now ++ result.1.rest.now }
         ensures spot { result.1.spot ≡ along (length result.0.now) self.entry.spot }
     {
-        let (text, behind) = split_run(run, self.rest);
+        let (text, remainder) = split_run(run, self.rest);
         let after = Cursor {
-            rest: behind,
+            rest: remainder,
             spot: Spot {
                 line: self.spot.line,
                 column: self.spot.column + text.len(),

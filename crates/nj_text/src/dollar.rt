@@ -38,8 +38,8 @@ fn braced(bytes: &[u8]) -> Dollar<'_>
     ensures lands { (b : ℕ) → is_line_feed b ≡ false → LandsIn result (b ∷ bytes.now) }
     ensures within { (dollar_found result).1 ≤ length bytes.now + 1 }
 {
-    let (name, behind) = split_run(Run::Identifier, bytes);
-    match first_byte(behind) {
+    let (name, remainder) = split_run(Run::Identifier, bytes);
+    match first_byte(remainder) {
         Some((b'}', _)) if !name.is_empty() => Dollar::Reference(name, name.len() + 2),
         Some(_) | None => Dollar::Bad,
     }
@@ -51,16 +51,16 @@ pub fn after_dollar(bytes: &[u8]) -> Dollar<'_>
     ensures lands { LandsIn result bytes.now }
     ensures within { (dollar_found result).1 ≤ length bytes.now }
 {
-    let Some((byte, behind)) = first_byte(bytes) else {
+    let Some((byte, remainder)) = first_byte(bytes) else {
         return Dollar::Bad;
     };
     match byte {
-        b'\n' => Dollar::Join(1, run_length(Run::Spaces, behind)),
-        b'\r' => match first_byte(behind) {
+        b'\n' => Dollar::Join(1, run_length(Run::Spaces, remainder)),
+        b'\r' => match first_byte(remainder) {
             Some((b'\n', spaces)) => Dollar::Join(2, run_length(Run::Spaces, spaces)),
             Some(_) | None => Dollar::Bad,
         },
-        b'{' => braced(behind),
+        b'{' => braced(remainder),
         b' ' | b':' | b'$' => Dollar::Escape(byte),
         _ => {
             let (name, _) = split_run(Run::Name, bytes);

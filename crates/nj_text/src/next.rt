@@ -48,14 +48,14 @@ pub fn next_unit(bytes: &[u8]) -> Next<'_>
     ensures within { next_length result ≤ length bytes.now }
     ensures joined { HasLength result }
 {
-    let Some((byte, behind)) = first_byte(bytes) else {
+    let Some((byte, remainder)) = first_byte(bytes) else {
         return Next::End;
     };
     if is_ordinary(byte) {
         return Next::Ordinary(byte);
     }
     if byte == b'$' {
-        return dollar_unit(behind);
+        return dollar_unit(remainder);
     }
     let end = line_end_length(bytes);
     if end == 0 {

@@ -51,11 +51,11 @@ fn after_dot(text: &[u8]) -> &[u8]
     ensures { result.now ≡ after_dot text.now }
 {
     let mut rest = text;
-    'bytes: while let [byte, behind @ ..] = rest {
+    'bytes: while let [byte, remainder @ ..] = rest {
         if *byte == b'.' {
-            return behind;
+            return remainder;
         }
-        rest = behind;
+        rest = remainder;
     }
     rest
 }

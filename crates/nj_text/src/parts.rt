@@ -113,17 +113,17 @@ pub fn gather<'a>(
     let mut parts = SmallVec::new(alloc);
     let mut cursor = start;
     'pieces: loop {
-        let behind = match take_run(&mut parts, kind, cursor) {
-            Ok(behind) => behind,
+        let remainder = match take_run(&mut parts, kind, cursor) {
+            Ok(remainder) => remainder,
             Err(fault) => return Err(fault),
         };
-        match special_piece(kind, behind) {
+        match special_piece(kind, remainder) {
             Piece::Part(part, after) => {
                 append(&mut parts, part)?;
                 cursor = after;
             }
             Piece::Join(after) => cursor = after,
-            Piece::End => return Ok((parts, behind)),
+            Piece::End => return Ok((parts, remainder)),
             Piece::Bad(fault) => return Err(LexFault::Unit(fault)),
         }
     }

@@ -122,6 +122,6 @@ pub fn first_byte(bytes: &[u8]) -> Option<(u8, &[u8])>
 {
     match bytes {
         [] => None,
-        [byte, behind @ ..] => Some((*byte, behind)),
+        [byte, remainder @ ..] => Some((*byte, remainder)),
     }
 }

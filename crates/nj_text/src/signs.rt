@@ -65,7 +65,7 @@ fn begins_with(byte: u8, bytes: &[u8]) -> bool
 pub fn sign_length(want: Sign, bytes: &[u8]) -> usize
     ensures { result ≡ sign_length want bytes.now }
 {
-    let Some((first, behind)) = first_byte(bytes) else {
+    let Some((first, remainder)) = first_byte(bytes) else {
         return 0;
     };
     let is_pipe = first == b'|';
@@ -73,10 +73,10 @@ pub fn sign_length(want: Sign, bytes: &[u8]) -> usize
         Sign::Colon => usize::from(first == b':'),
         Sign::Equals => usize::from(first == b'='),
         Sign::Pipe => usize::from(
-            is_pipe && !begins_with(b'|', behind) && !begins_with(b'@', behind),
+            is_pipe && !begins_with(b'|', remainder) && !begins_with(b'@', remainder),
         ),
-        Sign::Pipe2 => 2 * usize::from(is_pipe && begins_with(b'|', behind)),
-        Sign::PipeAt => 2 * usize::from(is_pipe && begins_with(b'@', behind)),
+        Sign::Pipe2 => 2 * usize::from(is_pipe && begins_with(b'|', remainder)),
+        Sign::PipeAt => 2 * usize::from(is_pipe && begins_with(b'@', remainder)),
         Sign::LineEnd => 0,
     }
 }

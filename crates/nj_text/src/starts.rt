@@ -29,8 +29,8 @@ fn past_comment(cursor: Cursor<'_>) -> Option<Cursor<'_>>
     ensures shorter { IfSome result
         (λ after. length after.rest.now < length cursor.entry.rest.now) }
 {
-    let (_, behind) = cursor.run(Run::Spaces);
-    let Some((b'#', _)) = first_byte(behind.rest) else {
+    let (_, remainder) = cursor.run(Run::Spaces);
+    let Some((b'#', _)) = first_byte(remainder.rest) else {
         return None;
     };
     let (_, end) = cursor.run(Run::Comment);
@@ -100,11 +100,11 @@ fn begin_text_line(cursor: Cursor<'_>) -> Begun<'_>
     requires { opens_comment cursor.rest.now ≡ false }
     ensures { BegunIs (lines_at cursor.entry) result }
 {
-    let (spaces, behind) = cursor.run(Run::Spaces);
+    let (spaces, remainder) = cursor.run(Run::Spaces);
     if spaces.is_empty() {
         return begin_at_once(cursor);
     }
-    begin_after_spaces(behind)
+    begin_after_spaces(remainder)
 }
 
 /// How the next line begins that is no comment.

@@ -14,9 +14,9 @@ use Rattle.nj_manifest.proofs.Consumed.{statement_takes, text_has_bytes}
 
 -- ---- one statement more
 
-ComeNext-last : (ls : List Line) (ss : List PlacedText) (behind rest : List Line) (s : PlacedText) → ComeNext ls ss behind → next_statement behind ≡ Ok (Some s, rest) → ComeNext ls (ss ++ s ∷ []) rest
-ComeNext-last ls [] behind rest s h e = (rest, ap next_statement h ∙ e, refl)
-ComeNext-last ls (t ∷ ts) behind rest s h e = (h.0, h.1, ComeNext-last h.0 ts behind rest s h.2 e)
+ComeNext-last : (ls : List Line) (ss : List PlacedText) (remainder rest : List Line) (s : PlacedText) → ComeNext ls ss remainder → next_statement remainder ≡ Ok (Some s, rest) → ComeNext ls (ss ++ s ∷ []) rest
+ComeNext-last ls [] remainder rest s h e = (rest, ap next_statement h ∙ e, refl)
+ComeNext-last ls (t ∷ ts) remainder rest s h e = (h.0, h.1, ComeNext-last h.0 ts remainder rest s h.2 e)
 
 number-last : (is_kind : StatementText → Bool) (ss : List PlacedText) (s : PlacedText) → number_of is_kind (ss ++ s ∷ []) ≡ number_of is_kind ss + cond (is_kind s.item) 1 0
 number-last is_kind ss s = sum_by-append (λ t. cond (is_kind t.item) 1 0) ss (s ∷ []) ∙ ap (λ n. number_of is_kind ss + n) (zero-add (cond (is_kind s.item) 1 0))

@@ -7,17 +7,17 @@ use Rattle.nj_text.proofs.next.next_unit.Goals as goal
 pub returns-then-is_ordinary-clause-unit : goal.returns-then-is_ordinary-clause-unit
 returns-then-is_ordinary-clause-unit c =
     let byte = c.in-Some.byte in
-    let behind = c.in-Some.behind.now in
+    let remainder = c.in-Some.remainder.now in
     let first = c.in-Some.ensures in
     let ordinary = sym c.is_ordinary.ensures ∙ c.if-is_ordinary.true in
-    (ordinary, ap (begins_with byte) first ∙ eqb_self byte, rw first (ordinary_next byte behind ordinary))
+    (ordinary, ap (begins_with byte) first ∙ eqb_self byte, rw first (ordinary_next byte remainder ordinary))
 
 pub returns-then-end-eq0-clause-unit : goal.returns-then-end-eq0-clause-unit
 returns-then-end-eq0-clause-unit c =
     let byte = c.in-Some.byte in
-    let behind = c.in-Some.behind.now in
+    let remainder = c.in-Some.remainder.now in
     let first = c.in-Some.ensures in
-    rw first (bad_byte_next byte behind (sym c.is_ordinary.ensures ∙ c.if-is_ordinary.false) (ne_eqb byte 36 c.if-byte-eq36.false) (rw first at (sym c.line_end_length-end.ensures.length ∙ c.if-end-eq0.true)))
+    rw first (bad_byte_next byte remainder (sym c.is_ordinary.ensures ∙ c.if-is_ordinary.false) (ne_eqb byte 36 c.if-byte-eq36.false) (rw first at (sym c.line_end_length-end.ensures.length ∙ c.if-end-eq0.true)))
 
 pub returns-clause-unit : goal.returns-clause-unit
 returns-clause-unit c = line_end_next c.args.bytes.now c.line_end_length-end.result c.line_end_length-end.ensures.length (ne_eqb c.line_end_length-end.result 0 c.if-end-eq0.false)
