@@ -42,7 +42,7 @@ smoke: $(BUILT)
 $(BUILT): $(wildcard crates/*/src/*.rt)
 	$(MAKE) all
 
-# Runs the program on the quick start's file before any proof.
+# Runs the program on examples/hello before any proof.
 try:
 	cd $(PROGRAM) && rt try < ../../examples/hello/build.ninja
 

@@ -115,7 +115,7 @@ def run_pages(folder, size):
 
 
 def try_outputs(folder):
-    expect("quick start", run(folder, COMMANDS), (DONE, HELLO_COMMANDS, b""))
+    expect("examples/hello", run(folder, COMMANDS), (DONE, HELLO_COMMANDS, b""))
     lines = HELLO_COMMANDS.splitlines(keepends=True)
     expect("one target", run(folder, [*COMMANDS, "hello.o"]), (DONE, lines[0], b""))
     expect("its own command", run(folder, [*COMMANDS, "-s", "hello"]), (DONE, lines[2], b""))
