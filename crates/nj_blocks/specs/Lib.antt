@@ -1,4 +1,4 @@
 -- what must be believed
 pub mod Blocks
--- how what the code holds is that
+-- how the code holds that
 pub mod BlocksHeld

@@ -33,7 +33,7 @@ impl Model for Blocks {
 }
 
 impl Blocks {
-    /// Blocks that bind nothing. It takes no memory.
+    /// Blocks that bind nothing. It allocates nothing.
     pub fn new(alloc: Global, keys: HashKeys) -> Blocks
         ensures nothing { (edge : ℕ) (name : List ℕ) → bound_in result edge name ≡ None }
         ensures last { result.last ≡ 0 }

@@ -107,7 +107,7 @@ fn push_value(text: &mut Vec<u8>, edge: usize, value: &[u8]) -> Result<Bound, Al
     Ok(Bound { edge, start, end })
 }
 
-// Appends the bound, or puts it in place of the last one if that is of the same edge.
+// Appends the bound, or replaces the last one if that is of the same edge.
 fn set_bound(bounds: &mut Vec<Bound>, bound: Bound) -> Result<(), AllocError>
     ensures set { OnOk result (bounds.new.items ≡ with_bound bounds.old.items bound) }
     ensures refused { OnErr result (bounds.new.items ≡ bounds.old.items) }

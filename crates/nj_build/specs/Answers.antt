@@ -41,7 +41,7 @@ Checks expected (Err fault) = IsFault expected fault
 
 -- ---- names
 
--- Names have these values in a scope, by what the statements before declare, where a block binds these.
+-- Names have these values in a scope, by what the earlier statements declare and the block binds.
 pub record Sees (held : DeclarationsText) (scope : ℕ) (block : Block) (values : Values) : Type 0 where
   pub entries : List Entry
   pub around : List ℕ
@@ -68,7 +68,7 @@ abbrev pub with_outputs : EdgeTable → List (List ℕ) → EdgeTable
 with_outputs t [] = t
 with_outputs t (path ∷ paths) = with_outputs (with_output t path) paths
 
--- an input, which the edge loses if it makes it itself and loses its own
+-- an input, which is left out if the edge makes it itself and loses its own outputs as inputs
 abbrev pub with_input_unless : (loses_own : Bool) → EdgeTable → (path : List ℕ) → EdgeTable
 with_input_unless false t path = with_input t path
 with_input_unless true t path = if is_among t.«open».outputs path then t else with_input t path
@@ -81,13 +81,13 @@ abbrev pub with_validations : EdgeTable → List (List ℕ) → EdgeTable
 with_validations t [] = t
 with_validations t (path ∷ paths) = with_validations (with_validation t path) paths
 
--- the edge that is being read has so many outputs more, and no input less; no edge is added
+-- the edge that is being read has this many more outputs, and no fewer inputs; no edge is added
 pub record Grows (outputs : ℕ) (before after : EdgeTable) : Type 0 where
   pub edges : after.edges ≡ before.edges
   pub outputs_are : length after.«open».outputs ≡ length before.«open».outputs + outputs
   pub inputs : length before.«open».inputs ≤ length after.«open».inputs
 
--- the inputs and validations of a statement are appended, of which the explicit and the implicit ones end there
+-- the inputs and validations of a statement are appended; its explicit and its implicit inputs end at `ends`
 pub record AddsInputs (loses_own : Bool) (values : Values) (inputs : InputsText) (before after : EdgeTable) (ends : ℕ × ℕ)
     : Type 0 where
   pub explicit : EdgeTable
@@ -99,7 +99,7 @@ pub record AddsInputs (loses_own : Bool) (values : Values) (inputs : InputsText)
   pub after_is : after ≡ with_validations (with_inputs loses_own implicit (paths_said values inputs.order_only))
       (paths_said values inputs.validations)
 
--- the edge that is being read is this one, where its kinds end so; no edge is added, and files keep their numbers
+-- the edge that is being read is this one, with these ends of its kinds; no edge is added, and files keep their numbers
 pub record NamesFiles (before after : EdgeTable) (kinds : KindEnds) (is_phony : Bool) (edge : EdgePaths) : Type 0 where
   pub edges : after.edges ≡ before.edges
   pub edge_is : edge_read after.«open» kinds is_phony ≡ edge
@@ -119,7 +119,7 @@ pub record AddsTargets (files : List (List ℕ)) (before after : List FileNo) (p
 
 -- ---- the names of a rule
 
--- the names of an edge with these paths, whose block binds these, where its file has these values
+-- the names of an edge with these paths and this block, where its file has these values
 abbrev pub names_read : EdgePaths → Block → RuleText → (file : Values) → LateNames
 names_read paths block rule file = record {
   inputs = paths.explicit_inputs;
@@ -130,7 +130,7 @@ names_read paths block rule file = record {
   file = file;
 }
 
--- The names of an edge depend on these, by what the statements before declare.
+-- The names of an edge depend on these, by what the earlier statements declare.
 pub record SeesLate (edge : LateEdge) (entries : List Entry) (n : LateNames) : Type 0 where
   pub around : List ℕ
   pub declared : DeclaredBy edge.declarations.now entries
@@ -141,7 +141,7 @@ pub record SeesLate (edge : LateEdge) (entries : List Entry) (n : LateNames) : T
 abbrev pub IsFileSaid : (files : List (List ℕ)) → Option FileNo → Option (List ℕ) → Type 0
 IsFileSaid files number path = option_map (λ f. slice_get files f.0) number ≡ option_map Some path
 
--- what is kept of rules tells of their cycles
+-- what is kept of rules is enough to find their cycles
 abbrev pub HoldsReferences : (kept : List (Option (List ReferringKeyText))) → List RuleText → Type 0
 HoldsReferences kept rules =
     (number : ℕ) (keys : List ReferringKeyText) → slice_index_or kept number None ≡ Some keys

@@ -40,7 +40,7 @@ abbrev pub unknown_rule : Entry → (before : List Entry) → NameText → Optio
 unknown_rule e before rule =
     fault_if (not (is_some (rule_in_force before (scope_of e) rule.name))) (fault_at e.file rule.spot (UnknownRule rule.name))
 
--- An output is refused that an edge before makes, or that is one of those to its left.
+-- An output is refused if an earlier edge makes it, or if it is one of those to its left.
 abbrev pub two_makers : (file : List ℕ) → Values → List EdgePaths → (left : List (List ℕ)) → WordText → Option GraphFault
 two_makers file values edges left word =
     fault_if (is_some (maker_of edges (path_said values word)) || is_among left (path_said values word))
@@ -60,15 +60,15 @@ abbrev pub paths_fault : (file : List ℕ) → Values → List EdgePaths → Out
 paths_fault file values edges outputs inputs =
     or_then (outputs_fault file values edges [] (outputs.explicit ++ outputs.implicit)) (inputs_fault file values inputs)
 
--- A variable of the rule refers back to itself, by variables that the block does not bind. It counts though nothing asks for it.
+-- A variable of the rule refers back to itself, by variables that the block does not bind. It is a fault even if nothing asks for it.
 abbrev pub variable_cycle_fault : (file : List ℕ) → Spot → LateNames → Option GraphFault
 variable_cycle_fault file spot n = option_map (λ key. fault_at file spot (RuleVariableCycle key)) (variable_cycle_of n.block n.lines)
 
--- A pool has to be declared before; an empty text is no pool.
+-- A pool has to be declared earlier; an empty text names no pool.
 abbrev pub unknown_pool : (file : List ℕ) → Spot → (declared : List (List ℕ)) → (pool : List ℕ) → Option GraphFault
 unknown_pool file spot declared pool = fault_if (not (is_empty pool || is_pool declared pool)) (fault_at file spot (UnknownPool pool))
 
--- A dyndep file has to be an input of the edge, of any kind, by its clean path; an empty text is no file.
+-- A dyndep file has to be an input of the edge, of any kind, by its clean path; an empty text names no file.
 abbrev pub dyndep_not_input : (file : List ℕ) → Spot → (inputs : List (List ℕ)) → (dyndep : List ℕ) → Option GraphFault
 dyndep_not_input file spot inputs dyndep =
     fault_if (not (is_empty dyndep || is_among inputs (clean_path_of dyndep))) (fault_at file spot (DyndepNotInput (clean_path_of dyndep)))
@@ -98,7 +98,7 @@ abbrev pub unknown_target : (file : List ℕ) → Values → List EdgePaths → 
 unknown_target file values edges word =
     fault_if (not (is_named edges (path_said values word))) (fault_at file word.spot (UnknownTarget (path_said values word)))
 
--- A default is a file that an edge before names.
+-- A default is a file that an earlier edge names.
 abbrev pub target_fault : (file : List ℕ) → Values → List EdgePaths → WordText → Option GraphFault
 target_fault file values edges word = or_then (empty_path file values word) (unknown_target file values edges word)
 

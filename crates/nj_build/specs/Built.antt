@@ -1,4 +1,4 @@
--- What the statements of a run come to after the last one: its edges and defaults, or a dependency cycle.
+-- What the statements of a run yield after the last one: its edges and defaults, or a dependency cycle.
 use Rattle.std.specs.Prelude.{◌≡◌, ◌⊎◌, ℕ, Some, Result, Ok, Err, List, [], ◌∷◌, map, length, slice_get, slice_index_or}
 use Rattle.nj_text.specs.declared.spot.Spot.{Spot}
 use Rattle.nj_scope.specs.ReadingList.{Entry}
@@ -66,7 +66,7 @@ pub record IsCycleFault (edges : List EdgeText) (fault : GraphFault) : Type 0 wh
   pub output_is : slice_get (outputs_of edge.paths) 0 ≡ Some output
   pub fault_is : fault ≡ fault_at edge.file edge.spot (Cycle output)
 
--- Where no edge lies on a cycle, the statements come to their edges and defaults.
+-- Where no edge lies on a cycle, the statements yield their edges and defaults.
 abbrev pub ComesTo : List Entry → Result BuiltText GraphFault → Type 0
 ComesTo entries (Ok built) =
     IsBuiltOf built entries × IsAcyclic (makers_of_inputs (paths_of_edges (edges_read entries))) (length (edges_read entries))

@@ -1,4 +1,4 @@
--- How what the statements come to is held. Nothing here has to be believed.
+-- How what the statements yield is held. Nothing here has to be believed.
 use Rattle.std.specs.Prelude.{◌≡◌, ℕ, ◌<◌, List, map, length}
 use Rattle.std.specs.List.{AllByRecursion}
 use Rattle.nj_blocks.specs.Blocks.{BlocksText}

@@ -89,7 +89,7 @@ build_block e before lines = block_of (value_after before (scope_of e)) lines
 abbrev pub line_values : Entry → (before : List Entry) → List LineText → Values
 line_values e before lines = on_line (value_after before (scope_of e)) (build_block e before lines)
 
--- Discovered files are implicit: they stand after those that the statement itself names so, its inputs before the order-only ones.
+-- Discovered files are implicit: they come after the implicit ones of the statement itself, its inputs before the order-only ones.
 abbrev pub with_discovered : Option Discovered → EdgePaths → EdgePaths
 with_discovered None e = e
 with_discovered (Some found) e = record e {
@@ -159,7 +159,7 @@ pub record Pending : Type 0 where
   pub edge : ℕ
   pub file : List ℕ
 
--- an empty text is no file
+-- an empty text names no file
 abbrev pub file_said : (text : List ℕ) → Option (List ℕ)
 file_said text = if is_empty text then None else Some (clean_path_of text)
 

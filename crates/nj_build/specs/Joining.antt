@@ -41,7 +41,7 @@ abbrev pub discover_for : Option ℕ → Discovered → List Entry → List Entr
 discover_for (Some edge) found joined = discover edge found joined
 discover_for None found joined = joined
 
--- The statements with what an entry adds, of those as they were read, and of those with what was joined before.
+-- The statements with what an entry adds, by the statements as they were read, and those with what was joined before.
 abbrev pub with_entry : (stated joined : List Entry) → EntryText → List Entry
 with_entry stated joined entry = discover_for (edge_meant stated entry) (discovered_by entry) joined
 

@@ -29,12 +29,12 @@ abbrev pub has_pending : List Pending → Bool
 has_pending [] = false
 has_pending (p ∷ others) = true
 
--- what an edge waits for, which is bound to this, or to nothing
+-- what an edge waits for, if it is bound to this, or to nothing
 abbrev pub unless_joined : {A : Type 0} → Option A → (was_joined : Bool) → Option A
 unless_joined bound true = None
 unless_joined bound false = bound
 
--- of each edge what it waits for, which is bound to this; nothing was joined to those past the end of the second list
+-- what each edge waits for, by what it is bound to; nothing was joined to those past the end of the second list
 abbrev pub still_waiting : {A : Type 0} → (bound : List (Option A)) → (was_joined : List Bool) → List (Option A)
 still_waiting [] was_joined = []
 still_waiting (b ∷ bound) [] = b ∷ bound
@@ -152,8 +152,8 @@ joining_of table blocks names details defaults dyndep_files bound = record {
   bound = map (file_named table.files) bound;
 }
 
--- Of each edge there is a detail, and what is joined to it. All numbers are those of files and edges. So many edges at most wait
--- for each file.
+-- For each edge there is a detail, and what is joined to it. All numbers are those of files and edges. For each file at most as many edges
+-- wait as are counted.
 pub record JoiningIsHeld (table : JoinTable) (names : List (List ℕ)) (details : List Detail) (defaults : List FileNo)
     (dyndep_files : List DyndepEdge) (bound : List (Option FileNo)) (waiting : List ℕ) : Type 0 where
   pub each_path_once : IsDistinct bytes_eq table.files
@@ -170,8 +170,7 @@ pub record JoiningIsHeld (table : JoinTable) (names : List (List ℕ)) (details 
   pub waiting_known : length waiting ≤ length table.files
   pub enough_wait : (file : FileNo) → count_waiting file (still_waiting bound table.was_joined) ≤ slice_index_or waiting file.0 0
 
--- It holds the edges and defaults of statements as they are with what was joined to them, which were read so, and which of them
--- wait.
+-- It holds the edges and defaults of the joined statements, the edges of the statements as they were read, and which edges wait.
 pub record HoldsJoined (held : JoiningText) (stated joined : List Entry) : Type 0 where
   pub stated_paths : held.table.stated ≡ paths_of_edges (edges_read stated)
   pub joined_paths : held.table.joined ≡ paths_of_edges (edges_read joined)

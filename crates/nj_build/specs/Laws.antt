@@ -71,7 +71,7 @@ abbrev pub AreRising : List Pending → Type 0
 AreRising [] = Unit {0}
 AreRising (p ∷ others) = AllByRecursion (λ q. p.edge < q.edge) others × AreRising others
 
--- The edges that wait are edges of the statements, and stand by number, each once.
+-- The edges that wait are edges of the statements, in ascending order of number, each once.
 pub record StandByNumber (entries : List Entry) : Type 0 where
   pub within : AllByRecursion (λ p. p.edge < length (edges_read entries)) (pending_read entries)
   pub rising : AreRising (pending_read entries)
@@ -79,8 +79,8 @@ pub record StandByNumber (entries : List Entry) : Type 0 where
 abbrev pub PendingEdgesRise : Type 0
 PendingEdgesRise = (entries : List Entry) → StandByNumber entries
 
--- The dyndep files of the edges that wait: each stands once, with the edge of the smallest number that waits for it, and they stand
--- in the order of these edges.
+-- The dyndep files of the edges that wait: each once, with the edge of the smallest number that waits for it, and in the order of these
+-- edges.
 pub record StandOnce (edges : List Pending) : Type 0 where
   pub distinct : IsDistinct bytes_eq (map (λ p. p.file) (dyndep_files edges))
   pub first : (file : List ℕ) → find (λ p. bytes_eq p.file file) (dyndep_files edges) ≡ find (λ p. bytes_eq p.file file) edges

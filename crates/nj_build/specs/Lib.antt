@@ -4,7 +4,7 @@ pub mod BuildFaults
 pub mod Built
 pub mod Joining
 pub mod Laws
--- how what the code holds is that
+-- how the code holds that
 pub mod Answers
 pub mod BuiltHeld
 pub mod JoiningHeld

@@ -82,7 +82,7 @@ impl Model for Building {
 }
 
 impl Building {
-    /// No edges. It takes no memory. Names and paths are hashed by these keys.
+    /// No edges. It allocates nothing. Names and paths are hashed by these keys.
     pub fn new(alloc: Global, keys: HashKeys) -> Building
         ensures { HoldsEdges result [] }
     {
@@ -106,7 +106,7 @@ impl Building {
     /// an empty path or one that has a maker, then an empty path among its inputs and validations,
     /// and then a cycle of the rule's variables, a pool that is not declared, or a dyndep file that
     /// is no input ("Rule variables", "Pools" and "Dynamic Dependencies" in the manual). After a
-    /// fault nothing more must be read.
+    /// fault nothing more may be read.
     pub fn read_build(
         &mut self,
         alloc: Global,
@@ -208,8 +208,8 @@ impl Building {
     ///
     /// # Errors
     ///
-    /// The fault of the first word that has one: an empty path, or a file that no build statement
-    /// before names. After a fault nothing more must be read.
+    /// The fault of the first word that has one: an empty path, or a file that no earlier build
+    /// statement names. After a fault nothing more may be read.
     pub fn read_default(
         &mut self,
         alloc: Global,
@@ -255,7 +255,7 @@ fn push_dyndep(
     Ok(())
 }
 
-// Appends the files that words name, which an edge before has to name.
+// Appends the files that words name, each of which an earlier edge has to name.
 fn add_targets(
     line: NamedLine<'_, '_, '_>,
     room: &mut Room,

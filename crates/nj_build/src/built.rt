@@ -52,13 +52,13 @@ impl Model for Built {
 }
 
 impl Building {
-    /// What the statements come to, none of which may have had a fault. Takes time in proportion to
+    /// What the statements yield, none of which may have had a fault. Takes time in proportion to
     /// the edges and their inputs.
     ///
     /// # Errors
     ///
-    /// A dependency cycle: at the statement of the least edge that lies on one itself, with the
-    /// first output of that edge. An edge that only leads into a cycle is not named.
+    /// A dependency cycle: at the statement of the lowest-numbered edge that lies on one itself,
+    /// with the first output of that edge. An edge that only leads into a cycle is not named.
     pub fn finish(self, alloc: Global) -> Result<Built, GraphFault>
         requires { (entries : List Entry) × HoldsEdges self entries }
         ensures { (entries : List Entry) → HoldsEdges self entries → ComesTo entries result }

@@ -54,7 +54,7 @@ impl NamedLine<'_, '_, '_> {
         }
     }
 
-    /// The file that a word names, which an edge before has to name.
+    /// The file that a word names, which an earlier edge has to name.
     pub(crate) fn named_file(
         self,
         room: &mut Room,
@@ -257,7 +257,7 @@ fn add_files(
     })
 }
 
-// The edge that is being read, whose kinds end so, for its late texts.
+// The edge that is being read, with these ends of its kinds, for its late texts.
 fn late_edge<'a>(
     declarations: &'a Declarations,
     scope: usize,
@@ -286,7 +286,7 @@ fn late_edge<'a>(
     }
 }
 
-/// Reads a build statement as an edge, which is the last one then. Returns its dyndep file, if it
+/// Reads a build statement as an edge, which is then the last one. Returns its dyndep file, if it
 /// is bound to one.
 pub(crate) fn add_edge(
     line: NamedLine<'_, '_, '_>,

@@ -49,9 +49,9 @@ pub struct Joining {
     defaults: Vec<FileNo>,
     // the dyndep files, each with its first edge
     dyndep_files: Vec<DyndepEdge>,
-    // of each edge the dyndep file to which it is bound
+    // for each edge, the dyndep file to which it is bound
     bound: Vec<Option<FileNo>>,
-    // of each file how many edges wait for what it says
+    // for each file, how many edges wait for what it says
     waiting: Vec<usize>,
     room: Room,
 }
@@ -109,7 +109,7 @@ impl Built {
     }
 }
 
-// Of each edge the dyndep file to which it is bound.
+// For each edge, the dyndep file to which it is bound.
 fn bound_files(
     alloc: Global,
     edge_count: usize,
@@ -126,14 +126,14 @@ fn bound_files(
     Ok(bound)
 }
 
-// The dyndep files, each with its first edge; and of each file how many edges are bound to it.
+// The dyndep files, each with its first edge; and for each file, how many edges are bound to it.
 #[derive(Drop)]
 struct Awaited {
     dyndep_files: Vec<DyndepEdge>,
     waiting: Vec<usize>,
 }
 
-// The dyndep files of edges, where there are so many files.
+// The dyndep files of edges, where there are this many files.
 fn awaited_files(
     alloc: Global,
     file_count: usize,
@@ -202,9 +202,9 @@ impl Joining {
     /// # Errors
     ///
     /// The first fault of the entry: an empty path, or one whose build statement is not bound to
-    /// the file, or is meant by an entry before; then the outputs that it discovers from left to
+    /// the file, or is meant by an earlier entry; then the outputs that it discovers from left to
     /// right, each an empty path or one that has a maker, and an empty path among its inputs. After
-    /// a fault nothing more must be joined.
+    /// a fault nothing more may be joined.
     pub fn join_entry(
         &mut self,
         alloc: Global,
@@ -233,7 +233,7 @@ impl Joining {
     ///
     /// # Errors
     ///
-    /// The least edge that does, at its build statement; or an allocation failed.
+    /// The lowest-numbered edge that does, at its build statement; or an allocation failed.
     pub fn end_file(&self, alloc: Global, file: FileNo) -> Result<(), GraphFault>
         requires { file.0 < length self.now.table.files }
         ensures { (stated joined : List Statement) → HoldsJoined self.now stated joined
@@ -248,7 +248,7 @@ impl Joining {
         }
     }
 
-    // The fault of an edge of which its dyndep file says nothing.
+    // The fault of an edge that its dyndep file does not mention.
     fn no_statement(
         &self,
         alloc: Global,
@@ -271,8 +271,8 @@ impl Joining {
         })
     }
 
-    /// What the edges come to with what was joined to them, where no edge waits any more. Takes
-    /// time in proportion to the edges and their files.
+    /// What the edges yield with what was joined to them, once no edge waits. Takes time in
+    /// proportion to the edges and their files.
     ///
     /// # Errors
     ///
@@ -308,7 +308,7 @@ impl Joining {
     }
 }
 
-// The least edge that waits for a dyndep file.
+// The lowest-numbered edge that waits for a dyndep file.
 fn waiting_edge(edges: &JoiningEdges, bound: &[Option<FileNo>], file: FileNo) -> Option<EdgeNo>
     requires { length bound.now ≡ length edges.now.stated }
     ensures { option_map (λ edge. edge.0) result ≡ first_edge (λ w. is_bound_to w file)

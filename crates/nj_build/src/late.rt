@@ -72,7 +72,7 @@ impl LateLine<'_, '_> {
         }
     }
 
-    // Refuses a pool that no statement before declares; `text` is room for its name.
+    // Refuses a pool that no earlier statement declares; `text` is room for its name.
     fn check_pool(self, text: &mut Vec<u8>) -> Result<(), GraphFault>
         ensures { (entries : List Entry) (n : LateNames) → SeesLate self.entry.edge entries n
             → Checks (unknown_pool self.entry.place.file.now self.entry.place.spot (pools entries)

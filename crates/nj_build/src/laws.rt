@@ -5,9 +5,9 @@ ghost use Rattle.nj_build.specs.Laws.{AddsToOneEdge, OthersWaitAsBefore, NamesSt
 ghost use Rattle.nj_build.specs.Laws.{EntriesAddToTheirEdges, NoFileGetsTwoMakers};
 ghost use Rattle.nj_build.specs.Laws.{PendingEdgesRise, DyndepFilesStandOnce};
 
-/// What a dyndep file says is added to one edge that waits for it, which waits no more. The other
-/// edges stay as they are and wait as before, and what names, rules and defaults say does not
-/// change.
+/// What a dyndep file says is added to one edge that waits for it; that edge then waits no longer.
+/// The other edges stay as they are and wait as before, and what names, rules and defaults say does
+/// not change.
 pub fn discovered_files_are_added()
     ensures added { AddsToOneEdge }
     ensures waiting { OthersWaitAsBefore }
@@ -22,12 +22,12 @@ pub fn entries_add_to_their_edges()
     ensures makers { NoFileGetsTwoMakers }
 {}
 
-/// The edges that wait for dyndep files stand by number, each once.
+/// The edges that wait for dyndep files are in ascending order of number, each once.
 pub fn pending_edges_rise()
     ensures { PendingEdgesRise }
 {}
 
-/// The dyndep files of the edges that wait stand in the order of their first edges, each once.
+/// The dyndep files of the edges that wait are in the order of their first edges, each once.
 pub fn dyndep_files_stand_once()
     ensures { DyndepFilesStandOnce }
 {}

@@ -38,7 +38,7 @@ pub(crate) struct Room {
 }
 
 impl Room {
-    /// No room yet. It takes no memory.
+    /// No room yet. It allocates nothing.
     pub(crate) fn new(alloc: Global) -> Room {
         Room {
             text: Vec::new(alloc),
@@ -59,8 +59,7 @@ impl Room {
         }
     }
 
-    /// The path that a word says in which each reference is empty: a slice of its file where that
-    /// is clean.
+    /// The path that a word says if each reference is empty: a slice of its file if that is clean.
     ///
     /// # Errors
     ///
@@ -119,7 +118,7 @@ impl Names<'_, '_> {
         Ok(())
     }
 
-    /// The path that a word says: a slice of its file where that is clean.
+    /// The path that a word says: a slice of its file if that is clean.
     ///
     /// # Errors
     ///
@@ -145,7 +144,7 @@ impl Names<'_, '_> {
     }
 }
 
-// Sets a text to what a word says in which each reference is empty.
+// Sets a text to what a word says if each reference is empty.
 fn plain_text(text: &mut Vec<u8>, word: &Word<'_>) -> Result<(), AllocError>
     ensures { OnOk result (text.new.items ≡ expanded no_values (word_text word.now).parts) }
 {

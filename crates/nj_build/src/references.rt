@@ -17,7 +17,7 @@ pub(crate) struct NumberedRule<'a> {
     ghost small: { number + 1 < 2 ^ 64 },
 }
 
-/// Keeps which keys of the rule refer to which, by its number, where that is not kept yet.
+/// Keeps which keys of the rule refer to which, by its number, unless that is kept already.
 pub(crate) fn keep_references(
     alloc: Global,
     kept: &mut Vec<Option<KeyReferences>>,
@@ -38,7 +38,7 @@ pub(crate) fn keep_references(
     Ok(())
 }
 
-/// What is kept of the rule of this number, of which something is.
+/// What is kept of the rule of this number; something must be kept of it.
 pub(crate) fn rule_references(kept: &[Option<KeyReferences>], number: usize) -> &KeyReferences
     requires { is_some (slice_index_or kept.now number None) ≡ true }
     ensures { slice_index_or kept.now number None ≡ Some result.now }
@@ -59,7 +59,7 @@ fn references_kept(kept: &[Option<KeyReferences>], number: usize) -> Option<&Key
     }
 }
 
-// Makes room for what is kept of so many rules.
+// Makes room for what is kept of this many rules.
 fn make_room(kept: &mut Vec<Option<KeyReferences>>, count: usize) -> Result<(), AllocError>
     ensures room { OnOk result (count ≤ length kept.new.items) }
     ensures same { SameReferences kept.old.items kept.new.items }

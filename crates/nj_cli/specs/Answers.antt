@@ -23,7 +23,7 @@ use Rattle.nj_cli.specs.declared.status.Status.TheVariants.{Done, Fault, Stopped
 
 -- ---- what is left to write
 
--- each step of a mark leads to an edge, from these targets on; at the start there is no step
+-- each step of a mark leads to an edge, starting from these targets; the mark of the start has no steps
 abbrev pub leads : List Entry → (targets : List (List ℕ)) → (mark : List ℕ) → Bool
 leads entries targets mark = is_valid (makers_in (edges_by_path entries)) (row_of_paths (edges_by_path entries) targets) mark
 
@@ -33,7 +33,7 @@ commands_left entries targets mark =
     rest (makers_in (edges_by_path entries)) (length (edges_by_path entries)) (is_phony_in (edges_by_path entries))
     (row_of_paths (edges_by_path entries) targets) mark
 
--- the mark after these edges, where the run began at a mark
+-- the mark after these edges, in a run that began at the mark `begun`
 abbrev pub IsMarkOf : List Entry → (targets : List (List ℕ)) → (begun : List ℕ) → (edges : List ℕ) → (mark : List ℕ) → Type 0
 IsMarkOf entries targets begun edges mark =
     IsMarkAfter (makers_in (edges_by_path entries)) (length (edges_by_path entries)) (row_of_paths (edges_by_path entries) targets)
@@ -46,7 +46,7 @@ commands_text entries take start (Ok targets) =
     if leads entries targets start then command_lines entries (written take (commands_left entries targets start)) else []
 commands_text entries take start (Err fault) = []
 
--- a text for targets; nothing at a fault of theirs
+-- a text for targets; empty if they have a fault
 abbrev pub for_targets : (text : List (List ℕ) → List ℕ) → (targets : Result (List (List ℕ)) GraphFault) → List ℕ
 for_targets text (Ok targets) = text targets
 for_targets text (Err fault) = []
@@ -55,7 +55,7 @@ for_targets text (Err fault) = []
 abbrev pub single_commands_text : List Entry → (targets : List (List ℕ)) → List ℕ
 single_commands_text entries targets = command_lines entries (own_commands_in (edges_by_path entries) targets)
 
--- the whole output; nothing at a fault, but what `compdb` writes before one
+-- the whole output; empty at a fault, except for what `compdb` writes before one
 abbrev pub output_of : List Entry → ActionText → List ℕ
 output_of entries (commands words take start) = commands_text entries take start (targets_of entries words)
 output_of entries (single_commands words) = for_targets (single_commands_text entries) (targets_of entries words)
@@ -97,12 +97,12 @@ abbrev pub TargetsEnd : (targets : Result (List (List ℕ)) GraphFault) → Endi
 TargetsEnd (Ok targets) ending = ending ≡ finished
 TargetsEnd (Err fault) ending = ending ≡ faulty (fault_line fault)
 
--- JSON cannot hold what is told of an edge: the fault stands at its build statement
+-- JSON cannot hold a text of an edge: the fault is at its build statement
 abbrev pub text_fault : Option EdgeText → GraphFault
 text_fault (Some e) = fault_at e.file e.spot TextNotUtf8
 text_fault None = unplaced TextNotUtf8
 
--- there may be such an edge
+-- by the first edge that JSON cannot hold, if there is one
 abbrev pub CompdbEnds : List Entry → (unheld : Option ℕ) → Ending → Type 0
 CompdbEnds entries None ending = ending ≡ finished
 CompdbEnds entries (Some edge) ending = ending ≡ faulty (fault_line (text_fault (slice_get (edges_read entries) edge)))
@@ -117,7 +117,7 @@ EndsWith entries (ask.query words) ending = TargetsEnd (targets_named (edges_by_
 EndsWith entries (ask.rules descriptions) ending = ending ≡ finished
 EndsWith entries (ask.compdb names directory expand) ending = CompdbEnds entries (unheld_edge entries names expand) ending
 
--- ---- what is told of it
+-- ---- what is reported of it
 
 abbrev pub with_line_end : List ℕ → List ℕ
 with_line_end text = text ++ 10 ∷ []
@@ -133,7 +133,7 @@ status_of finished = Done
 status_of (stopped mark) = Stopped
 status_of (faulty text) = Fault
 
--- the status where the error output failed: without its mark a run cannot go on
+-- the status if the error output failed: a run whose mark is not reported cannot go on
 abbrev pub status_untold : Ending → Status
 status_untold finished = Done
 status_untold (stopped mark) = OutputFailed

@@ -5,9 +5,9 @@ use Rattle.nj_scope.specs.Sources.{SourceState}
 pub record Disk : Type 0 where
   -- the name of the file that is read from standard input
   pub input_name : Option (List ℕ)
-  -- how often a reading has failed; the count is held at 2 ^ 64 - 1
+  -- how often a read has failed; the count stays at 2 ^ 64 - 1
   pub failed : ℕ
 
--- what is known of it as of any source: how often it failed, and nothing of its readings and files
+-- what is known of it as a source: how often it failed, and nothing about its readings and files
 abbrev pub disk_state : Disk → SourceState
 disk_state disk = record { readings = None; failures = disk.failed; files = λ path. None }

@@ -12,9 +12,9 @@ use Rattle.nj_tools.specs.CommandTexts.{command_lines}
 use Rattle.nj_cli.specs.Answers.{output_of, Ending, finished, stopped, EndsWith}
 use Rattle.nj_cli.specs.Targets.{edges_by_path, NoEdgeNeedsItself, targets_of}
 
--- These are the edges, by number, whose commands the targets need: exactly the edges that have a command and that the targets
--- need through any chain of inputs; each once; each after all others that it needs through any chain; in the order in which
--- they are first completed from left to right, by which they are defined.
+-- These are the edges, by number, whose commands the targets need: exactly the edges that have a command and that the targets need through
+-- any chain of inputs; each once; each after all others that it needs through any chain; in the order in which they are first completed
+-- from left to right, as `needed_commands` defines it.
 pub record AreNeeded (edges : List EdgePaths) (targets : List (List ℕ)) (numbers : List ℕ) : Type 0 where
   pub reached : (e : ℕ) → Contains numbers e ↔ (Reached (makers_in edges) (row_of_paths edges targets) e × (is_phony_in edges e ≡ false))
   pub once : IsDistinct nat_eq numbers
@@ -29,8 +29,8 @@ WritesTheNeeded = (entries : List Entry) (words : List (List ℕ)) → NoEdgeNee
     × (numbers : List ℕ) × AreNeeded (edges_by_path entries) targets numbers
     × (output_of entries (commands words None []) ≡ command_lines entries numbers)
 
--- Runs with these words one after another, each of which takes at most so many edges, and goes on at the mark of the one before;
--- their outputs; and the output of a run from the last mark that takes all. Nothing is left where a run finished.
+-- Runs with these words, one after another: each takes at most the number of edges in `takes`, and goes on at the mark of the one before.
+-- Their outputs, and the output of a run without a limit from the last mark; that is empty if a run finished.
 pub data ArePageTexts (entries : List Entry) (words : List (List ℕ))
     : (start takes : List ℕ) → (outputs : List (List ℕ)) → (rest : List ℕ) → Type 0 where
   no_runs : {start rest : List ℕ} → output_of entries (commands words None start) ≡ rest
@@ -42,7 +42,7 @@ pub data ArePageTexts (entries : List Entry) (words : List (List ℕ))
       → output_of entries (commands words (Some take) start) ≡ output
       → ArePageTexts entries words mark takes outputs rest → ArePageTexts entries words start (take ∷ takes) (output ∷ outputs) rest
 
--- The pages, and then the rest, are the output of one run that takes all.
+-- The pages, followed by the rest, are the output of one run without a limit.
 abbrev pub PageTextsJoin : Type 0
 PageTextsJoin = (entries : List Entry) (words : List (List ℕ)) → NoEdgeNeedsItself (edges_by_path entries)
     → (start takes : List ℕ) (outputs : List (List ℕ)) (rest : List ℕ) → EndsWith entries (commands words None start) finished

@@ -7,7 +7,7 @@ abbrev pub Took : (old new : SinkState) → List ℕ → Type 0
 Took old new [] = new ≡ old
 Took old new (byte ∷ bytes) = Takes old new (byte ∷ bytes)
 
--- the sink took a beginning of the text, failed once, and was asked for nothing more
+-- the sink took a prefix of the text, failed once, and was asked for nothing more
 abbrev pub Failed : (old new : SinkState) → List ℕ → Type 0
 Failed old new text = (front : List ℕ) × IsCutShort front text × FailsAfter old new front
 

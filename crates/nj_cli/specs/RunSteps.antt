@@ -47,7 +47,7 @@ fault_of_tool (tool.TextNotUtf8 edge) = fault.Graph (unplaced TextNotUtf8)
 fault_of_tool tool.Write = fault.Write
 fault_of_tool tool.OutOfMemory = fault.OutOfMemory
 
--- what was output, and how the run ends by it
+-- what was output, and how the run ends accordingly
 abbrev pub AnswersTo : List Entry → ActionText → (old new : SinkState) → Result (Option (List ℕ)) RunFault → Type 0
 AnswersTo entries action old new (Ok None) = EndsWith entries action finished × Takes old new (output_of entries action)
 AnswersTo entries action old new (Ok (Some mark)) = EndsWith entries action (stopped mark) × Takes old new (output_of entries action)
@@ -62,14 +62,14 @@ AnswersTo entries action old new (Err fault.OutOfMemory) = TakesFront old new (o
 abbrev pub ReportsLine : (old new : SinkState) → (line : List ℕ) → Type 0
 ReportsLine old new line = Reported old new line ⊎ Reported old new (with_line_end out_of_memory)
 
--- the mark was told; or the error output failed; or its line could not be made
+-- the mark was reported; or the error output failed; or its line could not be made
 abbrev pub ReportsMark : (old new : SinkState) → (mark : List ℕ) → Status → Type 0
 ReportsMark old new mark Stopped = Takes old new (error_of (stopped mark))
 ReportsMark old new mark OutputFailed = Failed old new (error_of (stopped mark))
 ReportsMark old new mark Fault = Reported old new (with_line_end out_of_memory)
 ReportsMark old new mark other = ⊥
 
--- what is told of an answer
+-- what is reported of an answer
 abbrev pub Concludes : (old new : SinkState) → Result (Option (List ℕ)) RunFault → Status → Type 0
 Concludes old new (Ok None) status = (new ≡ old) × (status ≡ Done)
 Concludes old new (Ok (Some mark)) status = ReportsMark old new mark status
@@ -78,7 +78,7 @@ Concludes old new (Err fault.MarkOutOfRange) status = Reported old new (with_lin
 Concludes old new (Err fault.Write) status = (new ≡ old) × (status ≡ OutputFailed)
 Concludes old new (Err fault.OutOfMemory) status = Reported old new (with_line_end out_of_memory) × (status ≡ Fault)
 
--- what is told of words that are no valid request
+-- what is reported of words that are not a valid request
 abbrev pub ReportsMisuse : (old new : SinkState) → UsageFault → Status → Type 0
 ReportsMisuse old new usage.OutOfMemory status = Reported old new (with_line_end out_of_memory) × (status ≡ Fault)
 ReportsMisuse old new fault status =

@@ -34,7 +34,7 @@ out_of_memory = fault_line no_memory
 
 -- ---- by the statements of its files
 
--- all was output and told
+-- all was output and reported
 pub record IsTold (entries : List Entry) (action : ActionText) (old new : Around) (status : Status) : Type 0 where
   pub ending : Ending
   pub ends : EndsWith entries action ending
@@ -50,13 +50,13 @@ pub record IsUntold (entries : List Entry) (action : ActionText) (old new : Arou
   pub error : Failed old.error new.error (error_of ending)
   pub status_is : status ≡ status_untold ending
 
--- the output failed; nothing is told
+-- the output failed; nothing is reported
 pub record OutputFails (entries : List Entry) (action : ActionText) (old new : Around) (status : Status) : Type 0 where
   pub output : FailsWithin old.output new.output (output_of entries action)
   pub error : new.error ≡ old.error
   pub status_is : status ≡ OutputFailed
 
--- an allocation failed, after a beginning of the output
+-- an allocation failed, after a prefix of the output
 pub record MemoryFails (entries : List Entry) (action : ActionText) (old new : Around) (status : Status) : Type 0 where
   pub output : TakesFront old.output new.output (output_of entries action)
   pub error : Reported old.error new.error (with_line_end out_of_memory)
@@ -113,13 +113,13 @@ pub record IsAnswered (request : RequestText) (files : List Reading) (old new : 
 
 -- ---- the run
 
--- What a run does that was asked for this: these files were read, each path once, and by them it was refused or answered.
+-- What a run of this request does: these files were read, each path once, and by them the request was refused or answered.
 abbrev pub RunsAs : RequestText → (old new : Around) → Status → Type 0
 RunsAs request old new status =
     (files : List Reading) × IsRead old.source new.source [] files
     × (IsRefused request files old new status ⊎ IsAnswered request files old new status)
 
--- the words are no valid request: no file is read, and the error output says why
+-- the words are not a valid request: no file is read, and the error output says why
 pub record IsMisused (fault : UsageFault) (old new : Around) (status : Status) : Type 0 where
   pub source : new.source ≡ old.source
   pub output : new.output ≡ old.output

@@ -31,7 +31,7 @@ targets_named edges (word ∷ words) = and_target (picked edges word) (targets_n
 abbrev pub NoEdgeNeedsItself : List EdgePaths → Type 0
 NoEdgeNeedsItself edges = IsAcyclic (makers_of_inputs edges) (length edges)
 
--- in place of no words the defaults in force
+-- the defaults in force if there are no targets
 abbrev pub or_defaults : List Entry → (targets : List (List ℕ)) → List (List ℕ)
 or_defaults entries [] = defaults_in_force (defaults_read entries) (edges_by_path entries)
 or_defaults entries (path ∷ paths) = path ∷ paths

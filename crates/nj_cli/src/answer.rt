@@ -173,7 +173,7 @@ fn answer_compdb<O: Sink>(
     }
 }
 
-// The fault of an edge of which JSON cannot hold what is told.
+// The fault of an edge with a text that JSON cannot hold.
 fn text_fault(alloc: Global, graph: &Graph, edge: EdgeNo) -> Result<GraphFault, AllocError>
     requires { edge.0 < length (edges_of graph.now) }
     ensures { (entries : List Entry) → IsGraphOf graph.now entries

@@ -17,14 +17,14 @@ const MOST_BYTES: usize = 1_073_741_824;
 /// The greatest number of reads that are made of a file: one for each byte, and one at the end.
 const MOST_READS: u32 = 1_073_741_825;
 
-/// The room that is made for a file beyond the size that it stated.
+/// The room that is made for a file beyond its stated size.
 const MORE_ROOM: usize = 16_384;
 
-/// How many bytes are read at most where the room is full: most files end there.
+/// How many bytes are read at most once the room is full: most files end there.
 const BEYOND: usize = 64;
 
-/// How many bytes are made ready for one read at most: few enough to be still in the processor's
-/// cache when the read fills them.
+/// How many bytes are zeroed for one read at most: few enough to be still in the processor's cache
+/// when the read fills them.
 const PIECE: usize = 131_072;
 
 /// The files of the working folder. One name may stand for standard input.
@@ -50,8 +50,8 @@ impl<R: Drop> Model for DiskFiles<R> {
 
 impl<R: RandomSource + Drop> DiskFiles<R> {
     /// The files of the working folder. A file of the name `stdin_for` is read from standard input;
-    /// the name counts as it is written. The keys of hashes are drawn here, once for the run. If
-    /// the system has no random bytes to give, they are those that everyone knows.
+    /// the name is compared as it is written. The keys of hashes are drawn here, once for the run.
+    /// If the system has no random bytes, they are those that everyone knows.
     pub fn new(rt: R, alloc: Global, stdin_for: Option<&str>) -> Result<DiskFiles<R>, AllocError>
         ensures { IfOk result (λ disk. disk ≡
             record { input_name = option_copied stdin_for.entry; failed = 0 }) }
@@ -124,8 +124,8 @@ impl<R: Files + Input + Drop> FileSource for DiskFiles<R> {
     }
 }
 
-/// The bytes that the reader has left. `stated` is how many it says it has: a guess, which may be
-/// too low or too high. More than a file may have, stated or read, and a read that fails, are `Io`.
+/// All bytes that the reader still has. `stated` is how many it says it has: a guess, which may be
+/// too low or too high. More than a file may have, stated or read, and a failed read are `Io`.
 fn read_whole<R: Read>(alloc: Global, reader: &mut R, stated: u64) -> Result<Vec<u8>, SourceFault>
     ensures bytes { IfOk result (λ bytes.
         Consumes (R.remaining reader.old) (R.remaining reader.new) bytes.items) }
@@ -161,7 +161,7 @@ fn room_for(alloc: Global, stated: u64) -> Result<Vec<u8>, SourceFault>
     Ok(Vec::with_capacity(alloc, size)?)
 }
 
-/// Reads once, after the bytes that are filled, and returns how many more are now; 0 is the end.
+/// Reads once, after the bytes that are filled, and returns how many were added; 0 is the end.
 fn read_piece<R: Read>(
     reader: &mut R,
     bytes: &mut Vec<u8>,
@@ -184,8 +184,8 @@ fn read_piece<R: Read>(
     read_at(reader, bytes.as_mut_slice(), filled)
 }
 
-/// Reads once where the room is full. More room is made only if there is more to read, so that a
-/// file of the size that it stated stands in room of just that size.
+/// Reads once when the room is full. More room is made only if there is more to read, so that a
+/// file of its stated size takes room of just that size.
 fn read_beyond<R: Read>(reader: &mut R, bytes: &mut Vec<u8>) -> Result<usize, SourceFault>
     ensures front { OnOk result (take (vec_len bytes.old) bytes.new.items ≡ bytes.old.items) }
     ensures fits { IfOk result (λ count. vec_len bytes.old + count ≡ vec_len bytes.new) }
@@ -202,7 +202,7 @@ fn read_beyond<R: Read>(reader: &mut R, bytes: &mut Vec<u8>) -> Result<usize, So
     Ok(count)
 }
 
-/// Makes the bytes longer, by zeros, into the room that is left.
+/// Extends the bytes with zeros into the room that is left.
 fn lengthen(bytes: &mut Vec<u8>) -> Result<(), SourceFault>
     requires { vec_len bytes.old < vec_capacity bytes.old }
     ensures front { OnOk result (take (vec_len bytes.old) bytes.new.items ≡ bytes.old.items) }

@@ -11,7 +11,7 @@ use std::alloc::AllocError;
 /// Why a run does not reach its end.
 #[derive(Drop)]
 pub(crate) enum RunFault {
-    /// A target is none, or a text is not UTF-8.
+    /// A word names no target, or a text is not UTF-8.
     Graph(GraphFault),
     /// The mark leads to no edge.
     MarkOutOfRange,
@@ -49,7 +49,7 @@ impl From<ToolFault> for RunFault {
 
     fn from(f: ToolFault) -> RunFault {
         match f {
-            // The tool that says so has a place for it (`answer_compdb`).
+            // Only `compdb` reports this, and `answer_compdb` knows its place.
             ToolFault::TextNotUtf8(_edge) => RunFault::Graph(GraphFault::unplaced(
                 Cause::TextNotUtf8,
             )),

@@ -1,4 +1,4 @@
-//! What a run tells on its error output.
+//! What a run reports on its error output.
 
 ghost use Rattle.std.specs.Prelude.{◌≡◌, ◌++◌, ◌∷◌, [], codes, IfOk};
 ghost use Rattle.nj_faults.specs.FaultLines.{fault_line};
@@ -24,7 +24,7 @@ const UNREADABLE: &[u8] = b"ninja-explain: cannot read the arguments\n";
 
 const OUT_OF_RANGE: &[u8] = b"ninja-explain: mark out of range\n";
 
-/// Tells how a run ends by its answer.
+/// Reports how a run ends by its answer.
 pub(crate) fn conclude<E: Sink>(
     alloc: Global,
     err: &mut E,
@@ -45,7 +45,7 @@ pub(crate) fn conclude<E: Sink>(
     }
 }
 
-// Tells the mark at which a run stopped: without it the run cannot go on.
+// Reports the mark at which a run stopped: without it the run cannot go on.
 fn report_mark<E: Sink>(alloc: Global, err: &mut E, mark: &Mark) -> Status
     ensures { ReportsMark (E.state err.old) (E.state err.new) mark.now result }
 {
@@ -58,7 +58,7 @@ fn report_mark<E: Sink>(alloc: Global, err: &mut E, mark: &Mark) -> Status
     }
 }
 
-// The line that tells a mark.
+// The line that reports a mark.
 fn mark_line(alloc: Global, mark: &Mark) -> Result<Vec<u8>, AllocError>
     ensures { IfOk result (λ line. line.items ≡ error_of (stopped mark.now)) }
 {
@@ -91,8 +91,8 @@ fn line_of_fault(alloc: Global, fault: &GraphFault) -> Result<Vec<u8>, AllocErro
     Ok(line)
 }
 
-/// Reports why words ask for nothing, or out of memory if its line has to be made first and cannot
-/// be.
+/// Reports why words are not a valid request, or out of memory if its line has to be made first and
+/// cannot be.
 pub(crate) fn report_misuse<E: Sink>(alloc: Global, err: &mut E, fault: &UsageFault) -> Status
     ensures { ReportsMisuse (E.state err.old) (E.state err.new) fault.now result }
 {
@@ -126,7 +126,7 @@ pub fn report_out_of_memory<E: Sink>(err: &mut E) -> Status
     Status::Fault
 }
 
-// Writes a line on the error output. That it cannot be written changes nothing.
+// Writes a line to the error output. A failure to write it is ignored.
 fn report_line<E: Sink>(err: &mut E, line: &[u8])
     ensures { Reported (E.state err.old) (E.state err.new) line.now }
 {

@@ -14,8 +14,8 @@ use nj_scope::FileSource;
 use nj_tools::Sink;
 use std::alloc::Global;
 
-/// Runs the program with these words, without its own name. Words that ask for nothing are reported
-/// on the error output, and no file is read.
+/// Runs the program with these words, without its own name. If they are not a valid request, that
+/// is reported on the error output, and no file is read.
 pub fn run_words<S: FileSource, O: Sink, E: Sink>(
     alloc: Global,
     source: &mut S,

@@ -10,7 +10,7 @@ pub enum Status {
     Done,
     /// A fault was found, which the error output names.
     Fault,
-    /// The words ask for nothing that the program does.
+    /// The words are not a valid request.
     Usage,
     /// The run was stopped before its end.
     Stopped,

@@ -15,7 +15,7 @@ pub record EdgePaths : Type 0 where
   pub validations : List (List ℕ)
   pub is_phony : Bool
 
--- the edge of a number; there are no files past the last one
+-- the edge of a number; past the last one, an edge without files
 abbrev pub edge_at : List EdgePaths → (number : ℕ) → EdgePaths
 edge_at edges number = slice_index_or edges number (record {
   explicit_outputs = [];

@@ -57,7 +57,7 @@ abbrev pub is_named_so_far : EdgeTable → (path : List ℕ) → Bool
 is_named_so_far t path =
     is_named t.edges path || (is_among t.«open».outputs path || is_among t.«open».inputs path || is_among t.«open».validations path)
 
--- the edge that was read, whose kinds end so
+-- the edge that was read, with these ends of its kinds
 abbrev pub edge_read : OpenEdge → KindEnds → Bool → EdgePaths
 edge_read e ends is_phony = record {
   explicit_outputs = take ends.explicit_outputs e.outputs;

@@ -137,7 +137,7 @@ pub record InputsAreWithin (end : ℕ) (row : EdgeRow) : Type 0 where
   pub rises : row.inputs.start + row.kinds.implicit_inputs ≤ row.inputs.end
   pub ends : row.inputs.end ≤ end
 
--- the inputs of an edge that are no order-only ones
+-- the inputs of an edge that are not order-only
 abbrev pub needed_inputs : (inputs : List FileNo) → EdgeRow → List FileNo
 needed_inputs inputs row = slice_range inputs row.inputs.start (row.inputs.start + row.kinds.implicit_inputs)
 
@@ -151,7 +151,7 @@ abbrev pub joined_inputs : (inputs added_inputs : List FileNo) → EdgeRow → O
 joined_inputs inputs added_inputs row found =
     needed_inputs inputs row ++ added_inputs_of added_inputs found ++ order_only_inputs inputs row
 
--- the part of a list that begins there, with so many items
+-- the part of a list that begins at `start` and has `count` items
 abbrev pub span_from : (start count : ℕ) → Span
 span_from start count = record { start = start; end = start + count }
 

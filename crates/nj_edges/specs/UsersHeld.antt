@@ -24,7 +24,7 @@ numbers_of edges = map (λ e. e.0) edges
 
 -- ---- as one list
 
--- the users of a file stand there
+-- the span has the users of a file
 pub record IsPart (numbers : List ℕ) (span : Span) (users : List ℕ) : Type 0 where
   pub inside : IsWithin span (length numbers)
   pub users_are : slice_range numbers span.start span.end ≡ users
@@ -44,7 +44,7 @@ pub record IsLink (links : List Link) (at edge next : ℕ) : Type 0 where
   pub here : link_at links at ≡ Some (record { edge = edge; next = next })
   pub falls : next < at
 
--- from there on the links lead to these edges
+-- from the link at `at` on, the links lead to these edges
 abbrev pub IsChain : List Link → (at : ℕ) → List ℕ → Type 0
 IsChain links at [] = at ≡ 0
 IsChain links at (e ∷ es) = (next : ℕ) × IsLink links at e next × IsChain links next es
@@ -60,7 +60,7 @@ abbrev pub is_of : Option Link → (edge : ℕ) → Bool
 is_of None edge = false
 is_of (Some link) edge = link.edge == edge
 
--- an edge in front of the others, once
+-- the edges with one in front, unless it is the first already
 abbrev pub with_front : (edge : ℕ) → List ℕ → List ℕ
 with_front edge [] = edge ∷ []
 with_front edge (e ∷ es) = if e == edge then e ∷ es else edge ∷ e ∷ es

@@ -28,7 +28,8 @@ pub enum InputKind {
 }
 
 /// Where the kinds of an edge's files end: its outputs begin with the explicit ones, its inputs
-/// with the explicit and then the implicit ones. What is left is implicit, and order-only.
+/// with the explicit and then the implicit ones. The remaining outputs are implicit, and the
+/// remaining inputs order-only.
 #[derive(Clone, Copy)]
 pub struct KindEnds {
     pub explicit_outputs: usize,
@@ -86,7 +87,7 @@ impl Model for Edges {
 }
 
 impl Edges {
-    /// No edges. The paths of their files are hashed by these keys. It takes no memory.
+    /// No edges. The paths of their files are hashed by these keys. It allocates nothing.
     pub fn new(alloc: Global, keys: HashKeys) -> Edges
         ensures { result ≡ record { files = []; edges = []; «open» = no_files } }
     {
@@ -230,7 +231,7 @@ impl Edges {
         self.inputs.as_slice().len() - self.starts.inputs
     }
 
-    /// Ends the edge that is being read, whose kinds end so, and begins another.
+    /// Ends the edge that is being read, with these ends of its kinds, and begins another.
     pub fn end_edge(&mut self, kinds: KindEnds, is_phony: bool) -> Result<(), AllocError>
         requires { EndWithin kinds (length self.old.«open».outputs)
             (length self.old.«open».inputs) }

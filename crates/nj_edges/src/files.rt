@@ -33,7 +33,7 @@ impl Model for Files {
 }
 
 impl Files {
-    /// No files, whose paths are hashed by these keys. It takes no memory.
+    /// No files, whose paths are hashed by these keys. It allocates nothing.
     pub fn new(alloc: Global, keys: HashKeys) -> Files
         ensures { result ≡ [] }
     {

@@ -58,7 +58,7 @@ pub struct CycleEdge {
     pub output: Vec<u8>,
 }
 
-/// What all edges of a run come to.
+/// What all edges of a run yield.
 #[derive(Drop)]
 pub enum Finished {
     /// A graph.
@@ -242,7 +242,7 @@ pub(crate) fn row_at(rows: &[EdgeRow], edge: usize) -> EdgeRow
     rows[edge]
 }
 
-// The kind of the input at an index, where the kinds end so.
+// The kind of the input at an index, by where the kinds end.
 fn kind_before(ends: KindEnds, index: usize) -> InputKind
     ensures { result ≡ (if nat_lt index ends.explicit_inputs then InputKind.Explicit
         else (if nat_lt index ends.implicit_inputs then InputKind.Implicit
@@ -258,8 +258,8 @@ fn kind_before(ends: KindEnds, index: usize) -> InputKind
 }
 
 impl Edges {
-    /// The graph of all edges, or the least edge on a dependency cycle. Takes time in proportion to
-    /// the edges and their inputs.
+    /// The graph of all edges, or the lowest-numbered edge on a dependency cycle. Takes time in
+    /// proportion to the edges and their inputs.
     pub fn finish(self, alloc: Global) -> Result<Finished, AllocError>
         requires { self.«open» ≡ no_files }
         ensures { IfOk result (λ finished. FinishesAs self.files self.edges finished) }
@@ -323,7 +323,7 @@ fn cycle_edge(
     Ok(CycleEdge { edge, output })
 }
 
-// The least edge on a cycle, of edges with these inputs and files with these makers.
+// The lowest-numbered edge on a cycle, of edges with these inputs and files with these makers.
 fn least_on_cycle(
     alloc: Global,
     inputs: &[FileNo],

@@ -24,7 +24,7 @@ pub(crate) struct AddedSpans {
 }
 
 /// The edges of a graph, and the files that are added to them. The graph itself is taken apart, and
-/// its lists are made anew only once, at the end.
+/// its lists are rebuilt only once, at the end.
 #[derive(Drop)]
 pub struct JoiningEdges {
     files: Files,
@@ -34,11 +34,11 @@ pub struct JoiningEdges {
     inputs: Vec<FileNo>,
     validations: Vec<FileNo>,
     rows: Vec<EdgeRow>,
-    // of each file, the edge to which it was added as an output
+    // for each file, the edge to which it was added as an output
     added_makers: Vec<Option<usize>>,
     added_outputs: Vec<FileNo>,
     added_inputs: Vec<FileNo>,
-    // of each edge, what was added to it
+    // for each edge, what was added to it
     added: Vec<Option<AddedSpans>>,
     // where the files that are to be added to the next edge begin
     open_outputs: usize,
@@ -124,7 +124,7 @@ impl JoiningEdges {
         part(&self.outputs, row.outputs.start, row.outputs.end)
     }
 
-    /// Whether files, or none of them, were added to this edge.
+    /// Whether this edge was joined, even if nothing was added to it.
     pub fn is_joined(&self, edge: EdgeNo) -> bool
         requires { edge.0 < length self.now.stated }
         ensures { result ≡ is_joined self.now edge.0 }
@@ -132,8 +132,8 @@ impl JoiningEdges {
         self.added[edge.0].is_some()
     }
 
-    /// Collects an output for the next edge. Returns `false`, and changes nothing that counts, if
-    /// the file has a maker already, or was collected as an output.
+    /// Collects an output for the next edge. Returns `false`, and changes nothing, if the file has
+    /// a maker already, or was collected as an output.
     pub fn add_output(&mut self, path: &[u8]) -> Result<bool, AllocError>
         ensures is_new { IfOk result (λ is_new. is_new ≡ not (is_made_so_far self.old path.now)) }
         ensures added { IfOk result (λ is_new.
@@ -171,7 +171,7 @@ impl JoiningEdges {
         Ok(())
     }
 
-    /// Adds what was collected to this edge, to which nothing was added before. It takes no memory.
+    /// Adds what was collected to this edge, to which nothing was added before. Allocates nothing.
     pub fn end_join(&mut self, edge: EdgeNo)
         requires known { edge.0 < length self.old.stated }
         requires first { is_joined self.old edge.0 ≡ false }
@@ -195,8 +195,8 @@ impl JoiningEdges {
         self.open_inputs = inputs.end;
     }
 
-    /// The graph of all edges with what was added to them, or the least edge on a dependency cycle.
-    /// Takes time in proportion to the edges and their files.
+    /// The graph of all edges with what was added to them, or the lowest-numbered edge on a
+    /// dependency cycle. Takes time in proportion to the edges and their files.
     pub fn finish(self, alloc: Global) -> Result<Finished, AllocError>
         requires { self.«open» ≡ none_added }
         ensures { IfOk result (λ finished. FinishesAs self.files self.joined finished) }
@@ -246,14 +246,14 @@ impl JoiningEdges {
     }
 }
 
-// No maker for each of so many files.
+// No maker for each of `count` files.
 fn no_makers(alloc: Global, count: usize) -> Result<Vec<Option<usize>>, AllocError>
     ensures { IfOk result (λ makers. makers.items ≡ replicate count None) }
 {
     vec![in alloc; None; count]
 }
 
-// Nothing for each of so many edges.
+// Nothing added to each of `count` edges.
 fn nothing_added(alloc: Global, count: usize) -> Result<Vec<Option<AddedSpans>>, AllocError>
     ensures { IfOk result (λ added. added.items ≡ replicate count None) }
 {

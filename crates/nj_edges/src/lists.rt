@@ -11,7 +11,7 @@ pub(crate) fn part<T>(items: &[T], start: usize, end: usize) -> &[T]
     &items[start..end]
 }
 
-// The first items, so many.
+// The first `count` items.
 pub(crate) fn first<T>(items: &[T], count: usize) -> &[T]
     requires { count ≤ length items.now }
     ensures { result.now ≡ take count items.now }

@@ -24,7 +24,7 @@ pub(crate) fn roots(
     unflagged(alloc, outputs, &used)
 }
 
-// For each file of so many, whether it is among these.
+// For each of `file_count` files, whether it is among these.
 fn flags_of(alloc: Global, file_count: usize, files: &[FileNo]) -> Result<Vec<bool>, AllocError>
     requires { AreNumbers file_count files.now }
     ensures { IfOk result (λ flags. AreFlags file_count files.now flags.items) }

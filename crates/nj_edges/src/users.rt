@@ -39,7 +39,7 @@ struct Uses {
     links: Vec<Link>,
 }
 
-/// The edges that have a file in this part of theirs, for each of so many files. Takes time in
+/// The edges that have a file in this part of theirs, for each of `file_count` files. Takes time in
 /// proportion to the files and these parts.
 pub(crate) fn users_of_files(
     alloc: Global,
@@ -120,7 +120,7 @@ fn span_of(row: EdgeRow, row_part: RowPart) -> Span
     }
 }
 
-// Puts an edge before the uses of these files.
+// Prepends an edge to the uses of these files.
 fn add_uses(
     first: &mut Vec<usize>,
     links: &mut Vec<Link>,
@@ -138,7 +138,7 @@ fn add_uses(
     Ok(())
 }
 
-// Puts an edge before the uses of a file, unless it is the first of them.
+// Prepends an edge to the uses of a file, unless it is the first of them.
 fn add_use(
     first: &mut Vec<usize>,
     links: &mut Vec<Link>,

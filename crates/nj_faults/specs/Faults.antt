@@ -1,4 +1,4 @@
--- Why files are no graph, or why what is asked of their graph cannot be told: the place of a fault, and what is wrong there.
+-- Why files do not make a graph, or why what is asked of their graph cannot be answered: the place of a fault, and what is wrong there.
 use Rattle.std.specs.Prelude.{ℕ, Option, Some, None, List}
 use Rattle.nj_text.specs.declared.spot.Spot.{Spot}
 use Rattle.nj_manifest.specs.Faults.{Fault, place_of, text_of}

@@ -1,4 +1,4 @@
-//! Why files are no graph, or why what is asked of their graph cannot be told.
+//! Why files do not make a graph, or why what is asked of their graph cannot be answered.
 
 ghost use Rattle.std.specs.Prelude.{◌≡◌, IfOk, nat_eq};
 ghost use Rattle.std.specs.Cmp.{partial_equiv_from_equiv};
@@ -105,21 +105,21 @@ pub enum Cause {
     /// A path that no build statement names: at the word of a `default` statement ("Default target
     /// statements"), or with no place for one that was asked for.
     UnknownTarget(Name),
-    /// A variable of a rule whose value for an edge refers to itself, at once or by others, at the
-    /// build statement ("Rule variables").
+    /// A variable of a rule whose value for an edge refers to itself, directly or through others,
+    /// at the build statement ("Rule variables").
     RuleVariableCycle(Name),
     /// A pool that no statement declares, at the build statement that uses it ("Pools").
     UnknownPool(Name),
-    /// A dyndep file that is none of the inputs of its edge, at the build statement ("Dynamic
+    /// A dyndep file that is not an input of its edge, at the build statement ("Dynamic
     /// Dependencies").
     DyndepNotInput(Name),
-    /// An edge of which its dyndep file says nothing, at its build statement: its first output, and
+    /// An edge that its dyndep file does not mention, at its build statement: its first output, and
     /// the path of the dyndep file ("Dynamic Dependencies").
     DyndepNoStatement(Name, Name),
-    /// A path whose build statement an entry before means already, at the word of the dyndep file.
+    /// A path whose build statement an earlier entry means already, at the word of the dyndep file.
     DyndepTwice(Name),
-    /// A path that no build statement makes which is bound to this dyndep file, at the word of the
-    /// dyndep file.
+    /// A path that no build statement bound to this dyndep file makes, at the word of the dyndep
+    /// file.
     DyndepExtra(Name),
     /// A path that is needed to make itself, at the build statement that makes it ("Build
     /// statements").
@@ -154,7 +154,7 @@ impl GraphFault {
         })
     }
 
-    /// The fault that the parser of the file answered.
+    /// The fault that the parser of the file returned.
     pub fn of_text(
         alloc: Global,
         file: &str,

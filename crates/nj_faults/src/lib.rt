@@ -1,5 +1,5 @@
-//! Why the files of a run are no graph, or why what is asked of it cannot be told, and the line
-//! that reports it.
+//! Why the files of a run do not make a graph, or why what is asked of it cannot be answered, and
+//! the line that reports it.
 #![tactic(auto)]
 
 mod fault;

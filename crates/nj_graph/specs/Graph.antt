@@ -19,7 +19,7 @@ use Rattle.nj_late.specs.LateTexts.{asked_text}
 use Rattle.nj_build.specs.EdgeList.{EdgeText, edges_read, names_of_edge}
 use Rattle.nj_build.specs.Built.{BuiltText, IsBuiltOf}
 
--- what the statements of its files declare, at the end of all reading, and the edges and defaults to which they come
+-- what the statements of its files declare, after all reading, and the edges and defaults that they yield
 pub record GraphText : Type 0 where
   pub declarations : DeclarationsText
   pub built : BuiltText
@@ -43,8 +43,8 @@ pub record HasRule (rules : List RuleText) (e : EdgeText) : Type 0 where
   pub rule_is : slice_get rules e.rule ≡ Some rule
   pub phony_is : bytes_eq rule.name phony ≡ e.paths.is_phony
 
--- What the statements say is the graph: what they declare, in which scopes, and their edges and defaults; each edge has a rule,
--- and none needs itself by a chain.
+-- The graph is what the statements say: what they declare, in which scopes, and their edges and defaults; each edge has a rule, and none
+-- needs itself by a chain.
 pub record IsGraphOf (g : GraphText) (entries : List Entry) : Type 0 where
   pub declares : DeclaredBy g.declarations entries
   pub scopes : AllByRecursion (λ e. IsOpenScope g.declarations.scopes e.number e.around) entries
@@ -83,7 +83,7 @@ rule_name_at entries number = unwrap_or (option_map (rule_name_of entries) (slic
 
 -- ---- the rules that are listed
 
--- an element more in a sorted list: it stands after those that come before it, and ahead of the others
+-- inserts an element into a sorted list: after those that come before it, and ahead of the others
 unfoldable pub insert_by : {X : Type 0} → (comes_before : X → X → Bool) → X → List X → List X
 insert_by comes_before x [] = x ∷ []
 insert_by comes_before x (y ∷ ys) = if comes_before y x then y ∷ insert_by comes_before x ys else x ∷ y ∷ ys
@@ -92,7 +92,7 @@ unfoldable pub sorted_by : {X : Type 0} → (comes_before : X → X → Bool) �
 sorted_by comes_before [] = []
 sorted_by comes_before (x ∷ xs) = insert_by comes_before x (sorted_by comes_before xs)
 
--- whether a name comes before another, by their bytes
+-- whether a name comes before another, in byte order
 abbrev pub is_before : (name other : List ℕ) → Bool
 is_before name other = is_lt (slice_cmp nat_cmp name other)
 
@@ -123,7 +123,7 @@ description_text r = unwrap_or (option_map parts_written (description r)) []
 
 -- ---- laws
 
--- Where no two rules of the main scope have one name, the names rise by their bytes, so that each stands once.
+-- Where no two rules of the main scope have the same name, the names are in strictly ascending byte order, so that each occurs once.
 abbrev pub NamesRise : Type 0
 NamesRise = (rules : List RuleText) → IsDistinct bytes_eq (rule_names rules 0)
     → IsStrictlySortedBy (slice_cmp nat_cmp) (map (λ r. r.name) (main_rules_of rules))

@@ -32,7 +32,7 @@ entries_of text = after_version (suc (length text)) (version_next (text_lines te
 
 -- ---- one file
 
--- after its last entry
+-- how a file ends after its last entry, by its fault
 abbrev pub end_by : Option GraphFault → End
 end_by None = Whole
 end_by (Some fault) = Refused fault
@@ -78,7 +78,7 @@ file_joined files stated p joined =
 
 -- ---- all files
 
--- the statements with what was joined, how that ends, and the paths of the dyndep files to which it comes
+-- the statements with what was joined, how the joining ends, and the paths of the dyndep files that it reaches
 pub record JoinedText : Type 0 where
   pub read : ReadingText
   pub paths : List (List ℕ)
@@ -116,14 +116,14 @@ pub record IsJoined (stated joined : List Entry) (old files : List Reading) (bef
   pub came_to : with_all_new (paths_of old) paths ≡ paths_of files
   pub failures : after.failures ≡ before.failures
 
--- The joining ends by these files as it was answered, whatever others hold; and all paths that it comes to were read.
+-- By these files the joining ends as was answered, whatever other files hold; and all paths that it reaches were read.
 pub record JoiningEnds (stated : List Entry) (old files : List Reading) (before after : SourceState) (fault : GraphFault) : Type 0 where
   pub joined : JoinedText
   pub answered : IsEnd before after joined.read.end fault
   pub joins : (all : List Reading) → IsPrefix files all → IsLacking joined.read.end all → all_joined all stated ≡ joined
   pub came_to : with_all_new (paths_of old) joined.paths ≡ paths_with joined.read.end files
 
--- Out of memory. The paths that were read are those to which the joining comes first, and the source did not fail.
+-- Out of memory. The paths that were read are those that the joining reaches first, and the source did not fail.
 pub record JoiningLacksMemory (stated : List Entry) (old files : List Reading) (before after : SourceState) (fault : GraphFault)
     : Type 0 where
   pub answered : fault ≡ no_memory
@@ -152,14 +152,14 @@ JoinedOr stated old files before after (Err fault) =
     JoiningLacksMemory stated old files before after fault
     ⊎ (JoiningEnds stated old files before after fault ⊎ JoinsCycle stated old files before after fault)
 
--- These files were read of the source besides, each path once; by them all is joined, or the first fault is answered.
+-- These files were also read from the source, each path once; by them all is joined, or the first fault is answered.
 abbrev pub Joins : (stated : List Entry) → (old : List Reading) → (before after : SourceState) → Result LoadedText GraphFault → Type 0
 Joins stated old before after result =
     (files : List Reading) × IsRead before after old files × JoinedOr stated old files before after result
 
 -- ---- laws
 
--- What was joined is joined: it changes no statement any more, and comes to no file.
+-- What was joined stays joined: joining again changes no statement, and reaches no file.
 abbrev pub JoinedStaysJoined : Type 0
 JoinedStaysJoined = (files others : List Reading) (stated : List Entry) (joined : JoinedText)
     → all_joined files stated ≡ joined → joined.read.end ≡ Whole

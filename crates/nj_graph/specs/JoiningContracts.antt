@@ -24,7 +24,7 @@ use Rattle.nj_graph.specs.Joining.{end_by, text_joined, path_asked, file_joined,
 
 -- ---- the name of a file
 
--- the path as a text, or the fault that it is none
+-- the path as a text, or the fault that it is not UTF-8
 abbrev pub NamesFile : {Z : Type 0} → Place → (path : List ℕ) → Result (String Z) GraphFault → Type 0
 NamesFile place path (Ok name) = (is_utf8 path ≡ true) × (string_bytes name ≡ path)
 NamesFile place path (Err fault) =
@@ -32,7 +32,7 @@ NamesFile place path (Err fault) =
 
 -- ---- the next entry
 
--- what a parser answers where this is read of what is left; its faults are reported in the file
+-- what a parser answers if this is read from what is left; its faults are reported in the file
 abbrev pub NextEntryOf : (file : List ℕ) → Parse (Option EntryText) → (after : DyndepLeft) → Result (Option text.Entry) GraphFault
     → Type 0
 NextEntryOf file expected after (Ok (Some entry)) =
@@ -47,7 +47,7 @@ NextEntryIs file before after result = NextEntryOf file (entry_of before) after 
 
 -- ---- a text
 
--- All entries are joined. What is left is to see whether an edge waits for the file.
+-- All entries are joined. It remains to check whether an edge waits for the file.
 pub record TextJoined (file : List ℕ) (stated : List Entry) (text : List ℕ) (joined : List Entry) (held : JoiningText) : Type 0 where
   pub now : List Entry
   pub holds : HoldsJoined held stated now

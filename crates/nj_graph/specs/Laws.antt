@@ -30,19 +30,19 @@ OpenFilesAreBounded = (files : List Reading) (main : List ℕ) → AllByRecursio
 abbrev pub OpeningsAreBounded : Type 0
 OpeningsAreBounded = (files : List Reading) (main : List ℕ) → files_opened (main_read files main).entries ≤ most_opened
 
--- The names of the rules that are listed rise by their bytes, so that each stands once.
+-- The names of the rules that are listed are in strictly ascending byte order, so that each occurs once.
 abbrev pub MainRulesRise : Type 0
 MainRulesRise = (files : List Reading) (main : List ℕ)
     → IsStrictlySortedBy (slice_cmp nat_cmp) (map (λ r. r.name) (main_rules_of (rule_texts (main_read files main).entries)))
 
--- Files to which a reading does not come count for nothing: with more of them it is the same.
+-- Files that a reading does not reach make no difference: with more of them it is the same.
 abbrev pub OthersAreNotRead : Type 0
 OthersAreNotRead = (files all : List Reading) (main : List ℕ) → IsPrefix files all → IsLacking (main_read files main).end all
     → main_read all main ≡ main_read files main
 
 -- ---- bindings after the statement of an edge
 
--- What a file binds after the statement of an edge, in the same scope, counts for what the variables of the edge say.
+-- What a file binds after the statement of an edge, in the same scope, affects what the variables of the edge say.
 abbrev pub LaterBindingsCount : Type 0
 LaterBindingsCount = (e : Entry) (before : List Entry) (edge : EdgeText) (name : List ℕ) (word : WordText)
     → e.item ≡ BindingText name word → e.number ≡ edge.number

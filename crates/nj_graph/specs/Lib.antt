@@ -8,7 +8,7 @@ pub mod Reading
 pub mod ResponseFiles
 pub mod Runs
 pub mod Targets
--- how what the code holds is that
+-- how the code holds that
 pub mod GraphHeld
 pub mod JoiningContracts
 pub mod ReaderContracts

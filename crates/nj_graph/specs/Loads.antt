@@ -42,6 +42,6 @@ LoadedOr main before after files (Ok loaded) = IsLoaded main before after files 
 LoadedOr main before after files (Err fault) =
     Stops main before after files (λ all. main_read all main) fault ⊎ HasCycle main before after files fault
 
--- These files were read of the source, each path once; by them all is loaded, or the first fault is answered.
+-- These files were read from the source, each path once; by them all is loaded, or the first fault is answered.
 abbrev pub Loads : (main : List ℕ) → (before after : SourceState) → Result LoadedText GraphFault → Type 0
 Loads main before after result = (files : List Reading) × IsRead before after [] files × LoadedOr main before after files result

@@ -54,7 +54,7 @@ pub record Holds (main : List ℕ) (held : Reader) (entries : List Entry) : Type
   pub paths_are : paths_of held.files ≡ paths_read main entries
   pub once : EachPathOnce held.files
 
--- Scopes are opened, and none of those of before changes its place.
+-- Scopes are opened, and the earlier ones keep their numbers and parents.
 pub record Grows (before after : List ScopeText) : Type 0 where
   pub count : length before ≤ length after
   pub parents : (n : ℕ) → n < length before → parent_at after n ≡ parent_at before n
@@ -69,7 +69,7 @@ site_of file around depth = record { file = file.name.now; depth = depth; number
 abbrev pub IsOpenIn : Reader → OpenFile → (around : List ℕ) → Type 0
 IsOpenIn held file around = IsOpenScope held.declarations.scopes file.scope around
 
--- It holds of the main file, of the site at which the file is open, and of the statements that were read, whichever they are.
+-- The property holds of the main file, of the site at which the file is open, and of the statements that were read, whichever they are.
 abbrev pub InFile : Reader → OpenFile → ((main : List ℕ) → Site → List Entry → Type 0) → Type 0
 InFile held file P =
     (main : List ℕ) (entries : List Entry) (around : List ℕ) (depth : ℕ) → Holds main held entries → IsOpenIn held file around
@@ -84,7 +84,7 @@ Declares main after e before (Err fault) = IsFault (own_fault e before) fault
 
 -- ---- files
 
--- What is read of a source where it does not fail and the table can grow: the table then holds it.
+-- What is read from a source if it does not fail and the table can grow: the table then holds it.
 pub record ReadsAll (before after : SourceState) (old files held : List Reading) : Type 0 where
   pub reads : IsRead before after old files
   pub held_is : held ≡ files
@@ -93,8 +93,8 @@ pub record ReadsAll (before after : SourceState) (old files held : List Reading)
 abbrev pub place_in : OpenFile → Spot → Place
 place_in file spot = record { file = file.name.now; spot = spot }
 
--- What is answered for the file at a path that a word at this place names, by what the table did as it opened it: the text, or
--- the fault. Out of memory may also come before the table is asked.
+-- What is answered for the file at a path that a word at this place names, by what the table did when it opened the file: the text, or the
+-- fault. Out of memory may also come before the table is asked.
 abbrev pub AnswersText : (before after : SourceState) → (old new : List Reading) → Place → (path : List ℕ)
     → Result (RcSlice ℕ Global) GraphFault → Type 0
 AnswersText before after old new place path (Ok text) = table.OpensFile before after old new path (Ok (Some text))
@@ -141,7 +141,7 @@ abbrev pub named_item : Naming → WordText → StatementText
 named_item naming.Include word = IncludeText word
 named_item naming.Subninja word = SubninjaText word
 
--- where the statements of the file stand that a statement names
+-- the site of the statements of the file that a statement names
 abbrev pub named_site : Naming → Entry → (before : List Entry) → WordText → Site
 named_site naming.Include e before word = included_site e before word
 named_site naming.Subninja e before word = subninja_site e before word

@@ -87,7 +87,7 @@ item_fault e before (DefaultText words) = default_fault e before words
 item_fault e before (IncludeText word) = path_fault e.file word.spot (expanded_in (scope_of e) before word)
 item_fault e before (SubninjaText word) = path_fault e.file word.spot (expanded_in (scope_of e) before word)
 
--- the first fault of a statement that is none of its syntax and none of the file that it names
+-- the first fault of a statement, except those of its syntax and of the file that it names
 abbrev pub own_fault : Entry → (before : List Entry) → Option GraphFault
 own_fault e before = item_fault e before e.item
 
@@ -191,7 +191,7 @@ abbrev pub if_room : Bool → (within : Opens) → (files : List table.Reading) 
 if_room false within files site place e before = stopped before place TooManyOpenings
 if_room true within files site place e before = answer_read within site place (e ∷ before) before (reading_of files site.file)
 
--- what is read of a file by these files, where so many more may be open
+-- what is read of a file by these files, where `left` more may be open
 unfoldable pub opened_in : (files : List table.Reading) → (left : ℕ) → Opens
 opened_in files zero site place e before = stopped before place TooDeep
 opened_in files (suc left) site place e before =
@@ -210,14 +210,14 @@ unfoldable pub main_read : (files : List table.Reading) → (main : List ℕ) �
 main_read files main =
     answer_read (opened_in files most_within) (main_site main) (main_place main) [] [] (reading_of files main)
 
--- ---- the paths that a reading comes to
+-- ---- the paths that a reading reaches
 
 abbrev pub path_named : Entry → (before : List Entry) → StatementText → List (List ℕ)
 path_named e before (IncludeText word) = expanded_in (scope_of e) before word ∷ []
 path_named e before (SubninjaText word) = expanded_in (scope_of e) before word ∷ []
 path_named e before item = []
 
--- a path in the list of those before it, unless it is there
+-- the paths with one more at the end, unless it is there already
 abbrev pub with_new : (before : List (List ℕ)) → (path : List ℕ) → List (List ℕ)
 with_new before path = if list_any (bytes_eq path) before then before else before ++ path ∷ []
 
@@ -240,6 +240,6 @@ path_at_end Whole = []
 path_at_end (Refused fault) = path_at_fault fault.cause
 path_at_end (Lacking path place) = path ∷ []
 
--- all paths that the reading comes to, the one at its end among them
+-- all paths that the reading reaches, the one at its end among them
 abbrev pub paths_come_to : (main : List ℕ) → ReadingText → List (List ℕ)
 paths_come_to main r = with_named (paths_read main r.entries) (path_at_end r.end)

@@ -6,13 +6,13 @@ use Rattle.std.specs.List.{starts_with}
 use Rattle.nj_scope.specs.ReadingList.{Entry}
 use Rattle.nj_graph.specs.Graph.{late_text_of}
 
--- the position in a text at which a part of it first stands; an empty part stands at the start
+-- the position in a text at which a part of it first occurs; an empty part occurs at the start
 abbrev pub first_position : (part text : List ℕ) → Option ℕ
 first_position part [] = if starts_with nat_eq [] part then Some 0 else None
 first_position part (byte ∷ text) =
     if starts_with nat_eq (byte ∷ text) part then Some 0 else option_map (λ n. n + 1) (first_position part text)
 
--- that of an `@` directly before a position; 64 is `@`
+-- the position of an `@` directly before a position; 64 is `@`
 abbrev pub sign_before : (command : List ℕ) → (position : ℕ) → Option ℕ
 sign_before command zero = None
 sign_before command (suc before) = if slice_index command before == 64 then Some before else None
@@ -25,7 +25,7 @@ sign_position command file = option_and_then (sign_before command) (first_positi
 abbrev pub on_one_line : List ℕ → List ℕ
 on_one_line text = map (λ byte. if byte == 10 then 32 else byte) text
 
--- with the content where the sign and the name of the file stand
+-- with the content in place of the sign and the name of the file
 abbrev pub content_at : (command file content : List ℕ) → (sign : Option ℕ) → List ℕ
 content_at command file content (Some sign) = take sign command ++ on_one_line content ++ drop (sign + 1 + length file) command
 content_at command file content None = command

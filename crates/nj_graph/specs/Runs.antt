@@ -1,4 +1,4 @@
--- What a run reads of its source, and how it ends.
+-- What a run reads from its source, and how it ends.
 use Rattle.std.specs.Prelude.{◌≡◌, ◌⊎◌, ℕ, false, Some, List, [], ◌∷◌, ◌++◌, ⊤}
 use Rattle.nj_scope.specs.Readings.{Reading, EachPathOnce, is_read, paths_of, IsPrefix}
 use Rattle.nj_scope.specs.Sources.{SourceState, HasRead, Rises}
@@ -8,7 +8,7 @@ use Rattle.nj_faults.specs.declared.fault.Cause.TheVariants.{Io}
 use Rattle.nj_faults.specs.Faults.{no_memory}
 use Rattle.nj_graph.specs.Reading.{End, Whole, Refused, Lacking, ReadingText, paths_come_to}
 
--- What was read of the source comes to the files of before, each path once.
+-- What was read from the source is appended to the earlier files, each path once.
 pub record IsRead (before after : SourceState) (old files : List Reading) : Type 0 where
   pub readings : List Reading
   pub added : files ≡ old ++ readings
@@ -17,8 +17,8 @@ pub record IsRead (before after : SourceState) (old files : List Reading) : Type
 
 -- ---- how a run stops
 
--- The fault that a run answers where its reading ends so. That a file cannot be read is answered where the source failed at the
--- path, and only there.
+-- The fault that a run answers if its reading ends this way. That a file cannot be read is answered where the source failed at the path,
+-- and only there.
 abbrev pub IsEnd : (before after : SourceState) → End → GraphFault → Type 0
 IsEnd before after Whole fault = ⊥
 IsEnd before after (Refused expected) fault = (fault ≡ expected) × (after.failures ≡ before.failures)
@@ -36,7 +36,7 @@ paths_with Whole files = paths_of files
 paths_with (Refused fault) files = paths_of files
 paths_with (Lacking path place) files = paths_of files ++ path ∷ []
 
--- The reading ends by these files as it was answered, whatever others hold; and all paths that it comes to were read.
+-- By these files the reading ends as was answered, whatever other files hold; and all paths that it reaches were read.
 pub record EndsSo (main : List ℕ) (before after : SourceState) (files : List Reading) (reading : List Reading → ReadingText)
     (fault : GraphFault) : Type 0 where
   pub entries : List Entry
@@ -45,7 +45,7 @@ pub record EndsSo (main : List ℕ) (before after : SourceState) (files : List R
   pub read : (all : List Reading) → IsPrefix files all → IsLacking end all → reading all ≡ record { entries = entries; end = end }
   pub came_to : paths_come_to main (record { entries = entries; end = end }) ≡ paths_with end files
 
--- Out of memory. The paths that were read are those to which the reading comes first, and the source did not fail.
+-- Out of memory. The paths that were read are those that the reading reaches first, and the source did not fail.
 pub record LacksMemory (main : List ℕ) (before after : SourceState) (files : List Reading) (reading : List Reading → ReadingText)
     (fault : GraphFault) : Type 0 where
   pub answered : fault ≡ no_memory

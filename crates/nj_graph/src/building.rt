@@ -13,7 +13,7 @@ use nj_manifest::{Build, Spot, Word};
 use std::alloc::Global;
 
 impl Reader {
-    /// Reads a `build` statement, whose first byte stands at this place.
+    /// Reads a `build` statement, whose first byte is at this place.
     pub(crate) fn build(
         &mut self,
         alloc: Global,
@@ -37,7 +37,7 @@ impl Reader {
             .read_build(alloc, &self.declarations, place, build)
     }
 
-    /// Reads a `default` statement, whose first byte stands at this place.
+    /// Reads a `default` statement, whose first byte is at this place.
     pub(crate) fn add_defaults(
         &mut self,
         alloc: Global,

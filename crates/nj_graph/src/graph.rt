@@ -62,7 +62,7 @@ impl Graph {
         self.main_rules.len()
     }
 
-    /// The name of the rule at this index. They stand in the order of the bytes of their names.
+    /// The name of the rule at this index. The rules are in byte order of their names.
     pub fn main_rule(&self, index: usize) -> &[u8]
         requires { index < length (main_rules self.now) }
         ensures { result.now ≡ (main_rule_at self.now index).name }
@@ -136,7 +136,7 @@ fn description_of(rules: &[Rule], number: usize) -> Option<&LateValue>
 }
 
 /// Which rules are listed: those of the main file's scope, and no others. Where no two of them have
-/// one name, their names rise by their bytes, so that each stands once.
+/// the same name, their names are in strictly ascending byte order, so that each occurs once.
 pub fn rules_by_name()
     ensures rise { NamesRise }
     ensures listed { ListsMainRules }

@@ -21,14 +21,14 @@ use std::alloc::Global;
 
 /// Joins the dyndep files to which edges are bound ("Dynamic Dependencies" in the Ninja manual):
 /// the outputs and inputs that they discover become implicit ones. A value to which they were
-/// joined stays as it is. Files are joined in the order of the first edges that are bound to them,
-/// and read under their clean paths, unless they were read before. Takes time in proportion to the
-/// graph and these files.
+/// already joined stays as it is. Files are joined in the order of the first edges that are bound
+/// to them, and read under their clean paths, unless they were read before. Takes time in
+/// proportion to the graph and these files.
 ///
 /// # Errors
 ///
 /// The first fault, with its place: of a dyndep file, of one that cannot be found or read, or of an
-/// edge of which its dyndep file says nothing; after all files, a dependency cycle; or an
+/// edge that its dyndep file does not mention; after all files, a dependency cycle; or an
 /// allocation failed.
 pub fn join_dyndeps<S: FileSource>(
     alloc: Global,

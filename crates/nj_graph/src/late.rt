@@ -14,7 +14,7 @@ use std::alloc::{AllocError, Global};
 impl Graph {
     /// Appends what a variable says for an edge, where its rule is used after all statements ("Rule
     /// variables" in the Ninja manual): the paths of the edge, else the value of its block, else
-    /// that of its rule, else the last one of its file. A loop over edges can use one buffer again.
+    /// that of its rule, else the last one of its file. A loop over edges can reuse one buffer.
     ///
     /// # Errors
     ///
@@ -43,8 +43,8 @@ impl Graph {
         late.append_late_text(out, name)
     }
 
-    /// The command of an edge, as a shell is given it. That of a phony edge is its block's, else
-    /// empty.
+    /// The command of an edge, as it is passed to a shell. That of a phony edge is its block's,
+    /// else empty.
     pub fn command(&self, alloc: Global, edge: EdgeNo) -> Result<Vec<u8>, AllocError>
         requires { edge.0 < length (edges_of self.now) }
         ensures { (entries : List Entry) → IsGraphOf self.now entries
@@ -57,7 +57,7 @@ impl Graph {
     /// The command of an edge as it is without its response file ("Rule variables" in the Ninja
     /// manual): where the first occurrence of what `rspfile` says has an `@` directly before it,
     /// both are replaced by what `rspfile_content` says, with a space for each line feed. A command
-    /// that does not name its response file so stays as it is.
+    /// that does not name its response file in this way stays as it is.
     ///
     /// # Errors
     ///

@@ -40,7 +40,7 @@ impl Loaded {
         &self.graph
     }
 
-    /// The files that were read, each path once; also those at which no file was.
+    /// The files that were read, each path once; also paths at which there was no file.
     pub fn files(&self) -> &FileTable
         ensures { result.now ≡ self.now.files }
     {
@@ -52,10 +52,10 @@ impl Loaded {
 ///
 /// # Errors
 ///
-/// The first fault in reading order, with its place: a statement counts before those below it, and
+/// The first fault in reading order, with its place: a statement comes before those below it, and
 /// the statements of an included file before those after the `include`. After all reading, a
-/// dependency cycle, at the least edge that lies on one. That a file cannot be read, or that an
-/// allocation failed, ends the reading where it happens. Where the source fails at a file, that is
+/// dependency cycle, at the lowest-numbered edge that lies on one. A file that cannot be read, or a
+/// failed allocation, ends the reading where it happens. Where the source fails at a file, that is
 /// the fault, at the place of the word that names the file; the file is not tried again.
 pub fn load<S: FileSource>(alloc: Global, source: &mut S, main: &str) -> Result<Loaded, GraphFault>
     ensures { Loads main.now (S.state source.old) (S.state source.new) result }

@@ -59,7 +59,7 @@ pub(crate) struct Reader {
 }
 
 impl Reader {
-    /// Nothing is read. Names and paths are hashed by these keys.
+    /// Nothing is read yet. Names and paths are hashed by these keys.
     pub(crate) fn new(alloc: Global, keys: HashKeys) -> Result<Reader, AllocError>
         ensures { IfOk result (λ r. IsNew r) }
     {

@@ -7,9 +7,9 @@ ghost use Rattle.nj_graph.specs.ResponseFiles.{on_one_line, with_content};
 use memchr::memmem;
 use std::alloc::{AllocError, Global};
 
-/// A command as it is without its response file: what is in the file, on one line, stands for the
-/// `@` and the name after it ("Rule variables" in the Ninja manual). Where the first occurrence of
-/// the name has no `@` directly before it, or there is none, the command stays as it is.
+/// A command as it is without its response file: what is in the file, on one line, replaces the `@`
+/// and the name after it ("Rule variables" in the Ninja manual). Where the first occurrence of the
+/// name has no `@` directly before it, or there is none, the command stays as it is.
 ///
 /// # Errors
 ///
@@ -46,7 +46,7 @@ fn sign_position(command: &[u8], file: &[u8]) -> Option<usize>
     }
 }
 
-// The position at which a part first stands in a text.
+// The position at which a part first occurs in a text.
 fn first_position(text: &[u8], part: &[u8]) -> Option<usize>
     ensures first { result ≡ first_position part.now text.now }
     ensures fits { IfSome result (λ position. position + length part.now ≤ length text.now) }

@@ -52,7 +52,7 @@ abbrev pub unless_empty : Bool → Option (List PartText) → Option (List PartT
 unless_empty true (Some []) = None
 unless_empty unless value = value
 
--- The value that the rule gives: of its last line of this key. A command's line that says nothing is not given.
+-- The value that the rule gives: of its last line of this key. For a name that says what an edge runs, a value without parts is not given.
 abbrev pub value_given : List RuleLineText → (key : List ℕ) → Option (List PartText)
 value_given lines key = unless_empty (is_of_command key) (given lines key)
 
@@ -84,7 +84,7 @@ pub data Says (quoting : Bool) (n : LateNames) : List ℕ → List ℕ → Type 
   by_file : {name : List ℕ} → names_paths name ≡ false → n.block name ≡ None → value_given n.lines name ≡ None
       → Says quoting n name (file_value n name)
 
--- the same, computed: through at most so many lines of the rule, the last of which says nothing
+-- the same, computed: through at most `depth` lines of the rule, the last of which says nothing
 abbrev pub late_in : (depth : ℕ) → (quoting : Bool) → LateNames → (name : List ℕ) → List ℕ
 late_in zero quoting n name = []
 late_in (suc depth) quoting n name =
@@ -93,7 +93,7 @@ late_in (suc depth) quoting n name =
     (or_else (n.block name) (option_map (expanded (late_in depth quoting n)) (rule_value n.block n.lines name))))
     (file_value n name)
 
--- no more lines than the rule has come after one another, unless they refer to each other in a cycle
+-- unless lines of the rule refer to each other in a cycle, no more of them are nested than the rule has
 abbrev pub late_text : (quoting : Bool) → LateNames → (name : List ℕ) → List ℕ
 late_text quoting n name = late_in (suc (length n.lines)) quoting n name
 

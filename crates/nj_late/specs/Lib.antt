@@ -3,7 +3,7 @@ pub mod LateTexts
 pub mod Laws
 pub mod LateEdges
 pub mod VariableCycles
--- how what the code holds is that
+-- how the code holds that
 pub mod ReferencesHeld
 pub mod CyclesHeld
 pub mod TextsHeld

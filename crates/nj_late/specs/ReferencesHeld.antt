@@ -1,5 +1,5 @@
--- How it is held which keys of a rule refer to which: of each key, by number, its name and a row that tells of each key whether
--- its value refers to that.
+-- How it is held which keys of a rule refer to which: for each key, by number, its name and a row that tells for each key whether its value
+-- refers to that one.
 use Rattle.std.specs.Prelude.{◌≡◌, ◌⊎◌, ℕ, ◌<◌, ◌==◌, Bool, false, Option, Some, None, unwrap_or, option_map, List, [], length, slice_get, slice_index_or}
 use Rattle.nj_text.specs.Words.{PartText}
 use Rattle.nj_scope.specs.Rules.{RuleLineText}
@@ -35,7 +35,7 @@ pub record IsRow (lines : List RuleLineText) (number : ℕ) (row : List Bool) : 
   pub refers : (other : ℕ) → other < key_count lines
       → slice_index_or row other false ≡ refers_unbound lines (key_at lines number) (key_at lines other)
 
--- these are held of as many first keys
+-- these are held of the first `count` keys
 pub record AreFirstKeys (lines : List RuleLineText) (count : ℕ) (keys : List ReferringKeyText) : Type 0 where
   pub len : length keys ≡ count
   pub names : (number : ℕ) → number < count → name_at keys number ≡ key_at lines number
@@ -49,7 +49,7 @@ AreReferences lines keys = AreFirstKeys lines (key_count lines) keys
 abbrev pub NeverCycles : List RuleLineText → Type 0
 NeverCycles lines = (block : List ℕ → Option (List ℕ)) → variable_cycle_of block lines ≡ None
 
--- these tell of cycles of the rule that has these lines: no key is held where there is never one
+-- these are enough to find the cycles of the rule that has these lines: no key is held if there is never one
 abbrev pub TellsCycles : List RuleLineText → List ReferringKeyText → Type 0
 TellsCycles lines keys = AreReferences lines keys ⊎ ((keys ≡ []) × NeverCycles lines)
 

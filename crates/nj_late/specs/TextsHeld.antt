@@ -14,7 +14,7 @@ use Rattle.nj_late.specs.LateTexts.{LateNames, rule_value, late_in}
 use Rattle.nj_late.specs.LateEdges.{late_names}
 use Rattle.nj_late.specs.VariableCycles.{RefersTo}
 
--- references from the name end within so many lines
+-- references from the name end within `depth` lines
 abbrev pub Settles : (block : List ℕ → Option (List ℕ)) → List RuleLineText → (depth : ℕ) → (name : List ℕ) → Type 0
 Settles block lines zero name = ⊥
 Settles block lines (suc depth) name = (other : List ℕ) → RefersTo block lines name other → Settles block lines depth other
@@ -76,7 +76,7 @@ AppendsPlain quoting e name old new (Some number) =
     (new ≡ old) × IsNumber e.rule.now.lines name number
     × (is_some (rule_value (bound_in e.blocks.now e.edge) e.rule.now.lines name) ≡ true)
 
--- what the name says is appended, through so many lines after its own; no more than its height come after one another
+-- what the name says is appended, through at most `depth` lines after its own; no more than its height are nested
 pub record AppendsLate (quoting : Bool) (e : LateEdge) (depth : ℕ) (name old : List ℕ) (known : List (Option KeyText))
     (new : List ℕ) (height : Option ℕ) : Type 0 where
   pub grows : Grows old new

@@ -42,7 +42,7 @@ keys_of lines = map (λ l. l.key) lines
 abbrev pub referring : (block : List ℕ → Option (List ℕ)) → List RuleLineText → (names : List (List ℕ)) → List (List ℕ)
 referring block lines names = filter (λ key. list_any (refers (unwrap_or (rule_value block lines key) [])) names) (keys_of lines)
 
--- the keys that reach the name by so many references or fewer
+-- the keys that reach the name by `steps` references or fewer
 abbrev pub reaching : (steps : ℕ) → (block : List ℕ → Option (List ℕ)) → List RuleLineText → (name : List ℕ) → List (List ℕ)
 reaching zero block lines name = []
 reaching (suc steps) block lines name = referring block lines (name ∷ reaching steps block lines name)

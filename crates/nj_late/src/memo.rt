@@ -3,8 +3,8 @@
 ghost use Rattle.std.specs.Prelude.{◌≡◌, ◌<◌, IfSome};
 ghost use Rattle.nj_late.specs.TextsHeld.{text_known, taller, with_text};
 
-// Where the text of a key stands, and its height: how many lines of the rule come after one another
-// below the key's own.
+// Where the text of a key is, and its height: how many lines of the rule are nested below the key's
+// own.
 #[derive(Clone, Copy)]
 pub(crate) struct KeyText {
     pub(crate) start: usize,
@@ -25,8 +25,8 @@ pub(crate) fn text_known(known: &[Option<KeyText>], number: usize, depth: usize)
     }
 }
 
-// The height of a line with one more reference, below which so many lines come after one another.
-// `None` if a reference was cut off.
+// The height of a line with one more reference, below which this many lines are nested. `None` if a
+// reference was cut off.
 pub(crate) fn taller(height: Option<usize>, below: Option<usize>, depth: usize) -> Option<usize>
     requires { IfSome below (λ b. b < depth) }
     ensures { result ≡ taller height below }
@@ -35,7 +35,7 @@ pub(crate) fn taller(height: Option<usize>, below: Option<usize>, depth: usize) 
     Some(height.max(below + 1))
 }
 
-// Keeps where the text of the key of this number stands, unless a reference in it was cut off.
+// Keeps where the text of the key of this number is, unless a reference in it was cut off.
 pub(crate) fn keep_text(
     known: &mut [Option<KeyText>],
     number: usize,

@@ -12,7 +12,7 @@ use nj_text::Part;
 use std::alloc::{AllocError, Global};
 use std::marker::Model;
 
-// A key of a rule, and of each key of the rule, by number, whether its value refers to that.
+// A key of a rule, and for each key of the rule, by number, whether its value refers to that one.
 #[derive(Drop)]
 struct ReferringKey {
     name: Vec<u8>,
@@ -20,9 +20,9 @@ struct ReferringKey {
 }
 
 /// Which keys of a rule refer to which where no block binds one ("Rule variables" in the Ninja
-/// manual). It is made once for a rule, and says of each edge that uses the rule whether variables
-/// refer to each other in a cycle, in time that the number of keys bounds. It holds no key of a
-/// rule of which no block leaves a cycle.
+/// manual). It is made once for a rule, and tells for each edge that uses the rule whether
+/// variables refer to each other in a cycle, in time bounded by the number of keys. It holds no key
+/// of a rule that has no cycle, whatever a block binds.
 #[derive(Drop)]
 pub struct KeyReferences {
     keys: Vec<ReferringKey>,
@@ -104,7 +104,7 @@ fn references_of(alloc: Global, rule: &Rule) -> Result<KeyReferences, AllocError
     Ok(KeyReferences { keys })
 }
 
-// Of each key whether the value of this one refers to it: to none if the value does not count.
+// For each key, whether the value of this one refers to it: to none if the value does not count.
 fn row_of_key(alloc: Global, rule: &Rule, number: usize) -> Result<Vec<bool>, AllocError>
     requires { number < key_count rule.now.lines }
     ensures { IfOk result (λ row. IsRow rule.now.lines number row.items) }

@@ -46,8 +46,8 @@ impl<'a> LateEdge<'a> {
         Ok(())
     }
 
-    // Appends what the name says, through so many lines of the rule after its own. Returns its
-    // height, or `None` if a reference was cut off.
+    // Appends what the name says, through at most `depth` lines of the rule after its own. Returns
+    // its height, or `None` if a reference was cut off.
     fn append_within(
         &self,
         out: &mut Vec<u8>,
@@ -137,8 +137,8 @@ impl<'a> LateEdge<'a> {
     }
 }
 
-// The number of a key to which the rule gives a value: a command's line that says nothing is not
-// given.
+// The number of a key to which the rule gives a value: for a name that says what an edge runs, a
+// value without parts is not given.
 fn given_key(rule: &Rule, key: &[u8]) -> Option<usize>
     ensures number { IfSome result (IsNumber rule.now.lines key.now) }
     ensures given { is_some result ≡ is_some (value_given rule.now.lines key.now) }

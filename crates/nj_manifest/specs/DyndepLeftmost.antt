@@ -34,8 +34,8 @@ pub record SomeEntry (before : List Line) (begun : List TextUnit) (fault : Fault
   pub rest : List Line
   pub reads : next_entry (goes_on before begun (written bytes) (map written lines)) ≡ Ok (Some entry, rest)
 
--- An entry is whole where this line has spaces alone, with which it begins: the line is one too many of the entry's block.
--- (Between the spaces and the element there may be a join, and blanks after it.)
+-- If this line has only the spaces with which it begins, an entry is complete: the line is one too many in the entry's block. (Between the
+-- spaces and the element there may be a join, and blanks after it.)
 pub record LineTooMany (before : List Line) (begun : List TextUnit) : Type 0 where
   pub spaces : List TextUnit
   pub gap : List TextUnit
@@ -46,8 +46,8 @@ pub record LineTooMany (before : List Line) (begun : List TextUnit) : Type 0 whe
   pub rest : List Line
   pub reads : next_entry (goes_on before spaces (written []) []) ≡ Ok (Some entry, rest)
 
--- From this front, with this element after it, none does: whatever follows, each unit of the line at a place of its own,
--- the answer is this fault. A departure from the form names the first unit of the element, and so keeps its place.
+-- From this front, with this element after it, no entry goes on: whatever follows, each unit of the line at a place of its own, the answer
+-- is this fault. A departure from the form names the first unit of the element, and so keeps its place.
 abbrev pub RefusesEntry : (before : List Line) → (begun element : List TextUnit) → Fault → Type 0
 RefusesEntry before begun here fault =
     (l : Line) (ls : List Line) → element l.units ≡ here → are_apart (begun ++ l.units) ≡ true

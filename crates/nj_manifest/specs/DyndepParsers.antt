@@ -15,7 +15,7 @@ use Rattle.nj_manifest.specs.Dyndeps.{EntryText, version_next, DyndepLeft, Whole
 abbrev pub entry_text : Entry → EntryText
 entry_text e = record { out = word_text e.out; outs = words_text e.outs.items; ins = words_text e.ins.items }
 
--- what a parser answers where this is read of what is left
+-- what a parser answers if this is read from what is left
 abbrev pub AnswersEntry : Parse (Option EntryText) → (after : DyndepLeft) → Result (Option Entry) ParseFault → Type 0
 AnswersEntry expected after (Ok found) =
     (rest : List lines.Line) × (expected ≡ Ok (option_map entry_text found, rest)) × (after ≡ Entries rest)

@@ -51,7 +51,7 @@ version_next ls = opening ls >>= version_from
 
 -- ---- an entry
 
--- the output that names a build statement, and the outputs and inputs that it has besides
+-- the output that names a build statement, and the additional outputs and inputs of that statement
 pub record EntryText : Type 0 where
   pub out : WordText
   pub outs : List WordText

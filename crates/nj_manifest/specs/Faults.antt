@@ -1,4 +1,4 @@
--- Why a text is no list of statements.
+-- Why a text is not a list of statements.
 use Rattle.std.specs.Prelude.{ℕ, Bool, true, false, Option, Some, None, List, ◌++◌, codes}
 use Rattle.nj_text.specs.declared.fault.UnitFault.{UnitFault}
 use Rattle.nj_text.specs.declared.fault.UnitFault.TheVariants as unit_fault
@@ -25,7 +25,7 @@ pub data Fault : Type 0 where
   -- of dyndep files alone
   DyndepVersion : (spot : Spot) → Fault
   DyndepShape : (spot : Spot) → Fault
-  -- none of a text: the program's own
+  -- not of a text: the program's own
   OutOfMemory : Fault
 
 abbrev pub fault_text : ParseFault → Fault

@@ -21,7 +21,7 @@ use Rattle.nj_manifest.specs.Statements.{RuleHead, PoolHead, BuildHead}
 
 -- ---- parts of a line
 
--- whether the units begin with such a one
+-- whether the units begin with one that passes the test
 abbrev pub begins : (TextUnit → Bool) → List TextUnit → Bool
 begins p [] = false
 begins p (u ∷ us) = p u
@@ -30,7 +30,7 @@ begins p (u ∷ us) = p u
 abbrev pub AreBlanks : List TextUnit → Type 0
 AreBlanks us = list_all is_blank us ≡ true
 
--- Units that are blanks, an identifier, and the rest. The identifier has a byte at least, and is as long as can be.
+-- Units that are blanks, an identifier, and the rest. The identifier has a byte at least, and is as long as possible.
 pub record IdentifierForm (us : List TextUnit) (name : NameText) (rest : List TextUnit) : Type 0 where
   pub gap : List TextUnit
   pub first : TextUnit
@@ -52,7 +52,7 @@ pub record KeywordForm (word : List ℕ) (us : List TextUnit) (rest : List TextU
 abbrev pub keywords : List (List ℕ)
 keywords = codes "build" ∷ codes "rule" ∷ codes "pool" ∷ codes "default" ∷ codes "include" ∷ codes "subninja" ∷ []
 
--- Blanks, a path, and the rest. The path is as long as can be.
+-- Blanks, a path, and the rest. The path is as long as possible.
 pub record WordForm (us : List TextUnit) (word : WordText) (rest : List TextUnit) : Type 0 where
   pub gap : List TextUnit
   pub first : TextUnit
@@ -228,7 +228,7 @@ pub record Gives (key : List ℕ) (lines : List LineText) : Type 0 where
 -- a first line's statement, with the block that the lines after it begin with
 pub data StatementForm : HeadText → List Line → StatementText → (rest : List Line) → Type 0 where
   alone : {item : StatementText} {ls : List Line} → StatementForm (Alone item) ls item ls
-  -- a rule gives its command, and of the two keys of a response file both or none
+  -- a rule gives its command, and of the two keys of a response file both or neither
   rule : {name : NameText} {ls rest : List Line} {lines : List LineText} → BlockForm keys.OfRule ls lines rest
       → Gives (codes "command") lines → (Gives (codes "rspfile") lines ↔ Gives (codes "rspfile_content") lines)
       → StatementForm (RuleHead name) ls (RuleText name lines) rest

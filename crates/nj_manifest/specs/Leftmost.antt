@@ -95,7 +95,7 @@ pub record SomeStatement (before : List Line) (begun : List TextUnit) (fault : F
   pub rest : List Line
   pub reads : next_statement (goes_on before begun (written bytes) (map written lines)) ≡ Ok (Some placed, rest)
 
--- from this front, with this element after it, none does: whatever follows, the answer is this fault
+-- from this front, with this element after it, no statement goes on: whatever follows, the answer is this fault
 abbrev pub Refuses : (before : List Line) → (begun element : List TextUnit) → Fault → Type 0
 Refuses before begun here fault =
     (l : Line) (ls : List Line) → element l.units ≡ here → next_statement (goes_on before begun l ls) ≡ Err (met_before l fault)

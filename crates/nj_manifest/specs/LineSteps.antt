@@ -70,7 +70,7 @@ units_left (Between ls) = 0
 units_left (Inside l ls) = length l.units
 units_left (Failed f) = 0
 
--- the words from here on, up to what is none
+-- the words from here on, up to what is not a word
 unfoldable pub words_next : State → Step (List WordText)
 words_next s = words_within (suc (units_left s)) s
 

@@ -15,7 +15,7 @@ abbrev pub Fails : {Y : Type 0} → ParseFault → Result Y Fault → Type 0
 Fails (fault.Lex lex.OutOfMemory) expected = Unit {0}
 Fails f expected = expected ≡ Err (fault_text f)
 
--- what a parser answers where this is read of the lines
+-- what a parser answers if this is read from the lines
 abbrev pub AnswersNext : Parse (Option PlacedText) → (after : Left) → Result (Option (Placed Statement)) ParseFault → Type 0
 AnswersNext expected after (Ok found) =
     (rest : List lines.Line) × (expected ≡ Ok (option_map placed_text found, rest)) × (after ≡ Lines rest)

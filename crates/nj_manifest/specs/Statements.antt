@@ -222,7 +222,7 @@ abbrev pub agree : Bool → Bool → Bool
 agree true b = b
 agree false b = not b
 
--- a rule needs its command, and of the two keys of a response file both or none
+-- a rule needs its command, and of the two keys of a response file both or neither
 unfoldable pub whole_rule : Spot → List LineText → Result (List LineText) Fault
 whole_rule spot lines =
     unless_missing (agree (gives (codes "rspfile") lines) (gives (codes "rspfile_content") lines)) (RspPair spot)

@@ -120,7 +120,7 @@ fn names(lines: &[Line], key: &[u8]) -> bool
     lines.iter().any(|line| line.name == key)
 }
 
-/// The lines of a rule: it needs its command, and of the two keys of a response file both or none.
+/// The lines of a rule: it needs its command, and of a response file's two keys both or neither.
 #[tactic(auto, unfolding(crate::specs::Statements::whole_rule))]
 pub fn whole_rule<'a>(spot: Spot, lines: &[Line<'a>]) -> Result<(), ParseFault<'a>>
     ensures { Wholes (lines_text lines.now) (whole_rule spot (lines_text lines.now)) result }

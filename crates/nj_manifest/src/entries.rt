@@ -18,9 +18,9 @@ use std::alloc::{AllocError, Global};
 pub struct Entry<'a> {
     /// An output of the build statement that is meant.
     pub out: Word<'a>,
-    /// The outputs that it has besides.
+    /// The additional outputs of that statement.
     pub outs: Vec<Word<'a>>,
-    /// The inputs that it has besides.
+    /// The additional inputs of that statement.
     pub ins: Vec<Word<'a>>,
 }
 

@@ -1,4 +1,4 @@
-//! Why a text is no list of statements.
+//! Why a text is not a list of statements.
 
 ghost use Rattle.std.specs.Prelude.{◌≡◌};
 ghost use Rattle.nj_manifest.specs.Faults.{wanted_text, fault_text, place_of, unit_text, text_of};
@@ -9,7 +9,7 @@ use crate::fault_text::FaultText;
 use nj_text::{LexFault, Spot, UnitFault};
 use std::alloc::{AllocError, AllocFailed};
 
-/// What would have to stand at a place, in the words of the fault's text.
+/// What would have to be at a place, in the words of the fault's text.
 #[derive(Clone, Copy, Debug, PartialEq, Eq)]
 pub enum Wanted {
     /// A statement's first identifier, at a line's start.
@@ -54,8 +54,8 @@ impl Wanted {
     }
 }
 
-/// Why a text could not be read on as statements. Places are of the unit at which no statement goes
-/// on, unless another is named.
+/// Why the statements of a text could not be read further. Places are of the unit at which no
+/// statement goes on, unless another is named.
 #[derive(Clone, Copy, Debug, PartialEq, Eq)]
 pub enum ParseFault<'a> {
     /// A bad unit, or out of memory.
@@ -75,7 +75,7 @@ pub enum ParseFault<'a> {
     /// A dyndep file that does not begin with its version; the place is that of the first
     /// statement, or the end of the text.
     DyndepVersion(Spot),
-    /// A statement of a dyndep file that is no dyndep statement, at the first unit that departs
+    /// A statement of a dyndep file that is not a dyndep statement, at the first unit that departs
     /// from its form.
     DyndepShape(Spot),
 }

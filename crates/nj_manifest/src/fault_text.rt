@@ -5,8 +5,8 @@ ghost use Rattle.std.specs.Prelude.{◌≡◌, ◌++◌, OnOk};
 use std::alloc::AllocError;
 use std::marker::Model;
 
-/// The text of a fault: a name between two fixed texts. The name is as it stands in the file, so
-/// it may be no UTF-8.
+/// The text of a fault: a name between two fixed texts. The name is as it stands in the file, so it
+/// need not be UTF-8.
 #[derive(Debug, Drop)]
 pub struct FaultText<'a> {
     before: &'static str,

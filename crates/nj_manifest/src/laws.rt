@@ -43,7 +43,7 @@ pub fn dyndep_versions_are_the_forms()
 
 /// A fault of an entry of a dyndep file stands at the first element with which no entry goes on:
 /// whatever follows it, the answer is this fault. From what is before that element an entry does go
-/// on, with what the fault says is expected; in place of a line too many of a block an entry ends.
+/// on, with what the fault says is expected; before a line that is one too many it is complete.
 pub fn dyndep_faults_are_leftmost()
     ensures { DyndepFaultsAreLeftmost }
 {}

@@ -6,8 +6,8 @@ ghost use Rattle.nj_manifest.specs.ParserContracts.{IsBetweenStatements, FindsOp
 use crate::fault::ParseFault;
 use nj_text::{Lexer, LineStart, Spot};
 
-/// Skips blank lines and comments, and begins the line of the next statement; false at the end of
-/// the text.
+/// Skips blank lines and comments, and begins the line of the next statement; returns `false` at
+/// the end of the text.
 pub fn find_statement<'a>(lexer: &mut Lexer<'a>) -> Result<bool, ParseFault<'a>>
     requires { IsBetweenStatements lexer.old }
     ensures { FindsOpening lexer.old lexer.new result }

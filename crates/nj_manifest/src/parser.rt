@@ -16,7 +16,7 @@ use std::marker::Model;
 /// Reads the statements of a Ninja file, one after the other ("Ninja file reference" in the Ninja
 /// manual).
 ///
-/// It holds the text's slice and no part of it twice; a statement holds slices of the text.
+/// It holds the text as a slice and copies no part of it; a statement holds slices of the text.
 #[derive(Drop)]
 pub struct Parser<'a> {
     lexer: Lexer<'a>,

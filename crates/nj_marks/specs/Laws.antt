@@ -3,7 +3,7 @@ use Rattle.std.specs.Prelude.{◌≡◌, ◌<◌, ◌^◌, ℕ, List, Some}
 use Rattle.std.specs.List.{All}
 use Rattle.nj_marks.specs.Marks.{mark_text, said_mark}
 
--- the text that was written of a mark says that mark
+-- the text that is written for a mark says that mark
 abbrev pub WrittenMarksAreSaid : Type 0
 WrittenMarksAreSaid = (numbers : List ℕ) → All (λ n. n < 2 ^ 64) numbers → said_mark (mark_text numbers) ≡ Some numbers
 

@@ -1,4 +1,4 @@
--- Marks and their texts. A mark is the numbers of an address; at the start of a walk it is none.
+-- Marks and their texts. A mark is the numbers of an address; at the start of a walk it has none.
 use Rattle.std.specs.Prelude.{ℕ, ◌==◌, ◌&&◌, Bool, false, not, nat_le, if◌then◌else◌, Option, Some, None, List, [], ◌∷◌, map, codes}
 use Rattle.std.specs.Prelude.{decimal}
 use Rattle.std.specs.List.{slice_split, join_with_byte}

@@ -3,7 +3,7 @@ use Rattle.std.specs.Prelude.{ℕ, ◌==◌, ◌&&◌, Bool, false, not, Option,
 use Rattle.std.specs.List.{slice_split}
 use Rattle.nj_marks.specs.Marks.{is_dot}
 
--- neither a sign nor a leading zero stands in front
+-- the bytes begin with neither a sign nor a leading zero
 abbrev pub has_plain_front : List ℕ → Bool
 has_plain_front [] = false
 has_plain_front (digit ∷ []) = not (digit == 43)

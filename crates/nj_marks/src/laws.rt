@@ -2,12 +2,12 @@
 
 ghost use Rattle.nj_marks.specs.Laws.{WrittenMarksAreSaid, SaidMarksAreWritten};
 
-/// The text that was written of a mark says that mark.
+/// The text that is written for a mark says that mark.
 pub fn written_marks_are_said()
     ensures { WrittenMarksAreSaid }
 {}
 
-/// Only the text that is written of a mark says it.
+/// Only the text that is written for a mark says it.
 pub fn said_marks_are_written()
     ensures { SaidMarksAreWritten }
 {}

@@ -10,8 +10,8 @@ use itoa::Buffer;
 use std::alloc::{AllocError, AllocFailed, Global};
 use std::marker::Model;
 
-/// Where a walk stands: at its start, or after an edge, whose address it is. An address is the
-/// number of a target, and then indices into lists of inputs, all from 0. The value of the start is
+/// Where a walk is: at its start, or after an edge, of which this is the address. An address is the
+/// number of a target, and then indexes in lists of inputs, all from 0. The value of the start is
 /// the empty list.
 #[derive(Drop)]
 pub struct Mark {
@@ -29,7 +29,7 @@ impl Model for Mark {
 /// Why a text is not read as a mark.
 #[derive(Clone, Copy, Debug, PartialEq, Eq)]
 pub enum MarkTextFault {
-    /// The text says no mark.
+    /// The text is not a mark.
     BadMark,
     /// An allocation failed.
     OutOfMemory,
@@ -52,7 +52,7 @@ impl<T: Drop> From<AllocFailed<T>> for MarkTextFault {
 }
 
 impl Mark {
-    /// The mark at the start of a walk. It takes no memory.
+    /// The mark at the start of a walk. It allocates nothing.
     pub fn start(alloc: Global) -> Mark
         ensures { result ≡ [] }
     {
@@ -81,7 +81,7 @@ impl Mark {
     ///
     /// # Errors
     ///
-    /// `BadMark` if the text says no mark, and `OutOfMemory` if an allocation failed.
+    /// `BadMark` if the text is not a mark, and `OutOfMemory` if an allocation failed.
     pub fn read(alloc: Global, text: &str) -> Result<Mark, MarkTextFault>
         ensures ok { IfOk result (λ mark. said_mark text.now ≡ Some mark) }
         ensures bad { result ≡ Err BadMark → said_mark text.now ≡ None }

@@ -2,7 +2,7 @@
 use Rattle.std.specs.Prelude.{◌≡◌, ◌<◌, ◌≤◌, ℕ, List, [], ◌∷◌, ◌++◌}
 use Rattle.nj_needs.specs.declared.frame.Frame.{Frame}
 
--- above the row for which the walk is heading the first edge stands before the place, or the walk is in that row, and not past it
+-- above the row for which the walk is heading, the first edge is before the goal; or the walk is in that row, and not past the goal
 abbrev pub IsAhead : (more : List Frame) → (goal at : ℕ) → Type 0
 IsAhead [] goal at = at ≤ goal
 IsAhead (f ∷ more) goal at = f.at < goal

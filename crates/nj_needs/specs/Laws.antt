@@ -5,7 +5,7 @@ use Rattle.nj_needs.specs.Needs.{IsAcyclic, AreWithin, NeedsByChain, Reached}
 use Rattle.nj_needs.specs.Order.{needed_commands}
 use Rattle.nj_needs.specs.Marks.{IsFirstPlace}
 
--- f stands at a place of the list before one of e
+-- f comes in the list before an occurrence of e
 abbrev pub StandsBefore : List ℕ → ℕ → ℕ → Type 0
 StandsBefore es f e = (i : ℕ) × (j : ℕ) × (i < j) × (slice_get es i ≡ Some f) × (slice_get es j ≡ Some e)
 
@@ -15,12 +15,12 @@ CommandsAreTheReached = (makers : ℕ → List (Option ℕ)) (count : ℕ) (phon
     → IsAcyclic makers count → AreWithin targets count
     → (e : ℕ) → Contains (needed_commands makers count phony targets) e ↔ (Reached makers targets e × (phony e ≡ false))
 
--- none of them stands twice
+-- none of them is listed twice
 abbrev pub CommandsStandOnce : Type 0
 CommandsStandOnce = (makers : ℕ → List (Option ℕ)) (count : ℕ) (phony : ℕ → Bool) (targets : List (Option ℕ))
     → IsDistinct nat_eq (needed_commands makers count phony targets)
 
--- each stands after all others that its edge needs, directly or through any edges
+-- each comes after all others that its edge needs, directly or through any edges
 abbrev pub CommandsStandAfterNeeds : Type 0
 CommandsStandAfterNeeds = (makers : ℕ → List (Option ℕ)) (count : ℕ) (phony : ℕ → Bool) (targets : List (Option ℕ))
     → IsAcyclic makers count → AreWithin targets count

@@ -1,5 +1,5 @@
--- Marks. A mark is `start`, the empty list, or an address: the number of a target, and then positions in lists of inputs, all from 0.
--- It leads to the target's maker, to the maker of that edge's input at the first position, and so on.
+-- Marks. A mark is `start`, the empty list, or an address: the number of a target, and then indexes in lists of inputs, all from 0. It
+-- leads to the target's maker, to the maker of that edge's input at the first index, and so on.
 use Rattle.std.specs.Prelude.{◌≡◌, ℕ, ◌+◌, Bool, true, false, ◌&&◌, not, Option, Some, None, is_some, List, [], ◌∷◌, ◌++◌, take, nat_eq}
 use Rattle.std.specs.Prelude.{filter, slice_index_or}
 use Rattle.std.specs.List.{list_any}

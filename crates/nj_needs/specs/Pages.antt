@@ -1,4 +1,4 @@
--- Pages: what runs return that follow one another, each from the mark of the one before.
+-- Pages: what consecutive runs return, each from the mark of the one before.
 use Rattle.std.specs.Prelude.{◌≡◌, ◌≤◌, ℕ, Bool, true, Option, None, MatchOption, List, [], ◌∷◌, ◌++◌, length}
 use Rattle.std.specs.List.{concat, last_or}
 use Rattle.nj_needs.specs.Needs.{IsAcyclic, AreWithin}
@@ -19,7 +19,7 @@ MarkKeepsTheRest = (makers : ℕ → List (Option ℕ)) (count : ℕ) (phony : �
     → rest makers count phony targets begun ≡ edges ++ left → IsMarkAfter makers count targets begun edges mark
     → (is_valid makers targets mark ≡ true) × (rest makers count phony targets mark ≡ left)
 
--- Runs from a mark, each of which takes at most so many edges; those that each of them returns; and what is left after the last.
+-- Runs from a mark: each takes at most the number of edges in `takes`; the edges that each returns; and what is left after the last.
 pub data ArePages (makers : ℕ → List (Option ℕ)) (count : ℕ) (phony : ℕ → Bool) (targets : List (Option ℕ))
     : (mark : List ℕ) → (takes : List ℕ) → (pages : List (List ℕ)) → (left : List ℕ) → Type 0 where
   -- no further run
@@ -42,7 +42,7 @@ PagesJoin = (makers : ℕ → List (Option ℕ)) (count : ℕ) (phony : ℕ → 
     → ArePages makers count phony targets mark takes pages left
     → rest makers count phony targets mark ≡ concat pages ++ left
 
--- what is left at a mark is an end of the needed commands
+-- what is left at a mark is a suffix of the needed commands
 abbrev pub RestIsSuffix : Type 0
 RestIsSuffix = (makers : ℕ → List (Option ℕ)) (count : ℕ) (phony : ℕ → Bool) (targets : List (Option ℕ))
     → IsAcyclic makers count → AreWithin targets count

@@ -48,7 +48,7 @@ pub record BeginsAt (g : EdgeGraph) (files : List FileNo) (numbers : List ℕ) (
   pub begun : w.begun ≡ length numbers
   pub sound : IsSound w
 
--- the graph, the targets and the beginning stay
+-- the graph, the targets and the beginning stay the same
 pub record IsSameWalk (old new : WalkState) : Type 0 where
   pub graph : new.graph ≡ old.graph
   pub targets : new.targets ≡ old.targets

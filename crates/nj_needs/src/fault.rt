@@ -10,7 +10,7 @@ use std::alloc::AllocError;
 pub enum MarkFault {
     /// The mark is an address that leads to no edge.
     OutOfRange,
-    /// Memory ran out.
+    /// An allocation failed.
     OutOfMemory,
 }
 

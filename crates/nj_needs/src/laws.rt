@@ -3,8 +3,8 @@
 ghost use Rattle.nj_needs.specs.Laws.{CommandsAreTheReached, CommandsStandOnce, CommandsStandAfterNeeds, FirstPlacesAreOne};
 ghost use Rattle.nj_needs.specs.Pages.{MarkKeepsTheRest, PagesJoin, RestIsSuffix};
 
-/// The needed commands are exactly those of the edges that the targets reach; none stands twice;
-/// and each stands after all others that its edge needs by any chain, phony edges between included.
+/// The needed commands are exactly those of the edges that the targets reach; none is listed twice;
+/// and each comes after all others that its edge needs by any chain, also through phony edges.
 pub fn order_law()
     ensures reached { CommandsAreTheReached }
     ensures once { CommandsStandOnce }
@@ -16,9 +16,9 @@ pub fn place_law()
     ensures { FirstPlacesAreOne }
 {}
 
-/// What is left at a mark is an end of the needed commands. What is left after some edges of a walk
-/// is what is left at the mark after them; so the pages of runs, each of which goes on at the mark
-/// of the one before, joined, and then what is left after the last, are what was left at first.
+/// What is left at a mark is a suffix of the needed commands. What is left after some edges of a
+/// walk is what is left at the mark after them; so the joined pages of runs, each of which goes on
+/// at the mark of the one before, and then what is left after the last, are what was left at first.
 pub fn page_law()
     ensures keeps { MarkKeepsTheRest }
     ensures join { PagesJoin }

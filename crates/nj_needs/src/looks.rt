@@ -73,7 +73,7 @@ impl<'g> Looks<'g> {
         }
     }
 
-    /// Closes an edge: sets its flag. Whether it is phony.
+    /// Closes an edge: sets its flag. Returns whether it is phony.
     pub fn close(&mut self, edge: usize, flags: &mut [bool]) -> bool
         requires edge_in { edge < count_of self.old.graph.now }
         requires flag_in { edge < length flags.old }

@@ -37,8 +37,8 @@ impl<'g> Model for Needs<'g> {
 }
 
 impl<'g> Needs<'g> {
-    /// A walk from the start. It reserves all the memory that the walk needs, and fails only where
-    /// memory runs out.
+    /// A walk from the start. It reserves all the memory that the walk needs, and fails only if an
+    /// allocation fails.
     pub fn new(
         graph: &'g EdgeGraph,
         targets: &'g [FileNo],
@@ -57,9 +57,9 @@ impl<'g> Needs<'g> {
     }
 
     /// The walk that goes on at a mark: the edges left are those that were left there, in the same
-    /// order. Every mark that leads to an edge at each step will do, also one that no walk gave;
-    /// for another the fault is *out of range*, which is decided before any memory is taken. Then
-    /// all the memory that the walk needs is reserved.
+    /// order. Any mark that leads to an edge at each step will do, even one that no walk returned;
+    /// for any other the fault is *out of range*, which is decided before anything is allocated.
+    /// Then all the memory that the walk needs is reserved.
     pub fn resume(
         alloc: Global,
         graph: &'g EdgeGraph,
@@ -82,7 +82,7 @@ impl<'g> Needs<'g> {
     }
 
     /// The next edge that is needed and is not phony. After `None` it always returns `None`. It
-    /// takes no memory.
+    /// allocates nothing.
     pub fn next(&mut self) -> Option<EdgeNo>
         ensures next { NextIs self.old (number_of result) self.new }
         ensures same { IsSameWalk self.old self.new }
@@ -93,7 +93,7 @@ impl<'g> Needs<'g> {
     }
 
     /// The address of the edge that `next` returned last, also after `None`; before any, the mark
-    /// that the walk began with. Fails only where memory runs out.
+    /// that the walk began with. Fails only if an allocation fails.
     pub fn mark(&self, alloc: Global) -> Result<Mark, AllocError>
         ensures mark { IfOk result (λ m. m ≡ self.now.mark) }
         ensures sound { IsSound self.now }

@@ -13,7 +13,8 @@ ghost use Rattle.nj_needs.specs.Walks.{rest_of};
 use crate::looks::Looks;
 use crate::walk::Walk;
 
-/// Whether each step of a mark leads to an edge. It takes no memory, and a look for each number.
+/// Whether each step of a mark leads to an edge. Allocates nothing, and takes a look for each
+/// number.
 pub(crate) fn leads(looks: &mut Looks, numbers: &[u64]) -> bool
     requires turns { looks.old.turns ≡ 0 }
     requires acyclic { IsAcyclic (makers_of looks.old.graph.now) (count_of looks.old.graph.now) }
@@ -38,8 +39,8 @@ pub(crate) fn leads(looks: &mut Looks, numbers: &[u64]) -> bool
     true
 }
 
-/// Takes turns from the start until all is done that is done at a mark. An edge on the way that is
-/// done already ends it.
+/// Takes turns from the start until all that is done at a mark is done. It ends early at an edge on
+/// the way that is done already.
 pub(crate) fn rebuild(walk: &mut Walk, numbers: &[u64])
     requires walk { IsWalk walk.old }
     requires path { walk.old.path.items ≡ [] }
@@ -70,7 +71,7 @@ pub(crate) fn rebuild(walk: &mut Walk, numbers: &[u64])
     reach(walk, depth, after);
 }
 
-/// Takes turns until the walk stands at a place of the row above so many open edges.
+/// Takes turns until the walk is at a place of the row above `depth` open edges.
 fn reach(walk: &mut Walk, depth: usize, place: usize)
     requires walk { IsWalk walk.old }
     requires depth { depth ≤ length walk.old.path.items }

@@ -16,7 +16,7 @@ pub(crate) struct Saved {
 }
 
 impl Saved {
-    /// These numbers, with room for so many.
+    /// These numbers, with room for `room` numbers.
     pub fn new(alloc: Global, numbers: &[u64], room: usize) -> Result<Saved, AllocError>
         requires { length numbers.now ≤ room }
         ensures numbers { IfOk result (λ s. s.numbers.items ≡ numbers.now) }
@@ -33,7 +33,7 @@ impl Saved {
         })
     }
 
-    /// An edge was closed, and so many are open.
+    /// An edge was closed, and `len` are still open.
     pub fn back_to(&mut self, len: usize)
         ensures numbers { self.new.numbers ≡ self.old.numbers }
         ensures kept { self.new.kept ≡ min self.old.kept len }

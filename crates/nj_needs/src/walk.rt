@@ -32,7 +32,7 @@ pub(crate) enum Turn {
 }
 
 impl<'g> Walk<'g> {
-    /// A walk from the start, with room for every path. Fails only where memory runs out.
+    /// A walk from the start, with room for every path. Fails only if an allocation fails.
     pub fn new(alloc: Global, looks: Looks<'g>, begun: usize) -> Result<Walk<'g>, AllocError>
         requires { looks.turns ≡ saturated begun }
         ensures walk { IfOk result (λ w. IsWalk w) }

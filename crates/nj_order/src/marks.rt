@@ -17,7 +17,7 @@ struct Marks {
 }
 
 impl Marks {
-    /// No edge is marked, of so many.
+    /// None of `edge_count` edges is marked.
     fn none(alloc: Global, edge_count: usize) -> Result<Self, AllocError>
         ensures flags { IfOk result (λ marks. All (λ flag. flag ≡ false) marks.flags.items) }
         ensures len { IfOk result (λ marks. vec_len marks.flags ≡ edge_count) }

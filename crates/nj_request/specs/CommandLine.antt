@@ -20,7 +20,7 @@ short_flag id letter = record (short_option id letter) { action = Some SetTrue }
 abbrev pub long_flag : (id : List ℕ) → Rule
 long_flag id = record (long_option id) { action = Some SetTrue }
 
--- the words that are no options
+-- the words that are not options
 abbrev pub all_words : Rule
 all_words = record (new_rule (codes "words")) { action = Some Append }
 

@@ -1,4 +1,4 @@
--- The line that reports why words ask for nothing.
+-- The line that reports why words are not a valid request.
 use Rattle.std.specs.Prelude.{ℕ, List, [], ◌∷◌, ◌++◌, codes}
 use Rattle.nj_request.specs.declared.faults.ToolOption.{ToolOption}
 use Rattle.nj_request.specs.declared.faults.ToolOption.TheVariants as option

@@ -6,7 +6,7 @@ use Rattle.clap.specs.Words.{Row, all_of, fault_of, first_of, matches_of}
 use Rattle.clap.specs.Walk.{is_empty}
 use Rattle.nj_request.specs.CommandLine.{command}
 
--- the values of the options, whether the flags were given, and the words that are no options
+-- the values of the options, whether the flags were given, and the words that are not options
 pub record FieldTexts : Type 0 where
   pub tool : Option (List ℕ)
   pub file : Option (List ℕ)
@@ -24,7 +24,7 @@ pub record FieldTexts : Type 0 where
 abbrev pub is_on : (id : List ℕ) → List Row → Bool
 is_on id rows = option_map_or (λ text. bytes_eq text (codes "true")) (first_of id rows) false
 
--- the words that are no options
+-- the words that are not options
 abbrev pub words_in : List Row → List (List ℕ)
 words_in rows = unwrap_or (all_of (codes "words") rows) []
 

@@ -66,7 +66,7 @@ abbrev pub start_of : Option (List ℕ) → Result (List ℕ) UsageFault
 start_of None = Ok []
 start_of (Some text) = ok_or (said_mark text) (BadMark text)
 
--- the commands of the edges that the targets need, from a mark on, at most so many; or with `-s` those of the edges that make them
+-- the commands of the edges that the targets need, from a mark on, up to a limit; or with `-s` those of the edges that make them
 abbrev pub commands_of : FieldTexts → Result ActionText UsageFault
 commands_of fields = if fields.is_single then Ok (single_commands fields.words) else do
   take ← take_of fields.take
@@ -83,7 +83,7 @@ view_of_word name word =
     else if bytes_eq word (codes "rule") then Ok Sources
     else Err (WrongWords name)
 
--- so many levels
+-- this many levels
 abbrev pub depth_of : (text : List ℕ) → Result TargetsView UsageFault
 depth_of text = ok_or (option_map Depth (said_depth text)) (BadNumber text)
 

@@ -88,7 +88,7 @@ fn long_flag<'a>(alloc: Global, id: &'a str) -> Arg<'a>
     long_option(alloc, id).action(ArgAction::SetTrue)
 }
 
-// The words that are no options.
+// The words that are not options.
 fn all_words<'a>(alloc: Global) -> Arg<'a>
     ensures rule { rule_of result ≡ all_words }
     ensures local { result.global ≡ false }

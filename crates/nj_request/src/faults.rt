@@ -1,4 +1,4 @@
-//! Why words ask for nothing.
+//! Why words are not a valid request.
 
 ghost use Rattle.std.specs.Prelude.{◌≡◌, IfOk};
 ghost use Rattle.nj_request.specs.FaultLines.{option_text};
@@ -7,7 +7,7 @@ ghost use Rattle.nj_request.specs.declared.faults.UsageFault.TheVariants.{OutOfM
 use std::alloc::{AllocError, AllocFailed, Global};
 use std::marker::Model;
 
-/// A word of the command line, or what stands in it as the value of an option.
+/// A word of the command line, or the value of an option in it.
 #[derive(Debug, Drop)]
 pub struct Word {
     text: String,
@@ -71,22 +71,22 @@ impl ToolOption {
     }
 }
 
-/// Why the words of a command line ask for nothing.
+/// Why the words of a command line are not a valid request.
 #[derive(Debug, Drop)]
 pub enum UsageFault {
     /// The words cannot be read: an option is unknown, given twice or without its value; or no tool
-    /// is given. The word after an option is no value if it begins with `-`, but `-` itself is.
+    /// is given. The word after an option is not a value if it begins with `-`, but `-` itself is.
     Unparsed,
     /// There is no tool of this name ("Extra tools").
     UnknownTool(Word),
     /// The option does not go with the tool, or not with `-s`.
     ForeignOption { option: ToolOption, tool: Word },
-    /// The text says no number: for `--take` one below 2 to the power of 64, for the words `depth
+    /// The text is not a number: for `--take` one below 2 to the power of 64, for the words `depth
     /// N` one of at most 2147483647.
     BadNumber(Word),
-    /// The text says no mark.
+    /// The text is not a mark.
     BadMark(Word),
-    /// The words that are no options are none that the tool of this name takes ("Extra tools").
+    /// The tool of this name does not take the words given beside the options ("Extra tools").
     WrongWords(Word),
     /// An allocation failed.
     OutOfMemory,

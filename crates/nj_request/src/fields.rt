@@ -14,7 +14,7 @@ use clap::ArgMatches;
 use clap::error::ErrorKind;
 use std::alloc::Global;
 
-/// The values of the options, whether the flags were given, and the words that are no options.
+/// The values of the options, whether the flags were given, and the words that are not options.
 #[derive(Clone, Copy)]
 pub struct Fields<'m, 'w> {
     pub tool: Option<&'w str>,

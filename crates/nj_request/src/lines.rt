@@ -1,4 +1,4 @@
-//! The line that reports why words ask for nothing.
+//! The line that reports why words are not a valid request.
 
 ghost use Rattle.std.specs.Prelude.{◌≡◌, ◌++◌, IfOk, string_bytes};
 ghost use Rattle.nj_request.specs.FaultLines.{fault_line, line_of, quoting};

@@ -6,7 +6,7 @@ ghost use Rattle.nj_request.specs.Held.{begins_with_plus};
 
 const GREATEST_DEPTH: u64 = 2_147_483_647;
 
-/// The number that decimal digits say, with or without zeros in front.
+/// The number that decimal digits say, with or without leading zeros.
 pub fn number_in(text: &str) -> Option<u64>
     ensures { result ≡ said_number text.now }
 {
@@ -29,7 +29,7 @@ pub fn depth_in(text: &str) -> Option<u32>
     }
 }
 
-// Whether a plus sign stands in front, which `parse` would take.
+// Whether the text begins with a plus sign, which `parse` would take.
 fn has_plus(text: &[u8]) -> bool
     ensures { result ≡ begins_with_plus text.now }
 {

@@ -54,15 +54,15 @@ pub struct Request {
     pub action: Action,
 }
 
-/// What is to be told of the file ("Extra tools"). Targets, files and names of rules are the words
-/// that are no options, as they were written. Without targets, the file says which they are
-/// ("Default target statements").
+/// What is asked of the file ("Extra tools"). Targets, files and names of rules are the words that
+/// are not options, as they were written. Without targets, the file says which they are ("Default
+/// target statements").
 #[derive(Drop)]
 pub enum Action {
     /// `commands`: the commands of the edges that the targets need, from a mark on.
     Commands {
         targets: Vec<String>,
-        /// At most so many commands.
+        /// At most this many commands.
         take: Option<u64>,
         start: Mark,
     },
@@ -103,7 +103,7 @@ pub enum Action {
 ///
 /// # Errors
 ///
-/// The words ask for nothing, or an allocation failed.
+/// The words are not a valid request, or an allocation failed.
 pub fn read_words(alloc: Global, words: &[String]) -> Result<Request, UsageFault>
     ensures ok { IfOk result (λ request.
         request_of (map string_bytes words.now) ≡ Ok (request_text request)) }
@@ -327,7 +327,7 @@ fn view_of_pair(
     }
 }
 
-// The roots, with so many levels.
+// The roots, with this many levels.
 fn depth_of(alloc: Global, text: &str) -> Result<TargetsView, UsageFault>
     ensures ok { IfOk result (λ view. depth_of text.now ≡ Ok view) }
     ensures err { IfErr result (λ fault. (fault ≡ OutOfMemory)
@@ -382,7 +382,7 @@ fn compdb_of(alloc: Global, fields: &Fields<'_, '_>) -> Result<Action, UsageFaul
     })
 }
 
-// The words, as texts of their own.
+// The words, as owned strings.
 fn owned(alloc: Global, words: Option<&[&str]>) -> Result<Vec<String>, AllocError>
     ensures { IfOk result (λ texts. map string_bytes texts.items ≡ word_texts words.entry) }
 {

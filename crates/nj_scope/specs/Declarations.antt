@@ -35,7 +35,7 @@ TakesIn old new number around item =
       discovered = None;
     } ∷ entries)
 
--- What was held before is held still.
+-- What was held before is still held.
 abbrev pub Keeps : (old new : DeclarationsText) → Type 0
 Keeps old new = (entries : List list.Entry) → DeclaredBy old entries → DeclaredBy new entries
 

@@ -1,4 +1,4 @@
--- How a late value is held: one text, and of each part where it stands there.
+-- How a late value is held: one text, and for each part, where it is in that text.
 use Rattle.std.specs.Prelude.{ℕ, ◌≤◌, Bool, true, false, List, map, length, slice_range}
 use Rattle.std.specs.List.{AllByRecursion}
 use Rattle.nj_text.specs.Words.{PartText, Text, Name}

@@ -11,7 +11,7 @@ pub mod Readings
 pub mod Rules
 pub mod Scopes
 pub mod Sources
--- how what the code holds is that
+-- how the code holds that
 pub mod Declarations
 pub mod LateHeld
 pub mod MemoryHeld

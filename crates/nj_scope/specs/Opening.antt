@@ -15,7 +15,7 @@ pub record IsKnown (before after : SourceState) (old new : List Reading) (path :
   pub table_stays : new ≡ old
   pub source_stays : after ≡ before
 
--- The path is new: it was read of the source once, and the reading is kept.
+-- The path is new: it was read once from the source, and the reading is kept.
 pub record IsReadNow (before after : SourceState) (old new : List Reading) (reading : Reading) : Type 0 where
   pub was_not_read : is_read old reading.path ≡ false
   pub read : HasRead before after (reading ∷ [])

@@ -6,8 +6,7 @@ use Rattle.nj_scope.specs.Rules.{line_kept, phony, phony_rule}
 use Rattle.nj_manifest.specs.Statements.{StatementText, BindingText, RuleText, PoolText, IncludeText, SubninjaText}
 use Rattle.nj_scope.specs.Scopes.{or_else, nearest, Bounds, value_in, expanded}
 
--- What a dyndep file adds to a build statement ("Dynamic Dependencies" in the manual): outputs and inputs that it has besides, by
--- their clean paths.
+-- What a dyndep file adds to a build statement ("Dynamic Dependencies" in the manual): outputs and inputs, by their clean paths.
 pub record Discovered : Type 0 where
   pub outputs : List (List ℕ)
   pub inputs : List (List ℕ)
@@ -33,7 +32,7 @@ scope_of e = e.number ∷ e.around
 
 -- ---- values
 
--- what a statement binds to a name, where its own value is expanded so
+-- what a statement binds to a name, where the names in its value have these values
 abbrev pub binds : (value : List ℕ → List ℕ) → StatementText → (name : List ℕ) → Option (List ℕ)
 binds value (BindingText bound word) name = if bytes_eq name bound then Some (expanded value word.parts) else None
 binds value item name = None

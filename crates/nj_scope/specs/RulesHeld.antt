@@ -1,4 +1,4 @@
--- How a rule is held: its lines, and of each key where the last line stands.
+-- How a rule is held: its lines, and for each key, where its last line is.
 use Rattle.std.specs.Prelude.{◌≡◌, ℕ, ◌<◌, Bool, if◌then◌else◌, Some, option_map, unwrap_or, List, [], ◌∷◌, ◌++◌, map, length, slice_get, bytes_eq}
 use Rattle.std.specs.List.{list_any}
 use Rattle.nj_text.specs.Words.{PartText}

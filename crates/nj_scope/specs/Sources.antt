@@ -19,8 +19,8 @@ pub record SourceState : Type 0 where
 abbrev pub IsAsSaid : SourceState → Reading → Type 0
 IsAsSaid source r = IfSome (source.files r.path) (λ said. r.bytes ≡ said)
 
--- These were read of the source: it reports just them after those of before, it found what it said that it would, and it says
--- the same of its files as before.
+-- These were read from the source: it reports exactly them after the earlier ones, it found what it said that it would, and it says the
+-- same of its files as before.
 pub record HasRead (before after : SourceState) (readings : List Reading) : Type 0 where
   pub told : after.readings ≡ option_map (λ rs. rs ++ readings) before.readings
   pub as_said : AllByRecursion (IsAsSaid before) readings

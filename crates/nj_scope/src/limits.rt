@@ -9,7 +9,7 @@ use nj_text::{leading_number, version_of};
 const VERSION: (u64, u64) = (1, 11);
 
 /// Whether an expanded text is the depth of a pool: it begins with a digit, and the number that its
-/// first digits make is at most 2147483647. What follows the digits does not count ("Pools" in the
+/// first digits make is at most 2147483647. What follows the digits is ignored ("Pools" in the
 /// Ninja manual).
 pub fn is_depth(text: &[u8]) -> bool
     ensures { result ≡ is_depth text.now }

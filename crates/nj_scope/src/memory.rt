@@ -48,7 +48,7 @@ impl Model for MemoryFiles {
 }
 
 impl MemoryFiles {
-    /// No files. It takes no memory.
+    /// No files. It allocates nothing.
     pub fn new(alloc: Global) -> MemoryFiles
         ensures { result ≡ record { added = []; readings = []; failures = 0; due = 0 } }
     {
@@ -61,7 +61,7 @@ impl MemoryFiles {
         }
     }
 
-    /// Adds a file. Of a name that is added again the last bytes count.
+    /// Adds a file. If a name is added again, the last bytes count.
     pub fn add(&mut self, name: &str, bytes: &[u8]) -> Result<(), AllocError>
         ensures added { OnOk result (self.new ≡ record self.old {
           added = self.old.added ++ record { name = name.now; bytes = bytes.now } ∷ [];
@@ -77,7 +77,7 @@ impl MemoryFiles {
         Ok(())
     }
 
-    /// Lets the `n`th reading from now on fail, and that one alone; 0: none.
+    /// Makes the `n`th reading from now on fail, and that one alone; 0: none.
     pub fn fail_at(&mut self, n: u64)
         ensures { self.new ≡ record self.old { due = n } }
     {

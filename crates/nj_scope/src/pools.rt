@@ -25,7 +25,7 @@ impl Model for Pools {
 }
 
 impl Pools {
-    /// Only `console`. It takes no memory.
+    /// Only `console`. It allocates nothing.
     pub fn new(alloc: Global, keys: HashKeys) -> Pools
         ensures { result ≡ [] }
     {

@@ -24,7 +24,7 @@ pub struct Rule {
     scope: usize,
     name: Vec<u8>,
     lines: Vec<RuleLine>,
-    // of each key the index of the last line, from the end
+    // for each key the index of its last line, from the end
     last: Vec<usize>,
 }
 
@@ -120,7 +120,7 @@ impl Rule {
         &line_at(&self.lines, &self.last, number).value
     }
 
-    /// The number of a key. `None` if no line has it. Takes as long as there are different keys.
+    /// The number of a key. `None` if no line has it. Takes time linear in the different keys.
     pub fn key_number(&self, key: &[u8]) -> Option<usize>
         ensures some { IfSome result (IsNumber self.now.lines key.now) }
         ensures none { IfNone result (given self.now.lines key.now ≡ None) }
@@ -140,7 +140,7 @@ impl Rule {
     }
 }
 
-// The line of which the index stands at this place.
+// The line whose index is at this place.
 fn line_at<'a>(lines: &'a [RuleLine], indexes: &[usize], place: usize) -> &'a RuleLine
     requires place { place < length indexes.now }
     requires index { slice_index indexes.now place < length lines.now }
@@ -165,7 +165,7 @@ fn number_among(lines: &[RuleLine], indexes: &[usize], key: &[u8]) -> Option<usi
     None
 }
 
-// Of each key the index of the last line, from the end.
+// For each key the index of its last line, from the end.
 fn last_of_keys(alloc: Global, lines: &[RuleLine]) -> Result<Vec<usize>, AllocError>
     ensures { IfOk result (λ last. AreIndexes (map line_held lines.now) last.items
         (last_lines (map line_held lines.now))) }

@@ -217,8 +217,8 @@ impl Scopes {
     }
 }
 
-// Sets the value of the name. The name is hashed once, for which even a name that has a value, and
-// keeps its key, is copied: most names that files bind are new.
+// Sets the value of the name. The name is hashed once; for that it is copied even if it has a
+// value, and so keeps its key: most names that files bind are new.
 fn set_value(
     alloc: Global,
     values: &mut IndexMap<Vec<u8>, Vec<u8>, HashKeys>,

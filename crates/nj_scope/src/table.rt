@@ -31,7 +31,7 @@ impl Model for FileTable {
 }
 
 impl FileTable {
-    /// A table of no file, whose paths are hashed by these keys. It takes no memory.
+    /// A table of no file, whose paths are hashed by these keys. It allocates nothing.
     pub fn new(alloc: Global, keys: HashKeys) -> FileTable
         ensures { result ≡ [] }
     {

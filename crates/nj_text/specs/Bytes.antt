@@ -33,7 +33,7 @@ is_ordinary_byte b = not (b == 36 || b == 10 || b == 13 || b == 0)
 abbrev pub is_word_byte : ℕ → Bool
 is_word_byte b = is_ordinary_byte b && not (b == 32 || b == 58 || b == 124)
 
--- the list without the longest front whose elements all pass the test
+-- the list without its longest prefix whose elements all pass the test
 abbrev pub drop_while : {X : Type 0} → (X → Bool) → List X → List X
 drop_while p [] = []
 drop_while p (x ∷ xs) = cond (p x) (drop_while p xs) (x ∷ xs)

@@ -48,7 +48,7 @@ abbrev pub is_empty : {A : Type 0} → List A → Bool
 is_empty [] = true
 is_empty (x ∷ xs) = false
 
--- how a line begins that is no comment
+-- how a line that is not a comment begins
 abbrev pub begun_by : Kind → Line → List Line → Reply LineStart
 begun_by CommentLine l ls = reply start.Plain (Inside l ls)
 begun_by (TabLine tab) l ls = failing (fault.Tab tab)
@@ -61,7 +61,7 @@ abbrev pub is_comment : Kind → Bool
 is_comment CommentLine = true
 is_comment kind = false
 
--- the lines from the first on that is no comment
+-- the lines from the first one that is not a comment
 abbrev pub without_comments : List Line → List Line
 without_comments [] = []
 without_comments (l ∷ ls) = if is_comment (kind_of l) then lines_after l (without_comments ls) else l ∷ ls

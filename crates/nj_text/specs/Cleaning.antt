@@ -1,4 +1,4 @@
--- How the code cleans a path: piece by piece, with the parts that stand so far. Nothing here has to be believed.
+-- How the code cleans a path: piece by piece, with the parts that are kept so far. Nothing here has to be believed.
 use Rattle.std.specs.Prelude.{◌≡◌, ℕ, suc, ◌+◌, ◌≤◌, ◌⊎◌, nat_lt, Bool, true, false, not, ◌&&◌, ◌||◌, ◌==◌, drop, if◌then◌else◌, Option, Some, None, List, [], ◌∷◌, ◌++◌, length, replicate}
 use Rattle.std.specs.List.{slice_split, join_with_byte, list_any, AllByRecursion}
 use Rattle.nj_text.specs.declared.pieces.Piece.{Piece}
@@ -14,7 +14,7 @@ abbrev pub pieces_left : Option (List ℕ) → List (List ℕ)
 pieces_left None = []
 pieces_left (Some text) = slice_split is_slash text
 
--- the parts that stand so far: how many `..`, and the names after them, the last one first
+-- the parts that are kept so far: how many `..`, and the names after them, the last one first
 pub record Kept : Type 0 where
   pub ups : ℕ
   pub names : List (List ℕ)
@@ -59,11 +59,11 @@ pub record IsWritten (absolute : Bool) (base : List ℕ) (kept : Kept) (front fl
 abbrev pub BeginsWith : List ℕ → List ℕ → Type 0
 BeginsWith front whole = (rest : List ℕ) × (whole ≡ front ++ rest)
 
--- what stands after some bytes, with a part more from `front` on: after a slash, unless it is the first
+-- some bytes with one more part, of those from `front` on: after a slash, unless it is the first
 abbrev pub with_part : ℕ → List ℕ → List ℕ → List ℕ
 with_part front out part = if nat_lt front (length out) then out ++ 47 ∷ part else out ++ part
 
--- the last name is gone, with the slash before it if that stands above the floor
+-- the last name is gone, with the slash before it if that is above the floor
 abbrev pub DropsName : ℕ → List ℕ → List ℕ → Type 0
 DropsName floor old new =
     (name : List ℕ) × (list_any is_slash name ≡ false)

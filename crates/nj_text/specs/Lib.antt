@@ -10,7 +10,7 @@ pub mod Paths
 pub mod PathLaws
 pub mod Quotes
 pub mod QuoteLaws
--- how the scans and states of the code are that: no public contract cites it
+-- how the scans and states of the code match that: no public contract cites it
 pub mod Runs
 pub mod Scans
 pub mod Gathering

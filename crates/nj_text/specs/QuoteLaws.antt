@@ -35,7 +35,7 @@ abbrev pub word_from : ShellStand → List ℕ → Option (List ℕ)
 word_from stand [] = ends stand
 word_from stand (b ∷ bs) = joined_words (added stand b) (word_from (stand_after stand b) bs)
 
--- the word that a shell makes of a text; none of the empty text
+-- the word that a shell makes of a text; `None` for the empty text
 abbrev pub shell_word : List ℕ → Option (List ℕ)
 shell_word [] = None
 shell_word (b ∷ bs) = word_from Unquoted (b ∷ bs)

@@ -19,7 +19,7 @@ fn push_part(out: &mut Vec<u8>, front: usize, part: &[u8]) -> Result<(), AllocEr
     out.extend_from_slice(part)
 }
 
-/// Takes the last name off, and the slash before it.
+/// Removes the last name, and the slash before it.
 fn drop_name(out: &mut Vec<u8>, floor: usize)
     requires { floor ≤ length out.old.items }
     ensures { DropsName floor out.old.items out.new.items }
@@ -31,8 +31,8 @@ fn drop_name(out: &mut Vec<u8>, floor: usize)
     }
 }
 
-/// Adds a piece to the parts that stand from `front` on, the names among them from `floor` on;
-/// returns the new floor.
+/// Adds a piece to the parts from `front` on, of which the names are from `floor` on; returns the
+/// new floor.
 fn add_piece(
     out: &mut Vec<u8>,
     absolute: bool,

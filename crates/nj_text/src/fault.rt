@@ -1,4 +1,4 @@
-//! Why a text could not be read on.
+//! Why a text could not be read further.
 
 ghost use Rattle.std.specs.Prelude.{◌≡◌};
 ghost use Rattle.nj_text.specs.declared.fault.LexFault.TheVariants.{Unit as BadUnit, OutOfMemory};
@@ -31,7 +31,7 @@ impl UnitFault {
     }
 }
 
-/// Why a text could not be read on.
+/// Why a text could not be read further.
 #[derive(Clone, Copy, Debug, PartialEq, Eq)]
 pub enum LexFault {
     /// A bad unit of the text.

@@ -15,7 +15,7 @@ use std::simd::prelude::*;
 /// How many bytes a vector has.
 pub const LANES: usize = 16;
 
-/// A bit for each lane, set where the byte is none of the run.
+/// A bit for each lane, set where the byte is not one of the run.
 #[inline(always)]
 pub fn stops(run: Run, lanes: u8x16) -> u64
     ensures { result ≡ mask_l (map (λ b. not (in_run run b)) lanes) }

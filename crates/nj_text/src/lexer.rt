@@ -54,7 +54,7 @@ impl<'a> Lexer<'a> {
         }
     }
 
-    /// Begins the next line that is no comment. Skips a blank line, and the leading spaces of an
+    /// Begins the next line that is not a comment. Skips a blank line, and the leading spaces of an
     /// indented one. Returns [`LineStart::End`] at the end of the text, and [`LineStart::Middle`]
     /// inside a line.
     ///

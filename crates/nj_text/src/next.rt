@@ -6,7 +6,7 @@ ghost use Rattle.nj_text.specs.Scans.{NextIs, next_length, HasLength};
 use crate::dollar::{Dollar, after_dollar, line_end_length};
 use crate::runs::{first_byte, is_ordinary};
 
-/// The next unit of a line, and how many bytes it takes where that is not plain.
+/// The next unit of a line, and how many bytes it takes where that is not evident.
 #[derive(Clone, Copy)]
 pub enum Next<'a> {
     /// The end of the text.

@@ -51,7 +51,7 @@ impl TextKind {
     }
 }
 
-/// What comes next in a text, where no ordinary byte of it does.
+/// What comes next in a text, where that is not an ordinary byte of it.
 #[inline(always)]
 fn special_piece(kind: TextKind, cursor: Cursor<'_>) -> Piece<'_>
     requires { NoneInRun (in_run (run_of kind)) cursor.rest.now }

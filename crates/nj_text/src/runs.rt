@@ -88,8 +88,8 @@ fn length_by_lanes(run: Run, bytes: &[u8]) -> usize
     passed + length_by_bytes(run, &bytes[passed..])
 }
 
-/// The length of the run at the front. Runs of spaces and names after a `$` are short: sixteen at
-/// once gain nothing.
+/// The length of the run at the front. Runs of spaces and names after a `$` are short: testing
+/// sixteen bytes at once gains nothing.
 #[inline(always)]
 pub fn run_length(run: Run, bytes: &[u8]) -> usize
     ensures length { result ≡ prefix_len (in_run run) bytes.now }

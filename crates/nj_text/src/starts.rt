@@ -16,7 +16,7 @@ use crate::stand::Stand;
 /// How a line begins.
 #[derive(Clone, Copy)]
 pub enum Begun<'a> {
-    /// In this way, which leads here.
+    /// In this way, with the state and the cursor after that.
     As(LineStart, Stand<'a>, Cursor<'a>),
     /// With a fault.
     Fault(UnitFault),
@@ -40,7 +40,7 @@ fn past_comment(cursor: Cursor<'_>) -> Option<Cursor<'_>>
     Some(end.on_next_line(1, 0))
 }
 
-/// How a line begins that has neither leading spaces nor a comment.
+/// How a line with neither leading spaces nor a comment begins.
 fn begin_at_once(cursor: Cursor<'_>) -> Begun<'_>
     requires no_comment { opens_comment cursor.rest.now ≡ false }
     requires no_space { begins_with_space_byte cursor.rest.now ≡ false }
@@ -107,7 +107,7 @@ fn begin_text_line(cursor: Cursor<'_>) -> Begun<'_>
     begin_after_spaces(remainder)
 }
 
-/// How the next line begins that is no comment.
+/// How the next line that is not a comment begins.
 pub fn begin_line(start: Cursor<'_>) -> Begun<'_>
     ensures { BegunIs (without_comments (lines_at start.entry)) result }
 {

@@ -14,7 +14,7 @@ pub enum Part<'a> {
 }
 
 impl Default for Part<'_> {
-    /// No bytes: what a place for a part holds that is not used.
+    /// No bytes: what an unused place for a part holds.
     fn default() -> Self {
         Part::Bytes(b"")
     }

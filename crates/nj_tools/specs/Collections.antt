@@ -5,7 +5,7 @@ use Rattle.nj_edges.specs.EdgesHeld.{has_number}
 use Rattle.nj_edges.specs.Files.{path_at}
 use Rattle.nj_tools.specs.Listings.{each_once}
 
--- files of a graph of so many
+-- files of a graph that has `count` files
 pub record Collection : Type 0 where
   pub count : ℕ
   pub files : List FileNo
@@ -14,11 +14,11 @@ pub record Collection : Type 0 where
 abbrev pub is_collected : List FileNo → FileNo → Bool
 is_collected files file = has_number file.0 files
 
--- the files with one more, at the end, unless it is there
+-- the files with one more at the end, unless it is there already
 abbrev pub with_file : List FileNo → FileNo → List FileNo
 with_file files file = if is_collected files file then files else files ++ file ∷ []
 
--- the flags are set of these files alone
+-- the flags are set for exactly these files
 abbrev pub IsFlagged : (flags : List Bool) → List FileNo → Type 0
 IsFlagged flags files = (file : FileNo) → file.0 < length flags → slice_index_or flags file.0 false ≡ is_collected files file
 

@@ -22,7 +22,7 @@ command_lines entries numbers = flat_map (command_line entries) numbers
 
 -- ---- the needed edges
 
--- of the edges that are left, those that are written, and those that are left after that, where a number of edges may be taken
+-- of the edges that are left, those that are written, and those that are left after that, where at most `limit` edges are taken
 abbrev pub written : (limit : Option ℕ) → (left : List ℕ) → List ℕ
 written None left = left
 written (Some limit) left = take limit left
@@ -31,8 +31,8 @@ abbrev pub left_after : (limit : Option ℕ) → (left : List ℕ) → List ℕ
 left_after None left = []
 left_after (Some limit) left = drop limit left
 
--- The mark at which the writing stops: none where no edge is left, else that of the edge that was written last, or where the
--- walk stood before.
+-- The mark at which the writing stops: `None` if no edge is left; else that of the edge that was written last, or, if none was, the mark at
+-- which the walk was before.
 abbrev pub StopsAt : WalkState → (limit : Option ℕ) → (mark : Option (List ℕ)) → Type 0
 StopsAt walk limit None = left_after limit walk.left ≡ []
 StopsAt walk limit (Some mark) =
@@ -49,11 +49,11 @@ single e = e ∷ []
 abbrev pub own_makers_in : List EdgePaths → (paths : List (List ℕ)) → List ℕ
 own_makers_in edges paths = flat_map (made_by single) (row_of_paths edges paths)
 
--- those of the targets, each once, where it comes first, but the phony ones, which have no command
+-- the makers of the targets, each once, where it comes first, except the phony ones, which have no command
 abbrev pub own_commands_in : List EdgePaths → (targets : List (List ℕ)) → List ℕ
 own_commands_in edges targets = filter (λ e. not (is_phony_in edges e)) (first_occurrences (own_makers_in edges targets))
 
--- the same of files by their numbers
+-- the same for files by their numbers
 abbrev pub own_makers : EdgeGraph → (files : List FileNo) → List ℕ
 own_makers g files = own_makers_in g.edges (map (path_at g.files) files)
 

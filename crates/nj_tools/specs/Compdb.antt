@@ -33,7 +33,7 @@ has_object entries rules e = not e.paths.is_phony && has_any (inputs_of e.paths)
 unfoldable pub listed_edges : List Entry → (rules : List (List ℕ)) → List ℕ
 listed_edges entries rules = edges_from 0 (has_object entries rules) (edges_read entries)
 
--- ---- what is told of an edge
+-- ---- what is written of an edge
 
 -- the command of an edge, and its first input and output of any kind
 pub record Compilation : Type 0 where
@@ -83,11 +83,11 @@ objects_text directory [] = []
 objects_text directory (c ∷ others) =
     10 ∷ (object_text directory c ++ flat_map (λ other. 44 ∷ 10 ∷ object_text directory other) others)
 
--- those of the edges before the first one that JSON cannot hold
+-- what is written of the edges before the first one that JSON cannot hold
 abbrev pub held_before : List Entry → (rules : List (List ℕ)) → (expand : Bool) → List Compilation
 held_before entries rules expand = take_while is_text (map (compilation_of entries expand) (listed_edges entries rules))
 
--- that edge
+-- the first edge that JSON cannot hold
 abbrev pub unheld_edge : List Entry → (rules : List (List ℕ)) → (expand : Bool) → Option ℕ
 unheld_edge entries rules expand = find (λ edge. not (is_text (compilation_of entries expand edge))) (listed_edges entries rules)
 
@@ -102,14 +102,14 @@ compdb_text entries directory rules expand =
 
 -- ---- what the tool does to its sink
 
--- The sink took the whole text; or JSON cannot hold what is told of an edge, and the sink took all before that; or it failed
--- within the text; or memory ran out after a beginning of it.
+-- The sink took the whole text; or JSON cannot hold a text of an edge, and the sink took all before that edge; or it failed within the
+-- text; or memory ran out after a prefix of it.
 abbrev pub WritesCompdb : (old new : SinkState) → (text : List ℕ) → (unheld : Option ℕ) → Result Unit ToolFault → Type 0
 WritesCompdb old new text unheld (Ok done) = (unheld ≡ None) × Takes old new text
 WritesCompdb old new text unheld (Err (TextNotUtf8 edge)) = (unheld ≡ Some edge.0) × Takes old new text
 WritesCompdb old new text unheld (Err fault) = StopsWithin old new text fault
 
--- the edge of a fault is one of so many
+-- the edge that a fault names is one of `count` edges
 abbrev pub NamesEdge : (count : ℕ) → ToolFault → Type 0
 NamesEdge count (TextNotUtf8 edge) = edge.0 < count
 NamesEdge count Write = Unit {0}

@@ -6,7 +6,7 @@ use Rattle.nj_edges.specs.Needs.{makers_of_inputs}
 use Rattle.nj_build.specs.EdgeList.{edges_read, paths_of_edges}
 use Rattle.nj_tools.specs.Listings.{levels_of, tree_text}
 
--- Where no edge needs itself by a chain, depth 0 shows each tree whole: with more levels it is the same.
+-- Where no edge needs itself by a chain, depth 0 shows each tree whole: more levels change nothing.
 abbrev pub DepthZeroShowsAll : Type 0
 DepthZeroShowsAll = (entries : List Entry)
     → IsAcyclic (makers_of_inputs (paths_of_edges (edges_read entries))) (length (paths_of_edges (edges_read entries)))

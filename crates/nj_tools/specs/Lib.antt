@@ -8,7 +8,7 @@ pub mod Queries
 pub mod RuleLists
 pub mod Compdb
 pub mod Laws
--- how what the code does is that
+-- how the code does that
 pub mod Blocks
 pub mod Collections
 pub mod QueriesHeld

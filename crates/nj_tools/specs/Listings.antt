@@ -23,7 +23,7 @@ abbrev pub each_once : List (List ℕ) → List (List ℕ)
 each_once [] = []
 each_once (path ∷ paths) = path ∷ filter (λ other. not (bytes_eq other path)) (each_once paths)
 
--- by their bytes
+-- in byte order
 abbrev pub sorted : List (List ℕ) → List (List ℕ)
 sorted texts = sorted_by is_before texts
 
@@ -35,7 +35,7 @@ needed_inputs edges targets =
     flat_map (λ e. inputs_of (edge_at edges e))
     (needed_commands (makers_in edges) (length edges) (is_phony_in edges) (row_of_paths edges targets))
 
--- each of them once, as a shell is given it, by the bytes of that text
+-- each of them once, quoted for a shell, in byte order of the quotes
 unfoldable pub inputs_text : List EdgePaths → (targets : List (List ℕ)) → List ℕ
 inputs_text edges targets = lines (sorted (map quoted (each_once (needed_inputs edges targets))))
 
@@ -50,7 +50,7 @@ outputs_of_rule entries rule =
 abbrev pub sources_in : List EdgePaths → List (List ℕ)
 sources_in edges = filter (λ path. is_none (maker_of edges path)) (flat_map inputs_of edges)
 
--- each path once, by its bytes
+-- a line for each path, once, in byte order
 abbrev pub sorted_lines : List (List ℕ) → List ℕ
 sorted_lines paths = lines (sorted (each_once paths))
 
@@ -79,7 +79,7 @@ abbrev pub indent : (depth : ℕ) → List ℕ
 indent zero = []
 indent (suc depth) = codes "  " ++ indent depth
 
--- A file at a depth, then what it is made of, one level deeper, and so on: so many levels of it.
+-- A file at a depth, then what it is made of, one level deeper, and so on, for this many levels.
 unfoldable pub tree_text : List Entry → (levels depth : ℕ) → (path : List ℕ) → List ℕ
 tree_text entries zero depth path = []
 tree_text entries (suc levels) depth path =
@@ -87,8 +87,8 @@ tree_text entries (suc levels) depth path =
     indent depth ++ file_line entries (maker_of edges path) path
     ++ flat_map (tree_text entries levels (depth + 1)) (inputs_of_maker edges (maker_of edges path))
 
--- How many levels are asked for; 0 is all levels. Where no edge needs itself by a chain, a chain of files that are made of each
--- other has a file for each edge and a source at most.
+-- How many levels are asked for; 0 is all levels. Where no edge needs itself by a chain, a chain of files, each made of the next, has at
+-- most one file for each edge and a source.
 abbrev pub levels_of : List EdgePaths → (depth : ℕ) → ℕ
 levels_of edges depth = if depth == 0 then length edges + 1 else depth
 
@@ -108,7 +108,7 @@ targets_text entries All = outputs_text entries
 
 -- ---- laws
 
--- The lines of a list rise by their bytes, so that each stands once.
+-- The lines of a list are in strictly ascending byte order, so that each occurs once.
 abbrev pub LinesRise : Type 0
 LinesRise = (paths : List (List ℕ)) → IsStrictlySortedBy (slice_cmp nat_cmp) (sorted (each_once paths))
 
@@ -116,7 +116,7 @@ LinesRise = (paths : List (List ℕ)) → IsStrictlySortedBy (slice_cmp nat_cmp)
 abbrev pub ListedHaveLines : Type 0
 ListedHaveLines = (paths : List (List ℕ)) (path : List ℕ) → Contains (sorted (each_once paths)) path ↔ Contains paths path
 
--- The lines of `inputs` rise by their bytes, so that each stands once.
+-- The lines of `inputs` are in strictly ascending byte order, so that each occurs once.
 abbrev pub QuotedLinesRise : Type 0
 QuotedLinesRise =
     (paths : List (List ℕ)) → IsStrictlySortedBy (slice_cmp nat_cmp) (sorted (map quoted (each_once paths)))

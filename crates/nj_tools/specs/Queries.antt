@@ -49,6 +49,6 @@ query_in entries edges path =
 abbrev pub file_query : List Entry → (path : List ℕ) → List ℕ
 file_query entries path = query_in entries (paths_of_edges (edges_read entries)) path
 
--- of the files in their order; a file that is named twice stands twice
+-- of the files in their order; a file that is named twice is listed twice
 abbrev pub query_text : List Entry → (paths : List (List ℕ)) → List ℕ
 query_text entries paths = flat_map (file_query entries) paths

@@ -17,7 +17,7 @@ abbrev pub has_bytes : List ℕ → Bool
 has_bytes [] = false
 has_bytes (byte ∷ bytes) = true
 
--- one failure more, for a count that stays at its greatest value
+-- one more failure, in a count that stays at its greatest value
 abbrev pub one_more : ℕ → ℕ
 one_more failures = min (failures + 1) (2 ^ 64 - 1)
 
@@ -33,7 +33,7 @@ pub record FailsAfter (old new : SinkState) (bytes : List ℕ) : Type 0 where
   pub failures : new.failures ≡ one_more old.failures
   pub took_since_failure : new.took_since_failure ≡ false
 
--- what an answer of `put` says: an error, or 0 of some bytes, is a failure
+-- what a result of `put` says: an error, or 0 for a text that is not empty, is a failure
 abbrev pub Puts : SinkState → SinkState → List ℕ → Result ℕ SinkFault → Type 0
 Puts old new [] (Ok count) = (count ≡ 0) × Takes old new []
 Puts old new (byte ∷ bytes) (Ok zero) = FailsAfter old new []
@@ -41,11 +41,11 @@ Puts old new (byte ∷ bytes) (Ok (suc more)) =
     (suc more ≤ length (byte ∷ bytes)) × Takes old new (take (suc more) (byte ∷ bytes))
 Puts old new bytes (Err fault) = FailsAfter old new []
 
--- the front is a beginning of the text, and not all of it
+-- the front is a proper prefix of the text
 abbrev pub IsCutShort : List ℕ → List ℕ → Type 0
 IsCutShort front text = (rest : List ℕ) × (front ++ rest ≡ text) × (rest ≢ [])
 
--- what the end of a whole write says: the sink took the text, or failed once after a beginning of it
+-- what the result of a whole write says: the sink took the text, or failed once after a proper prefix of it
 abbrev pub Writes : SinkState → SinkState → List ℕ → Result Unit SinkFault → Type 0
 Writes old new text (Ok done) = Takes old new text
 Writes old new text (Err fault) = (front : List ℕ) × IsCutShort front text × FailsAfter old new front

@@ -5,22 +5,21 @@ use Rattle.nj_tools.specs.Sinks.{SinkState, Takes, FailsAfter, IsCutShort}
 use Rattle.nj_tools.specs.declared.fault.ToolFault.{ToolFault}
 use Rattle.nj_tools.specs.declared.fault.ToolFault.TheVariants.{TextNotUtf8, Write, OutOfMemory}
 
--- the sink took a beginning of the text, and not all of it; then it failed once, and took nothing after that
+-- the sink took a proper prefix of the text, then failed once, and took nothing after that
 abbrev pub FailsWithin : (old new : SinkState) → (text : List ℕ) → Type 0
 FailsWithin old new text = (front : List ℕ) × IsCutShort front text × FailsAfter old new front
 
--- the sink took a beginning of the text, or all of it, and did not fail
+-- the sink took a prefix of the text, or all of it, and did not fail
 abbrev pub TakesFront : (old new : SinkState) → (text : List ℕ) → Type 0
 TakesFront old new text = (front : List ℕ) × IsPrefix front text × Takes old new front
 
--- What a fault says: the sink failed within the text, or memory ran out after a beginning of it. No text of these tools has to be
--- UTF-8.
+-- What a fault says: the sink failed within the text, or memory ran out after a prefix of it. No text of these tools has to be UTF-8.
 abbrev pub StopsWithin : (old new : SinkState) → (text : List ℕ) → ToolFault → Type 0
 StopsWithin old new text Write = FailsWithin old new text
 StopsWithin old new text OutOfMemory = TakesFront old new text
 StopsWithin old new text (TextNotUtf8 edge) = ⊥
 
--- The sink took the whole text, or this stopped it within.
+-- The sink took the whole text, or this fault stopped it within.
 abbrev pub WritesText : {X : Type 0} → (old new : SinkState) → (text : List ℕ) → Result X ToolFault → Type 0
 WritesText old new text (Ok done) = Takes old new text
 WritesText old new text (Err fault) = StopsWithin old new text fault

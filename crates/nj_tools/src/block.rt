@@ -1,14 +1,14 @@
-//! Text on its way to a sink: it goes out in blocks, from one buffer that is used again.
+//! Text on its way to a sink: it is written in blocks, from one buffer that is reused.
 
 ghost use Rattle.nj_tools.specs.Blocks.{PutsBlock};
 
 use crate::sinks::{Sink, SinkFault};
 use crate::whole::write_whole;
 
-// Text goes out once there are so many bytes of it.
+// Text is written once there are this many bytes of it.
 const BLOCK: usize = 65536;
 
-/// Writes the text and clears it if there is a block of it; else it stays for later.
+/// Writes the text and clears it if it fills a block; else keeps it for later.
 pub(crate) fn write_block<S: Sink>(sink: &mut S, text: &mut Vec<u8>) -> Result<(), SinkFault>
     ensures { PutsBlock (S.state sink.old) (S.state sink.new) text.old.items text.new.items result }
 {

@@ -6,7 +6,7 @@ ghost use Rattle.nj_tools.specs.Compdb.{is_chosen};
 use std::alloc::{AllocError, Global};
 use std::marker::Model;
 
-/// The names of rules, by their bytes; without any name all rules are meant.
+/// The names of rules, in byte order; without any name, all rules are chosen.
 #[derive(Drop)]
 pub(crate) struct ChosenRules<'a> {
     names: Vec<&'a [u8]>,
@@ -39,7 +39,7 @@ impl<'a> ChosenRules<'a> {
         Ok(ChosenRules { names })
     }
 
-    /// Whether the rule of this name is meant.
+    /// Whether the rule of this name is chosen.
     pub(crate) fn includes(&self, rule: &[u8]) -> bool
         ensures { result ≡ is_chosen self.now rule.now }
     {

@@ -27,7 +27,7 @@ impl Model for Collected {
 }
 
 impl Collected {
-    /// No file yet, of a graph of so many.
+    /// No files yet, for a graph of `count` files.
     pub(crate) fn new(alloc: Global, count: usize) -> Result<Collected, AllocError>
         ensures { IfOk result (λ c. c ≡ record { count = count; files = [] }) }
     {
@@ -37,7 +37,7 @@ impl Collected {
         })
     }
 
-    /// Adds a file at the end, unless it is there.
+    /// Appends a file, unless it is there already.
     pub(crate) fn add(&mut self, file: FileNo) -> Result<(), AllocError>
         requires { file.0 < self.old.count }
         ensures count { self.new.count ≡ self.old.count }
@@ -50,7 +50,7 @@ impl Collected {
         Ok(())
     }
 
-    /// Adds files at the end, but those that are there.
+    /// Appends files, except those that are there already.
     pub(crate) fn add_all(&mut self, files: &[FileNo]) -> Result<(), AllocError>
         requires { All (λ file. file.0 < self.old.count) files.now }
         ensures count { self.new.count ≡ self.old.count }

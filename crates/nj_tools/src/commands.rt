@@ -18,15 +18,15 @@ use nj_graph::{EdgeNo, FileNo, Graph};
 use nj_needs::{Mark, Needs};
 use std::alloc::{AllocError, Global};
 
-/// Writes the commands of the edges that are left to a walk over this graph, a line each; with
-/// `take` no more than so many. Returns the mark at which the walk can go on if more are left, and
-/// `None` if not ("Extra tools" in the Ninja manual, `commands`). After this call the walk itself
-/// is of no more use.
+/// Writes the commands of the edges that are left to a walk over this graph, a line each; at most
+/// `take` of them if that is given. Returns the mark at which the walk can go on if more are left,
+/// and `None` if not ("Extra tools" in the Ninja manual, `commands`). The walk itself must not be
+/// used again after this call.
 ///
 /// # Errors
 ///
-/// `Write` if the sink failed, and `OutOfMemory` if an allocation failed. The sink took a beginning
-/// of the text then.
+/// `Write` if the sink failed, and `OutOfMemory` if an allocation failed. The sink has then taken a
+/// prefix of the text.
 pub fn write_commands<S: Sink>(
     alloc: Global,
     graph: &Graph,
@@ -59,8 +59,8 @@ pub fn write_commands<S: Sink>(
 ///
 /// # Errors
 ///
-/// `Write` if the sink failed, and `OutOfMemory` if an allocation failed. The sink took a beginning
-/// of the text then.
+/// `Write` if the sink failed, and `OutOfMemory` if an allocation failed. The sink has then taken a
+/// prefix of the text.
 pub fn write_single_commands<S: Sink>(
     alloc: Global,
     graph: &Graph,
@@ -83,7 +83,7 @@ pub fn write_single_commands<S: Sink>(
     Ok(())
 }
 
-// The edge that makes a file, if it is not phony and was not seen before. From then on it is seen.
+// The edge that makes a file, if it is not phony and was not seen before. It is marked as seen.
 fn new_maker(graph: &Graph, file: FileNo, seen: &mut [bool]) -> Option<EdgeNo>
     requires file { file.0 < length (files_of graph.now) }
     requires seen { length seen.old ≡ length (edges_of graph.now) }
@@ -116,7 +116,7 @@ fn one_fewer(remaining: Option<u64>) -> Option<u64>
     }
 }
 
-// Appends the command of an edge to the text that waits, and writes that if there is a block of it.
+// Appends the command of an edge to the text that waits, and writes that if it fills a block.
 fn write_command<S: Sink>(
     graph: &Graph,
     edge: EdgeNo,

@@ -39,7 +39,7 @@ use std::marker::Model;
 ///
 /// `TextNotUtf8` if the command, the first input or the first output of an edge is not UTF-8: the
 /// sink took the objects before it, without the end of the list. `Write` if the sink failed, and
-/// `OutOfMemory` if an allocation failed; the sink took a beginning of the text then.
+/// `OutOfMemory` if an allocation failed; the sink has then taken a prefix of the text.
 pub fn write_compdb<S: Sink>(
     alloc: Global,
     graph: &Graph,
@@ -117,7 +117,7 @@ fn has_object(graph: &Graph, edge: EdgeNo, chosen: &ChosenRules<'_>) -> bool
         && chosen.includes(graph.rule_name(edge))
 }
 
-// What is told of an edge, as strings in JSON.
+// What is written of an edge, as strings in JSON.
 #[derive(Drop)]
 struct Strings {
     command: Vec<u8>,
@@ -230,7 +230,7 @@ fn append_object(
     text.extend_from_slice(b"  }")
 }
 
-// Appends a name, its string, and what stands after it.
+// Appends a name, its string, and what follows it.
 fn append_member(
     text: &mut Vec<u8>,
     name: &[u8],

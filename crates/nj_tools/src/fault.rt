@@ -10,7 +10,7 @@ use std::alloc::{AllocError, AllocFailed};
 /// Why a tool stopped before the end of its text.
 #[derive(Clone, Copy, Debug, PartialEq, Eq)]
 pub enum ToolFault {
-    /// What is told of this edge is not UTF-8, so that JSON cannot hold it; `compdb` alone.
+    /// A text of this edge is not UTF-8, so that JSON cannot hold it; from `compdb` only.
     TextNotUtf8(EdgeNo),
     /// The sink failed.
     Write,

@@ -20,13 +20,13 @@ use nj_needs::Needs;
 use nj_text::quote_into;
 use std::alloc::{AllocError, Global};
 
-/// Writes the inputs of the edges whose commands these targets need, each once, as a shell is given
-/// it, by the bytes of that text ("Extra tools" in the Ninja manual, `inputs`).
+/// Writes the inputs of the edges whose commands these targets need, each once, quoted for a shell,
+/// in byte order of the quotes ("Extra tools" in the Ninja manual, `inputs`).
 ///
 /// # Errors
 ///
-/// `Write` if the sink failed, and `OutOfMemory` if an allocation failed. The sink took a beginning
-/// of the text then.
+/// `Write` if the sink failed, and `OutOfMemory` if an allocation failed. The sink has then taken a
+/// prefix of the text.
 pub fn write_inputs<S: Sink>(
     alloc: Global,
     graph: &Graph,
@@ -63,7 +63,7 @@ fn needed_inputs(
     Ok(inputs.into_files())
 }
 
-// The paths of files as a shell is given them, by the bytes of these texts.
+// The paths of files, quoted for a shell, in byte order of the quotes.
 fn quoted_paths(alloc: Global, graph: &Graph, files: &[FileNo]) -> Result<Vec<Vec<u8>>, AllocError>
     requires { All (λ file. file.0 < length (files_of graph.now)) files.now }
     ensures { IfOk result (λ texts. map (λ text. text.items) texts.items
@@ -77,7 +77,7 @@ fn quoted_paths(alloc: Global, graph: &Graph, files: &[FileNo]) -> Result<Vec<Ve
     Ok(texts)
 }
 
-// The path of a file as a shell is given it.
+// The path of a file, quoted for a shell.
 fn quoted_path(alloc: Global, graph: &Graph, file: FileNo) -> Result<Vec<u8>, AllocError>
     requires { file.0 < length (files_of graph.now) }
     ensures { IfOk result (λ text. text.items ≡ quoted (path_at (files_of graph.now) file)) }

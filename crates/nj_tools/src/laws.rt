@@ -3,21 +3,21 @@
 ghost use Rattle.nj_tools.specs.Laws.{DepthZeroShowsAll};
 ghost use Rattle.nj_tools.specs.Listings.{LinesRise, ListedHaveLines, QuotedLinesRise, QuotesHaveLines};
 
-/// Depth 0 shows each tree whole: where no edge needs itself by a chain, it is the same with more
-/// levels.
+/// Depth 0 shows each tree whole: where no edge needs itself by a chain, more levels change
+/// nothing.
 pub fn depth_law()
     ensures { DepthZeroShowsAll }
 {}
 
-/// The lines of `targets rule` rise by their bytes, so that each path has one line; and the paths
-/// that have a line are those that are listed.
+/// The lines of `targets rule` are in strictly ascending byte order, so that each path has one
+/// line; and the paths that have a line are those that are listed.
 pub fn list_law()
     ensures rise { LinesRise }
     ensures listed { ListedHaveLines }
 {}
 
-/// The lines of `inputs` rise by their bytes, so that no two inputs have the same line; and the
-/// lines are the quotes of the inputs.
+/// The lines of `inputs` are in strictly ascending byte order, so that no two inputs have the same
+/// line; and the lines are the quotes of the inputs.
 pub fn input_lines_law()
     ensures rise { QuotedLinesRise }
     ensures quotes { QuotesHaveLines }

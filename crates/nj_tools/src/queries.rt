@@ -32,8 +32,8 @@ use std::alloc::Global;
 ///
 /// # Errors
 ///
-/// `Write` if the sink failed, and `OutOfMemory` if an allocation failed. The sink took a beginning
-/// of the text then.
+/// `Write` if the sink failed, and `OutOfMemory` if an allocation failed. The sink has then taken a
+/// prefix of the text.
 pub fn write_query<S: Sink>(
     alloc: Global,
     graph: &Graph,

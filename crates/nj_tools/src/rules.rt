@@ -14,14 +14,14 @@ use crate::whole::write_whole;
 use nj_graph::Graph;
 use std::alloc::Global;
 
-/// Writes the names of the rules of the main file's scope, `phony` among them, by their bytes; with
+/// Writes the names of the rules of the main file's scope, `phony` among them, in byte order; with
 /// `descriptions` also what their `description` lines say, not expanded ("Extra tools" in the Ninja
 /// manual, `rules`).
 ///
 /// # Errors
 ///
-/// `Write` if the sink failed, and `OutOfMemory` if an allocation failed. The sink took a beginning
-/// of the text then.
+/// `Write` if the sink failed, and `OutOfMemory` if an allocation failed. The sink has then taken a
+/// prefix of the text.
 pub fn write_rules<S: Sink>(
     alloc: Global,
     graph: &Graph,

@@ -26,7 +26,7 @@ pub trait Sink {
     // What is known of the sink.
     ghost state: { Self → SinkState };
 
-    /// Takes bytes from the front, and returns how many. An error, or 0 if there are some, is a
+    /// Takes bytes from the front, and returns how many. An error, or 0 if there are bytes, is a
     /// failure: nothing was taken, and the count of failures rises by one.
     fn put(&mut self, bytes: &[u8]) -> Result<usize, SinkFault>
         ensures { Puts (state self.old) (state self.new) bytes.now result };

@@ -33,8 +33,8 @@ use std::alloc::{AllocError, Global};
 ///
 /// # Errors
 ///
-/// `Write` if the sink failed, and `OutOfMemory` if an allocation failed. The sink took a beginning
-/// of the text then.
+/// `Write` if the sink failed, and `OutOfMemory` if an allocation failed. The sink has then taken a
+/// prefix of the text.
 pub fn write_targets<S: Sink>(
     alloc: Global,
     graph: &Graph,
@@ -132,7 +132,7 @@ fn is_source(graph: &Graph, file: FileNo) -> bool
     graph.maker(file).is_none()
 }
 
-// Writes the paths of files, by their bytes.
+// Writes the paths of files, in byte order.
 fn write_sorted<S: Sink>(
     alloc: Global,
     graph: &Graph,
@@ -148,7 +148,7 @@ fn write_sorted<S: Sink>(
     write_paths(&paths, text, out)
 }
 
-// The paths of files, by their bytes.
+// The paths of files, in byte order.
 fn sorted_paths<'g>(
     alloc: Global,
     graph: &'g Graph,

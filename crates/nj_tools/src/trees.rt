@@ -22,7 +22,7 @@ use nj_graph::{FileNo, Graph};
 use std::alloc::{AllocError, Global};
 
 /// Writes the trees of the roots: each file, then what it is made of, one level deeper, and so on,
-/// so many levels of it; 0 is all levels.
+/// for this many levels; 0 is all levels.
 pub(crate) fn write_trees<S: Sink>(
     alloc: Global,
     graph: &Graph,
@@ -48,7 +48,7 @@ pub(crate) fn write_trees<S: Sink>(
     Ok(())
 }
 
-// How many of the levels that are asked for stand below the roots.
+// How many of the levels that are asked for are below the roots.
 fn levels_below(graph: &Graph, depth: u32) -> usize
     ensures { result + 1 ≡ levels_of (edges_of graph.now) depth }
 {
@@ -58,8 +58,8 @@ fn levels_below(graph: &Graph, depth: u32) -> usize
     }
 }
 
-// Pushes what is left of a file's row back, and then what the file is made of, unless the file
-// stands on the last level.
+// Pushes what is left of a file's row back, and then what the file is made of, unless the file is
+// on the last level.
 fn push_rows<'a>(
     graph: &'a Graph,
     below: usize,

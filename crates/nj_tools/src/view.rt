@@ -9,7 +9,7 @@ pub enum TargetsView {
     OfRule(Name),
     /// `rule`: the sources, which are inputs that no edge makes.
     Sources,
-    /// `depth N`: the roots with what they are made of, so many levels of it; 0 for all levels.
+    /// `depth N`: the roots with what they are made of, to N levels; 0 for all levels.
     Depth(u32),
     /// `all`: all outputs.
     All,

@@ -4,8 +4,8 @@ ghost use Rattle.nj_tools.specs.Sinks.{Writes};
 
 use crate::sinks::{Sink, SinkFault};
 
-/// Writes the whole text to the sink. It ends at the first `put` that takes nothing, and an empty
-/// text makes no `put`.
+/// Writes the whole text to the sink. Stops at the first `put` that takes nothing; an empty text
+/// makes no `put`.
 pub fn write_whole<S: Sink>(sink: &mut S, text: &[u8]) -> Result<(), SinkFault>
     ensures { Writes (S.state sink.old) (S.state sink.new) text.now result }
 {

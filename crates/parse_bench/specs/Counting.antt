@@ -66,7 +66,7 @@ counts_of ss =
       subninjas = number_of is_subninja ss;
     }
 
--- the counts with one statement more
+-- the counts with one more statement
 abbrev pub counted : StatementText → Counts → Counts
 counted (BindingText name value) n = record n { bindings = n.bindings + 1 }
 counted (RuleText name lines) n = record n { rules = n.rules + 1 }
