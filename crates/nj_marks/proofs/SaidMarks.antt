@@ -1,16 +1,16 @@
 -- The texts of marks, written and read.
-use Rattle.std.proofs.Common.{◌≡◌, ℕ, ◌^◌, ◌<◌, Bool, true, false, Option, Some, None, List, [], ◌∷◌, ◌++◌, length, refl, sym, ap, ◌∙◌, arith}
+use Rattle.std.proofs.Common.{◌≡◌, ℕ, ◌^◌, ◌<◌, Bool, true, false, Option, Some, None, List, [], ◌∷◌, ◌++◌, length, get_or, refl, sym, ap, ◌∙◌, subst, arith}
 use Rattle.std.specs.Prelude.{map, codes, decimal, ◌||◌}
-use Rattle.std.specs.List.{slice_split, onto_first, join_with_byte, list_any, AllByRecursion}
+use Rattle.std.specs.List.{slice_split, onto_first, join_with_byte, list_any, All, AllByRecursion}
 use Rattle.std.specs.Str.{bytes_eq}
-use Rattle.std.proofs.lemmas.List.{append-nil}
-use Rattle.std.proofs.lemmas.List.Elements.{recursion_from_All}
+use Rattle.std.proofs.lemmas.List.{append-nil, get_or_default}
+use Rattle.std.proofs.lemmas.List.Elements.{recursion_from_All, All-from_recursion}
 use Rattle.std.proofs.lemmas.List.Splits.{slice_split-cons_yes, slice_split-cons_no, length-slice_split, join_with_byte-slice_split}
 use Rattle.std.proofs.lemmas.Slice.Eq.{bytes_eq-Decides}
 use Rattle.nj_marks.specs.Laws.{WrittenMarksAreSaid, SaidMarksAreWritten}
 use Rattle.nj_marks.specs.Marks.{mark_text, number_of, and_then, numbers_in, is_dot, said_mark}
 use Rattle.nj_marks.proofs.Numerals.{number-written, number-decimal, numeral-decimal, no_dot-decimal, not_start}
-use Rattle.nj_marks.proofs.Texts.{said-start, said-address}
+use Rattle.nj_marks.proofs.Texts.{said_start, said_address}
 
 -- ---- a text is cut at its dots
 
@@ -55,10 +55,14 @@ said (n ∷ ns) h = by_test (bytes_eq (mark_text (n ∷ ns)) (codes "start")) re
   where
     by_test : (t : Bool) → bytes_eq (mark_text (n ∷ ns)) (codes "start") ≡ t → said_mark (mark_text (n ∷ ns)) ≡ Some (n ∷ ns)
     by_test true e = absurd (no_start n ns h.0 ((bytes_eq-Decides (mark_text (n ∷ ns)) (codes "start")).0 e))
-    by_test false e = said-address (mark_text (n ∷ ns)) e ∙ ap numbers_in (parts-written n ns h) ∙ numbers-written (n ∷ ns) h
+    by_test false e = said_address (mark_text (n ∷ ns)) e ∙ ap numbers_in (parts-written n ns h) ∙ numbers-written (n ∷ ns) h
 
 pub written_said : WrittenMarksAreSaid
 written_said numbers h = said numbers (recursion_from_All (λ k. k < 2 ^ 64) numbers h)
+
+-- numbers that fit one by one
+pub all-fit : (numbers : List ℕ) → ((k : ℕ) → get_or numbers k 0 < 2 ^ 64) → All (λ n. n < 2 ^ 64) numbers
+all-fit numbers h k d lt = subst (λ n. n < 2 ^ 64) (get_or_default numbers k 0 d lt) (h k)
 
 -- ---- what is said was written
 
@@ -83,10 +87,27 @@ said_written text numbers e = by_test (bytes_eq text (codes "start")) refl
   where
     by_test : (t : Bool) → bytes_eq text (codes "start") ≡ t → mark_text numbers ≡ text
     by_test true b =
-        let x : said_mark text ≡ Some [] = said-start text b in
+        let x : said_mark text ≡ Some [] = said_start text b in
         let none : numbers ≡ [] = cc in
         ap mark_text none ∙ sym ((bytes_eq-Decides text (codes "start")).0 b)
     by_test false b =
-        let parts : map decimal numbers ≡ slice_split is_dot text = parts-said (slice_split is_dot text) numbers (sym (said-address text b) ∙ e) in
+        let parts : map decimal numbers ≡ slice_split is_dot text = parts-said (slice_split is_dot text) numbers (sym (said_address text b) ∙ e) in
         let some : 0 < length (map decimal numbers) = omega (arith, ap length parts, length-slice_split is_dot text) in
         text_of numbers some ∙ ap (join_with_byte 46) parts ∙ join_with_byte-slice_split 46 text
+
+-- ---- the numbers that a text says fit
+
+parts-fit : (ps : List (List ℕ)) (ns : List ℕ) → numbers_in ps ≡ Some ns → AllByRecursion (λ n. n < 2 ^ 64) ns
+parts-fit [] ns e = let x : [] ≡ ns = cc in subst (AllByRecursion (λ n. n < 2 ^ 64)) x tt
+parts-fit (p ∷ ps) ns e = by_parts (number_of p) (numbers_in ps) refl refl (parts-fit ps)
+  where
+    by_parts : (o : Option ℕ) (more : Option (List ℕ)) → number_of p ≡ o → numbers_in ps ≡ more → ((ms : List ℕ) → numbers_in ps ≡ Some ms → AllByRecursion (λ n. n < 2 ^ 64) ms) → AllByRecursion (λ n. n < 2 ^ 64) ns
+    by_parts None more a b rest = let x : numbers_in (p ∷ ps) ≡ None = ap (λ (o : Option ℕ). and_then o (numbers_in ps)) a in absurd (cc)
+    by_parts (Some n) None a b rest = let x : numbers_in (p ∷ ps) ≡ None = ap (λ (o : Option ℕ). and_then o (numbers_in ps)) a ∙ ap (and_then (Some n)) b in absurd (cc)
+    by_parts (Some n) (Some ms) a b rest =
+        let x : numbers_in (p ∷ ps) ≡ Some (n ∷ ms) = ap (λ (o : Option ℕ). and_then o (numbers_in ps)) a ∙ ap (and_then (Some n)) b in
+        let same : n ∷ ms ≡ ns = cc in
+        subst (AllByRecursion (λ n. n < 2 ^ 64)) same ((number-written p n a).1, rest ms b)
+
+pub said_fit : (ps : List (List ℕ)) (ns : List ℕ) → numbers_in ps ≡ Some ns → All (λ n. n < 2 ^ 64) ns
+said_fit ps ns e = All-from_recursion (λ n. n < 2 ^ 64) ns (parts-fit ps ns e)

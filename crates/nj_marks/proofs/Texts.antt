@@ -35,13 +35,13 @@ AreReadSoFar text numbers rest = numbers_in (slice_split is_dot text) ≡ prefix
 
 -- ---- whole texts
 
-pub said-start : (text : List ℕ) → bytes_eq text (codes "start") ≡ true → said_mark text ≡ Some []
+pub said_start : (text : List ℕ) → bytes_eq text (codes "start") ≡ true → said_mark text ≡ Some []
 unfolding said_mark
-said-start text e = rw e refl
+said_start text e = rw e refl
 
-pub said-address : (text : List ℕ) → bytes_eq text (codes "start") ≡ false → said_mark text ≡ numbers_in (slice_split is_dot text)
+pub said_address : (text : List ℕ) → bytes_eq text (codes "start") ≡ false → said_mark text ≡ numbers_in (slice_split is_dot text)
 unfolding said_mark
-said-address text e = rw e refl
+said_address text e = rw e refl
 
 pub text-push : (n : ℕ) (numbers : List ℕ) (m : ℕ) → mark_text (n ∷ (numbers ++ m ∷ [])) ≡ mark_text (n ∷ numbers) ++ 46 ∷ decimal m
 text-push n [] m = refl

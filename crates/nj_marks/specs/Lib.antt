@@ -1,3 +1,4 @@
 pub mod Marks
 pub mod Laws
 pub mod Scanning
+pub mod Reading

@@ -1,5 +1,5 @@
 -- Marks and their texts. A mark is the numbers of an address; at the start of a walk it has none.
-use Rattle.std.specs.Prelude.{ℕ, ◌==◌, ◌&&◌, Bool, false, not, nat_le, if◌then◌else◌, Option, Some, None, List, [], ◌∷◌, map, codes}
+use Rattle.std.specs.Prelude.{◌≡◌, ℕ, ◌==◌, ◌&&◌, Bool, false, not, nat_le, if◌then◌else◌, Option, Some, None, List, [], ◌∷◌, map, codes}
 use Rattle.std.specs.Prelude.{decimal}
 use Rattle.std.specs.List.{slice_split, join_with_byte}
 use Rattle.std.specs.Char.{is_ascii_digit}
@@ -37,3 +37,7 @@ is_dot b = b == 46
 -- the numbers of the mark that a text says, if it says one
 unfoldable pub said_mark : List ℕ → Option (List ℕ)
 said_mark text = if bytes_eq text (codes "start") then Some [] else numbers_in (slice_split is_dot text)
+
+-- the text of the mark says the mark
+abbrev pub ReadsBack : (mark : List ℕ) → Type 0
+ReadsBack mark = said_mark (mark_text mark) ≡ Some mark

@@ -1,9 +1,11 @@
 //! Marks: where a walk over the needed edges goes on, and their texts.
 #![tactic(auto)]
 
+mod fault;
 mod laws;
 mod marks;
 mod numbers;
 
+pub use fault::MarkFault;
 pub use laws::{said_marks_are_written, written_marks_are_said};
-pub use marks::{Mark, MarkTextFault};
+pub use marks::Mark;

@@ -1,13 +1,14 @@
 //! Marks, and their texts.
 
-ghost use Rattle.std.specs.Prelude.{◌≡◌, [], ◌∷◌, Some, None, Err, IfOk, string_bytes, codes};
+ghost use Rattle.std.specs.Prelude.{◌≡◌, [], ◌∷◌, Some, IfOk, IfErr, string_bytes, codes};
 ghost use Rattle.std.specs.Str.{bytes_eq};
-ghost use Rattle.nj_marks.specs.declared.marks.MarkTextFault.TheVariants.{BadMark, OutOfMemory};
-ghost use Rattle.nj_marks.specs.Marks.{mark_text, said_mark};
+ghost use Rattle.nj_marks.specs.Marks.{mark_text, said_mark, ReadsBack};
+ghost use Rattle.nj_marks.specs.Reading.{IsReadFault};
 
+use crate::fault::MarkFault;
 use crate::numbers::numbers_in;
 use itoa::Buffer;
-use std::alloc::{AllocError, AllocFailed, Global};
+use std::alloc::{AllocError, Global};
 use std::marker::Model;
 
 /// Where a walk is: at its start, or after an edge, of which this is the address. An address is the
@@ -19,36 +20,14 @@ pub struct Mark {
 }
 
 impl Model for Mark {
-    ghost use Rattle.std.specs.Prelude.{ℕ, List};
+    ghost use Rattle.std.specs.Prelude.{ℕ, List, ◌<◌, ◌^◌};
+    ghost use Rattle.std.specs.List.{All};
 
     ghost Value = { List ℕ };
 
     ghost view = { λ m. m.numbers.items };
-}
 
-/// Why a text is not read as a mark.
-#[derive(Clone, Copy, Debug, PartialEq, Eq)]
-pub enum MarkTextFault {
-    /// The text is not a mark.
-    BadMark,
-    /// An allocation failed.
-    OutOfMemory,
-}
-
-impl From<AllocError> for MarkTextFault {
-    ghost from_gives = { λ _ e. e ≡ OutOfMemory };
-
-    fn from(_e: AllocError) -> MarkTextFault {
-        MarkTextFault::OutOfMemory
-    }
-}
-
-impl<T: Drop> From<AllocFailed<T>> for MarkTextFault {
-    ghost from_gives = { λ _ e. e ≡ OutOfMemory };
-
-    fn from(_e: AllocFailed<T>) -> MarkTextFault {
-        MarkTextFault::OutOfMemory
-    }
+    ghost invariant = { λ m. All (λ n. n < 2 ^ 64) m.numbers.items };
 }
 
 impl Mark {
@@ -63,7 +42,8 @@ impl Mark {
 
     /// The mark of these numbers. Fails only if an allocation fails.
     pub fn from_numbers(alloc: Global, numbers: &[u64]) -> Result<Mark, AllocError>
-        ensures { IfOk result (λ mark. mark ≡ numbers.now) }
+        ensures mark { IfOk result (λ mark. mark ≡ numbers.now) }
+        ensures reads_back { ReadsBack numbers.now }
     {
         let numbers = Vec::from_slice(alloc, numbers)?;
         Ok(Mark { numbers })
@@ -81,10 +61,12 @@ impl Mark {
     ///
     /// # Errors
     ///
-    /// `BadMark` if the text is not a mark, and `OutOfMemory` if an allocation failed.
-    pub fn read(alloc: Global, text: &str) -> Result<Mark, MarkTextFault>
+    /// `BadMark` if the text is not a mark, and `OutOfMemory` if an allocation failed; never
+    /// `MarkOutOfRange`.
+    #[tactic(auto, using(crate::proofs::Texts::said_start, crate::proofs::Texts::said_address, crate::proofs::SaidMarks::said_fit))]
+    pub fn read(alloc: Global, text: &str) -> Result<Mark, MarkFault>
         ensures ok { IfOk result (λ mark. said_mark text.now ≡ Some mark) }
-        ensures bad { result ≡ Err BadMark → said_mark text.now ≡ None }
+        ensures err { IfErr result (λ fault. IsReadFault (said_mark text.now) fault) }
     {
         if is_start(text) {
             return Ok(Mark::start(alloc));
@@ -95,13 +77,14 @@ impl Mark {
         }
     }
 
-    /// The text of the mark.
+    /// The text of the mark, which reads back as the same mark.
     ///
     /// # Errors
     ///
     /// If an allocation failed.
     pub fn to_text(&self, alloc: Global) -> Result<String, AllocError>
-        ensures { IfOk result (λ text. string_bytes text ≡ mark_text self.now) }
+        ensures text { IfOk result (λ text. string_bytes text ≡ mark_text self.now) }
+        ensures reads_back { ReadsBack self.now }
     {
         match self.numbers.as_slice() {
             [] => String::from_str(alloc, "start"),

@@ -1,26 +1,26 @@
 //! The numbers of an address.
 
-ghost use Rattle.std.specs.Prelude.{◌≡◌, ◌∷◌, ◌<◌, [], Some, None, Err, IfOk, IfSome, length};
+ghost use Rattle.std.specs.Prelude.{◌≡◌, ◌∷◌, ◌<◌, [], Some, IfOk, IfErr, IfSome, length};
 ghost use Rattle.std.specs.Option.{option_copied};
 ghost use Rattle.std.specs.List.{slice_split};
-ghost use Rattle.nj_marks.specs.declared.marks.MarkTextFault.TheVariants.{BadMark};
 ghost use Rattle.nj_marks.specs.Marks.{number_of, numbers_in, is_dot};
+ghost use Rattle.nj_marks.specs.Reading.{IsReadFault};
 ghost use Rattle.nj_marks.specs.Scanning.{has_plain_front, parts_left};
 
-use crate::marks::MarkTextFault;
+use crate::fault::MarkFault;
 use std::alloc::Global;
 
 /// The number that a part writes, without leading zeros.
-pub fn number_in(part: &str) -> Result<u64, MarkTextFault>
+pub fn number_in(part: &str) -> Result<u64, MarkFault>
     ensures ok { IfOk result (λ number. number_of part.now ≡ Some number) }
-    ensures bad { result ≡ Err BadMark → number_of part.now ≡ None }
+    ensures err { IfErr result (λ fault. IsReadFault (number_of part.now) fault) }
 {
     if !has_plain_front(part.as_bytes()) {
-        return Err(MarkTextFault::BadMark);
+        return Err(MarkFault::BadMark);
     }
     match part.parse::<u64>() {
         Ok(number) => Ok(number),
-        Err(_no_number) => Err(MarkTextFault::BadMark),
+        Err(_no_number) => Err(MarkFault::BadMark),
     }
 }
 
@@ -48,10 +48,11 @@ pub fn first_part(text: &str) -> (&str, Option<&str>)
 }
 
 /// The numbers that the parts write, which are joined by `.`.
-pub fn numbers_in(alloc: Global, text: &str) -> Result<Vec<u64>, MarkTextFault>
+pub fn numbers_in(alloc: Global, text: &str) -> Result<Vec<u64>, MarkFault>
     ensures ok { IfOk result (λ numbers.
         numbers_in (slice_split is_dot text.now) ≡ Some numbers.items) }
-    ensures bad { result ≡ Err BadMark → numbers_in (slice_split is_dot text.now) ≡ None }
+    ensures err { IfErr result (λ fault.
+        IsReadFault (numbers_in (slice_split is_dot text.now)) fault) }
 {
     let mut numbers = Vec::new(alloc);
     let mut rest = text;

@@ -8,7 +8,7 @@ returns-in-Ok-clause-ok c =
     let front : has_plain_front c.args.part.now ≡ true = ap has_plain_front (sym c.as_bytes.ensures.value) ∙ sym c.has_plain_front.ensures ∙ c.if-not-has_plain_front.false in
     number-parsed c.args.part.now c.in-Ok.number c.in-Ok.ensures.value.0 front
 
-pub returns-in-Err-clause-bad : goal.returns-in-Err-clause-bad
-returns-in-Err-clause-bad c = λ e.
+pub returns-in-Err-clause-err : goal.returns-in-Err-clause-err
+returns-in-Err-clause-err c =
     let front : has_plain_front c.args.part.now ≡ true = ap has_plain_front (sym c.as_bytes.ensures.value) ∙ sym c.has_plain_front.ensures ∙ c.if-not-has_plain_front.false in
     number-not_parsed c.args.part.now c.in-Err.ensures.value.0 front
