@@ -1,5 +1,5 @@
 -- What holds of a walk and its saved address, at the start and after each turn.
-use Rattle.std.proofs.Common.{◌≡◌, ℕ, ◌+◌, ◌-◌, ◌<◌, ◌≤◌, min, Bool, true, false, cond, List, [], ◌∷◌, ◌++◌, length, get_or, take, sym, ap, subst, ◌∙◌, inl, inr, arith, vec_capacity}
+use Rattle.std.proofs.Common.{◌≡◌, ℕ, ◌+◌, ◌-◌, ◌<◌, ◌≤◌, min, Bool, true, false, cond, List, [], ◌∷◌, ◌++◌, length, get_or, take, refl, sym, ap, subst, ◌∙◌, inl, inr, arith, vec_capacity}
 use Rattle.std.specs.Global.{Vec}
 use Rattle.std.proofs.lemmas.List.{take-take, take-append-le, map_push, length-map, length_push}
 use Rattle.nj_edges.specs.declared.files.FileNo.{FileNo}
@@ -10,7 +10,7 @@ use Rattle.nj_needs.specs.Needs.{IsAcyclic, AreWithin}
 use Rattle.nj_needs.specs.Paths.{places}
 use Rattle.nj_needs.specs.Saved.{KeepsFront}
 use Rattle.nj_needs.specs.Standing.{IsWalkAt, IsWalk, left_of, turns_left_of, HasLooked, HasClosed, HasEnded}
-use Rattle.nj_needs.specs.Walks.{IsSound, bound_of, rest_of, IsFirstPlaceOf}
+use Rattle.nj_needs.specs.Walks.{IsSound, IsSameWalk, bound_of, rest_of, IsFirstPlaceOf}
 use Rattle.nj_needs.specs.Views.{state_of, IsNeeds}
 use Rattle.nj_needs.specs.declared.frame.Frame.{Frame}
 use Rattle.nj_needs.specs.declared.saved.Saved.{Saved}
@@ -39,6 +39,20 @@ turns-are w s h =
     let t = h.walk.counted in
     let e : t.0 ≡ (state_of w s).turns = omega (arith, t.2) in
     t.1 ∙ ap saturated e
+
+-- a walk that went on
+pub IsSameWalk-from : (w v : Walk) (s r : Saved) → v.looks.graph ≡ w.looks.graph → v.looks.targets ≡ w.looks.targets → v.begun ≡ w.begun
+    → turns_left_of v.looks.graph.now v.looks.targets.now v.path.items v.place ≤ turns_left_of w.looks.graph.now w.looks.targets.now w.path.items w.place
+    → IsNeeds v r → IsSameWalk (state_of w s) (state_of v r)
+IsSameWalk-from w v s r graph targets begun fewer h =
+    let bound : bound_of v.looks.graph.now v.looks.targets.now ≡ bound_of w.looks.graph.now w.looks.targets.now = rw (graph, targets) refl in
+    record {
+      graph = rw graph refl;
+      targets = rw targets refl;
+      begun = begun;
+      turns = omega (arith, bound, begun, fewer);
+      sound = IsSound-from v r h;
+    }
 
 -- ---- the front that is kept
 

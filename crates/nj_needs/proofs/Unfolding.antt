@@ -1,6 +1,7 @@
 -- The unfolded order: that its fuel does not matter, and what it holds.
-use Rattle.std.proofs.Common.{◌≡◌, ℕ, zero, suc, ◌<◌, ◌≤◌, Option, Some, None, List, [], ◌∷◌, ◌++◌, refl, sym, ap, subst, inl, inr, arith}
+use Rattle.std.proofs.Common.{◌≡◌, ℕ, zero, suc, ◌+◌, ◌-◌, ◌<◌, ◌≤◌, Option, Some, None, List, [], ◌∷◌, ◌++◌, refl, sym, ap, ◌∙◌, subst, inl, inr, arith, add-zero}
 use Rattle.std.specs.List.{flat_map}
+use Rattle.nj_needs.specs.Laws.{FuelIsEnough, EdgesComeAfterMakers}
 use Rattle.nj_needs.specs.Needs.{IsRank}
 use Rattle.nj_needs.specs.Order.{made_by, unfolded, unfolded_row}
 use Rattle.nj_needs.proofs.Members.{In, In-head, In-append_left, In-append_right, In-append_cases, In-single, In-last, Among, Contains-from_Among}
@@ -54,6 +55,18 @@ module _ (makers : ℕ → List (Option ℕ)) (count : ℕ) (rank : ℕ → ℕ)
   pub unfolded-row : (e : ℕ) → e < count → unfolded makers count e ≡ unfolded_row makers count (makers e) ++ e ∷ []
   unfolded-row e lt = sym (stable count e (omega (arith, ranked.low e lt)))
 
+  -- nor does any more
+  enough : (more e : ℕ) → e < count → unfolded makers (count + more) e ≡ unfolded makers count e
+  enough zero e lt = ap (λ n. unfolded makers n e) (add-zero count)
+  enough (suc more) e lt =
+      ap (λ n. unfolded makers n e) (let is : count + suc more ≡ suc (count + more) = omega arith in is)
+      ∙ stable (count + more) e (omega (arith, ranked.low e lt)) ∙ enough more e lt
+
+  pub enough-row : (fuel : ℕ) (row : List (Option ℕ)) → ((m : ℕ) → Among row m → m < count) → count ≤ fuel → unfolded_row makers fuel row ≡ unfolded_row makers count row
+  enough-row fuel row inside le =
+      let is : fuel ≡ count + (fuel - count) = omega arith in
+      same_row (unfolded makers fuel) (unfolded makers count) row (λ m a. ap (λ n. unfolded makers n m) is ∙ enough (fuel - count) m (inside m a))
+
   -- an edge's unfolding has the unfolding of each edge in it
   closed_below : (bound e : ℕ) → rank e < bound → e < count → (x y : ℕ) → In (unfolded makers count e) x → In (unfolded makers count x) y → In (unfolded makers count e) y
   closed_below zero e h lt x y i j = absurd (omega (arith, h))
@@ -75,3 +88,12 @@ module _ (makers : ℕ → List (Option ℕ)) (count : ℕ) (rank : ℕ → ℕ)
   closed_row row inside x y i j =
       let r = In-row (unfolded makers count) row x i in
       In-row_from (unfolded makers count) row r.0 y r.1 (closed_edge r.0 (inside r.0 r.1) x y r.2 j)
+
+-- ---- the laws
+
+pub fuel-is_enough : FuelIsEnough
+fuel-is_enough makers count fuel row acyclic inside le =
+    enough-row makers count acyclic.0 acyclic.1 fuel row (λ m a. inside m (Contains-from_Among row m a)) le
+
+pub edges-come_after_makers : EdgesComeAfterMakers
+edges-come_after_makers makers count e acyclic lt = unfolded-row makers count acyclic.0 acyclic.1 e lt

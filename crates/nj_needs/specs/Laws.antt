@@ -1,9 +1,19 @@
 -- What the order of the needed commands is for.
-use Rattle.std.specs.Prelude.{◌≡◌, ℕ, ◌<◌, ◌↔◌, Bool, false, Option, List, Some, slice_get, Contains, nat_eq}
+use Rattle.std.specs.Prelude.{◌≡◌, ℕ, ◌<◌, ◌≤◌, ◌↔◌, Bool, false, Option, List, [], ◌∷◌, ◌++◌, Some, slice_get, Contains, nat_eq}
 use Rattle.std.specs.List.{IsDistinct}
 use Rattle.nj_needs.specs.Needs.{IsAcyclic, AreWithin, NeedsByChain, Reached}
-use Rattle.nj_needs.specs.Order.{needed_commands}
+use Rattle.nj_needs.specs.Order.{unfolded, unfolded_row, needed_commands}
 use Rattle.nj_needs.specs.Marks.{IsFirstPlace}
+
+-- the fuel of the unfolded order is enough: with any more of it the order is the same
+abbrev pub FuelIsEnough : Type 0
+FuelIsEnough = (makers : ℕ → List (Option ℕ)) (count fuel : ℕ) (row : List (Option ℕ)) → IsAcyclic makers count → AreWithin row count
+    → count ≤ fuel → unfolded_row makers fuel row ≡ unfolded_row makers count row
+
+-- so, without fuel: an edge unfolds to what each of its makers unfolds to, in turn, and then the edge
+abbrev pub EdgesComeAfterMakers : Type 0
+EdgesComeAfterMakers = (makers : ℕ → List (Option ℕ)) (count e : ℕ) → IsAcyclic makers count → e < count
+    → unfolded makers count e ≡ unfolded_row makers count (makers e) ++ e ∷ []
 
 -- f comes in the list before an occurrence of e
 abbrev pub StandsBefore : List ℕ → ℕ → ℕ → Type 0

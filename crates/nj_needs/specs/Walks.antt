@@ -48,11 +48,12 @@ pub record BeginsAt (g : EdgeGraph) (files : List FileNo) (numbers : List ℕ) (
   pub begun : w.begun ≡ length numbers
   pub sound : IsSound w
 
--- the graph, the targets and the beginning stay the same
+-- the graph, the targets and the beginning stay the same, and the turns never fall
 pub record IsSameWalk (old new : WalkState) : Type 0 where
   pub graph : new.graph ≡ old.graph
   pub targets : new.targets ≡ old.targets
   pub begun : new.begun ≡ old.begun
+  pub turns : old.turns ≤ new.turns
   pub sound : IsSound new
 
 -- the first edge left was returned, and its address is the mark

@@ -1,7 +1,14 @@
 //! What the order of the commands is for.
 
-ghost use Rattle.nj_needs.specs.Laws.{CommandsAreTheReached, CommandsStandOnce, CommandsStandAfterNeeds, FirstPlacesAreOne};
+ghost use Rattle.nj_needs.specs.Laws.{FuelIsEnough, EdgesComeAfterMakers, CommandsAreTheReached, CommandsStandOnce, CommandsStandAfterNeeds, FirstPlacesAreOne};
 ghost use Rattle.nj_needs.specs.Pages.{MarkKeepsTheRest, PagesJoin, RestIsSuffix};
+
+/// The unfolded order has fuel enough: with more of it the order is the same. So an edge unfolds to
+/// what each of its makers unfolds to, in turn, and then the edge.
+pub fn unfolding_law()
+    ensures fuel { FuelIsEnough }
+    ensures edges { EdgesComeAfterMakers }
+{}
 
 /// The needed commands are exactly those of the edges that the targets reach; none is listed twice;
 /// and each comes after all others that its edge needs by any chain, also through phony edges.

@@ -1,7 +1,6 @@
 //! The commands that targets need, each after what it needs, with stopping and resuming.
 #![tactic(auto)]
 
-mod fault;
 mod frame;
 mod laws;
 mod looks;
@@ -11,7 +10,6 @@ mod returned;
 mod saved;
 mod walk;
 
-pub use fault::MarkFault;
-pub use laws::{order_law, page_law, place_law};
+pub use laws::{order_law, page_law, place_law, unfolding_law};
 pub use needs::Needs;
-pub use nj_marks::{Mark, MarkTextFault};
+pub use nj_marks::{Mark, MarkFault};

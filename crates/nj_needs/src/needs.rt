@@ -1,18 +1,18 @@
 //! The walk over the commands that targets need.
 
 ghost use Rattle.std.specs.Prelude.{◌≡◌, ◌<◌, [], length, All, IfOk, IfSome};
+ghost use Rattle.nj_marks.specs.Marks.{ReadsBack};
 ghost use Rattle.nj_needs.specs.Counts.{saturated};
 ghost use Rattle.nj_needs.specs.Resuming.{ResumeIs};
 ghost use Rattle.nj_needs.specs.Walks.{BeginsAt, commands_of, IsSound, IsSameWalk, NextIs, number_of};
 
-use crate::fault::MarkFault;
 use crate::looks::Looks;
 use crate::resuming::{leads, rebuild};
 use crate::returned::next_edge;
 use crate::saved::Saved;
 use crate::walk::Walk;
 use nj_edges::{EdgeGraph, EdgeNo, FileNo};
-use nj_marks::Mark;
+use nj_marks::{Mark, MarkFault};
 use std::alloc::{AllocError, Global};
 use std::marker::Model;
 
@@ -40,9 +40,9 @@ impl<'g> Needs<'g> {
     /// A walk from the start. It reserves all the memory that the walk needs, and fails only if an
     /// allocation fails.
     pub fn new(
+        alloc: Global,
         graph: &'g EdgeGraph,
         targets: &'g [FileNo],
-        alloc: Global,
     ) -> Result<Needs<'g>, AllocError>
         requires { All (λ f. f.0 < length graph.now.files) targets.now }
         ensures begins { IfOk result (λ n. BeginsAt graph.now targets.now [] n) }
@@ -57,9 +57,14 @@ impl<'g> Needs<'g> {
     }
 
     /// The walk that goes on at a mark: the edges left are those that were left there, in the same
-    /// order. Any mark that leads to an edge at each step will do, even one that no walk returned;
-    /// for any other the fault is *out of range*, which is decided before anything is allocated.
-    /// Then all the memory that the walk needs is reserved.
+    /// order. Any mark that leads to an edge at each step will do, even one that no walk returned.
+    /// That is decided before anything is allocated; then all the memory that the walk needs is
+    /// reserved.
+    ///
+    /// # Errors
+    ///
+    /// `MarkOutOfRange` if the mark leads to no edge at some step, and `OutOfMemory` if an
+    /// allocation failed; never `BadMark`.
     pub fn resume(
         alloc: Global,
         graph: &'g EdgeGraph,
@@ -73,7 +78,7 @@ impl<'g> Needs<'g> {
         let room = looks.edge_count();
         let numbers = mark.numbers();
         if !leads(&mut looks, numbers) {
-            return Err(MarkFault::OutOfRange);
+            return Err(MarkFault::MarkOutOfRange);
         }
         let mut walk = Walk::new(alloc, looks, numbers.len())?;
         let saved = Saved::new(alloc, numbers, room)?;
@@ -93,9 +98,11 @@ impl<'g> Needs<'g> {
     }
 
     /// The address of the edge that `next` returned last, also after `None`; before any, the mark
-    /// that the walk began with. Fails only if an allocation fails.
+    /// that the walk began with. Its text reads back as that mark. Fails only if an allocation
+    /// fails.
     pub fn mark(&self, alloc: Global) -> Result<Mark, AllocError>
         ensures mark { IfOk result (λ m. m ≡ self.now.mark) }
+        ensures reads_back { ReadsBack self.now.mark }
         ensures sound { IsSound self.now }
     {
         Mark::from_numbers(alloc, &self.saved.numbers)

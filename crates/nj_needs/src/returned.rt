@@ -1,7 +1,8 @@
 //! The loop of `next`.
 
-ghost use Rattle.std.specs.Prelude.{◌≡◌, ◌<◌, IfSome};
+ghost use Rattle.std.specs.Prelude.{◌≡◌, ◌<◌, ◌≤◌, IfSome};
 ghost use Rattle.nj_needs.specs.Graphs.{count_of};
+ghost use Rattle.nj_needs.specs.Standing.{turns_left_of};
 ghost use Rattle.nj_needs.specs.Views.{state_of, IsNeeds};
 ghost use Rattle.nj_needs.specs.Walks.{NextIs};
 
@@ -18,6 +19,10 @@ pub(crate) fn next_edge(walk: &mut Walk, saved: &mut Saved) -> Option<usize>
     ensures graph { walk.new.looks.graph ≡ walk.old.looks.graph }
     ensures targets { walk.new.looks.targets ≡ walk.old.looks.targets }
     ensures begun { walk.new.begun ≡ walk.old.begun }
+    ensures turns { turns_left_of walk.new.looks.graph.now walk.new.looks.targets.now
+        walk.new.path.items walk.new.place
+        ≤ turns_left_of walk.old.looks.graph.now walk.old.looks.targets.now
+        walk.old.path.items walk.old.place }
 {
     'turns: loop {
         match walk.take_turn() {

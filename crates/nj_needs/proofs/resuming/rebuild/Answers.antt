@@ -41,7 +41,7 @@ steps-preserved c =
     let opened : IsOpened c.reach.new.walk c.take_turn.new.self c.args.numbers.now c.steps.number-index =
     elim (stepped u c.reach.new.walk c.take_turn.new.self c.take_turn.result c.args.numbers.now c.steps.number-index c.steps-test.true (record { walk = i.walk; path = i.path; valid = i.valid })
     r.graph r.targets r.walk_after path r.place e.graph e.targets e.walk e.turn) [
-      | inl cut ↦ absurd (let same = ap length (cut.0 ∙ path) in c.if-len-before.false (omega (arith, same, c.len.ensures, c.len-before.ensures)))
+      | inl cut ↦ absurd (let same = ap length (cut.0 ∙ path) in omega (arith, same, c.len.ensures, c.len-before.ensures, c.if-len-before.false))
       | inr o ↦ o
     ] in
     record {

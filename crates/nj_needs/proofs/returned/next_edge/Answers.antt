@@ -20,6 +20,7 @@ turns-preserved-in-Looked c =
       targets = e.targets ∙ i.targets;
       begun = e.begun ∙ i.begun;
       left = looked-left w v e.graph e.targets e.turn ∙ i.left;
+      turns = omega (arith, looked-less w v e.graph e.targets e.turn, i.turns);
       mark = i.mark;
     }
 
@@ -76,8 +77,21 @@ turns-preserved c =
       targets = e.targets ∙ i.targets;
       begun = e.begun ∙ i.begun;
       left = closed-left w v e.graph e.targets c.in-Closed.edge c.in-Closed.phony e.turn c.if-not-phony.false ∙ i.left;
+      turns = omega (arith, closed-less w v e.graph e.targets c.in-Closed.edge c.in-Closed.phony e.turn, i.turns);
       mark = c.back_to.ensures.numbers ∙ i.mark;
     }
+
+pub returns-then-not-phony-clause-turns : goal.returns-then-not-phony-clause-turns
+returns-then-not-phony-clause-turns c =
+    let e = c.in-Closed.ensures in
+    omega (arith, closed-less c.turns.walk c.take_turn.new.self e.graph e.targets c.in-Closed.edge c.in-Closed.phony e.turn, c.turns.invariant.turns)
+
+pub returns-in-Ended-clause-turns : goal.returns-in-Ended-clause-turns
+returns-in-Ended-clause-turns c =
+    let e = c.in-Ended.ensures in
+    let none : turns_left_of c.take_turn.new.self.looks.graph.now c.take_turn.new.self.looks.targets.now c.take_turn.new.self.path.items c.take_turn.new.self.place ≡ 0 =
+    ended-turns c.turns.walk c.take_turn.new.self e.graph e.targets e.turn in
+    omega (arith, none)
 
 pub returns-in-Ended-clause-after : goal.returns-in-Ended-clause-after
 returns-in-Ended-clause-after c =

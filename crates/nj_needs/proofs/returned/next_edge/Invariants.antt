@@ -1,4 +1,4 @@
-use Rattle.std.proofs.Common.{◌≡◌}
+use Rattle.std.proofs.Common.{◌≡◌, ◌≤◌}
 use Rattle.nj_needs.specs.Standing.{left_of, turns_left_of}
 use Rattle.nj_needs.specs.Views.{IsNeeds}
 use Rattle.nj_needs.proofs.returned.next_edge.Given as goal
@@ -10,6 +10,7 @@ invariant-turns l = record {
   targets : l.walk.looks.targets ≡ l.fn.walk.looks.targets;
   begun : l.walk.begun ≡ l.fn.walk.begun;
   left : left_of l.walk.looks.graph.now l.walk.looks.targets.now l.walk.path.items l.walk.place ≡ left_of l.fn.walk.looks.graph.now l.fn.walk.looks.targets.now l.fn.walk.path.items l.fn.walk.place;
+  turns : turns_left_of l.walk.looks.graph.now l.walk.looks.targets.now l.walk.path.items l.walk.place ≤ turns_left_of l.fn.walk.looks.graph.now l.fn.walk.looks.targets.now l.fn.walk.path.items l.fn.walk.place;
   mark : l.saved.numbers ≡ l.fn.saved.numbers;
 }
 
