@@ -6,6 +6,7 @@ use Rattle.nj_edges.specs.declared.files.FileNo.{FileNo}
 use Rattle.nj_edges.specs.EdgeGraphs.{EdgeGraph}
 use Rattle.nj_edges.specs.Edges.{EdgePaths}
 use Rattle.nj_edges.specs.Files.{path_at}
+use Rattle.nj_marks.specs.Marks.{ReadsBack}
 use Rattle.nj_needs.specs.Graphs.{row_of_paths, is_phony_in, row_of, makers_of, count_of}
 use Rattle.nj_needs.specs.Order.{made_by, first_occurrences}
 use Rattle.nj_needs.specs.Pages.{IsMarkAfter}
@@ -32,12 +33,13 @@ left_after None left = []
 left_after (Some limit) left = drop limit left
 
 -- The mark at which the writing stops: `None` if no edge is left; else that of the edge that was written last, or, if none was, the mark at
--- which the walk was before.
+-- which the walk was before. Its text says that mark.
 abbrev pub StopsAt : WalkState → (limit : Option ℕ) → (mark : Option (List ℕ)) → Type 0
 StopsAt walk limit None = left_after limit walk.left ≡ []
 StopsAt walk limit (Some mark) =
     (left_after limit walk.left ≢ [])
     × IsMarkAfter (makers_of walk.graph) (count_of walk.graph) (row_of walk.graph walk.targets) walk.mark (written limit walk.left) mark
+    × ReadsBack mark
 
 -- ---- the targets' own makers
 

@@ -55,7 +55,7 @@ fn needed_inputs(
     ensures { IfOk result (λ files. AreOf (files_of graph.now) files.items
         (needed_inputs (edges_of graph.now) (map (path_at (files_of graph.now)) targets.now))) }
 {
-    let mut needs = Needs::new(graph.edge_graph(), targets, alloc)?;
+    let mut needs = Needs::new(alloc, graph.edge_graph(), targets)?;
     let mut inputs = Collected::new(alloc, graph.file_count())?;
     'edges: while let Some(edge) = needs.next() {
         inputs.add_all(graph.inputs(edge))?;
