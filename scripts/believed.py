@@ -1,0 +1,239 @@
+#!/usr/bin/env python3
+"""Counts the lines that must be believed for the contract of `run_words`:
+
+    believed.py [--most LINES]
+
+It starts at the contract (crates/nj_cli/src/run.rt), follows each name in it to its definition,
+each name in that, and so on. Definitions are those of crates/*/specs; in crates/*/src the value
+and the view of an `impl Model`, and of a trait the state and the calls that have a clause. Comments,
+empty lines, `use` and `pub mod` don't count, and neither does what the toolchain's crates define. A
+variable that has the name of a definition in its file counts as a use of it.
+
+Prints for each crate and file how many lines are reached, and of which names. The structs and enums
+of crates/*/src, which definitions speak of, are printed too, and summed apart. With --most the
+status is 1 if there are more LINES of definitions.
+"""
+
+import argparse
+import re
+import sys
+from functools import cache
+from itertools import groupby
+from pathlib import Path
+
+CRATES = Path(__file__).resolve().parent.parent / "crates"
+START = CRATES / "nj_cli/src/run.rt", "run_words"
+
+# A text; a name, with the fields after it; or a field of what is in parentheses.
+TOKEN = re.compile(r'"(?:[^"\\]|\\.)*"|[^\s(){}\[\];,".]+(?:\.[^\s(){}\[\];,".]+)*|\.\w+')
+TYPE = re.compile(r"\b[A-Z]\w*")
+KEYWORDS = {"abbrev", "unfoldable", "pub", "record", "data"}
+
+
+class Definition:
+    """A definition, or a type of src: where it is, how many lines it has, and its text."""
+
+    def __init__(self, module, name, text, is_type=False):
+        self.module, self.name, self.text, self.is_type = module, name, text, is_type
+
+    @property
+    def lines(self):
+        return sum(1 for line in self.text.splitlines() if line.strip())
+
+
+class Module:
+    """A file: what it defines, which names it takes from where, and its names for other modules."""
+
+    def __init__(self, file):
+        self.file, self.defined, self.names, self.modules = file, {}, {}, {}
+        self.crate, _, *path = file.relative_to(CRATES).parts
+        self.path = "/".join([file.parent.relative_to(CRATES / self.crate).parts[0], *path])
+
+    def take_in(self, module, names):
+        """Takes in the names of a list such as `a, b as c`."""
+        for item in filter(None, (item.strip() for item in names.split(","))):
+            self.names[item.split(" as ")[-1]] = module, item.split(" as ")[0]
+
+    def use(self, line):
+        """Takes in what a `use` of definitions names."""
+        if found := re.match(r"(?:pub )?use (\S+?)\.\{(.*)\}", line, re.S):
+            self.take_in(found[1], found[2])
+        elif found := re.match(r"(?:pub )?use (\S+)(?: as (\S+))?", line):
+            self.modules[found[2] or found[1].split(".")[-1]] = found[1]
+
+
+# ---- files of definitions
+
+
+def add_to(of, chunk, name):
+    """Adds a part of a file to what it defines: a definition, or an equation of the last one, whose
+    name this is. Returns the name of the definition."""
+    words = chunk.split()
+    head = [word for word in words if word not in KEYWORDS]
+    if words[0] not in KEYWORDS and words[1] != ":":
+        of.defined[name].text += "\n" + chunk
+        return name
+    definition = of.defined[head[0]] = Definition(of, head[0], chunk)
+    if "data" in words[:2]:
+        constructors = re.findall(r"^\s+(\S+) :", chunk, re.M)
+        of.defined.update(dict.fromkeys(constructors, definition))
+    return head[0]
+
+
+@cache
+def module(path):
+    """The file of definitions of `Rattle.CRATE.specs.A.B`; `None` if it is none of ours."""
+    crate, _, *names = path.split(".")[1:]
+    if not (CRATES / crate).is_dir():
+        return None
+    file = CRATES.joinpath(crate, "specs", *names).with_suffix(".antt")
+    of, name, fixity = Module(file), None, ""
+    text = re.sub(r"(^|\s)--(\s.*)?$", "", file.read_text(), flags=re.M)
+    for chunk in filter(str.strip, re.split(r"\n(?=[^\s})])", text)):
+        if re.match(r"(pub )?use ", chunk):
+            of.use(chunk)
+        elif chunk.startswith("infix"):
+            fixity = chunk + "\n"
+        elif not chunk.startswith("pub mod "):
+            name = add_to(of, chunk, name)
+            of.defined[name].text, fixity = fixity + of.defined[name].text, ""
+    return of
+
+
+def defined_in(path, name):
+    """The definition of a name in a module, which may take it from another one, or in a crate; `None`
+    if it is none of ours."""
+    if "." not in path:
+        return declared(path, name)
+    if ".declared." in path:
+        crate, _, _, *names = [part for part in path.split(".")[1:] if part != "TheVariants"]
+        return declared(crate, names[-1])
+    if not (of := module(path)):
+        return None
+    if name in of.names:
+        return defined_in(*of.names[name])
+    if name not in of.defined:
+        sys.exit(f"{of.file}: no definition of {name}")
+    return of.defined[name]
+
+
+def meaning(of, word):
+    """The definition that a word stands for in a file, if it is one of ours."""
+    first, _, others = word.partition(".")
+    if first in of.modules and others:
+        return defined_in(of.modules[first], others.split(".")[0])
+    for name in {**of.names, **of.defined}:
+        if first == name or "◌" in name and first in name.split("◌"):
+            return of.defined.get(name) or defined_in(*of.names[name])
+    return None
+
+
+# ---- files of Rust
+
+
+def block_at(text, start):
+    """The text from `start` to the end of the first block in braces, or to a `;` before one."""
+    depth = 0
+    for found in re.compile(r"[{};]").finditer(text, start):
+        depth += {"{": 1, "}": -1, ";": 0}[found[0]]
+        if depth == 0:
+            return text[start : found.end()]
+    return text[start:]
+
+
+@cache
+def rust(file):
+    """A file of Rust, and its text without comments and attributes. Of a type that it takes from
+    another file the module is the crate."""
+    of = Module(file)
+    text = re.sub(r"(^|\s)//(.*)$|^\s*#\[.*\]$", "", file.read_text(), flags=re.M)
+    for found in re.finditer(r"^\s*ghost (use .*);", text, re.M):
+        of.use(found[1])
+    uses = r"^(?:pub )?use (\w+)(?:::\w+)*::(?:\{(.*?)\}|(\w+));"
+    for found in re.finditer(uses, text, re.M | re.S):
+        of.take_in(of.crate if found[1] == "crate" else found[1], found[2] or found[3])
+    return of, text
+
+
+@cache
+def declared(crate, name):
+    """The type or trait of a name that a crate declares, or gives out from another one."""
+    for file in sorted((CRATES / crate).glob("src/**/*.rt")):
+        of, text = rust(file)
+        if found := re.search(rf"^pub (struct|enum|trait) {name}\b", text, re.M):
+            return type_at(of, name, text, found)
+    library = CRATES / crate / "src/lib.rt"
+    given = rust(library)[0].names.get(name) if library.is_file() else None
+    return declared(*given) if given else None
+
+
+def type_at(of, name, text, found):
+    """A type as contracts see it: its model if it has one, else its declaration."""
+    whole = block_at(text, found.start())
+    if model := re.search(rf"^impl\b.* Model for {name}\b", text, re.M):
+        members = r"ghost (?:Value|view) ="
+        whole = block_at(text, model.start())
+    elif found[1] == "trait":
+        members = r"ghost \w+: |fn (?=[^;{]*ensures)"
+    else:
+        return Definition(of, name, whole, is_type=True)
+    parts = (block_at(whole, member.start()) for member in re.finditer(members, whole))
+    return Definition(of, name, "\n".join(parts))
+
+
+def contract():
+    """The contract at which the walk starts."""
+    file, name = START
+    of, text = rust(file)
+    start = text.index(f"pub fn {name}")
+    return Definition(of, name, text[start : text.index("\n{", start)])
+
+
+# ---- the walk
+
+
+def named_in(definition):
+    """The definitions that are named in one."""
+    of, text = definition.module, definition.text
+    words = TOKEN.findall(text) + [">>="] * bool(re.search(r"\bdo$", text, re.M))
+    found = [] if definition.is_type else [meaning(of, word) for word in words]
+    if of.file.suffix == ".rt":
+        variants = re.sub(r"^ +[A-Z]\w*", "", text, flags=re.M) if definition.is_type else text
+        found += [meaning(of, name) or declared(of.crate, name) for name in TYPE.findall(variants)]
+    return filter(None, found)
+
+
+def reached():
+    """All definitions that are reached, each once."""
+    found, waiting = [], [contract()]
+    while waiting:
+        if (definition := waiting.pop()) not in found:
+            found.append(definition)
+            waiting += named_in(definition)
+    return sorted(found, key=lambda it: (it.module.crate, it.module.path, it.is_type, it.name))
+
+
+def count(definitions, is_type=False):
+    return sum(it.lines for it in definitions if it.is_type == is_type)
+
+
+def main():
+    parser = argparse.ArgumentParser()
+    parser.add_argument("--most", type=int, help="how many lines of definitions there may be")
+    most = parser.parse_args().most
+    found = reached()
+    for crate, of_crate in groupby(found, key=lambda it: it.module.crate):
+        of_crate = list(of_crate)
+        print(f"{count(of_crate):5} {crate}")
+        for path, group in groupby(of_crate, key=lambda it: (it.module.path, it.is_type)):
+            group, (path, is_type) = list(group), path
+            names = ", ".join(f"{it.name} {it.lines}" for it in group)
+            lines = f"({count(group, True)})" if is_type else count(group)
+            print(f"{lines:>9} {path}: {names}")
+    print(f"{count(found):5} lines of definitions must be believed")
+    print(f"{f'({count(found, True)})':>9} lines of structs and enums that they speak of")
+    return 1 if most is not None and count(found) > most else 0
+
+
+if __name__ == "__main__":
+    sys.exit(main())
