@@ -1,7 +1,15 @@
 -- How a `NameHasher` takes in bytes.
 use Rattle.std.specs.Prelude.{ℕ, ◌*◌, ◌/◌, ◌%◌, ◌^◌, if◌then◌else◌, nat_eq, nat_lt, bit_or, bit_xor, fold, List, length}
 use Rattle.std.specs.Int.{w64, from_le_bytes}
-use Rattle.nj_hash.specs.declared.name_hasher.NameHasher.{NameHasher}
+
+-- a hasher, between two calls
+pub record HasherState : Type 0 where
+  -- what the blocks so far came to
+  pub state : ℕ
+  -- what a block is multiplied by
+  pub factor : ℕ
+  -- the bytes since the last block, the first one highest, below a bit that is set
+  pub pending : ℕ
 
 -- the halves of the 128 bits of a product, joined by xor
 abbrev pub folded_product : ℕ → ℕ → ℕ
@@ -12,20 +20,20 @@ abbrev pub with_byte : ℕ → (byte : ℕ) → ℕ
 with_byte number byte = bit_or (number * 2 ^ 8 % 2 ^ 64) byte
 
 -- the state after a whole block
-abbrev pub with_block : NameHasher → (block : ℕ) → NameHasher
+abbrev pub with_block : HasherState → (block : ℕ) → HasherState
 with_block hasher block = record hasher { state = folded_product (bit_xor hasher.state block) hasher.factor }
 
 -- the state after one byte; the eighth of a block ends it
-abbrev pub step : NameHasher → (byte : ℕ) → NameHasher
+abbrev pub step : HasherState → (byte : ℕ) → HasherState
 step hasher byte =
     let block = with_byte hasher.pending byte in
     let ended = with_block hasher block in
     if nat_lt hasher.pending (2 ^ 56) then record hasher { pending = block } else record ended { pending = 1 }
 
 -- the state after bytes; eight that come at once are a block of their own
-abbrev pub write : NameHasher → List ℕ → NameHasher
+abbrev pub write : HasherState → List ℕ → HasherState
 write hasher bytes = if nat_eq (length bytes) 8 then with_block hasher (from_le_bytes w64 bytes) else fold step hasher bytes
 
 -- the hash of what was taken in
-abbrev pub finish : NameHasher → ℕ
+abbrev pub finish : HasherState → ℕ
 finish hasher = folded_product (bit_xor hasher.state hasher.pending) hasher.factor

@@ -2,6 +2,7 @@
 
 use crate::name_hasher::NameHasher;
 use std::hash::BuildHasher;
+use std::marker::Model;
 
 /// The keys by which the names of a run are hashed. Names come from strangers, and whoever knows
 /// how names are hashed can choose ones that all collide, so that each look-up goes through all.
@@ -12,6 +13,16 @@ use std::hash::BuildHasher;
 #[derive(Clone, Copy)]
 pub struct HashKeys {
     start: NameHasher,
+}
+
+impl Model for HashKeys {
+    ghost use Rattle.nj_hash.specs.NameHash.{HasherState};
+
+    ghost Value = { HasherState };
+
+    ghost view = { λ keys. keys.start };
+
+    ghost inverse = { λ start. record { start = start } };
 }
 
 impl HashKeys {
@@ -33,7 +44,7 @@ impl Default for HashKeys {
 impl BuildHasher for HashKeys {
     type Hasher = NameHasher;
 
-    ghost build_hasher = { λ keys. keys.start };
+    ghost build_hasher = { λ keys. keys };
 
     #[inline(always)]
     fn build_hasher(&self) -> NameHasher {

@@ -3,6 +3,7 @@ ghost use Rattle.nj_hash.specs.NameHash.{folded_product, with_block, step, write
 ghost use Rattle.std.specs.Prelude.{◌≡◌};
 
 use std::hash::Hasher;
+use std::marker::Model;
 
 /// The 64 bits of π after its point.
 const PI: u64 = 0x243f_6a88_85a3_08d3;
@@ -31,6 +32,16 @@ pub struct NameHasher {
     /// The bytes since the last block, the first one highest, below a bit that is set. So `a` and
     /// `a\0` differ.
     pending: u64,
+}
+
+impl Model for NameHasher {
+    ghost use Rattle.nj_hash.specs.NameHash.{HasherState};
+
+    ghost Value = { HasherState };
+
+    ghost view = { λ h. record { state = h.state; factor = h.factor; pending = h.pending } };
+
+    ghost inverse = { λ h. record { state = h.state; factor = h.factor; pending = h.pending } };
 }
 
 impl NameHasher {
