@@ -1,0 +1,43 @@
+#!/usr/bin/env python3
+"""Looks whether each public struct with a private field has an `impl Model`, so that contracts, and
+the proofs of other crates, speak of its value and not of its fields.
+
+Prints each that has none, unless it is named below; docs/ARCHITECTURE.md says why for those. The
+status is 1 if anything is printed.
+"""
+
+import re
+import sys
+from pathlib import Path
+
+ROOT = Path(__file__).resolve().parent.parent
+WITHOUT = {"nj_order": {"EdgeInputs"}}
+
+STRUCT = re.compile(r"^pub struct (\w+).*?(?:\{(.*?)^\}|\(([^;]*)\);|;$)", re.M | re.S)
+NAMED_FIELD = re.compile(r"^    (?!pub |ghost )\w[\w()]* ?\w*:", re.M)
+FIELD_BY_PLACE = re.compile(r"(?:^|,)\s*(?!pub )[^\s,]")
+
+
+def without_model(text):
+    """The public structs of a file that have a private field and no model."""
+    for name, fields, by_place in STRUCT.findall(text):
+        has_private = NAMED_FIELD.search(fields) or FIELD_BY_PLACE.search(by_place)
+        if has_private and not re.search(rf"^impl\b.* Model for {name}\b", text, re.M):
+            yield name
+
+
+def main():
+    faults = []
+    for crate in sorted((ROOT / "crates").iterdir()):
+        texts = (file.read_text() for file in sorted(crate.glob("src/**/*.rt")))
+        found = {name for text in texts for name in without_model(text)}
+        named = WITHOUT.get(crate.name, set())
+        faults += [f"{crate.name}: {name} has no model" for name in sorted(found - named)]
+        faults += [f"{crate.name}: {name} needs no exception" for name in sorted(named - found)]
+    for fault in faults:
+        print(fault)
+    return 1 if faults else 0
+
+
+if __name__ == "__main__":
+    sys.exit(main())
