@@ -33,7 +33,7 @@ use crate::fields::{Fields, fields_in, parse};
 use crate::numbers::{depth_in, number_in};
 use crate::tools::{Tool, first_foreign, tool_named};
 use nj_graph::Name;
-use nj_marks::{Mark, MarkTextFault};
+use nj_marks::{Mark, MarkFault};
 use nj_tools::TargetsView;
 use std::alloc::{AllocError, Global};
 
@@ -253,8 +253,9 @@ fn start_of(alloc: Global, text: Option<&str>) -> Result<Mark, UsageFault>
     };
     match Mark::read(alloc, text) {
         Ok(mark) => Ok(mark),
-        Err(MarkTextFault::BadMark) => Err(UsageFault::BadMark(Word::new(alloc, text)?)),
-        Err(MarkTextFault::OutOfMemory) => Err(UsageFault::OutOfMemory),
+        Err(MarkFault::BadMark) => Err(UsageFault::BadMark(Word::new(alloc, text)?)),
+        Err(MarkFault::MarkOutOfRange) => unreachable!(),
+        Err(MarkFault::OutOfMemory) => Err(UsageFault::OutOfMemory),
     }
 }
 
