@@ -1,7 +1,9 @@
 # The toolchain is the command `rt`; `rt version` names it.
 PROGRAM := crates/ninja_explain
 BUILT := $(PROGRAM)/out/ninja_explain
-# How many proofs run side by side. The prover runs fewer where memory is short.
+PROJECT := examples/project
+FILES := $(shell cd $(PROJECT) && find * -type f)
+# How many crates are proved side by side, each on one processor and in at most 3 GB.
 JOBS ?= $(shell nproc)
 
 # Where `make install` puts things; DESTDIR stands before all of it.
@@ -13,17 +15,20 @@ INSTALLED_BASH := $(SHARE)/bash-completion/completions/ninja-explain
 INSTALLED_ZSH := $(SHARE)/zsh/site-functions/_ninja-explain
 INSTALLED_FISH := $(SHARE)/fish/vendor_completions.d/ninja-explain.fish
 
-.PHONY: all run test smoke try install uninstall clean
+.PHONY: all run test smoke install uninstall clean
 
-# Proves and builds the program, and leaves it as bin/ninja-explain.
+# Proves and builds the program, and leaves it as bin/ninja-explain. The crates that it stands on are
+# proved side by side; the last line builds it over what was proved.
 all:
-	cd $(PROGRAM) && rt run --jobs $(JOBS) < stdin > /dev/null
+	cd $(PROGRAM) && rt all check --jobs $(JOBS)
+	cd $(PROGRAM) && rt run --jobs 1 < stdin > /dev/null
 	mkdir -p bin
 	cp $(BUILT) bin/ninja-explain
 
-# Builds the program and prints the commands of a project in three files.
-run: all
-	cd examples/project && ../../bin/ninja-explain -t commands
+# Builds the program without any proof, and prints the commands of a project in three files.
+run:
+	cd $(PROGRAM) && rt try $(foreach file,$(FILES),--data $(file)=../../$(PROJECT)/$(file)) -- -t commands
+	@echo "Nothing is proved yet: 'make' proves and builds the program, 'make test' runs the whole gate."
 
 # Every proof from nothing, the must-fail edits, the tests and the stored run. It leaves the program.
 test:
@@ -44,14 +49,10 @@ smoke: $(BUILT)
 $(BUILT): $(wildcard crates/*/src/*.rt)
 	$(MAKE) all
 
-# Runs the program on examples/hello before any proof.
-try:
-	cd $(PROGRAM) && rt try < ../../examples/hello/build.ninja
-
-# Installs the program that `make run` left, its man page, and completions for three shells.
+# Installs the program that `make` left, its man page, and completions for three shells.
 install:
 	@test -x bin/ninja-explain || \
-	{ echo "there is no bin/ninja-explain to install: build it first, with 'make run'" >&2; exit 1; }
+	{ echo "there is no bin/ninja-explain to install: prove and build it first, with 'make'" >&2; exit 1; }
 	install -D -m 755 bin/ninja-explain "$(INSTALLED_PROGRAM)"
 	install -D -m 644 man/ninja-explain.1 "$(INSTALLED_PAGE)"
 	install -D -m 644 completions/ninja-explain.bash "$(INSTALLED_BASH)"
