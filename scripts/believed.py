@@ -5,9 +5,9 @@
 
 It starts at the contract (crates/nj_cli/src/run.rt), follows each name in it to its definition,
 each name in that, and so on. Definitions are those of crates/*/specs; in crates/*/src the value
-and the view of an `impl Model`, and of a trait the state and the calls that have a clause. Comments,
-empty lines, `use` and `pub mod` don't count, and neither does what the toolchain's crates define. A
-variable that has the name of a definition in its file counts as a use of it.
+and the view of an `impl Model`, and of a trait the state and the calls that have a clause.
+Comments, empty lines, `use` and `pub mod` don't count, and neither does what the toolchain's crates
+define. A variable that has the name of a definition in its file counts as a use of it.
 
 Prints for each crate and file how many lines are reached, and of which names. The structs and enums
 of crates/*/src, which definitions speak of, are printed too, and summed apart. With --most the
@@ -101,8 +101,8 @@ def module(path):
 
 
 def defined_in(path, name):
-    """The definition of a name in a module, which may take it from another one, or in a crate; `None`
-    if it is none of ours."""
+    """The definition of a name in a module, which may take it from another one, or in a crate;
+    `None` if it is none of ours."""
     if "." not in path:
         return declared(path, name)
     if ".declared." in path:
