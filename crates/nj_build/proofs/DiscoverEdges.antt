@@ -17,12 +17,11 @@ use Rattle.nj_faults.specs.declared.fault.GraphFault.{GraphFault}
 use Rattle.nj_faults.specs.declared.fault.Cause.TheVariants.{DyndepExtra, DyndepTwice}
 use Rattle.nj_faults.specs.Faults.{fault_at}
 use Rattle.nj_late.specs.LateTexts.{LateNames, asked_text}
-use Rattle.nj_build.specs.EdgeList.{EdgeText, Pending, path_said, block_of, on_line, stated_paths, edge_paths, with_discovered, edge_of_build, edges_read, paths_of_edges}
+use Rattle.nj_build.specs.EdgeList.{EdgeText, Pending, path_said, block_of, on_line, stated_paths, edge_paths, with_discovered, edge_of_build, edges_read, paths_of_edges, block_of_edge, block_at}
 use Rattle.nj_build.specs.EdgeList.{file_said, dyndep_of, pending_at, pending_read}
 use Rattle.nj_build.specs.Joining.{no_values, discover, discovered_by, edge_meant, discover_for, waits_for, meaning_fault}
 use Rattle.nj_build.specs.BuildFaults.{fault_if, or_then, first_fault, empty_path, outputs_fault}
 use Rattle.nj_build.specs.Built.{detail_of}
-use Rattle.nj_build.specs.Answers.{block_of_edge, block_at}
 use Rattle.nj_build.specs.Laws.{is_pending, with_found, AreRising, StandByNumber, AddsToOneEdge, OthersWaitAsBefore, PendingEdgesRise, AddsToItsEdge, EntriesAddToTheirEdges}
 use Rattle.nj_build.proofs.DiscoverLemmas.{Declared, bounds-discover, rules-discover, names_of_edge-discover}
 

@@ -18,9 +18,9 @@ use Rattle.nj_edges.specs.declared.files.FileNo.{FileNo}
 use Rattle.nj_edges.specs.EdgesHeld.{no_files}
 use Rattle.nj_edges.specs.Files.{AreFiles}
 use Rattle.nj_faults.specs.declared.fault.GraphFault.{GraphFault}
-use Rattle.nj_build.specs.EdgeList.{Block, EdgeText, Pending, build_block, paths_said, edge_of_build, edges_read, defaults_read, dyndep_of, pending_at, pending_read}
+use Rattle.nj_build.specs.EdgeList.{Block, EdgeText, Pending, build_block, paths_said, edge_of_build, edges_read, defaults_read, dyndep_of, pending_at, pending_read, block_at, block_of_edge}
 use Rattle.nj_build.specs.declared.building.DyndepEdge.{DyndepEdge}
-use Rattle.nj_build.specs.Answers.{BuildingText, ArePending, IsFileSaid, with_dyndep, HoldsEdges, DetailText, IsDetail, AreDetails, AddsEdge, AddsTargets, Checks, IsFault, ReadsStatement, HoldsReferences, block_at, block_of_edge}
+use Rattle.nj_build.specs.Answers.{BuildingText, ArePending, IsFileSaid, with_dyndep, HoldsEdges, DetailText, IsDetail, AreDetails, AddsEdge, AddsTargets, Checks, IsFault, ReadsStatement, HoldsReferences}
 use Rattle.nj_build.proofs.Lists.{get-longer}
 use Rattle.nj_build.proofs.ReferenceLemmas.{references-none, references-longer}
 

@@ -9,8 +9,7 @@ use Rattle.std.proofs.lemmas.Option.{slice_get_within}
 use Rattle.nj_manifest.specs.LineSteps.{NameText}
 use Rattle.nj_manifest.specs.Statements.{LineText, OutputsText, InputsText}
 use Rattle.nj_scope.specs.Rules.{RuleText, phony}
-use Rattle.nj_scope.specs.Scopes.{nearest, IsScope}
-use Rattle.nj_scope.specs.ScopesHeld.{parent_at}
+use Rattle.nj_scope.specs.Scopes.{nearest, IsScope, parent_at}
 use Rattle.nj_scope.specs.Declarations.{DeclarationsText, DeclaredBy}
 use Rattle.nj_scope.specs.ReadingList.{Entry, scope_of, value_after, rules, rule_in_force, rule_texts, pools}
 use Rattle.nj_scope.proofs.InForce.{in_force, phony-there}

@@ -5,8 +5,7 @@ use Rattle.nj_text.specs.declared.spot.Spot.{Spot}
 use Rattle.nj_manifest.specs.Statements.{InputsText, StatementText}
 use Rattle.nj_scope.specs.Rules.{RuleText, phony}
 use Rattle.nj_scope.specs.Readings.{IsPrefix}
-use Rattle.nj_scope.specs.Scopes.{IsScope}
-use Rattle.nj_scope.specs.ScopesHeld.{parent_at}
+use Rattle.nj_scope.specs.Scopes.{IsScope, parent_at}
 use Rattle.nj_scope.specs.Declarations.{DeclarationsText, DeclaredBy}
 use Rattle.nj_scope.specs.ReadingList.{Entry, value_after, rule_texts}
 use Rattle.nj_blocks.specs.Blocks.{BlocksText, bound_in}
@@ -26,7 +25,7 @@ use Rattle.nj_build.specs.declared.names.EdgeBlock.{EdgeBlock}
 use Rattle.nj_build.specs.declared.building.Detail.{Detail}
 use Rattle.nj_build.specs.declared.building.DyndepEdge.{DyndepEdge}
 use Rattle.nj_build.specs.declared.place.StatementPlace.{StatementPlace}
-use Rattle.nj_build.specs.EdgeList.{Values, Block, EdgeText, Pending, on_line, paths_said, edges_read, paths_of_edges, defaults_read, pending_read}
+use Rattle.nj_build.specs.EdgeList.{Values, Block, EdgeText, Pending, on_line, paths_said, edges_read, paths_of_edges, defaults_read, pending_read, no_block, block_at}
 
 -- ---- faults
 
@@ -48,9 +47,6 @@ pub record Sees (held : DeclarationsText) (scope : ℕ) (block : Block) (values 
   pub declared : DeclaredBy held entries
   pub within : IsScope (parent_at held.scopes) scope (scope ∷ around)
   pub are : (name : List ℕ) → values name ≡ on_line (value_after entries (scope ∷ around)) block name
-
-abbrev pub no_block : Block
-no_block name = None
 
 abbrev pub bound_by : EdgeBlock → Block
 bound_by b = bound_in b.blocks.now b.edge
@@ -171,13 +167,6 @@ pub record BuildingText : Type 0 where
   pub dyndeps : List DyndepEdge
   -- of each rule by number, which of its variables refer to which, where an edge has used it
   pub references : List (Option (List ReferringKeyText))
-
-abbrev pub block_of_edge : Option EdgeText → Block
-block_of_edge None = no_block
-block_of_edge (Some e) = e.block
-
-abbrev pub block_at : List EdgeText → (number : ℕ) → Block
-block_at edges number = block_of_edge (slice_get edges number)
 
 abbrev pub detail_text : Detail → DetailText
 detail_text d = record { file = d.file; spot = d.spot; scope = d.scope; rule = d.rule }

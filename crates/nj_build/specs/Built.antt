@@ -10,8 +10,7 @@ use Rattle.nj_edges.specs.Needs.{makers_of_inputs}
 use Rattle.nj_faults.specs.declared.fault.GraphFault.{GraphFault}
 use Rattle.nj_faults.specs.declared.fault.Cause.TheVariants.{Cycle}
 use Rattle.nj_faults.specs.Faults.{fault_at, no_memory}
-use Rattle.nj_build.specs.EdgeList.{EdgeText, Pending, edges_read, paths_of_edges, defaults_read, pending_read}
-use Rattle.nj_build.specs.Answers.{block_at}
+use Rattle.nj_build.specs.EdgeList.{EdgeText, Pending, edges_read, paths_of_edges, defaults_read, pending_read, block_at}
 
 -- An edge without its paths and its block: the file of its build statement, by the name under which it was opened, the place
 -- of its first byte there, the number of its scope, and that of its rule.

@@ -24,6 +24,10 @@ Values = (name : List ℕ) → List ℕ
 abbrev pub Block : Type 0
 Block = (name : List ℕ) → Option (List ℕ)
 
+-- a block without lines
+abbrev pub no_block : Block
+no_block name = None
+
 -- The last line of a name counts. Its value sees the scope of the file, and no line of the block itself.
 abbrev pub block_of : Values → List LineText → Block
 block_of values lines name = option_map (λ l. expanded values l.value.parts) (find (λ l. bytes_eq name l.name) (reverse lines))
@@ -119,6 +123,14 @@ with_edge e before item edges = edges
 unfoldable pub edges_read : List Entry → List EdgeText
 edges_read [] = []
 edges_read (e ∷ before) = with_edge e before e.item (edges_read before)
+
+-- the block of the edge of a number; past the last edge there is none
+abbrev pub block_of_edge : Option EdgeText → Block
+block_of_edge None = no_block
+block_of_edge (Some e) = e.block
+
+abbrev pub block_at : List EdgeText → (number : ℕ) → Block
+block_at edges number = block_of_edge (slice_get edges number)
 
 abbrev pub paths_of_edges : List EdgeText → List EdgePaths
 paths_of_edges edges = map (λ e. e.paths) edges

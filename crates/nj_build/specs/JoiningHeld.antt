@@ -16,12 +16,12 @@ use Rattle.nj_faults.specs.declared.fault.Cause.TheVariants.{DyndepExtra, Dyndep
 use Rattle.nj_faults.specs.Faults.{fault_at}
 use Rattle.nj_build.specs.declared.building.Detail.{Detail}
 use Rattle.nj_build.specs.declared.building.DyndepEdge.{DyndepEdge}
-use Rattle.nj_build.specs.EdgeList.{Pending, path_said, edges_read, paths_of_edges, defaults_read, pending_read}
+use Rattle.nj_build.specs.EdgeList.{Pending, path_said, edges_read, paths_of_edges, defaults_read, pending_read, block_at}
 use Rattle.nj_build.specs.BuildFaults.{fault_if}
 use Rattle.nj_build.specs.Built.{EdgeDetail, detail_of}
 use Rattle.nj_build.specs.BuiltHeld.{detail_named, pending_named}
 use Rattle.nj_build.specs.Joining.{no_values, dyndep_files}
-use Rattle.nj_build.specs.Answers.{IsFault, block_at}
+use Rattle.nj_build.specs.Answers.{IsFault}
 
 -- ---- the edges that wait
 

@@ -4,8 +4,8 @@ ghost use Rattle.std.specs.Prelude.{◌≡◌, ℕ, ◌<◌, ◌≤◌, ◌==◌
 ghost use Rattle.nj_manifest.specs.Contents.{lines_text};
 ghost use Rattle.nj_scope.specs.Scopes.{or_else};
 ghost use Rattle.nj_blocks.specs.Blocks.{bound_in};
-ghost use Rattle.nj_build.specs.EdgeList.{Values, block_of};
-ghost use Rattle.nj_build.specs.Answers.{Sees, no_block};
+ghost use Rattle.nj_build.specs.EdgeList.{Values, block_of, no_block};
+ghost use Rattle.nj_build.specs.Answers.{Sees};
 
 use crate::names::Names;
 use nj_blocks::Blocks;

@@ -3,8 +3,7 @@
 ghost use Rattle.std.specs.Prelude.{◌≡◌, ℕ, ◌<◌, List, [], ◌∷◌, Some, option_map, length, slice_get, OnOk, IfSome};
 ghost use Rattle.nj_manifest.specs.Contents.{name_text, words_text, outputs_text, inputs_text, lines_text, build_text};
 ghost use Rattle.nj_manifest.specs.Statements.{DefaultText};
-ghost use Rattle.nj_scope.specs.Scopes.{IsScope};
-ghost use Rattle.nj_scope.specs.ScopesHeld.{parent_at};
+ghost use Rattle.nj_scope.specs.Scopes.{IsScope, parent_at};
 ghost use Rattle.nj_scope.specs.Declarations.{DeclaredBy};
 ghost use Rattle.nj_scope.specs.ReadingList.{Entry, rule_in_force, rule_texts};
 ghost use Rattle.nj_edges.specs.EdgesHeld.{no_files};

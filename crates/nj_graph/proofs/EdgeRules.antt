@@ -5,7 +5,7 @@ use Rattle.std.proofs.lemmas.Option.{slice_get_within}
 use Rattle.nj_manifest.specs.LineSteps.{NameText}
 use Rattle.nj_manifest.specs.Statements.{StatementText, BindingText, RuleText, PoolText, BuildText, DefaultText, IncludeText, SubninjaText, LineText, OutputsText, InputsText}
 use Rattle.nj_scope.specs.Rules as kept
-use Rattle.nj_scope.specs.ScopesHeld.{ScopeText}
+use Rattle.nj_scope.specs.Scopes.{ScopeText}
 use Rattle.nj_scope.specs.Declarations.{DeclarationsText}
 use Rattle.nj_scope.specs.ReadingList.{Discovered, Entry, scope_of, rule_in_force, rule_texts, with_rule}
 use Rattle.nj_scope.proofs.InForce.{in_force}

@@ -10,8 +10,7 @@ use Rattle.nj_edges.specs.Edges.{EdgePaths, edge_at}
 use Rattle.nj_edges.specs.Files.{AreFiles, path_at}
 use Rattle.nj_edges.specs.declared.files.FileNo.{FileNo}
 use Rattle.nj_late.specs.LateTexts.{LateNames, asked_text}
-use Rattle.nj_build.specs.EdgeList.{EdgeText, edges_read, names_of_edge, lines_of_rule}
-use Rattle.nj_build.specs.Answers.{block_of_edge}
+use Rattle.nj_build.specs.EdgeList.{EdgeText, edges_read, names_of_edge, lines_of_rule, block_of_edge}
 use Rattle.nj_build.specs.Built.{EdgeDetail, detail_at, detail_of}
 use Rattle.nj_build.proofs.LateLemmas.{paths-are, same-everywhere}
 use Rattle.nj_graph.specs.Graph.{GraphText, edges_of, files_of, IsOpenScope, HasRule, IsGraphOf, text_of_edge, late_text_of}

@@ -5,8 +5,7 @@ use Rattle.nj_text.specs.Words.{WordText}
 use Rattle.nj_manifest.specs.LineSteps.{NameText}
 use Rattle.nj_manifest.specs.Statements.{LineText}
 use Rattle.nj_scope.specs.Readings.{EachPathOnce, paths_of}
-use Rattle.nj_scope.specs.Scopes.{or_else, Bounds, value_in, expanded}
-use Rattle.nj_scope.specs.ScopesHeld.{rule_at}
+use Rattle.nj_scope.specs.Scopes.{or_else, Bounds, value_in, expanded, rule_at}
 use Rattle.nj_scope.specs.Declarations.{DeclarationsText, DeclaredBy, SameScopes}
 use Rattle.nj_scope.specs.Limits.{is_depth}
 use Rattle.nj_scope.specs.Pools.{is_pool}

@@ -5,8 +5,7 @@ use Rattle.nj_text.specs.Words.{WordText}
 use Rattle.nj_manifest.specs.Faults.{Fault, place_of, text_of}
 use Rattle.nj_manifest.specs.Statements.{StatementText, BindingText, RuleText, PoolText, BuildText, DefaultText, IncludeText, SubninjaText, LineText, OutputsText, InputsText}
 use Rattle.nj_scope.specs.Readings.{Reading, EachPathOnce, IsPrefix, paths_of}
-use Rattle.nj_scope.specs.Scopes.{child}
-use Rattle.nj_scope.specs.ScopesHeld.{parent_at}
+use Rattle.nj_scope.specs.Scopes.{child, parent_at}
 use Rattle.nj_scope.specs.Declarations.{DeclarationsText, DeclaredBy, TakesIn}
 use Rattle.nj_scope.specs.ReadingList.{Entry, scope_of, value_after, files_opened, opens_file}
 use Rattle.nj_scope.specs.Sources.{SourceState}

@@ -1,8 +1,7 @@
 -- Scopes that were opened stay opened.
 use Rattle.std.proofs.Common.{◌≡◌, ℕ, ◌<◌, ◌≤◌, Option, List, [], ◌∷◌, length, arith, refl, ◌∙◌}
 use Rattle.std.specs.List.{AllByRecursion}
-use Rattle.nj_scope.specs.Scopes.{IsScope, outermost, child}
-use Rattle.nj_scope.specs.ScopesHeld.{ScopeText, parent_at}
+use Rattle.nj_scope.specs.Scopes.{IsScope, outermost, child, ScopeText, parent_at}
 use Rattle.nj_scope.specs.ReadingList.{Entry}
 use Rattle.nj_graph.specs.Graph.{IsOpenScope}
 use Rattle.nj_graph.specs.ReaderContracts.{Grows}

@@ -3,7 +3,7 @@ use Rattle.std.specs.List.{AllByRecursion}
 use Rattle.std.specs.Prelude.{◌≡◌, ℕ, ◌<◌, Some, None, List, map, length, slice_get}
 use Rattle.nj_scope.specs.Declarations.{DeclarationsText}
 use Rattle.nj_scope.specs.Rules.{RuleText}
-use Rattle.nj_scope.specs.ScopesHeld.{parent_at}
+use Rattle.nj_scope.specs.Scopes.{parent_at}
 use Rattle.nj_build.specs.Built.{BuiltText, EdgeDetail}
 use Rattle.nj_graph.specs.Graph.{main_rules_of}
 

@@ -16,7 +16,7 @@ use Rattle.nj_manifest.specs.Statements.{StatementText, IncludeText, SubninjaTex
 use Rattle.nj_scope.specs.Readings.{Reading, EachPathOnce, paths_of, IsPrefix}
 use Rattle.nj_scope.specs.Sources.{SourceState}
 use Rattle.nj_scope.specs.Opening as table
-use Rattle.nj_scope.specs.ScopesHeld.{ScopeText, parent_at}
+use Rattle.nj_scope.specs.Scopes.{ScopeText, parent_at}
 use Rattle.nj_scope.specs.Declarations.{DeclaredBy}
 use Rattle.nj_scope.specs.ReadingList.{Entry, files_opened}
 use Rattle.nj_faults.specs.declared.fault.Place.{Place}

@@ -1,7 +1,7 @@
 //! The graph of a run.
 
 ghost use Rattle.std.specs.Prelude.{◌≡◌, ◌<◌, None, length, option_copied, option_and_then, slice_get, IfOk};
-ghost use Rattle.nj_scope.specs.ScopesHeld.{parent_at};
+ghost use Rattle.nj_scope.specs.Scopes.{parent_at};
 ghost use Rattle.nj_graph.specs.Graph.{main_rules, main_rule_at, rule_name, description, has_description, description_text, NamesRise, ListsMainRules};
 ghost use Rattle.std.specs.List.{AllByRecursion};
 ghost use Rattle.nj_graph.specs.GraphHeld.{HoldsMainRules, IsKnown};

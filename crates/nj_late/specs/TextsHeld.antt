@@ -5,8 +5,7 @@ use Rattle.nj_scope.specs.Declarations.{DeclaredBy}
 use Rattle.nj_scope.specs.ReadingList.{Entry, value_after}
 use Rattle.nj_scope.specs.Rules.{RuleLineText}
 use Rattle.nj_scope.specs.RulesHeld.{key_at, IsNumber}
-use Rattle.nj_scope.specs.Scopes.{IsScope}
-use Rattle.nj_scope.specs.ScopesHeld.{parent_at}
+use Rattle.nj_scope.specs.Scopes.{IsScope, parent_at}
 use Rattle.nj_blocks.specs.Blocks.{bound_in}
 use Rattle.nj_late.specs.declared.edge.LateEdge.{LateEdge}
 use Rattle.nj_late.specs.declared.memo.KeyText.{KeyText}

@@ -4,8 +4,7 @@ ghost use Rattle.std.specs.Prelude.{◌≡◌, ◌<◌, ◌++◌, ◌∷◌, ℕ
 ghost use Rattle.nj_scope.specs.Declarations.{DeclaredBy};
 ghost use Rattle.nj_scope.specs.ReadingList.{Entry, value_after};
 ghost use Rattle.nj_scope.specs.RulesHeld.{IsNumber};
-ghost use Rattle.nj_scope.specs.Scopes.{IsScope};
-ghost use Rattle.nj_scope.specs.ScopesHeld.{parent_at};
+ghost use Rattle.nj_scope.specs.Scopes.{IsScope, parent_at};
 ghost use Rattle.nj_late.specs.LateTexts.{value_given, file_value, asked_text};
 ghost use Rattle.nj_late.specs.LateEdges.{late_names};
 ghost use Rattle.nj_late.specs.TextsHeld.{AreKeyTexts, AppendsLate, AppendsPlain};

@@ -4,8 +4,7 @@ use Rattle.nj_text.specs.Words.{PartText, Text, Name, WordText}
 use Rattle.nj_manifest.specs.LineSteps.{NameText}
 use Rattle.nj_manifest.specs.Statements.{LineText, OutputsText, InputsText, StatementText, BindingText, RuleText, PoolText, BuildText, DefaultText, IncludeText, SubninjaText}
 use Rattle.nj_scope.specs.Rules.{line_kept, phony_rule}
-use Rattle.nj_scope.specs.Scopes.{or_else, nearest, Bounds, value_in, expanded}
-use Rattle.nj_scope.specs.ScopesHeld.{bound_at, rule_at}
+use Rattle.nj_scope.specs.Scopes.{or_else, nearest, Bounds, value_in, expanded, bound_at, rule_at}
 use Rattle.nj_scope.specs.Declarations.{DeclarationsText, DeclaredBy, TakesIn}
 use Rattle.nj_scope.specs.ReadingList.{Entry, scope_of, binds, declares, bounds, rules, with_rule, rule_texts, with_pool, pools, opens_scope, scopes_opened, value_after}
 

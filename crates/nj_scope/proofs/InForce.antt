@@ -9,8 +9,7 @@ use Rattle.std.proofs.Math.Seq.{get_or-append_seam}
 use Rattle.nj_manifest.specs.Statements.{StatementText, BindingText, RuleText, PoolText, BuildText, DefaultText, IncludeText, SubninjaText}
 use Rattle.nj_scope.specs.Rules as kept
 use Rattle.nj_scope.specs.Rules.{line_kept, phony, phony_rule}
-use Rattle.nj_scope.specs.Scopes.{or_else, nearest}
-use Rattle.nj_scope.specs.ScopesHeld.{rule_at}
+use Rattle.nj_scope.specs.Scopes.{or_else, nearest, rule_at}
 use Rattle.nj_scope.specs.Declarations.{DeclarationsText, DeclaredBy}
 use Rattle.nj_scope.specs.Laws.{InForceIsDeclared}
 use Rattle.nj_scope.specs.ReadingList.{Entry, with_rule, rule_texts, rules}

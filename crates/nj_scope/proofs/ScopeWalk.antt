@@ -1,9 +1,8 @@
 -- The look-up of a name, from a scope to those around it.
 use Rattle.std.proofs.Common.{◌≡◌, ℕ, suc, ◌<◌, List, Option, Some, None, unwrap_or, is_some, IfSome, length, refl, sym, ap, ◌∙◌, subst, true≢false}
 use Rattle.std.proofs.Math.Nat.{lt_trans, zero-lt-suc, suc-lt_of_lt-pred}
-use Rattle.nj_scope.specs.Scopes.{IsScope, nearest, or_else}
+use Rattle.nj_scope.specs.Scopes.{IsScope, nearest, or_else, ScopeText, parent_at}
 use Rattle.nj_scope.specs.Scopes.IsScope.{outermost, child}
-use Rattle.nj_scope.specs.ScopesHeld.{ScopeText, parent_at}
 
 abbrev pub IsWithin : List ScopeText → Option ℕ → Type 0
 IsWithin scopes None = Unit {0}

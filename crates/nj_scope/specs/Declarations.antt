@@ -2,7 +2,7 @@
 use Rattle.std.specs.Prelude.{◌≡◌, ℕ, None, List, length, ◌∷◌}
 use Rattle.nj_text.specs.declared.spot.Spot.{Spot}
 use Rattle.nj_manifest.specs.Statements.{StatementText}
-use Rattle.nj_scope.specs.ScopesHeld.{ScopeText, parent_at, bound_at, rule_at}
+use Rattle.nj_scope.specs.Scopes.{ScopeText, parent_at, bound_at, rule_at}
 use Rattle.nj_scope.specs.Rules.{RuleText}
 use Rattle.nj_scope.specs.ReadingList as list
 

@@ -1,6 +1,7 @@
 -- Scopes: which variables and rules a statement sees.
-use Rattle.std.specs.Prelude.{◌≡◌, ℕ, Option, Some, None, unwrap_or, List, [], ◌∷◌}
+use Rattle.std.specs.Prelude.{◌≡◌, ℕ, Option, Some, None, option_and_then, unwrap_or, List, [], ◌∷◌, slice_get, bytes_eq}
 use Rattle.std.specs.List.{flat_map}
+use Rattle.std.specs.Map.{lookup}
 use Rattle.nj_text.specs.Words.{PartText, Text, Name}
 
 abbrev pub or_else : {X : Type 0} → Option X → Option X → Option X
@@ -33,3 +34,28 @@ expanded value parts = flat_map (part_expanded value) parts
 pub data IsScope (parent : ℕ → Option ℕ) : ℕ → List ℕ → Type 0 where
   outermost : {s : ℕ} → parent s ≡ None → IsScope parent s (s ∷ [])
   child : {s p : ℕ} {around : List ℕ} → parent s ≡ Some p → IsScope parent p around → IsScope parent s (s ∷ around)
+
+-- ---- the scopes of a run, by their numbers
+
+-- a scope: the number of the scope around it, the names that it binds itself with their values, and the rules that it
+-- declares itself with their numbers
+pub record ScopeText : Type 0 where
+  pub parent : Option ℕ
+  pub values : List (List ℕ × List ℕ)
+  pub rules : List (List ℕ × ℕ)
+
+-- something of the scope of this number
+abbrev pub at_scope : {X : Type 0} → (ScopeText → Option X) → List ScopeText → ℕ → Option X
+at_scope of_scope scopes number = option_and_then of_scope (slice_get scopes number)
+
+-- the number of the scope around it
+abbrev pub parent_at : List ScopeText → ℕ → Option ℕ
+parent_at scopes number = at_scope (λ s. s.parent) scopes number
+
+-- the value that it itself binds to the name
+abbrev pub bound_at : List ScopeText → ℕ → List ℕ → Option (List ℕ)
+bound_at scopes number name = at_scope (λ s. lookup (bytes_eq name) s.values) scopes number
+
+-- the number of the rule that it itself declares under the name
+abbrev pub rule_at : List ScopeText → ℕ → List ℕ → Option ℕ
+rule_at scopes number name = at_scope (λ s. lookup (bytes_eq name) s.rules) scopes number

@@ -2,8 +2,8 @@ use Rattle.std.proofs.Common.{◌≡◌, ◌≤◌, ◌==◌, ℕ, List, drop, i
 use Rattle.nj_manifest.specs.Contents.{lines_text}
 use Rattle.nj_scope.specs.Scopes.{or_else}
 use Rattle.nj_blocks.specs.Blocks.{bound_in}
-use Rattle.nj_build.specs.EdgeList.{Values, block_of}
-use Rattle.nj_build.specs.Answers.{Sees, no_block}
+use Rattle.nj_build.specs.EdgeList.{Values, block_of, no_block}
+use Rattle.nj_build.specs.Answers.{Sees}
 use Rattle.nj_build.proofs.block.bind_block.Given as goal
 
 abbrev pub invariant-lines : goal.invariant-lines

@@ -2,9 +2,9 @@ use Rattle.std.proofs.Common.{◌∷◌, map, refl, sym, subst}
 use Rattle.nj_manifest.specs.Contents.{words_text}
 use Rattle.nj_manifest.specs.Statements.{DefaultText}
 use Rattle.nj_scope.specs.ReadingList.{value_after}
-use Rattle.nj_build.specs.EdgeList.{Values}
+use Rattle.nj_build.specs.EdgeList.{Values, no_block}
 use Rattle.nj_build.specs.BuildFaults.{first_fault, target_fault, default_fault}
-use Rattle.nj_build.specs.Answers.{BuildingText, HoldsEdges, Sees, Checks, detail_text, entry_at_place, no_block}
+use Rattle.nj_build.specs.Answers.{BuildingText, HoldsEdges, Sees, Checks, detail_text, entry_at_place}
 use Rattle.nj_build.proofs.Holding.{reads-by, holds-default, on-ok}
 use Rattle.nj_build.proofs.building.Building.read_default.Goals as goal
 

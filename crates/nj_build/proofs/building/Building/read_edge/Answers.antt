@@ -10,9 +10,9 @@ use Rattle.nj_scope.specs.ReadingList.{value_after, rule_texts, pools}
 use Rattle.nj_blocks.specs.Blocks.{bound_in}
 use Rattle.nj_edges.specs.Edges.{inputs_of}
 use Rattle.nj_build.specs.declared.building.Detail.{Detail}
-use Rattle.nj_build.specs.EdgeList.{Values, Block, block_of, on_line, edges_read, edge_of_build, file_said, paths_of_edges, stated_paths, edge_paths}
+use Rattle.nj_build.specs.EdgeList.{Values, Block, block_of, on_line, edges_read, edge_of_build, file_said, paths_of_edges, stated_paths, edge_paths, no_block}
 use Rattle.nj_build.specs.BuildFaults.{or_then, paths_fault, names_fault, late_fault}
-use Rattle.nj_build.specs.Answers.{BuildingText, HoldsEdges, Sees, IsFault, AddsEdge, names_read, detail_text, IsFileSaid, with_dyndep, entry_at_place, no_block}
+use Rattle.nj_build.specs.Answers.{BuildingText, HoldsEdges, Sees, IsFault, AddsEdge, names_read, detail_text, IsFileSaid, with_dyndep, entry_at_place}
 use Rattle.nj_late.specs.LateTexts.{asked_text}
 use Rattle.nj_late.specs.ReferencesHeld.{TellsCycles}
 use Rattle.nj_build.proofs.ReferenceLemmas.{same-rule}

@@ -1,6 +1,5 @@
 use Rattle.std.proofs.Common.{get_or, ◌≡◌, ◌++◌, ◌∷◌, sym, ap, subst, ◌∙◌}
-use Rattle.nj_scope.specs.Scopes.{IsScope}
-use Rattle.nj_scope.specs.ScopesHeld.{parent_at}
+use Rattle.nj_scope.specs.Scopes.{IsScope, parent_at}
 use Rattle.nj_build.proofs.Holding.{on-ok}
 use Rattle.nj_edges.specs.Edges.{edge_at}
 use Rattle.nj_edges.specs.Files.{AreFiles}

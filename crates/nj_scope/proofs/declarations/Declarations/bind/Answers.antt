@@ -1,8 +1,7 @@
 use Rattle.std.proofs.Common.{None, ◌∷◌, ◌++◌, ◌∙◌, ap, subst, sym, refl}
 use Rattle.nj_text.specs.Words.{word_text}
 use Rattle.nj_manifest.specs.Statements.{BindingText}
-use Rattle.nj_scope.specs.Scopes.{IsScope, value_in, expanded}
-use Rattle.nj_scope.specs.ScopesHeld.{parent_at, bound_at}
+use Rattle.nj_scope.specs.Scopes.{IsScope, value_in, expanded, parent_at, bound_at}
 use Rattle.nj_scope.specs.Declarations.{DeclaredBy}
 use Rattle.nj_scope.proofs.DeclarationLemmas.{with-binding, at_ok, at_err}
 use Rattle.nj_scope.proofs.declarations.Declarations.bind.Goals as goal

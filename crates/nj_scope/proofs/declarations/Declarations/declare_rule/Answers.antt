@@ -2,7 +2,7 @@ use Rattle.std.proofs.Common.{◌≡◌, List, [], ◌∷◌, ◌++◌, ◌&&◌
 use Rattle.nj_manifest.specs.Statements.{RuleText}
 use Rattle.nj_manifest.specs.Contents.{line_text, lines_text}
 use Rattle.nj_manifest.specs.declared.statement.Line.{Line}
-use Rattle.nj_scope.specs.ScopesHeld.{rule_at}
+use Rattle.nj_scope.specs.Scopes.{rule_at}
 use Rattle.nj_scope.specs.Rules.{line_kept}
 use Rattle.nj_scope.specs.Declarations.{DeclaredBy}
 use Rattle.nj_scope.proofs.DeclarationLemmas.{with-rule}

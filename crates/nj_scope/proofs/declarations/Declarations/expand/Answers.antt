@@ -1,7 +1,6 @@
 use Rattle.std.proofs.Common.{◌∷◌, ◌∙◌, subst, sym}
 use Rattle.nj_text.specs.Words.{word_text}
-use Rattle.nj_scope.specs.Scopes.{IsScope}
-use Rattle.nj_scope.specs.ScopesHeld.{parent_at}
+use Rattle.nj_scope.specs.Scopes.{IsScope, parent_at}
 use Rattle.nj_scope.specs.Declarations.{DeclaredBy}
 use Rattle.nj_scope.proofs.DeclarationLemmas.{value-listed, if_ok}
 use Rattle.nj_scope.proofs.declarations.Declarations.expand.Goals as goal

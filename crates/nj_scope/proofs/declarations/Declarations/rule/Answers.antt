@@ -1,6 +1,5 @@
 use Rattle.std.proofs.Common.{ℕ, ◌<◌, ◌∷◌, Option, length, IfSome, subst, sym}
-use Rattle.nj_scope.specs.Scopes.{IsScope}
-use Rattle.nj_scope.specs.ScopesHeld.{parent_at}
+use Rattle.nj_scope.specs.Scopes.{IsScope, parent_at}
 use Rattle.nj_scope.specs.Declarations.{DeclaredBy}
 use Rattle.nj_scope.proofs.InForce.{phony-within, nearest-within}
 use Rattle.nj_scope.proofs.declarations.Declarations.rule.Goals as goal

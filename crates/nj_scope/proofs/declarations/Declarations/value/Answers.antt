@@ -1,6 +1,5 @@
 use Rattle.std.proofs.Common.{◌∷◌, ◌∙◌, subst, sym}
-use Rattle.nj_scope.specs.Scopes.{IsScope}
-use Rattle.nj_scope.specs.ScopesHeld.{parent_at}
+use Rattle.nj_scope.specs.Scopes.{IsScope, parent_at}
 use Rattle.nj_scope.specs.Declarations.{DeclaredBy}
 use Rattle.nj_scope.proofs.DeclarationLemmas.{name-listed}
 use Rattle.nj_scope.proofs.declarations.Declarations.value.Goals as goal

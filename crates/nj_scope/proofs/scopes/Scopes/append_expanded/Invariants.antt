@@ -1,7 +1,6 @@
 use Rattle.std.proofs.Common.{◌≡◌, ℕ, List, ◌++◌, take, map}
 use Rattle.nj_text.specs.Words.{part_text}
-use Rattle.nj_scope.specs.Scopes.{IsScope, value_in, expanded}
-use Rattle.nj_scope.specs.ScopesHeld.{parent_at, bound_at}
+use Rattle.nj_scope.specs.Scopes.{IsScope, value_in, expanded, parent_at, bound_at}
 use Rattle.nj_scope.proofs.scopes.Scopes.append_expanded.Given as goal
 
 abbrev pub invariant-parts : goal.invariant-parts

@@ -1,6 +1,6 @@
 use Rattle.std.proofs.Common.{◌<◌, ◌&&◌, ◌==◌, cond, Some, length, ap, ◌∙◌, subst, sym, refl, bytes_eq, Result, Ok, Err, OnErr}
 use Rattle.std.specs.Map.{lookup}
-use Rattle.nj_scope.specs.ScopesHeld.{parent_at, bound_at, rule_at}
+use Rattle.nj_scope.specs.Scopes.{parent_at, bound_at, rule_at}
 use Rattle.nj_scope.proofs.ScopeLemmas.{earlier-set_text, kept-text, declared-text, entries_text}
 use Rattle.nj_scope.proofs.scopes.Scopes.declare.Goals as goal
 

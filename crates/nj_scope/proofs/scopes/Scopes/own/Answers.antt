@@ -1,6 +1,6 @@
 use Rattle.std.proofs.Common.{◌<◌, Some, option_map, length, ap, ◌∙◌, subst, sym, bytes_eq}
 use Rattle.std.specs.Map.{lookup}
-use Rattle.nj_scope.specs.ScopesHeld.{bound_at}
+use Rattle.nj_scope.specs.Scopes.{bound_at}
 use Rattle.nj_scope.proofs.ScopeLemmas.{at_scope-text, lookup-text}
 use Rattle.nj_scope.proofs.scopes.Scopes.own.Goals as goal
 

@@ -1,6 +1,6 @@
 use Rattle.std.proofs.Common.{◌≡◌, ◌<◌, Option, Some, None, option_map, length, ap, ◌∙◌, subst, sym, refl, bytes_eq}
 use Rattle.std.specs.Map.{lookup}
-use Rattle.nj_scope.specs.ScopesHeld.{rule_at}
+use Rattle.nj_scope.specs.Scopes.{rule_at}
 use Rattle.nj_scope.proofs.ScopeLemmas.{at_scope-text, lookup-text}
 use Rattle.nj_scope.proofs.scopes.Scopes.own_rule.Goals as goal
 

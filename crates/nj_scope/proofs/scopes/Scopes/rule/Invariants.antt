@@ -1,4 +1,4 @@
-use Rattle.nj_scope.specs.ScopesHeld.{rule_at}
+use Rattle.nj_scope.specs.Scopes.{rule_at}
 use Rattle.nj_scope.proofs.ScopeWalk.{StillLooks, scopes_left}
 use Rattle.nj_scope.proofs.scopes.Scopes.rule.Given as goal
 

@@ -1,4 +1,4 @@
-use Rattle.nj_scope.specs.ScopesHeld.{bound_at}
+use Rattle.nj_scope.specs.Scopes.{bound_at}
 use Rattle.nj_scope.proofs.ScopeWalk.{StillLooks, scopes_left}
 use Rattle.nj_scope.proofs.scopes.Scopes.value.Given as goal
 
