@@ -13,13 +13,15 @@ use Rattle.nj_faults.specs.declared.fault.Cause.TheVariants.{TwoMakers}
 use Rattle.nj_faults.specs.Faults.{fault_at}
 use Rattle.nj_build.specs.EdgeList.{Values, EdgeText, path_said, paths_said, edges_read, paths_of_edges, pending_read}
 use Rattle.nj_build.specs.BuildFaults.{fault_if, or_then, first_fault, empty_path, two_makers, outputs_fault}
-use Rattle.nj_build.specs.Joining.{no_values, discovered_by, discover_for, with_entry, meaning_fault}
-use Rattle.nj_build.specs.Laws.{AddsToItsEdge, NoFileGetsTwoMakers}
+use Rattle.nj_manifest.specs.Dyndeps.{EntryText}
+use Rattle.nj_scope.specs.ReadingList.{Entry}
+use Rattle.nj_build.specs.Joining.{no_values, discovered_by, edge_meant, discover_for, with_entry, meaning_fault, entry_fault}
+use Rattle.nj_build.specs.Laws.{AddsToItsEdge, EdgesMakeWhatIsDiscovered}
 use Rattle.nj_build.proofs.DiscoverEdges.{or_then-none, waiting-below, pending-within, paths-discover, is_pending-from_waits, entries_add}
 
 -- ---- the first edge that passes a test
 
-option-none : (o : Option ℕ) → option_map (λ n. n + 1) o ≡ None → o ≡ None
+pub option-none : (o : Option ℕ) → option_map (λ n. n + 1) o ≡ None → o ≡ None
 option-none None none = refl
 option-none (Some n) none = absurd (true≢false (ap is_some none))
 
@@ -76,11 +78,14 @@ fault_if-not : (b : Bool) (fault : GraphFault) → fault_if b fault ≡ None →
 fault_if-not false fault none = refl
 fault_if-not true fault none = absurd (true≢false (ap is_some none))
 
-no-maker : (file : List ℕ) (values : Values) (edges : List EdgePaths) (left : List (List ℕ)) (word : WordText) → two_makers file values edges left word ≡ None → maker_of edges (path_said values word) ≡ None
-no-maker file values edges left word none =
-    is_some-none (maker_of edges (path_said values word))
-    (or_parts (is_some (maker_of edges (path_said values word))) (is_among left (path_said values word))
-    (fault_if-not (is_some (maker_of edges (path_said values word)) || is_among left (path_said values word)) (fault_at file word.spot (TwoMakers (path_said values word))) none)).0
+-- no edge makes an output that has no fault, and it is none of those to its left
+pub neither-makes : (file : List ℕ) (values : Values) (edges : List EdgePaths) (left : List (List ℕ)) (word : WordText) → two_makers file values edges left word ≡ None
+    → (maker_of edges (path_said values word) ≡ None) × (is_among left (path_said values word) ≡ false)
+neither-makes file values edges left word none = (is_some-none (maker_of edges (path_said values word)) parts.0, parts.1)
+  where
+    parts : (is_some (maker_of edges (path_said values word)) ≡ false) × (is_among left (path_said values word) ≡ false)
+    parts = or_parts (is_some (maker_of edges (path_said values word))) (is_among left (path_said values word))
+        (fault_if-not (is_some (maker_of edges (path_said values word)) || is_among left (path_said values word)) (fault_at file word.spot (TwoMakers (path_said values word))) none)
 
 -- no edge makes an output that has none
 pub outputs-new : (file : List ℕ) (values : Values) (edges : List EdgePaths) (left : List (List ℕ)) (words : List WordText) (path : List ℕ)
@@ -92,7 +97,7 @@ outputs-new file values edges left (word ∷ words) path none among = by (bytes_
     parts = or_then-none (or_then (empty_path file values word) (two_makers file values edges left word)) (outputs_fault file values edges (left ++ path_said values word ∷ []) words) none
 
     own : maker_of edges (path_said values word) ≡ None
-    own = no-maker file values edges left word (or_then-none (empty_path file values word) (two_makers file values edges left word) parts.0).1
+    own = (neither-makes file values edges left word (or_then-none (empty_path file values word) (two_makers file values edges left word) parts.0).1).0
 
     by : (b : Bool) → (b ≡ true → path ≡ path_said values word) → (is_among (paths_said values words) path ≡ true → maker_of edges path ≡ None)
         → (b || is_among (paths_said values words) path) ≡ true → maker_of edges path ≡ None
@@ -101,15 +106,42 @@ outputs-new file values edges left (word ∷ words) path none among = by (bytes_
 
 -- ---- an entry that has no fault
 
-pub two_makers_never : NoFileGetsTwoMakers
-two_makers_never file stated joined entry edge path none means = record {
+module _ (file : List ℕ) (stated joined : List Entry) (entry : EntryText) (edge : ℕ) (none : entry_fault file stated joined entry ≡ None) (means : edge_meant stated entry ≡ Some edge) where
+  abbrev before : List EdgePaths
+  before = paths_of_edges (edges_read joined)
+
+  abbrev pub added-by : AddedFiles
+  added-by = record { outputs = (discovered_by entry).outputs; inputs = (discovered_by entry).inputs }
+
+  waits : list_any (λ p. p.edge == edge) (pending_read joined) ≡ true
+  waits = subst (λ n. list_any (λ p. p.edge == n) (pending_read joined) ≡ true) (ap (λ (o : Option ℕ). unwrap_or o edge) some-is) (is_pending-from_waits file joined found.0 found.1.waited)
+    where
+      found : (n : ℕ) × AddsToItsEdge file stated joined entry n
+      found = entries_add file stated joined entry none
+
+      some-is : Some found.0 ≡ Some edge
+      some-is = sym found.1.meant ∙ means
+
+  pub within-before : edge < length before
+  within-before = let count = length-map (edges_read joined) (λ (e : EdgeText). e.paths) in omega (arith, count, waiting-below edge (length (edges_read joined)) (pending_read joined) (pending-within joined) waits)
+
+  pub after-is : paths_of_edges (edges_read (with_entry stated joined entry)) ≡ changed_at (with_added added-by) edge before
+  after-is = ap (λ m. paths_of_edges (edges_read (discover_for m (discovered_by entry) joined))) means ∙ paths-discover edge (discovered_by entry) joined waits
+
+  pub outputs-fine : outputs_fault file no_values before [] entry.outs ≡ None
+  outputs-fine = (or_then-none (outputs_fault file no_values before [] entry.outs) (first_fault (empty_path file no_values) entry.ins)
+      (or_then-none (meaning_fault file stated joined entry) (or_then (outputs_fault file no_values before [] entry.outs) (first_fault (empty_path file no_values) entry.ins))
+      (or_then-none (empty_path file no_values entry.out) (or_then (meaning_fault file stated joined entry) (or_then (outputs_fault file no_values before [] entry.outs) (first_fault (empty_path file no_values) entry.ins))) none).1).1).0
+
+pub edges_make : EdgesMakeWhatIsDiscovered
+edges_make file stated joined entry edge path none means = record {
   new = λ among. outputs-new file no_values before [] entry.outs path outputs among;
   makes = λ among.
-      ap (λ es. maker_of es path) after-is
+      ap (λ es. maker_of es path) is
       ∙ passes-changed (λ (e : EdgePaths). is_among (outputs_of e) path) (with_added added) (λ e. among-added added e path ∙ or-true (is_among (outputs_of e) path) (is_among added.outputs path) among) edge before within
       (outputs-new file no_values before [] entry.outs path outputs among);
   others = λ apart.
-      ap (λ es. maker_of es path) after-is
+      ap (λ es. maker_of es path) is
       ∙ same-changed (λ (e : EdgePaths). is_among (outputs_of e) path) (with_added added) (λ e. among-added added e path ∙ or-false (is_among (outputs_of e) path) (is_among added.outputs path) apart) edge before;
 }
   where
@@ -117,24 +149,13 @@ two_makers_never file stated joined entry edge path none means = record {
     before = paths_of_edges (edges_read joined)
 
     added : AddedFiles
-    added = record { outputs = (discovered_by entry).outputs; inputs = (discovered_by entry).inputs }
-
-    found : (n : ℕ) × AddsToItsEdge file stated joined entry n
-    found = entries_add file stated joined entry none
-
-    some-is : Some found.0 ≡ Some edge
-    some-is = sym found.1.meant ∙ means
-
-    waits : list_any (λ p. p.edge == edge) (pending_read joined) ≡ true
-    waits = subst (λ n. list_any (λ p. p.edge == n) (pending_read joined) ≡ true) (ap (λ (o : Option ℕ). unwrap_or o edge) some-is) (is_pending-from_waits file joined found.0 found.1.waited)
+    added = added-by file stated joined entry edge none means
 
     within : edge < length before
-    within = let count = length-map (edges_read joined) (λ (e : EdgeText). e.paths) in omega (arith, count, waiting-below edge (length (edges_read joined)) (pending_read joined) (pending-within joined) waits)
+    within = within-before file stated joined entry edge none means
 
-    after-is : paths_of_edges (edges_read (with_entry stated joined entry)) ≡ changed_at (with_added added) edge before
-    after-is = ap (λ m. paths_of_edges (edges_read (discover_for m (discovered_by entry) joined))) means ∙ paths-discover edge (discovered_by entry) joined waits
+    is : paths_of_edges (edges_read (with_entry stated joined entry)) ≡ changed_at (with_added added) edge before
+    is = after-is file stated joined entry edge none means
 
     outputs : outputs_fault file no_values before [] entry.outs ≡ None
-    outputs = (or_then-none (outputs_fault file no_values before [] entry.outs) (first_fault (empty_path file no_values) entry.ins)
-        (or_then-none (meaning_fault file stated joined entry) (or_then (outputs_fault file no_values before [] entry.outs) (first_fault (empty_path file no_values) entry.ins))
-        (or_then-none (empty_path file no_values entry.out) (or_then (meaning_fault file stated joined entry) (or_then (outputs_fault file no_values before [] entry.outs) (first_fault (empty_path file no_values) entry.ins))) none).1).1).0
+    outputs = outputs-fine file stated joined entry edge none means

@@ -11,6 +11,7 @@ pub mod Adding
 pub mod DiscoverLemmas
 pub mod DiscoverEdges
 pub mod DiscoverMakers
+pub mod DistinctOutputs
 pub mod DyndepFiles
 pub mod Rows
 pub mod Finishing

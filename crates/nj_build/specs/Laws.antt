@@ -1,12 +1,14 @@
 -- What the joining of dyndep files does to the edges of a run, and what it leaves.
 use Rattle.std.specs.Prelude.{◌≡◌, ℕ, ◌<◌, ◌==◌, Bool, true, false, not, Some, None, List, [], ◌∷◌, map, find, length, filter, bytes_eq}
-use Rattle.std.specs.List.{AllByRecursion, IsDistinct, list_any}
+use Rattle.std.specs.List.{AllByRecursion, IsDistinct, list_any, flat_map}
+use Rattle.nj_manifest.specs.Statements.{StatementText, BuildText}
 use Rattle.nj_manifest.specs.Dyndeps.{EntryText}
 use Rattle.nj_scope.specs.ReadingList.{Discovered, Entry, value_after, rule_texts, rule_in_force, pools}
-use Rattle.nj_edges.specs.Edges.{maker_of, is_among}
+use Rattle.nj_edges.specs.Edges.{EdgePaths, outputs_of, maker_of, is_among}
 use Rattle.nj_edges.specs.Joining.{changed_at}
 use Rattle.nj_build.specs.EdgeList.{EdgeText, Pending, with_discovered, edges_read, paths_of_edges, defaults_read}
 use Rattle.nj_build.specs.EdgeList.{names_of_edge, pending_read}
+use Rattle.nj_build.specs.BuildFaults.{build_fault}
 use Rattle.nj_build.specs.Joining.{discover, discovered_by, edge_meant, with_entry, waits_for, entry_fault, dyndep_files}
 
 -- an edge waits for a dyndep file
@@ -49,10 +51,36 @@ pub record MakesWhatItDiscovers (stated joined : List Entry) (entry : EntryText)
   pub others : is_among (discovered_by entry).outputs path ≡ false
       → maker_of (paths_of_edges (edges_read (with_entry stated joined entry))) path ≡ maker_of (paths_of_edges (edges_read joined)) path
 
-abbrev pub NoFileGetsTwoMakers : Type 0
-NoFileGetsTwoMakers = (file : List ℕ) (stated joined : List Entry) (entry : EntryText) (edge : ℕ) (path : List ℕ)
+abbrev pub EdgesMakeWhatIsDiscovered : Type 0
+EdgesMakeWhatIsDiscovered = (file : List ℕ) (stated joined : List Entry) (entry : EntryText) (edge : ℕ) (path : List ℕ)
     → entry_fault file stated joined entry ≡ None → edge_meant stated entry ≡ Some edge
     → MakesWhatItDiscovers stated joined entry edge path
+
+-- A build statement as it is read: it has no fault by the statements before it, and nothing is discovered for it yet.
+abbrev pub IsFaultless : Entry → (before : List Entry) → StatementText → Type 0
+IsFaultless e before (BuildText outputs rule inputs lines) =
+    (build_fault e before outputs rule inputs lines ≡ None) × (e.discovered ≡ None)
+IsFaultless e before item = Unit {0}
+
+-- so is each of these statements, of which the last read stands first
+abbrev pub AreFaultless : List Entry → Type 0
+AreFaultless [] = Unit {0}
+AreFaultless (e ∷ before) = IsFaultless e before e.item × AreFaultless before
+
+-- The statements with what entries of dyndep files add, one after the other, each of which has no fault by then.
+pub data IsWithEntries (stated : List Entry) : List Entry → Type 0 where
+  as_stated : IsWithEntries stated stated
+  with_one_more : {joined : List Entry} → (file : List ℕ) → (entry : EntryText) → IsWithEntries stated joined
+      → entry_fault file stated joined entry ≡ None → IsWithEntries stated (with_entry stated joined entry)
+
+-- the outputs of all edges, by edge and then by output
+abbrev pub all_outputs : List EdgePaths → List (List ℕ)
+all_outputs edges = flat_map outputs_of edges
+
+-- Of statements without a fault no two edges make the same file, and no edge makes one twice; nor with what dyndep files add.
+abbrev pub NoFileGetsTwoMakers : Type 0
+NoFileGetsTwoMakers = (stated joined : List Entry) → AreFaultless stated → IsWithEntries stated joined
+    → IsDistinct bytes_eq (all_outputs (paths_of_edges (edges_read joined)))
 
 -- What names and rules stand for stays as it is, for statements and for edges, and so do the rules, the pools and the defaults.
 pub record SaysTheSame (entries others : List Entry) : Type 0 where

@@ -2,7 +2,8 @@
 //! body.
 
 ghost use Rattle.nj_build.specs.Laws.{AddsToOneEdge, OthersWaitAsBefore, NamesStay};
-ghost use Rattle.nj_build.specs.Laws.{EntriesAddToTheirEdges, NoFileGetsTwoMakers};
+ghost use Rattle.nj_build.specs.Laws.{EntriesAddToTheirEdges, EdgesMakeWhatIsDiscovered};
+ghost use Rattle.nj_build.specs.Laws.{NoFileGetsTwoMakers};
 ghost use Rattle.nj_build.specs.Laws.{PendingEdgesRise, DyndepFilesStandOnce};
 
 /// What a dyndep file says is added to one edge that waits for it; that edge then waits no longer.
@@ -19,7 +20,13 @@ pub fn discovered_files_are_added()
 /// file has the maker that it had.
 pub fn entries_add_to_their_edges()
     ensures added { EntriesAddToTheirEdges }
-    ensures makers { NoFileGetsTwoMakers }
+    ensures makers { EdgesMakeWhatIsDiscovered }
+{}
+
+/// Where no statement and no entry of a dyndep file has a fault, the outputs of all edges are
+/// pairwise distinct paths.
+pub fn no_file_gets_two_makers()
+    ensures { NoFileGetsTwoMakers }
 {}
 
 /// The edges that wait for dyndep files are in ascending order of number, each once.

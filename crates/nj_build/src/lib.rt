@@ -17,6 +17,6 @@ pub use built::{Built, PlaceRef};
 pub use joining::{DyndepFile, Joining};
 pub use laws::{
     discovered_files_are_added, dyndep_files_stand_once, entries_add_to_their_edges,
-    pending_edges_rise,
+    no_file_gets_two_makers, pending_edges_rise,
 };
 pub use place::StatementPlace;
