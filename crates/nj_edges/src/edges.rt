@@ -232,14 +232,19 @@ impl Edges {
     }
 
     /// Ends the edge that is being read, with these ends of its kinds, and begins another.
+    ///
+    /// # Errors
+    ///
+    /// If an allocation failed; the edge is then still being read.
     pub fn end_edge(&mut self, kinds: KindEnds, is_phony: bool) -> Result<(), AllocError>
         requires { EndWithin kinds (length self.old.«open».outputs)
             (length self.old.«open».inputs) }
-        ensures { OnOk result (self.new ≡ record {
+        ensures ended { OnOk result (self.new ≡ record {
           files = self.old.files;
           edges = self.old.edges ++ edge_read self.old.«open» kinds is_phony ∷ [];
           «open» = no_files;
         }) }
+        ensures refused { OnErr result (self.new ≡ self.old) }
     {
         let ends = OpenStarts {
             outputs: self.outputs.as_slice().len(),

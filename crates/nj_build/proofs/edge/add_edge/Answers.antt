@@ -53,7 +53,7 @@ returns-clause-fault c = λ values sees none tells.
 pub returns-clause-added : goal.returns-clause-added
 returns-clause-added c = λ values sees none.
     adds-edge c.args.edges.now c.add_files.new.edges c.end_edge.new.self c.in_ok-kinds.kinds c.args.rule.is_phony (edge_paths (stated_paths values (outputs_text c.args.build.now.outputs) (inputs_text c.args.build.now.inputs) c.args.rule.is_phony))
-    (c.in_ok-kinds.ensures.named values sees none) c.in_ok-end_edge.ensures
+    (c.in_ok-kinds.ensures.named values sees none) c.in_ok-end_edge.ensures.ended
 
 pub returns-clause-dyndep : goal.returns-clause-dyndep
 returns-clause-dyndep c = λ values sees none.
@@ -66,4 +66,4 @@ returns-clause-dyndep c = λ values sees none.
     let named = c.in_ok-kinds.ensures.named values sees none in
     let late : SeesLate c.late_edge.result sees.entries n = sees-late c.late_edge.result c.args.line.names.declarations.now c.args.line.names.scope sees.entries sees.around (edge_read open_edge c.in_ok-kinds.kinds c.args.rule.is_phony) paths block c.args.rule.rule.now
     c.late_edge.ensures.declarations c.late_edge.ensures.scope c.late_edge.ensures.names named.edge_is sees.declared sees.within in
-    subst (λ t. IsFileSaid t.files c.in_ok-dyndep.dyndep (file_said (asked_text n (codes "dyndep")))) (sym c.in_ok-end_edge.ensures) (c.in_ok-dyndep.ensures.file sees.entries n late)
+    subst (λ t. IsFileSaid t.files c.in_ok-dyndep.dyndep (file_said (asked_text n (codes "dyndep")))) (sym c.in_ok-end_edge.ensures.ended) (c.in_ok-dyndep.ensures.file sees.entries n late)
