@@ -1,5 +1,5 @@
 -- What is held of no statement, and of one statement more.
-use Rattle.std.proofs.Common.{◌≡◌, ◌⊎◌, inl, inr, ℕ, ◌+◌, ◌<◌, ◌≤◌, ◌==◌, Bool, true, false, true≢false, if◌then◌else◌, List, [], ◌∷◌, ◌++◌, length, get_or, Option, Some, None, is_some, unwrap_or, Result, Ok, Err, OnOk, IsErrAnd, map, slice_get, refl, sym, ap, subst, ◌∙◌, arith, ◌≢◌, suc}
+use Rattle.std.proofs.Common.{◌≡◌, ◌⊎◌, inl, inr, ℕ, ◌+◌, ◌<◌, ◌≤◌, ◌==◌, Bool, true, false, true≢false, if◌then◌else◌, List, [], ◌∷◌, ◌++◌, length, get_or, Option, Some, None, is_some, unwrap_or, Result, Ok, Err, OnOk, OnErr, IsErrAnd, map, slice_get, refl, sym, ap, subst, ◌∙◌, arith, ◌≢◌, suc}
 use Rattle.std.proofs.lemmas.List.{append-nil, length-append, map-append}
 use Rattle.std.proofs.lemmas.Bool.{cases_lt}
 use Rattle.std.proofs.lemmas.Bool.Decides.{eqb_tells}
@@ -45,6 +45,10 @@ reads-by after expected e before (Err fault) checks holds = checks
 pub on-ok : {X Y P Q : Type 0} (r : Result X Y) → OnOk r P → (P → Q) → OnOk r Q
 on-ok (Ok x) h then_so = then_so h
 on-ok (Err e) h then_so = tt
+
+pub on-err : {X Y P : Type 0} (r : Result X Y) → P → OnErr r P
+on-err (Ok x) p = tt
+on-err (Err e) p = p
 
 pub reads-err : (after : BuildingText) (expected : Option GraphFault) (e : Entry) (before : List Entry) (r : Result (Unit {0}) GraphFault) (f : GraphFault)
     → IsErrAnd r (λ y. y ≡ f) → IsFault expected f → ReadsStatement after expected e before r

@@ -26,7 +26,7 @@ use Rattle.nj_build.specs.Built.{EdgeDetail, detail_at, detail_of}
 use Rattle.nj_build.specs.BuiltHeld.{detail_named, pending_named}
 use Rattle.nj_build.specs.Joining.{no_values, discover, discovered_by, discover_for, edge_meant, with_entry, waits_for, meaning_fault, entry_fault, no_statement, lacking_fault}
 use Rattle.nj_build.specs.Answers.{IsFault}
-use Rattle.nj_build.specs.JoiningHeld.{unless_joined, still_waiting, pending_from, waiting_from, is_bound_to, count_waiting, fault_of_waiting, file_named, if_bound, maker_fault, edge_bound, IsMeant, KeepsEdges, JoiningText, joining_of, JoiningIsHeld, HoldsJoined, JoinsEntry}
+use Rattle.nj_build.specs.JoiningHeld.{unless_joined, still_waiting, pending_from, waiting_from, is_bound_to, count_waiting, fault_of_waiting, file_named, if_bound, maker_fault, edge_bound, IsMeant, KeepsEdges, JoiningText, joining_of, JoiningIsHeld, HoldsJoined, JoinsEntry, JoinsNothing}
 use Rattle.nj_build.proofs.Lists.{get-longer}
 use Rattle.nj_build.proofs.WaitingLemmas.{is_path, find-first, find-none, none-first, first-passes, still-at, still-length, still-map, still-changed, waits-at, without-one, count-removed, count-less}
 use Rattle.nj_build.proofs.DiscoverLemmas.{defaults_read-discover}
@@ -210,6 +210,12 @@ module _ (table : JoinTable) (blocks : BlocksText) (names : List (List ℕ)) (de
 
     pub same-bound : map (file_named after.files) bound ≡ map (file_named table.files) bound
     same-bound = bound-kept table.files after.files bound keeps.files bound-files
+
+    -- what is held then
+    pub joins-nothing : (b : JoiningText) → joining_of table blocks names details defaults firsts bound ≡ b → JoinsNothing b (joining_of after blocks names details defaults firsts bound)
+    joins-nothing b is =
+        subst (λ (h : JoiningText). JoinsNothing h (joining_of after blocks names details defaults firsts bound)) is
+        (record { edges = keeps; blocks = refl; details = refl; defaults = same-defaults; dyndep_files = same-firsts; bound = same-bound })
 
   -- ---- with one
 

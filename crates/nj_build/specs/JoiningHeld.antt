@@ -183,6 +183,16 @@ pub record HoldsJoined (held : JoiningText) (stated joined : List Entry) : Type 
   pub bound : pending_read stated ≡ pending_from 0 held.bound
   pub waiting : pending_read joined ≡ waiting_from 0 held.bound held.table.was_joined
 
+-- Nothing is joined to an edge: the edges are as they were, and so is what they wait for. Files may be new, which keep the
+-- numbers of the others, and what an entry adds may be collected in part.
+pub record JoinsNothing (before after : JoiningText) : Type 0 where
+  pub edges : KeepsEdges before.table after.table
+  pub blocks : after.blocks ≡ before.blocks
+  pub details : after.details ≡ before.details
+  pub defaults : after.defaults ≡ before.defaults
+  pub dyndep_files : after.dyndep_files ≡ before.dyndep_files
+  pub bound : after.bound ≡ before.bound
+
 -- the entry has no fault and is joined, or its fault is answered
 abbrev pub JoinsEntry : (after : JoiningText) → Option GraphFault → (stated joined : List Entry) → Result (Unit {0}) GraphFault → Type 0
 JoinsEntry after expected stated joined (Ok done) = (expected ≡ None) × HoldsJoined after stated joined

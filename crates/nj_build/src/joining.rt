@@ -1,6 +1,6 @@
 //! What dyndep files add to the edges of a run.
 
-ghost use Rattle.std.specs.Prelude.{◌≡◌, ℕ, ◌<◌, ◌==◌, List, [], Some, None, option_map, unwrap_or, map, length, slice_get, replicate, slice_index_or, IfOk, IfSome, OnOk};
+ghost use Rattle.std.specs.Prelude.{◌≡◌, ℕ, ◌<◌, ◌==◌, List, [], Some, None, option_map, unwrap_or, map, length, slice_get, replicate, slice_index_or, IfOk, IfSome, OnOk, OnErr};
 ghost use Rattle.std.specs.List.{AllByRecursion};
 ghost use Rattle.nj_text.specs.Words.{word_text};
 ghost use Rattle.nj_manifest.specs.Contents.{words_text};
@@ -16,7 +16,7 @@ ghost use Rattle.nj_build.specs.BuildFaults.{or_then, empty_path, first_fault, o
 ghost use Rattle.nj_build.specs.Built.{ComesTo, IsBuiltOf, detail_at};
 ghost use Rattle.nj_build.specs.Joining.{no_values, entry_fault, with_entry, lacking_fault};
 ghost use Rattle.nj_build.specs.Answers.{Checks, IsFault};
-ghost use Rattle.nj_build.specs.JoiningHeld.{HoldsJoined, JoinsEntry, KeepsEdges, IsMeant, has_pending, still_waiting, fault_of_waiting, bind_all, first_edges, count_bound, is_bound_to, if_bound, maker_fault, edge_bound, with_added_outputs, with_added_inputs};
+ghost use Rattle.nj_build.specs.JoiningHeld.{HoldsJoined, JoinsEntry, JoinsNothing, KeepsEdges, IsMeant, has_pending, still_waiting, fault_of_waiting, bind_all, first_edges, count_bound, is_bound_to, if_bound, maker_fault, edge_bound, with_added_outputs, with_added_inputs};
 
 use crate::building::{Detail, DyndepEdge};
 use crate::built::{Built, PlaceRef, cycle_fault};
@@ -204,7 +204,7 @@ impl Joining {
     /// The first fault of the entry: an empty path, or one whose build statement is not bound to
     /// the file, or is meant by an earlier entry; then the outputs that it discovers from left to
     /// right, each an empty path or one that has a maker, and an empty path among its inputs. After
-    /// a fault nothing more may be joined.
+    /// a fault no edge has changed, but nothing more may be joined.
     pub fn join_entry(
         &mut self,
         alloc: Global,
@@ -216,6 +216,7 @@ impl Joining {
         ensures joins { (stated joined : List Statement) → HoldsJoined self.old stated joined
             → JoinsEntry self.new (entry_fault name.now stated joined (entry_text entry.now))
             stated (with_entry stated joined (entry_text entry.now)) result }
+        ensures refused { OnErr result (JoinsNothing self.old self.new) }
         ensures files { IsPrefix self.old.table.files self.new.table.files }
         ensures dyndep_files { self.new.dyndep_files ≡ self.old.dyndep_files }
         ensures details { self.new.details ≡ self.old.details }

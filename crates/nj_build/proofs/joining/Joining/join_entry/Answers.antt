@@ -8,8 +8,9 @@ use Rattle.nj_build.specs.Joining.{no_values, entry_fault, with_entry}
 use Rattle.nj_build.specs.Answers.{IsFault}
 use Rattle.nj_build.specs.JoiningHeld.{JoiningText, HoldsJoined, IsMeant, KeepsEdges, maker_fault, edge_bound, with_added_outputs, with_added_inputs}
 use Rattle.nj_build.proofs.Faults.{fault-first, fault-second, both-none}
-use Rattle.nj_build.proofs.AddedLemmas.{keeps-trans, outputs-open, inputs-open}
-use Rattle.nj_build.proofs.JoiningLemmas.{joins-err, still-held, same-firsts, fault-is, joined-holds, entry-inside, entry-some, entry-held, entry-keeps}
+use Rattle.nj_build.proofs.AddedLemmas.{keeps-nothing, keeps-trans, outputs-open, inputs-open}
+use Rattle.nj_build.proofs.Holding.{on-err}
+use Rattle.nj_build.proofs.JoiningLemmas.{joins-err, joins-nothing, still-held, same-firsts, fault-is, joined-holds, entry-inside, entry-some, entry-held, entry-keeps}
 use Rattle.nj_build.proofs.joining.Joining.join_entry.Goals as goal
 
 -- ---- the output that names a statement
@@ -90,6 +91,17 @@ pub returns-in_err-add_inputs-clause-dyndep_files : goal.returns-in_err-add_inpu
 returns-in_err-add_inputs-clause-dyndep_files c =
     let keeps : KeepsEdges c.self.inside.edges c.add_inputs.new.edges = keeps-trans c.self.inside.edges c.add_outputs.new.edges c.add_inputs.new.edges c.in_ok-add_outputs.ensures.keeps c.in_err-add_inputs.ensures.keeps in
     same-firsts c.self.inside.edges c.self.inside.blocks c.self.inside.names c.self.inside.details.items c.self.inside.defaults.items c.self.inside.dyndep_files.items c.self.inside.bound.items c.self.inside.waiting.items c.self.invariant c.add_inputs.new.edges keeps ∙ ap (λ (h : JoiningText). h.dyndep_files) c.self.view_is
+
+pub returns-in_err-edge-clause-refused : goal.returns-in_err-edge-clause-refused
+returns-in_err-edge-clause-refused c = on-err c.from_residual.result (joins-nothing c.self.inside.edges c.self.inside.blocks c.self.inside.names c.self.inside.details.items c.self.inside.defaults.items c.self.inside.dyndep_files.items c.self.inside.bound.items c.self.inside.waiting.items c.self.invariant c.self.inside.edges (keeps-nothing c.self.inside.edges) _ c.self.view_is)
+
+pub returns-in_err-add_outputs-clause-refused : goal.returns-in_err-add_outputs-clause-refused
+returns-in_err-add_outputs-clause-refused c = on-err c.from_residual-in_err-add_outputs.result (joins-nothing c.self.inside.edges c.self.inside.blocks c.self.inside.names c.self.inside.details.items c.self.inside.defaults.items c.self.inside.dyndep_files.items c.self.inside.bound.items c.self.inside.waiting.items c.self.invariant c.add_outputs.new.edges c.in_err-add_outputs.ensures.keeps _ c.self.view_is)
+
+pub returns-in_err-add_inputs-clause-refused : goal.returns-in_err-add_inputs-clause-refused
+returns-in_err-add_inputs-clause-refused c =
+    let keeps : KeepsEdges c.self.inside.edges c.add_inputs.new.edges = keeps-trans c.self.inside.edges c.add_outputs.new.edges c.add_inputs.new.edges c.in_ok-add_outputs.ensures.keeps c.in_err-add_inputs.ensures.keeps in
+    on-err c.from_residual-in_err-add_inputs.result (joins-nothing c.self.inside.edges c.self.inside.blocks c.self.inside.names c.self.inside.details.items c.self.inside.defaults.items c.self.inside.dyndep_files.items c.self.inside.bound.items c.self.inside.waiting.items c.self.invariant c.add_inputs.new.edges keeps _ c.self.view_is)
 
 -- ---- the entry is joined
 
