@@ -2,6 +2,7 @@ pub mod Comes
 pub mod EdgeRules
 pub mod EdgeTexts
 pub mod Faultless
+pub mod FirstPositions
 pub mod Found
 pub mod GraphRows
 pub mod Holding
@@ -27,6 +28,7 @@ pub mod ParsedLemmas
 pub mod Positions
 pub mod SortLemmas
 pub mod Stated
+pub mod TargetLaws
 pub mod TargetRows
 pub mod Tables
 pub mod Turns

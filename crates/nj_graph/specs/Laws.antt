@@ -1,17 +1,29 @@
 -- What holds of every reading of a run's files.
-use Rattle.std.specs.Prelude.{◌≡◌, ℕ, ◌≤◌, None, List, [], ◌∷◌, map, ⊤}
+use Rattle.std.specs.Prelude.{◌≡◌, ◌≢◌, ◌⊎◌, ℕ, ◌+◌, ◌<◌, ◌≤◌, Option, Some, None, Result, Ok, Err, List, [], ◌∷◌, ◌++◌, map, length, slice_get, codes, ⊤}
 use Rattle.std.specs.Cmp.Lexicographic.{slice_cmp}
-use Rattle.std.specs.List.{AllByRecursion}
+use Rattle.std.specs.List.{AllByRecursion, Contains}
 use Rattle.std.specs.List.Sorted.{IsStrictlySortedBy}
 use Rattle.std.specs.Ordering.{nat_cmp}
 use Rattle.nj_scope.specs.Readings.{Reading, IsPrefix}
+use Rattle.nj_text.specs.Lines.{Line, text_lines}
+use Rattle.nj_text.specs.Paths.{clean_path_of}
 use Rattle.nj_text.specs.Words.{WordText}
-use Rattle.nj_manifest.specs.Statements.{BindingText}
+use Rattle.nj_manifest.specs.Dyndeps.{version_next, next_entry}
+use Rattle.nj_manifest.specs.Faults.{Fault}
+use Rattle.nj_manifest.specs.Statements.{BindingText, Parse, next_statement}
 use Rattle.nj_scope.specs.ReadingList.{Entry, scope_of, rule_texts, files_opened}
+use Rattle.nj_edges.specs.Edges.{EdgePaths, outputs_of, inputs_of}
+use Rattle.nj_faults.specs.declared.fault.GraphFault.{GraphFault}
+use Rattle.nj_faults.specs.declared.fault.Cause.TheVariants.{EmptyPath, UnknownTarget, NoOutEdge}
+use Rattle.nj_faults.specs.Faults.{unplaced}
 use Rattle.nj_build.specs.EdgeList.{EdgeText, edges_read, names_of_edge}
 use Rattle.nj_graph.specs.Graph.{main_rules_of}
+use Rattle.nj_graph.specs.Joining.{entries_of}
+use Rattle.nj_graph.specs.Parsed.{parsed}
 use Rattle.nj_graph.specs.Reading.{expanded_in, own_fault, most_opened, most_within, main_read}
+use Rattle.nj_graph.specs.ResponseFiles.{first_position, sign_position}
 use Rattle.nj_graph.specs.Runs.{IsLacking}
+use Rattle.nj_graph.specs.Targets.{picked}
 
 -- No statement has a fault of its own, by the statements before it. The last one stands first.
 abbrev pub Faultless : List Entry → Type 0
@@ -52,3 +64,92 @@ LaterBindingsCount = (e : Entry) (before : List Entry) (edge : EdgeText) (name :
 abbrev pub LaterBindingsChangeNoEdge : Type 0
 LaterBindingsChangeNoEdge = (e : Entry) (before : List Entry) (name : List ℕ) (word : WordText)
     → e.item ≡ BindingText name word → edges_read (e ∷ before) ≡ edges_read before
+
+-- ---- what is parsed of a text
+
+-- A parser finds these items in the lines, one after the other, up to the end of the lines or up to the first fault.
+pub data FindsInTurn {A : Type 0} (next : List Line → Parse (Option A)) : List Line → List A → Option Fault → Type 0 where
+  at_end : {lines rest : List Line} → next lines ≡ Ok (None, rest) → FindsInTurn next lines [] None
+  at_fault : {lines : List Line} {fault : Fault} → next lines ≡ Err fault → FindsInTurn next lines [] (Some fault)
+  an_item : {lines rest : List Line} {item : A} {items : List A} {fault : Option Fault} → next lines ≡ Ok (Some item, rest)
+      → FindsInTurn next rest items fault → FindsInTurn next lines (item ∷ items) fault
+
+-- the statements of a text
+abbrev pub StatementsAreFoundInTurn : Type 0
+StatementsAreFoundInTurn = (text : List ℕ) → FindsInTurn next_statement (text_lines text) (parsed text).items (parsed text).fault
+
+-- the entries of the text of a dyndep file, in the lines after its version
+abbrev pub EntriesAreFoundInTurn : Type 0
+EntriesAreFoundInTurn = (text : List ℕ) (lines : List Line) → version_next (text_lines text) ≡ Ok lines
+    → FindsInTurn next_entry lines (entries_of text).items (entries_of text).fault
+
+-- ---- where a command names its response file
+
+-- a text has a part at a position
+pub record HasPart (text part : List ℕ) (position : ℕ) : Type 0 where
+  pub before : List ℕ
+  pub after : List ℕ
+  pub text_is : text ≡ before ++ part ++ after
+  pub position_is : position ≡ length before
+
+-- at this position, and at no earlier one
+pub record FirstHasPart (text part : List ℕ) (position : ℕ) : Type 0 where
+  pub here : HasPart text part position
+  pub not_earlier : (earlier : ℕ) → earlier < position → ¬ HasPart text part earlier
+
+-- the answer of a search: a position that has a property, or none where no position has it
+abbrev pub Finds : (P : ℕ → Type 0) → Option ℕ → Type 0
+Finds P (Some position) = P position
+Finds P None = (position : ℕ) → ¬ P position
+
+-- The first position of a part is the least at which the text has it; there is none where the text has it nowhere.
+abbrev pub FirstPositionIsFirst : Type 0
+FirstPositionIsFirst = (part text : List ℕ) → Finds (FirstHasPart text part) (first_position part text)
+
+-- a command has an `@`, and directly after it the first occurrence of the file's name
+pub record HasSign (command file : List ℕ) (sign : ℕ) : Type 0 where
+  pub here : HasPart command (codes "@" ++ file) sign
+  pub first : FirstHasPart command file (sign + 1)
+
+abbrev pub SignIsBeforeTheFirst : Type 0
+SignIsBeforeTheFirst = (command file : List ℕ) → Finds (HasSign command file) (sign_position command file)
+
+-- ---- what words of the command line mean
+
+-- an edge names the file, as an output, an input or a validation
+pub record IsNamedBy (edges : List EdgePaths) (path : List ℕ) : Type 0 where
+  pub edge : EdgePaths
+  pub there : Contains edges edge
+  pub named : Contains (outputs_of edge) path ⊎ (Contains (inputs_of edge) path ⊎ Contains edge.validations path)
+
+-- Of all edges that have the file as an input, the one of the smallest number has this as its first output.
+pub record IsMadeOf (edges : List EdgePaths) (path made : List ℕ) : Type 0 where
+  pub number : ℕ
+  pub edge : EdgePaths
+  pub edge_is : slice_get edges number ≡ Some edge
+  pub uses : Contains (inputs_of edge) path
+  pub smallest : (other : ℕ) (e : EdgePaths) → slice_get edges other ≡ Some e → Contains (inputs_of e) path → number ≤ other
+  pub first_output : slice_get (outputs_of edge) 0 ≡ Some made
+
+-- a path without a `^` at its end
+abbrev pub HasNoCaret : (path : List ℕ) → Type 0
+HasNoCaret path = (file : List ℕ) → path ≢ file ++ codes "^"
+
+-- What a clean path means.
+pub data Means (edges : List EdgePaths) (path : List ℕ) : Result (List ℕ) GraphFault → Type 0 where
+  -- a file that an edge names
+  a_file : HasNoCaret path → IsNamedBy edges path → Means edges path (Ok path)
+  no_file : HasNoCaret path → ¬ IsNamedBy edges path → Means edges path (Err (unplaced (UnknownTarget path)))
+  -- with a `^` after its path, what is made of such a file
+  made : {file output : List ℕ} → path ≡ file ++ codes "^" → IsMadeOf edges file output → Means edges path (Ok output)
+  made_of_no_file : {file : List ℕ} → path ≡ file ++ codes "^" → ¬ IsNamedBy edges file → Means edges path (Err (unplaced (UnknownTarget file)))
+  not_made : {file : List ℕ} → path ≡ file ++ codes "^" → IsNamedBy edges file → ((output : List ℕ) → ¬ IsMadeOf edges file output)
+      → Means edges path (Err (unplaced (NoOutEdge file)))
+
+-- A word means what its clean path means.
+abbrev pub WordsMeanPaths : Type 0
+WordsMeanPaths = (edges : List EdgePaths) (word : List ℕ) → word ≢ [] → Means edges (clean_path_of word) (picked edges word)
+
+-- An empty word means nothing.
+abbrev pub EmptyWordMeansNothing : Type 0
+EmptyWordMeansNothing = (edges : List EdgePaths) → picked edges [] ≡ Err (unplaced EmptyPath)

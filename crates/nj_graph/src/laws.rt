@@ -2,6 +2,7 @@
 
 ghost use Rattle.nj_graph.specs.Joining.{JoinedStaysJoined};
 ghost use Rattle.nj_graph.specs.Laws.{ReadIsFaultless, OpenFilesAreBounded, OpeningsAreBounded, OthersAreNotRead, MainRulesRise, LaterBindingsCount, LaterBindingsChangeNoEdge};
+ghost use Rattle.nj_graph.specs.Laws.{StatementsAreFoundInTurn, EntriesAreFoundInTurn, FirstPositionIsFirst, SignIsBeforeTheFirst, WordsMeanPaths, EmptyWordMeansNothing};
 
 /// What holds of the statements that are read of a run's files up to the first fault: none of them
 /// has a fault by those before it, so that the rules of the main scope have names of their own; at
@@ -27,4 +28,29 @@ pub fn bindings_after_an_edge()
 /// joining again changes no statement, and reaches no file.
 pub fn joined_dyndeps_stay_joined()
     ensures { JoinedStaysJoined }
+{}
+
+/// What is parsed of a text: the statements that the parser finds in its lines, one after the other,
+/// up to the end of the lines or up to the first fault; in a dyndep file the entries after the
+/// version, in the same way.
+pub fn items_are_found_in_turn()
+    ensures statements { StatementsAreFoundInTurn }
+    ensures entries { EntriesAreFoundInTurn }
+{}
+
+/// Where a command names its response file ("Rule variables" in the Ninja manual): the first
+/// position of a name is the least at which the command has it, and the sign is the `@` directly
+/// before that. There is none where the command does not have the name, or where its first
+/// occurrence has no `@` directly before it.
+pub fn sign_before_the_first_name()
+    ensures first { FirstPositionIsFirst }
+    ensures sign { SignIsBeforeTheFirst }
+{}
+
+/// What a word of the command line means ("Running Ninja" in the Ninja manual), by its clean path:
+/// `FILE` is the file itself, if an edge names it; `FILE^` is the first output of the edge of the
+/// smallest number that has FILE as an input. Else it is refused, as an empty word is.
+pub fn words_mean_targets()
+    ensures words { WordsMeanPaths }
+    ensures empty { EmptyWordMeansNothing }
 {}

@@ -17,7 +17,8 @@ mod targets;
 pub use graph::{Graph, rules_by_name};
 pub use joining::join_dyndeps;
 pub use laws::{
-    bindings_after_an_edge, joined_dyndeps_stay_joined, statements_up_to_the_first_fault,
+    bindings_after_an_edge, items_are_found_in_turn, joined_dyndeps_stay_joined,
+    sign_before_the_first_name, statements_up_to_the_first_fault, words_mean_targets,
 };
 pub use loading::{Loaded, load};
 pub use nj_build::PlaceRef;
