@@ -6,8 +6,8 @@ use Rattle.nj_scope.specs.ReadingList.{Entry}
 use Rattle.nj_faults.specs.declared.fault.GraphFault.{GraphFault}
 use Rattle.nj_faults.specs.FaultLines.{fault_line}
 use Rattle.nj_faults.specs.Faults.{no_memory}
-use Rattle.nj_graph.specs.Joining.{IsJoined, JoinedOr}
-use Rattle.nj_graph.specs.Loads.{IsWhole, LoadedOr}
+use Rattle.nj_graph.specs.Joining.{IsJoined, JoiningFails}
+use Rattle.nj_graph.specs.Loads.{IsWhole, LoadingFails}
 use Rattle.nj_graph.specs.Runs.{IsRead}
 use Rattle.nj_tools.specs.Sinks.{SinkState, Takes}
 use Rattle.nj_tools.specs.Texts.{FailsWithin, TakesFront}
@@ -90,10 +90,10 @@ AreStatements main true before after files entries =
 -- This is what is wrong with the files: what ended the reading of the main file and all that it includes; with `--dyndep` also
 -- what ended the joining after it.
 abbrev pub HaveFault : (main : List ℕ) → (dyndep : Bool) → (before after : SourceState) → List Reading → GraphFault → Type 0
-HaveFault main false before after files fault = LoadedOr main before after files (Err fault)
+HaveFault main false before after files fault = LoadingFails main before after files fault
 HaveFault main true before after files fault =
-    LoadedOr main before after files (Err fault)
-    ⊎ ((more : ReadsMore main before after files) × JoinedOr more.stated more.read files more.between after (Err fault))
+    LoadingFails main before after files fault
+    ⊎ ((more : ReadsMore main before after files) × JoiningFails more.stated more.read files more.between after fault)
 
 -- No graph can be made of the files: a statement has a fault, or an edge lies on a cycle, or the source failed, or an allocation did.
 -- Nothing is output. The fault is reported, or out of memory if there was no room for its line.

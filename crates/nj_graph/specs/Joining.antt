@@ -137,6 +137,12 @@ pub record JoinsCycle (stated : List Entry) (old files : List Reading) (before a
   pub whole : IsJoined stated joined old files before after
   pub cycle : IsCycleFault (edges_read joined) fault
 
+-- The first fault is answered: that of a dyndep file, or else of a cycle.
+abbrev pub JoiningFails : (stated : List Entry) → (old files : List Reading) → (before after : SourceState) → GraphFault → Type 0
+JoiningFails stated old files before after fault =
+    JoiningLacksMemory stated old files before after fault
+    ⊎ (JoiningEnds stated old files before after fault ⊎ JoinsCycle stated old files before after fault)
+
 -- the graph is that of the statements with what was joined to them
 pub record JoinsGraph (stated : List Entry) (old files : List Reading) (before after : SourceState) (loaded : LoadedText) : Type 0 where
   pub files_are : loaded.files ≡ files
@@ -148,9 +154,7 @@ pub record JoinsGraph (stated : List Entry) (old files : List Reading) (before a
 abbrev pub JoinedOr : (stated : List Entry) → (old files : List Reading) → (before after : SourceState)
     → Result LoadedText GraphFault → Type 0
 JoinedOr stated old files before after (Ok loaded) = JoinsGraph stated old files before after loaded
-JoinedOr stated old files before after (Err fault) =
-    JoiningLacksMemory stated old files before after fault
-    ⊎ (JoiningEnds stated old files before after fault ⊎ JoinsCycle stated old files before after fault)
+JoinedOr stated old files before after (Err fault) = JoiningFails stated old files before after fault
 
 -- These files were also read from the source, each path once; by them all is joined, or the first fault is answered.
 abbrev pub Joins : (stated : List Entry) → (old : List Reading) → (before after : SourceState) → Result LoadedText GraphFault → Type 0

@@ -35,12 +35,16 @@ pub record HasCycle (main : List ℕ) (before after : SourceState) (files : List
   pub whole : IsWhole main before after files entries
   pub cycle : IsCycleFault (edges_read entries) fault
 
--- All is loaded, or the first fault is answered: that of a statement, or else of a cycle.
+-- The first fault is answered: that of a statement, or else of a cycle.
+abbrev pub LoadingFails : (main : List ℕ) → (before after : SourceState) → (files : List Reading) → GraphFault → Type 0
+LoadingFails main before after files fault =
+    Stops main before after files (λ all. main_read all main) fault ⊎ HasCycle main before after files fault
+
+-- All is loaded, or not.
 abbrev pub LoadedOr : (main : List ℕ) → (before after : SourceState) → (files : List Reading)
     → Result LoadedText GraphFault → Type 0
 LoadedOr main before after files (Ok loaded) = IsLoaded main before after files loaded
-LoadedOr main before after files (Err fault) =
-    Stops main before after files (λ all. main_read all main) fault ⊎ HasCycle main before after files fault
+LoadedOr main before after files (Err fault) = LoadingFails main before after files fault
 
 -- These files were read from the source, each path once; by them all is loaded, or the first fault is answered.
 abbrev pub Loads : (main : List ℕ) → (before after : SourceState) → Result LoadedText GraphFault → Type 0
