@@ -3,6 +3,7 @@ use Rattle.std.proofs.Common.{◌≡◌, ℕ, suc, ◌+◌, ◌<◌, ◌≤◌, 
 use Rattle.std.proofs.lemmas.List.{append-nil}
 use Rattle.std.specs.Result.{IsErr, IsErrAnd}
 use Rattle.nj_text.specs.declared.fault.UnitFault.{UnitFault}
+use Rattle.nj_text.specs.declared.fault.UnitFault.TheVariants as unit_fault
 use Rattle.nj_text.specs.declared.fault.LexFault.{LexFault}
 use Rattle.nj_text.specs.declared.fault.LexFault.TheVariants as lex
 use Rattle.nj_text.specs.declared.sign.LineStart.{LineStart}
@@ -228,7 +229,9 @@ block-end view allowed (Failed f) s after x lines still other h = tt
 -- what fails of a step fails of the whole
 fails-so : {A B : Type 0} (f : ParseFault) (x : Result A Fault) (y : Result B Fault) → ((e : Fault) → x ≡ Err e → y ≡ Err e) → Fails f x → Fails f y
 fails-so (fault.Lex lex.OutOfMemory) x y so h = tt
-fails-so (fault.Lex (lex.Unit f)) x y so h = so _ h
+fails-so (fault.Lex (lex.BadByte spot)) x y so h = so _ h
+fails-so (fault.Lex (lex.Tab spot)) x y so h = so _ h
+fails-so (fault.Lex (lex.BadEscape spot)) x y so h = so _ h
 fails-so (fault.Expected spot want) x y so h = so _ h
 fails-so (fault.UnexpectedIndent spot) x y so h = so _ h
 fails-so (fault.MissingCommand spot) x y so h = so _ h
@@ -252,8 +255,14 @@ fails-from view (Failed g) after reading (Err e) f h so = tt
 
 pub block-start-fails : (allowed : Keys) (front : List LineText) (before s after : State) (f : LexFault) → StillReads allowed front before s → Answers {X = LineStart} (λ s. s) (Err f) after (start_line_of s) → FailsFrom before (block allowed) (fault.Lex f)
 block-start-fails allowed front (Between ls) s after lex.OutOfMemory still h = tt
-block-start-fails allowed front (Between ls) s after (lex.Unit f) still h =
-    let e = start-begins allowed still.0 (Err f) after (rw still.1 at h) in
+block-start-fails allowed front (Between ls) s after (lex.BadByte spot) still h =
+    let e = start-begins allowed still.0 (Err (unit_fault.BadByte spot)) after (rw still.1 at h) in
+    sym still.2 ∙ ap (in_front front) e
+block-start-fails allowed front (Between ls) s after (lex.Tab spot) still h =
+    let e = start-begins allowed still.0 (Err (unit_fault.Tab spot)) after (rw still.1 at h) in
+    sym still.2 ∙ ap (in_front front) e
+block-start-fails allowed front (Between ls) s after (lex.BadEscape spot) still h =
+    let e = start-begins allowed still.0 (Err (unit_fault.BadEscape spot)) after (rw still.1 at h) in
     sym still.2 ∙ ap (in_front front) e
 block-start-fails allowed front (Inside l ls) s after f still h = tt
 block-start-fails allowed front (Failed g) s after f still h = tt

@@ -2,9 +2,10 @@
 use Rattle.std.proofs.Common.{◌≡◌, Result, Ok, Err, refl}
 use Rattle.std.specs.Result.{IsErr, IsErrAnd}
 use Rattle.nj_text.specs.declared.fault.UnitFault.{UnitFault}
+use Rattle.nj_text.specs.declared.fault.UnitFault.TheVariants as unit_fault
 use Rattle.nj_text.specs.declared.fault.LexFault.{LexFault}
 use Rattle.nj_text.specs.declared.fault.LexFault.TheVariants as lex
-use Rattle.nj_text.specs.Calls.{State, Reply, FailsOrLacksMemory}
+use Rattle.nj_text.specs.Calls.{State, Reply, FailsOrLacksMemory, unit_of}
 use Rattle.nj_manifest.specs.declared.fault.ParseFault.{ParseFault}
 use Rattle.nj_manifest.specs.declared.fault.ParseFault.TheVariants as fault
 use Rattle.nj_manifest.specs.Faults.{Fault, Bad, fault_text}
@@ -19,9 +20,11 @@ failed-so : {Y : Type 0} (f : UnitFault) (r : Reply Y) → r.answer ≡ Err f �
 failed-so f r h = rw h refl
 
 -- a step that fails with a fault of the lexer
-pub fails-by : {X Y : Type 0} (f : LexFault) (before after : State) (r : Reply X) (whole : Result Y Fault) → FailsOrLacksMemory f before after r → ((unit : UnitFault) → called r ≡ Err (Bad unit) → whole ≡ Err (Bad unit)) → Fails (fault.Lex f) whole
+pub fails-by : {X Y : Type 0} (f : LexFault) (before after : State) (r : Reply X) (whole : Result Y Fault) → FailsOrLacksMemory (unit_of f) before after r → ((unit : UnitFault) → called r ≡ Err (Bad unit) → whole ≡ Err (Bad unit)) → Fails (fault.Lex f) whole
 fails-by lex.OutOfMemory before after r whole h so = tt
-fails-by (lex.Unit unit) before after r whole h so = so unit (failed-so unit r h.0)
+fails-by (lex.BadByte spot) before after r whole h so = so (unit_fault.BadByte spot) (failed-so (unit_fault.BadByte spot) r h.0)
+fails-by (lex.Tab spot) before after r whole h so = so (unit_fault.Tab spot) (failed-so (unit_fault.Tab spot) r h.0)
+fails-by (lex.BadEscape spot) before after r whole h so = so (unit_fault.BadEscape spot) (failed-so (unit_fault.BadEscape spot) r h.0)
 
 -- what `?` hands on
 pub handed-on : {X Y : Type 0} (view : X → Y) (f : LexFault) (r : Result X ParseFault) (after : State) (whole : Step Y) → IsErr r × IsErrAnd r (λ e. e ≡ fault.Lex f) → Fails (fault.Lex f) whole → TakesStep view r after whole
@@ -31,7 +34,9 @@ handed-on view f (Err e) after whole h so = rw h.1 so
 -- what a function answers with this fault
 pub fails-so : {Y : Type 0} (f : ParseFault) (whole : Result Y Fault) → whole ≡ Err (fault_text f) → Fails f whole
 fails-so (fault.Lex lex.OutOfMemory) whole h = tt
-fails-so (fault.Lex (lex.Unit f)) whole h = h
+fails-so (fault.Lex (lex.BadByte spot)) whole h = h
+fails-so (fault.Lex (lex.Tab spot)) whole h = h
+fails-so (fault.Lex (lex.BadEscape spot)) whole h = h
 fails-so (fault.Expected s w) whole h = h
 fails-so (fault.UnexpectedIndent s) whole h = h
 fails-so (fault.MissingCommand s) whole h = h

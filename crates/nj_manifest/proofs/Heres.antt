@@ -23,7 +23,9 @@ at-head l ls h after e = rw e refl
 
 pub fails-on : {A B : Type 0} (f : ParseFault) (x : Result A Fault) (k : A → Result B Fault) → Fails f x → Fails f (x >>= k)
 fails-on (fault.Lex lex.OutOfMemory) x k h = tt
-fails-on (fault.Lex (lex.Unit f)) x k h = rw h refl
+fails-on (fault.Lex (lex.BadByte spot)) x k h = rw h refl
+fails-on (fault.Lex (lex.Tab spot)) x k h = rw h refl
+fails-on (fault.Lex (lex.BadEscape spot)) x k h = rw h refl
 fails-on (fault.Expected s w) x k h = rw h refl
 fails-on (fault.UnexpectedIndent s) x k h = rw h refl
 fails-on (fault.MissingCommand s) x k h = rw h refl

@@ -1,6 +1,7 @@
 -- Where the next statement of lines begins, by what the lexer answers at their start.
 use Rattle.std.proofs.Common.{◌≡◌, ℕ, suc, ◌<◌, ◌≤◌, Bool, true, false, cond, ◌&&◌, Result, Ok, Err, List, [], ◌∷◌, refl, sym, ap, subst, arith}
 use Rattle.nj_text.specs.declared.fault.UnitFault.{UnitFault}
+use Rattle.nj_text.specs.declared.fault.UnitFault.TheVariants as unit_fault
 use Rattle.nj_text.specs.declared.fault.LexFault.{LexFault}
 use Rattle.nj_text.specs.declared.fault.LexFault.TheVariants as lex
 use Rattle.nj_text.specs.declared.sign.LineStart.{LineStart}
@@ -113,7 +114,9 @@ begins (Failed f) after answer stands h = absurd stands
 -- the fault at a line's start, as it is answered
 pub begins-badly : (before after : State) (f : LexFault) → IsBetweenStatements before → Answers {X = LineStart} (λ start. start) (Err f) after (start_line_of before) → Fails (fault.Lex f) (opening (lines_from before))
 begins-badly before after lex.OutOfMemory stands h = tt
-begins-badly before after (lex.Unit f) stands h = begins before after (Err f) stands h
+begins-badly before after (lex.BadByte spot) stands h = begins before after (Err (unit_fault.BadByte spot)) stands h
+begins-badly before after (lex.Tab spot) stands h = begins before after (Err (unit_fault.Tab spot)) stands h
+begins-badly before after (lex.BadEscape spot) stands h = begins before after (Err (unit_fault.BadEscape spot)) stands h
 
 -- ---- a measure of the lines that are left
 

@@ -29,7 +29,9 @@ pub data Fault : Type 0 where
   OutOfMemory : Fault
 
 abbrev pub fault_text : ParseFault → Fault
-fault_text (fault.Lex (lex.Unit f)) = Bad f
+fault_text (fault.Lex (lex.BadByte spot)) = Bad (unit_fault.BadByte spot)
+fault_text (fault.Lex (lex.Tab spot)) = Bad (unit_fault.Tab spot)
+fault_text (fault.Lex (lex.BadEscape spot)) = Bad (unit_fault.BadEscape spot)
 fault_text (fault.Lex lex.OutOfMemory) = OutOfMemory
 fault_text (fault.Expected spot wanted) = Expected spot wanted
 fault_text (fault.UnexpectedIndent spot) = UnexpectedIndent spot
@@ -45,13 +47,8 @@ abbrev pub is_syntax : Fault → Bool
 is_syntax (Bad unit) = true
 is_syntax (Expected spot wanted) = true
 is_syntax (UnexpectedIndent spot) = true
-is_syntax (MissingCommand spot) = false
-is_syntax (RspPair spot) = false
 is_syntax (UnknownKey spot key) = true
-is_syntax (MissingDepth spot) = false
-is_syntax (DyndepVersion spot) = false
-is_syntax (DyndepShape spot) = false
-is_syntax OutOfMemory = false
+is_syntax fault = false
 
 -- the text of what is wanted
 abbrev pub wanted_text : Wanted → List ℕ
@@ -81,13 +78,11 @@ place_of (DyndepVersion spot) = Some spot
 place_of (DyndepShape spot) = Some spot
 place_of OutOfMemory = None
 
-abbrev pub unit_text : UnitFault → List ℕ
-unit_text (unit_fault.BadByte spot) = codes "unexpected byte"
-unit_text (unit_fault.Tab spot) = codes "tabs are not allowed, use spaces"
-unit_text (unit_fault.BadEscape spot) = codes "bad $-escape (literal $ must be written as $$)"
-
+-- which says nothing of the place
 abbrev pub text_of : Fault → List ℕ
-text_of (Bad unit) = unit_text unit
+text_of (Bad (unit_fault.BadByte spot)) = codes "unexpected byte"
+text_of (Bad (unit_fault.Tab spot)) = codes "tabs are not allowed, use spaces"
+text_of (Bad (unit_fault.BadEscape spot)) = codes "bad $-escape (literal $ must be written as $$)"
 text_of (Expected spot wanted) = codes "expected " ++ wanted_text wanted
 text_of (UnexpectedIndent spot) = codes "unexpected indent"
 text_of (MissingCommand spot) = codes "expected 'command =' line"

@@ -10,7 +10,7 @@ ghost use Rattle.nj_manifest.specs.DyndepParsers.{entry_text};
 use crate::block::equals_value;
 use crate::fault::{ParseFault, Wanted};
 use crate::steps::{expect_sign, name_next, section_next};
-use nj_text::{LexFault, Lexer, LineStart, Part, Sign, Word, version_of};
+use nj_text::{Lexer, LineStart, Part, Sign, Word, version_of};
 use std::alloc::{AllocError, Global};
 
 /// A statement of a dyndep file: `build OUT | OUTS: dyndep | INS`.
@@ -82,14 +82,10 @@ fn no_path<'a>(alloc: Global, lexer: &mut Lexer<'a>) -> Result<(), ParseFault<'a
     match lexer.path_word(alloc) {
         Ok(None) => Ok(()),
         Ok(Some(_)) => Err(ParseFault::DyndepShape(spot)),
-        Err(LexFault::OutOfMemory) => Err(ParseFault::Lex(LexFault::OutOfMemory)),
-        Err(LexFault::Unit(unit)) => {
-            if unit.spot() == spot {
-                Err(ParseFault::Lex(LexFault::Unit(unit)))
-            } else {
-                Err(ParseFault::DyndepShape(spot))
-            }
-        }
+        Err(fault) => match fault.spot() {
+            Some(unit) if unit != spot => Err(ParseFault::DyndepShape(spot)),
+            _ => Err(ParseFault::Lex(fault)),
+        },
     }
 }
 

@@ -1,12 +1,12 @@
 //! Why a text is not a list of statements.
 
 ghost use Rattle.std.specs.Prelude.{◌≡◌};
-ghost use Rattle.nj_manifest.specs.Faults.{wanted_text, fault_text, place_of, unit_text, text_of};
+ghost use Rattle.nj_manifest.specs.Faults.{wanted_text, fault_text, place_of, text_of};
 ghost use Rattle.nj_text.specs.declared.fault.LexFault.TheVariants.{OutOfMemory};
 ghost use Rattle.nj_manifest.specs.declared.fault.ParseFault.TheVariants.{Lex};
 
 use crate::fault_text::FaultText;
-use nj_text::{LexFault, Spot, UnitFault};
+use nj_text::{LexFault, Spot};
 use std::alloc::{AllocError, AllocFailed};
 
 /// What would have to be at a place, in the words of the fault's text.
@@ -86,8 +86,7 @@ impl<'a> ParseFault<'a> {
         ensures { result ≡ place_of (fault_text self.entry) }
     {
         match self {
-            ParseFault::Lex(LexFault::Unit(unit)) => Some(unit.spot()),
-            ParseFault::Lex(LexFault::OutOfMemory) => None,
+            ParseFault::Lex(fault) => fault.spot(),
             ParseFault::Expected(spot, _) => Some(spot),
             ParseFault::UnexpectedIndent(spot) => Some(spot),
             ParseFault::MissingCommand(spot) => Some(spot),
@@ -104,8 +103,7 @@ impl<'a> ParseFault<'a> {
         ensures { result ≡ text_of (fault_text self.entry) }
     {
         match self {
-            ParseFault::Lex(LexFault::Unit(unit)) => FaultText::fixed(unit_text(unit)),
-            ParseFault::Lex(LexFault::OutOfMemory) => FaultText::fixed("out of memory"),
+            ParseFault::Lex(fault) => FaultText::fixed(lex_text(fault)),
             ParseFault::Expected(_, wanted) => FaultText::pair("expected ", wanted.text()),
             ParseFault::UnexpectedIndent(_) => FaultText::fixed("unexpected indent"),
             ParseFault::MissingCommand(_) => FaultText::fixed("expected 'command =' line"),
@@ -120,14 +118,15 @@ impl<'a> ParseFault<'a> {
     }
 }
 
-/// The text of a bad unit.
-fn unit_text(unit: UnitFault) -> &'static str
-    ensures { result.now ≡ unit_text unit }
+/// The text of a fault of the lexer.
+fn lex_text(fault: LexFault) -> &'static str
+    ensures { result.now ≡ text_of (fault_text (Lex fault)) }
 {
-    match unit {
-        UnitFault::BadByte(_) => "unexpected byte",
-        UnitFault::Tab(_) => "tabs are not allowed, use spaces",
-        UnitFault::BadEscape(_) => "bad $-escape (literal $ must be written as $$)",
+    match fault {
+        LexFault::BadByte(_) => "unexpected byte",
+        LexFault::Tab(_) => "tabs are not allowed, use spaces",
+        LexFault::BadEscape(_) => "bad $-escape (literal $ must be written as $$)",
+        LexFault::OutOfMemory => "out of memory",
     }
 }
 

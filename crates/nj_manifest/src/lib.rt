@@ -27,7 +27,7 @@ pub use laws::{
     faults_are_leftmost, missing_lines_are_lacking, next_entries_are_the_forms,
     statements_are_the_forms, units_of_texts_are_apart,
 };
-pub use nj_text::{LexFault, Part, Spot, UnitFault, Word};
+pub use nj_text::{LexFault, Part, Spot, Word};
 pub use parser::Parser;
 pub use statement::{Build, Line, Placed, Statement};
 pub use steps::PlacedName;

@@ -3,7 +3,8 @@ use Rattle.std.proofs.Common.{◌≡◌, ℕ, Bool, true, false, List, [], ◌�
 use Rattle.nj_text.specs.declared.spot.Spot.{Spot}
 use Rattle.nj_text.specs.declared.cursor.Cursor.{Cursor}
 use Rattle.nj_text.specs.declared.fault.LexFault.{LexFault}
-use Rattle.nj_text.specs.declared.fault.LexFault.TheVariants as lex
+use Rattle.nj_text.specs.declared.fault.WordFault.{WordFault}
+use Rattle.nj_text.specs.declared.fault.WordFault.TheVariants as word_fault
 use Rattle.nj_text.specs.declared.sign.Sign.{Sign}
 use Rattle.nj_text.specs.declared.sign.Sign.TheVariants as sign
 use Rattle.nj_text.specs.declared.word.Word.{Word}
@@ -99,11 +100,13 @@ value_inside spot bytes = ap (λ us. value_at (after_blanks (with_units us (line
 
 -- ---- a value that was read
 
-settled_fault : (old new : State) (expected : Reply WordText) (f : LexFault) (result : Result Word LexFault) → is_inside old ≡ true → FailsStep expected f → SettlesFault f old new result → AnswersOrLacksMemory word_text result old new expected
-settled_fault old new expected (lex.Unit f) result i e h = rw (h.0, e) (refl, h.1)
-settled_fault old new expected lex.OutOfMemory result i e h = rw h.0 (i, h.1)
+settled_fault : (old new : State) (expected : Reply WordText) (f : WordFault) (result : Result Word LexFault) → is_inside old ≡ true → FailsStep expected f → SettlesFault f old new result → AnswersOrLacksMemory word_text result old new expected
+settled_fault old new expected (word_fault.Unit f) (Ok w) i e h = absurd h.0
+settled_fault old new expected (word_fault.Unit f) (Err g) i e h = rw (h.0, e) (refl, h.1)
+settled_fault old new expected word_fault.OutOfMemory (Ok w) i e h = absurd h.0
+settled_fault old new expected word_fault.OutOfMemory (Err g) i e h = rw h.0 (i, h.1)
 
-pub settled : (old new : State) (expected : Reply WordText) (step : Result (Word × Cursor) LexFault) (result : Result Word LexFault) → is_inside old ≡ true → value_of old ≡ expected → StepsOrLacksMemory word_text expected step → Settles step old new result
+pub settled : (old new : State) (expected : Reply WordText) (step : Result (Word × Cursor) WordFault) (result : Result Word LexFault) → is_inside old ≡ true → value_of old ≡ expected → StepsOrLacksMemory word_text expected step → Settles step old new result
     → AnswersOrLacksMemory word_text result old new (value_of old)
 settled old new expected (Ok step) result i v e h = rw (h.0, v, e) (refl, h.1)
 settled old new expected (Err f) result i v e h = rw v (settled_fault old new expected f result i e h)

@@ -5,8 +5,8 @@ use Rattle.std.proofs.lemmas.Bool.{eqb-true, false≢true, true≢false}
 use Rattle.std.proofs.lemmas.List.{append-nil, nil_from_length}
 use Rattle.nj_text.specs.declared.spot.Spot.{Spot}
 use Rattle.nj_text.specs.declared.fault.UnitFault.{UnitFault}
-use Rattle.nj_text.specs.declared.fault.LexFault.{LexFault}
-use Rattle.nj_text.specs.declared.fault.LexFault.TheVariants as lex
+use Rattle.nj_text.specs.declared.fault.WordFault.{WordFault}
+use Rattle.nj_text.specs.declared.fault.WordFault.TheVariants as word_fault
 use Rattle.nj_text.specs.declared.parts.TextKind.TheVariants as kind
 use Rattle.nj_text.specs.Bytes.{is_ordinary_byte, is_identifier_byte, drop_while}
 use Rattle.nj_text.specs.Units.{Meaning, Within, unit_at, position_after, spot_after, is_ordinary_in, cut}
@@ -203,11 +203,11 @@ identifier_fails spot bytes f e =
 pub word_fails_at_once : (spot : Spot) (bytes : List ℕ) (f : UnitFault) → Some f ≡ next_fault (units_within spot bytes) → word_at (line spot bytes) (others spot bytes) ≡ failing f
 word_fails_at_once spot bytes f e = fails_here spot bytes f (word_or_none spot bytes (begins_word (line spot bytes).units)) e
 
-pub word_fails_or_lacks : (spot : Spot) (bytes : List ℕ) (f : LexFault) → None ≡ next_fault (units_within spot bytes) → begins_word (units_within spot bytes) ≡ true → FailsText f (next_fault (after_text kind.Word (units_within spot bytes)))
+pub word_fails_or_lacks : (spot : Spot) (bytes : List ℕ) (f : WordFault) → None ≡ next_fault (units_within spot bytes) → begins_word (units_within spot bytes) ≡ true → FailsText f (next_fault (after_text kind.Word (units_within spot bytes)))
     → FailsStep (word_at (line spot bytes) (others spot bytes)) f
-word_fails_or_lacks spot bytes (lex.Unit f) n b e = word_fails_here spot bytes f n b e
-word_fails_or_lacks spot bytes lex.OutOfMemory n b e = tt
+word_fails_or_lacks spot bytes (word_fault.Unit f) n b e = word_fails_here spot bytes f n b e
+word_fails_or_lacks spot bytes word_fault.OutOfMemory n b e = tt
 
-pub value_fails_or_lacks : (spot : Spot) (bytes : List ℕ) (f : LexFault) → FailsText f (next_fault (after_text kind.Value (units_within spot bytes))) → FailsStep (value_at (line spot bytes) (others spot bytes)) f
-value_fails_or_lacks spot bytes (lex.Unit f) e = value_fails_here spot bytes f e
-value_fails_or_lacks spot bytes lex.OutOfMemory e = tt
+pub value_fails_or_lacks : (spot : Spot) (bytes : List ℕ) (f : WordFault) → FailsText f (next_fault (after_text kind.Value (units_within spot bytes))) → FailsStep (value_at (line spot bytes) (others spot bytes)) f
+value_fails_or_lacks spot bytes (word_fault.Unit f) e = value_fails_here spot bytes f e
+value_fails_or_lacks spot bytes word_fault.OutOfMemory e = tt

@@ -184,25 +184,32 @@ value_of (Failed f) = failing f
 
 -- ---- what a call of the program does
 
+-- the bad unit that a fault reports; out of memory reports none
+abbrev pub unit_of : LexFault → Option UnitFault
+unit_of (lex.BadByte spot) = Some (fault.BadByte spot)
+unit_of (lex.Tab spot) = Some (fault.Tab spot)
+unit_of (lex.BadEscape spot) = Some (fault.BadEscape spot)
+unit_of lex.OutOfMemory = None
+
 -- It fails with the fault of the definition, and leaves the lexer where the definition does; never out of memory.
-abbrev pub Fails : {Y : Type 0} → LexFault → (after : State) → Reply Y → Type 0
-Fails (lex.Unit f) after expected = (expected.answer ≡ Err f) × (after ≡ expected.after)
-Fails lex.OutOfMemory after expected = ⊥
+abbrev pub Fails : {Y : Type 0} → Option UnitFault → (after : State) → Reply Y → Type 0
+Fails (Some f) after expected = (expected.answer ≡ Err f) × (after ≡ expected.after)
+Fails None after expected = ⊥
 
 -- It answers as the definition says, and leaves the lexer where the definition does.
 abbrev pub Answers : {X Y : Type 0} → (X → Y) → Result X LexFault → (after : State) → Reply Y → Type 0
 Answers view (Ok x) after expected = (expected.answer ≡ Ok (view x)) × (after ≡ expected.after)
-Answers view (Err f) after expected = Fails f after expected
+Answers view (Err f) after expected = Fails (unit_of f) after expected
 
 abbrev pub is_inside : State → Bool
 is_inside (Inside l ls) = true
 is_inside s = false
 
-abbrev pub FailsOrLacksMemory : {Y : Type 0} → LexFault → (before after : State) → Reply Y → Type 0
-FailsOrLacksMemory (lex.Unit f) before after expected = (expected.answer ≡ Err f) × (after ≡ expected.after)
-FailsOrLacksMemory lex.OutOfMemory before after expected = (is_inside before ≡ true) × (after ≡ before)
+abbrev pub FailsOrLacksMemory : {Y : Type 0} → Option UnitFault → (before after : State) → Reply Y → Type 0
+FailsOrLacksMemory (Some f) before after expected = (expected.answer ≡ Err f) × (after ≡ expected.after)
+FailsOrLacksMemory None before after expected = (is_inside before ≡ true) × (after ≡ before)
 
 -- The same of a call that takes memory, which it does inside a line only: out of memory leaves the lexer as it was.
 abbrev pub AnswersOrLacksMemory : {X Y : Type 0} → (X → Y) → Result X LexFault → (before after : State) → Reply Y → Type 0
 AnswersOrLacksMemory view (Ok x) before after expected = (expected.answer ≡ Ok (view x)) × (after ≡ expected.after)
-AnswersOrLacksMemory view (Err f) before after expected = FailsOrLacksMemory f before after expected
+AnswersOrLacksMemory view (Err f) before after expected = FailsOrLacksMemory (unit_of f) before after expected

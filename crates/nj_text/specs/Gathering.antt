@@ -3,8 +3,8 @@ use Rattle.std.specs.Prelude.{◌≡◌, ℕ, ◌<◌, ◌≤◌, Bool, true, fa
 use Rattle.std.specs.List.{take_while}
 use Rattle.smallvec.specs.SmallVec.{SmallVec}
 use Rattle.nj_text.specs.declared.fault.UnitFault.{UnitFault}
-use Rattle.nj_text.specs.declared.fault.LexFault.{LexFault}
-use Rattle.nj_text.specs.declared.fault.LexFault.TheVariants as lex
+use Rattle.nj_text.specs.declared.fault.WordFault.{WordFault}
+use Rattle.nj_text.specs.declared.fault.WordFault.TheVariants as word_fault
 use Rattle.nj_text.specs.declared.cursor.Cursor.{Cursor}
 use Rattle.nj_text.specs.declared.word.Part.{Part}
 use Rattle.nj_text.specs.declared.parts.TextKind.{TextKind}
@@ -67,20 +67,20 @@ NoneInRun p [] = Unit {0}
 NoneInRun p (b ∷ bs) = p b ≡ false
 
 -- The run of ordinary bytes at the front is taken, and none follows it.
-abbrev pub TakesRun : TextKind → (old new : List Part) → Cursor → Result Cursor LexFault → Type 0
+abbrev pub TakesRun : TextKind → (old new : List Part) → Cursor → Result Cursor WordFault → Type 0
 TakesRun kind old new c (Ok after) =
     (map part_text new ++ gathered kind (units_at after) ≡ map part_text old ++ gathered kind (units_at c))
     × (after_text kind (units_at after) ≡ after_text kind (units_at c))
     × NoneInRun (in_run (run_of kind)) after.rest.now
     × (length after.rest.now ≤ length c.rest.now)
-TakesRun kind old new c (Err f) = f ≡ lex.OutOfMemory
+TakesRun kind old new c (Err f) = f ≡ word_fault.OutOfMemory
 
 -- a whole text, or its fault; out of memory says nothing of it
-abbrev pub FailsText : LexFault → Option UnitFault → Type 0
-FailsText lex.OutOfMemory next = Unit {0}
-FailsText (lex.Unit f) next = next ≡ Some f
+abbrev pub FailsText : WordFault → Option UnitFault → Type 0
+FailsText word_fault.OutOfMemory next = Unit {0}
+FailsText (word_fault.Unit f) next = next ≡ Some f
 
-abbrev pub Gathers : TextKind → List TextUnit → Result (SmallVec Part × Cursor) LexFault → Type 0
+abbrev pub Gathers : TextKind → List TextUnit → Result (SmallVec Part × Cursor) WordFault → Type 0
 Gathers kind us (Ok r) =
     (map part_text r.0.items ≡ gathered kind us) × (units_at r.1 ≡ after_text kind us) × (next_fault (after_text kind us) ≡ None)
 Gathers kind us (Err f) = FailsText f (next_fault (after_text kind us))

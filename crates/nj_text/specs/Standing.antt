@@ -5,7 +5,8 @@ use Rattle.nj_text.specs.declared.spot.Spot.{Spot}
 use Rattle.nj_text.specs.declared.cursor.Cursor.{Cursor}
 use Rattle.nj_text.specs.declared.fault.UnitFault.{UnitFault}
 use Rattle.nj_text.specs.declared.fault.LexFault.{LexFault}
-use Rattle.nj_text.specs.declared.fault.LexFault.TheVariants as lex
+use Rattle.nj_text.specs.declared.fault.WordFault.{WordFault}
+use Rattle.nj_text.specs.declared.fault.WordFault.TheVariants as word_fault
 use Rattle.nj_text.specs.declared.signs.SignTaken.{SignTaken}
 use Rattle.nj_text.specs.declared.signs.SignTaken.TheVariants as taken
 use Rattle.nj_text.specs.declared.word.Word.{Word}
@@ -16,7 +17,7 @@ use Rattle.nj_text.specs.declared.starts.Begun.TheVariants as starts
 use Rattle.nj_text.specs.Units.{TextUnit, Ordinary, OpeningJoin, AtStart, AfterSpaces, Within, first_spot, cut}
 use Rattle.nj_text.specs.Scans.{along, units_within}
 use Rattle.nj_text.specs.Lines.{Line, lines_of, before_first_line, lines_after, ending_of}
-use Rattle.nj_text.specs.Calls.{State, Between, Inside, Failed, Reply, reply, failing, begun}
+use Rattle.nj_text.specs.Calls.{State, Between, Inside, Failed, Reply, reply, failing, begun, unit_of}
 
 abbrev pub first_line : List Line → Line
 first_line [] = record { units = []; end = first_spot; is_last = true }
@@ -83,11 +84,11 @@ Steps view expected (Ok step) = expected ≡ reply (view step.0) (inside (lines_
 Steps view expected (Err f) = expected ≡ failing f
 
 -- the same of a call that takes memory
-abbrev pub FailsStep : {Y : Type 0} → Reply Y → LexFault → Type 0
-FailsStep expected lex.OutOfMemory = Unit {0}
-FailsStep expected (lex.Unit f) = expected ≡ failing f
+abbrev pub FailsStep : {Y : Type 0} → Reply Y → WordFault → Type 0
+FailsStep expected word_fault.OutOfMemory = Unit {0}
+FailsStep expected (word_fault.Unit f) = expected ≡ failing f
 
-abbrev pub StepsOrLacksMemory : {X Y : Type 0} → (X → Y) → Reply Y → Result (X × Cursor) LexFault → Type 0
+abbrev pub StepsOrLacksMemory : {X Y : Type 0} → (X → Y) → Reply Y → Result (X × Cursor) WordFault → Type 0
 StepsOrLacksMemory view expected (Ok step) = expected ≡ reply (view step.0) (inside (lines_within step.1.spot step.1.rest.now))
 StepsOrLacksMemory view expected (Err f) = FailsStep expected f
 
@@ -105,11 +106,16 @@ SignIs expected (taken.InLine after) = expected ≡ reply true (inside (lines_wi
 SignIs expected (taken.LineEnd after) = expected ≡ reply true (Between (lines_from after.spot after.rest.now))
 SignIs expected (taken.Fault f) = expected ≡ failing f
 
--- what a value that was read in a line makes of the lexer
-abbrev pub SettlesFault : LexFault → (old new : State) → Result Word LexFault → Type 0
-SettlesFault lex.OutOfMemory old new result = (result ≡ Err lex.OutOfMemory) × (new ≡ old)
-SettlesFault (lex.Unit f) old new result = (result ≡ Err (lex.Unit f)) × (new ≡ Failed f)
+-- a fault that reports this bad unit, or none
+abbrev pub Reports : Result Word LexFault → Option UnitFault → Type 0
+Reports (Ok found) unit = ⊥
+Reports (Err f) unit = unit_of f ≡ unit
 
-abbrev pub Settles : Result (Word × Cursor) LexFault → (old new : State) → Result Word LexFault → Type 0
+-- what a value that was read in a line makes of the lexer
+abbrev pub SettlesFault : WordFault → (old new : State) → Result Word LexFault → Type 0
+SettlesFault word_fault.OutOfMemory old new result = Reports result None × (new ≡ old)
+SettlesFault (word_fault.Unit f) old new result = Reports result (Some f) × (new ≡ Failed f)
+
+abbrev pub Settles : Result (Word × Cursor) WordFault → (old new : State) → Result Word LexFault → Type 0
 Settles (Ok step) old new result = (result ≡ Ok step.0) × (new ≡ inside (lines_within step.1.spot step.1.rest.now))
 Settles (Err f) old new result = SettlesFault f old new result

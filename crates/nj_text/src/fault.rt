@@ -1,20 +1,48 @@
 //! Why a text could not be read further.
 
-ghost use Rattle.std.specs.Prelude.{◌≡◌};
-ghost use Rattle.nj_text.specs.declared.fault.LexFault.TheVariants.{Unit as BadUnit, OutOfMemory};
-ghost use Rattle.nj_text.specs.Calls.{fault_spot};
+ghost use Rattle.std.specs.Prelude.{◌≡◌, Some};
+ghost use Rattle.std.specs.Option.{option_map};
+ghost use Rattle.nj_text.specs.declared.fault.WordFault.TheVariants.{OutOfMemory};
+ghost use Rattle.nj_text.specs.Calls.{fault_spot, unit_of};
 
 use crate::spot::Spot;
 use std::alloc::{AllocError, AllocFailed};
 
-/// A unit that may not stand in a text, with the place of its first byte.
+/// Why a text could not be read further. Places are of the first byte of the bad unit.
 #[derive(Clone, Copy, Debug, PartialEq, Eq)]
-pub enum UnitFault {
+pub enum LexFault {
     /// A NUL, or a carriage return that no line feed follows, outside comments.
     BadByte(Spot),
     /// A tab as the first byte after a line's leading spaces.
     Tab(Spot),
     /// A `$` that begins neither a join, nor an escape, nor a reference.
+    BadEscape(Spot),
+    /// Out of memory, which has no place in the text.
+    OutOfMemory,
+}
+
+impl LexFault {
+    /// The place of the bad unit; `None` if an allocation failed.
+    pub fn spot(self) -> Option<Spot>
+        ensures { result ≡ option_map fault_spot (unit_of self) }
+    {
+        match self {
+            LexFault::BadByte(spot) => Some(spot),
+            LexFault::Tab(spot) => Some(spot),
+            LexFault::BadEscape(spot) => Some(spot),
+            LexFault::OutOfMemory => None,
+        }
+    }
+}
+
+/// A bad unit of a text, with the place of its first byte.
+#[derive(Clone, Copy)]
+pub enum UnitFault {
+    /// As [`LexFault::BadByte`].
+    BadByte(Spot),
+    /// As [`LexFault::Tab`].
+    Tab(Spot),
+    /// As [`LexFault::BadEscape`].
     BadEscape(Spot),
 }
 
@@ -29,37 +57,39 @@ impl UnitFault {
             UnitFault::BadEscape(spot) => spot,
         }
     }
+
+    /// The unit as a fault of the text.
+    pub fn reported(self) -> LexFault
+        ensures { unit_of result ≡ Some self }
+    {
+        match self {
+            UnitFault::BadByte(spot) => LexFault::BadByte(spot),
+            UnitFault::Tab(spot) => LexFault::Tab(spot),
+            UnitFault::BadEscape(spot) => LexFault::BadEscape(spot),
+        }
+    }
 }
 
-/// Why a text could not be read further.
-#[derive(Clone, Copy, Debug, PartialEq, Eq)]
-pub enum LexFault {
-    /// A bad unit of the text.
+/// Why a word or a value could not be read.
+pub enum WordFault {
+    /// A bad unit is in it, or comes next.
     Unit(UnitFault),
-    /// Out of memory, which has no place in the text.
+    /// Out of memory.
     OutOfMemory,
 }
 
-impl From<UnitFault> for LexFault {
-    ghost from_gives = { λ f e. e ≡ BadUnit f };
+impl From<AllocError> for WordFault {
+    ghost from_gives = { λ _ e. e ≡ OutOfMemory };
 
-    fn from(fault: UnitFault) -> LexFault {
-        LexFault::Unit(fault)
+    fn from(_e: AllocError) -> WordFault {
+        WordFault::OutOfMemory
     }
 }
 
-impl From<AllocError> for LexFault {
+impl<T: Drop> From<AllocFailed<T>> for WordFault {
     ghost from_gives = { λ _ e. e ≡ OutOfMemory };
 
-    fn from(_e: AllocError) -> LexFault {
-        LexFault::OutOfMemory
-    }
-}
-
-impl<T: Drop> From<AllocFailed<T>> for LexFault {
-    ghost from_gives = { λ _ e. e ≡ OutOfMemory };
-
-    fn from(_e: AllocFailed<T>) -> LexFault {
-        LexFault::OutOfMemory
+    fn from(_e: AllocFailed<T>) -> WordFault {
+        WordFault::OutOfMemory
     }
 }

@@ -1,15 +1,14 @@
 //! The lexer.
 
-ghost use Rattle.std.specs.Prelude.{◌≡◌, List, ℕ};
+ghost use Rattle.std.specs.Prelude.{◌≡◌, List, ℕ, Some};
 ghost use Rattle.std.specs.Option.{option_map};
 ghost use Rattle.nj_text.specs.Words.{word_text};
-ghost use Rattle.nj_text.specs.Calls.{Answers, AnswersOrLacksMemory, at_front, start_line_of, ident_of, sign_of, path_word_of, value_of, spot_of, skip_blanks_of, Failed};
+ghost use Rattle.nj_text.specs.Calls.{Answers, AnswersOrLacksMemory, at_front, start_line_of, ident_of, sign_of, path_word_of, value_of, spot_of, skip_blanks_of, Failed, unit_of};
 ghost use Rattle.nj_text.specs.Standing.{Settles};
-ghost use Rattle.nj_text.specs.declared.fault.LexFault.TheVariants.{Unit as BadUnit};
 
 use crate::blanks::skip_blanks;
 use crate::cursor::Cursor;
-use crate::fault::{LexFault, UnitFault};
+use crate::fault::{LexFault, UnitFault, WordFault};
 use crate::sign::{LineStart, Sign};
 use crate::signs::{SignTaken, take_sign};
 use crate::spot::Spot;
@@ -59,12 +58,12 @@ impl<'a> Lexer<'a> {
     /// inside a line.
     ///
     /// # Errors
-    /// [`UnitFault::Tab`] if a tab is the first byte after the line's leading spaces.
+    /// [`LexFault::Tab`] if a tab is the first byte after the line's leading spaces.
     pub fn start_line(&mut self) -> Result<LineStart, LexFault>
         ensures { Answers (λ start. start) result self.new (start_line_of self.old) }
     {
         match self.stand {
-            Stand::Failed(fault) => Err(LexFault::Unit(fault)),
+            Stand::Failed(fault) => Err(fault.reported()),
             Stand::Opening(_, _) => Ok(LineStart::Middle),
             Stand::Inside => Ok(LineStart::Middle),
             Stand::Between => match begin_line(self.cursor) {
@@ -80,11 +79,11 @@ impl<'a> Lexer<'a> {
 
     /// Makes every later call report this fault.
     fn fail(&mut self, fault: UnitFault) -> LexFault
-        ensures fault { result ≡ BadUnit fault }
+        ensures fault { unit_of result ≡ Some fault }
         ensures failed { self.new ≡ Failed fault }
     {
         self.stand = Stand::Failed(fault);
-        LexFault::Unit(fault)
+        fault.reported()
     }
 
     /// Skips blanks, so that [`Lexer::spot`] is the place of what follows them. Skips nothing
@@ -111,7 +110,7 @@ impl<'a> Lexer<'a> {
         ensures { Answers (option_map (λ bytes. bytes.now)) result self.new (ident_of self.old) }
     {
         match self.stand {
-            Stand::Failed(fault) => Err(LexFault::Unit(fault)),
+            Stand::Failed(fault) => Err(fault.reported()),
             Stand::Between => Ok(None),
             Stand::Opening(_, _) => Ok(None),
             Stand::Inside => match identifier(self.cursor) {
@@ -134,7 +133,7 @@ impl<'a> Lexer<'a> {
         ensures { Answers (λ there. there) result self.new (sign_of want self.old) }
     {
         match self.stand {
-            Stand::Failed(fault) => Err(LexFault::Unit(fault)),
+            Stand::Failed(fault) => Err(fault.reported()),
             Stand::Between => Ok(false),
             Stand::Opening(_, _) => Ok(false),
             Stand::Inside => match take_sign(want, self.cursor) {
@@ -167,7 +166,7 @@ impl<'a> Lexer<'a> {
     {
         let start = self.cursor;
         match self.stand {
-            Stand::Failed(fault) => Err(LexFault::Unit(fault)),
+            Stand::Failed(fault) => Err(fault.reported()),
             Stand::Between => Ok(None),
             Stand::Opening(_, _) => Ok(None),
             Stand::Inside => match word(alloc, start) {
@@ -175,8 +174,8 @@ impl<'a> Lexer<'a> {
                     self.cursor = after;
                     Ok(found)
                 }
-                Err(LexFault::OutOfMemory) => Err(LexFault::OutOfMemory),
-                Err(LexFault::Unit(fault)) => Err(self.fail(fault)),
+                Err(WordFault::OutOfMemory) => Err(LexFault::OutOfMemory),
+                Err(WordFault::Unit(fault)) => Err(self.fail(fault)),
             },
         }
     }
@@ -193,7 +192,7 @@ impl<'a> Lexer<'a> {
     {
         let cursor = self.cursor;
         match self.stand {
-            Stand::Failed(fault) => Err(LexFault::Unit(fault)),
+            Stand::Failed(fault) => Err(fault.reported()),
             Stand::Between => {
                 let spot = cursor.spot;
                 let parts = SmallVec::new(alloc);
@@ -209,7 +208,7 @@ impl<'a> Lexer<'a> {
     #[inline(always)]
     fn settle(
         &mut self,
-        step: Result<(Word<'a>, Cursor<'a>), LexFault>,
+        step: Result<(Word<'a>, Cursor<'a>), WordFault>,
     ) -> Result<Word<'a>, LexFault>
         ensures { Settles step.entry self.old self.new result }
     {
@@ -219,8 +218,8 @@ impl<'a> Lexer<'a> {
                 self.stand = Stand::Inside;
                 Ok(found)
             }
-            Err(LexFault::OutOfMemory) => Err(LexFault::OutOfMemory),
-            Err(LexFault::Unit(fault)) => Err(self.fail(fault)),
+            Err(WordFault::OutOfMemory) => Err(LexFault::OutOfMemory),
+            Err(WordFault::Unit(fault)) => Err(self.fail(fault)),
         }
     }
 

@@ -29,7 +29,7 @@ mod starts;
 mod word;
 mod words;
 
-pub use fault::{LexFault, UnitFault};
+pub use fault::LexFault;
 pub use laws::{
     lines_are_the_units, parts_stand_in_order, units_are_the_text, units_stand_in_place,
 };

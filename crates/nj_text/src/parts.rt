@@ -1,14 +1,14 @@
 //! The parts of words and values.
 
 ghost use Rattle.std.specs.Prelude.{◌≡◌, ◌<◌, ◌+◌, [], ◌∷◌, ◌++◌, length, map, IfSome, OnOk, IfErr};
-ghost use Rattle.nj_text.specs.declared.fault.LexFault.TheVariants.{OutOfMemory};
+ghost use Rattle.nj_text.specs.declared.fault.WordFault.TheVariants.{OutOfMemory};
 ghost use Rattle.nj_text.specs.Scans.{units_within};
 ghost use Rattle.nj_text.specs.Runs.{in_run};
 ghost use Rattle.nj_text.specs.Calls.{begins_word};
 ghost use Rattle.nj_text.specs.Gathering.{run_of, Gathers, PieceIs, TakesRun, NoneInRun, IsShorter};
 
 use crate::cursor::Cursor;
-use crate::fault::{LexFault, UnitFault};
+use crate::fault::{UnitFault, WordFault};
 use crate::next::{Next, next_unit};
 use crate::runs::{Run, is_in};
 use crate::word::Part;
@@ -72,7 +72,7 @@ fn special_piece(kind: TextKind, cursor: Cursor<'_>) -> Piece<'_>
 
 /// Appends a part. Nearly all words have one; where a second one comes, more will.
 #[inline(always)]
-fn append<'a>(parts: &mut SmallVec<Part<'a>, 1>, part: Part<'a>) -> Result<(), LexFault>
+fn append<'a>(parts: &mut SmallVec<Part<'a>, 1>, part: Part<'a>) -> Result<(), WordFault>
     ensures items { OnOk result (parts.new.items ≡ parts.old.items ++ part.entry ∷ []) }
     ensures refused { IfErr result (λ f. f ≡ OutOfMemory) }
 {
@@ -90,7 +90,7 @@ fn take_run<'a>(
     parts: &mut SmallVec<Part<'a>, 1>,
     kind: TextKind,
     cursor: Cursor<'a>,
-) -> Result<Cursor<'a>, LexFault>
+) -> Result<Cursor<'a>, WordFault>
     ensures { TakesRun kind parts.old.items parts.new.items cursor.entry result }
 {
     let (bytes, after) = cursor.run(kind.run());
@@ -107,7 +107,7 @@ pub fn gather<'a>(
     alloc: Global,
     kind: TextKind,
     start: Cursor<'a>,
-) -> Result<(SmallVec<Part<'a>, 1>, Cursor<'a>), LexFault>
+) -> Result<(SmallVec<Part<'a>, 1>, Cursor<'a>), WordFault>
     ensures { Gathers kind (units_within start.entry.spot start.entry.rest.now) result }
 {
     let mut parts = SmallVec::new(alloc);
@@ -124,7 +124,7 @@ pub fn gather<'a>(
             }
             Piece::Join(after) => cursor = after,
             Piece::End => return Ok((parts, remainder)),
-            Piece::Bad(fault) => return Err(LexFault::Unit(fault)),
+            Piece::Bad(fault) => return Err(WordFault::Unit(fault)),
         }
     }
 }

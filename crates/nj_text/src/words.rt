@@ -8,7 +8,7 @@ ghost use Rattle.nj_text.specs.Standing.{Steps, StepsOrLacksMemory, line_at, oth
 
 use crate::blanks::skip_blanks;
 use crate::cursor::Cursor;
-use crate::fault::{LexFault, UnitFault};
+use crate::fault::{UnitFault, WordFault};
 use crate::parts::{TextKind, begins_word, gather};
 use crate::runs::Run;
 use crate::signs::bad_unit;
@@ -37,13 +37,13 @@ pub fn identifier(start: Cursor<'_>) -> Result<(Option<&[u8]>, Cursor<'_>), Unit
 pub fn word<'a>(
     alloc: Global,
     start: Cursor<'a>,
-) -> Result<(Option<Word<'a>>, Cursor<'a>), LexFault>
+) -> Result<(Option<Word<'a>>, Cursor<'a>), WordFault>
     ensures { StepsOrLacksMemory (option_map word_text)
         (word_at (after_blanks (line_at start.entry)) (other_lines_at start.entry)) result }
 {
     let cursor = skip_blanks(start);
     if let Some(fault) = bad_unit(cursor) {
-        return Err(LexFault::Unit(fault));
+        return Err(WordFault::Unit(fault));
     }
     if !begins_word(cursor) {
         return Ok((None, cursor));
@@ -57,7 +57,7 @@ pub fn word<'a>(
 
 /// The value after the blanks, which goes up to the line's end.
 #[inline(always)]
-pub fn value<'a>(alloc: Global, start: Cursor<'a>) -> Result<(Word<'a>, Cursor<'a>), LexFault>
+pub fn value<'a>(alloc: Global, start: Cursor<'a>) -> Result<(Word<'a>, Cursor<'a>), WordFault>
     ensures { StepsOrLacksMemory word_text
         (value_at (after_blanks (line_at start.entry)) (other_lines_at start.entry)) result }
 {

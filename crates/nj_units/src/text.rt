@@ -6,7 +6,7 @@
 
 use crate::words::{ascii, put_spot, put_word};
 use nj_text::{
-    LexFault, Lexer, LineStart, Sign, TextFault, UnitFault, Word, clean_into, clean_path, is_clean,
+    LexFault, Lexer, LineStart, Sign, TextFault, Word, clean_into, clean_path, is_clean,
     leading_number, quote_into, version_of,
 };
 use std::alloc::{AllocError, Global};
@@ -15,9 +15,9 @@ use std::test::Fail;
 
 fn put_fault(text: &mut String, fault: LexFault) -> Result<(), AllocError> {
     let (kind, spot) = match fault {
-        LexFault::Unit(UnitFault::BadByte(spot)) => ("bad byte ", spot),
-        LexFault::Unit(UnitFault::Tab(spot)) => ("tab ", spot),
-        LexFault::Unit(UnitFault::BadEscape(spot)) => ("bad escape ", spot),
+        LexFault::BadByte(spot) => ("bad byte ", spot),
+        LexFault::Tab(spot) => ("tab ", spot),
+        LexFault::BadEscape(spot) => ("bad escape ", spot),
         LexFault::OutOfMemory => return Err(AllocError),
     };
     text.push_str(kind)?;
@@ -62,21 +62,20 @@ fn put_value(text: &mut String, answer: Result<Word<'_>, LexFault>) -> Result<()
 }
 
 /// Whether each call answers the fault, and the lexer stands at its place.
-fn is_kept(alloc: Global, lexer: &mut Lexer<'_>, unit: UnitFault) -> bool {
-    let fault = LexFault::Unit(unit);
+fn is_kept(alloc: Global, lexer: &mut Lexer<'_>, fault: LexFault) -> bool {
     lexer.start_line() == Err(fault)
         && lexer.ident() == Err(fault)
         && lexer.sign(Sign::LineEnd) == Err(fault)
         && lexer.path_word(alloc).err() == Some(fault)
         && lexer.value(alloc).err() == Some(fault)
-        && lexer.spot() == unit.spot()
+        && Some(lexer.spot()) == fault.spot()
 }
 
 /// The fault that each call answers from now on.
 fn put_kept(alloc: Global, text: &mut String, lexer: &mut Lexer<'_>) -> Result<(), AllocError> {
     match lexer.start_line() {
-        Err(LexFault::Unit(unit)) if is_kept(alloc, lexer, unit) && is_kept(alloc, lexer, unit) => {
-            put_fault(text, LexFault::Unit(unit))
+        Err(fault) if is_kept(alloc, lexer, fault) && is_kept(alloc, lexer, fault) => {
+            put_fault(text, fault)
         }
         _ => text.push_str("no"),
     }
