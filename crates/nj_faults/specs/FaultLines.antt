@@ -1,6 +1,9 @@
 -- The line that reports a fault.
 use Rattle.std.specs.Prelude.{ℕ, Option, Some, None, List, ◌++◌, codes}
 use Rattle.std.specs.Fmt.{decimal}
+use Rattle.nj_text.specs.declared.fault.UnitFault.TheVariants as unit
+use Rattle.nj_text.specs.Units.{first_spot}
+use Rattle.nj_manifest.specs.Faults.{Bad, Expected, UnexpectedIndent, MissingCommand, RspPair, UnknownKey, MissingDepth, DyndepVersion, DyndepShape, text_of}
 use Rattle.nj_faults.specs.declared.fault.Place.{Place}
 use Rattle.nj_faults.specs.declared.fault.GraphFault.{GraphFault}
 use Rattle.nj_faults.specs.declared.fault.Cause.{Cause}
@@ -11,8 +14,19 @@ abbrev pub place_text : Option Place → List ℕ
 place_text (Some place) = place.file ++ codes ":" ++ decimal place.spot.line ++ codes ":" ++ decimal place.spot.column
 place_text None = codes "ninja-explain"
 
+-- a fault of the syntax has the text that the parser gives it, wherever it stands
 abbrev pub cause_text : Cause → List ℕ
-cause_text (cause.Syntax text) = text
+cause_text cause.BadByte = text_of (Bad (unit.BadByte first_spot))
+cause_text cause.Tab = text_of (Bad (unit.Tab first_spot))
+cause_text cause.BadEscape = text_of (Bad (unit.BadEscape first_spot))
+cause_text (cause.Expected wanted) = text_of (Expected first_spot wanted)
+cause_text cause.UnexpectedIndent = text_of (UnexpectedIndent first_spot)
+cause_text cause.MissingCommand = text_of (MissingCommand first_spot)
+cause_text cause.RspPair = text_of (RspPair first_spot)
+cause_text (cause.UnknownKey key) = text_of (UnknownKey first_spot key)
+cause_text cause.MissingDepth = text_of (MissingDepth first_spot)
+cause_text cause.DyndepVersion = text_of (DyndepVersion first_spot)
+cause_text cause.DyndepShape = text_of (DyndepShape first_spot)
 cause_text cause.EmptyPath = codes "empty path"
 cause_text cause.BadDepth = codes "invalid pool depth"
 cause_text (cause.DuplicateRule name) = codes "duplicate rule '" ++ name ++ codes "'"

@@ -1,7 +1,8 @@
 -- Why files do not make a graph, or why what is asked of their graph cannot be answered: the place of a fault, and what is wrong there.
 use Rattle.std.specs.Prelude.{ℕ, Option, Some, None, List}
 use Rattle.nj_text.specs.declared.spot.Spot.{Spot}
-use Rattle.nj_manifest.specs.Faults.{Fault, place_of, text_of}
+use Rattle.nj_text.specs.declared.fault.UnitFault.TheVariants as unit
+use Rattle.nj_manifest.specs.Faults.{Fault, Bad, Expected, UnexpectedIndent, MissingCommand, RspPair, UnknownKey, MissingDepth, DyndepVersion, DyndepShape, OutOfMemory, place_of}
 use Rattle.nj_faults.specs.declared.fault.GraphFault.{GraphFault}
 use Rattle.nj_faults.specs.declared.fault.Cause.{Cause}
 use Rattle.nj_faults.specs.declared.fault.Cause.TheVariants as cause
@@ -19,10 +20,24 @@ no_memory = unplaced cause.OutOfMemory
 
 -- ---- the faults of a text
 
--- what the parser says of a place of its text; without a place it is out of memory
-abbrev pub syntax_fault : (file : List ℕ) → Option Spot → (text : List ℕ) → GraphFault
-syntax_fault file (Some spot) text = fault_at file spot (cause.Syntax text)
-syntax_fault file None text = no_memory
+abbrev pub cause_of : Fault → Cause
+cause_of (Bad (unit.BadByte spot)) = cause.BadByte
+cause_of (Bad (unit.Tab spot)) = cause.Tab
+cause_of (Bad (unit.BadEscape spot)) = cause.BadEscape
+cause_of (Expected spot wanted) = cause.Expected wanted
+cause_of (UnexpectedIndent spot) = cause.UnexpectedIndent
+cause_of (MissingCommand spot) = cause.MissingCommand
+cause_of (RspPair spot) = cause.RspPair
+cause_of (UnknownKey spot key) = cause.UnknownKey key
+cause_of (MissingDepth spot) = cause.MissingDepth
+cause_of (DyndepVersion spot) = cause.DyndepVersion
+cause_of (DyndepShape spot) = cause.DyndepShape
+cause_of OutOfMemory = cause.OutOfMemory
 
+abbrev pub fault_by : (file : List ℕ) → Option Spot → Cause → GraphFault
+fault_by file (Some spot) cause = fault_at file spot cause
+fault_by file None cause = unplaced cause
+
+-- what the parser says of its text
 abbrev pub fault_in : (file : List ℕ) → Fault → GraphFault
-fault_in file fault = syntax_fault file (place_of fault) (text_of fault)
+fault_in file fault = fault_by file (place_of fault) (cause_of fault)

@@ -4,9 +4,9 @@ ghost use Rattle.std.specs.Prelude.{◌≡◌, IfOk, nat_eq};
 ghost use Rattle.std.specs.Cmp.{partial_equiv_from_equiv};
 ghost use Rattle.std.specs.Cmp.Lexicographic.{nat_list_eq_equiv, pointwise};
 ghost use Rattle.nj_manifest.specs.Faults as parsed;
-ghost use Rattle.nj_faults.specs.Faults.{fault_at, fault_in, no_memory, unplaced};
+ghost use Rattle.nj_faults.specs.Faults.{cause_of, fault_at, fault_in, no_memory, unplaced};
 
-use nj_manifest::{ParseFault, Spot};
+use nj_manifest::{LexFault, ParseFault, Spot, Wanted};
 use std::alloc::{AllocError, AllocFailed, Global};
 use std::marker::Model;
 
@@ -75,8 +75,29 @@ pub struct Place {
 /// What is wrong at the place of a fault.
 #[derive(Debug, PartialEq, Eq, Drop)]
 pub enum Cause {
-    /// A fault of the syntax of the file, in the parser's own words (`ParseFault::text`).
-    Syntax(Name),
+    /// A NUL, or a carriage return that no line feed follows, outside comments ("Lexical syntax").
+    BadByte,
+    /// A tab as the first byte after a line's leading spaces.
+    Tab,
+    /// A `$` that begins neither a join, nor an escape, nor a reference.
+    BadEscape,
+    /// Something else stands where this is wanted.
+    Expected(Wanted),
+    /// An indented line that belongs to no block, at its column 1.
+    UnexpectedIndent,
+    /// A rule without `command`, at its statement.
+    MissingCommand,
+    /// A rule with only one of `rspfile` and `rspfile_content`, at its statement.
+    RspPair,
+    /// A key that its block may not have.
+    UnknownKey(Name),
+    /// A pool without `depth`, at its statement.
+    MissingDepth,
+    /// A dyndep file that does not begin with its version, at its first statement or its end.
+    DyndepVersion,
+    /// A statement of a dyndep file that is not a dyndep statement, at the first unit that departs
+    /// from its form.
+    DyndepShape,
     /// A path that is empty once its variables are expanded.
     EmptyPath,
     /// A depth that is no number, or greater than 2147483647.
@@ -134,6 +155,28 @@ pub enum Cause {
     OutOfMemory,
 }
 
+impl Cause {
+    // What is wrong at the place of a fault of the parser.
+    fn of_text(alloc: Global, fault: ParseFault<'_>) -> Result<Cause, AllocError>
+        ensures { IfOk result (λ cause. cause ≡ cause_of (parsed.fault_text fault.entry)) }
+    {
+        Ok(match fault {
+            ParseFault::Lex(LexFault::BadByte(_)) => Cause::BadByte,
+            ParseFault::Lex(LexFault::Tab(_)) => Cause::Tab,
+            ParseFault::Lex(LexFault::BadEscape(_)) => Cause::BadEscape,
+            ParseFault::Lex(LexFault::OutOfMemory) => Cause::OutOfMemory,
+            ParseFault::Expected(_, wanted) => Cause::Expected(wanted),
+            ParseFault::UnexpectedIndent(_) => Cause::UnexpectedIndent,
+            ParseFault::MissingCommand(_) => Cause::MissingCommand,
+            ParseFault::RspPair(_) => Cause::RspPair,
+            ParseFault::UnknownKey(_, key) => Cause::UnknownKey(Name::new(alloc, key)?),
+            ParseFault::MissingDepth(_) => Cause::MissingDepth,
+            ParseFault::DyndepVersion(_) => Cause::DyndepVersion,
+            ParseFault::DyndepShape(_) => Cause::DyndepShape,
+        })
+    }
+}
+
 /// The first fault of a run: of its files in reading order, else of what is asked of their graph.
 #[derive(Debug, PartialEq, Eq, Drop)]
 pub struct GraphFault {
@@ -162,12 +205,11 @@ impl GraphFault {
     ) -> Result<GraphFault, AllocError>
         ensures { IfOk result (λ f. f ≡ fault_in file.now (parsed.fault_text fault.entry)) }
     {
-        let Some(spot) = fault.spot() else {
-            return Ok(GraphFault::out_of_memory());
-        };
-        let mut text = Vec::new(alloc);
-        fault.text().append_to(&mut text)?;
-        GraphFault::at(alloc, file, spot, Cause::Syntax(Name::from(text)))
+        let cause = Cause::of_text(alloc, fault)?;
+        match fault.spot() {
+            Some(spot) => GraphFault::at(alloc, file, spot, cause),
+            None => Ok(GraphFault::unplaced(cause)),
+        }
     }
 
     /// A fault of this cause, for which no place is to blame.

@@ -1,11 +1,15 @@
 //! The line that reports a fault.
 
 ghost use Rattle.std.specs.Prelude.{◌≡◌, ◌++◌, IfOk, OnOk, codes};
+ghost use Rattle.nj_manifest.specs.Faults.{fault_text, text_of};
 ghost use Rattle.nj_faults.specs.FaultLines.{fault_line, place_text, cause_text};
 
 use crate::fault::{Cause, GraphFault, Name, Place};
-use nj_manifest::FaultText;
+use nj_manifest::{FaultText, LexFault, ParseFault, Spot};
 use std::alloc::{AllocError, Global};
+
+// A place for a fault of the parser whose text alone is wanted, which says nothing of the place.
+const ANYWHERE: Spot = Spot { line: 1, column: 1 };
 
 impl GraphFault {
     /// The line that reports the fault, without a line end: `FILE:LINE:COLUMN: TEXT`, or
@@ -45,7 +49,19 @@ fn append_cause(line: &mut Vec<u8>, cause: &Cause) -> Result<(), AllocError>
     ensures { OnOk result (line.new.items ≡ line.old.items ++ cause_text cause.now) }
 {
     match cause {
-        Cause::Syntax(text) => append_naming(line, "", text, ""),
+        Cause::BadByte => append_parsed(line, ParseFault::Lex(LexFault::BadByte(ANYWHERE))),
+        Cause::Tab => append_parsed(line, ParseFault::Lex(LexFault::Tab(ANYWHERE))),
+        Cause::BadEscape => append_parsed(line, ParseFault::Lex(LexFault::BadEscape(ANYWHERE))),
+        Cause::Expected(wanted) => append_parsed(line, ParseFault::Expected(ANYWHERE, *wanted)),
+        Cause::UnexpectedIndent => append_parsed(line, ParseFault::UnexpectedIndent(ANYWHERE)),
+        Cause::MissingCommand => append_parsed(line, ParseFault::MissingCommand(ANYWHERE)),
+        Cause::RspPair => append_parsed(line, ParseFault::RspPair(ANYWHERE)),
+        Cause::UnknownKey(key) => {
+            append_parsed(line, ParseFault::UnknownKey(ANYWHERE, key.as_bytes()))
+        }
+        Cause::MissingDepth => append_parsed(line, ParseFault::MissingDepth(ANYWHERE)),
+        Cause::DyndepVersion => append_parsed(line, ParseFault::DyndepVersion(ANYWHERE)),
+        Cause::DyndepShape => append_parsed(line, ParseFault::DyndepShape(ANYWHERE)),
         Cause::EmptyPath => append_fixed(line, "empty path"),
         Cause::BadDepth => append_fixed(line, "invalid pool depth"),
         Cause::DuplicateRule(name) => append_quoted(line, "duplicate rule '", name),
@@ -82,6 +98,13 @@ fn append_cause(line: &mut Vec<u8>, cause: &Cause) -> Result<(), AllocError>
         Cause::TextNotUtf8 => append_fixed(line, "text is not UTF-8"),
         Cause::OutOfMemory => append_fixed(line, "out of memory"),
     }
+}
+
+// Appends the text of a fault of the parser.
+fn append_parsed(line: &mut Vec<u8>, fault: ParseFault<'_>) -> Result<(), AllocError>
+    ensures { OnOk result (line.new.items ≡ line.old.items ++ text_of (fault_text fault.entry)) }
+{
+    fault.text().append_to(line)
 }
 
 // Appends a fixed text.
