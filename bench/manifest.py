@@ -3,8 +3,9 @@
 
 The shape `cmake` (the one without a word) is the form that CMake writes, with long values. The shape `dense` is that of
 generators which list what each file includes: long lists of short inputs, paths of about 34 bytes, and in each block five
-references and a join. The same N and shape give the same bytes. In both each target is 20 statements: one for the order,
-18 compilations, and a link.
+references and a join. The shape `headings` is `cmake` with the long comments that CMake writes above a target and above
+its statements. The same N and shape give the same bytes. In each of them a target is 20 statements: one for the order, 18
+compilations, and a link.
 """
 
 import sys
@@ -168,7 +169,25 @@ def dense_statement(index):
     return dense_compilation(target, number)
 
 
-SHAPES = {"cmake": (HEAD, statement, "cmake_order_target_0"), "dense": (DENSE_HEAD, dense_statement, "order_0")}
+TARGET_LINE = "# " + "=" * 77
+STATEMENT_LINE = "#" * 45
+
+
+def headings(index):
+    target, number = divmod(index, PER_TARGET)
+    above = f"{TARGET_LINE}\n# Build statements for OBJECT_LIBRARY target target_{target}\n\n\n" if number == 0 else ""
+    return f"{above}{STATEMENT_LINE}\n# Statement {number} of target_{target}\n\n"
+
+
+def headed_statement(index):
+    return headings(index) + statement(index)
+
+
+SHAPES = {
+    "cmake": (HEAD, statement, "cmake_order_target_0"),
+    "dense": (DENSE_HEAD, dense_statement, "order_0"),
+    "headings": (HEAD, headed_statement, "cmake_order_target_0"),
+}
 
 
 def write_manifest(count, out, shape="cmake"):

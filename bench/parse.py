@@ -1,7 +1,7 @@
 #!/usr/bin/env python3
 """Measures how fast a program parses large Ninja files:
 
-    parse.py PROGRAM [--sizes N,M] [--shapes cmake,dense] [--before OLD] [--rounds N]
+    parse.py PROGRAM [--sizes N,M] [--shapes cmake,dense,headings] [--before OLD] [--rounds N]
 
 PROGRAM reads a Ninja file on standard input, as crates/parse_bench does. In one run, on the same files, it stands beside
 `wc -l`, which only counts line feeds, and `ninja -t rules`, which reads the file and lists its rules; and beside another
@@ -81,7 +81,7 @@ def main():
     parser = argparse.ArgumentParser()
     parser.add_argument("program")
     parser.add_argument("--sizes", default="100000,1000000")
-    parser.add_argument("--shapes", default="cmake,dense")
+    parser.add_argument("--shapes", default="cmake,dense,headings")
     parser.add_argument("--before")
     parser.add_argument("--rounds", type=int, default=ROUNDS)
     words = parser.parse_args()
