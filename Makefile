@@ -35,13 +35,14 @@ test:
 	rt ci
 
 # Runs the built program on real files, and looks whether docs/ARCHITECTURE.md names every module,
-# each type with a private field has a model, and the man page and the completions have every tool
-# and option.
+# each type with a private field has a model, the man page and the completions have every tool and
+# option, and names that collide under a known number cost no more than others.
 smoke: $(BUILT)
 	@status=0; \
 	python3 scripts/check_docs.py || status=1; \
 	python3 scripts/check_models.py || status=1; \
 	python3 scripts/check_words.py $(BUILT) || status=1; \
+	python3 scripts/check_flood.py $(BUILT) || status=1; \
 	python3 scripts/smoke.py $(BUILT) || status=1; \
 	exit $$status
 
