@@ -1,6 +1,6 @@
 //! What the variables of rules say when an edge uses them.
 
-ghost use Rattle.std.specs.Prelude.{◌≡◌, ◌<◌, ◌++◌, List, length, codes, IfOk, OnOk};
+ghost use Rattle.std.specs.Prelude.{◌≡◌, ◌<◌, ◌++◌, List, length, codes, IfOk, OnOk, OnErr};
 ghost use Rattle.nj_scope.specs.ReadingList.{Entry};
 ghost use Rattle.nj_graph.specs.Graph.{edges_of, IsGraphOf, late_text_of};
 ghost use Rattle.nj_graph.specs.ResponseFiles.{command_with_rsp_of};
@@ -18,7 +18,7 @@ impl Graph {
     ///
     /// # Errors
     ///
-    /// If an allocation failed; part of the text may have been appended.
+    /// If an allocation failed; `out` is then unchanged.
     pub fn append_variable(
         &self,
         out: &mut Vec<u8>,
@@ -26,9 +26,10 @@ impl Graph {
         name: &[u8],
     ) -> Result<(), AllocError>
         requires { edge.0 < length (edges_of self.now) }
-        ensures { (entries : List Entry) → IsGraphOf self.now entries
+        ensures appended { (entries : List Entry) → IsGraphOf self.now entries
             → OnOk result (out.new.items
             ≡ out.old.items ++ late_text_of entries edge.0 name.now) }
+        ensures refused { OnErr result (out.new.items ≡ out.old.items) }
     {
         let late = LateEdge {
             files: self.built.files(),

@@ -7,6 +7,7 @@ use Rattle.std.proofs.lemmas.List.Folds.{list_any_more}
 use Rattle.std.proofs.lemmas.Option.{slice_get_within, get_or_from_slice_get}
 use Rattle.std.proofs.Math.Seq.{drop-append_seam, take-length}
 use Rattle.nj_text.specs.Words.{PartText, Text, Name}
+use Rattle.nj_scope.specs.Readings.{IsPrefix}
 use Rattle.nj_scope.specs.Rules.{RuleLineText, given}
 use Rattle.nj_scope.specs.RulesHeld.{key_at, IsNumber}
 use Rattle.nj_scope.specs.Scopes.{expanded}
@@ -16,7 +17,7 @@ use Rattle.nj_late.specs.declared.memo.KeyText.{KeyText}
 use Rattle.nj_scope.specs.ReadingList.{value_after}
 use Rattle.nj_late.specs.LateEdges.{late_names}
 use Rattle.nj_late.specs.LateTexts.{LateNames, late_in, rule_value, refers, refers_in}
-use Rattle.nj_late.specs.TextsHeld.{Settles, ForEdge, SettlesIn, IsKeyText, AreKeyTexts, no_higher, text_known, taller, with_text, Grows, AppendsPlain, AppendsLate}
+use Rattle.nj_late.specs.TextsHeld.{Settles, ForEdge, SettlesIn, IsKeyText, AreKeyTexts, no_higher, text_known, taller, with_text, AppendsPlain, AppendsLate}
 use Rattle.nj_late.proofs.SaidLemmas.{same_name, rule_value_is, given_at, of_paths, of_block, of_rule, of_file, way, once_paths, once_block, once_rule, once_file, expanded_same}
 use Rattle.nj_late.proofs.TextLemmas.{text_turn, name_turn, none_turn}
 
@@ -53,16 +54,16 @@ range_appended text more =
     let n : length (text ++ more) - length text ≡ length more = simp length-append (omega arith) in
     ap (take (length (text ++ more) - length text)) (drop-append_seam text more) ∙ ap (λ k. take k more) n ∙ take-length more
 
-grows_on : (old middle new : List ℕ) → Grows old middle → Grows middle new → Grows old new
+pub grows_on : (old middle new : List ℕ) → IsPrefix old middle → IsPrefix middle new → IsPrefix old new
 grows_on old middle new (more, e) (rest, f) = (more ++ rest, f ∙ ap (λ bytes. bytes ++ rest) e ∙ append_assoc old more rest)
 
-grows_longer : (old new : List ℕ) → Grows old new → length old ≤ length new
+grows_longer : (old new : List ℕ) → IsPrefix old new → length old ≤ length new
 grows_longer old new (more, e) = let n = ap length e ∙ length-append old more in omega arith
 
 -- ---- the texts of keys
 
 module _ (quoting : Bool) (e : LateEdge) where
-  key_text_kept : (number : ℕ) (t : KeyText) (old new : List ℕ) → Grows old new → IsKeyText quoting e number t old → IsKeyText quoting e number t new
+  key_text_kept : (number : ℕ) (t : KeyText) (old new : List ℕ) → IsPrefix old new → IsKeyText quoting e number t old → IsKeyText quoting e number t new
   key_text_kept number t old new (more, same) is = record {
     from = is.from;
     to = let n = ap length same ∙ length-append old more in let h = is.to in omega arith;
@@ -70,7 +71,7 @@ module _ (quoting : Bool) (e : LateEdge) where
     text = λ entries around by scope. ap (λ bytes. slice_range bytes t.start t.end) same ∙ range_kept old more t.start t.end is.from is.to ∙ is.text entries around by scope;
   }
 
-  pub key_texts_kept : (known : List (Option KeyText)) (old new : List ℕ) → Grows old new → AreKeyTexts quoting e known old → AreKeyTexts quoting e known new
+  pub key_texts_kept : (known : List (Option KeyText)) (old new : List ℕ) → IsPrefix old new → AreKeyTexts quoting e known old → AreKeyTexts quoting e known new
   key_texts_kept known old new grows are number t at = key_text_kept number t old new grows (are number t at)
 
   -- a text that is known
@@ -91,7 +92,7 @@ module _ (quoting : Bool) (e : LateEdge) where
 -- ---- the parts of a value
 
 pub record PartsSoFar (quoting : Bool) (e : LateEdge) (depth : ℕ) (parts : List PartText) (old : List ℕ) (known : List (Option KeyText)) (new : List ℕ) (height : Option ℕ) : Type 0 where
-  pub grows : Grows old new
+  pub grows : IsPrefix old new
   pub text : ForEdge e (λ n. new ≡ old ++ expanded (late_in depth quoting n) parts)
   pub texts : AreKeyTexts quoting e known new
   pub settles : IfSome height (λ d. (d ≤ depth) × ((other : List ℕ) → refers parts other ≡ true → SettlesIn e d other))
@@ -206,7 +207,7 @@ module _ (quoting : Bool) (e : LateEdge) (depth : ℕ) (old : List ℕ) where
   pub parts_cut : (value : List PartText) (i : ℕ) (part : PartText) (name : List ℕ) (known : List (Option KeyText)) (before after : List ℕ) (height : Option ℕ) → depth ≤ 0 → slice_get value i ≡ Some part → part ≡ Name name
       → PartsSoFar quoting e depth (take i value) old known before height → after ≡ before → PartsSoFar quoting e depth (take (i + 1) value) old known after None
   parts_cut value i part name known before after height low here is so same = record {
-    grows = subst (Grows old) (sym same) so.grows;
+    grows = subst (IsPrefix old) (sym same) so.grows;
     text = λ entries around by scope.
         let n = late_names e (value_after entries (e.scope ∷ around)) in
         none_turn depth quoting n value i part name old before after low here is (so.text entries around by scope) same;

@@ -1,11 +1,12 @@
 -- Lemmas on the paths of an edge, as texts.
-use Rattle.std.proofs.Common.{◌≡◌, ◌<◌, ◌+◌, ◌⊎◌, inl, inr, ℕ, zero, suc, Bool, List, [], ◌∷◌, ◌++◌, map, take, slice_get, Some, is_some, unwrap_or, if◌then◌else◌, sym, ap, ◌∙◌, true≢false, arith, add-one, append_assoc}
+use Rattle.std.proofs.Common.{◌≡◌, ◌<◌, ◌+◌, ◌⊎◌, inl, inr, ℕ, zero, suc, Bool, List, [], ◌∷◌, ◌++◌, map, take, slice_get, Some, is_some, unwrap_or, if◌then◌else◌, sym, ap, ◌∙◌, true≢false, arith, add-one, append_assoc, Result, Ok, Err, OnErr}
 use Rattle.std.specs.List.{flat_map}
 use Rattle.std.proofs.lemmas.Grind.{flat_map-append}
 use Rattle.std.proofs.lemmas.List.{append-nil, map_push}
 use Rattle.std.proofs.lemmas.Option.{slice_get_within, get_or_from_slice_get}
 use Rattle.std.proofs.Math.Seq.{take-suc}
 use Rattle.nj_text.specs.Quotes.{quoted}
+use Rattle.nj_scope.specs.Readings.{IsPrefix}
 use Rattle.nj_edges.specs.declared.files.FileNo.{FileNo}
 use Rattle.nj_edges.specs.Files.{path_at}
 use Rattle.nj_late.specs.LateTexts.{joined, paths_text}
@@ -49,3 +50,15 @@ paths_turn files paths quoting separator i file path start before pushed after h
         ∙ ap (λ us. start ++ joined separator (x ∷ us))
         (ap (λ y. ts ++ shown quoting y ∷ []) (sym its_path) ∙ sym (map_push (shown quoting) (map (path_at files) (take k ps)) (path_at files file))
         ∙ ap (map (shown quoting)) (sym (map_push (path_at files) (take k ps) file)))
+
+-- ---- where an allocation failed
+
+pub on-err : {A E P : Type 0} (r : Result A E) → P → OnErr r P
+on-err (Ok a) p = tt
+on-err (Err e) p = p
+
+-- nothing or a separator was appended to the texts so far
+pub paths_begin : (start text : List ℕ) (separator : ℕ) (before pushed after : List ℕ) → before ≡ start ++ text → (pushed ≡ before ++ separator ∷ []) ⊎ (pushed ≡ before) → after ≡ pushed
+    → IsPrefix start after
+paths_begin start text separator before pushed after so (inl more) same = (text ++ separator ∷ [], same ∙ more ∙ ap (λ bytes. bytes ++ separator ∷ []) so ∙ append_assoc start text (separator ∷ []))
+paths_begin start text separator before pushed after so (inr none) same = (text, same ∙ none ∙ so)

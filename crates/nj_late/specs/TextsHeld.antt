@@ -3,6 +3,7 @@ use Rattle.std.specs.Prelude.{◌≡◌, ◌≤◌, ℕ, zero, suc, ◌+◌, max
 use Rattle.std.specs.Prelude.{List, ◌∷◌, ◌++◌, length, slice_get, slice_set, slice_range}
 use Rattle.nj_scope.specs.Declarations.{DeclaredBy}
 use Rattle.nj_scope.specs.ReadingList.{Entry, value_after}
+use Rattle.nj_scope.specs.Readings.{IsPrefix}
 use Rattle.nj_scope.specs.Rules.{RuleLineText}
 use Rattle.nj_scope.specs.RulesHeld.{key_at, IsNumber}
 use Rattle.nj_scope.specs.Scopes.{IsScope, parent_at}
@@ -62,14 +63,10 @@ with_text known number start end (Some height) = slice_set known number (Some (r
 
 -- ---- steps
 
--- bytes were appended
-abbrev pub Grows : (old new : List ℕ) → Type 0
-Grows old new = (more : List ℕ) × (new ≡ old ++ more)
-
 -- what the name says is appended, where no line of the rule says it; else nothing is, and this is the number of its key
 abbrev pub AppendsPlain : (quoting : Bool) → LateEdge → (name old new : List ℕ) → (number : Option ℕ) → Type 0
 AppendsPlain quoting e name old new None =
-    (rule_value (bound_in e.blocks.now e.edge) e.rule.now.lines name ≡ None) × Grows old new
+    (rule_value (bound_in e.blocks.now e.edge) e.rule.now.lines name ≡ None) × IsPrefix old new
     × ForEdge e (λ n. (depth : ℕ) → new ≡ old ++ late_in (suc depth) quoting n name)
 AppendsPlain quoting e name old new (Some number) =
     (new ≡ old) × IsNumber e.rule.now.lines name number
@@ -78,7 +75,7 @@ AppendsPlain quoting e name old new (Some number) =
 -- what the name says is appended, through at most `depth` lines after its own; no more than its height are nested
 pub record AppendsLate (quoting : Bool) (e : LateEdge) (depth : ℕ) (name old : List ℕ) (known : List (Option KeyText))
     (new : List ℕ) (height : Option ℕ) : Type 0 where
-  pub grows : Grows old new
+  pub grows : IsPrefix old new
   pub text : ForEdge e (λ n. new ≡ old ++ late_in (suc depth) quoting n name)
   pub texts : AreKeyTexts quoting e known new
   pub settles : IfSome height (λ d. (d ≤ depth) × SettlesIn e (suc d) name)

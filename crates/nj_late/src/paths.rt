@@ -1,6 +1,7 @@
 //! The paths of an edge, as texts.
 
-ghost use Rattle.std.specs.Prelude.{◌≡◌, ◌<◌, ◌++◌, Some, map, length, slice_get, All, OnOk, if◌then◌else◌};
+ghost use Rattle.std.specs.Prelude.{◌≡◌, ◌<◌, ◌++◌, Some, map, length, slice_get, All, OnOk, OnErr, if◌then◌else◌};
+ghost use Rattle.nj_scope.specs.Readings.{IsPrefix};
 ghost use Rattle.nj_text.specs.Quotes.{quoted};
 ghost use Rattle.nj_edges.specs.Files.{path_at};
 ghost use Rattle.nj_late.specs.LateTexts.{paths_text};
@@ -19,8 +20,9 @@ pub(crate) fn append_paths(
     quoting: bool,
 ) -> Result<(), AllocError>
     requires { All (λ file. file.0 < length files.now) paths.now }
-    ensures { OnOk result (out.new.items
+    ensures appended { OnOk result (out.new.items
         ≡ out.old.items ++ paths_text quoting separator (map (path_at files.now) paths.now)) }
+    ensures refused { OnErr result (IsPrefix out.old.items out.new.items) }
 {
     'paths: for index in 0..paths.len() {
         if index > 0 {
@@ -41,8 +43,9 @@ fn file_at(files: &[FileNo], index: usize) -> FileNo
 
 // Appends a path.
 fn append_path(out: &mut Vec<u8>, path: &[u8], quoting: bool) -> Result<(), AllocError>
-    ensures { OnOk result (out.new.items
+    ensures appended { OnOk result (out.new.items
         ≡ out.old.items ++ (if quoting then quoted path.now else path.now)) }
+    ensures refused { OnErr result (out.new.items ≡ out.old.items) }
 {
     if quoting {
         quote_into(out, path)

@@ -1,8 +1,9 @@
 //! Late texts.
 
-ghost use Rattle.std.specs.Prelude.{◌≡◌, ◌<◌, ◌++◌, ◌∷◌, ℕ, List, length, All, IfOk, IfSome, OnOk, is_some};
+ghost use Rattle.std.specs.Prelude.{◌≡◌, ◌<◌, ◌++◌, ◌∷◌, ℕ, List, length, All, IfOk, IfSome, OnOk, OnErr, is_some};
 ghost use Rattle.nj_scope.specs.Declarations.{DeclaredBy};
 ghost use Rattle.nj_scope.specs.ReadingList.{Entry, value_after};
+ghost use Rattle.nj_scope.specs.Readings.{IsPrefix};
 ghost use Rattle.nj_scope.specs.RulesHeld.{IsNumber};
 ghost use Rattle.nj_scope.specs.Scopes.{IsScope, parent_at};
 ghost use Rattle.nj_late.specs.LateTexts.{value_given, file_value, asked_text};
@@ -30,19 +31,26 @@ impl<'a> LateEdge<'a> {
     ///
     /// # Errors
     ///
-    /// If an allocation failed.
+    /// If an allocation failed; `out` is then unchanged.
     pub fn append_late_text(&self, out: &mut Vec<u8>, asked: &[u8]) -> Result<(), AllocError>
-        ensures { (entries : List Entry) (around : List ℕ)
+        ensures appended { (entries : List Entry) (around : List ℕ)
             → DeclaredBy self.now.declarations.now entries
             → IsScope (parent_at self.now.declarations.now.scopes) self.now.scope
             (self.now.scope ∷ around)
             → OnOk result (out.new.items ≡ out.old.items ++ asked_text
             (late_names self.now (value_after entries (self.now.scope ∷ around))) asked.now) }
+        ensures refused { OnErr result (out.new.items ≡ out.old.items) }
     {
+        let start = out.len();
         let mut known = [None; KEYS];
         let depth = self.rule.line_count();
-        self.append_within(out, &mut known, asked, is_quoted(asked), depth)?;
-        Ok(())
+        match self.append_within(out, &mut known, asked, is_quoted(asked), depth) {
+            Ok(_) => Ok(()),
+            Err(refused) => {
+                out.truncate(start);
+                Err(refused)
+            }
+        }
     }
 
     // Appends what the name says, through at most `depth` lines of the rule after its own. Returns
@@ -56,8 +64,9 @@ impl<'a> LateEdge<'a> {
         depth: usize,
     ) -> Result<Option<usize>, AllocError>
         requires { AreKeyTexts quoting self.now known.old out.old.items }
-        ensures { IfOk result (AppendsLate quoting self.now depth name.now out.old.items known.new
-            out.new.items) }
+        ensures appended { IfOk result (AppendsLate quoting self.now depth name.now out.old.items
+            known.new out.new.items) }
+        ensures refused { OnErr result (IsPrefix out.old.items out.new.items) }
     {
         let Some(number) = self.append_plain(out, name, quoting)? else {
             return Ok(Some(0));
@@ -94,8 +103,9 @@ impl<'a> LateEdge<'a> {
         name: &[u8],
         quoting: bool,
     ) -> Result<Option<usize>, AllocError>
-        ensures { IfOk result (AppendsPlain quoting self.now name.now out.old.items
+        ensures appended { IfOk result (AppendsPlain quoting self.now name.now out.old.items
             out.new.items) }
+        ensures refused { OnErr result (IsPrefix out.old.items out.new.items) }
     {
         if name == b"in".as_slice() {
             append_paths(out, self.files, self.inputs, b' ', quoting)?;

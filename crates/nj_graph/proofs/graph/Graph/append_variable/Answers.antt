@@ -9,8 +9,8 @@ use Rattle.nj_graph.specs.Graph.{GraphText}
 use Rattle.nj_graph.proofs.EdgeTexts.{edge, edge-open, detail-is, names-same, text-same}
 use Rattle.nj_graph.proofs.graph.Graph.append_variable.Goals as goal
 
-pub returns : goal.returns
-returns c = λ entries is.
+pub returns-clause-appended : goal.returns-clause-appended
+returns-clause-appended c = λ entries is.
     let g : GraphText = c.args.self.now in
     let n = c.args.edge.0 in
     let inside : c.self.inside.declarations ≡ g.declarations = ap (λ (x : GraphText). x.declarations) c.self.view_is in
@@ -27,6 +27,6 @@ returns c = λ entries is.
     scope
     in
     on-ok c.append_late_text.result
-    (c.append_late_text.ensures entries e.around (subst (λ (d : DeclarationsText). DeclaredBy d entries) (sym inside) is.declares)
+    (c.append_late_text.ensures.appended entries e.around (subst (λ (d : DeclarationsText). DeclaredBy d entries) (sym inside) is.declares)
     (subst (λ (d : DeclarationsText). IsScope (parent_at d.scopes) c.scope.result (c.scope.result ∷ e.around)) (sym inside) (subst (λ s. IsScope (parent_at g.declarations.scopes) s (s ∷ e.around)) (sym (scope ∙ ap (λ d. d.scope) (detail-is g entries is n c.requires))) (edge-open g entries is n c.requires).within)))
     (λ appended. appended ∙ ap (λ t. c.args.out.now.items ++ t) (text-same g entries is n c.requires c.args.name.now _ same))

@@ -4,11 +4,11 @@ use Rattle.nj_late.specs.LateTexts.{late_in}
 use Rattle.nj_late.specs.LateEdges.{late_names}
 use Rattle.nj_late.proofs.edge.LateEdge.append_late_text.Goals as goal
 
-pub returns : goal.returns
-returns c = λ entries around by scope.
+pub returns-in-Ok-clause-appended : goal.returns-in-Ok-clause-appended
+returns-in-Ok-clause-appended c = λ entries around by scope.
     let n = late_names c.args.self.now (value_after entries (c.args.self.now.scope ∷ around)) in
     let old = c.args.out.now.items in
     let asked = c.args.asked.now in
-    c.in_ok-append_within.ensures.text entries around by scope
+    c.in-Ok.ensures.appended.text entries around by scope
     ∙ ap (λ d. old ++ late_in (suc d) c.is_quoted.result n asked) c.line_count-depth.ensures
     ∙ ap (λ q. old ++ late_in (suc (length c.args.self.now.rule.now.lines)) q n asked) c.is_quoted.ensures
