@@ -15,7 +15,7 @@ use Rattle.nj_scope.specs.Readings.{Reading}
 use Rattle.nj_scope.specs.ReadingList.{bounds}
 use Rattle.nj_late.specs.VariableCycles.{variable_cycle_of}
 use Rattle.nj_edges.specs.Edges.{EdgePaths}
-use Rattle.nj_faults.specs.declared.fault.Cause.TheVariants.{Syntax, Missing, PathNotText, DyndepExtra, DyndepTwice, DyndepNoStatement}
+use Rattle.nj_faults.specs.declared.fault.Cause.TheVariants.{DyndepVersion, Missing, PathNotText, DyndepExtra, DyndepTwice, DyndepNoStatement}
 use Rattle.nj_faults.specs.Faults.{fault_at}
 use Rattle.nj_build.specs.EdgeList.{edges_read, paths_of_edges, pending_read}
 use Rattle.nj_build.specs.Joining.{discover}
@@ -127,7 +127,7 @@ entry_first : (joined_by one_edge (codes "build x: dyndep\nbuild\n")).read.end �
 unfolding on_dyndeps
 entry_first = refl
 
-no_version : (joined_of one_edge (file (codes "dd") (codes "build o: dyndep\n") ∷ [])).read.end ≡ Refused (fault_at (codes "dd") (at 1 1) (Syntax (codes "expected 'ninja_dyndep_version = 1'")))
+no_version : (joined_of one_edge (file (codes "dd") (codes "build o: dyndep\n") ∷ [])).read.end ≡ Refused (fault_at (codes "dd") (at 1 1) DyndepVersion)
 unfolding on_dyndeps
 no_version = refl
 

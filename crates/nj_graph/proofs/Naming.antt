@@ -2,7 +2,8 @@
 use Rattle.std.proofs.Common.{◌≡◌, ℕ, suc, ◌+◌, ◌<◌, Result, Ok, Err, IfOk, OnOk, length, arith, Bool, true, false, inl, inr, Option, Some, None, option_map, List, [], ◌∷◌, ◌++◌, refl, sym, ap, subst, ◌∙◌, add-one}
 use Rattle.nj_text.specs.declared.spot.Spot.{Spot}
 use Rattle.nj_text.specs.Words.{WordText}
-use Rattle.nj_manifest.specs.Faults.{Fault, place_of, text_of}
+use Rattle.nj_text.specs.declared.fault.UnitFault.TheVariants as unit
+use Rattle.nj_manifest.specs.Faults.{Fault, Bad}
 use Rattle.nj_manifest.specs.Statements.{StatementText, BindingText, RuleText, PoolText, BuildText, DefaultText, IncludeText, SubninjaText, LineText, OutputsText, InputsText}
 use Rattle.nj_scope.specs.Readings.{Reading, EachPathOnce, IsPrefix, paths_of}
 use Rattle.nj_scope.specs.Scopes.{child, parent_at}
@@ -16,7 +17,7 @@ use Rattle.nj_graph.specs.declared.reader.Reader.{Reader}
 use Rattle.nj_graph.specs.declared.reader.OpenFile.{OpenFile}
 use Rattle.nj_faults.specs.declared.fault.Place.{Place}
 use Rattle.nj_faults.specs.declared.fault.Cause.{Cause}
-use Rattle.nj_faults.specs.Faults.{fault_at, fault_in, syntax_fault, no_memory}
+use Rattle.nj_faults.specs.Faults.{fault_at, fault_in, no_memory}
 use Rattle.nj_graph.specs.Reading.{Site, entry_at, site_scope, expanded_in, place_at, path_fault, subninja_site, fault_if, or_then, depth_fault, item_fault, own_fault, Whole, Refused, ReadingText, Opens, item_read, unless_fault, statement_read, opened_in, text_read, path_named, with_new, with_named, paths_read, path_at_fault, paths_come_to}
 use Rattle.nj_edges.specs.Edges.{EdgePaths}
 use Rattle.nj_faults.specs.declared.fault.Cause.TheVariants.{RuleVariableCycle}
@@ -96,12 +97,11 @@ item-names e before (DefaultText words) = first-names _ (target-names e.file (va
 item-names e before (IncludeText word) = or-names _ _ (if-names _ e.file word.spot _ refl) (if-names _ e.file word.spot _ refl)
 item-names e before (SubninjaText word) = or-names _ _ (if-names _ e.file word.spot _ refl) (if-names _ e.file word.spot _ refl)
 
-placed-names : (file : List ℕ) (place : Option Spot) (said : List ℕ) → path_at_fault (syntax_fault file place said).cause ≡ []
-placed-names file (Some spot) said = refl
-placed-names file None said = refl
-
 pub syntax-names : (file : List ℕ) (fault : Fault) → path_at_fault (fault_in file fault).cause ≡ []
-syntax-names file fault = placed-names file (place_of fault) (text_of fault)
+syntax-names file (Bad (unit.BadByte spot)) = refl
+syntax-names file (Bad (unit.Tab spot)) = refl
+syntax-names file (Bad (unit.BadEscape spot)) = refl
+syntax-names file fault = refl
 
 -- ---- the two kinds of statements that name a file
 

@@ -5,6 +5,7 @@ use Rattle.std.specs.Char.{encode_utf8}
 use Rattle.std.specs.Str.{chars, is_utf8}
 use Rattle.nj_text.specs.declared.spot.Spot.{Spot}
 use Rattle.nj_text.specs.Numbers.{value_of_digits}
+use Rattle.nj_manifest.specs.declared.fault.Wanted.TheVariants as wanted
 use Rattle.nj_manifest.proofs.StatementRows.{on_texts, at}
 use Rattle.nj_scope.specs.Readings.{Reading}
 use Rattle.nj_scope.specs.ReadingList.{bounds}
@@ -13,7 +14,7 @@ use Rattle.nj_late.specs.VariableCycles.{variable_cycle_of}
 use Rattle.nj_build.specs.EdgeList.{edges_read}
 use Rattle.nj_graph.specs.Parsed.{parsed_in}
 use Rattle.nj_faults.specs.declared.fault.Cause.{Cause}
-use Rattle.nj_faults.specs.declared.fault.Cause.TheVariants.{Syntax, EmptyPath, BadDepth, DuplicateRule, DuplicatePool, VersionTooNew, Missing, PathNotText, TooDeep, UnknownRule, TwoMakers, UnknownTarget}
+use Rattle.nj_faults.specs.declared.fault.Cause.TheVariants.{BadEscape, Expected, MissingCommand, EmptyPath, BadDepth, DuplicateRule, DuplicatePool, VersionTooNew, Missing, PathNotText, TooDeep, UnknownRule, TwoMakers, UnknownTarget}
 use Rattle.nj_faults.specs.Faults.{fault_at}
 use Rattle.nj_graph.specs.Reading.{Whole, Refused, Lacking, ReadingText, statements_read, opened_in, main_read, paths_come_to}
 
@@ -133,7 +134,7 @@ unfolding on_files
 phony_rule = refl
 
 -- syntax comes first
-rule_without_command : refuses_alone (codes "rule phony\n") (at 1 1) (Syntax (codes "expected 'command =' line"))
+rule_without_command : refuses_alone (codes "rule phony\n") (at 1 1) MissingCommand
 unfolding on_files
 rule_without_command = refl
 
@@ -301,11 +302,11 @@ unfolding on_files
 default_not_known = refl
 
 -- its syntax comes first
-build_without_colon : refuses_alone (codes "build a\n") (at 1 8) (Syntax (codes "expected ':'"))
+build_without_colon : refuses_alone (codes "build a\n") (at 1 8) (Expected wanted.Colon)
 unfolding on_files
 build_without_colon = refl
 
 -- under the name of the file in which it stands
-fault_in_included : refuses (codes "include s\n") (file (codes "s") (codes "x = 1\ny = $!\n") ∷ []) (codes "s") (at 2 5) (Syntax (codes "bad $-escape (literal $ must be written as $$)"))
+fault_in_included : refuses (codes "include s\n") (file (codes "s") (codes "x = 1\ny = $!\n") ∷ []) (codes "s") (at 2 5) BadEscape
 unfolding on_files
 fault_in_included = refl

@@ -24,6 +24,6 @@ pub use loading::{Loaded, load};
 pub use nj_build::PlaceRef;
 pub use nj_edges::{EdgeGraph, EdgeNo, FileNo, InputKind};
 pub use nj_faults::{Cause, GraphFault, Name, Place};
-pub use nj_manifest::Spot;
+pub use nj_manifest::{Spot, Wanted};
 pub use nj_scope::{FileSource, FileTable, MemoryFiles, SourceFault};
 pub use targets::pick_target;

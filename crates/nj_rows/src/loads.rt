@@ -1,4 +1,4 @@
-use nj_graph::{Graph, MemoryFiles, load};
+use nj_graph::{Cause, Graph, MemoryFiles, Name, Wanted, load};
 use std::process::Abort;
 use std::test::*;
 
@@ -59,6 +59,35 @@ fn chain(rt: &impl AllocGlobal, subninjas: usize, last: &[u8]) -> Result<MemoryF
     source.add("f31", last)?;
     source.add("e", b"")?;
     Ok(source)
+}
+
+/// The cause of the first fault of a main file, if it has one.
+fn cause_of(rt: &impl AllocGlobal, main: &[u8]) -> Result<Option<Cause>, Fail> {
+    let mut source = MemoryFiles::new(rt.alloc());
+    source.add("build.ninja", main)?;
+    match load(rt.alloc(), &mut source, "build.ninja") {
+        Ok(_) => Ok(None),
+        Err(fault) => Ok(Some(fault.cause)),
+    }
+}
+
+#[test]
+fn tells_the_kind_of_a_syntax_fault(rt: HostRuntime) -> Result<(), Fail> {
+    let unknown_key = Cause::UnknownKey(Name::new(rt.alloc(), b"foo")?);
+    for (main, want) in [
+        (b"x = \0".as_slice(), Cause::BadByte),
+        (b"rule r\n\tcommand = x", Cause::Tab),
+        (b"x = $!", Cause::BadEscape),
+        (b"build a", Cause::Expected(Wanted::Colon)),
+        (b"  x = 1", Cause::UnexpectedIndent),
+        (b"rule r", Cause::MissingCommand),
+        (b"rule r\n  command = x\n  rspfile = y", Cause::RspPair),
+        (b"rule r\n  foo = 1", unknown_key),
+        (b"pool p", Cause::MissingDepth),
+    ] {
+        assert_eq!(rt; cause_of(&rt, main)?, Some(want));
+    }
+    Ok(())
 }
 
 #[test]
