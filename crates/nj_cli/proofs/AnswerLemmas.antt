@@ -18,8 +18,8 @@ use Rattle.nj_needs.specs.Marks.{is_valid, rest}
 use Rattle.nj_needs.specs.Order.{made_by, first_occurrences}
 use Rattle.nj_needs.specs.Pages.{IsMarkAfter}
 use Rattle.nj_needs.specs.Resuming.{ResumeIs}
-use Rattle.nj_needs.specs.declared.fault.MarkFault.{MarkFault}
-use Rattle.nj_needs.specs.declared.fault.MarkFault.TheVariants as mark
+use Rattle.nj_marks.specs.declared.fault.MarkFault.{MarkFault}
+use Rattle.nj_marks.specs.declared.fault.MarkFault.TheVariants as mark
 use Rattle.nj_needs.specs.Walks.{WalkState, BeginsAt, rest_of}
 use Rattle.nj_needs.proofs.Bridges.{paths-at, row-paths}
 use Rattle.nj_request.specs.Requests.{ActionText, commands, single_commands}
@@ -227,7 +227,8 @@ module _ (entries : List Entry) (g : GraphText) (is : IsGraphOf g entries) where
 
       pub commands-not_resumed : (s : SinkState) (f : MarkFault) → ResumeIs g.built.graph numbers start (Err f)
           → AnswersTo entries (commands words take start) s s (Err (fault_of_mark f))
-      commands-not_resumed s mark.OutOfRange invalid = commands-out_of_range s invalid
+      commands-not_resumed s mark.BadMark never = absurd never
+      commands-not_resumed s mark.MarkOutOfRange invalid = commands-out_of_range s invalid
       commands-not_resumed s mark.OutOfMemory valid = TakesFront-none s (output_of entries (commands words take start))
 
       module _ (valid : is_valid (makers_of g.built.graph) (row_of g.built.graph numbers) start ≡ true) (w : WalkState) (begins : BeginsAt g.built.graph numbers start w) where
@@ -266,6 +267,7 @@ module _ (entries : List Entry) (g : GraphText) (is : IsGraphOf g entries) where
           ends-from (stopped mark) (
             subst (λ (es : List ℕ). left_after take es ≢ []) walk-left stops.0,
             subst (λ (es : List ℕ). IsMarkOf entries targets start (written take es) mark) walk-left (walk-mark (written take w.left) mark stops.1),
+            stops.2,
           ),
           subst (Takes old new) text-is took,
         )

@@ -1,6 +1,6 @@
 -- Laws of the runs of `commands`.
 use Rattle.std.proofs.Common.{◌≡◌, ℕ, Bool, true, false, if◌then◌else◌, Option, Some, None, Result, Ok, Err, List, [], ◌++◌, length, take, drop, refl, sym, ap, subst, ◌∙◌, append_assoc, take-append-drop}
-use Rattle.std.specs.Prelude.{MatchOption}
+use Rattle.std.specs.Prelude.{MatchOption, ok_or}
 use Rattle.std.specs.List.{concat, last_or}
 use Rattle.std.proofs.lemmas.List.{append-nil}
 use Rattle.std.proofs.lemmas.List.Concat.{flat_map-append}
@@ -8,6 +8,7 @@ use Rattle.nj_scope.specs.ReadingList.{Entry}
 use Rattle.nj_edges.specs.Edges.{EdgePaths}
 use Rattle.nj_faults.specs.declared.fault.GraphFault.{GraphFault}
 use Rattle.nj_faults.specs.FaultLines.{fault_line}
+use Rattle.nj_marks.specs.Marks.{mark_text, ReadsBack}
 use Rattle.nj_needs.specs.Graphs.{row_of_paths, makers_in, is_phony_in}
 use Rattle.nj_needs.specs.Marks.{rest, IsFirstPlace}
 use Rattle.nj_needs.specs.Needs.{IsAcyclic, AreWithin}
@@ -17,12 +18,13 @@ use Rattle.nj_needs.proofs.OrderLaws.{commands-reached, commands-once, commands-
 use Rattle.nj_needs.proofs.PageLaws.{mark-keeps_the_rest}
 use Rattle.nj_needs.proofs.PlaceLaws.{first-places_are_one}
 use Rattle.nj_needs.proofs.Striking.{without-none}
-use Rattle.nj_request.specs.Requests.{commands, single_commands}
+use Rattle.nj_request.specs.Requests.{ActionText, commands, single_commands, start_of}
 use Rattle.nj_request.specs.Requests as ask
+use Rattle.nj_request.specs.declared.faults.UsageFault.TheVariants.{BadMark}
 use Rattle.nj_tools.specs.Compdb.{unheld_edge}
 use Rattle.nj_tools.specs.CommandTexts.{command_line, command_lines, written}
 use Rattle.nj_cli.specs.Answers.{leads, commands_left, IsMarkOf, commands_text, output_of, Ending, finished, stopped, faulty, out_of_range, PageEnds, EndsFrom, CommandsEnd, TargetsEnd, CompdbEnds, EndsWith}
-use Rattle.nj_cli.specs.Headline.{AreNeeded, WritesTheNeeded, ArePageTexts, PageTextsJoin, OneEnding}
+use Rattle.nj_cli.specs.Headline.{AreNeeded, WritesTheNeeded, IsRun, ArePageTexts, PageTextsJoin, StoppedRunsGoOn, OneEnding}
 use Rattle.nj_cli.specs.Headline.ArePageTexts.{no_runs, finishes, stops}
 use Rattle.nj_cli.specs.Targets.{edges_by_path, NoEdgeNeedsItself, targets_named, targets_of}
 
@@ -107,6 +109,17 @@ writes-the_needed entries words none ends_so =
 same-targets : (entries : List Entry) (words targets others : List (List ℕ)) → targets_of entries words ≡ Ok targets → targets_of entries words ≡ Ok others → others ≡ targets
 same-targets entries words targets others one other = let e : Ok others ≡ Ok targets = sym other ∙ one in cc
 
+-- what was asked for is one run
+run-is : (words : List (List ℕ)) (limit : Option ℕ) (resume : Option (List ℕ)) (run : ActionText) (start : List ℕ) → start_of resume ≡ Ok start → IsRun words limit resume run
+    → run ≡ commands words limit start
+run-is words limit resume run start said (other, said_too, is) =
+    let e : Ok other ≡ Ok start = sym said_too ∙ said in
+    let same : other ≡ start = cc in is ∙ ap (commands words limit) same
+
+-- a mark that reads back is that of its text
+start-said : (mark : List ℕ) → ReadsBack mark → start_of (Some (mark_text mark)) ≡ Ok mark
+start-said mark back = ap (λ (said : Option (List ℕ)). ok_or said (BadMark (mark_text mark))) back
+
 module _ (entries : List Entry) (words targets : List (List ℕ)) (named : targets_of entries words ≡ Ok targets) (none : NoEdgeNeedsItself (edges_by_path entries)) where
   -- after a page: the mark leads to an edge, and the rest is left there
   after-page : (start : List ℕ) (take : ℕ) (mark : List ℕ) → leads entries targets start ≡ true
@@ -122,36 +135,46 @@ module _ (entries : List Entry) (words targets : List (List ℕ)) (named : targe
   lines-split count numbers =
       ap (command_lines entries) (sym (take-append-drop count numbers)) ∙ flat_map-append (command_line entries) (take count numbers) (drop count numbers)
 
-  join : (start takes : List ℕ) (outputs : List (List ℕ)) (rest : List ℕ) → leads entries targets start ≡ true → ArePageTexts entries words start takes outputs rest
-      → output_of entries (commands words None start) ≡ concat outputs ++ rest
-  join start _ _ rest leads_so (no_runs is) = is
-  join start _ _ _ leads_so (finishes {take = count} {output = output} ends_so is) =
-      let p = page entries (Some count) start words finished tt ends_so in
+  join : (resume : Option (List ℕ)) (start : List ℕ) → start_of resume ≡ Ok start → (takes : List ℕ) (outputs : List (List ℕ)) (rest : List ℕ) → leads entries targets start ≡ true
+      → ArePageTexts entries words resume takes outputs rest → output_of entries (commands words None start) ≡ concat outputs ++ rest
+  join resume start said _ _ rest leads_so (no_runs run asked is) = ap (output_of entries) (sym (run-is words None resume run start said asked)) ∙ is
+  join resume start said _ _ _ leads_so (finishes {take = count} {output = output} run asked ends_so is) =
+      let run_is = run-is words (Some count) resume run start said asked in
+      let p = page entries (Some count) start words finished tt (subst (λ (a : ActionText). EndsWith entries a finished) run_is ends_so) in
       let left = commands_left entries targets start in
       let none_left : drop count left ≡ [] = subst (λ (ts : List (List ℕ)). drop count (commands_left entries ts start) ≡ []) (same-targets entries words targets p.targets named p.named) p.ends_so in
       output-is entries None start words targets named leads_so
       ∙ lines-split count left
       ∙ ap (λ (es : List ℕ). command_lines entries (take count left) ++ command_lines entries es) none_left
-      ∙ ap (λ (t : List ℕ). t ++ []) (sym (output-is entries (Some count) start words targets named leads_so) ∙ is)
+      ∙ ap (λ (t : List ℕ). t ++ []) (sym (output-is entries (Some count) start words targets named leads_so) ∙ ap (output_of entries) (sym run_is) ∙ is)
       ∙ ap (λ (t : List ℕ). t ++ []) (sym (append-nil output))
-  join start _ _ rest leads_so (stops {takes = takes} {output = output} {take = count} {outputs = outputs} mark ends_so is more) =
-      let p = page entries (Some count) start words (stopped mark) tt ends_so in
+  join resume start said _ _ rest leads_so (stops {takes = takes} {output = output} {take = count} {outputs = outputs} run mark asked ends_so is more) =
+      let run_is = run-is words (Some count) resume run start said asked in
+      let p = page entries (Some count) start words (stopped mark) tt (subst (λ (a : ActionText). EndsWith entries a (stopped mark)) run_is ends_so) in
       let left = commands_left entries targets start in
       let marked : IsMarkOf entries targets start (written (Some count) left) mark =
       subst (λ (ts : List (List ℕ)). IsMarkOf entries ts start (written (Some count) (commands_left entries ts start)) mark) (same-targets entries words targets p.targets named p.named) p.ends_so.1 in
       let (leads_on, left_on) = after-page start count mark leads_so marked in
       let on : command_lines entries (drop count left) ≡ concat outputs ++ rest =
-      ap (command_lines entries) (sym left_on) ∙ sym (output-is entries None mark words targets named leads_on) ∙ join mark takes outputs rest leads_on more in
+      ap (command_lines entries) (sym left_on) ∙ sym (output-is entries None mark words targets named leads_on)
+      ∙ join (Some (mark_text mark)) mark (start-said mark p.ends_so.2) takes outputs rest leads_on more in
       output-is entries None start words targets named leads_so
       ∙ lines-split count left
-      ∙ ap (λ (t : List ℕ). t ++ command_lines entries (drop count left)) (sym (output-is entries (Some count) start words targets named leads_so) ∙ is)
+      ∙ ap (λ (t : List ℕ). t ++ command_lines entries (drop count left)) (sym (output-is entries (Some count) start words targets named leads_so) ∙ ap (output_of entries) (sym run_is) ∙ is)
       ∙ ap (λ (t : List ℕ). output ++ t) on
       ∙ sym (append_assoc output (concat outputs) rest)
 
 pub pages-join : PageTextsJoin
-pages-join entries words none start takes outputs rest ends_so pages =
-    let p = page entries None start words finished tt ends_so in
-    join entries words p.targets p.named none start takes outputs rest p.leads_so pages
+pages-join entries words none resume whole (start, said, whole_is) ends_so takes outputs rest pages =
+    let p = page entries None start words finished tt (subst (λ (a : ActionText). EndsWith entries a finished) whole_is ends_so) in
+    ap (output_of entries) whole_is ∙ join entries words p.targets p.named none resume start said takes outputs rest p.leads_so pages
+
+pub stopped-go_on : StoppedRunsGoOn
+stopped-go_on entries words none None start mark ends_so = let p = page entries None start words (stopped mark) tt ends_so in absurd (p.ends_so.0 refl)
+stopped-go_on entries words none (Some count) start mark ends_so =
+    let p = page entries (Some count) start words (stopped mark) tt ends_so in
+    let leads_on = (after-page entries words p.targets p.named none start count mark p.leads_so p.ends_so.1).0 in
+    (commands words None mark, (mark, start-said mark p.ends_so.2, refl), finishes-unlimited entries mark words p.targets p.named leads_on)
 
 -- ---- one ending
 

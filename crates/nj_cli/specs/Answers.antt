@@ -6,7 +6,7 @@ use Rattle.nj_faults.specs.declared.fault.Cause.TheVariants.{TextNotUtf8}
 use Rattle.nj_faults.specs.declared.fault.GraphFault.{GraphFault}
 use Rattle.nj_faults.specs.Faults.{fault_at, unplaced}
 use Rattle.nj_faults.specs.FaultLines.{fault_line}
-use Rattle.nj_marks.specs.Marks.{mark_text}
+use Rattle.nj_marks.specs.Marks.{mark_text, ReadsBack}
 use Rattle.nj_needs.specs.Graphs.{row_of_paths, makers_in, is_phony_in}
 use Rattle.nj_needs.specs.Marks.{is_valid, rest}
 use Rattle.nj_needs.specs.Pages.{IsMarkAfter}
@@ -76,12 +76,13 @@ pub data Ending : Type 0 where
 abbrev pub out_of_range : List ℕ
 out_of_range = codes "ninja-explain: mark out of range"
 
--- from a mark whose steps lead to edges: nothing is left after what is written; or the run stops at the mark after that
+-- from a mark whose steps lead to edges: nothing is left after what is written; or the run stops at the mark after that, whose text says it
 abbrev pub PageEnds : List Entry → (take : Option ℕ) → (start : List ℕ) → (targets : List (List ℕ)) → Ending → Type 0
 PageEnds entries take start targets finished = left_after take (commands_left entries targets start) ≡ []
 PageEnds entries take start targets (stopped mark) =
     (left_after take (commands_left entries targets start) ≢ [])
     × IsMarkOf entries targets start (written take (commands_left entries targets start)) mark
+    × ReadsBack mark
 PageEnds entries take start targets (faulty text) = ⊥
 
 abbrev pub EndsFrom : (leads : Bool) → List Entry → (take : Option ℕ) → (start : List ℕ) → (targets : List (List ℕ)) → Ending → Type 0

@@ -1,13 +1,14 @@
 -- What a run of `commands` is for.
-use Rattle.std.specs.Prelude.{◌≡◌, ◌↔◌, ℕ, false, None, Some, Ok, List, [], ◌∷◌, ◌++◌, length, Contains, nat_eq}
+use Rattle.std.specs.Prelude.{◌≡◌, ◌↔◌, ℕ, false, Option, None, Some, Ok, List, [], ◌∷◌, ◌++◌, length, Contains, nat_eq}
 use Rattle.std.specs.List.{concat, IsDistinct}
 use Rattle.nj_scope.specs.ReadingList.{Entry}
 use Rattle.nj_edges.specs.Edges.{EdgePaths}
+use Rattle.nj_marks.specs.Marks.{mark_text}
 use Rattle.nj_needs.specs.Graphs.{row_of_paths, makers_in, is_phony_in}
 use Rattle.nj_needs.specs.Laws.{StandsBefore}
 use Rattle.nj_needs.specs.Needs.{NeedsByChain, Reached}
 use Rattle.nj_needs.specs.Order.{needed_commands}
-use Rattle.nj_request.specs.Requests.{ActionText, commands}
+use Rattle.nj_request.specs.Requests.{ActionText, commands, start_of}
 use Rattle.nj_tools.specs.CommandTexts.{command_lines}
 use Rattle.nj_cli.specs.Answers.{output_of, Ending, finished, stopped, EndsWith}
 use Rattle.nj_cli.specs.Targets.{edges_by_path, NoEdgeNeedsItself, targets_of}
@@ -29,25 +30,35 @@ WritesTheNeeded = (entries : List Entry) (words : List (List ℕ)) → NoEdgeNee
     × (numbers : List ℕ) × AreNeeded (edges_by_path entries) targets numbers
     × (output_of entries (commands words None []) ≡ command_lines entries numbers)
 
--- Runs with these words, one after another: each takes at most the number of edges in `takes`, and goes on at the mark of the one before.
--- Their outputs, and the output of a run without a limit from the last mark; that is empty if a run finished.
+-- the run for these words that takes at most `take` edges, and begins at the mark that the text of `--resume` says, or at the start
+abbrev pub IsRun : (words : List (List ℕ)) → (take : Option ℕ) → (resume : Option (List ℕ)) → ActionText → Type 0
+IsRun words take resume run = (start : List ℕ) × (start_of resume ≡ Ok start) × (run ≡ commands words take start)
+
+-- Runs with these words, one after another: each takes at most the number of edges in `takes`, and resumes at the text that the one before
+-- wrote after `mark `. Their outputs, and the output of a run without a limit from the last mark; that is empty if a run finished.
 pub data ArePageTexts (entries : List Entry) (words : List (List ℕ))
-    : (start takes : List ℕ) → (outputs : List (List ℕ)) → (rest : List ℕ) → Type 0 where
-  no_runs : {start rest : List ℕ} → output_of entries (commands words None start) ≡ rest
-      → ArePageTexts entries words start [] [] rest
-  finishes : {start : List ℕ} {take : ℕ} {output : List ℕ} → EndsWith entries (commands words (Some take) start) finished
-      → output_of entries (commands words (Some take) start) ≡ output → ArePageTexts entries words start (take ∷ []) (output ∷ []) []
-  stops : {start takes output rest : List ℕ} {take : ℕ} {outputs : List (List ℕ)} (mark : List ℕ)
-      → EndsWith entries (commands words (Some take) start) (stopped mark)
-      → output_of entries (commands words (Some take) start) ≡ output
-      → ArePageTexts entries words mark takes outputs rest → ArePageTexts entries words start (take ∷ takes) (output ∷ outputs) rest
+    : (resume : Option (List ℕ)) → (takes : List ℕ) → (outputs : List (List ℕ)) → (rest : List ℕ) → Type 0 where
+  no_runs : {resume : Option (List ℕ)} {rest : List ℕ} (run : ActionText) → IsRun words None resume run
+      → output_of entries run ≡ rest → ArePageTexts entries words resume [] [] rest
+  finishes : {resume : Option (List ℕ)} {take : ℕ} {output : List ℕ} (run : ActionText) → IsRun words (Some take) resume run
+      → EndsWith entries run finished → output_of entries run ≡ output → ArePageTexts entries words resume (take ∷ []) (output ∷ []) []
+  stops : {resume : Option (List ℕ)} {takes output rest : List ℕ} {take : ℕ} {outputs : List (List ℕ)} (run : ActionText) (mark : List ℕ)
+      → IsRun words (Some take) resume run → EndsWith entries run (stopped mark) → output_of entries run ≡ output
+      → ArePageTexts entries words (Some (mark_text mark)) takes outputs rest
+      → ArePageTexts entries words resume (take ∷ takes) (output ∷ outputs) rest
 
 -- The pages, followed by the rest, are the output of one run without a limit.
 abbrev pub PageTextsJoin : Type 0
 PageTextsJoin = (entries : List Entry) (words : List (List ℕ)) → NoEdgeNeedsItself (edges_by_path entries)
-    → (start takes : List ℕ) (outputs : List (List ℕ)) (rest : List ℕ) → EndsWith entries (commands words None start) finished
-    → ArePageTexts entries words start takes outputs rest
-    → output_of entries (commands words None start) ≡ concat outputs ++ rest
+    → (resume : Option (List ℕ)) (whole : ActionText) → IsRun words None resume whole → EndsWith entries whole finished
+    → (takes : List ℕ) (outputs : List (List ℕ)) (rest : List ℕ) → ArePageTexts entries words resume takes outputs rest
+    → output_of entries whole ≡ concat outputs ++ rest
+
+-- A run that stopped can go on: what it wrote after `mark ` is a text for `--resume`, and a run without a limit from there finishes.
+abbrev pub StoppedRunsGoOn : Type 0
+StoppedRunsGoOn = (entries : List Entry) (words : List (List ℕ)) → NoEdgeNeedsItself (edges_by_path entries)
+    → (take : Option ℕ) (start mark : List ℕ) → EndsWith entries (commands words take start) (stopped mark)
+    → (next : ActionText) × IsRun words None (Some (mark_text mark)) next × EndsWith entries next finished
 
 -- A run has one ending, so one mark.
 abbrev pub OneEnding : Type 0

@@ -21,8 +21,8 @@ use Rattle.nj_cli.specs.Reported.{Failed, Reported}
 use Rattle.nj_cli.specs.Runs.{out_of_memory, AreStatements, HaveFault}
 use Rattle.nj_cli.specs.declared.fault.RunFault.{RunFault}
 use Rattle.nj_cli.specs.declared.fault.RunFault.TheVariants as fault
-use Rattle.nj_needs.specs.declared.fault.MarkFault.{MarkFault}
-use Rattle.nj_needs.specs.declared.fault.MarkFault.TheVariants as mark
+use Rattle.nj_marks.specs.declared.fault.MarkFault.{MarkFault}
+use Rattle.nj_marks.specs.declared.fault.MarkFault.TheVariants as mark
 use Rattle.nj_tools.specs.declared.fault.ToolFault.{ToolFault}
 use Rattle.nj_tools.specs.declared.fault.ToolFault.TheVariants as tool
 use Rattle.nj_cli.specs.declared.status.Status.{Status}
@@ -39,7 +39,8 @@ abbrev pub ReadsGraph : RequestText → (before after : SourceState) → Result 
 ReadsGraph request before after result = (files : List Reading) × IsRead before after [] files × GraphOr request before after files result
 
 abbrev pub fault_of_mark : MarkFault → RunFault
-fault_of_mark mark.OutOfRange = fault.MarkOutOfRange
+fault_of_mark mark.BadMark = fault.MarkOutOfRange
+fault_of_mark mark.MarkOutOfRange = fault.MarkOutOfRange
 fault_of_mark mark.OutOfMemory = fault.OutOfMemory
 
 abbrev pub fault_of_tool : ToolFault → RunFault

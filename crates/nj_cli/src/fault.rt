@@ -36,7 +36,8 @@ impl From<MarkFault> for RunFault {
 
     fn from(f: MarkFault) -> RunFault {
         match f {
-            MarkFault::OutOfRange => RunFault::MarkOutOfRange,
+            // Only reading a mark reports a bad one, and a walk is resumed at one that was read.
+            MarkFault::BadMark | MarkFault::MarkOutOfRange => RunFault::MarkOutOfRange,
             MarkFault::OutOfMemory => RunFault::OutOfMemory,
         }
     }
