@@ -1,16 +1,17 @@
 //! Tests of `nj_marks`.
 
-use nj_marks::{Mark, MarkTextFault};
+use nj_marks::{Mark, MarkFault};
 use std::alloc::{AllocError, Global};
 use std::process::Abort;
 use std::test::Fail;
 
-/// The text of the mark that the text says, or `no mark`.
+/// The text of the mark that the text says, or `bad mark`.
 fn read_and_written(alloc: Global, text: &str) -> Result<String, AllocError> {
     match Mark::read(alloc, text) {
         Ok(mark) => mark.to_text(alloc),
-        Err(MarkTextFault::BadMark) => String::from_str(alloc, "no mark"),
-        Err(MarkTextFault::OutOfMemory) => Err(AllocError),
+        Err(MarkFault::BadMark) => String::from_str(alloc, "bad mark"),
+        Err(MarkFault::MarkOutOfRange) => String::from_str(alloc, "out of range"),
+        Err(MarkFault::OutOfMemory) => Err(AllocError),
     }
 }
 
@@ -42,17 +43,17 @@ fn bad_marks(rt: HostRuntime) -> Result<(), Fail> {
     says(
         &rt,
         &[
-            ("", "no mark"),
-            ("0.", "no mark"),
-            (".0", "no mark"),
-            ("01", "no mark"),
-            ("0..1", "no mark"),
-            ("v0", "no mark"),
-            ("Start", "no mark"),
-            ("18446744073709551616", "no mark"),
-            ("00", "no mark"),
-            ("+1", "no mark"),
-            ("0.-1", "no mark"),
+            ("", "bad mark"),
+            ("0.", "bad mark"),
+            (".0", "bad mark"),
+            ("01", "bad mark"),
+            ("0..1", "bad mark"),
+            ("v0", "bad mark"),
+            ("Start", "bad mark"),
+            ("18446744073709551616", "bad mark"),
+            ("00", "bad mark"),
+            ("+1", "bad mark"),
+            ("0.-1", "bad mark"),
         ],
     )
 }

@@ -65,18 +65,32 @@ fn left(alloc: Global, needs: &mut Needs<'_>, most: u64) -> Result<String, Alloc
     Ok(text)
 }
 
+/// The walk that goes on at the mark that a text says.
+fn resumed<'g>(
+    alloc: Global,
+    graph: &'g EdgeGraph,
+    targets: &'g [FileNo],
+    text: &str,
+) -> Result<Needs<'g>, MarkFault>
+    requires { All (λ f. f.0 < length graph.now.files) targets.now }
+{
+    let mark = Mark::read(alloc, text)?;
+    Needs::resume(alloc, graph, targets, &mark)
+}
+
 /// What is left at a mark of the walk to a file, in at most so many turns.
 fn left_at(
     alloc: Global,
     graph: &EdgeGraph,
     path: &[u8],
-    mark: &Mark,
+    mark: &str,
     most: u64,
 ) -> Result<String, AllocError> {
     let targets = target(alloc, graph, path)?;
-    match Needs::resume(alloc, graph, &targets, mark) {
+    match resumed(alloc, graph, &targets, mark) {
         Ok(mut needs) => left(alloc, &mut needs, most),
-        Err(MarkFault::OutOfRange) => String::from_str(alloc, "out of range"),
+        Err(MarkFault::BadMark) => String::from_str(alloc, "bad mark"),
+        Err(MarkFault::MarkOutOfRange) => String::from_str(alloc, "out of range"),
         Err(MarkFault::OutOfMemory) => Err(AllocError),
     }
 }
@@ -102,8 +116,7 @@ fn resumes_in(
     rows: &[(&str, &str)],
 ) -> Result<(), Fail> {
     'rows: for (mark, want) in rows {
-        let mark = Mark::read(rt.alloc(), mark)?;
-        let found = left_at(rt.alloc(), graph, path, &mark, most)?;
+        let found = left_at(rt.alloc(), graph, path, mark, most)?;
         assert_eq!(rt; found.as_str(), *want);
     }
     Ok(())
@@ -112,7 +125,7 @@ fn resumes_in(
 /// What the whole walk to a file returns, and how many turns it takes.
 fn walked(alloc: Global, graph: &EdgeGraph, path: &[u8]) -> Result<(String, u64), AllocError> {
     let targets = target(alloc, graph, path)?;
-    let mut needs = Needs::new(graph, &targets, alloc)?;
+    let mut needs = Needs::new(alloc, graph, &targets)?;
     let text = left(alloc, &mut needs, u64::MAX)?;
     Ok((text, needs.turns()))
 }
@@ -149,6 +162,8 @@ fn resumes_a_diamond(rt: HostRuntime) -> Result<(), Fail> {
             ("0.0.0.0", "out of range"),
             ("1", "out of range"),
             ("0.18446744073709551615", "out of range"),
+            ("0.18446744073709551616", "bad mark"),
+            ("01", "bad mark"),
         ],
     )
 }
@@ -255,7 +270,7 @@ fn count_left(needs: &mut Needs<'_>) -> usize {
 /// How many edges the walk to the file of a number returns, and how many turns it takes.
 fn visited(alloc: Global, graph: &EdgeGraph, number: usize) -> Result<(usize, u64), AllocError> {
     let targets = target(alloc, graph, &path(number))?;
-    let mut needs = Needs::new(graph, &targets, alloc)?;
+    let mut needs = Needs::new(alloc, graph, &targets)?;
     let count = count_left(&mut needs);
     Ok((count, needs.turns()))
 }
