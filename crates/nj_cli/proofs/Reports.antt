@@ -22,7 +22,7 @@ ReportsMisuse-other old new (usage.UnknownTool tool) status other told = told
 ReportsMisuse-other old new (usage.ForeignOption option tool) status other told = told
 ReportsMisuse-other old new (usage.BadNumber text) status other told = told
 ReportsMisuse-other old new (usage.BadMark text) status other told = told
-ReportsMisuse-other old new (usage.WrongWords tool) status other told = told
+ReportsMisuse-other old new (usage.BadWords tool) status other told = told
 
 module _ (words : List (List ℕ)) (old new : Around) (source : new.source ≡ old.source) (output : new.output ≡ old.output) where
   early : (status : Status) → Reported old.error new.error (with_line_end out_of_memory) → status ≡ Fault → RunsWords words old new status
@@ -42,7 +42,7 @@ module _ (words : List (List ℕ)) (old new : Around) (source : new.source ≡ o
   by_fault (usage.ForeignOption option tool) status why told = misused (usage.ForeignOption option tool) status why told
   by_fault (usage.BadNumber text) status why told = misused (usage.BadNumber text) status why told
   by_fault (usage.BadMark text) status why told = misused (usage.BadMark text) status why told
-  by_fault (usage.WrongWords tool) status why told = misused (usage.WrongWords tool) status why told
+  by_fault (usage.BadWords tool) status why told = misused (usage.BadWords tool) status why told
 
 -- what a run does whose words ask for nothing
 pub RunsWords-misused : (words : List (List ℕ)) (old new : Around) (fault : UsageFault) (status : Status)

@@ -7,7 +7,7 @@ use Rattle.nj_request.specs.CommandLine.{command}
 use Rattle.nj_request.specs.FaultLines.{fault_line}
 use Rattle.nj_request.specs.Requests.{ActionText, RequestText, commands, compdb, inputs, query, request_of, rules, single_commands, targets}
 use Rattle.nj_request.specs.declared.faults.UsageFault.{UsageFault}
-use Rattle.nj_request.specs.declared.faults.UsageFault.TheVariants.{Unparsed, UnknownTool, ForeignOption, BadNumber, BadMark, WrongWords}
+use Rattle.nj_request.specs.declared.faults.UsageFault.TheVariants.{Unparsed, UnknownTool, ForeignOption, BadNumber, BadMark, BadWords}
 use Rattle.nj_request.specs.declared.faults.ToolOption.TheVariants.{Single, Descriptions, Expand, Directory, Take, Resume}
 use Rattle.nj_tools.specs.declared.view.TargetsView.TheVariants.{OfRule, Sources, Depth, All}
 
@@ -269,27 +269,27 @@ foreign_with_target_row = refl
 
 -- ---- wrong words
 
-no_file_row : request_of (codes "-t" ∷ codes "query" ∷ []) ≡ Err (WrongWords (codes "query"))
+no_file_row : request_of (codes "-t" ∷ codes "query" ∷ []) ≡ Err (BadWords (codes "query"))
 unfolding request_of command clap_on_literals
 no_file_row = refl
 
-rules_word_row : request_of (codes "-t" ∷ codes "rules" ∷ codes "x" ∷ []) ≡ Err (WrongWords (codes "rules"))
+rules_word_row : request_of (codes "-t" ∷ codes "rules" ∷ codes "x" ∷ []) ≡ Err (BadWords (codes "rules"))
 unfolding request_of command clap_on_literals
 rules_word_row = refl
 
-view_row : request_of (codes "-t" ∷ codes "targets" ∷ codes "x" ∷ []) ≡ Err (WrongWords (codes "targets"))
+view_row : request_of (codes "-t" ∷ codes "targets" ∷ codes "x" ∷ []) ≡ Err (BadWords (codes "targets"))
 unfolding request_of command clap_on_literals
 view_row = refl
 
-empty_view_row : request_of (codes "-t" ∷ codes "targets" ∷ [] ∷ []) ≡ Err (WrongWords (codes "targets"))
+empty_view_row : request_of (codes "-t" ∷ codes "targets" ∷ [] ∷ []) ≡ Err (BadWords (codes "targets"))
 unfolding request_of command clap_on_literals
 empty_view_row = refl
 
-all_word_row : request_of (codes "-t" ∷ codes "targets" ∷ codes "all" ∷ codes "x" ∷ []) ≡ Err (WrongWords (codes "targets"))
+all_word_row : request_of (codes "-t" ∷ codes "targets" ∷ codes "all" ∷ codes "x" ∷ []) ≡ Err (BadWords (codes "targets"))
 unfolding request_of command clap_on_literals
 all_word_row = refl
 
-depth_words_row : request_of (codes "-t" ∷ codes "targets" ∷ codes "depth" ∷ codes "1" ∷ codes "2" ∷ []) ≡ Err (WrongWords (codes "targets"))
+depth_words_row : request_of (codes "-t" ∷ codes "targets" ∷ codes "depth" ∷ codes "1" ∷ codes "2" ∷ []) ≡ Err (BadWords (codes "targets"))
 unfolding request_of command clap_on_literals
 depth_words_row = refl
 
@@ -393,5 +393,5 @@ single_line = refl
 expand_line : fault_line (ForeignOption Expand (codes "rules")) ≡ codes "ninja-explain: option -x does not go with tool 'rules'\n"
 expand_line = refl
 
-words_line : fault_line (WrongWords (codes "query")) ≡ codes "ninja-explain: wrong words for tool 'query'\n"
+words_line : fault_line (BadWords (codes "query")) ≡ codes "ninja-explain: wrong words for tool 'query'\n"
 words_line = refl

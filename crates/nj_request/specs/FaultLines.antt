@@ -23,7 +23,7 @@ fault_text (fault.UnknownTool tool) = quoting (codes "unknown tool ") tool
 fault_text (fault.ForeignOption option tool) = quoting (codes "option " ++ option_text option ++ codes " does not go with tool ") tool
 fault_text (fault.BadNumber text) = quoting (codes "not a number: ") text
 fault_text (fault.BadMark text) = quoting (codes "bad mark ") text
-fault_text (fault.WrongWords tool) = quoting (codes "wrong words for tool ") tool
+fault_text (fault.BadWords tool) = quoting (codes "wrong words for tool ") tool
 fault_text fault.OutOfMemory = codes "out of memory"
 
 -- `ninja-explain: TEXT`, and its line end

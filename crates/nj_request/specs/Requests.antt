@@ -10,7 +10,7 @@ use Rattle.nj_request.specs.Fields.{FieldTexts, fields_of}
 use Rattle.nj_request.specs.Numbers.{said_number, said_depth}
 use Rattle.nj_request.specs.Tools.{tool_named, first_foreign}
 use Rattle.nj_request.specs.declared.faults.UsageFault.{UsageFault}
-use Rattle.nj_request.specs.declared.faults.UsageFault.TheVariants.{Unparsed, UnknownTool, ForeignOption, BadNumber, BadMark, WrongWords}
+use Rattle.nj_request.specs.declared.faults.UsageFault.TheVariants.{Unparsed, UnknownTool, ForeignOption, BadNumber, BadMark, BadWords}
 use Rattle.nj_request.specs.declared.requests.Action.{Action}
 use Rattle.nj_request.specs.declared.requests.Action.TheVariants as action
 use Rattle.nj_request.specs.declared.requests.Request.{Request}
@@ -81,7 +81,7 @@ view_of_word name word =
     if bytes_eq word (codes "depth") then Ok (Depth 1)
     else if bytes_eq word (codes "all") then Ok All
     else if bytes_eq word (codes "rule") then Ok Sources
-    else Err (WrongWords name)
+    else Err (BadWords name)
 
 -- this many levels
 abbrev pub depth_of : (text : List ℕ) → Result TargetsView UsageFault
@@ -92,14 +92,14 @@ abbrev pub view_of_pair : (name word value : List ℕ) → Result TargetsView Us
 view_of_pair name word value =
     if bytes_eq word (codes "depth") then depth_of value
     else if bytes_eq word (codes "rule") then Ok (OfRule value)
-    else Err (WrongWords name)
+    else Err (BadWords name)
 
 -- without words as `depth 1`
 abbrev pub view_of : (name : List ℕ) (words : List (List ℕ)) → Result TargetsView UsageFault
 view_of name [] = Ok (Depth 1)
 view_of name (word ∷ []) = view_of_word name word
 view_of name (word ∷ value ∷ []) = view_of_pair name word value
-view_of name (word ∷ value ∷ more ∷ words) = Err (WrongWords name)
+view_of name (word ∷ value ∷ more ∷ words) = Err (BadWords name)
 
 abbrev pub targets_of : (name : List ℕ) → FieldTexts → Result ActionText UsageFault
 targets_of name fields = do
@@ -114,13 +114,13 @@ inputs_of fields = Ok (inputs fields.words)
 
 -- one file or more
 abbrev pub query_of : (name : List ℕ) (words : List (List ℕ)) → Result ActionText UsageFault
-query_of name [] = Err (WrongWords name)
+query_of name [] = Err (BadWords name)
 query_of name (word ∷ words) = Ok (query (word ∷ words))
 
 -- no words
 abbrev pub rules_of : (name : List ℕ) (descriptions : Bool) (words : List (List ℕ)) → Result ActionText UsageFault
 rules_of name descriptions [] = Ok (rules descriptions)
-rules_of name descriptions (word ∷ words) = Err (WrongWords name)
+rules_of name descriptions (word ∷ words) = Err (BadWords name)
 
 -- the working folder
 abbrev pub here : List ℕ

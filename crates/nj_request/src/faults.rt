@@ -87,7 +87,7 @@ pub enum UsageFault {
     /// The text is not a mark.
     BadMark(Word),
     /// The tool of this name does not take the words given beside the options ("Extra tools").
-    WrongWords(Word),
+    BadWords(Word),
     /// An allocation failed.
     OutOfMemory,
 }

@@ -26,7 +26,7 @@ impl UsageFault {
             }
             UsageFault::BadNumber(text) => quoting(alloc, "not a number: ", text),
             UsageFault::BadMark(text) => quoting(alloc, "bad mark ", text),
-            UsageFault::WrongWords(tool) => quoting(alloc, "wrong words for tool ", tool),
+            UsageFault::BadWords(tool) => quoting(alloc, "wrong words for tool ", tool),
             UsageFault::OutOfMemory => line_of(alloc, "out of memory"),
         }
     }

@@ -292,7 +292,7 @@ fn view_of(alloc: Global, name: &str, words: Option<&[&str]>) -> Result<TargetsV
         None | Some([]) => Ok(TargetsView::Depth(1)),
         Some([word]) => view_of_word(alloc, name, word),
         Some([word, value]) => view_of_pair(alloc, name, word, value),
-        Some([_, _, _, ..]) => Err(UsageFault::WrongWords(Word::new(alloc, name)?)),
+        Some([_, _, _, ..]) => Err(UsageFault::BadWords(Word::new(alloc, name)?)),
     }
 }
 
@@ -306,7 +306,7 @@ fn view_of_word(alloc: Global, name: &str, word: &str) -> Result<TargetsView, Us
         "depth" => Ok(TargetsView::Depth(1)),
         "all" => Ok(TargetsView::All),
         "rule" => Ok(TargetsView::Sources),
-        _ => Err(UsageFault::WrongWords(Word::new(alloc, name)?)),
+        _ => Err(UsageFault::BadWords(Word::new(alloc, name)?)),
     }
 }
 
@@ -324,7 +324,7 @@ fn view_of_pair(
     match word {
         "depth" => depth_of(alloc, value),
         "rule" => Ok(TargetsView::OfRule(Name::new(alloc, value.as_bytes())?)),
-        _ => Err(UsageFault::WrongWords(Word::new(alloc, name)?)),
+        _ => Err(UsageFault::BadWords(Word::new(alloc, name)?)),
     }
 }
 
@@ -348,7 +348,7 @@ fn query_of(alloc: Global, name: &str, words: Option<&[&str]>) -> Result<Action,
         ⊎ (query_of name.now (word_texts words.entry) ≡ Err fault)) }
 {
     match words {
-        None | Some([]) => Err(UsageFault::WrongWords(Word::new(alloc, name)?)),
+        None | Some([]) => Err(UsageFault::BadWords(Word::new(alloc, name)?)),
         Some([_, ..]) => Ok(Action::Query {
             files: owned(alloc, words)?,
         }),
@@ -366,7 +366,7 @@ fn rules_of(alloc: Global, name: &str, fields: &Fields<'_, '_>) -> Result<Action
     let descriptions = fields.descriptions;
     match fields.words {
         None | Some([]) => Ok(Action::Rules { descriptions }),
-        Some([_, ..]) => Err(UsageFault::WrongWords(Word::new(alloc, name)?)),
+        Some([_, ..]) => Err(UsageFault::BadWords(Word::new(alloc, name)?)),
     }
 }
 

@@ -1,7 +1,7 @@
 //! What command lines ask for.
 
-use nj_needs::Mark;
-use nj_request::{Action, Request, TargetsView, read_words};
+use crate::runs::words_of;
+use nj_cli::{Action, Mark, Request, TargetsView, ToolOption, UsageFault, Word, read_words};
 use std::alloc::{AllocError, Global};
 use std::fmt::Write;
 use std::process::Abort;
@@ -87,11 +87,8 @@ fn request_text(alloc: Global, request: &Request) -> Result<String, AllocError> 
 /// What the words ask for, or the line of their fault.
 fn asked(rt: &impl AllocGlobal, words: &[&str]) -> Result<String, Fail> {
     let alloc = rt.alloc();
-    let mut texts = Vec::new(alloc);
-    'words: for word in words {
-        texts.push(String::from_str(alloc, word)?)?;
-    }
-    match read_words(alloc, texts.as_slice()) {
+    let texts = words_of(alloc, words)?;
+    match read_words(alloc, &texts) {
         Ok(request) => Ok(request_text(alloc, &request)?),
         Err(fault) => Ok(fault.line(alloc)?),
     }
@@ -198,6 +195,25 @@ fn faults(rt: HostRuntime) -> Result<(), Fail> {
             ),
         ],
     )
+}
+
+/// Whether a fault quotes this word.
+fn quotes(word: &Word, text: &str) -> bool {
+    word.as_str() == text
+}
+
+#[test]
+fn faults_hold_what_they_quote(rt: HostRuntime) -> Result<(), Fail> {
+    let words = words_of(rt.alloc(), &["-t", "query"])?;
+    let no_file = read_words(rt.alloc(), &words);
+    assert!(rt; matches!(&no_file, Err(UsageFault::BadWords(tool)) if quotes(tool, "query")));
+    let words = words_of(rt.alloc(), &["-t", "rules", "-x"])?;
+    let foreign = read_words(rt.alloc(), &words);
+    assert!(rt; matches!(
+        &foreign,
+        Err(UsageFault::ForeignOption { option: ToolOption::Expand, tool }) if quotes(tool, "rules")
+    ));
+    Ok(())
 }
 
 #[test]
