@@ -33,7 +33,7 @@ use Rattle.nj_tools.specs.Texts.{StopsWithin, TakesFront}
 use Rattle.nj_tools.specs.declared.fault.ToolFault.{ToolFault}
 use Rattle.nj_tools.specs.declared.fault.ToolFault.TheVariants as tool
 use Rattle.nj_tools.proofs.SinkLemmas.{Takes-nil}
-use Rattle.nj_cli.specs.Targets.{edges_by_path, targets_named, or_defaults, targets_or_defaults, targets_of}
+use Rattle.nj_cli.specs.Targets.{edges_by_path, NoEdgeNeedsItself, targets_named, or_defaults, targets_or_defaults, targets_of}
 use Rattle.nj_cli.specs.Answers.{leads, commands_left, IsMarkOf, commands_text, for_targets, single_commands_text, output_of, Ending, finished, stopped, faulty, out_of_range, EndsFrom, CommandsEnd, TargetsEnd, text_fault, CompdbEnds, EndsWith}
 use Rattle.nj_cli.specs.RunSteps.{AnswersTo, fault_of_mark, fault_of_tool}
 use Rattle.nj_cli.specs.declared.fault.RunFault.{RunFault}
@@ -52,6 +52,10 @@ AnswersTo-err entries action old new (Err e) f is answers = subst (λ (r : RunFa
 module _ (entries : List Entry) (g : GraphText) (is : IsGraphOf g entries) where
   edges-are : edges_of g ≡ edges_by_path entries
   edges-are = is.built.paths
+
+  -- no edge of the statements needs itself
+  pub NoEdgeNeedsItself-stated : NoEdgeNeedsItself (edges_by_path entries)
+  NoEdgeNeedsItself-stated = subst NoEdgeNeedsItself edges-are is.acyclic
 
   -- ---- targets
 

@@ -11,6 +11,7 @@ use Rattle.nj_graph.proofs.Tables.{reads-then}
 use Rattle.nj_request.specs.Requests.{RequestText}
 use Rattle.nj_cli.specs.RunSteps.{GraphOr, ReadsGraph}
 use Rattle.nj_cli.specs.Runs.{ReadsMore, AreStatements, HaveFault}
+use Rattle.nj_cli.proofs.AnswerLemmas.{NoEdgeNeedsItself-stated}
 
 statements-joined : (main : List ℕ) (dyndep : Bool) (before after : SourceState) (files : List Reading) (entries : List Entry) → dyndep ≡ true
     → (more : ReadsMore main before after files) → IsJoined more.stated entries more.read files more.between after
@@ -46,6 +47,7 @@ ReadsGraph-joined request asked before between after read loaded result reads l 
       stated = l.entries;
       reads = reads;
       whole = l.whole;
+      acyclic = NoEdgeNeedsItself-stated l.entries loaded.graph l.graph_is;
       adds = of_read.1;
     } in
     (files, reads-then before between after [] read files reads of_read.1, graph-joined request asked before after files more result of_read.2)

@@ -1,4 +1,5 @@
 pub mod AnswerLemmas
+pub mod CyclicRuns
 pub mod HeadlineLaws
 pub mod JoinedRuns
 pub mod Pieces

@@ -1,11 +1,8 @@
 -- How a run ends.
-use Rattle.std.proofs.Common.{◌≡◌, ◌⊎◌, inl, inr, ℕ, Option, Some, None, Result, Ok, Err, List, [], length, refl, sym, subst}
+use Rattle.std.proofs.Common.{◌≡◌, ◌⊎◌, inl, inr, ℕ, Option, Some, None, Result, Ok, Err, List, [], refl, sym, subst}
 use Rattle.std.proofs.lemmas.List.{append-nil}
 use Rattle.nj_scope.specs.Readings.{Reading}
 use Rattle.nj_scope.specs.ReadingList.{Entry}
-use Rattle.nj_order.specs.Cycles.{IsAcyclic}
-use Rattle.nj_edges.specs.Edges.{EdgePaths}
-use Rattle.nj_edges.specs.Needs.{makers_of_inputs}
 use Rattle.nj_faults.specs.declared.fault.GraphFault.{GraphFault}
 use Rattle.nj_faults.specs.FaultLines.{fault_line}
 use Rattle.nj_faults.specs.Faults.{no_memory}
@@ -22,7 +19,7 @@ use Rattle.nj_cli.specs.declared.fault.RunFault.{RunFault}
 use Rattle.nj_cli.specs.declared.fault.RunFault.TheVariants as fault
 use Rattle.nj_cli.specs.declared.status.Status.{Status}
 use Rattle.nj_cli.specs.declared.status.Status.TheVariants.{Done, Fault, Usage, Stopped, OutputFailed}
-use Rattle.nj_cli.proofs.AnswerLemmas.{TakesFront-none}
+use Rattle.nj_cli.proofs.AnswerLemmas.{NoEdgeNeedsItself-stated, TakesFront-none}
 
 -- ---- faults
 
@@ -83,6 +80,6 @@ pub IsAnswered-from : (request : RequestText) (files : List Reading) (old new : 
 IsAnswered-from request files old new graph entries status statements graph_is answers = record {
   entries = entries;
   statements = statements;
-  acyclic = subst (λ (es : List EdgePaths). IsAcyclic (makers_of_inputs es) (length es)) graph_is.built.paths graph_is.acyclic;
+  acyclic = NoEdgeNeedsItself-stated entries graph graph_is;
   answers = answers;
 }

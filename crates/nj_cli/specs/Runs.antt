@@ -70,25 +70,26 @@ pub data RunEnds (entries : List Entry) (action : ActionText) (old new : Around)
 
 -- ---- by its files
 
--- The main file and all that it includes were read: these statements, none of which has a fault. After that, up to the end, more
--- files were read.
+-- The main file and all that it includes were read: these statements, none of which has a fault, and none of whose edges needs itself
+-- by a chain. Only then, up to the end, more files were read.
 pub record ReadsMore (main : List ℕ) (before after : SourceState) (files : List Reading) : Type 0 where
   pub between : SourceState
   pub read : List Reading
   pub stated : List Entry
   pub reads : IsRead before between [] read
   pub whole : IsWhole main before between read stated
+  pub acyclic : NoEdgeNeedsItself (edges_by_path stated)
   pub adds : IsRead between after read files
 
--- The statements of the files: those of the main file and all that it includes; with `--dyndep` what dyndep files discover is
--- joined to them.
+-- The statements of the files: those of the main file and all that it includes; with `--dyndep`, where no edge of these needs itself,
+-- what dyndep files discover is joined to them.
 abbrev pub AreStatements : (main : List ℕ) → (dyndep : Bool) → (before after : SourceState) → List Reading → List Entry → Type 0
 AreStatements main false before after files entries = IsWhole main before after files entries
 AreStatements main true before after files entries =
     (more : ReadsMore main before after files) × IsJoined more.stated entries more.read files more.between after
 
--- This is what is wrong with the files: what ended the reading of the main file and all that it includes; with `--dyndep` also
--- what ended the joining after it.
+-- This is what is wrong with the files: what ended the reading of the main file and all that it includes, or a cycle of their edges;
+-- with `--dyndep` also what ended the joining after it.
 abbrev pub HaveFault : (main : List ℕ) → (dyndep : Bool) → (before after : SourceState) → List Reading → GraphFault → Type 0
 HaveFault main false before after files fault = LoadingFails main before after files fault
 HaveFault main true before after files fault =

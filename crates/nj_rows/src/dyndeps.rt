@@ -1,6 +1,7 @@
 //! Runs with `--dyndep`, which joins what dyndep files discover.
 
 use crate::runs::{end_so, files_of};
+use nj_cli::{FileSource, SourceFault};
 use std::process::Abort;
 use std::test::*;
 
@@ -366,6 +367,25 @@ fn reports_dyndep_files_that_cannot_be_read(rt: HostRuntime) -> Result<(), Fail>
         )],
         "[1] build.ninja:3:1: path is not UTF-8\n",
     )
+}
+
+#[test]
+fn reads_no_dyndep_file_after_a_cycle(rt: HostRuntime) -> Result<(), Fail> {
+    let main = b"build o: phony p || dd\n  dyndep = dd\nbuild p: phony o\n".as_slice();
+    let mut files = files_of(rt.alloc(), &[("build.ninja", main), ("dd", b"")])?;
+    files.fail_at(2);
+    end_so(
+        &rt,
+        &mut files,
+        &[(
+            COMMANDS,
+            "[1] build.ninja:1:1: dependency cycle through 'o'\n",
+        )],
+    )?;
+    // the run read the main file alone, so this is the second reading
+    let second = files.read(rt.alloc(), "dd");
+    assert!(rt; matches!(&second, Err(SourceFault::Io)));
+    Ok(())
 }
 
 #[test]
