@@ -177,7 +177,7 @@ module _ (entries : List Entry) (rules : List (List ℕ)) (expand : Bool) where
   unfolding listed_edges
   listed-all i all = ap (edges_from 0 (has_object entries rules)) (sym (take_all i (edges_read entries) (omega (arith, all))))
 
-  held-front : (ns ms : List ℕ) → find unheld ns ≡ None → take_while is_text (map told (ns ++ ms)) ≡ map told ns ++ take_while is_text (map told ms)
+  pub held-front : (ns ms : List ℕ) → find unheld ns ≡ None → take_while is_text (map told (ns ++ ms)) ≡ map told ns ++ take_while is_text (map told ms)
   held-front [] ms none = refl
   held-front (n ∷ ns) ms none = take_while-cons is_text (told n) (map told (ns ++ ms)) ∙ by (is_text (told n)) (held-front ns ms) none
     where

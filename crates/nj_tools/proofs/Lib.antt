@@ -3,6 +3,7 @@ pub mod CollectedLemmas
 pub mod CommandLemmas
 pub mod KindLemmas
 pub mod ItemLemmas
+pub mod JsonLemmas
 pub mod LawLemmas
 pub mod ListingLemmas
 pub mod ChosenLemmas

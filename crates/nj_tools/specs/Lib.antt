@@ -7,6 +7,7 @@ pub mod Listings
 pub mod Queries
 pub mod RuleLists
 pub mod Compdb
+pub mod CompdbJson
 pub mod Laws
 -- how the code does that
 pub mod Blocks

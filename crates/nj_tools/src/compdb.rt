@@ -23,7 +23,7 @@ ghost use Rattle.nj_tools.specs.CompdbHeld.{held_compilation, object_of_strings}
 use crate::block::write_block;
 use crate::chosen::ChosenRules;
 use crate::fault::ToolFault;
-use crate::json::{held_string, json_string};
+use crate::json_strings::{held_string, json_string};
 use crate::sinks::Sink;
 use crate::whole::write_whole;
 use nj_graph::{EdgeNo, FileNo, Graph};

@@ -1,5 +1,6 @@
 //! Laws of what the tools write. A law is a theorem, stated as a function with an empty body.
 
+ghost use Rattle.nj_tools.specs.CompdbJson.{CompdbIsJson};
 ghost use Rattle.nj_tools.specs.Laws.{DepthZeroShowsAll};
 ghost use Rattle.nj_tools.specs.Listings.{LinesRise, ListedHaveLines, QuotedLinesRise, QuotesHaveLines};
 
@@ -21,4 +22,11 @@ pub fn list_law()
 pub fn input_lines_law()
     ensures rise { QuotedLinesRise }
     ensures quotes { QuotesHaveLines }
+{}
+
+/// What `compdb` writes is one array of JSON, where all texts of the listed edges are UTF-8: an
+/// object for each of these edges, in their order, with exactly the keys `directory`, `command`,
+/// `file` and `output`, in this order, and the texts of the edge under them.
+pub fn compdb_law()
+    ensures { CompdbIsJson }
 {}

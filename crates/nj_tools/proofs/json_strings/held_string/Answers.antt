@@ -2,7 +2,7 @@ use Rattle.std.proofs.Common.{Some, None, sym, ap, ◌∙◌}
 use Rattle.std.proofs.lemmas.Bool.{cond-true, cond-false, false_from_ne_true}
 use Rattle.std.proofs.lemmas.Str.{IsUtf8-from_is_utf8, is_utf8-from_IsUtf8}
 use Rattle.nj_tools.specs.Compdb.{json_string}
-use Rattle.nj_tools.proofs.json.held_string.Goals as goal
+use Rattle.nj_tools.proofs.json_strings.held_string.Goals as goal
 
 pub returns-in_ok-json_string-in-Ok : goal.returns-in_ok-json_string-in-Ok
 returns-in_ok-json_string-in-Ok c =
