@@ -1,6 +1,9 @@
 pub mod Addresses
 pub mod Below
 pub mod Bridges
+pub mod Fronts
+pub mod GrowingLaws
+pub mod GrowingRows
 pub mod Members
 pub mod NeedsLemmas
 pub mod OrderLaws
@@ -8,6 +11,7 @@ pub mod PageLaws
 pub mod PlaceLaws
 pub mod RebuildLemmas
 pub mod ResumeLemmas
+pub mod Rounds
 pub mod Rows
 pub mod Steps
 pub mod Striking

@@ -25,7 +25,7 @@ module _ (makers : ℕ → List (Option ℕ)) (targets : List (Option ℕ)) wher
     | inr last ↦ subst (Reached makers targets) (sym (In-single e x last)) r
   ]
 
-  Reached-from_row : (count x : ℕ) → In (unfolded_row makers count targets) x → Reached makers targets x
+  pub Reached-from_row : (count x : ℕ) → In (unfolded_row makers count targets) x → Reached makers targets x
   Reached-from_row count x i =
       let m = In-row (unfolded makers count) targets x i in
       Reached-unfolded count m.0 x (target (Contains-from_Among targets m.0 m.1)) m.2
@@ -38,7 +38,7 @@ module _ (makers : ℕ → List (Option ℕ)) (targets : List (Option ℕ)) wher
     targets_in : (m : ℕ) → Among targets m → m < count
     targets_in m a = inside m (Contains-from_Among targets m a)
 
-    row_has : (e : ℕ) → Reached makers targets e → In (unfolded_row makers count targets) e
+    pub row_has : (e : ℕ) → Reached makers targets e → In (unfolded_row makers count targets) e
     row_has e (target c) = In-row_from (unfolded makers count) targets e e (Among-from_Contains targets e c) (In-unfolded makers count e)
     row_has f (needed {e = e} r needs) =
         let own : In (unfolded_row makers count (makers e)) f = In-row_from (unfolded makers count) (makers e) f f (Among-from_Contains (makers e) f needs) (In-unfolded makers count f) in
@@ -66,7 +66,7 @@ all_differ : (x : ℕ) (xs : List ℕ) → list_any (nat_eq x) xs ≡ false → 
 all_differ x [] h = tt
 all_differ x (y ∷ xs) h = let p = or_parts (nat_eq x y) (list_any (nat_eq x) xs) h in (p.0, all_differ x xs p.1)
 
-IsDistinct-from : (xs : List ℕ) → Differ xs → IsDistinct nat_eq xs
+pub IsDistinct-from : (xs : List ℕ) → Differ xs → IsDistinct nat_eq xs
 unfolding IsDistinct
 IsDistinct-from [] h = tt
 IsDistinct-from (x ∷ xs) h = (all_differ x xs h.0, IsDistinct-from xs h.1)

@@ -1,5 +1,6 @@
 pub mod Counts
 pub mod Graphs
+pub mod Growing
 pub mod Heading
 pub mod Laws
 pub mod Marks

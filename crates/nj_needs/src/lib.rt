@@ -2,6 +2,7 @@
 #![tactic(auto)]
 
 mod frame;
+mod growing;
 mod laws;
 mod looks;
 mod needs;
@@ -10,6 +11,7 @@ mod returned;
 mod saved;
 mod walk;
 
+pub use growing::growing_law;
 pub use laws::{order_law, page_law, place_law, unfolding_law};
 pub use needs::Needs;
 pub use nj_marks::{Mark, MarkFault};
