@@ -4,6 +4,8 @@ pub mod Bridges
 pub mod Fronts
 pub mod GrowingLaws
 pub mod GrowingRows
+pub mod GrowingSteps
+pub mod GrowingWalk
 pub mod Members
 pub mod NeedsLemmas
 pub mod OrderLaws

@@ -1,6 +1,70 @@
 //! Targets together with what is to be validated when they are built.
 
-ghost use Rattle.nj_needs.specs.Growing.{RoundsAppend, GrownTargetsStay, GrownTargetsReachTheFollowed};
+ghost use Rattle.std.specs.Prelude.{◌≡◌, ◌<◌, true, false, Some, length, map, All, IfOk, IfSome, IfNone, slice_index_or};
+ghost use Rattle.std.specs.Option.{ForSome};
+ghost use Rattle.nj_edges.specs.Files.{path_at, AreFiles};
+ghost use Rattle.nj_needs.specs.Growing.{grown_targets, RoundsAppend, GrownTargetsStay, GrownTargetsReachTheFollowed};
+
+use crate::frame::Frame;
+use crate::looks::Looks;
+use crate::walk::top_edge;
+use nj_edges::{EdgeGraph, EdgeNo, FileNo};
+use std::alloc::{AllocError, Global};
+
+/// The targets together with what is to be validated when they are built ("Validations" in the
+/// Ninja manual): after them come the validations of each edge that this list reaches, phony or
+/// not, edge by edge in the order in which these are first completed. A file that is named again is
+/// listed again, and a source is listed too. Takes time in proportion to the edges that are
+/// reached, their inputs and validations. Fails only if an allocation fails.
+pub fn grow_targets(
+    alloc: Global,
+    graph: &EdgeGraph,
+    targets: &[FileNo],
+) -> Result<Vec<FileNo>, AllocError>
+    requires { All (λ f. f.0 < length graph.now.files) targets.now }
+    ensures grown { IfOk result (λ files. AreFiles graph.now.files files.items
+        (grown_targets graph.now.edges (map (path_at graph.now.files) targets.now))) }
+    ensures known { IfOk result (λ files.
+        All (λ f. f.0 < length graph.now.files) files.items) }
+{
+    let mut files = Vec::from_slice(alloc, targets)?;
+    let mut path: Vec<Frame> = Vec::new(alloc);
+    let mut place = 0;
+    let mut flags = vec![in alloc; false; graph.edge_count()]?;
+    'turns: loop {
+        let found = Looks::new(graph, &files).look(top_edge(&path), place);
+        let Some(maker) = found else {
+            let Some(frame) = path.pop() else {
+                return Ok(files);
+            };
+            flags[frame.edge] = true;
+            files.extend_from_slice(graph.validations(EdgeNo(frame.edge)))?;
+            place = frame.at + 1;
+            continue;
+        };
+        match undone(&flags, maker) {
+            Some(edge) => {
+                path.push(Frame { edge, at: place })?;
+                place = 0;
+            }
+            None => place += 1,
+        }
+    }
+}
+
+// The maker of a file, if it has one that is not done.
+fn undone(flags: &[bool], maker: Option<usize>) -> Option<usize>
+    requires { ForSome maker (λ e. e < length flags.now) }
+    ensures left { IfSome result (λ e.
+        (maker ≡ Some e) × (slice_index_or flags.now e false ≡ false)) }
+    ensures done { IfNone result (ForSome maker (λ e. slice_index_or flags.now e false ≡ true)) }
+{
+    let edge = maker?;
+    if flags[edge] {
+        return None;
+    }
+    Some(edge)
+}
 
 /// Each round of validations appends to the list of the one before, and none does after as many
 /// rounds as there are edges. The edges that the grown targets reach are the least set that has the

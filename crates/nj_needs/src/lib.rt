@@ -11,7 +11,7 @@ mod returned;
 mod saved;
 mod walk;
 
-pub use growing::growing_law;
+pub use growing::{grow_targets, growing_law};
 pub use laws::{order_law, page_law, place_law, unfolding_law};
 pub use needs::Needs;
 pub use nj_marks::{Mark, MarkFault};

@@ -107,7 +107,7 @@ impl<'g> Walk<'g> {
 }
 
 // The last open edge.
-fn top_edge(path: &[Frame]) -> Option<usize>
+pub(crate) fn top_edge(path: &[Frame]) -> Option<usize>
     ensures { IsTop path.now result }
 {
     match path {

@@ -1,0 +1,161 @@
+use Rattle.std.proofs.Common.{◌≡◌, ℕ, Bool, true, false, Some, None, List, [], length, get_or, refl, sym, ap, subst, ◌∙◌, arith}
+use Rattle.std.specs.Prelude.{slice_get}
+use Rattle.std.proofs.lemmas.List.{append-nil, nil_from_length}
+use Rattle.nj_needs.specs.Standing.{top_of}
+use Rattle.nj_needs.specs.Tops.{IsTop}
+use Rattle.nj_needs.proofs.Bridges.{IsAcyclic-from}
+use Rattle.nj_needs.proofs.GrowingSteps.{stands, below, top-edge, len-flags, pass, pass-less, opened, open-less, ended, close-below, closed, close-less}
+use Rattle.nj_needs.proofs.growing.grow_targets.Goals as goal
+
+pub look-found-requires : goal.look-found-requires
+look-found-requires c =
+    let g = c.args.graph.now in
+    let ts = c.args.targets.now in
+    let acyclic = IsAcyclic-from g c.edge_count.ensures.acyclic in
+    let w = c.turns in
+    let top : IsTop w.path.items c.top_edge.result = subst (λ p. IsTop p c.top_edge.result) c.deref-in-turns.ensures.value c.top_edge.ensures in
+    rw c.new.ensures.graph (top-edge g ts acyclic w.files.items w.path.items w.place w.flags.items w.invariant c.top_edge.result top)
+
+pub returns-in_default-pop-clause-grown : goal.returns-in_default-pop-clause-grown
+returns-in_default-pop-clause-grown c =
+    let g = c.args.graph.now in
+    let ts = c.args.targets.now in
+    let acyclic = IsAcyclic-from g c.edge_count.ensures.acyclic in
+    let w = c.turns in
+    let graph : c.new.result.graph.now ≡ g = rw c.new.ensures.graph refl in
+    let list : c.new.result.targets.now ≡ w.files.items = rw c.new.ensures.targets c.deref.ensures.value in
+    let past : slice_get (top_of g w.files.items w.path.items) w.place ≡ None =
+    stands c.new.result.graph.now g c.new.result.targets.now w.files.items c.deref-in-turns.result.now w.path.items c.top_edge.result (None) w.place graph list
+    c.deref-in-turns.ensures.value c.top_edge.ensures c.in_default.ensures.found in
+    let same : w.path.items ≡ c.pop.new.self.items = c.in_default-pop.ensures.items ∙ append-nil c.pop.new.self.items in
+    let empty : w.path.items ≡ [] = same ∙ nil_from_length c.pop.new.self.items (omega (arith, c.in_default-pop.ensures.cases)) in
+    ended g ts acyclic w.files.items w.path.items w.place w.flags.items w.invariant empty past
+
+pub index_mut-requires : goal.index_mut-requires
+index_mut-requires c =
+    let g = c.args.graph.now in
+    let ts = c.args.targets.now in
+    let acyclic = IsAcyclic-from g c.edge_count.ensures.acyclic in
+    let w = c.turns in
+    let graph : c.new.result.graph.now ≡ g = rw c.new.ensures.graph refl in
+    let list : c.new.result.targets.now ≡ w.files.items = rw c.new.ensures.targets c.deref.ensures.value in
+    let past : slice_get (top_of g w.files.items w.path.items) w.place ≡ None =
+    stands c.new.result.graph.now g c.new.result.targets.now w.files.items c.deref-in-turns.result.now w.path.items c.top_edge.result (None) w.place graph list
+    c.deref-in-turns.ensures.value c.top_edge.ensures c.in_default.ensures.found in
+    omega (arith, close-below g ts acyclic w.files.items w.path.items w.place w.flags.items w.invariant c.in-Some-pop.frame c.pop.new.self.items c.in-Some-pop.ensures.items past, len-flags g ts acyclic w.files.items w.path.items w.place w.flags.items w.invariant)
+
+pub validations-requires : goal.validations-requires
+validations-requires c =
+    let g = c.args.graph.now in
+    let ts = c.args.targets.now in
+    let acyclic = IsAcyclic-from g c.edge_count.ensures.acyclic in
+    let w = c.turns in
+    let graph : c.new.result.graph.now ≡ g = rw c.new.ensures.graph refl in
+    let list : c.new.result.targets.now ≡ w.files.items = rw c.new.ensures.targets c.deref.ensures.value in
+    let past : slice_get (top_of g w.files.items w.path.items) w.place ≡ None =
+    stands c.new.result.graph.now g c.new.result.targets.now w.files.items c.deref-in-turns.result.now w.path.items c.top_edge.result (None) w.place graph list
+    c.deref-in-turns.ensures.value c.top_edge.ensures c.in_default.ensures.found in
+    close-below g ts acyclic w.files.items w.path.items w.place w.flags.items w.invariant c.in-Some-pop.frame c.pop.new.self.items c.in-Some-pop.ensures.items past
+
+pub turns-smaller-in_default : goal.turns-smaller-in_default
+turns-smaller-in_default c =
+    let g = c.args.graph.now in
+    let ts = c.args.targets.now in
+    let acyclic = IsAcyclic-from g c.edge_count.ensures.acyclic in
+    let w = c.turns in
+    let graph : c.new.result.graph.now ≡ g = rw c.new.ensures.graph refl in
+    let list : c.new.result.targets.now ≡ w.files.items = rw c.new.ensures.targets c.deref.ensures.value in
+    let past : slice_get (top_of g w.files.items w.path.items) w.place ≡ None =
+    stands c.new.result.graph.now g c.new.result.targets.now w.files.items c.deref-in-turns.result.now w.path.items c.top_edge.result (None) w.place graph list
+    c.deref-in-turns.ensures.value c.top_edge.ensures c.in_default.ensures.found in
+    close-less g ts acyclic w.files.items w.path.items w.place w.flags.items w.invariant c.in-Some-pop.frame c.pop.new.self.items c.in-Some-pop.ensures.items past
+
+pub turns-preserved-in_default : goal.turns-preserved-in_default
+turns-preserved-in_default c =
+    let g = c.args.graph.now in
+    let ts = c.args.targets.now in
+    let acyclic = IsAcyclic-from g c.edge_count.ensures.acyclic in
+    let w = c.turns in
+    let graph : c.new.result.graph.now ≡ g = rw c.new.ensures.graph refl in
+    let list : c.new.result.targets.now ≡ w.files.items = rw c.new.ensures.targets c.deref.ensures.value in
+    let past : slice_get (top_of g w.files.items w.path.items) w.place ≡ None =
+    stands c.new.result.graph.now g c.new.result.targets.now w.files.items c.deref-in-turns.result.now w.path.items c.top_edge.result (None) w.place graph list
+    c.deref-in-turns.ensures.value c.top_edge.ensures c.in_default.ensures.found in
+    rw c.in_ok-extend_from_slice.ensures.items (closed g ts acyclic w.files.items w.path.items w.place w.flags.items w.invariant c.in-Some-pop.frame c.pop.new.self.items c.in-Some-pop.ensures.items past c.validations.result.now c.validations.ensures)
+
+pub undone-requires : goal.undone-requires
+undone-requires c =
+    let g = c.args.graph.now in
+    let ts = c.args.targets.now in
+    let acyclic = IsAcyclic-from g c.edge_count.ensures.acyclic in
+    let w = c.turns in
+    let graph : c.new.result.graph.now ≡ g = rw c.new.ensures.graph refl in
+    let list : c.new.result.targets.now ≡ w.files.items = rw c.new.ensures.targets c.deref.ensures.value in
+    let at : slice_get (top_of g w.files.items w.path.items) w.place ≡ Some c.in-Some.maker =
+    stands c.new.result.graph.now g c.new.result.targets.now w.files.items c.deref-in-turns.result.now w.path.items c.top_edge.result (Some c.in-Some.maker) w.place graph list
+    c.deref-in-turns.ensures.value c.top_edge.ensures c.in-Some.ensures.found in
+    λ x is.
+    let low = below g ts acyclic w.files.items w.path.items w.place w.flags.items w.invariant x (at ∙ ap Some is) in
+    omega (arith, low, len-flags g ts acyclic w.files.items w.path.items w.place w.flags.items w.invariant, ap length c.deref-in-turns-2.ensures.value)
+
+pub turns-smaller-in-Some-undone : goal.turns-smaller-in-Some-undone
+turns-smaller-in-Some-undone c =
+    let g = c.args.graph.now in
+    let ts = c.args.targets.now in
+    let acyclic = IsAcyclic-from g c.edge_count.ensures.acyclic in
+    let w = c.turns in
+    let graph : c.new.result.graph.now ≡ g = rw c.new.ensures.graph refl in
+    let list : c.new.result.targets.now ≡ w.files.items = rw c.new.ensures.targets c.deref.ensures.value in
+    let at : slice_get (top_of g w.files.items w.path.items) w.place ≡ Some c.in-Some.maker =
+    stands c.new.result.graph.now g c.new.result.targets.now w.files.items c.deref-in-turns.result.now w.path.items c.top_edge.result (Some c.in-Some.maker) w.place graph list
+    c.deref-in-turns.ensures.value c.top_edge.ensures c.in-Some.ensures.found in
+    let e = c.in-Some-undone.edge in
+    let left = c.in-Some-undone.ensures.left in
+    let fresh : get_or w.flags.items e false ≡ false = ap (λ (fs : List Bool). get_or fs e false) (sym c.deref-in-turns-2.ensures.value) ∙ left.1 in
+    open-less g ts acyclic w.files.items w.path.items w.place w.flags.items w.invariant _ c.push.new.self.items c.in_ok-push-in-Some-undone.ensures.items refl (at ∙ ap Some left.0) fresh
+
+pub turns-preserved-in-Some-undone : goal.turns-preserved-in-Some-undone
+turns-preserved-in-Some-undone c =
+    let g = c.args.graph.now in
+    let ts = c.args.targets.now in
+    let acyclic = IsAcyclic-from g c.edge_count.ensures.acyclic in
+    let w = c.turns in
+    let graph : c.new.result.graph.now ≡ g = rw c.new.ensures.graph refl in
+    let list : c.new.result.targets.now ≡ w.files.items = rw c.new.ensures.targets c.deref.ensures.value in
+    let at : slice_get (top_of g w.files.items w.path.items) w.place ≡ Some c.in-Some.maker =
+    stands c.new.result.graph.now g c.new.result.targets.now w.files.items c.deref-in-turns.result.now w.path.items c.top_edge.result (Some c.in-Some.maker) w.place graph list
+    c.deref-in-turns.ensures.value c.top_edge.ensures c.in-Some.ensures.found in
+    let e = c.in-Some-undone.edge in
+    let left = c.in-Some-undone.ensures.left in
+    let fresh : get_or w.flags.items e false ≡ false = ap (λ (fs : List Bool). get_or fs e false) (sym c.deref-in-turns-2.ensures.value) ∙ left.1 in
+    opened g ts acyclic w.files.items w.path.items w.place w.flags.items w.invariant _ c.push.new.self.items c.in_ok-push-in-Some-undone.ensures.items refl (at ∙ ap Some left.0) fresh
+
+pub turns-smaller : goal.turns-smaller
+turns-smaller c =
+    let g = c.args.graph.now in
+    let ts = c.args.targets.now in
+    let acyclic = IsAcyclic-from g c.edge_count.ensures.acyclic in
+    let w = c.turns in
+    let graph : c.new.result.graph.now ≡ g = rw c.new.ensures.graph refl in
+    let list : c.new.result.targets.now ≡ w.files.items = rw c.new.ensures.targets c.deref.ensures.value in
+    let at : slice_get (top_of g w.files.items w.path.items) w.place ≡ Some c.in-Some.maker =
+    stands c.new.result.graph.now g c.new.result.targets.now w.files.items c.deref-in-turns.result.now w.path.items c.top_edge.result (Some c.in-Some.maker) w.place graph list
+    c.deref-in-turns.ensures.value c.top_edge.ensures c.in-Some.ensures.found in
+    let flagged : (m : ℕ) → c.in-Some.maker ≡ Some m → get_or w.flags.items m false ≡ true =
+    λ m is. ap (λ (fs : List Bool). get_or fs m false) (sym c.deref-in-turns-2.ensures.value) ∙ c.in-None.ensures.done m is in
+    pass-less g ts acyclic w.files.items w.path.items w.place w.flags.items w.invariant c.in-Some.maker at flagged
+
+pub turns-preserved : goal.turns-preserved
+turns-preserved c =
+    let g = c.args.graph.now in
+    let ts = c.args.targets.now in
+    let acyclic = IsAcyclic-from g c.edge_count.ensures.acyclic in
+    let w = c.turns in
+    let graph : c.new.result.graph.now ≡ g = rw c.new.ensures.graph refl in
+    let list : c.new.result.targets.now ≡ w.files.items = rw c.new.ensures.targets c.deref.ensures.value in
+    let at : slice_get (top_of g w.files.items w.path.items) w.place ≡ Some c.in-Some.maker =
+    stands c.new.result.graph.now g c.new.result.targets.now w.files.items c.deref-in-turns.result.now w.path.items c.top_edge.result (Some c.in-Some.maker) w.place graph list
+    c.deref-in-turns.ensures.value c.top_edge.ensures c.in-Some.ensures.found in
+    let flagged : (m : ℕ) → c.in-Some.maker ≡ Some m → get_or w.flags.items m false ≡ true =
+    λ m is. ap (λ (fs : List Bool). get_or fs m false) (sym c.deref-in-turns-2.ensures.value) ∙ c.in-None.ensures.done m is in
+    pass g ts acyclic w.files.items w.path.items w.place w.flags.items w.invariant c.in-Some.maker at flagged
