@@ -8,7 +8,7 @@ ghost use Rattle.nj_edges.specs.EdgesHeld.{no_files};
 
 use crate::graphs::{end_edge, graph_of};
 use nj_edges::{EdgeGraph, Edges, FileNo, Finished, HashKeys};
-use nj_needs::{Mark, MarkFault, Needs};
+use nj_needs::{grow_targets, Mark, MarkFault, Needs};
 use std::alloc::{AllocError, Global};
 use std::fmt::Write;
 use std::process::Abort;
@@ -291,4 +291,61 @@ fn visits_a_chain(
 fn visits_each_edge_once(rt: HostRuntime) -> Result<(), Fail> {
     visits_a_chain(&rt, 31, 2, 92)?;
     visits_a_chain(&rt, 100_000, 1, 200_000)
+}
+
+/// The files at these paths, as targets.
+fn targets_at(alloc: Global, graph: &EdgeGraph, paths: &str) -> Result<Vec<FileNo>, AllocError>
+    ensures { IfOk result (λ files. All (λ f. f.0 < length graph.now.files) files.items) }
+{
+    let mut files = Vec::new(alloc);
+    'paths: for path in paths.split(' ') {
+        if let Some(file) = graph.file_named(path.as_bytes()) {
+            files.push(file)?;
+        }
+    }
+    Ok(files)
+}
+
+/// The paths of the targets and of what is to be validated when they are built, each with a blank
+/// after it.
+fn grown(alloc: Global, graph: &EdgeGraph, paths: &str) -> Result<Vec<u8>, AllocError> {
+    let targets = targets_at(alloc, graph, paths)?;
+    let files = grow_targets(alloc, graph, &targets)?;
+    let mut text = Vec::new(alloc);
+    'files: for file in &files {
+        text.extend_from_slice(graph.path(*file))?;
+        text.push(b' ')?;
+    }
+    Ok(text)
+}
+
+/// In the graph of these edges, the grown targets are what is beside each list of targets.
+fn grows(
+    rt: &(impl Abort + AllocGlobal),
+    edges: &str,
+    rows: &[(&str, &str)],
+) -> Result<(), Fail> {
+    let graph = graph_of(rt.alloc(), edges)?;
+    'rows: for (targets, want) in rows {
+        let found = grown(rt.alloc(), &graph, targets)?;
+        assert_eq!(rt; found.as_slice(), want.as_bytes());
+    }
+    Ok(())
+}
+
+#[test]
+fn grows_targets_by_validations(rt: HostRuntime) -> Result<(), Fail> {
+    grows(&rt, "t: |@ v, v: t", &[("t", "t v "), ("v", "v v ")])?;
+    grows(&rt, "t: |@ v, v: |@ t", &[("t", "t v t ")])?;
+    grows(&rt, "a: |@ v, b: |@ v, v:", &[("a b", "a b v v "), ("a a", "a a v ")])
+}
+
+#[test]
+fn grows_targets_by_validations_of_phony_edges(rt: HostRuntime) -> Result<(), Fail> {
+    grows(&rt, "t: p, p: phony |@ s v, v:", &[("t", "t s v "), ("s", "s ")])
+}
+
+#[test]
+fn grows_targets_by_a_chain_of_validations(rt: HostRuntime) -> Result<(), Fail> {
+    grows(&rt, "d:, c: |@ d, b: |@ c, a: |@ b", &[("a", "a b c d ")])
 }
