@@ -209,10 +209,12 @@ fn faults_hold_what_they_quote(rt: HostRuntime) -> Result<(), Fail> {
     assert!(rt; matches!(&no_file, Err(UsageFault::BadWords(tool)) if quotes(tool, "query")));
     let words = words_of(rt.alloc(), &["-t", "rules", "-x"])?;
     let foreign = read_words(rt.alloc(), &words);
-    assert!(rt; matches!(
+    assert!(rt;
+        matches!(
         &foreign,
         Err(UsageFault::ForeignOption { option: ToolOption::Expand, tool }) if quotes(tool, "rules")
-    ));
+    )
+    );
     Ok(())
 }
 

@@ -8,7 +8,7 @@ ghost use Rattle.nj_edges.specs.EdgesHeld.{no_files};
 
 use crate::graphs::{end_edge, graph_of};
 use nj_edges::{EdgeGraph, Edges, FileNo, Finished, HashKeys};
-use nj_needs::{grow_targets, Mark, MarkFault, Needs};
+use nj_needs::{Mark, MarkFault, Needs, grow_targets};
 use std::alloc::{AllocError, Global};
 use std::fmt::Write;
 use std::process::Abort;
@@ -320,11 +320,7 @@ fn grown(alloc: Global, graph: &EdgeGraph, paths: &str) -> Result<Vec<u8>, Alloc
 }
 
 /// In the graph of these edges, the grown targets are what is beside each list of targets.
-fn grows(
-    rt: &(impl Abort + AllocGlobal),
-    edges: &str,
-    rows: &[(&str, &str)],
-) -> Result<(), Fail> {
+fn grows(rt: &(impl Abort + AllocGlobal), edges: &str, rows: &[(&str, &str)]) -> Result<(), Fail> {
     let graph = graph_of(rt.alloc(), edges)?;
     'rows: for (targets, want) in rows {
         let found = grown(rt.alloc(), &graph, targets)?;
@@ -337,12 +333,20 @@ fn grows(
 fn grows_targets_by_validations(rt: HostRuntime) -> Result<(), Fail> {
     grows(&rt, "t: |@ v, v: t", &[("t", "t v "), ("v", "v v ")])?;
     grows(&rt, "t: |@ v, v: |@ t", &[("t", "t v t ")])?;
-    grows(&rt, "a: |@ v, b: |@ v, v:", &[("a b", "a b v v "), ("a a", "a a v ")])
+    grows(
+        &rt,
+        "a: |@ v, b: |@ v, v:",
+        &[("a b", "a b v v "), ("a a", "a a v ")],
+    )
 }
 
 #[test]
 fn grows_targets_by_validations_of_phony_edges(rt: HostRuntime) -> Result<(), Fail> {
-    grows(&rt, "t: p, p: phony |@ s v, v:", &[("t", "t s v "), ("s", "s ")])
+    grows(
+        &rt,
+        "t: p, p: phony |@ s v, v:",
+        &[("t", "t s v "), ("s", "s ")],
+    )
 }
 
 #[test]
