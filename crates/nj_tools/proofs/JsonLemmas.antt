@@ -1,18 +1,17 @@
 -- What `compdb` writes, read by the grammar of JSON.
-use Rattle.std.proofs.Common.{◌≡◌, ℕ, suc, ◌≤◌, max, Some, option_and_then, List, [], ◌∷◌, ◌++◌, refl, sym, ap, ap₂, ◌∙◌, append_assoc, append-nil, codes, flat_map, map, arith}
+use Rattle.std.proofs.Common.{◌≡◌, ℕ, ◌≤◌, Some, option_and_then, List, [], ◌∷◌, ◌++◌, refl, sym, ap, ap₂, ◌∙◌, append_assoc, append-nil, codes, flat_map, map, arith}
 use Rattle.std.specs.Prelude.{take_while}
 use Rattle.json.specs.Json.{Json, array, if_last, max_depth, value, document}
 use Rattle.json.specs.Lex.{Lexeme, token, comma, colon, string_token, lex, between, in_string, fresh, after_value, punctuate, tokens}
 use Rattle.json.specs.Print.{escape}
 use Rattle.json.specs.Text.{content, plain}
-use Rattle.json.specs.Token.{Token, begin_object, end_object, begin_array, end_array, string}
+use Rattle.json.specs.Token.{begin_object, end_object, begin_array, end_array, string}
 use Rattle.json.specs.Tree.{json_tokens, items_tokens, items_depth}
 use Rattle.json.proofs.OnLiterals.{json_on_literals}
 use Rattle.json.proofs.Printed.Strings.{content-escape, lex-escape}
 use Rattle.json.proofs.Printed.Trees.{value-json_tokens}
-use Rattle.nj_scope.specs.ReadingList.{Entry}
 use Rattle.nj_tools.specs.Lines.{line}
-use Rattle.nj_tools.specs.Compdb.{Compilation, is_text, json_string, object_text, objects_text, listed_edges, compilation_of, held_before, unheld_edge, end_text, compdb_text}
+use Rattle.nj_tools.specs.Compdb.{Compilation, is_text, json_string, object_text, objects_text, listed_edges, compilation_of, held_before, end_text, compdb_text}
 use Rattle.nj_tools.specs.CompdbJson.{object_of, objects_of, CompdbIsJson}
 use Rattle.nj_tools.proofs.CompdbLemmas.{held-front}
 
