@@ -31,4 +31,5 @@ pub mod Stated
 pub mod TargetLaws
 pub mod TargetRows
 pub mod Tables
+pub mod Told
 pub mod Turns
