@@ -10,10 +10,11 @@ use Rattle.nj_manifest.proofs.StatementRows.{at}
 use Rattle.nj_scope.specs.ReadingList.{Entry}
 use Rattle.nj_build.specs.EdgeList.{defaults_read}
 use Rattle.nj_graph.proofs.ReadingRows.{main_file, on_files, read_of}
+use Rattle.nj_marks.specs.Marks.{mark_text, said_mark, ReadsBack}
 use Rattle.nj_request.specs.Requests.{ActionText, commands, single_commands}
 use Rattle.nj_cli.specs.declared.status.Status.TheVariants.{Done, Fault, Stopped}
 use Rattle.nj_cli.specs.Answers.{output_of, Ending, finished, stopped, faulty, EndsWith, error_of, status_of}
-use Rattle.nj_cli.specs.Headline.{ArePageTexts}
+use Rattle.nj_cli.specs.Headline.{IsRun, ArePageTexts}
 use Rattle.nj_cli.specs.Headline.ArePageTexts.{no_runs, finishes, stops}
 
 -- ---- the file
@@ -101,6 +102,20 @@ wordless_ends : ends_so (commands [] None []) finished
 unfolding on_entries
 wordless_ends = refl
 
+-- ---- marks read back
+
+reads_start : ReadsBack []
+unfolding digits said_mark
+reads_start = refl
+
+reads_0_0 : ReadsBack (0 ∷ 0 ∷ [])
+unfolding digits said_mark
+reads_0_0 = refl
+
+reads_0_1 : ReadsBack (0 ∷ 1 ∷ [])
+unfolding digits said_mark
+reads_0_1 = refl
+
 -- ---- at most so many
 
 two : outputs (commands d (Some 2) []) (codes "mk a\nmk b1\n")
@@ -109,7 +124,7 @@ two = refl
 
 two_stops : ends_so (commands d (Some 2) []) (stopped (0 ∷ 0 ∷ []))
 unfolding on_entries
-two_stops = (more, (refl, (0 ∷ [], refl, refl)))
+two_stops = (more, (refl, (0 ∷ [], refl, refl)), reads_0_0)
 
 four : outputs (commands d (Some 4) []) (codes "mk a\nmk b1\nmk b2\nmk d\n")
 unfolding on_entries
@@ -125,7 +140,7 @@ none = refl
 
 none_stops : ends_so (commands d (Some 0) []) (stopped [])
 unfolding on_entries
-none_stops = (more, refl)
+none_stops = (more, refl, reads_start)
 
 -- ---- from a mark
 
@@ -152,7 +167,7 @@ from_0_1_0 = refl
 
 from_0_1_0_stops : ends_so (commands d (Some 1) (0 ∷ 1 ∷ 0 ∷ [])) (stopped (0 ∷ 1 ∷ []))
 unfolding on_entries
-from_0_1_0_stops = (more, (refl, (0 ∷ 1 ∷ 0 ∷ [], refl, refl)))
+from_0_1_0_stops = (more, (refl, (0 ∷ 1 ∷ 0 ∷ [], refl, refl)), reads_0_1)
 
 from_0_2 : outputs (commands d None (0 ∷ 2 ∷ [])) []
 unfolding on_entries
@@ -192,12 +207,28 @@ five_from_0_0_ends : ends_so (commands d (Some 5) (0 ∷ 0 ∷ [])) finished
 unfolding on_entries
 five_from_0_0_ends = refl
 
-two_and_five : ArePageTexts entries d [] (2 ∷ 5 ∷ []) (codes "mk a\nmk b1\n" ∷ codes "mk b2\nmk d\n" ∷ []) []
-two_and_five = stops (0 ∷ 0 ∷ []) two_stops two (finishes five_from_0_0_ends five_from_0_0)
+-- the first run; the second, and one without a limit, from the text that the first wrote after `mark `
+from_start : IsRun d (Some 2) None (commands d (Some 2) [])
+from_start = ([], refl, refl)
+
+five_from_text : IsRun d (Some 5) (Some (mark_text (0 ∷ 0 ∷ []))) (commands d (Some 5) (0 ∷ 0 ∷ []))
+unfolding digits said_mark
+five_from_text = (0 ∷ 0 ∷ [], refl, refl)
+
+rest_from_text : IsRun d None (Some (mark_text (0 ∷ 0 ∷ []))) (commands d None (0 ∷ 0 ∷ []))
+unfolding digits said_mark
+rest_from_text = (0 ∷ 0 ∷ [], refl, refl)
+
+two_and_five : ArePageTexts entries d None (2 ∷ 5 ∷ []) (codes "mk a\nmk b1\n" ∷ codes "mk b2\nmk d\n" ∷ []) []
+two_and_five =
+    stops (commands d (Some 2) []) (0 ∷ 0 ∷ []) from_start two_stops two
+    (finishes (commands d (Some 5) (0 ∷ 0 ∷ [])) five_from_text five_from_0_0_ends five_from_0_0)
 
 -- and one run of two edges, before all that is left
-two_and_rest : ArePageTexts entries d [] (2 ∷ []) (codes "mk a\nmk b1\n" ∷ []) (codes "mk b2\nmk d\n")
-two_and_rest = stops (0 ∷ 0 ∷ []) two_stops two (no_runs from_0_0)
+two_and_rest : ArePageTexts entries d None (2 ∷ []) (codes "mk a\nmk b1\n" ∷ []) (codes "mk b2\nmk d\n")
+two_and_rest =
+    stops (commands d (Some 2) []) (0 ∷ 0 ∷ []) from_start two_stops two
+    (no_runs (commands d None (0 ∷ 0 ∷ [])) rest_from_text from_0_0)
 
 -- ---- what is told
 
