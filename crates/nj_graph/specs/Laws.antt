@@ -142,7 +142,8 @@ pub data Means (edges : List EdgePaths) (path : List ℕ) : Result (List ℕ) Gr
   no_file : HasNoCaret path → ¬ IsNamedBy edges path → Means edges path (Err (unplaced (UnknownTarget path)))
   -- with a `^` after its path, what is made of such a file
   made : {file output : List ℕ} → path ≡ file ++ codes "^" → IsMadeOf edges file output → Means edges path (Ok output)
-  made_of_no_file : {file : List ℕ} → path ≡ file ++ codes "^" → ¬ IsNamedBy edges file → Means edges path (Err (unplaced (UnknownTarget file)))
+  made_of_no_file : {file : List ℕ} → path ≡ file ++ codes "^" → ¬ IsNamedBy edges file
+      → Means edges path (Err (unplaced (UnknownTarget file)))
   not_made : {file : List ℕ} → path ≡ file ++ codes "^" → IsNamedBy edges file → ((output : List ℕ) → ¬ IsMadeOf edges file output)
       → Means edges path (Err (unplaced (NoOutEdge file)))
 
