@@ -7,7 +7,7 @@
 
 ghost use Rattle.std.specs.Prelude.{◌≡◌, not, map};
 ghost use Rattle.std.specs.Simd.Lanes.{mask_l};
-ghost use Rattle.nj_text.specs.Runs.{in_run};
+ghost use Rattle.nj_text.specs.Runs.{in_run, lane_run};
 
 use crate::runs::Run;
 use std::simd::prelude::*;
@@ -15,38 +15,45 @@ use std::simd::prelude::*;
 /// How many bytes a vector has.
 pub const LANES: usize = 16;
 
-/// A bit for each lane, set where the byte is not one of the run.
-#[inline(always)]
-pub fn stops(run: Run, lanes: u8x16) -> u64
-    ensures { result ≡ mask_l (map (λ b. not (in_run run b)) lanes) }
-{
-    match run {
-        Run::Spaces => space_stops(lanes),
-        Run::Name => name_stops(lanes),
-        Run::Identifier => identifier_stops(lanes),
-        Run::Word => word_stops(lanes),
-        Run::Value => value_stops(lanes),
-        Run::Comment => comment_stops(lanes),
+/// A run that is tested sixteen bytes at a time.
+#[derive(Clone, Copy)]
+pub enum LaneRun {
+    /// The bytes of an identifier, and of a name in braces.
+    Identifier,
+    /// The ordinary bytes of a word.
+    Word,
+    /// The ordinary bytes of a value.
+    Value,
+    /// All up to the end of a physical line.
+    Comment,
+}
+
+impl LaneRun {
+    /// Which of the runs it is.
+    #[inline(always)]
+    pub fn run(self) -> Run
+        ensures { result ≡ lane_run self }
+    {
+        match self {
+            LaneRun::Identifier => Run::Identifier,
+            LaneRun::Word => Run::Word,
+            LaneRun::Value => Run::Value,
+            LaneRun::Comment => Run::Comment,
+        }
     }
 }
 
+/// A bit for each lane, set where the byte is not one of the run.
 #[inline(always)]
-fn space_stops(lanes: u8x16) -> u64
-    ensures { result ≡ mask_l (map (λ b. not (in_run Run.Spaces b)) lanes) }
+pub fn stops(run: LaneRun, lanes: u8x16) -> u64
+    ensures { result ≡ mask_l (map (λ b. not (in_run (lane_run run) b)) lanes) }
 {
-    lanes.simd_ne(u8x16::splat(b' ')).to_bitmask()
-}
-
-#[inline(always)]
-fn name_stops(lanes: u8x16) -> u64
-    ensures { result ≡ mask_l (map (λ b. not (in_run Run.Name b)) lanes) }
-{
-    let letters_from_a = (lanes | u8x16::splat(0x20)) - u8x16::splat(b'a');
-    let digits = lanes - u8x16::splat(b'0');
-    (letters_from_a.simd_ge(u8x16::splat(26))
-        & digits.simd_ge(u8x16::splat(10))
-        & lanes.simd_ne(u8x16::splat(b'_'))
-        & lanes.simd_ne(u8x16::splat(b'-'))).to_bitmask()
+    match run {
+        LaneRun::Identifier => identifier_stops(lanes),
+        LaneRun::Word => word_stops(lanes),
+        LaneRun::Value => value_stops(lanes),
+        LaneRun::Comment => comment_stops(lanes),
+    }
 }
 
 #[inline(always)]

@@ -3,9 +3,9 @@
 ghost use Rattle.std.specs.Prelude.{◌≡◌, ◌≤◌, [], ◌∷◌, ◌++◌, length, MatchOption};
 ghost use Rattle.std.specs.List.{prefix_len, take_while};
 ghost use Rattle.nj_text.specs.Bytes.{drop_while};
-ghost use Rattle.nj_text.specs.Runs.{in_run};
+ghost use Rattle.nj_text.specs.Runs.{in_run, lane_run};
 
-use crate::lanes::{LANES, stops};
+use crate::lanes::{LANES, LaneRun, stops};
 use std::simd::prelude::*;
 
 /// The kinds of bytes that are skipped as one run.
@@ -73,8 +73,8 @@ fn length_by_bytes(run: Run, bytes: &[u8]) -> usize
 
 /// The length of the run at the front, tested sixteen bytes at a time.
 #[inline(always)]
-fn length_by_lanes(run: Run, bytes: &[u8]) -> usize
-    ensures length { result ≡ prefix_len (in_run run) bytes.now }
+fn length_by_lanes(run: LaneRun, bytes: &[u8]) -> usize
+    ensures length { result ≡ prefix_len (in_run (lane_run run)) bytes.now }
     ensures within { result ≤ length bytes.now }
 {
     let mut passed = 0;
@@ -85,7 +85,7 @@ fn length_by_lanes(run: Run, bytes: &[u8]) -> usize
         }
         passed += LANES;
     }
-    passed + length_by_bytes(run, &bytes[passed..])
+    passed + length_by_bytes(run.run(), &bytes[passed..])
 }
 
 /// The length of the run at the front. Runs of spaces and names after a `$` are short: testing
@@ -98,10 +98,10 @@ pub fn run_length(run: Run, bytes: &[u8]) -> usize
     match run {
         Run::Spaces => length_by_bytes(run, bytes),
         Run::Name => length_by_bytes(run, bytes),
-        Run::Identifier => length_by_lanes(run, bytes),
-        Run::Word => length_by_lanes(run, bytes),
-        Run::Value => length_by_lanes(run, bytes),
-        Run::Comment => length_by_lanes(run, bytes),
+        Run::Identifier => length_by_lanes(LaneRun::Identifier, bytes),
+        Run::Word => length_by_lanes(LaneRun::Word, bytes),
+        Run::Value => length_by_lanes(LaneRun::Value, bytes),
+        Run::Comment => length_by_lanes(LaneRun::Comment, bytes),
     }
 }
 
