@@ -19,4 +19,3 @@ abbrev pub lane_run : LaneRun → Run
 lane_run lane.Identifier = run.Identifier
 lane_run lane.Word = run.Word
 lane_run lane.Value = run.Value
-lane_run lane.Comment = run.Comment

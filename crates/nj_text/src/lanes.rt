@@ -24,8 +24,6 @@ pub enum LaneRun {
     Word,
     /// The ordinary bytes of a value.
     Value,
-    /// All up to the end of a physical line.
-    Comment,
 }
 
 impl LaneRun {
@@ -38,7 +36,6 @@ impl LaneRun {
             LaneRun::Identifier => Run::Identifier,
             LaneRun::Word => Run::Word,
             LaneRun::Value => Run::Value,
-            LaneRun::Comment => Run::Comment,
         }
     }
 }
@@ -52,7 +49,6 @@ pub fn stops(run: LaneRun, lanes: u8x16) -> u64
         LaneRun::Identifier => identifier_stops(lanes),
         LaneRun::Word => word_stops(lanes),
         LaneRun::Value => value_stops(lanes),
-        LaneRun::Comment => comment_stops(lanes),
     }
 }
 
@@ -90,11 +86,4 @@ fn value_stops(lanes: u8x16) -> u64
         | lanes.simd_eq(u8x16::splat(b'\n'))
         | lanes.simd_eq(u8x16::splat(b'\r'))
         | lanes.simd_eq(u8x16::splat(0))).to_bitmask()
-}
-
-#[inline(always)]
-fn comment_stops(lanes: u8x16) -> u64
-    ensures { result ≡ mask_l (map (λ b. not (in_run Run.Comment b)) lanes) }
-{
-    lanes.simd_eq(u8x16::splat(b'\n')).to_bitmask()
 }

@@ -6,6 +6,7 @@ ghost use Rattle.nj_text.specs.Bytes.{drop_while};
 ghost use Rattle.nj_text.specs.Runs.{in_run, lane_run};
 
 use crate::lanes::{LANES, LaneRun, stops};
+use memchr::memchr;
 use std::simd::prelude::*;
 
 /// The kinds of bytes that are skipped as one run.
@@ -88,8 +89,22 @@ fn length_by_lanes(run: LaneRun, bytes: &[u8]) -> usize
     passed + length_by_bytes(run.run(), &bytes[passed..])
 }
 
+/// The length of the comment at the front, which ends at the first line feed or with the text. Not
+/// inlined: the search is long, and [`Cursor::run`] is to stay short enough to be inlined itself.
+///
+/// [`Cursor::run`]: crate::cursor::Cursor::run
+#[inline(never)]
+#[tactic(auto, using(crate::proofs::ByteSearches::up_to_line_feed))]
+fn length_of_comment(bytes: &[u8]) -> usize
+    ensures length { result ≡ prefix_len (in_run Run.Comment) bytes.now }
+    ensures within { result ≤ length bytes.now }
+{
+    memchr(b'\n', bytes).unwrap_or(bytes.len())
+}
+
 /// The length of the run at the front. Runs of spaces and names after a `$` are short: testing
-/// sixteen bytes at once gains nothing.
+/// sixteen bytes at once gains nothing. One byte alone ends a comment; those that end the others
+/// are more than `memchr` looks for at once.
 #[inline(always)]
 pub fn run_length(run: Run, bytes: &[u8]) -> usize
     ensures length { result ≡ prefix_len (in_run run) bytes.now }
@@ -101,7 +116,7 @@ pub fn run_length(run: Run, bytes: &[u8]) -> usize
         Run::Identifier => length_by_lanes(LaneRun::Identifier, bytes),
         Run::Word => length_by_lanes(LaneRun::Word, bytes),
         Run::Value => length_by_lanes(LaneRun::Value, bytes),
-        Run::Comment => length_by_lanes(LaneRun::Comment, bytes),
+        Run::Comment => length_of_comment(bytes),
     }
 }
 
