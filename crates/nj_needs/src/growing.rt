@@ -1,7 +1,8 @@
 //! Targets together with what is to be validated when they are built.
 
-ghost use Rattle.std.specs.Prelude.{◌≡◌, ◌<◌, true, false, Some, length, map, All, IfOk, IfSome, IfNone, slice_index_or};
+ghost use Rattle.std.specs.Prelude.{◌≡◌, ◌<◌, ◌++◌, List, true, false, Some, length, map, All, IfOk, OnOk, IfSome, IfNone, slice_index_or};
 ghost use Rattle.std.specs.Option.{ForSome};
+ghost use Rattle.nj_edges.specs.Edges.{edge_at};
 ghost use Rattle.nj_edges.specs.Files.{path_at, AreFiles};
 ghost use Rattle.nj_needs.specs.Growing.{grown_targets, RoundsAppend, GrownTargetsStay, GrownTargetsReachTheFollowed};
 
@@ -38,7 +39,7 @@ pub fn grow_targets(
                 return Ok(files);
             };
             flags[frame.edge] = true;
-            files.extend_from_slice(graph.validations(EdgeNo(frame.edge)))?;
+            add_validations(graph, EdgeNo(frame.edge), &mut files)?;
             place = frame.at + 1;
             continue;
         };
@@ -50,6 +51,19 @@ pub fn grow_targets(
             None => place += 1,
         }
     }
+}
+
+// Appends the validations of an edge, phony or not.
+fn add_validations(
+    graph: &EdgeGraph,
+    edge: EdgeNo,
+    files: &mut Vec<FileNo>,
+) -> Result<(), AllocError>
+    requires { edge.0 < length graph.now.edges }
+    ensures { OnOk result ((added : List FileNo) × (files.new.items ≡ files.old.items ++ added)
+        × AreFiles graph.now.files added (edge_at graph.now.edges edge.0).validations) }
+{
+    files.extend_from_slice(graph.validations(edge))
 }
 
 // The maker of a file, if it has one that is not done.

@@ -44,8 +44,8 @@ index_mut-requires c =
     c.deref-in-turns.ensures.value c.top_edge.ensures c.in_default.ensures.found in
     omega (arith, close-below g ts acyclic w.files.items w.path.items w.place w.flags.items w.invariant c.in-Some-pop.frame c.pop.new.self.items c.in-Some-pop.ensures.items past, len-flags g ts acyclic w.files.items w.path.items w.place w.flags.items w.invariant)
 
-pub validations-requires : goal.validations-requires
-validations-requires c =
+pub add_validations-requires : goal.add_validations-requires
+add_validations-requires c =
     let g = c.args.graph.now in
     let ts = c.args.targets.now in
     let acyclic = IsAcyclic-from g c.edge_count.ensures.acyclic in
@@ -81,7 +81,7 @@ turns-preserved-in_default c =
     let past : slice_get (top_of g w.files.items w.path.items) w.place ≡ None =
     stands c.new.result.graph.now g c.new.result.targets.now w.files.items c.deref-in-turns.result.now w.path.items c.top_edge.result (None) w.place graph list
     c.deref-in-turns.ensures.value c.top_edge.ensures c.in_default.ensures.found in
-    rw c.in_ok-extend_from_slice.ensures.items (closed g ts acyclic w.files.items w.path.items w.place w.flags.items w.invariant c.in-Some-pop.frame c.pop.new.self.items c.in-Some-pop.ensures.items past c.validations.result.now c.validations.ensures)
+    rw c.in_ok-add_validations.ensures.1 (closed g ts acyclic w.files.items w.path.items w.place w.flags.items w.invariant c.in-Some-pop.frame c.pop.new.self.items c.in-Some-pop.ensures.items past c.in_ok-add_validations.ensures.0 c.in_ok-add_validations.ensures.2)
 
 pub undone-requires : goal.undone-requires
 undone-requires c =
