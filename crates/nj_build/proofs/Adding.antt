@@ -6,8 +6,8 @@ use Rattle.nj_edges.specs.declared.edges.KindEnds.{KindEnds}
 use Rattle.nj_edges.specs.Edges.{EdgePaths}
 use Rattle.nj_edges.specs.EdgesHeld.{EdgeTable, OpenEdge, no_files, edge_read}
 use Rattle.nj_build.specs.EdgeList.{Values, paths_said, stated_paths, loses_own, edge_paths}
-use Rattle.nj_build.specs.Answers.{with_outputs, with_inputs, with_validations, AddsInputs, NamesFiles, AddsEdge}
-use Rattle.nj_build.proofs.Tables.{kept, prefix-trans, outputs-edges, outputs-open, outputs-files, inputs-edges, inputs-open, inputs-files, validations-edges, validations-open, validations-files, edge-is, edge-kept}
+use Rattle.nj_build.specs.Answers.{KeepsRead, with_outputs, with_inputs, AddsInputs, AddsEdge}
+use Rattle.nj_build.proofs.Tables.{kept, outputs-open, inputs-open, validations-open, edge-is, edge-kept}
 
 module _ (values : Values) (outputs : OutputsText) (inputs : InputsText) (is_phony loses : Bool) (t0 t1 t2 : EdgeTable) (ends : ℕ × ℕ)
     (none : t0.«open» ≡ no_files) (loses_is : loses ≡ loses_own (stated_paths values outputs inputs is_phony))
@@ -55,26 +55,9 @@ module _ (values : Values) (outputs : OutputsText) (inputs : InputsText) (is_pho
       ∙ ap (λ (o : OpenEdge). record o { validations = o.validations ++ v })
       (inputs-open loses adds.implicit (paths_said values inputs.order_only) ∙ ap (λ (o : OpenEdge). record o { inputs = o.inputs ++ kept loses o.outputs (paths_said values inputs.order_only) }) open-implicit)
 
-  same-edges : t2.edges ≡ t0.edges
-  same-edges =
-      ap (λ t. t.edges) adds.after_is ∙ validations-edges last v ∙ inputs-edges loses adds.implicit (paths_said values inputs.order_only)
-      ∙ ap (λ t. t.edges) adds.implicit_is ∙ inputs-edges loses adds.explicit (paths_said values inputs.implicit)
-      ∙ ap (λ t. t.edges) adds.explicit_is ∙ inputs-edges loses t1 (paths_said values inputs.explicit)
-      ∙ ap (λ t. t.edges) outputs_are ∙ outputs-edges (with_outputs t0 e) i ∙ outputs-edges t0 e
-
-  files-kept : IsPrefix t0.files t2.files
-  files-kept =
-      prefix-trans t0.files t1.files t2.files
-      (subst (λ t. IsPrefix t0.files t.files) (sym outputs_are) (prefix-trans t0.files (with_outputs t0 e).files (with_outputs (with_outputs t0 e) i).files (outputs-files t0 e) (outputs-files (with_outputs t0 e) i)))
-      (prefix-trans t1.files adds.explicit.files t2.files
-      (subst (λ t. IsPrefix t1.files t.files) (sym adds.explicit_is) (inputs-files loses t1 (paths_said values inputs.explicit)))
-      (prefix-trans adds.explicit.files adds.implicit.files t2.files
-      (subst (λ t. IsPrefix adds.explicit.files t.files) (sym adds.implicit_is) (inputs-files loses adds.explicit (paths_said values inputs.implicit)))
-      (subst (λ t. IsPrefix adds.implicit.files t.files) (sym adds.after_is) (prefix-trans adds.implicit.files last.files (with_validations last v).files (inputs-files loses adds.implicit (paths_said values inputs.order_only)) (validations-files last v)))))
-
-  the-edge : (explicit : ℕ) → explicit ≡ length e
+  pub edge-named : (explicit : ℕ) → explicit ≡ length e
       → edge_read t2.«open» (record { explicit_outputs = explicit; explicit_inputs = ends.0; implicit_inputs = ends.1 }) is_phony ≡ edge_paths (stated_paths values outputs inputs is_phony)
-  the-edge explicit explicit_is =
+  edge-named explicit explicit_is =
       ap (λ o. edge_read o (record { explicit_outputs = explicit; explicit_inputs = ends.0; implicit_inputs = ends.1 }) is_phony) open-all
       ∙ ap (λ n. edge_read (record { outputs = e ++ i; inputs = x ++ y ++ z; validations = v }) (record { explicit_outputs = n; explicit_inputs = ends.0; implicit_inputs = ends.1 }) is_phony) explicit_is
       ∙ ap (λ n. edge_read (record { outputs = e ++ i; inputs = x ++ y ++ z; validations = v }) (record { explicit_outputs = length e; explicit_inputs = n; implicit_inputs = ends.1 }) is_phony) (adds.explicit_end ∙ ap (λ o. length o.inputs) open-explicit)
@@ -82,15 +65,11 @@ module _ (values : Values) (outputs : OutputsText) (inputs : InputsText) (is_pho
       ∙ edge-is e i x y z v is_phony
       ∙ edge-kept (stated_paths values outputs inputs is_phony) loses loses_is
 
-  pub names-files : (explicit : ℕ) → explicit ≡ length e
-      → NamesFiles t0 t2 (record { explicit_outputs = explicit; explicit_inputs = ends.0; implicit_inputs = ends.1 }) is_phony (edge_paths (stated_paths values outputs inputs is_phony))
-  names-files explicit explicit_is = record { edges = same-edges; edge_is = the-edge explicit explicit_is; files = files-kept }
-
 -- the edge that was being read, ended
-pub adds-edge : (t0 t1 t2 : EdgeTable) (kinds : KindEnds) (is_phony : Bool) (edge : EdgePaths) → NamesFiles t0 t1 kinds is_phony edge
+pub adds-edge : (t0 t1 t2 : EdgeTable) (kinds : KindEnds) (is_phony : Bool) (edge : EdgePaths) → KeepsRead t0 t1 → edge_read t1.«open» kinds is_phony ≡ edge
     → t2 ≡ record { files = t1.files; edges = t1.edges ++ edge_read t1.«open» kinds is_phony ∷ []; «open» = no_files } → AddsEdge t0 t2 edge
-adds-edge t0 t1 t2 kinds is_phony edge names is = record {
-  edges = ap (λ t. t.edges) is ∙ ap (λ es. es ++ edge_read t1.«open» kinds is_phony ∷ []) names.edges ∙ ap (λ x. t0.edges ++ x ∷ []) names.edge_is;
+adds-edge t0 t1 t2 kinds is_phony edge keeps names is = record {
+  edges = ap (λ t. t.edges) is ∙ ap (λ es. es ++ edge_read t1.«open» kinds is_phony ∷ []) keeps.edges ∙ ap (λ x. t0.edges ++ x ∷ []) names;
   none_open = ap (λ t. t.«open») is;
-  files = subst (λ t. IsPrefix t0.files t.files) (sym is) names.files;
+  files = subst (λ t. IsPrefix t0.files t.files) (sym is) keeps.files;
 }

@@ -1,13 +1,15 @@
 -- What is held of no statement, and of one statement more.
-use Rattle.std.proofs.Common.{◌≡◌, ◌⊎◌, inl, inr, ℕ, ◌+◌, ◌<◌, ◌≤◌, ◌==◌, Bool, true, false, true≢false, if◌then◌else◌, List, [], ◌∷◌, ◌++◌, length, get_or, Option, Some, None, is_some, unwrap_or, Result, Ok, Err, OnOk, OnErr, IsErrAnd, map, slice_get, refl, sym, ap, subst, ◌∙◌, arith, ◌≢◌, suc}
-use Rattle.std.proofs.lemmas.List.{append-nil, length-append, map-append}
+use Rattle.std.proofs.Common.{◌≡◌, ◌⊎◌, inl, inr, take, ℕ, ◌+◌, ◌<◌, ◌≤◌, ◌==◌, Bool, true, false, true≢false, if◌then◌else◌, List, [], ◌∷◌, ◌++◌, length, get_or, Option, Some, None, is_some, unwrap_or, Result, Ok, Err, OnOk, OnErr, IsErrAnd, map, slice_get, refl, sym, ap, subst, ◌∙◌, arith, ◌≢◌, suc}
+use Rattle.std.proofs.lemmas.List.{append_assoc, append-nil, length-append, map-append, take_more}
 use Rattle.std.proofs.lemmas.Bool.{cases_lt}
 use Rattle.std.proofs.lemmas.Bool.Decides.{eqb_tells}
 use Rattle.std.proofs.Math.Seq.{get_or-append_seam}
 use Rattle.std.proofs.lemmas.Option.{slice_get_past, slice_get-get_or}
 use Rattle.std.proofs.Math.ListN.{get_or-append}
-use Rattle.nj_text.specs.Words.{WordText}
+use Rattle.nj_text.specs.declared.word.Word.{Word}
+use Rattle.nj_text.specs.Words.{WordText, word_text}
 use Rattle.nj_manifest.specs.LineSteps.{NameText}
+use Rattle.nj_manifest.specs.Contents.{words_text}
 use Rattle.nj_manifest.specs.Statements.{LineText, OutputsText, InputsText, StatementText, BindingText, RuleText, PoolText, BuildText, DefaultText, IncludeText, SubninjaText}
 use Rattle.nj_scope.specs.Rules.{line_kept}
 use Rattle.nj_scope.specs.Readings.{IsPrefix}
@@ -18,9 +20,9 @@ use Rattle.nj_edges.specs.declared.files.FileNo.{FileNo}
 use Rattle.nj_edges.specs.EdgesHeld.{no_files}
 use Rattle.nj_edges.specs.Files.{AreFiles}
 use Rattle.nj_faults.specs.declared.fault.GraphFault.{GraphFault}
-use Rattle.nj_build.specs.EdgeList.{Block, EdgeText, Pending, build_block, paths_said, edge_of_build, edges_read, defaults_read, dyndep_of, pending_at, pending_read, block_at, block_of_edge}
+use Rattle.nj_build.specs.EdgeList.{Values, Block, EdgeText, Pending, build_block, path_said, paths_said, edge_of_build, edges_read, defaults_read, dyndep_of, pending_at, pending_read, block_at, block_of_edge}
 use Rattle.nj_build.specs.declared.building.DyndepEdge.{DyndepEdge}
-use Rattle.nj_build.specs.Answers.{BuildingText, ArePending, IsFileSaid, with_dyndep, HoldsEdges, DetailText, IsDetail, AreDetails, AddsEdge, AddsTargets, Checks, IsFault, ReadsStatement, HoldsReferences}
+use Rattle.nj_build.specs.Answers.{BuildingText, ArePending, IsFileSaid, with_dyndep, HoldsEdges, DetailText, IsDetail, AreDetails, AddsEdge, AddsTargets, IsFault, ReadsStatement, HoldsReferences}
 use Rattle.nj_build.proofs.Lists.{get-longer}
 use Rattle.nj_build.proofs.ReferenceLemmas.{references-none, references-longer}
 
@@ -36,11 +38,6 @@ holds-none held table blocks details defaults dyndeps references = record {
   dyndeps = subst (λ ds. ArePending held.table.files ds []) (sym dyndeps) (record { edges_are = refl; files_are = refl });
   references = subst (λ kept. HoldsReferences kept (rule_texts [])) (sym references) (references-none (rule_texts []));
 }
-
-pub reads-by : (after : BuildingText) (expected : Option GraphFault) (e : Entry) (before : List Entry) (r : Result (Unit {0}) GraphFault)
-    → Checks expected r → OnOk r (HoldsEdges after (e ∷ before)) → ReadsStatement after expected e before r
-reads-by after expected e before (Ok done) checks holds = (checks, holds)
-reads-by after expected e before (Err fault) checks holds = checks
 
 pub on-ok : {X Y P Q : Type 0} (r : Result X Y) → OnOk r P → (P → Q) → OnOk r Q
 on-ok (Ok x) h then_so = then_so h
@@ -82,6 +79,25 @@ files-append files ns ms ps qs are others =
     ∙ ap (λ os. map Some ps ++ os) others ∙ sym (map-append Some ps qs)
 
 -- ---- a default statement
+
+-- the file that one more word names
+pub targets-turn : (values : Values) (files : List (List ℕ)) (before held new : List FileNo) (file : FileNo) (words : List Word) (i : ℕ) (word : Word) → i < length words → word ≡ get_or words i word
+    → AddsTargets files before held (paths_said values (words_text (take i words))) → new ≡ held ++ file ∷ [] → slice_get files file.0 ≡ Some (path_said values (word_text word))
+    → AddsTargets files before new (paths_said values (words_text (take (i + 1) words)))
+targets-turn values files before held new file words i word below at adds is there = record {
+  added = adds.added ++ file ∷ [];
+  after_is = is ∙ ap (λ fs. fs ++ file ∷ []) adds.after_is ∙ append_assoc before adds.added (file ∷ []);
+  are = subst (AreFiles files (adds.added ++ file ∷ [])) (sym more) (files-append files adds.added (file ∷ []) (said (take i words)) (path_said values (word_text word) ∷ []) adds.are (ap (λ o. o ∷ []) there));
+}
+  where
+    said : List Word → List (List ℕ)
+    said ws = paths_said values (words_text ws)
+
+    more : said (take (i + 1) words) ≡ said (take i words) ++ path_said values (word_text word) ∷ []
+    more =
+        ap said (take_more words i word below ∙ ap (λ w. take i words ++ w ∷ []) (sym at))
+        ∙ ap (map (path_said values)) (map-append word_text (take i words) (word ∷ []))
+        ∙ map-append (path_said values) (words_text (take i words)) (word_text word ∷ [])
 
 pub holds-default : (old new : BuildingText) (e : Entry) (before : List Entry) (words : List WordText) → HoldsEdges old before
     → new.table ≡ old.table → new.blocks ≡ old.blocks → new.names ≡ old.names → new.details ≡ old.details

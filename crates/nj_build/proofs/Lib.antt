@@ -3,6 +3,7 @@ pub mod Texts
 pub mod Blocks
 pub mod Faults
 pub mod Tables
+pub mod Keeps
 pub mod LateFaults
 pub mod LateLemmas
 pub mod ReferenceLemmas

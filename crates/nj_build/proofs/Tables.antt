@@ -1,5 +1,5 @@
 -- Lemmas on the edge that is being read.
-use Rattle.std.proofs.Common.{◌≡◌, ℕ, ◌-◌, ◌==◌, ◌&&◌, Bool, true, false, not, if◌then◌else◌, cond, List, [], ◌∷◌, ◌++◌, length, take, drop, refl, sym, ap, ◌∙◌, arith, true≢false}
+use Rattle.std.proofs.Common.{◌≡◌, ℕ, ◌≤◌, ◌-◌, ◌==◌, ◌&&◌, Bool, true, false, not, if◌then◌else◌, cond, List, [], ◌∷◌, ◌++◌, length, take, drop, refl, sym, ap, subst, ◌∙◌, arith, true≢false}
 use Rattle.std.specs.List.{filter, slice_range, list_any}
 use Rattle.std.proofs.lemmas.List.{append_assoc, append-nil, length-append}
 use Rattle.std.proofs.Math.Seq.{take-append_seam, drop-append_seam}
@@ -10,15 +10,18 @@ use Rattle.nj_edges.specs.Edges.{EdgePaths, outputs_of, is_among}
 use Rattle.nj_edges.specs.EdgesHeld.{EdgeTable, with_output, with_input, with_validation, edge_read}
 use Rattle.nj_edges.specs.Files.{with_path}
 use Rattle.nj_build.specs.EdgeList.{loses_own, of_others, without_own, edge_paths}
-use Rattle.nj_build.specs.Answers.{with_outputs, with_inputs, with_validations}
+use Rattle.nj_build.specs.Answers.{Grows, with_outputs, with_input_unless, with_inputs, with_validations}
 
 -- ---- files keep their numbers
 
-prefix-refl : {A : Type 0} (xs : List A) → IsPrefix xs xs
+pub prefix-refl : {A : Type 0} (xs : List A) → IsPrefix xs xs
 prefix-refl xs = ([], sym (append-nil xs))
 
 pub prefix-trans : {A : Type 0} (xs ys zs : List A) → IsPrefix xs ys → IsPrefix ys zs → IsPrefix xs zs
 prefix-trans xs ys zs (more, is) (others, are) = (more ++ others, are ∙ ap (λ l. l ++ others) is ∙ append_assoc xs more others)
+
+pub prefix_push : {A : Type 0} (xs ys zs : List A) (y : A) → IsPrefix xs ys → zs ≡ ys ++ y ∷ [] → IsPrefix xs zs
+prefix_push xs ys zs y grows is = prefix-trans xs ys zs grows (y ∷ [], is)
 
 pub named-prefix : (files : List (List ℕ)) (path : List ℕ) → IsPrefix files (with_path files path)
 named-prefix files path = by (list_any (bytes_eq path) files)
@@ -27,19 +30,26 @@ named-prefix files path = by (list_any (bytes_eq path) files)
     by true = prefix-refl files
     by false = (path ∷ [], refl)
 
--- ---- outputs
+-- ---- one input more
+pub grows-input : (before t new : EdgeTable) (path : List ℕ) (loses_own : Bool) → Grows 0 before t → new ≡ with_input_unless loses_own t path → Grows 0 before new
+grows-input before t new path false grows is = subst (Grows 0 before) (sym is) (record { outputs_are = grows.outputs_are; inputs = longer })
+  where
+    longer : length before.«open».inputs ≤ length (t.«open».inputs ++ path ∷ [])
+    longer = let one = length-append t.«open».inputs (path ∷ []) in let all = grows.inputs in omega (arith, one, all)
+grows-input before t new path true grows is = by (is_among t.«open».outputs path) is
+  where
+    longer : length before.«open».inputs ≤ length (t.«open».inputs ++ path ∷ [])
+    longer = let one = length-append t.«open».inputs (path ∷ []) in let all = grows.inputs in omega (arith, one, all)
 
-pub outputs-edges : (t : EdgeTable) (ps : List (List ℕ)) → (with_outputs t ps).edges ≡ t.edges
-outputs-edges t [] = refl
-outputs-edges t (p ∷ ps) = outputs-edges (with_output t p) ps
+    by : (b : Bool) → new ≡ (if b then t else with_input t path) → Grows 0 before new
+    by true h = subst (Grows 0 before) (sym h) grows
+    by false h = subst (Grows 0 before) (sym h) (record { outputs_are = grows.outputs_are; inputs = longer })
+
+-- ---- outputs
 
 pub outputs-open : (t : EdgeTable) (ps : List (List ℕ)) → (with_outputs t ps).«open» ≡ record t.«open» { outputs = t.«open».outputs ++ ps }
 outputs-open t [] = ap (λ os. record t.«open» { outputs = os }) (sym (append-nil t.«open».outputs))
 outputs-open t (p ∷ ps) = outputs-open (with_output t p) ps ∙ ap (λ os. record t.«open» { outputs = os }) (append_assoc t.«open».outputs (p ∷ []) ps)
-
-pub outputs-files : (t : EdgeTable) (ps : List (List ℕ)) → IsPrefix t.files (with_outputs t ps).files
-outputs-files t [] = prefix-refl t.files
-outputs-files t (p ∷ ps) = prefix-trans t.files (with_path t.files p) (with_outputs (with_output t p) ps).files (named-prefix t.files p) (outputs-files (with_output t p) ps)
 
 -- ---- inputs
 
@@ -47,24 +57,6 @@ outputs-files t (p ∷ ps) = prefix-trans t.files (with_path t.files p) (with_ou
 abbrev pub kept : (loses_own : Bool) → (outputs paths : List (List ℕ)) → List (List ℕ)
 kept false outputs paths = paths
 kept true outputs paths = filter (λ path. not (is_among outputs path)) paths
-
-pub inputs-edges : (loses : Bool) (t : EdgeTable) (ps : List (List ℕ)) → (with_inputs loses t ps).edges ≡ t.edges
-inputs-edges loses t [] = refl
-inputs-edges false t (p ∷ ps) = inputs-edges false (with_input t p) ps
-inputs-edges true t (p ∷ ps) = by (is_among t.«open».outputs p) (inputs-edges true t ps) (inputs-edges true (with_input t p) ps)
-  where
-    by : (b : Bool) → (with_inputs true t ps).edges ≡ t.edges → (with_inputs true (with_input t p) ps).edges ≡ t.edges → (with_inputs true (if b then t else with_input t p) ps).edges ≡ t.edges
-    by true h k = h
-    by false h k = k
-
-pub inputs-files : (loses : Bool) (t : EdgeTable) (ps : List (List ℕ)) → IsPrefix t.files (with_inputs loses t ps).files
-inputs-files loses t [] = prefix-refl t.files
-inputs-files false t (p ∷ ps) = prefix-trans t.files (with_path t.files p) (with_inputs false (with_input t p) ps).files (named-prefix t.files p) (inputs-files false (with_input t p) ps)
-inputs-files true t (p ∷ ps) = by (is_among t.«open».outputs p) (inputs-files true t ps) (prefix-trans t.files (with_path t.files p) (with_inputs true (with_input t p) ps).files (named-prefix t.files p) (inputs-files true (with_input t p) ps))
-  where
-    by : (b : Bool) → IsPrefix t.files (with_inputs true t ps).files → IsPrefix t.files (with_inputs true (with_input t p) ps).files → IsPrefix t.files (with_inputs true (if b then t else with_input t p) ps).files
-    by true h k = h
-    by false h k = k
 
 pub inputs-open : (loses : Bool) (t : EdgeTable) (ps : List (List ℕ)) → (with_inputs loses t ps).«open» ≡ record t.«open» { inputs = t.«open».inputs ++ kept loses t.«open».outputs ps }
 inputs-open false t [] = ap (λ is. record t.«open» { inputs = is }) (sym (append-nil t.«open».inputs))
@@ -84,14 +76,6 @@ inputs-open true t (p ∷ ps) =
     by false h k = k
 
 -- ---- validations
-
-pub validations-edges : (t : EdgeTable) (ps : List (List ℕ)) → (with_validations t ps).edges ≡ t.edges
-validations-edges t [] = refl
-validations-edges t (p ∷ ps) = validations-edges (with_validation t p) ps
-
-pub validations-files : (t : EdgeTable) (ps : List (List ℕ)) → IsPrefix t.files (with_validations t ps).files
-validations-files t [] = prefix-refl t.files
-validations-files t (p ∷ ps) = prefix-trans t.files (with_path t.files p) (with_validations (with_validation t p) ps).files (named-prefix t.files p) (validations-files (with_validation t p) ps)
 
 pub validations-open : (t : EdgeTable) (ps : List (List ℕ)) → (with_validations t ps).«open» ≡ record t.«open» { validations = t.«open».validations ++ ps }
 validations-open t [] = ap (λ vs. record t.«open» { validations = vs }) (sym (append-nil t.«open».validations))

@@ -1,6 +1,6 @@
 -- What the reading of a statement answers, and how what is read is held.
 use Rattle.std.specs.Prelude.{◌≡◌, ◌⊎◌, ℕ, Bool, true, false, if◌then◌else◌, Option, Some, None, option_map, Result, Ok, Err}
-use Rattle.std.specs.Prelude.{List, [], ◌∷◌, ◌++◌, ◌+◌, ◌≤◌, map, length, slice_get, slice_index_or, bytes_eq}
+use Rattle.std.specs.Prelude.{List, [], ◌∷◌, ◌++◌, ◌+◌, ◌<◌, ◌≤◌, map, length, slice_get, slice_index_or, bytes_eq}
 use Rattle.nj_text.specs.declared.spot.Spot.{Spot}
 use Rattle.nj_manifest.specs.Statements.{InputsText, StatementText}
 use Rattle.nj_scope.specs.Rules.{RuleText, phony}
@@ -11,8 +11,7 @@ use Rattle.nj_scope.specs.ReadingList.{Entry, value_after, rule_texts}
 use Rattle.nj_blocks.specs.Blocks.{BlocksText, bound_in}
 use Rattle.nj_edges.specs.declared.files.FileNo.{FileNo}
 use Rattle.nj_edges.specs.Edges.{EdgePaths, is_among}
-use Rattle.nj_edges.specs.declared.edges.KindEnds.{KindEnds}
-use Rattle.nj_edges.specs.EdgesHeld.{EdgeTable, no_files, with_output, with_input, with_validation, edge_read}
+use Rattle.nj_edges.specs.EdgesHeld.{EdgeTable, no_files, with_output, with_input, with_validation}
 use Rattle.nj_edges.specs.Files.{AreFiles}
 use Rattle.nj_faults.specs.declared.fault.GraphFault.{GraphFault}
 use Rattle.nj_faults.specs.Faults.{no_memory}
@@ -77,11 +76,16 @@ abbrev pub with_validations : EdgeTable → List (List ℕ) → EdgeTable
 with_validations t [] = t
 with_validations t (path ∷ paths) = with_validations (with_validation t path) paths
 
--- the edge that is being read has this many more outputs, and no fewer inputs; no edge is added
+-- the edge that is being read has this many more outputs, and no fewer inputs
 pub record Grows (outputs : ℕ) (before after : EdgeTable) : Type 0 where
-  pub edges : after.edges ≡ before.edges
   pub outputs_are : length after.«open».outputs ≡ length before.«open».outputs + outputs
   pub inputs : length before.«open».inputs ≤ length after.«open».inputs
+
+-- The edges that were read stay as they are. Files may be new, which keep the numbers of the others, and of the edge that is being
+-- read nothing is said.
+pub record KeepsRead (before after : EdgeTable) : Type 0 where
+  pub edges : after.edges ≡ before.edges
+  pub files : IsPrefix before.files after.files
 
 -- the inputs and validations of a statement are appended; its explicit and its implicit inputs end at `ends`
 pub record AddsInputs (loses_own : Bool) (values : Values) (inputs : InputsText) (before after : EdgeTable) (ends : ℕ × ℕ)
@@ -94,12 +98,6 @@ pub record AddsInputs (loses_own : Bool) (values : Values) (inputs : InputsText)
   pub implicit_end : ends.1 ≡ length implicit.«open».inputs
   pub after_is : after ≡ with_validations (with_inputs loses_own implicit (paths_said values inputs.order_only))
       (paths_said values inputs.validations)
-
--- the edge that is being read is this one, with these ends of its kinds; no edge is added, and files keep their numbers
-pub record NamesFiles (before after : EdgeTable) (kinds : KindEnds) (is_phony : Bool) (edge : EdgePaths) : Type 0 where
-  pub edges : after.edges ≡ before.edges
-  pub edge_is : edge_read after.«open» kinds is_phony ≡ edge
-  pub files : IsPrefix before.files after.files
 
 -- one edge is added; files keep their numbers
 pub record AddsEdge (before after : EdgeTable) (edge : EdgePaths) : Type 0 where
@@ -201,6 +199,17 @@ pub record HoldsEdges (held : BuildingText) (entries : List Entry) : Type 0 wher
   pub defaults : AreFiles held.table.files held.defaults (defaults_read entries)
   pub dyndeps : ArePending held.table.files held.dyndeps (pending_read entries)
   pub references : HoldsReferences held.references (rule_texts entries)
+
+-- No edge and no default is added: those that were read stay as they are, with their blocks. Files may be new, which keep the numbers of
+-- the others, and an edge may be read in part.
+pub record AddsNothing (before after : BuildingText) : Type 0 where
+  pub edges : KeepsRead before.table after.table
+  pub blocks : (number : ℕ) (name : List ℕ) → number < length before.details
+      → bound_in after.blocks number name ≡ bound_in before.blocks number name
+  pub names : IsPrefix before.names after.names
+  pub details : after.details ≡ before.details
+  pub defaults : after.defaults ≡ before.defaults
+  pub dyndeps : after.dyndeps ≡ before.dyndeps
 
 -- ---- a statement
 

@@ -28,6 +28,8 @@ pub(crate) fn bind_block(
         → OnOk result ((e : ℕ) (name : List ℕ) → bound_in blocks.new e name
         ≡ (if e == edge then or_else (block_of values (lines_text lines.now) name)
         (bound_in blocks.old e name) else bound_in blocks.old e name)) }
+    ensures others { (e : ℕ) (name : List ℕ) → e < edge
+        → bound_in blocks.new e name ≡ bound_in blocks.old e name }
     ensures last { blocks.new.last ≤ edge }
 {
     let names = Names {

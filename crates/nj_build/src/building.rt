@@ -1,15 +1,16 @@
 //! The edges that were read so far, and the defaults.
 
-ghost use Rattle.std.specs.Prelude.{◌≡◌, ℕ, ◌<◌, List, [], ◌∷◌, Some, option_map, length, slice_get, OnOk, IfSome};
+ghost use Rattle.std.specs.Prelude.{◌≡◌, ℕ, ◌<◌, List, [], ◌∷◌, Some, option_map, length, slice_get, vec_len, vec_capacity, OnOk, OnErr, IfSome};
 ghost use Rattle.nj_manifest.specs.Contents.{name_text, words_text, outputs_text, inputs_text, lines_text, build_text};
 ghost use Rattle.nj_manifest.specs.Statements.{DefaultText};
+ghost use Rattle.nj_scope.specs.Readings.{IsPrefix};
 ghost use Rattle.nj_scope.specs.Scopes.{IsScope, parent_at};
 ghost use Rattle.nj_scope.specs.Declarations.{DeclaredBy};
 ghost use Rattle.nj_scope.specs.ReadingList.{Entry, rule_in_force, rule_texts};
 ghost use Rattle.nj_edges.specs.EdgesHeld.{no_files};
 ghost use Rattle.nj_build.specs.EdgeList.{Values, paths_said, line_values, edge_of_build, edges_read, paths_of_edges};
 ghost use Rattle.nj_build.specs.BuildFaults.{or_then, first_fault, paths_fault, late_fault, target_fault, build_fault, default_fault};
-ghost use Rattle.nj_build.specs.Answers.{Checks, SeesNames, HoldsEdges, AddsTargets, ReadsStatement, with_dyndep, entry_at_place};
+ghost use Rattle.nj_build.specs.Answers.{Checks, SeesNames, HoldsEdges, AddsTargets, AddsNothing, ReadsStatement, with_dyndep, entry_at_place};
 
 use crate::block::bind_block;
 use crate::edge::{EdgeRule, NamedLine, add_edge};
@@ -23,7 +24,7 @@ use nj_late::KeyReferences;
 use nj_manifest::Build;
 use nj_scope::{Declarations, HashKeys};
 use nj_text::{Spot, Word};
-use std::alloc::{AllocError, Global};
+use std::alloc::Global;
 use std::marker::Model;
 
 // The number of the rule `phony`.
@@ -105,7 +106,8 @@ impl Building {
     /// an empty path or one that has a maker, then an empty path among its inputs and validations,
     /// and then a cycle of the rule's variables, a pool that is not declared, or a dyndep file that
     /// is no input ("Rule variables", "Pools" and "Dynamic Dependencies" in the manual). After a
-    /// fault nothing more may be read.
+    /// fault the edges and defaults are those that were read before, but this edge may be read in
+    /// part, and nothing more may be read.
     pub fn read_build(
         &mut self,
         alloc: Global,
@@ -114,7 +116,7 @@ impl Building {
         build: &Build<'_>,
     ) -> Result<(), GraphFault>
         requires { place.scope < length declarations.now.scopes }
-        ensures { (entries : List Entry) (around : List ℕ) (depth : ℕ)
+        ensures reads { (entries : List Entry) (around : List ℕ) (depth : ℕ)
             → DeclaredBy declarations.now entries
             → IsScope (parent_at declarations.now.scopes) place.entry.scope
             (place.entry.scope ∷ around)
@@ -123,6 +125,7 @@ impl Building {
             ReadsStatement self.new (build_fault e entries (outputs_text build.now.outputs)
             (name_text build.now.rule) (inputs_text build.now.inputs)
             (lines_text build.now.lines.items)) e entries result }
+        ensures refused { OnErr result (AddsNothing self.old self.new) }
     {
         let rule = match rule_named(declarations, place.scope, build.rule.name) {
             Some(rule) => rule,
@@ -144,7 +147,7 @@ impl Building {
         rule: NumberedRule<'_>,
     ) -> Result<(), GraphFault>
         requires { place.scope < length declarations.now.scopes }
-        ensures { (entries : List Entry) (around : List ℕ) (depth : ℕ)
+        ensures reads { (entries : List Entry) (around : List ℕ) (depth : ℕ)
             → DeclaredBy declarations.now entries
             → IsScope (parent_at declarations.now.scopes) place.entry.scope
             (place.entry.scope ∷ around)
@@ -160,8 +163,12 @@ impl Building {
             (paths_of_edges (edges_read entries)) outputs inputs) (late_fault entries
             (edge_of_build e entries outputs (name_text build.now.rule) inputs lines)))
             e entries result }
+        ensures refused { OnErr result (AddsNothing self.old self.new) }
     {
         let edge = self.details.as_slice().len();
+        self.details.reserve(1)?;
+        self.dyndeps.reserve(1)?;
+        let file = self.names.name(place.file.as_bytes())?;
         keep_references(alloc, &mut self.references, rule)?;
         bind_block(
             &mut self.block_values,
@@ -192,14 +199,13 @@ impl Building {
             block,
         };
         let dyndep = add_edge(line, &mut self.room, &mut self.edges, build, used)?;
-        push_dyndep(&mut self.dyndeps, edge, dyndep)?;
-        let file = self.names.name(place.file.as_bytes())?;
-        self.details.push(Detail {
+        push_dyndep(&mut self.dyndeps, edge, dyndep);
+        self.details.push_reserved(Detail {
             file,
             spot: place.spot,
             scope: place.scope,
             rule: rule.number,
-        })?;
+        });
         Ok(())
     }
 
@@ -208,7 +214,7 @@ impl Building {
     /// # Errors
     ///
     /// The fault of the first word that has one: an empty path, or a file that no earlier build
-    /// statement names. After a fault nothing more may be read.
+    /// statement names. Nothing changes then.
     pub fn read_default(
         &mut self,
         alloc: Global,
@@ -217,7 +223,7 @@ impl Building {
         words: &[Word<'_>],
     ) -> Result<(), GraphFault>
         requires { place.scope < length declarations.now.scopes }
-        ensures { (entries : List Entry) (around : List ℕ) (depth : ℕ)
+        ensures reads { (entries : List Entry) (around : List ℕ) (depth : ℕ)
             → DeclaredBy declarations.now entries
             → IsScope (parent_at declarations.now.scopes) place.entry.scope
             (place.entry.scope ∷ around)
@@ -225,6 +231,7 @@ impl Building {
             → let e = entry_at_place place.entry around depth (DefaultText (words_text words.now))
             in ReadsStatement self.new (default_fault e entries (words_text words.now))
             e entries result }
+        ensures refused { OnErr result (self.new ≡ self.old) }
     {
         let names = Names {
             declarations,
@@ -236,22 +243,25 @@ impl Building {
             place,
             names,
         };
-        add_targets(line, &mut self.room, &self.edges, &mut self.defaults, words)
+        let count = self.defaults.as_slice().len();
+        match add_targets(line, &mut self.room, &self.edges, &mut self.defaults, words) {
+            Ok(()) => Ok(()),
+            Err(fault) => {
+                self.defaults.truncate(count);
+                Err(fault)
+            }
+        }
     }
 }
 
 // Appends the edge of this number, if it is bound to a dyndep file.
-fn push_dyndep(
-    dyndeps: &mut Vec<DyndepEdge>,
-    edge: usize,
-    file: Option<FileNo>,
-) -> Result<(), AllocError>
-    ensures { OnOk result (dyndeps.new.items ≡ with_dyndep edge file dyndeps.old.items) }
+fn push_dyndep(dyndeps: &mut Vec<DyndepEdge>, edge: usize, file: Option<FileNo>)
+    requires { vec_len dyndeps.old < vec_capacity dyndeps.old }
+    ensures { dyndeps.new.items ≡ with_dyndep edge file dyndeps.old.items }
 {
     if let Some(file) = file {
-        dyndeps.push(DyndepEdge { edge, file })?;
+        dyndeps.push_reserved(DyndepEdge { edge, file });
     }
-    Ok(())
 }
 
 // Appends the files that words name, each of which an earlier edge has to name.
@@ -270,6 +280,7 @@ fn add_targets(
     ensures added { (values : Values) → SeesNames line.entry.names values
         → OnOk result (AddsTargets edges.now.files targets.old.items targets.new.items
         (paths_said values (words_text words.now))) }
+    ensures kept { IsPrefix targets.old.items targets.new.items }
 {
     'words: for word in words {
         let file = line.named_file(room, edges, word)?;

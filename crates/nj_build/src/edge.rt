@@ -1,6 +1,6 @@
 //! The files that a build statement names.
 
-ghost use Rattle.std.specs.Prelude.{◌≡◌, ◌<◌, ◌≤◌, ◌+◌, ◌++◌, ◌∷◌, false, Some, length, slice_get, codes, IfOk, OnOk};
+ghost use Rattle.std.specs.Prelude.{◌≡◌, ◌<◌, ◌≤◌, ◌+◌, ◌++◌, ◌∷◌, false, Some, length, slice_get, codes, IfOk, OnOk, OnErr};
 ghost use Rattle.nj_text.specs.Words.{word_text};
 ghost use Rattle.nj_manifest.specs.Contents.{words_text, outputs_text, inputs_text};
 ghost use Rattle.nj_scope.specs.ReadingList.{value_after, pools};
@@ -11,7 +11,7 @@ ghost use Rattle.nj_late.specs.LateTexts.{asked_text};
 ghost use Rattle.nj_late.specs.ReferencesHeld.{TellsCycles};
 ghost use Rattle.nj_build.specs.EdgeList.{Values, path_said, paths_said, stated_paths, loses_own, edge_paths, file_said};
 ghost use Rattle.nj_build.specs.BuildFaults.{or_then, empty_path, first_fault, target_fault, outputs_fault, inputs_fault, paths_fault, names_fault};
-ghost use Rattle.nj_build.specs.Answers.{Checks, SeesNames, IsFileSaid, bound_by, Grows, AddsInputs, NamesFiles, AddsEdge, names_read, with_outputs, with_inputs, with_validations};
+ghost use Rattle.nj_build.specs.Answers.{Checks, SeesNames, IsFileSaid, bound_by, Grows, KeepsRead, AddsInputs, AddsEdge, names_read, with_outputs, with_input_unless, with_inputs, with_validations};
 
 use crate::late::LateLine;
 use crate::names::{EdgeBlock, Names, Room};
@@ -22,7 +22,7 @@ use nj_late::{KeyReferences, LateEdge};
 use nj_manifest::{Build, Inputs, Outputs, Word};
 use nj_scope::{Declarations, Rule};
 use nj_text::{Spot, TextFault};
-use std::alloc::Global;
+use std::alloc::{AllocError, Global};
 
 /// A line that is read: where it stands, and the names on it.
 #[derive(Clone, Copy)]
@@ -81,6 +81,7 @@ impl NamedLine<'_, '_, '_> {
     }
 
     /// Appends outputs to the edge that is being read.
+    #[tactic(auto, using(crate::proofs::Keeps::keeps_same, crate::proofs::Keeps::keeps_output))]
     pub(crate) fn add_outputs(
         self,
         room: &mut Room,
@@ -95,6 +96,7 @@ impl NamedLine<'_, '_, '_> {
             → OnOk result (edges.new
             ≡ with_outputs edges.old (paths_said values (words_text words.now))) }
         ensures grows { OnOk result (Grows (length words.now) edges.old edges.new) }
+        ensures keeps { KeepsRead edges.old edges.new }
     {
         'words: for word in words {
             let path = self.path(room, word)?;
@@ -107,6 +109,7 @@ impl NamedLine<'_, '_, '_> {
     }
 
     /// Appends inputs to the edge that is being read, without its own outputs if it loses them.
+    #[tactic(auto, using(crate::proofs::Keeps::keeps_same))]
     pub(crate) fn add_inputs(
         self,
         room: &mut Room,
@@ -122,19 +125,17 @@ impl NamedLine<'_, '_, '_> {
             → OnOk result (edges.new
             ≡ with_inputs loses_own edges.old (paths_said values (words_text words.now))) }
         ensures grows { OnOk result (Grows 0 edges.old edges.new) }
+        ensures keeps { KeepsRead edges.old edges.new }
     {
         'words: for word in words {
             let path = self.path(room, word)?;
-            if loses_own {
-                edges.add_input_of_another(path)?;
-            } else {
-                edges.add_input(path)?;
-            }
+            add_input(edges, path, loses_own)?;
         }
         Ok(())
     }
 
     /// Appends validations to the edge that is being read.
+    #[tactic(auto, using(crate::proofs::Keeps::keeps_same, crate::proofs::Keeps::keeps_validation))]
     pub(crate) fn add_validations(
         self,
         room: &mut Room,
@@ -149,6 +150,7 @@ impl NamedLine<'_, '_, '_> {
             → OnOk result (edges.new
             ≡ with_validations edges.old (paths_said values (words_text words.now))) }
         ensures grows { OnOk result (Grows 0 edges.old edges.new) }
+        ensures keeps { KeepsRead edges.old edges.new }
     {
         'words: for word in words {
             let path = self.path(room, word)?;
@@ -158,7 +160,21 @@ impl NamedLine<'_, '_, '_> {
     }
 }
 
+// Appends an input to the edge that is being read, unless it is an own output of an edge that loses
+// these.
+fn add_input(edges: &mut Edges, path: &[u8], loses_own: bool) -> Result<(), AllocError>
+    ensures added { OnOk result (edges.new ≡ with_input_unless loses_own edges.old path.now) }
+    ensures refused { OnErr result (edges.new ≡ edges.old) }
+{
+    if loses_own {
+        edges.add_input_of_another(path)
+    } else {
+        edges.add_input(path)
+    }
+}
+
 // Appends all outputs of a build statement to the edge that is being read.
+#[tactic(auto, using(crate::proofs::Keeps::keeps_then))]
 fn add_all_outputs(
     line: NamedLine<'_, '_, '_>,
     room: &mut Room,
@@ -176,6 +192,7 @@ fn add_all_outputs(
         (paths_said values (outputs_text outputs.now).implicit)) }
     ensures grows { OnOk result (Grows (length outputs.now.explicit.items
         + length outputs.now.implicit.items) edges.old edges.new) }
+    ensures keeps { KeepsRead edges.old edges.new }
 {
     line.add_outputs(room, edges, outputs.explicit.as_slice())?;
     line.add_outputs(room, edges, outputs.implicit.as_slice())
@@ -183,6 +200,7 @@ fn add_all_outputs(
 
 // Appends all inputs and validations of a build statement to the edge that is being read. Returns
 // where its explicit inputs end, and its implicit ones.
+#[tactic(auto, using(crate::proofs::Keeps::keeps_then))]
 fn add_all_inputs(
     line: NamedLine<'_, '_, '_>,
     room: &mut Room,
@@ -199,6 +217,7 @@ fn add_all_inputs(
     ensures within { IfOk result (λ ends. (ends.0 ≤ ends.1)
         × (ends.1 ≤ length edges.new.«open».inputs)) }
     ensures grows { OnOk result (Grows 0 edges.old edges.new) }
+    ensures keeps { KeepsRead edges.old edges.new }
 {
     line.add_inputs(room, edges, inputs.explicit.as_slice(), loses_own)?;
     let explicit = edges.open_inputs();
@@ -221,6 +240,7 @@ pub(crate) struct EdgeRule<'r, 'b> {
 
 // Reads the files of a build statement into the edge that is being read. Returns where its kinds
 // end.
+#[tactic(auto, using(crate::proofs::Keeps::keeps_then))]
 fn add_files(
     line: NamedLine<'_, '_, '_>,
     room: &mut Room,
@@ -235,11 +255,12 @@ fn add_files(
         (outputs_text build.now.outputs) (inputs_text build.now.inputs)) result }
     ensures named { (values : Values) → SeesNames line.entry.names values
         → edges.old.«open» ≡ no_files
-        → IfOk result (λ kinds. NamesFiles edges.old edges.new kinds is_phony (edge_paths
+        → IfOk result (λ kinds. edge_read edges.new.«open» kinds is_phony ≡ edge_paths
         (stated_paths values (outputs_text build.now.outputs) (inputs_text build.now.inputs)
-        is_phony))) }
+        is_phony)) }
     ensures within { IfOk result (λ kinds. EndWithin kinds (length edges.new.«open».outputs)
         (length edges.new.«open».inputs)) }
+    ensures keeps { KeepsRead edges.old edges.new }
 {
     add_all_outputs(line, room, edges, &build.outputs)?;
     let loses_own = loses_own(build, is_phony);
@@ -288,6 +309,7 @@ fn late_edge<'a>(
 
 /// Reads a build statement as an edge, which is then the last one. Returns its dyndep file, if it
 /// is bound to one.
+#[tactic(auto, using(crate::proofs::Keeps::keeps_same))]
 pub(crate) fn add_edge(
     line: NamedLine<'_, '_, '_>,
     room: &mut Room,
@@ -317,6 +339,7 @@ pub(crate) fn add_edge(
         IfOk result (λ file. IsFileSaid edges.new.files file (file_said (asked_text
         (names_read paths (bound_by rule.entry.block) rule.entry.rule.now
         (value_after sees.entries (line.entry.names.scope ∷ sees.around))) (codes "dyndep")))) }
+    ensures refused { OnErr result (KeepsRead edges.old edges.new) }
 {
     let kinds = add_files(line, room, edges, build, rule.is_phony)?;
     let late = LateLine {

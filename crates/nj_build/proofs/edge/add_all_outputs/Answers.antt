@@ -4,7 +4,7 @@ use Rattle.nj_build.specs.EdgeList.{paths_said}
 use Rattle.nj_build.specs.BuildFaults.{outputs_fault}
 use Rattle.nj_build.specs.Answers.{IsFault, Checks, with_outputs}
 use Rattle.nj_build.proofs.Faults.{fault-first, checks-second, outputs-append, err-checks}
-use Rattle.nj_build.proofs.Tables.{outputs-edges, outputs-open}
+use Rattle.nj_build.proofs.Tables.{outputs-open}
 use Rattle.nj_build.proofs.edge.add_all_outputs.Goals as goal
 
 pub returns-in_err-add_outputs-clause-fault : goal.returns-in_err-add_outputs-clause-fault
@@ -26,7 +26,7 @@ returns-clause-fault c = λ values sees.
     let paths = paths_said values (words_text c.args.outputs.now.explicit.items) in
     let split = outputs-append file values old.edges old.«open».outputs (words_text c.args.outputs.now.explicit.items) implicit in
     let after = subst (λ ws. c.add_outputs.new.edges ≡ with_outputs old (paths_said values (words_text ws))) c.as_slice.ensures.value (c.in_ok-add_outputs.ensures.added values sees) in
-    let edges = ap (λ t. t.edges) after ∙ outputs-edges old paths in
+    let edges = c.in_ok-add_outputs.ensures.keeps.edges in
     let outputs = ap (λ t. t.«open».outputs) after ∙ ap (λ o. o.outputs) (outputs-open old paths) in
     subst (λ o. Checks o c.add_outputs-2.result) (sym split)
     (checks-second (outputs_fault file values old.edges old.«open».outputs (words_text c.args.outputs.now.explicit.items)) (outputs_fault file values old.edges (old.«open».outputs ++ paths) implicit) c.add_outputs-2.result (subst (λ ws. outputs_fault file values old.edges old.«open».outputs (words_text ws) ≡ None) c.as_slice.ensures.value (c.in_ok-add_outputs.ensures.fault values sees))

@@ -6,7 +6,7 @@ use Rattle.nj_build.specs.EdgeList.{path_said}
 use Rattle.nj_build.specs.BuildFaults.{outputs_fault, inputs_fault, paths_fault}
 use Rattle.nj_build.specs.Answers.{IsFault}
 use Rattle.nj_build.proofs.Faults.{fault-first, err-checks}
-use Rattle.nj_build.proofs.Adding.{names-files}
+use Rattle.nj_build.proofs.Adding.{edge-named}
 use Rattle.nj_build.proofs.edge.add_files.Goals as goal
 
 pub returns-in_err-add_all_outputs-clause-fault : goal.returns-in_err-add_all_outputs-clause-fault
@@ -22,6 +22,6 @@ returns-in_err-add_all_outputs-clause-fault c = λ values sees none.
 
 pub returns-clause-named : goal.returns-clause-named
 returns-clause-named c = λ values sees none.
-    names-files values (outputs_text c.args.build.now.outputs) (inputs_text c.args.build.now.inputs) c.args.is_phony c.loses_own-loses_own.result c.args.edges.now c.add_all_outputs.new.edges c.add_all_inputs.new.edges (c.in_ok-explicit_inputs.explicit_inputs, c.in_ok-explicit_inputs.implicit_inputs)
+    edge-named values (outputs_text c.args.build.now.outputs) (inputs_text c.args.build.now.inputs) c.args.is_phony c.loses_own-loses_own.result c.args.edges.now c.add_all_outputs.new.edges c.add_all_inputs.new.edges (c.in_ok-explicit_inputs.explicit_inputs, c.in_ok-explicit_inputs.implicit_inputs)
     none (c.loses_own-loses_own.ensures values) (c.in_ok-add_all_outputs.ensures.added values sees) (c.in_ok-explicit_inputs.ensures.added values sees)
     (length c.as_slice.result.now) (ap length c.as_slice.ensures.value ∙ sym (length-map (words_text c.args.build.now.outputs.explicit.items) (path_said values) ∙ length-map c.args.build.now.outputs.explicit.items word_text))

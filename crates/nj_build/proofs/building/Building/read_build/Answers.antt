@@ -9,8 +9,8 @@ use Rattle.nj_build.specs.BuildFaults.{fault_if, or_then, paths_fault, late_faul
 use Rattle.nj_build.specs.Answers.{ReadsStatement, entry_at_place}
 use Rattle.nj_build.proofs.building.Building.read_build.Goals as goal
 
-pub returns : goal.returns
-returns c = λ entries around depth by within holds.
+pub returns-clause-reads : goal.returns-clause-reads
+returns-clause-reads c = λ entries around depth by within holds.
     let lines = lines_text c.args.build.now.lines.items in
     let outputs = outputs_text c.args.build.now.outputs in
     let inputs = inputs_text c.args.build.now.inputs in
@@ -20,4 +20,4 @@ returns c = λ entries around depth by within holds.
     (late_fault entries (edge_of_build e entries outputs (name_text c.args.build.now.rule) inputs lines)) in
     subst (λ o. ReadsStatement c.read_edge.new.self (or_then o other) e entries c.read_edge.result)
     (sym (ap (λ (o : Option ℕ). fault_if (not (is_some o)) (fault_at c.args.place.file.now c.args.build.now.rule.spot (UnknownRule c.args.build.now.rule.name.now))) rule_is))
-    (c.read_edge.ensures entries around depth by within rule_is (c.in-Some.ensures.rule entries by) holds)
+    (c.read_edge.ensures.reads entries around depth by within rule_is (c.in-Some.ensures.rule entries by) holds)

@@ -1,22 +1,22 @@
-use Rattle.std.proofs.Common.{◌∷◌, map, refl, sym, subst}
+use Rattle.std.proofs.Common.{◌≡◌, ◌∷◌, None, map, refl, sym, subst}
 use Rattle.nj_manifest.specs.Contents.{words_text}
 use Rattle.nj_manifest.specs.Statements.{DefaultText}
 use Rattle.nj_scope.specs.ReadingList.{value_after}
 use Rattle.nj_build.specs.EdgeList.{Values, no_block}
-use Rattle.nj_build.specs.BuildFaults.{first_fault, target_fault, default_fault}
-use Rattle.nj_build.specs.Answers.{BuildingText, HoldsEdges, Sees, Checks, detail_text, entry_at_place}
-use Rattle.nj_build.proofs.Holding.{reads-by, holds-default, on-ok}
+use Rattle.nj_build.specs.BuildFaults.{first_fault, target_fault}
+use Rattle.nj_build.specs.Answers.{BuildingText, HoldsEdges, Sees, detail_text, entry_at_place}
+use Rattle.nj_build.proofs.Holding.{holds-default}
 use Rattle.nj_build.proofs.building.Building.read_default.Goals as goal
 
-pub returns : goal.returns
-returns c = λ entries around depth by within holds.
+pub returns-in-Ok-clause-reads : goal.returns-in-Ok-clause-reads
+returns-in-Ok-clause-reads c = λ entries around depth by within holds.
     let values : Values = value_after entries (c.args.place.scope ∷ around) in
     let words = words_text c.args.words.now in
     let e = entry_at_place c.args.place around depth (DefaultText words) in
     let sees : Sees c.args.declarations.now c.args.place.scope no_block values = record { entries = entries; around = around; declared = by; within = within; are = λ name. refl } in
     let old : BuildingText = record { table = c.self.inside.edges; blocks = c.self.inside.block_values; names = c.self.inside.names; details = map detail_text c.self.inside.details.items; defaults = c.self.inside.defaults.items; dyndeps = c.self.inside.dyndeps.items; references = c.self.inside.references.items } in
     let new : BuildingText = record old { defaults = c.add_targets.new.targets.items } in
-    let held : HoldsEdges old entries = subst (λ b. HoldsEdges b entries) (sym c.self.view_is) holds in
-    reads-by new (default_fault e entries words) e entries c.add_targets.result
-    (subst (λ es. Checks (first_fault (target_fault c.args.place.file.now values es) words) c.add_targets.result) held.edges (c.add_targets.ensures.fault values sees held.none_open))
-    (on-ok c.add_targets.result (c.add_targets.ensures.added values sees) (λ adds. holds-default old new e entries words held refl refl refl refl adds refl refl))
+    let held : HoldsEdges old entries = subst (λ b. HoldsEdges b entries) (sym c.self.view_is) holds in (
+      subst (λ es. first_fault (target_fault c.args.place.file.now values es) words ≡ None) held.edges (c.in-Ok.ensures.fault values sees held.none_open),
+      holds-default old new e entries words held refl refl refl refl (c.in-Ok.ensures.added values sees) refl refl,
+    )

@@ -17,4 +17,4 @@ returns-clause-declares c = λ main entries around depth holds inside.
     let held : Reader = record { declarations = c.args.self.now.declarations; building = c.read_default.new.self; files = c.args.self.now.files; opened = c.args.self.now.opened } in
     let takes = takes-default c.args.self.now.declarations c.args.file.scope around words entries c.args.file.name.now c.args.spot depth holds.declares in
     built-declares main c.args.self.now held entries e c.read_default.result holds takes refl refl refl refl (grows-self c.args.self.now.declarations.scopes) inside
-    (c.read_default.ensures entries around depth holds.declares inside.within holds.edges)
+    (c.read_default.ensures.reads entries around depth holds.declares inside.within holds.edges)

@@ -16,4 +16,4 @@ returns-clause-declares c = λ main entries around depth holds inside.
     let held : Reader = record { declarations = c.args.self.now.declarations; building = c.read_build.new.self; files = c.args.self.now.files; opened = c.args.self.now.opened } in
     let takes = takes-build c.args.self.now.declarations c.args.file.scope around (outputs_text b.outputs) (name_text b.rule) (inputs_text b.inputs) (lines_text b.lines.items) entries c.args.file.name.now c.args.spot depth holds.declares in
     built-declares main c.args.self.now held entries e c.read_build.result holds takes refl refl refl refl (grows-self c.args.self.now.declarations.scopes) inside
-    (c.read_build.ensures entries around depth holds.declares inside.within holds.edges)
+    (c.read_build.ensures.reads entries around depth holds.declares inside.within holds.edges)
