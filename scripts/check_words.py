@@ -44,6 +44,7 @@ VALUES = {"-f": "build.ninja", "--take": "1", "--resume": "start", "--directory"
 # The definitions that write texts of faults, from the first line of each group to an empty one.
 FAULT_TEXTS = {
     "crates/nj_faults/specs/FaultLines.antt": ["cause_text"],
+    "crates/nj_faults/specs/Versions.antt": ["reader_version_text"],
     "crates/nj_manifest/specs/Faults.antt": ["wanted_text", "text_of"],
     "crates/nj_request/specs/FaultLines.antt": ["fault_text"],
     "crates/nj_cli/specs/Answers.antt": ["out_of_range"],

@@ -43,7 +43,7 @@ rule_row : fault_line (at 1 6 (DuplicateRule (codes "phony"))) ≡ codes "build.
 unfolding digits
 rule_row = refl
 
-version_row : fault_line (at 1 1 (VersionTooNew (codes "1.12"))) ≡ codes "build.ninja:1:1: ninja_required_version 1.12 is newer than 1.11"
+version_row : fault_line (at 1 1 (VersionTooNew (codes "1.13"))) ≡ codes "build.ninja:1:1: ninja_required_version 1.13 is newer than 1.12"
 unfolding digits
 version_row = refl
 

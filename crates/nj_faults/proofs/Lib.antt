@@ -1,1 +1,2 @@
 pub mod FaultLineRows
+pub mod VersionRows

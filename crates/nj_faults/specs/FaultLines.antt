@@ -4,6 +4,7 @@ use Rattle.std.specs.Fmt.{decimal}
 use Rattle.nj_text.specs.declared.fault.UnitFault.TheVariants as unit
 use Rattle.nj_text.specs.Units.{first_spot}
 use Rattle.nj_manifest.specs.Faults.{Bad, Expected, UnexpectedIndent, MissingCommand, RspPair, UnknownKey, MissingDepth, DyndepVersion, DyndepShape, text_of}
+use Rattle.nj_faults.specs.Versions.{reader_version_text}
 use Rattle.nj_faults.specs.declared.fault.Place.{Place}
 use Rattle.nj_faults.specs.declared.fault.GraphFault.{GraphFault}
 use Rattle.nj_faults.specs.declared.fault.Cause.{Cause}
@@ -31,7 +32,7 @@ cause_text cause.EmptyPath = codes "empty path"
 cause_text cause.BadDepth = codes "invalid pool depth"
 cause_text (cause.DuplicateRule name) = codes "duplicate rule '" ++ name ++ codes "'"
 cause_text (cause.DuplicatePool name) = codes "duplicate pool '" ++ name ++ codes "'"
-cause_text (cause.VersionTooNew version) = codes "ninja_required_version " ++ version ++ codes " is newer than 1.11"
+cause_text (cause.VersionTooNew version) = codes "ninja_required_version " ++ version ++ codes " is newer than " ++ reader_version_text
 cause_text (cause.Missing path) = codes "cannot find '" ++ path ++ codes "'"
 cause_text cause.PathNotText = codes "path is not UTF-8"
 cause_text cause.TooDeep = codes "more than 32 files open"

@@ -106,7 +106,7 @@ pub enum Cause {
     DuplicateRule(Name),
     /// A second pool of this name, or one named `console`.
     DuplicatePool(Name),
-    /// `ninja_required_version` asks for this version, which is newer than 1.11.
+    /// `ninja_required_version` asks for this version, which is newer than 1.12.
     VersionTooNew(Name),
     /// No file is at the path.
     Missing(Name),

@@ -5,6 +5,7 @@ ghost use Rattle.nj_manifest.specs.Faults.{fault_text, text_of};
 ghost use Rattle.nj_faults.specs.FaultLines.{fault_line, place_text, cause_text};
 
 use crate::fault::{Cause, GraphFault, Name, Place};
+use crate::version::READER_VERSION_TEXT;
 use nj_manifest::{FaultText, LexFault, ParseFault, Spot};
 use std::alloc::{AllocError, Global};
 
@@ -67,12 +68,8 @@ fn append_cause(line: &mut Vec<u8>, cause: &Cause) -> Result<(), AllocError>
         Cause::DuplicateRule(name) => append_quoted(line, "duplicate rule '", name),
         Cause::DuplicatePool(name) => append_quoted(line, "duplicate pool '", name),
         Cause::VersionTooNew(version) => {
-            append_naming(
-                line,
-                "ninja_required_version ",
-                version,
-                " is newer than 1.11",
-            )
+            append_naming(line, "ninja_required_version ", version, " is newer than ")?;
+            append_fixed(line, READER_VERSION_TEXT)
         }
         Cause::Missing(path) => append_quoted(line, "cannot find '", path),
         Cause::PathNotText => append_fixed(line, "path is not UTF-8"),

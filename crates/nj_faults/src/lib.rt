@@ -1,8 +1,10 @@
-//! Why the files of a run do not make a graph, or why what is asked of it cannot be answered, and
-//! the line that reports it.
+//! Why the files of a run do not make a graph, or why what is asked of it cannot be answered, the
+//! line that reports it, and the version of Ninja whose files are read.
 #![tactic(auto)]
 
 mod fault;
 mod fault_line;
+mod version;
 
 pub use fault::{Cause, GraphFault, Name, Place};
+pub use version::is_newer;

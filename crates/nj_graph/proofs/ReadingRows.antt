@@ -65,7 +65,7 @@ main_file_not_told = refl
 
 -- ---- versions
 
-newer_version : refuses_alone (codes "ninja_required_version = 1.12\n") (at 1 1) (VersionTooNew (codes "1.12"))
+newer_version : refuses_alone (codes "ninja_required_version = 1.13\n") (at 1 1) (VersionTooNew (codes "1.13"))
 unfolding on_files
 newer_version = refl
 
@@ -73,7 +73,7 @@ older_version : reads_all (codes "ninja_required_version = 1.8.2\n") []
 unfolding on_files
 older_version = refl
 
-same_version : reads_all (codes "ninja_required_version = 1.11\n") []
+same_version : reads_all (codes "ninja_required_version = 1.12\n") []
 unfolding on_files
 same_version = refl
 

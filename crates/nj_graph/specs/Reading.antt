@@ -13,7 +13,7 @@ use Rattle.nj_manifest.specs.Statements.{SubninjaText, PlacedText}
 use Rattle.nj_scope.specs.Readings as table
 use Rattle.nj_scope.specs.Readings.{reading_of}
 use Rattle.nj_scope.specs.Scopes.{expanded}
-use Rattle.nj_scope.specs.Limits.{is_depth, is_newer}
+use Rattle.nj_scope.specs.Limits.{is_depth}
 use Rattle.nj_scope.specs.Pools.{is_pool}
 use Rattle.nj_scope.specs.ReadingList.{Entry, scope_of, value_after, rules, is_declared, pools, scopes_opened, files_opened}
 use Rattle.nj_faults.specs.declared.fault.Place.{Place}
@@ -22,6 +22,7 @@ use Rattle.nj_faults.specs.declared.fault.GraphFault.{GraphFault}
 use Rattle.nj_faults.specs.declared.fault.Cause.TheVariants.{EmptyPath, BadDepth, DuplicateRule, DuplicatePool, VersionTooNew, Missing}
 use Rattle.nj_faults.specs.declared.fault.Cause.TheVariants.{PathNotText, TooDeep, TooManyOpenings}
 use Rattle.nj_faults.specs.Faults.{fault_at, fault_in}
+use Rattle.nj_faults.specs.Versions.{is_newer}
 use Rattle.nj_build.specs.BuildFaults.{build_fault, default_fault}
 pub use Rattle.nj_build.specs.BuildFaults.{fault_if, or_then}
 use Rattle.nj_graph.specs.Parsed.{parsed}

@@ -9,9 +9,9 @@ ghost use Rattle.nj_graph.specs.Reading.{entry_at, site_scope, depth_fault};
 ghost use Rattle.nj_graph.specs.ReaderContracts.{InFile, ScopesGrow, Checks, Declares};
 
 use crate::reader::{OpenFile, Reader};
-use nj_faults::{Cause, GraphFault, Name};
+use nj_faults::{Cause, GraphFault, Name, is_newer};
 use nj_manifest::{Line, PlacedName, Spot, Word};
-use nj_scope::{is_depth, is_newer};
+use nj_scope::is_depth;
 use std::alloc::Global;
 
 impl Reader {

@@ -179,22 +179,27 @@ fn reports_newer_versions(rt: HostRuntime) -> Result<(), Fail> {
         &rt,
         &[
             (
-                b"ninja_required_version = 1.12",
-                "build.ninja:1:1: ninja_required_version 1.12 is newer than 1.11",
+                b"ninja_required_version = 1.13",
+                "build.ninja:1:1: ninja_required_version 1.13 is newer than 1.12",
+            ),
+            (
+                b"ninja_required_version = 2.0",
+                "build.ninja:1:1: ninja_required_version 2.0 is newer than 1.12",
             ),
             (b"ninja_required_version = 1.8.2", "accepted"),
-            (b"ninja_required_version = 1.11", "accepted"),
+            (b"ninja_required_version = 1.12", "accepted"),
+            (b"ninja_required_version = 1.12.9", "accepted"),
             (
                 b"ninja_required_version = 1.2$ninja_required_version",
                 "accepted",
             ),
             (
-                b"v = 1\nninja_required_version = $v.12.3",
-                "build.ninja:2:1: ninja_required_version 1.12.3 is newer than 1.11",
+                b"v = 1\nninja_required_version = $v.13.3",
+                "build.ninja:2:1: ninja_required_version 1.13.3 is newer than 1.12",
             ),
             (
                 b"ninja_required_version = 1.8\nninja_required_version = 2",
-                "build.ninja:2:1: ninja_required_version 2 is newer than 1.11",
+                "build.ninja:2:1: ninja_required_version 2 is newer than 1.12",
             ),
             (b"ninja_required_versions = 2", "accepted"),
             // syntax first
@@ -447,13 +452,13 @@ fn reports_the_first_fault_of_the_files(rt: HostRuntime) -> Result<(), Fail> {
 #[test]
 fn each_file_may_ask_for_a_version(rt: HostRuntime) -> Result<(), Fail> {
     let asks = "\nninja_required_version = $v";
-    let newer = "s:2:1: ninja_required_version 1.12 is newer than 1.11";
+    let newer = "s:2:1: ninja_required_version 1.13 is newer than 1.12";
     reports_with_s(
         &rt,
         &[
-            ("v = 1.12\ninclude s", asks, newer),
-            ("v = 1.12\nsubninja s", asks, newer),
-            ("v = 1.11\nsubninja s", asks, "accepted"),
+            ("v = 1.13\ninclude s", asks, newer),
+            ("v = 1.13\nsubninja s", asks, newer),
+            ("v = 1.12\nsubninja s", asks, "accepted"),
         ],
     )
 }

@@ -305,8 +305,8 @@ fn reports_faults_of_files(rt: HostRuntime) -> Result<(), Fail> {
                 "[1] build.ninja:2:1: tabs are not allowed, use spaces\n",
             ),
             (
-                b"ninja_required_version = 1.12\n",
-                "[1] build.ninja:1:1: ninja_required_version 1.12 is newer than 1.11\n",
+                b"ninja_required_version = 1.13\n",
+                "[1] build.ninja:1:1: ninja_required_version 1.13 is newer than 1.12\n",
             ),
             (b"ninja_required_version = 1.8.2\n", "[0] "),
             (

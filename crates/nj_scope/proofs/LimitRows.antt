@@ -5,7 +5,7 @@ use Rattle.nj_text.specs.Numbers.{value_of_digits}
 use Rattle.nj_text.specs.Words.{Text, Name}
 use Rattle.std.specs.Prelude.{[], ◌∷◌}
 use Rattle.nj_scope.specs.Late.{parts_written}
-use Rattle.nj_scope.specs.Limits.{is_depth, is_newer}
+use Rattle.nj_scope.specs.Limits.{is_depth}
 
 greatest : is_depth (codes "2147483647") ≡ true
 unfolding value_of_digits
@@ -22,18 +22,6 @@ passed_over = refl
 sign : is_depth (codes "-1") ≡ false
 unfolding value_of_digits
 sign = refl
-
-newer : is_newer (codes "1.12") ≡ true
-unfolding value_of_digits
-newer = refl
-
-same : is_newer (codes "1.11") ≡ false
-unfolding value_of_digits
-same = refl
-
-older : is_newer (codes "1.8.2") ≡ false
-unfolding value_of_digits
-older = refl
 
 description : parts_written (Text (codes "CC ") ∷ Name (codes "out") ∷ Text (codes " done") ∷ []) ≡ codes "CC ${out} done"
 description = refl

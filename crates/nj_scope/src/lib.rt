@@ -15,7 +15,7 @@ mod table;
 pub use declarations::Declarations;
 pub use late::LateValue;
 pub use laws::{rules_in_force, values_by_reading_order};
-pub use limits::{is_depth, is_newer};
+pub use limits::is_depth;
 pub use memory::MemoryFiles;
 pub use nj_hash::HashKeys;
 pub use rule::Rule;

@@ -11,7 +11,6 @@ use crate::words::ascii;
 use nj_manifest::Line;
 use nj_scope::{
     Declarations, FileSource, FileTable, HashKeys, MemoryFiles, Rule, SourceFault, is_depth,
-    is_newer,
 };
 use nj_text::{Lexer, Part, Word};
 use std::alloc::{AllocError, Global};
@@ -378,7 +377,7 @@ fn a_pool_is_declared_once(rt: HostRuntime) -> Result<(), Fail> {
 }
 
 #[test]
-fn depths_and_versions_have_limits(rt: HostRuntime) {
+fn depths_have_limits(rt: HostRuntime) {
     let depths: [(&[u8], bool); 6] = [
         (b"2147483647", true),
         (b"2147483648", false),
@@ -389,15 +388,5 @@ fn depths_and_versions_have_limits(rt: HostRuntime) {
     ];
     for (text, want) in depths {
         assert_eq!(rt; is_depth(text), want);
-    }
-    let versions: [(&[u8], bool); 5] = [
-        (b"1.12", true),
-        (b"2", true),
-        (b"1.11", false),
-        (b"1.8.2", false),
-        (b"0.99", false),
-    ];
-    for (text, want) in versions {
-        assert_eq!(rt; is_newer(text), want);
     }
 }

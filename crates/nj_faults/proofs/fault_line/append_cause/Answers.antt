@@ -1,6 +1,20 @@
 use Rattle.std.proofs.Common.{◌≡◌, ℕ, List, ◌∷◌, ◌++◌, ap, sym, append_assoc, codes, ◌∙◌}
 use Rattle.std.proofs.lemmas.Result.{on_ok_weaker}
+use Rattle.nj_faults.specs.Versions.{reader_version_text}
 use Rattle.nj_faults.proofs.fault_line.append_cause.Goals as goal
+
+-- what stands before the version of the reader
+abbrev newer : List ℕ → List ℕ
+newer version = codes "ninja_required_version " ++ version ++ codes " is newer than "
+
+pub returns-in_ok-append_naming-in-VersionTooNew :
+    goal.returns-in_ok-append_naming-in-VersionTooNew
+returns-in_ok-append_naming-in-VersionTooNew c =
+    let line = c.args.line.now.items in
+    let version = c.in-VersionTooNew.version in
+    let named = c.in_ok-append_naming-in-VersionTooNew.ensures in
+    rw (c.in-VersionTooNew.is) (on_ok_weaker c.append_fixed-in-VersionTooNew.result
+    (λ appended. appended ∙ ap (λ text. text ++ reader_version_text) named ∙ append_assoc line (newer version) reader_version_text) c.append_fixed-in-VersionTooNew.ensures)
 
 -- what stands after the path, without the quote that opens the file
 abbrev after : List ℕ

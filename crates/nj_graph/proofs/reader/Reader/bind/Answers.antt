@@ -1,8 +1,8 @@
 use Rattle.std.proofs.Common.{bytes_eq, refl, sym, ap, ◌∙◌}
 use Rattle.nj_text.specs.Words.{word_text}
 use Rattle.nj_manifest.specs.Statements.{BindingText}
-use Rattle.nj_scope.specs.Limits.{is_newer}
 use Rattle.nj_scope.specs.ReadingList.{Entry}
+use Rattle.nj_faults.specs.Versions.{is_newer}
 use Rattle.nj_graph.specs.declared.reader.Reader.{Reader}
 use Rattle.nj_build.proofs.Holding.{holds-other}
 use Rattle.nj_graph.specs.Reading.{entry_at}
