@@ -27,7 +27,7 @@ use Rattle.nj_request.specs.Requests as ask
 use Rattle.nj_tools.specs.CommandTexts.{command_lines, written, left_after, StopsAt, single, own_commands_in, own_commands}
 use Rattle.nj_tools.specs.Sinks.{SinkState, Takes}
 use Rattle.nj_tools.specs.Compdb.{compdb_text, unheld_edge}
-use Rattle.nj_tools.specs.Listings.{inputs_text}
+use Rattle.nj_tools.specs.Listings.{plain_style, inputs_text}
 use Rattle.nj_tools.specs.Queries.{query_text}
 use Rattle.nj_tools.specs.Texts.{StopsWithin, TakesFront}
 use Rattle.nj_tools.specs.declared.fault.ToolFault.{ToolFault}
@@ -92,7 +92,7 @@ module _ (entries : List Entry) (g : GraphText) (is : IsGraphOf g entries) where
   pub inputs-refused : (words : List (List ℕ)) (f : GraphFault) (s : SinkState)
       → (f ≡ no_memory) ⊎ (targets_named (edges_of g) words ≡ Err f) → AnswersTo entries (ask.inputs words) s s (Err (fault.Graph f))
   inputs-refused words f s (inl none) = inl (none, refl)
-  inputs-refused words f s (inr named) = inr (for_targets-refused (inputs_text (edges_by_path entries)) (targets_of entries words) f s (targets-are words (Err f) named))
+  inputs-refused words f s (inr named) = inr (for_targets-refused (inputs_text plain_style (edges_by_path entries)) (targets_of entries words) f s (targets-are words (Err f) named))
 
   files-are : (words : List (List ℕ)) (answer : Result (List (List ℕ)) GraphFault) → targets_named (edges_of g) words ≡ answer
       → targets_named (edges_by_path entries) words ≡ answer
@@ -183,17 +183,17 @@ module _ (entries : List Entry) (g : GraphText) (is : IsGraphOf g entries) where
 
     -- ---- the inputs that they need
 
-    inputs-are : inputs_text (edges_of g) (map (path_at (files_of g)) numbers) ≡ output_of entries (ask.inputs words)
+    inputs-are : inputs_text plain_style (edges_of g) (map (path_at (files_of g)) numbers) ≡ output_of entries (ask.inputs words)
     inputs-are =
-        ap (inputs_text (edges_of g)) (paths-at (files_of g) numbers targets are)
-        ∙ ap (λ (es : List EdgePaths). inputs_text es targets) edges-are
-        ∙ ap (for_targets (inputs_text (edges_by_path entries))) (sym named-so)
+        ap (inputs_text plain_style (edges_of g)) (paths-at (files_of g) numbers targets are)
+        ∙ ap (λ (es : List EdgePaths). inputs_text plain_style es targets) edges-are
+        ∙ ap (for_targets (inputs_text plain_style (edges_by_path entries))) (sym named-so)
 
-    pub inputs-answered : (old new : SinkState) → Takes old new (inputs_text (edges_of g) (map (path_at (files_of g)) numbers))
+    pub inputs-answered : (old new : SinkState) → Takes old new (inputs_text plain_style (edges_of g) (map (path_at (files_of g)) numbers))
         → AnswersTo entries (ask.inputs words) old new (Ok None)
     inputs-answered old new took = (ends-well, subst (Takes old new) inputs-are took)
 
-    pub inputs-failed : (old new : SinkState) (f : ToolFault) → StopsWithin old new (inputs_text (edges_of g) (map (path_at (files_of g)) numbers)) f
+    pub inputs-failed : (old new : SinkState) (f : ToolFault) → StopsWithin old new (inputs_text plain_style (edges_of g) (map (path_at (files_of g)) numbers)) f
         → AnswersTo entries (ask.inputs words) old new (Err (fault_of_tool f))
     inputs-failed old new f stopped_so = stops (ask.inputs words) old new f (subst (λ t. StopsWithin old new t f) inputs-are stopped_so)
 

@@ -12,7 +12,7 @@ use Rattle.nj_needs.specs.Marks.{is_valid, rest}
 use Rattle.nj_needs.specs.Pages.{IsMarkAfter}
 use Rattle.nj_tools.specs.CommandTexts.{command_lines, written, left_after, own_commands_in}
 use Rattle.nj_tools.specs.Compdb.{compdb_text, unheld_edge}
-use Rattle.nj_tools.specs.Listings.{inputs_text, targets_text}
+use Rattle.nj_tools.specs.Listings.{plain_style, inputs_text, targets_text}
 use Rattle.nj_tools.specs.Queries.{query_text}
 use Rattle.nj_tools.specs.RuleLists.{rules_text}
 use Rattle.nj_request.specs.Requests.{ActionText, commands, single_commands}
@@ -59,7 +59,7 @@ single_commands_text entries targets = command_lines entries (own_commands_in (e
 abbrev pub output_of : List Entry → ActionText → List ℕ
 output_of entries (commands words take start) = commands_text entries take start (targets_of entries words)
 output_of entries (single_commands words) = for_targets (single_commands_text entries) (targets_of entries words)
-output_of entries (ask.inputs words) = for_targets (inputs_text (edges_by_path entries)) (targets_of entries words)
+output_of entries (ask.inputs words) = for_targets (inputs_text plain_style (edges_by_path entries)) (targets_of entries words)
 output_of entries (ask.targets view) = targets_text entries view
 output_of entries (ask.query words) = for_targets (query_text entries) (targets_named (edges_by_path entries) words)
 output_of entries (ask.rules descriptions) = rules_text entries descriptions

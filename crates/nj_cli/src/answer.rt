@@ -17,8 +17,8 @@ use nj_graph::{Cause, EdgeNo, FileNo, Graph, GraphFault, Name, Place, PlaceRef};
 use nj_needs::{Mark, Needs};
 use nj_request::Action;
 use nj_tools::{
-    Sink, TargetsView, ToolFault, write_commands, write_compdb, write_inputs, write_query,
-    write_rules, write_single_commands, write_targets,
+    InputsStyle, Sink, TargetsView, ToolFault, write_commands, write_compdb, write_inputs,
+    write_query, write_rules, write_single_commands, write_targets,
 };
 use std::alloc::{AllocError, Global};
 
@@ -101,7 +101,12 @@ fn answer_inputs<O: Sink>(
 {
     let picked = pick_targets(alloc, graph, words)?;
     let targets = or_defaults(graph, &picked);
-    write_inputs(alloc, graph, targets, out)?;
+    let style = InputsStyle {
+        dependency_order: false,
+        shell_escape: true,
+        zero: false,
+    };
+    write_inputs(alloc, graph, targets, style, out)?;
     Ok(None)
 }
 

@@ -5,6 +5,7 @@ use Rattle.std.specs.List.{IsDistinct}
 use Rattle.std.proofs.lemmas.List.{map_push}
 use Rattle.std.proofs.lemmas.List.Elements.{All-nil, All-head, All-tail, All-push, recursion_from_All, filter-append, filter_agree}
 use Rattle.std.proofs.lemmas.Slice.Eq.{bytes_eq-Decides}
+use Rattle.nj_scope.specs.Readings.{IsPrefix}
 use Rattle.nj_edges.specs.declared.files.FileNo.{FileNo}
 use Rattle.nj_edges.specs.Edges.{is_among}
 use Rattle.nj_edges.specs.Files.{path_at}
@@ -49,6 +50,10 @@ once-append (x ∷ xs) ys =
     let p : List ℕ → Bool = λ y. not (bytes_eq y x) in
     ap (λ ps. x ∷ filter p ps) (once-append xs ys)
     ∙ ap (λ ps. x ∷ ps) (filter-append p (each_once xs) (fresh xs (each_once ys)) ∙ ap (λ ps. filter p (each_once xs) ++ ps) (fresh-cons x xs (each_once ys)))
+
+-- with more after it, a list without its repeats goes on
+pub once-front : (xs ys : List (List ℕ)) → IsPrefix (each_once xs) (each_once (xs ++ ys))
+once-front xs ys = (fresh xs (each_once ys), once-append xs ys)
 
 once-known : (xs : List (List ℕ)) (x : List ℕ) → is_among xs x ≡ true → each_once (xs ++ x ∷ []) ≡ each_once xs
 once-known xs x h = once-append xs (x ∷ []) ∙ ap (λ b. each_once xs ++ cond (not b) (x ∷ []) []) h ∙ append-nil (each_once xs)

@@ -1,7 +1,13 @@
--- The lines of a list of paths: they rise, and are the listed paths.
-use Rattle.std.proofs.Common.{◌≡◌, ◌≢◌, ◌⊎◌, inl, inr, ℕ, Bool, true, false, not, ◌||◌, cond, Some, None, List, [], ◌∷◌, map, bytes_eq, refl, sym, ap, subst, ◌∙◌, true≢false, arith}
+-- The lines of a list of paths, and its texts as `inputs` prints them: they rise, and are those of the listed paths.
+use Rattle.std.proofs.Common.{◌≡◌, ◌≢◌, ◌↔◌, ◌⊎◌, inl, inr, ℕ, Bool, true, false, not, ◌||◌, cond, if◌then◌else◌, Some, None, List, [], ◌∷◌, map, bytes_eq, refl, sym, ap, subst, ◌∙◌, true≢false, arith}
 use Rattle.std.specs.List.{AllByRecursion, Contains, filter, IsDistinct}
+use Rattle.std.specs.List.Sorted.{IsStrictlySortedBy}
+use Rattle.std.specs.Cmp.Lexicographic.{slice_cmp}
+use Rattle.std.specs.Ordering.{nat_cmp}
+use Rattle.std.specs.Cmp.{IsEquivalence}
+use Rattle.std.proofs.lemmas.Cmp.{nat_list_eq_equiv}
 use Rattle.std.proofs.lemmas.List.Sorted.{IsPermutation-sym, Contains-permutation}
+use Rattle.std.proofs.lemmas.Map.Keys.{IsDistinct-IsPermutation}
 use Rattle.std.proofs.lemmas.Slice.Eq.{bytes_eq-Decides}
 use Rattle.nj_edges.specs.Edges.{is_among}
 use Rattle.nj_graph.specs.Graph.{is_before}
@@ -9,7 +15,9 @@ use Rattle.nj_graph.proofs.NameLemmas.{strict-sorted, permuted-sorted, contains-
 use Rattle.nj_text.specs.Quotes.{quoted}
 use Rattle.nj_text.specs.QuoteLaws.{shell_word}
 use Rattle.nj_text.proofs.QuotedTexts.{takes_the_path}
-use Rattle.nj_tools.specs.Listings.{each_once, sorted, LinesRise, ListedHaveLines, QuotedLinesRise, QuotesHaveLines}
+use Rattle.nj_tools.specs.declared.style.InputsStyle.{InputsStyle}
+use Rattle.nj_tools.specs.Listings.{each_once, sorted, printed, printed_texts, inputs_text, LinesRise, ListedHaveLines}
+use Rattle.nj_tools.specs.Listings.{PlainInputsAreSortedQuotes}
 use Rattle.nj_tools.proofs.CollectedLemmas.{among-once}
 
 -- ---- they rise
@@ -110,49 +118,95 @@ quoted-apart (a ∷ x) [] h = sym (quoted-some a x h)
 quoted-apart (a ∷ x) (b ∷ y) h =
     some-same (a ∷ x) (b ∷ y) (sym (takes_the_path (a ∷ x) (has-byte a x)) ∙ ap shell_word h ∙ takes_the_path (b ∷ y) (has-byte b y))
 
-quotes-differ : (x y : List ℕ) → bytes_eq x y ≡ false → bytes_eq (quoted x) (quoted y) ≡ false
-quotes-differ x y h = by (bytes_eq (quoted x) (quoted y)) (bytes_eq-Decides (quoted x) (quoted y)).0
+-- nor does any style print two paths as the same text
+printed-apart : (style : InputsStyle) (x y : List ℕ) → printed style x ≡ printed style y → x ≡ y
+printed-apart style x y h = by style.shell_escape h
   where
-    by : (b : Bool) → (b ≡ true → quoted x ≡ quoted y) → b ≡ false
-    by true same = absurd (true≢false (sym ((bytes_eq-Decides x y).1 (quoted-apart x y (same refl))) ∙ h))
-    by false same = refl
+    by : (b : Bool) → (if b then quoted x else x) ≡ (if b then quoted y else y) → x ≡ y
+    by true same = quoted-apart x y same
+    by false same = same
 
-all-quotes : (x : List ℕ) (ys : List (List ℕ)) → AllByRecursion (λ y. bytes_eq x y ≡ false) ys → AllByRecursion (λ z. bytes_eq (quoted x) z ≡ false) (map quoted ys)
-all-quotes x [] all = tt
-all-quotes x (y ∷ ys) all = (quotes-differ x y all.0, all-quotes x ys all.1)
+module _ (style : InputsStyle) where
+  texts-differ : (x y : List ℕ) → bytes_eq x y ≡ false → bytes_eq (printed style x) (printed style y) ≡ false
+  texts-differ x y h = by (bytes_eq (printed style x) (printed style y)) (bytes_eq-Decides (printed style x) (printed style y)).0
+    where
+      by : (b : Bool) → (b ≡ true → printed style x ≡ printed style y) → b ≡ false
+      by true same = absurd (true≢false (sym ((bytes_eq-Decides x y).1 (printed-apart style x y (same refl))) ∙ h))
+      by false same = refl
 
-distinct-quotes : (xs : List (List ℕ)) → IsDistinct bytes_eq xs → IsDistinct bytes_eq (map quoted xs)
-unfolding IsDistinct
-distinct-quotes [] distinct = tt
-distinct-quotes (x ∷ xs) distinct = (all-quotes x xs distinct.0, distinct-quotes xs distinct.1)
+  all-texts : (x : List ℕ) (ys : List (List ℕ)) → AllByRecursion (λ y. bytes_eq x y ≡ false) ys → AllByRecursion (λ z. bytes_eq (printed style x) z ≡ false) (map (printed style) ys)
+  all-texts x [] all = tt
+  all-texts x (y ∷ ys) all = (texts-differ x y all.0, all-texts x ys all.1)
 
-pub quoted-rise : QuotedLinesRise
-quoted-rise paths = strict-sorted (map quoted (each_once paths)) (distinct-quotes (each_once paths) (distinct-once paths))
+  distinct-texts : (xs : List (List ℕ)) → IsDistinct bytes_eq xs → IsDistinct bytes_eq (map (printed style) xs)
+  unfolding IsDistinct
+  distinct-texts [] distinct = tt
+  distinct-texts (x ∷ xs) distinct = (all-texts x xs distinct.0, distinct-texts xs distinct.1)
 
-quote-of : (xs : List (List ℕ)) (text : List ℕ) → Contains (map quoted xs) text → (path : List ℕ) × Contains xs path × (quoted path ≡ text)
-quote-of [] text c = absurd (omega (arith, c.1))
-quote-of (x ∷ xs) text c = by (contains-cases (quoted x) text (map quoted xs) c) (quote-of xs text)
-  where
-    by : (text ≡ quoted x) ⊎ Contains (map quoted xs) text → (Contains (map quoted xs) text → (path : List ℕ) × Contains xs path × (quoted path ≡ text))
-        → (path : List ℕ) × Contains (x ∷ xs) path × (quoted path ≡ text)
-    by (inl is) rest = (x, contains-here x xs, sym is)
-    by (inr later) rest = let r = rest later in (r.0, contains-later x r.0 xs r.1, r.2)
+  path-of : (xs : List (List ℕ)) (text : List ℕ) → Contains (map (printed style) xs) text → (path : List ℕ) × Contains xs path × (printed style path ≡ text)
+  path-of [] text c = absurd (omega (arith, c.1))
+  path-of (x ∷ xs) text c = by (contains-cases (printed style x) text (map (printed style) xs) c) (path-of xs text)
+    where
+      by : (text ≡ printed style x) ⊎ Contains (map (printed style) xs) text
+          → (Contains (map (printed style) xs) text → (path : List ℕ) × Contains xs path × (printed style path ≡ text))
+          → (path : List ℕ) × Contains (x ∷ xs) path × (printed style path ≡ text)
+      by (inl is) rest = (x, contains-here x xs, sym is)
+      by (inr later) rest = let r = rest later in (r.0, contains-later x r.0 xs r.1, r.2)
 
-has-quote : (xs : List (List ℕ)) (path : List ℕ) → Contains xs path → Contains (map quoted xs) (quoted path)
-has-quote [] path c = absurd (omega (arith, c.1))
-has-quote (x ∷ xs) path c = by (contains-cases x path xs c) (has-quote xs path)
-  where
-    by : (path ≡ x) ⊎ Contains xs path → (Contains xs path → Contains (map quoted xs) (quoted path)) → Contains (map quoted (x ∷ xs)) (quoted path)
-    by (inl is) rest = subst (λ p. Contains (quoted p ∷ map quoted xs) (quoted path)) is (contains-here (quoted path) (map quoted xs))
-    by (inr later) rest = contains-later (quoted x) (quoted path) (map quoted xs) (rest later)
+  has-text : (xs : List (List ℕ)) (path : List ℕ) → Contains xs path → Contains (map (printed style) xs) (printed style path)
+  has-text [] path c = absurd (omega (arith, c.1))
+  has-text (x ∷ xs) path c = by (contains-cases x path xs c) (has-text xs path)
+    where
+      by : (path ≡ x) ⊎ Contains xs path → (Contains xs path → Contains (map (printed style) xs) (printed style path))
+          → Contains (map (printed style) (x ∷ xs)) (printed style path)
+      by (inl is) rest =
+          subst (λ p. Contains (printed style p ∷ map (printed style) xs) (printed style path)) is (contains-here (printed style path) (map (printed style) xs))
+      by (inr later) rest = contains-later (printed style x) (printed style path) (map (printed style) xs) (rest later)
 
-pub quotes-have_lines : QuotesHaveLines
-quotes-have_lines paths text =
-    let once = each_once paths in
-    let moved = permuted-sorted is_before (map quoted once) in (
-      λ h.
-          let of = quote-of once text (Contains-permutation (sorted (map quoted once)) (map quoted once) text (IsPermutation-sym (map quoted once) (sorted (map quoted once)) moved) h) in
-          (of.0, contains-among paths of.0 (sym (among-once paths of.0) ∙ among-contains once of.0 of.1), of.2),
-      λ h. Contains-permutation (map quoted once) (sorted (map quoted once)) text moved
-          (subst (Contains (map quoted once)) h.2 (has-quote once h.0 (contains-among once h.0 (among-once paths h.0 ∙ among-contains paths h.0 h.1)))),
-    )
+bytes-alike : IsEquivalence bytes_eq
+bytes-alike = nat_list_eq_equiv
+
+module _ (style : InputsStyle) (paths : List (List ℕ)) where
+  distinct : IsDistinct bytes_eq (map (printed style) (each_once paths))
+  distinct = distinct-texts style (each_once paths) (distinct-once paths)
+
+  pub sorted-rise : style.dependency_order ≡ false → IsStrictlySortedBy (slice_cmp nat_cmp) (printed_texts style paths)
+  sorted-rise h = by style.dependency_order h
+    where
+      by : (b : Bool) → b ≡ false
+          → IsStrictlySortedBy (slice_cmp nat_cmp) (if b then map (printed style) (each_once paths) else sorted (map (printed style) (each_once paths)))
+      by true in_order = absurd (true≢false in_order)
+      by false in_order = strict-sorted (map (printed style) (each_once paths)) distinct
+
+  pub printed-differ : IsDistinct bytes_eq (printed_texts style paths)
+  printed-differ = by style.dependency_order
+    where
+      by : (b : Bool) → IsDistinct bytes_eq (if b then map (printed style) (each_once paths) else sorted (map (printed style) (each_once paths)))
+      by true = distinct
+      by false =
+          let all = map (printed style) (each_once paths) in
+          IsDistinct-IsPermutation bytes_eq bytes-alike.symm all (sorted all) (permuted-sorted is_before all) distinct
+
+  pub listed-printed : (text : List ℕ) → Contains (printed_texts style paths) text ↔ ((path : List ℕ) × Contains paths path × (printed style path ≡ text))
+  listed-printed text =
+      let once = each_once paths in
+      let same = either style.dependency_order in (
+        λ h.
+            let of = path-of style once text (same.0 h) in
+            (of.0, contains-among paths of.0 (sym (among-once paths of.0) ∙ among-contains once of.0 of.1), of.2),
+        λ h. same.1
+            (subst (Contains (map (printed style) once)) h.2
+            (has-text style once h.0 (contains-among once h.0 (among-once paths h.0 ∙ among-contains paths h.0 h.1)))),
+      )
+    where
+      either : (b : Bool) → Contains (if b then map (printed style) (each_once paths) else sorted (map (printed style) (each_once paths))) text
+          ↔ Contains (map (printed style) (each_once paths)) text
+      either true = (λ h. h, λ h. h)
+      either false =
+          let all = map (printed style) (each_once paths) in
+          let moved = permuted-sorted is_before all in
+          (λ h. Contains-permutation (sorted all) all text (IsPermutation-sym all (sorted all) moved) h, λ h. Contains-permutation all (sorted all) text moved h)
+
+pub plain-quotes : PlainInputsAreSortedQuotes
+unfolding inputs_text
+plain-quotes edges targets = refl

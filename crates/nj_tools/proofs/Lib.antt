@@ -2,6 +2,8 @@ pub mod BlockLemmas
 pub mod CollectedLemmas
 pub mod CommandLemmas
 pub mod KindLemmas
+pub mod InputLemmas
+pub mod InputRows
 pub mod ItemLemmas
 pub mod JsonLemmas
 pub mod LawLemmas

@@ -1,5 +1,5 @@
 -- How lists of paths are collected edge by edge.
-use Rattle.std.proofs.Common.{◌≡◌, ℕ, ◌+◌, ◌<◌, Bool, true, false, not, cond, true≢false, Option, Some, None, unwrap_or, option_map, is_none, is_some, List, [], ◌∷◌, ◌++◌, map, length, get_or, take, All, bytes_eq, refl, sym, ap, subst, ◌∙◌, append-nil, arith}
+use Rattle.std.proofs.Common.{◌≡◌, ℕ, ◌+◌, ◌<◌, Bool, true, false, not, cond, if◌then◌else◌, true≢false, Option, Some, None, unwrap_or, option_map, is_none, is_some, List, [], ◌∷◌, ◌++◌, map, length, get_or, take, All, bytes_eq, refl, sym, ap, subst, ◌∙◌, append-nil, arith}
 use Rattle.std.specs.Prelude.{filter}
 use Rattle.std.specs.List.{flat_map, IsDistinct}
 use Rattle.std.proofs.lemmas.List.{length-map}
@@ -16,9 +16,10 @@ use Rattle.nj_build.proofs.LateLemmas.{paths-are}
 use Rattle.nj_graph.specs.Graph.{GraphText, edges_of, files_of, IsGraphOf, rule_name_of, rule_name_at}
 use Rattle.nj_graph.proofs.EdgeTexts.{there}
 use Rattle.nj_tools.specs.Collections.{with_files, AreOf}
-use Rattle.nj_tools.specs.Lines.{lines}
-use Rattle.nj_tools.specs.Listings.{each_once, sorted, needed_inputs, inputs_text, outputs_text, made_line}
+use Rattle.nj_tools.specs.declared.style.InputsStyle.{InputsStyle}
+use Rattle.nj_tools.specs.Listings.{each_once, sorted, needed_inputs, printed, terminated, inputs_text, outputs_text, made_line}
 use Rattle.nj_tools.proofs.CollectedLemmas.{AreOf-files}
+use Rattle.nj_tools.proofs.ItemLemmas.{flat_map-map}
 
 -- ---- the files of one edge more
 
@@ -116,10 +117,27 @@ module _ (g : GraphText) (entries : List Entry) (is : IsGraphOf g entries) where
 
 -- ---- what `inputs` writes
 
-pub inputs-are : (edges : List EdgePaths) (targets paths texts : List (List ℕ)) → paths ≡ each_once (needed_inputs edges targets) → texts ≡ sorted (map quoted paths)
-    → lines texts ≡ inputs_text edges targets
+-- paths that are not quoted are printed as they are
+pub printed-as_they_are : (style : InputsStyle) → style.shell_escape ≡ false → (paths : List (List ℕ)) → map (printed style) paths ≡ paths
+printed-as_they_are style unquoted [] = refl
+printed-as_they_are style unquoted (path ∷ paths) =
+    ap (λ b. (if b then quoted path else path) ∷ map (printed style) paths) unquoted ∙ ap (λ ps. path ∷ ps) (printed-as_they_are style unquoted paths)
+
+pub inputs-as_needed : (style : InputsStyle) (edges : List EdgePaths) (targets : List (List ℕ)) → style.dependency_order ≡ true
+    → flat_map (λ path. terminated style (printed style path)) (each_once (needed_inputs edges targets)) ≡ inputs_text style edges targets
 unfolding inputs_text
-inputs-are edges targets paths texts are written = ap lines (written ∙ ap (λ ps. sorted (map quoted ps)) are)
+inputs-as_needed style edges targets in_order =
+    let texts = map (printed style) (each_once (needed_inputs edges targets)) in
+    sym (flat_map-map (terminated style) (printed style) (each_once (needed_inputs edges targets)))
+    ∙ ap (λ b. flat_map (terminated style) (if b then texts else sorted texts)) (sym in_order)
+
+pub inputs-sorted : (style : InputsStyle) (edges : List EdgePaths) (targets paths : List (List ℕ)) → style.dependency_order ≡ false → paths ≡ each_once (needed_inputs edges targets)
+    → flat_map (terminated style) (sorted (map (printed style) paths)) ≡ inputs_text style edges targets
+unfolding inputs_text
+inputs-sorted style edges targets paths in_order are =
+    let texts = map (printed style) (each_once (needed_inputs edges targets)) in
+    ap (λ ps. flat_map (terminated style) (sorted (map (printed style) ps))) are
+    ∙ ap (λ b. flat_map (terminated style) (if b then texts else sorted texts)) (sym in_order)
 
 -- ---- files without a maker
 

@@ -27,6 +27,15 @@ abbrev pub with_files : List FileNo → List FileNo → List FileNo
 with_files files [] = files
 with_files files (file ∷ more) = with_files (with_file files file) more
 
+-- a file, unless it is one of these already
+abbrev pub new_file : List FileNo → FileNo → List FileNo
+new_file files file = if is_collected files file then [] else file ∷ []
+
+-- of more files those that are new, each once
+abbrev pub new_files : List FileNo → List FileNo → List FileNo
+new_files files [] = []
+new_files files (file ∷ more) = new_file files file ++ new_files (with_file files file) more
+
 -- these are the files of a list of paths, each once
 pub record AreOf (paths : List (List ℕ)) (files : List FileNo) (listed : List (List ℕ)) : Type 0 where
   pub paths_are : map (path_at paths) files ≡ each_once listed

@@ -1,7 +1,8 @@
 -- What `inputs` and `targets` write.
-use Rattle.std.specs.Prelude.{◌≡◌, ◌↔◌, ℕ, zero, suc, ◌+◌, ◌==◌, not, if◌then◌else◌, Option, Some, None, is_none, List, [], ◌∷◌, ◌++◌}
+use Rattle.std.specs.Prelude.{◌≡◌, ◌↔◌, ℕ, zero, suc, ◌+◌, ◌==◌, true, false, not, if◌then◌else◌, Option, Some, None, is_none}
+use Rattle.std.specs.Prelude.{List, [], ◌∷◌, ◌++◌}
 use Rattle.std.specs.Prelude.{map, filter, flat_map, length, bytes_eq, codes}
-use Rattle.std.specs.List.{Contains}
+use Rattle.std.specs.List.{Contains, IsDistinct}
 use Rattle.std.specs.List.Sorted.{IsStrictlySortedBy}
 use Rattle.std.specs.Cmp.Lexicographic.{slice_cmp}
 use Rattle.std.specs.Ordering.{nat_cmp}
@@ -13,6 +14,7 @@ use Rattle.nj_needs.specs.Order.{needed_commands}
 use Rattle.nj_build.specs.EdgeList.{edges_read, paths_of_edges}
 use Rattle.nj_graph.specs.Graph.{sorted_by, is_before, rule_name_of, rule_name_at}
 use Rattle.nj_tools.specs.Lines.{line, lines}
+use Rattle.nj_tools.specs.declared.style.InputsStyle.{InputsStyle}
 use Rattle.nj_tools.specs.declared.view.TargetsView.{TargetsView}
 use Rattle.nj_tools.specs.declared.view.TargetsView.TheVariants.{OfRule, Sources, Depth, All}
 
@@ -35,9 +37,29 @@ needed_inputs edges targets =
     flat_map (λ e. inputs_of (edge_at edges e))
     (needed_commands (makers_in edges) (length edges) (is_phony_in edges) (row_of_paths edges targets))
 
--- each of them once, quoted for a shell, in byte order of the quotes
-unfoldable pub inputs_text : List EdgePaths → (targets : List (List ℕ)) → List ℕ
-inputs_text edges targets = lines (sorted (map quoted (each_once (needed_inputs edges targets))))
+-- the style of a command line without options
+abbrev pub plain_style : InputsStyle
+plain_style = record { dependency_order = false; shell_escape = true; zero = false }
+
+-- a path as it is printed: quoted for a shell, or as it is
+abbrev pub printed : InputsStyle → (path : List ℕ) → List ℕ
+printed style path = if style.shell_escape then quoted path else path
+
+-- texts in the order in which their paths are needed, or in byte order
+abbrev pub arranged : InputsStyle → (texts : List (List ℕ)) → List (List ℕ)
+arranged style texts = if style.dependency_order then texts else sorted texts
+
+-- the printed texts of a list of paths, of each path once
+abbrev pub printed_texts : InputsStyle → (paths : List (List ℕ)) → List (List ℕ)
+printed_texts style paths = arranged style (map (printed style) (each_once paths))
+
+-- a text and what ends it: the byte 0, or a line end
+abbrev pub terminated : InputsStyle → (text : List ℕ) → List ℕ
+terminated style text = text ++ (if style.zero then 0 else 10) ∷ []
+
+-- the inputs, each once, as they are printed
+unfoldable pub inputs_text : InputsStyle → List EdgePaths → (targets : List (List ℕ)) → List ℕ
+inputs_text style edges targets = flat_map (terminated style) (printed_texts style (needed_inputs edges targets))
 
 -- ---- `targets`: lists
 
@@ -116,12 +138,21 @@ LinesRise = (paths : List (List ℕ)) → IsStrictlySortedBy (slice_cmp nat_cmp)
 abbrev pub ListedHaveLines : Type 0
 ListedHaveLines = (paths : List (List ℕ)) (path : List ℕ) → Contains (sorted (each_once paths)) path ↔ Contains paths path
 
--- The lines of `inputs` are in strictly ascending byte order, so that each occurs once.
-abbrev pub QuotedLinesRise : Type 0
-QuotedLinesRise =
-    (paths : List (List ℕ)) → IsStrictlySortedBy (slice_cmp nat_cmp) (sorted (map quoted (each_once paths)))
+-- The texts of `inputs` that are sorted are in strictly ascending byte order.
+abbrev pub SortedInputsRise : Type 0
+SortedInputsRise = (style : InputsStyle) (paths : List (List ℕ)) → style.dependency_order ≡ false
+    → IsStrictlySortedBy (slice_cmp nat_cmp) (printed_texts style paths)
 
--- A text is one of them exactly when it is the quote of a path that is listed.
-abbrev pub QuotesHaveLines : Type 0
-QuotesHaveLines = (paths : List (List ℕ)) (text : List ℕ)
-    → Contains (sorted (map quoted (each_once paths))) text ↔ ((path : List ℕ) × Contains paths path × (quoted path ≡ text))
+-- In each style no two texts of `inputs` are the same.
+abbrev pub PrintedTextsDiffer : Type 0
+PrintedTextsDiffer = (style : InputsStyle) (paths : List (List ℕ)) → IsDistinct bytes_eq (printed_texts style paths)
+
+-- A text is one of them exactly when a path that is listed is printed as that text.
+abbrev pub ListedArePrinted : Type 0
+ListedArePrinted = (style : InputsStyle) (paths : List (List ℕ)) (text : List ℕ)
+    → Contains (printed_texts style paths) text ↔ ((path : List ℕ) × Contains paths path × (printed style path ≡ text))
+
+-- Without options the inputs are quoted for a shell, in byte order of the quotes, a line each.
+abbrev pub PlainInputsAreSortedQuotes : Type 0
+PlainInputsAreSortedQuotes = (edges : List EdgePaths) (targets : List (List ℕ))
+    → inputs_text plain_style edges targets ≡ lines (sorted (map quoted (each_once (needed_inputs edges targets))))

@@ -2,7 +2,13 @@
 
 ghost use Rattle.nj_tools.specs.CompdbJson.{CompdbIsJson};
 ghost use Rattle.nj_tools.specs.Laws.{DepthZeroShowsAll};
-ghost use Rattle.nj_tools.specs.Listings.{LinesRise, ListedHaveLines, QuotedLinesRise, QuotesHaveLines};
+ghost use Rattle.nj_tools.specs.Listings.{LinesRise, ListedHaveLines};
+ghost use Rattle.nj_tools.specs.Listings.{
+  SortedInputsRise,
+  PrintedTextsDiffer,
+  ListedArePrinted,
+  PlainInputsAreSortedQuotes,
+};
 
 /// Depth 0 shows each tree whole: where no edge needs itself by a chain, more levels change
 /// nothing.
@@ -17,11 +23,14 @@ pub fn list_law()
     ensures listed { ListedHaveLines }
 {}
 
-/// The lines of `inputs` are in strictly ascending byte order, so that no two inputs have the same
-/// line; and the lines are the quotes of the inputs.
+/// What `inputs` writes is the printed texts of exactly the inputs, in each style one for each, and
+/// no two the same. Unless it is in the order of dependencies, the texts are in strictly ascending
+/// byte order. Without options they are the quotes of the inputs, a line each.
 pub fn input_lines_law()
-    ensures rise { QuotedLinesRise }
-    ensures quotes { QuotesHaveLines }
+    ensures rise { SortedInputsRise }
+    ensures differ { PrintedTextsDiffer }
+    ensures listed { ListedArePrinted }
+    ensures plain { PlainInputsAreSortedQuotes }
 {}
 
 /// What `compdb` writes is one array of JSON, where all texts of the listed edges are UTF-8: an

@@ -12,6 +12,7 @@ mod json_strings;
 mod laws;
 mod lines;
 mod memory;
+mod paths;
 mod queries;
 mod rules;
 mod sinks;

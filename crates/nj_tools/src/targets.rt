@@ -22,6 +22,7 @@ ghost use Rattle.nj_tools.specs.Texts.{WritesText};
 use crate::collected::Collected;
 use crate::fault::ToolFault;
 use crate::lines::write_line;
+use crate::paths::sorted_paths;
 use crate::sinks::Sink;
 use crate::trees::write_trees;
 use crate::view::TargetsView;
@@ -146,24 +147,6 @@ fn write_sorted<S: Sink>(
 {
     let paths = sorted_paths(alloc, graph, files)?;
     write_paths(&paths, text, out)
-}
-
-// The paths of files, in byte order.
-fn sorted_paths<'g>(
-    alloc: Global,
-    graph: &'g Graph,
-    files: &[FileNo],
-) -> Result<Vec<&'g [u8]>, AllocError>
-    requires { All (λ file. file.0 < length (files_of graph.now)) files.now }
-    ensures { IfOk result (λ paths. map (λ path. path.now) paths.items
-        ≡ sorted (map (path_at (files_of graph.now)) files.now)) }
-{
-    let mut paths = Vec::with_capacity(alloc, files.len())?;
-    'files: for file in files {
-        paths.push(graph.path(*file))?;
-    }
-    paths.sort_by(|one, other| (*one).cmp(*other))?;
-    Ok(paths)
 }
 
 // Writes paths, a line each.

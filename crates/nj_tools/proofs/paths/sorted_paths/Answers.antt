@@ -5,7 +5,7 @@ use Rattle.nj_edges.specs.Files.{path_at}
 use Rattle.nj_graph.specs.Graph.{files_of}
 use Rattle.nj_tools.specs.Listings.{sorted}
 use Rattle.nj_tools.proofs.SortedLemmas.{comes_before, by_text, sorted-texts}
-use Rattle.nj_tools.proofs.targets.sorted_paths.Goals as goal
+use Rattle.nj_tools.proofs.paths.sorted_paths.Goals as goal
 
 abbrev text_of : Bor (List ℕ) → List ℕ
 text_of path = path.now
