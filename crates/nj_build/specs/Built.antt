@@ -5,7 +5,7 @@ use Rattle.nj_scope.specs.ReadingList.{Entry}
 use Rattle.nj_blocks.specs.Blocks.{BlocksText, bound_in}
 use Rattle.nj_order.specs.Cycles.{IsAcyclic, IsLeastOnCycle}
 use Rattle.nj_edges.specs.EdgeGraphs.{EdgeGraph}
-use Rattle.nj_edges.specs.Edges.{EdgePaths, outputs_of, roots_of}
+use Rattle.nj_edges.specs.Edges.{EdgePaths, first_output, roots_of}
 use Rattle.nj_edges.specs.Needs.{makers_of_inputs}
 use Rattle.nj_faults.specs.declared.fault.GraphFault.{GraphFault}
 use Rattle.nj_faults.specs.declared.fault.Cause.TheVariants.{Cycle}
@@ -62,7 +62,7 @@ pub record IsCycleFault (edges : List EdgeText) (fault : GraphFault) : Type 0 wh
   pub output : List ℕ
   pub edge_is : slice_get edges number ≡ Some edge
   pub least : IsLeastOnCycle (makers_of_inputs (paths_of_edges edges)) number
-  pub output_is : slice_get (outputs_of edge.paths) 0 ≡ Some output
+  pub output_is : first_output edge.paths ≡ Some output
   pub fault_is : fault ≡ fault_at edge.file edge.spot (Cycle output)
 
 -- Where no edge lies on a cycle, the statements yield their edges and defaults.

@@ -5,7 +5,7 @@ use Rattle.std.specs.List.{list_any}
 use Rattle.nj_manifest.specs.Statements.{StatementText, BuildText}
 use Rattle.nj_manifest.specs.Dyndeps.{EntryText}
 use Rattle.nj_scope.specs.ReadingList.{Discovered, Entry}
-use Rattle.nj_edges.specs.Edges.{outputs_of, maker_of}
+use Rattle.nj_edges.specs.Edges.{first_output, maker_of}
 use Rattle.nj_faults.specs.declared.fault.GraphFault.{GraphFault}
 use Rattle.nj_faults.specs.declared.fault.Cause.TheVariants.{DyndepExtra, DyndepTwice, DyndepNoStatement}
 use Rattle.nj_faults.specs.Faults.{fault_at}
@@ -71,12 +71,8 @@ entry_fault file stated joined entry =
 
 -- ---- what is wrong with a file
 
--- the first output of an edge, of the explicit ones if it has any
-abbrev pub first_output : EdgeText → List ℕ
-first_output e = unwrap_or (slice_get (outputs_of e.paths) 0) []
-
 abbrev pub no_statement : (file : List ℕ) → EdgeText → GraphFault
-no_statement file e = fault_at e.file e.spot (DyndepNoStatement (first_output e) file)
+no_statement file e = fault_at e.file e.spot (DyndepNoStatement (unwrap_or (first_output e.paths) []) file)
 
 -- After its last entry no edge may wait for it; the fault is that of the edge of the smallest number.
 abbrev pub lacking_fault : (file : List ℕ) → (joined : List Entry) → Option GraphFault

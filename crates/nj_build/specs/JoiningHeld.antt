@@ -7,7 +7,7 @@ use Rattle.nj_scope.specs.Readings.{IsPrefix}
 use Rattle.nj_scope.specs.ReadingList.{Entry}
 use Rattle.nj_blocks.specs.Blocks.{BlocksText, bound_in}
 use Rattle.nj_edges.specs.declared.files.FileNo.{FileNo}
-use Rattle.nj_edges.specs.Edges.{EdgePaths, outputs_of, maker_of}
+use Rattle.nj_edges.specs.Edges.{EdgePaths, first_output, maker_of}
 use Rattle.nj_edges.specs.EdgesHeld.{AreNumbers, paths_at}
 use Rattle.nj_edges.specs.Files.{path_at}
 use Rattle.nj_edges.specs.Joining.{JoinTable, none_added, with_added_output, with_added_input, is_joined}
@@ -108,7 +108,7 @@ pub record IsMeant (table : JoinTable) (bound : List (Option FileNo)) (file : Fi
 -- the fault of an edge that waits for a file to the end of that file
 abbrev pub fault_of_waiting : (path : List ℕ) → EdgeDetail → EdgePaths → GraphFault
 fault_of_waiting path detail e =
-    fault_at detail.file detail.spot (DyndepNoStatement (unwrap_or (slice_get (outputs_of e) 0) []) path)
+    fault_at detail.file detail.spot (DyndepNoStatement (unwrap_or (first_output e) []) path)
 
 -- ---- what is collected for an edge
 

@@ -7,7 +7,7 @@ ghost use Rattle.nj_manifest.specs.Contents.{words_text};
 ghost use Rattle.nj_manifest.specs.DyndepParsers.{entry_text};
 ghost use Rattle.nj_scope.specs.Readings.{IsPrefix};
 ghost use Rattle.nj_scope.specs.ReadingList.{Entry as Statement};
-ghost use Rattle.nj_edges.specs.Edges.{edge_at, outputs_of, first_edge, maker_of};
+ghost use Rattle.nj_edges.specs.Edges.{edge_at, first_output, first_edge, maker_of};
 ghost use Rattle.nj_edges.specs.Files.{path_at};
 ghost use Rattle.nj_edges.specs.Joining.{none_added};
 ghost use Rattle.nj_faults.specs.Faults.{fault_at};
@@ -328,7 +328,7 @@ fn waiting_edge(edges: &JoiningEdges, bound: &[Option<FileNo>], file: FileNo) ->
 fn first_output(edges: &JoiningEdges, edge: EdgeNo) -> &[u8]
     requires { edge.0 < length edges.now.stated }
     ensures { result.now
-        ≡ unwrap_or (slice_get (outputs_of (edge_at edges.now.stated edge.0)) 0) [] }
+        ≡ unwrap_or (first_output (edge_at edges.now.stated edge.0)) [] }
 {
     match edges.stated_outputs(edge).first() {
         Some(output) => edges.files().path(*output),

@@ -1,6 +1,6 @@
 -- Build statements as edges: the files that they name, by their paths.
 use Rattle.std.specs.Prelude.{ℕ, ◌+◌, Bool, false, ◌||◌, not, if◌then◌else◌, Option, Some, None, option_map, List, [], ◌∷◌, ◌++◌, length}
-use Rattle.std.specs.Prelude.{slice_index_or, nat_lt, bytes_eq}
+use Rattle.std.specs.Prelude.{slice_get, slice_index_or, nat_lt, bytes_eq}
 use Rattle.std.specs.List.{list_any, filter, flat_map}
 use Rattle.nj_edges.specs.declared.edges.InputKind.{InputKind}
 use Rattle.nj_edges.specs.declared.edges.InputKind.TheVariants.{Explicit, Implicit, OrderOnly}
@@ -29,6 +29,10 @@ edge_at edges number = slice_index_or edges number (record {
 
 abbrev pub outputs_of : EdgePaths → List (List ℕ)
 outputs_of e = e.explicit_outputs ++ e.implicit_outputs
+
+-- the first output, of the explicit ones if there are any
+abbrev pub first_output : EdgePaths → Option (List ℕ)
+first_output e = slice_get (outputs_of e) 0
 
 abbrev pub inputs_of : EdgePaths → List (List ℕ)
 inputs_of e = e.explicit_inputs ++ e.implicit_inputs ++ e.order_only_inputs

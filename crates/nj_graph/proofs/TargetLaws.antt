@@ -10,9 +10,9 @@ use Rattle.std.proofs.lemmas.Slice.Eq.{bytes_eq-Decides}
 use Rattle.nj_text.specs.Paths.{clean_path_of}
 use Rattle.nj_faults.specs.declared.fault.Cause.TheVariants.{UnknownTarget}
 use Rattle.nj_faults.specs.Faults.{unplaced}
-use Rattle.nj_edges.specs.Edges.{EdgePaths, edges_from, outputs_of, inputs_of, users_of, is_among, names, is_named}
+use Rattle.nj_edges.specs.Edges.{EdgePaths, edge_at, edges_from, first_output, outputs_of, inputs_of, users_of, is_among, names, is_named}
 use Rattle.nj_graph.specs.Laws.{IsNamedBy, IsMadeOf, HasNoCaret, Means, a_file, no_file, made, made_of_no_file, not_made, WordsMeanPaths, EmptyWordMeansNothing}
-use Rattle.nj_graph.specs.Targets.{target, first_output, first_made_of, or_no_out_edge, made_target, clean_target}
+use Rattle.nj_graph.specs.Targets.{target, first_made_of, or_no_out_edge, made_target, clean_target}
 use Rattle.nj_graph.proofs.NameLemmas.{contains-here, contains-later, contains-cases}
 
 -- ---- tests on lists
@@ -137,6 +137,9 @@ module _ (test : EdgePaths → Bool) where
       let at : 0 + k ≡ k = omega arith in
       inr (k, edge, is ∙ ap (λ n. Some n) at, s)
 
+abbrev first_of : List EdgePaths → (number : ℕ) → Option (List ℕ)
+first_of edges number = first_output (edge_at edges number)
+
 module _ (edges : List EdgePaths) (path : List ℕ) where
   abbrev uses : EdgePaths → Bool
   uses e = is_among (inputs_of e) path
@@ -144,35 +147,35 @@ module _ (edges : List EdgePaths) (path : List ℕ) where
   abbrev IsFirstUser : ℕ → EdgePaths → Type 0
   IsFirstUser number edge = Smallest uses edges number edge
 
-  output-of : (number : ℕ) (edge : EdgePaths) → slice_get edges number ≡ Some edge → first_output edges number ≡ slice_get (outputs_of edge) 0
-  output-of number edge is = ap (λ e. slice_get (outputs_of e) 0) (get_or_from_slice_get edges number edge _ is)
+  output-of : (number : ℕ) (edge : EdgePaths) → slice_get edges number ≡ Some edge → first_of edges number ≡ first_output edge
+  output-of number edge is = ap first_output (get_or_from_slice_get edges number edge _ is)
 
-  is-made : (number : ℕ) (edge : EdgePaths) (output : List ℕ) → IsFirstUser number edge → first_output edges number ≡ Some output → IsMadeOf edges path output
+  is-made : (number : ℕ) (edge : EdgePaths) (output : List ℕ) → IsFirstUser number edge → first_of edges number ≡ Some output → IsMadeOf edges path output
   is-made number edge output s is = record {
     number = number;
     edge = edge;
     edge_is = s.edge_is;
     uses = from-among (inputs_of edge) path s.passes;
     smallest = λ other e there contains. s.least other e there (among (inputs_of e) path contains);
-    first_output = sym (output-of number edge s.edge_is) ∙ is;
+    output_is = sym (output-of number edge s.edge_is) ∙ is;
   }
 
   -- only the first output of that edge is made of it
-  same-made : (number : ℕ) (edge : EdgePaths) (output : List ℕ) → IsFirstUser number edge → IsMadeOf edges path output → first_output edges number ≡ Some output
+  same-made : (number : ℕ) (edge : EdgePaths) (output : List ℕ) → IsFirstUser number edge → IsMadeOf edges path output → first_of edges number ≡ Some output
   same-made number edge output s m =
       let above = s.least m.number m.edge m.edge_is (among (inputs_of m.edge) path m.uses) in
       let below = m.smallest number edge s.edge_is (from-among (inputs_of edge) path s.passes) in
       let same : number ≡ m.number = omega arith in
-      ap (first_output edges) same ∙ output-of m.number m.edge m.edge_is ∙ m.first_output
+      ap (first_of edges) same ∙ output-of m.number m.edge m.edge_is ∙ m.output_is
 
-  not-made : (first : Option ℕ) → FirstOf uses edges first → option_and_then (first_output edges) first ≡ None → (output : List ℕ) → IsMadeOf edges path output → ⊥
+  not-made : (first : Option ℕ) → FirstOf uses edges first → option_and_then (first_of edges) first ≡ None → (output : List ℕ) → IsMadeOf edges path output → ⊥
   not-made first (inl (is, none)) h output m = none m.number m.edge m.edge_is (among (inputs_of m.edge) path m.uses)
   not-made first (inr (number, edge, is, s)) h output m =
-      none-some output (sym h ∙ ap (option_and_then (first_output edges)) is ∙ same-made number edge output s m)
+      none-some output (sym h ∙ ap (option_and_then (first_of edges)) is ∙ same-made number edge output s m)
 
-  was-made : (first : Option ℕ) → FirstOf uses edges first → (output : List ℕ) → option_and_then (first_output edges) first ≡ Some output → IsMadeOf edges path output
-  was-made first (inl (is, none)) output h = absurd (none-some output (sym (ap (option_and_then (first_output edges)) is) ∙ h))
-  was-made first (inr (number, edge, is, s)) output h = is-made number edge output s (sym (ap (option_and_then (first_output edges)) is) ∙ h)
+  was-made : (first : Option ℕ) → FirstOf uses edges first → (output : List ℕ) → option_and_then (first_of edges) first ≡ Some output → IsMadeOf edges path output
+  was-made first (inl (is, none)) output h = absurd (none-some output (sym (ap (option_and_then (first_of edges)) is) ∙ h))
+  was-made first (inr (number, edge, is, s)) output h = is-made number edge output s (sym (ap (option_and_then (first_of edges)) is) ∙ h)
 
   users-first : FirstOf uses edges (slice_get (users_of edges path) 0)
   users-first = first-of uses edges _ (first-passing uses 0 edges)

@@ -12,7 +12,7 @@ use Rattle.nj_manifest.specs.Dyndeps.{version_next, next_entry}
 use Rattle.nj_manifest.specs.Faults.{Fault}
 use Rattle.nj_manifest.specs.Statements.{BindingText, Parse, next_statement}
 use Rattle.nj_scope.specs.ReadingList.{Entry, scope_of, rule_texts, files_opened}
-use Rattle.nj_edges.specs.Edges.{EdgePaths, outputs_of, inputs_of}
+use Rattle.nj_edges.specs.Edges.{EdgePaths, first_output, outputs_of, inputs_of}
 use Rattle.nj_faults.specs.declared.fault.GraphFault.{GraphFault}
 use Rattle.nj_faults.specs.declared.fault.Cause.TheVariants.{EmptyPath, UnknownTarget, NoOutEdge}
 use Rattle.nj_faults.specs.Faults.{unplaced}
@@ -129,7 +129,7 @@ pub record IsMadeOf (edges : List EdgePaths) (path made : List ℕ) : Type 0 whe
   pub edge_is : slice_get edges number ≡ Some edge
   pub uses : Contains (inputs_of edge) path
   pub smallest : (other : ℕ) (e : EdgePaths) → slice_get edges other ≡ Some e → Contains (inputs_of e) path → number ≤ other
-  pub first_output : slice_get (outputs_of edge) 0 ≡ Some made
+  pub output_is : first_output edge ≡ Some made
 
 -- a path without a `^` at its end
 abbrev pub HasNoCaret : (path : List ℕ) → Type 0

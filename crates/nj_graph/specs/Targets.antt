@@ -3,7 +3,7 @@ use Rattle.std.specs.Prelude.{◌≡◌, ◌⊎◌, ◌-◌, ℕ, if◌then◌el
 use Rattle.nj_text.specs.Calls.{is_empty}
 use Rattle.nj_text.specs.Paths.{clean_path_of}
 use Rattle.nj_edges.specs.declared.files.FileNo.{FileNo}
-use Rattle.nj_edges.specs.Edges.{EdgePaths, edge_at, outputs_of, users_of, is_named}
+use Rattle.nj_edges.specs.Edges.{EdgePaths, edge_at, first_output, users_of, is_named}
 use Rattle.nj_faults.specs.declared.fault.GraphFault.{GraphFault}
 use Rattle.nj_faults.specs.declared.fault.Cause.TheVariants.{EmptyPath, UnknownTarget, NoOutEdge}
 use Rattle.nj_faults.specs.Faults.{no_memory, unplaced}
@@ -12,13 +12,9 @@ use Rattle.nj_faults.specs.Faults.{no_memory, unplaced}
 abbrev pub target : List EdgePaths → (path : List ℕ) → Result (List ℕ) GraphFault
 target edges path = if is_named edges path then Ok path else Err (unplaced (UnknownTarget path))
 
--- the first output of an edge
-abbrev pub first_output : List EdgePaths → (number : ℕ) → Option (List ℕ)
-first_output edges number = slice_get (outputs_of (edge_at edges number)) 0
-
 -- the first output of the edge of the smallest number that has the file as an input
 abbrev pub first_made_of : List EdgePaths → (path : List ℕ) → Option (List ℕ)
-first_made_of edges path = option_and_then (first_output edges) (slice_get (users_of edges path) 0)
+first_made_of edges path = option_and_then (λ number. first_output (edge_at edges number)) (slice_get (users_of edges path) 0)
 
 abbrev pub or_no_out_edge : (path : List ℕ) → Option (List ℕ) → Result (List ℕ) GraphFault
 or_no_out_edge path None = Err (unplaced (NoOutEdge path))

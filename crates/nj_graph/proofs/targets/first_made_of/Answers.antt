@@ -2,10 +2,9 @@ use Rattle.std.proofs.Common.{◌≡◌, ℕ, List, Option, Some, option_map, sl
 use Rattle.std.specs.Prelude.{option_and_then}
 use Rattle.std.proofs.lemmas.Option.{slice_get-map}
 use Rattle.nj_edges.specs.declared.files.FileNo.{FileNo}
-use Rattle.nj_edges.specs.Edges.{edge_at, outputs_of, users_of}
+use Rattle.nj_edges.specs.Edges.{edge_at, outputs_of, first_output, users_of}
 use Rattle.nj_edges.specs.Files.{path_at}
 use Rattle.nj_graph.specs.Graph.{edges_of, files_of}
-use Rattle.nj_graph.specs.Targets.{first_output}
 use Rattle.nj_graph.proofs.targets.first_made_of.Goals as goal
 
 pub returns : goal.returns
@@ -22,4 +21,4 @@ returns c =
     ∙ sym (slice_get-map at c.outputs.result.now 0)
     ∙ ap (λ xs. slice_get xs 0) c.outputs.ensures.files
     ∙ slice_get-map (λ path. Some path) outputs 0
-    ∙ sym (ap (λ o. option_map (λ path. Some path) (option_and_then (first_output edges) o)) user)
+    ∙ sym (ap (λ o. option_map (λ path. Some path) (option_and_then (λ number. first_output (edge_at edges number)) o)) user)
