@@ -166,6 +166,7 @@ impl Building {
         ensures refused { OnErr result (AddsNothing self.old self.new) }
     {
         let edge = self.details.as_slice().len();
+        // Room is made first, so that nothing can fail once the edge is there.
         self.details.reserve(1)?;
         self.dyndeps.reserve(1)?;
         let file = self.names.name(place.file.as_bytes())?;
