@@ -5,7 +5,9 @@
 
 In one run, on the same files, `PROGRAM -t TOOL` stands beside `ninja -t TOOL`. Both write to a
 file, and what they write has to be the same: byte for byte, or for compdb the same objects, but for
-those of phony edges, which some versions of Ninja write too. Then all of them are run in turn, five
+those of phony edges, which some versions of Ninja write too. Beside `inputs --dependency-order` and
+`inputs --no-shell-escape` stands Ninja's `inputs`, and both have to list the same paths; a program
+without such an option is not measured with it. Then all of them are run in turn, five
 times or N times, and the medians count, of memory the most. Ratios are those of processor time and
 of the greatest memory. Where there is no Ninja, the program is measured alone.
 
@@ -20,6 +22,7 @@ import argparse
 import filecmp
 import itertools
 import os
+import shlex
 import shutil
 import tempfile
 
@@ -33,6 +36,9 @@ MANY_RULES = 1_000
 TIME_AIM = 0.40
 MEMORY_AIM = 0.90
 GROWTH_AIM = 1.15
+
+# The options of `inputs` that change how the list is written.
+STYLES = {"--dependency-order", "--no-shell-escape"}
 
 # For each shape the compiler's rule, and the command of its links with and without a response file.
 RULES = {
@@ -89,6 +95,8 @@ def tools_of(shape, count):
     return {
         "commands": ["commands"],
         "inputs": ["inputs"],
+        "inputs as needed": ["inputs", "--dependency-order"],
+        "inputs unquoted": ["inputs", "--no-shell-escape"],
         "targets all": ["targets", "all"],
         "targets depth 1": ["targets", "depth", "1"],
         "targets depth 2": ["targets", "depth", "2"],
@@ -104,8 +112,13 @@ def tools_of(shape, count):
 
 
 def command_of(program, words, place):
-    """The words of a run. Ninja writes the folder in which it is run as `directory`."""
-    here = ["--directory", place] if words[0] == "compdb" and program != "ninja" else []
+    """The words of a run. Ninja writes the folder in which it is run as `directory`, and its plain
+    list stands beside each style of `inputs`."""
+    here = []
+    if program == "ninja":
+        words = [word for word in words if word not in STYLES]
+    elif words[0] == "compdb":
+        here = ["--directory", place]
     return [program, "-t", words[0], *here, *words[1:]]
 
 
@@ -122,7 +135,26 @@ def objects_in(path):
                 members = []
 
 
+def inputs_in(path, quoted):
+    """The paths of a list of inputs, in its order."""
+    with open(path, "rb") as file:
+        lines = file.read().split(b"\n")[:-1]
+    if not quoted:
+        return lines
+    return [shlex.split(line.decode())[0].encode() if b"'" in line else line for line in lines]
+
+
+def are_same_inputs(words, ours, theirs):
+    """Whether both list the same paths, in the order that the style asks for."""
+    listed = inputs_in(ours, "--no-shell-escape" not in words)
+    if "--dependency-order" in words:
+        listed.sort()
+    return listed == sorted(inputs_in(theirs, quoted=True))
+
+
 def is_same(words, ours, theirs):
+    if STYLES.intersection(words):
+        return are_same_inputs(words, ours, theirs)
     if words[0] != "compdb":
         return filecmp.cmp(ours, theirs, shallow=False)
     pairs = itertools.zip_longest(objects_in(ours), objects_in(theirs))
@@ -131,10 +163,17 @@ def is_same(words, ours, theirs):
 
 def commands_of(tool, words, program, place):
     """The words of the runs of a tool, by program, and whether both write the same. Ninja is left
-    out where it is not there, or does not end well."""
+    out where it is not there, or does not end well, and the program where it does not know a style
+    of `inputs`."""
     ours, theirs = os.path.join(place, "program"), os.path.join(place, "ninja")
     commands = {"program": command_of(program, words, place)}
-    Run(commands["program"], folder=place, out=ours)
+    try:
+        Run(commands["program"], folder=place, out=ours)
+    except SystemExit as refused:
+        if not STYLES.intersection(words):
+            raise
+        print(f"  {tool} is left out: {refused}")
+        return {}, True
     if not shutil.which("ninja"):
         return commands, True
     try:
