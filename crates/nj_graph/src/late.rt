@@ -1,6 +1,7 @@
 //! What the variables of rules say when an edge uses them.
 
-ghost use Rattle.std.specs.Prelude.{◌≡◌, ◌<◌, ◌++◌, List, length, codes, IfOk, OnOk, OnErr};
+ghost use Rattle.std.specs.Prelude.{◌≡◌, ◌<◌, ◌++◌, List, Some, length, slice_get, codes, IfOk, OnOk, OnErr};
+ghost use Rattle.nj_build.specs.Built.{detail_at};
 ghost use Rattle.nj_scope.specs.ReadingList.{Entry};
 ghost use Rattle.nj_graph.specs.Graph.{edges_of, IsGraphOf, late_text_of};
 ghost use Rattle.nj_graph.specs.ResponseFiles.{command_with_rsp_of};
@@ -9,6 +10,7 @@ use crate::graph::Graph;
 use crate::response::with_content;
 use nj_edges::EdgeNo;
 use nj_late::LateEdge;
+use nj_scope::Rule;
 use std::alloc::{AllocError, Global};
 
 impl Graph {
@@ -37,11 +39,20 @@ impl Graph {
             outputs: self.built.explicit_output_files(edge),
             blocks: self.built.blocks(),
             edge: edge.0,
-            rule: &self.declarations.rules()[self.built.rule_number(edge)],
+            rule: self.rule(edge),
             declarations: &self.declarations,
             scope: self.built.scope(edge),
         };
         late.append_late_text(out, name)
+    }
+
+    // The rule of an edge: the one that was in force before its statement.
+    fn rule(&self, edge: EdgeNo) -> &Rule
+        requires { edge.0 < length (edges_of self.now) }
+        ensures { slice_get self.now.declarations.rules
+            (detail_at self.now.built.details edge.0).rule ≡ Some result.now }
+    {
+        &self.declarations.rules()[self.built.rule_number(edge)]
     }
 
     /// The command of an edge, as it is passed to a shell. That of a phony edge is its block's,

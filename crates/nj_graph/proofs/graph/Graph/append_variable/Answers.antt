@@ -1,4 +1,5 @@
-use Rattle.std.proofs.Common.{get_or, ◌≡◌, ◌++◌, ◌∷◌, sym, ap, subst, ◌∙◌}
+use Rattle.std.proofs.Common.{◌≡◌, ◌++◌, ◌∷◌, sym, ap, subst, ◌∙◌}
+use Rattle.std.proofs.lemmas.Option.{get_or_from_slice_get}
 use Rattle.nj_scope.specs.Scopes.{IsScope, parent_at}
 use Rattle.nj_build.proofs.Holding.{on-ok}
 use Rattle.nj_edges.specs.Edges.{edge_at}
@@ -15,15 +16,15 @@ returns-clause-appended c = λ entries is.
     let n = c.args.edge.0 in
     let inside : c.self.inside.declarations ≡ g.declarations = ap (λ (x : GraphText). x.declarations) c.self.view_is in
     let built : c.self.inside.built ≡ g.built = ap (λ (x : GraphText). x.built) c.self.view_is in
-    let rule = c.index-rules-rule_number.result in
+    let rule = c.rule.result.now in
     let e = edge g entries is n c.requires in
     let scope = c.scope.ensures ∙ ap (λ (b : BuiltText). (detail_at b.details n).scope) built in
-    let same = names-same g entries is n c.requires c.files.result.now c.explicit_input_files.result.now c.explicit_output_files.result.now c.blocks-2.result.now c.index-rules-rule_number.result c.scope.result
+    let same = names-same g entries is n c.requires c.files.result.now c.explicit_input_files.result.now c.explicit_output_files.result.now c.blocks-2.result.now rule c.scope.result
     (c.files.ensures ∙ ap (λ (b : BuiltText). b.graph.files) built)
     (subst (λ (b : BuiltText). AreFiles b.graph.files c.explicit_input_files.result.now (edge_at b.graph.edges n).explicit_inputs) built c.explicit_input_files.ensures.files)
     (subst (λ (b : BuiltText). AreFiles b.graph.files c.explicit_output_files.result.now (edge_at b.graph.edges n).explicit_outputs) built c.explicit_output_files.ensures.files)
     (c.blocks-2.ensures ∙ ap (λ (b : BuiltText). b.blocks) built)
-    (c.index-rules-rule_number.is ∙ ap (λ rules. get_or rules c.rule_number.result rule) (c.rules.ensures ∙ ap (λ (d : DeclarationsText). d.rules) inside) ∙ ap (λ m. get_or g.declarations.rules m rule) (c.rule_number.ensures ∙ ap (λ (b : BuiltText). (detail_at b.details n).rule) built))
+    (sym (get_or_from_slice_get g.declarations.rules (detail_at g.built.details n).rule rule rule c.rule.ensures))
     scope
     in
     on-ok c.append_late_text.result
