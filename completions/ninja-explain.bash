@@ -3,7 +3,8 @@
 # The options that go with a tool, beside those of all tools.
 _ninja_explain_options() {
     case $1 in
-        commands) echo '-s --take --resume' ;;
+        commands) echo '-s --take --resume --validations' ;;
+        inputs) echo '--validations --dependency-order --no-shell-escape --print0' ;;
         rules) echo '-d' ;;
         compdb) echo '-x --directory' ;;
     esac

@@ -79,6 +79,11 @@ complete -c ninja-explain -l dyndep -d 'Join what dyndep files discover first'
 complete -c ninja-explain -n '__ninja_explain_tool_is commands' -s s -d 'Only the targets\' own edges'
 complete -c ninja-explain -n '__ninja_explain_tool_is commands' -l take -x -d 'At most so many commands'
 complete -c ninja-explain -n '__ninja_explain_tool_is commands' -l resume -x -d 'The commands after a mark'
+complete -c ninja-explain -n '__ninja_explain_tool_is commands inputs' -l validations \
+    -d 'With what is to be validated'
+complete -c ninja-explain -n '__ninja_explain_tool_is inputs' -l dependency-order -d 'Not sorted'
+complete -c ninja-explain -n '__ninja_explain_tool_is inputs' -l no-shell-escape -d 'Not quoted'
+complete -c ninja-explain -n '__ninja_explain_tool_is inputs' -l print0 -d 'Each followed by the byte 0'
 complete -c ninja-explain -n '__ninja_explain_tool_is rules' -s d -d 'With unexpanded descriptions'
 complete -c ninja-explain -n '__ninja_explain_tool_is compdb' -s x -d 'With response files expanded'
 complete -c ninja-explain -n '__ninja_explain_tool_is compdb' -l directory -x -d 'The directory that is written' \

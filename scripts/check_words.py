@@ -30,8 +30,8 @@ FISH = ROOT / "completions/ninja-explain.fish"
 
 # For each tool the options that go with it alone, and words that it takes.
 TOOLS = {
-    "commands": ({"-s", "--take", "--resume"}, []),
-    "inputs": (set(), []),
+    "commands": ({"-s", "--take", "--resume", "--validations"}, []),
+    "inputs": ({"--validations", "--dependency-order", "--no-shell-escape", "--print0"}, []),
     "targets": (set(), ["all"]),
     "query": (set(), ["file"]),
     "rules": ({"-d"}, []),
@@ -134,7 +134,7 @@ def check_program(folder):
 def tagged(section):
     """The tags of a section's paragraphs, without fonts and escapes."""
     text = re.search(rf"^\.SH {section}\n(.*?)^\.SH ", PAGE.read_text(), re.M | re.S)[1]
-    tags = re.findall(r'^\.TP\n\.B[IR]? (.*)\n((?:\.RB .*\n)?(?:not with\n.*\n|,\n)*)', text, re.M)
+    tags = re.findall(r'^\.TP\n\.B[IR]? (.*)\n((?:\.RB .*\n)?(?:(?:not with|and)\n.*\n|,\n)*)', text, re.M)
     return [(re.sub(r"\\f.", "", tag.replace("\\-", "-")), about) for tag, about in tags]
 
 
@@ -144,7 +144,7 @@ def check_page():
     found, every = {tool: set() for tool in TOOLS}, set()
     for tag, about in tagged("OPTIONS"):
         option = tag.split()[0]
-        tools = re.findall(r"^\.RB \( (\w+)", about)
+        tools = re.findall(r"^(?:\.RB \(|and\n\.BR) (\w+)", about, re.M)
         for tool in tools:
             found.setdefault(tool, set()).add(option)
         if not tools:
@@ -206,7 +206,7 @@ def check_zsh():
     for line in text.splitlines():
         if head := re.fullmatch(r"\s*\((\w+)\)", line):
             tool = head[1]
-        elif option := re.match(r"""\s*['"](?:\([^)]*\))?(--?\w+)[+=]?\[""", line):
+        elif option := re.match(r"""\s*['"](?:\([^)]*\))?(--?[\w-]+)[+=]?\[""", line):
             (found.setdefault(tool, set()) if tool else every).add(option[1])
     compare(where, "the option of every tool", every, EVERY_TOOL)
     compare_options(where, found)
@@ -218,12 +218,15 @@ def check_fish():
     compare(where, "the tool", set(re.findall(r"(\w+) '", tools.split("' ", 1)[1])), set(TOOLS))
     found, every = {}, set()
     for line in re.findall(r"^complete -c ninja-explain .*", text, re.M):
-        option = re.search(r" -(?:s (\w)|l (\w+))", line)
+        option = re.search(r" -(?:s (\w)|l ([\w-]+))", line)
         if not option:
             continue
-        tool = re.search(r"-n '__ninja_explain_tool_is (\w+)'", line)
+        tools = re.search(r"-n '__ninja_explain_tool_is ([\w ]+)'", line)
         said = f"-{option[1]}" if option[1] else f"--{option[2]}"
-        (found.setdefault(tool[1], set()) if tool else every).add(said)
+        for tool in tools[1].split() if tools else []:
+            found.setdefault(tool, set()).add(said)
+        if not tools:
+            every.add(said)
     compare(where, "the option of every tool", every, EVERY_TOOL)
     compare_options(where, found)
 

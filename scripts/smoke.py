@@ -14,6 +14,7 @@ import sys
 import tempfile
 from pathlib import Path
 
+import smoke_checks
 import smoke_tools
 from smoke_project import project
 
@@ -97,19 +98,19 @@ def run_to_deserter(folder):
         return program.wait(SECONDS), first, error
 
 
-def run_page(folder, size, mark):
+def run_page(folder, size, mark, *options):
     """Runs the program for so many commands from a mark on. Gives how it ended, and the mark at
     which it stopped, or None if it did not."""
-    ran = run(folder, [*COMMANDS, "--take", str(size), "--resume", mark])
+    ran = run(folder, [*COMMANDS, *options, "--take", str(size), "--resume", mark])
     told = ran[2].decode()
     return ran, told.removeprefix("mark ").rstrip("\n") if ran[0] == STOPPED else None
 
 
-def run_pages(folder, size):
+def run_pages(folder, size, start, *options):
     """Runs the program page by page. Gives the pages, and how the last one ended."""
-    pages, mark = [], "start"
+    pages, mark = [], start
     while mark is not None:
-        (status, output, error), mark = run_page(folder, size, mark)
+        (status, output, error), mark = run_page(folder, size, mark, *options)
         pages.append(output)
     return pages, (status, error)
 
@@ -204,6 +205,37 @@ def try_faults(folder):
     expect("file above the limit, in little room", small_room, no_file)
 
 
+def try_checks(folder):
+    """Checks that validate what is built, all at once and in pages, and the styles of inputs."""
+    (folder / "build.ninja").write_text(smoke_checks.manifest())
+    built, checks = smoke_checks.build_commands(), smoke_checks.check_commands()
+    without = (DONE, "".join(built).encode(), b"")
+    expect("checks that are not asked for", run(folder, COMMANDS), without)
+    whole = "".join([*built, *checks]).encode()
+    expect("checks", run(folder, [*COMMANDS, "--validations"]), (DONE, whole, b""))
+    lines = whole.splitlines(keepends=True)
+    wanted = [b"".join(lines[at : at + 3]) for at in range(0, len(lines), 3)]
+    if run_pages(folder, 3, "vstart", "--validations") != (wanted, (DONE, b"")):
+        failures.append("checks: pages of 3 are not those of the whole")
+    inputs = ["-t", "inputs", "--validations"]
+    paths = smoke_checks.inputs()
+    in_order = (DONE, "".join(f"{path}\n" for path in paths).encode(), b"")
+    expect("inputs of checks", run(folder, [*inputs, "--dependency-order"]), in_order)
+    in_bytes = (DONE, "".join(f"{path}\n" for path in sorted(paths)).encode(), b"")
+    expect("sorted inputs of checks", run(folder, inputs), in_bytes)
+
+
+def try_styles(folder):
+    """The words of commands that are their inputs, each once, are the inputs."""
+    (folder / "build.ninja").write_text(smoke_checks.PLAIN)
+    words = run(folder, COMMANDS)[1].split()
+    wanted = b"".join(word + b"\n" for word in dict.fromkeys(words))
+    style = ["-t", "inputs", "--dependency-order", "--no-shell-escape"]
+    expect("inputs in order", run(folder, style), (DONE, wanted, b""))
+    ended = run_by_shell(folder, [*style, "--print0"], after="| tr '\\0' '\\n'")
+    expect("inputs that are ended by 0", ended, (DONE, wanted, b""))
+
+
 def try_project(folder):
     """Ninja's answers count, and the pages are those of the whole answer."""
     for name, text in project().items():
@@ -213,7 +245,7 @@ def try_project(folder):
     expect("project", (status, whole, error), (DONE, whole, b""))
     lines = whole.splitlines(keepends=True)
     wanted = [b"".join(lines[at : at + PAGE]) for at in range(0, len(lines), PAGE)]
-    if run_pages(folder, PAGE) != (wanted, (DONE, b"")):
+    if run_pages(folder, PAGE, "start") != (wanted, (DONE, b"")):
         failures.append(f"project: pages of {PAGE} are not those of the whole")
     if shutil.which("ninja"):
         compare_with_ninja(folder)
@@ -274,7 +306,9 @@ def try_memory(room):
         [*COMMANDS, "--resume", "0.0", "test"],
         [*COMMANDS, "-s", "main.c^"],
         [*COMMANDS, "nothing"],
+        [*COMMANDS, "--validations", "--take", "2"],
         ["-t", "inputs", "test"],
+        ["-t", "inputs", "--dependency-order", "--no-shell-escape", "--print0"],
         ["-t", "targets", "depth", "0"],
         ["-t", "targets", "all"],
         ["-t", "targets", "rule", "cc"],
@@ -323,6 +357,8 @@ def main():
         try_names(folder)
         try_tools(folder)
         try_text_that_is_none(folder)
+        try_checks(folder)
+        try_styles(folder)
         try_project(folder)
         if shutil.which("cc"):
             try_memory(room)

@@ -182,6 +182,19 @@ KINDS_ANSWERS = {
 a.h
 made
 """,
+    "-t inputs --no-shell-escape a.o": """\
+a b.c
+a.h
+it's.c
+made
+""",
+    "-t inputs --dependency-order a.o": """\
+'a b.c'
+'it'\\''s.c'
+a.h
+made
+""",
+    "-t inputs --print0 --no-shell-escape a.o": "a b.c\0a.h\0it's.c\0made\0",
     "-t targets rule cc": """\
 a.d
 a.o
@@ -274,9 +287,15 @@ USAGE_FAULTS = {
     "-t query -d main.c": "option -d does not go with tool 'query'",
     "-t rules -x": "option -x does not go with tool 'rules'",
     "-t targets --directory x": "option --directory does not go with tool 'targets'",
+    "-t commands -s --validations": "option --validations does not go with tool 'commands'",
+    "-t query --print0 --no-shell-escape a":
+        "option --no-shell-escape does not go with tool 'query'",
+    "-t targets --dependency-order": "option --dependency-order does not go with tool 'targets'",
     "-t commands --take many": "not a number: 'many'",
     "-t targets depth all": "not a number: 'all'",
     "-t commands --resume 1..2": "bad mark '1..2'",
+    "-t commands --resume v0": "bad mark 'v0'",
+    "-t commands --validations --resume 0": "bad mark '0'",
     "-t targets some": "wrong words for tool 'targets'",
     "-t targets all all": "wrong words for tool 'targets'",
     "-t targets depth 1 2": "wrong words for tool 'targets'",

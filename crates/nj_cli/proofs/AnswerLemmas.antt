@@ -13,6 +13,7 @@ use Rattle.nj_faults.specs.declared.fault.GraphFault.{GraphFault}
 use Rattle.nj_faults.specs.FaultLines.{fault_line}
 use Rattle.nj_faults.specs.Faults.{no_memory}
 use Rattle.nj_graph.specs.Graph.{GraphText, edges_of, files_of, IsGraphOf}
+use Rattle.nj_needs.specs.Growing.{grown_targets}
 use Rattle.nj_needs.specs.Graphs.{row_of_paths, makers_in, is_phony_in, row_of, makers_of, count_of}
 use Rattle.nj_needs.specs.Marks.{is_valid, rest}
 use Rattle.nj_needs.specs.Order.{made_by, first_occurrences}
@@ -27,13 +28,14 @@ use Rattle.nj_request.specs.Requests as ask
 use Rattle.nj_tools.specs.CommandTexts.{command_lines, written, left_after, StopsAt, single, own_commands_in, own_commands}
 use Rattle.nj_tools.specs.Sinks.{SinkState, Takes}
 use Rattle.nj_tools.specs.Compdb.{compdb_text, unheld_edge}
-use Rattle.nj_tools.specs.Listings.{plain_style, inputs_text}
+use Rattle.nj_tools.specs.Listings.{inputs_text}
 use Rattle.nj_tools.specs.Queries.{query_text}
 use Rattle.nj_tools.specs.Texts.{StopsWithin, TakesFront}
 use Rattle.nj_tools.specs.declared.fault.ToolFault.{ToolFault}
+use Rattle.nj_tools.specs.declared.style.InputsStyle.{InputsStyle}
 use Rattle.nj_tools.specs.declared.fault.ToolFault.TheVariants as tool
 use Rattle.nj_tools.proofs.SinkLemmas.{Takes-nil}
-use Rattle.nj_cli.specs.Targets.{edges_by_path, NoEdgeNeedsItself, targets_named, or_defaults, targets_or_defaults, targets_of}
+use Rattle.nj_cli.specs.Targets.{edges_by_path, NoEdgeNeedsItself, targets_named, or_defaults, with_validations, targets_from, targets_of}
 use Rattle.nj_cli.specs.Answers.{leads, commands_left, IsMarkOf, commands_text, for_targets, single_commands_text, output_of, Ending, finished, stopped, faulty, out_of_range, EndsFrom, CommandsEnd, TargetsEnd, text_fault, CompdbEnds, EndsWith}
 use Rattle.nj_cli.specs.RunSteps.{AnswersTo, fault_of_mark, fault_of_tool}
 use Rattle.nj_cli.specs.declared.fault.RunFault.{RunFault}
@@ -59,9 +61,32 @@ module _ (entries : List Entry) (g : GraphText) (is : IsGraphOf g entries) where
 
   -- ---- targets
 
-  targets-are : (words : List (List ℕ)) (answer : Result (List (List ℕ)) GraphFault) → targets_named (edges_of g) words ≡ answer
-      → targets_of entries words ≡ targets_or_defaults entries answer
-  targets-are words answer named = ap (targets_or_defaults entries) (ap (λ (es : List EdgePaths). targets_named es words) (sym edges-are) ∙ named)
+  targets-are : (validations : Bool) (words : List (List ℕ)) (answer : Result (List (List ℕ)) GraphFault) → targets_named (edges_of g) words ≡ answer
+      → targets_of entries validations words ≡ targets_from entries validations answer
+  targets-are validations words answer named =
+      ap (targets_from entries validations) (ap (λ (es : List EdgePaths). targets_named es words) (sym edges-are) ∙ named)
+
+  -- a word that names no target
+  pub targets-refused : (validations : Bool) (words : List (List ℕ)) (f : GraphFault) → (f ≡ no_memory) ⊎ (targets_named (edges_of g) words ≡ Err f)
+      → (f ≡ no_memory) ⊎ (targets_of entries validations words ≡ Err f)
+  targets-refused validations words f (inl none) = inl none
+  targets-refused validations words f (inr named) = inr (targets-are validations words (Err f) named)
+
+  -- all words name targets
+  pub targets-picked : (validations : Bool) (words paths : List (List ℕ)) (numbers : List FileNo) → targets_named (edges_of g) words ≡ Ok paths
+      → AreFiles (files_of g) numbers (with_validations validations (edges_by_path entries) (or_defaults entries paths))
+      → (targets : List (List ℕ)) × (targets_of entries validations words ≡ Ok targets) × AreFiles (files_of g) numbers targets
+  targets-picked validations words paths numbers named are =
+      (with_validations validations (edges_by_path entries) (or_defaults entries paths), targets-are validations words (Ok paths) named, are)
+
+  -- what is to be validated comes after them
+  pub grown-are : (targets : List (List ℕ)) (numbers grown : List FileNo) → AreFiles (files_of g) numbers targets
+      → AreFiles (files_of g) grown (grown_targets (edges_of g) (map (path_at (files_of g)) numbers))
+      → AreFiles (files_of g) grown (with_validations true (edges_by_path entries) targets)
+  grown-are targets numbers grown are is_grown =
+      let paths : grown_targets (edges_of g) (map (path_at (files_of g)) numbers) ≡ grown_targets (edges_by_path entries) targets =
+      ap (grown_targets (edges_of g)) (paths-at (files_of g) numbers targets are) ∙ ap (λ (es : List EdgePaths). grown_targets es targets) edges-are in
+      subst (AreFiles (files_of g) grown) paths is_grown
 
   -- the defaults of the graph are those of the statements
   pub defaults-are : (numbers : List FileNo) → AreFiles (files_of g) numbers (defaults_in_force g.built.defaults (edges_of g))
@@ -72,12 +97,12 @@ module _ (entries : List Entry) (g : GraphText) (is : IsGraphOf g entries) where
       subst (AreFiles (files_of g) numbers) lines are
 
   -- no target: the fault is the answer
-  pub commands-refused : (words : List (List ℕ)) (take : Option ℕ) (start : List ℕ) (f : GraphFault) (s : SinkState)
-      → (f ≡ no_memory) ⊎ (targets_named (edges_of g) words ≡ Err f) → AnswersTo entries (commands words take start) s s (Err (fault.Graph f))
-  commands-refused words take start f s (inl none) = inl (none, refl)
-  commands-refused words take start f s (inr named) =
+  pub commands-refused : (words : List (List ℕ)) (validations : Bool) (take : Option ℕ) (start : List ℕ) (f : GraphFault) (s : SinkState)
+      → (f ≡ no_memory) ⊎ (targets_of entries validations words ≡ Err f) → AnswersTo entries (commands words validations take start) s s (Err (fault.Graph f))
+  commands-refused words validations take start f s (inl none) = inl (none, refl)
+  commands-refused words validations take start f s (inr named) =
       inr (subst (λ (ts : Result (List (List ℕ)) GraphFault). CommandsEnd entries take start ts (faulty (fault_line f)) × Takes s s (commands_text entries take start ts))
-      (sym (targets-are words (Err f) named)) (refl, Takes-nil s))
+      (sym named) (refl, Takes-nil s))
 
   for_targets-refused : (text : List (List ℕ) → List ℕ) (ts : Result (List (List ℕ)) GraphFault) (f : GraphFault) (s : SinkState) → ts ≡ Err f
       → TargetsEnd ts (faulty (fault_line f)) × Takes s s (for_targets text ts)
@@ -85,14 +110,14 @@ module _ (entries : List Entry) (g : GraphText) (is : IsGraphOf g entries) where
       subst (λ (t : Result (List (List ℕ)) GraphFault). TargetsEnd t (faulty (fault_line f)) × Takes s s (for_targets text t)) (sym is) (refl, Takes-nil s)
 
   pub singles-refused : (words : List (List ℕ)) (f : GraphFault) (s : SinkState)
-      → (f ≡ no_memory) ⊎ (targets_named (edges_of g) words ≡ Err f) → AnswersTo entries (single_commands words) s s (Err (fault.Graph f))
+      → (f ≡ no_memory) ⊎ (targets_of entries false words ≡ Err f) → AnswersTo entries (single_commands words) s s (Err (fault.Graph f))
   singles-refused words f s (inl none) = inl (none, refl)
-  singles-refused words f s (inr named) = inr (for_targets-refused (single_commands_text entries) (targets_of entries words) f s (targets-are words (Err f) named))
+  singles-refused words f s (inr named) = inr (for_targets-refused (single_commands_text entries) (targets_of entries false words) f s named)
 
-  pub inputs-refused : (words : List (List ℕ)) (f : GraphFault) (s : SinkState)
-      → (f ≡ no_memory) ⊎ (targets_named (edges_of g) words ≡ Err f) → AnswersTo entries (ask.inputs words) s s (Err (fault.Graph f))
-  inputs-refused words f s (inl none) = inl (none, refl)
-  inputs-refused words f s (inr named) = inr (for_targets-refused (inputs_text plain_style (edges_by_path entries)) (targets_of entries words) f s (targets-are words (Err f) named))
+  pub inputs-refused : (words : List (List ℕ)) (validations : Bool) (style : InputsStyle) (f : GraphFault) (s : SinkState)
+      → (f ≡ no_memory) ⊎ (targets_of entries validations words ≡ Err f) → AnswersTo entries (ask.inputs words validations style) s s (Err (fault.Graph f))
+  inputs-refused words validations style f s (inl none) = inl (none, refl)
+  inputs-refused words validations style f s (inr named) = inr (for_targets-refused (inputs_text style (edges_by_path entries)) (targets_of entries validations words) f s named)
 
   files-are : (words : List (List ℕ)) (answer : Result (List (List ℕ)) GraphFault) → targets_named (edges_of g) words ≡ answer
       → targets_named (edges_by_path entries) words ≡ answer
@@ -150,13 +175,7 @@ module _ (entries : List Entry) (g : GraphText) (is : IsGraphOf g entries) where
   compdb-answered names directory expand old new unheld took =
       (subst (λ (u : Option ℕ). CompdbEnds entries u finished) (sym unheld) refl, took)
 
-  module _ (words paths : List (List ℕ)) (named : targets_named (edges_of g) words ≡ Ok paths) (numbers : List FileNo) (are : AreFiles (files_of g) numbers (or_defaults entries paths)) where
-    abbrev targets : List (List ℕ)
-    targets = or_defaults entries paths
-
-    named-so : targets_of entries words ≡ Ok targets
-    named-so = targets-are words (Ok paths) named
-
+  module _ (targets : List (List ℕ)) (numbers : List FileNo) (are : AreFiles (files_of g) numbers targets) where
     row-is : row_of g.built.graph numbers ≡ row_of_paths (edges_by_path entries) targets
     row-is = row-paths g.built.graph numbers targets are ∙ ap (λ (es : List EdgePaths). row_of_paths es targets) edges-are
 
@@ -167,115 +186,118 @@ module _ (entries : List Entry) (g : GraphText) (is : IsGraphOf g entries) where
         ap (λ (row : List (Option ℕ)). filter (λ e. not (is_phony_in (edges_of g) e)) (first_occurrences (flat_map (made_by single) row))) row-is
         ∙ ap (λ (es : List EdgePaths). filter (λ e. not (is_phony_in es e)) (first_occurrences (flat_map (made_by single) (row_of_paths (edges_by_path entries) targets)))) edges-are
 
-    singles-text : command_lines entries (own_commands g.built.graph numbers) ≡ output_of entries (single_commands words)
-    singles-text = ap (command_lines entries) own-are ∙ ap (for_targets (single_commands_text entries)) (sym named-so)
+    module _ (words : List (List ℕ)) (named : targets_of entries false words ≡ Ok targets) where
+      singles-text : command_lines entries (own_commands g.built.graph numbers) ≡ output_of entries (single_commands words)
+      singles-text = ap (command_lines entries) own-are ∙ ap (for_targets (single_commands_text entries)) (sym named)
 
-    ends-well : TargetsEnd (targets_of entries words) finished
-    ends-well = subst (λ (ts : Result (List (List ℕ)) GraphFault). TargetsEnd ts finished) (sym named-so) refl
+      pub singles-answered : (old new : SinkState) → Takes old new (command_lines entries (own_commands g.built.graph numbers))
+          → AnswersTo entries (single_commands words) old new (Ok None)
+      singles-answered old new took =
+          (subst (λ (ts : Result (List (List ℕ)) GraphFault). TargetsEnd ts finished) (sym named) refl, subst (Takes old new) singles-text took)
 
-    pub singles-answered : (old new : SinkState) → Takes old new (command_lines entries (own_commands g.built.graph numbers))
-        → AnswersTo entries (single_commands words) old new (Ok None)
-    singles-answered old new took = (ends-well, subst (Takes old new) singles-text took)
+      pub singles-failed : (old new : SinkState) (f : ToolFault) → StopsWithin old new (command_lines entries (own_commands g.built.graph numbers)) f
+          → AnswersTo entries (single_commands words) old new (Err (fault_of_tool f))
+      singles-failed old new f stopped_so = stops (single_commands words) old new f (subst (λ t. StopsWithin old new t f) singles-text stopped_so)
 
-    pub singles-failed : (old new : SinkState) (f : ToolFault) → StopsWithin old new (command_lines entries (own_commands g.built.graph numbers)) f
-        → AnswersTo entries (single_commands words) old new (Err (fault_of_tool f))
-    singles-failed old new f stopped_so = stops (single_commands words) old new f (subst (λ t. StopsWithin old new t f) singles-text stopped_so)
+    module _ (words : List (List ℕ)) (validations : Bool) (named : targets_of entries validations words ≡ Ok targets) where
+      -- ---- the inputs that they need
 
-    -- ---- the inputs that they need
+      module _ (style : InputsStyle) where
+        inputs-are : inputs_text style (edges_of g) (map (path_at (files_of g)) numbers) ≡ output_of entries (ask.inputs words validations style)
+        inputs-are =
+            ap (inputs_text style (edges_of g)) (paths-at (files_of g) numbers targets are)
+            ∙ ap (λ (es : List EdgePaths). inputs_text style es targets) edges-are
+            ∙ ap (for_targets (inputs_text style (edges_by_path entries))) (sym named)
 
-    inputs-are : inputs_text plain_style (edges_of g) (map (path_at (files_of g)) numbers) ≡ output_of entries (ask.inputs words)
-    inputs-are =
-        ap (inputs_text plain_style (edges_of g)) (paths-at (files_of g) numbers targets are)
-        ∙ ap (λ (es : List EdgePaths). inputs_text plain_style es targets) edges-are
-        ∙ ap (for_targets (inputs_text plain_style (edges_by_path entries))) (sym named-so)
+        pub inputs-answered : (old new : SinkState) → Takes old new (inputs_text style (edges_of g) (map (path_at (files_of g)) numbers))
+            → AnswersTo entries (ask.inputs words validations style) old new (Ok None)
+        inputs-answered old new took =
+            (subst (λ (ts : Result (List (List ℕ)) GraphFault). TargetsEnd ts finished) (sym named) refl, subst (Takes old new) inputs-are took)
 
-    pub inputs-answered : (old new : SinkState) → Takes old new (inputs_text plain_style (edges_of g) (map (path_at (files_of g)) numbers))
-        → AnswersTo entries (ask.inputs words) old new (Ok None)
-    inputs-answered old new took = (ends-well, subst (Takes old new) inputs-are took)
+        pub inputs-failed : (old new : SinkState) (f : ToolFault) → StopsWithin old new (inputs_text style (edges_of g) (map (path_at (files_of g)) numbers)) f
+            → AnswersTo entries (ask.inputs words validations style) old new (Err (fault_of_tool f))
+        inputs-failed old new f stopped_so =
+            stops (ask.inputs words validations style) old new f (subst (λ t. StopsWithin old new t f) inputs-are stopped_so)
 
-    pub inputs-failed : (old new : SinkState) (f : ToolFault) → StopsWithin old new (inputs_text plain_style (edges_of g) (map (path_at (files_of g)) numbers)) f
-        → AnswersTo entries (ask.inputs words) old new (Err (fault_of_tool f))
-    inputs-failed old new f stopped_so = stops (ask.inputs words) old new f (subst (λ t. StopsWithin old new t f) inputs-are stopped_so)
+      -- ---- the needed commands, from a mark
 
-    -- ---- the needed commands, from a mark
+      module _ (take : Option ℕ) (start : List ℕ) where
+        leads-is : is_valid (makers_of g.built.graph) (row_of g.built.graph numbers) start ≡ leads entries targets start
+        leads-is =
+            ap (λ (row : List (Option ℕ)). is_valid (makers_in (edges_of g)) row start) row-is
+            ∙ ap (λ (es : List EdgePaths). is_valid (makers_in es) (row_of_paths (edges_by_path entries) targets) start) edges-are
 
-    module _ (take : Option ℕ) (start : List ℕ) where
-      leads-is : is_valid (makers_of g.built.graph) (row_of g.built.graph numbers) start ≡ leads entries targets start
-      leads-is =
-          ap (λ (row : List (Option ℕ)). is_valid (makers_in (edges_of g)) row start) row-is
-          ∙ ap (λ (es : List EdgePaths). is_valid (makers_in es) (row_of_paths (edges_by_path entries) targets) start) edges-are
+        left-is : rest_of g.built.graph numbers start ≡ commands_left entries targets start
+        left-is =
+            ap (λ (row : List (Option ℕ)). rest (makers_in (edges_of g)) (length (edges_of g)) (is_phony_in (edges_of g)) row start) row-is
+            ∙ ap (λ (es : List EdgePaths). rest (makers_in es) (length es) (is_phony_in es) (row_of_paths (edges_by_path entries) targets) start) edges-are
 
-      left-is : rest_of g.built.graph numbers start ≡ commands_left entries targets start
-      left-is =
-          ap (λ (row : List (Option ℕ)). rest (makers_in (edges_of g)) (length (edges_of g)) (is_phony_in (edges_of g)) row start) row-is
-          ∙ ap (λ (es : List EdgePaths). rest (makers_in es) (length es) (is_phony_in es) (row_of_paths (edges_by_path entries) targets) start) edges-are
+        mark-is : (edges mark : List ℕ) → IsMarkAfter (makers_of g.built.graph) (count_of g.built.graph) (row_of g.built.graph numbers) start edges mark → IsMarkOf entries targets start edges mark
+        mark-is edges mark after =
+            subst (λ (es : List EdgePaths). IsMarkAfter (makers_in es) (length es) (row_of_paths (edges_by_path entries) targets) start edges mark) edges-are
+            (subst (λ (row : List (Option ℕ)). IsMarkAfter (makers_in (edges_of g)) (length (edges_of g)) row start edges mark) row-is after)
 
-      mark-is : (edges mark : List ℕ) → IsMarkAfter (makers_of g.built.graph) (count_of g.built.graph) (row_of g.built.graph numbers) start edges mark → IsMarkOf entries targets start edges mark
-      mark-is edges mark after =
-          subst (λ (es : List EdgePaths). IsMarkAfter (makers_in es) (length es) (row_of_paths (edges_by_path entries) targets) start edges mark) edges-are
-          (subst (λ (row : List (Option ℕ)). IsMarkAfter (makers_in (edges_of g)) (length (edges_of g)) row start edges mark) row-is after)
+        ends-so : (ending : Ending) → EndsFrom (leads entries targets start) entries take start targets ending → EndsWith entries (commands words validations take start) ending
+        ends-so ending ends = subst (λ (ts : Result (List (List ℕ)) GraphFault). CommandsEnd entries take start ts ending) (sym named) ends
 
-      ends-so : (ending : Ending) → EndsFrom (leads entries targets start) entries take start targets ending → EndsWith entries (commands words take start) ending
-      ends-so ending ends = subst (λ (ts : Result (List (List ℕ)) GraphFault). CommandsEnd entries take start ts ending) (sym named-so) ends
+        -- the mark leads to no edge
+        commands-out_of_range : (s : SinkState) → is_valid (makers_of g.built.graph) (row_of g.built.graph numbers) start ≡ false
+            → AnswersTo entries (commands words validations take start) s s (Err fault.MarkOutOfRange)
+        commands-out_of_range s invalid =
+            let misled : leads entries targets start ≡ false = sym leads-is ∙ invalid in (
+              ends-so (faulty out_of_range) (subst (λ (b : Bool). EndsFrom b entries take start targets (faulty out_of_range)) (sym misled) refl),
+              subst (Takes s s)
+                  (ap (λ (b : Bool). if b then command_lines entries (written take (commands_left entries targets start)) else []) (sym misled) ∙ ap (commands_text entries take start) (sym named))
+                  (Takes-nil s),
+            )
 
-      -- the mark leads to no edge
-      commands-out_of_range : (s : SinkState) → is_valid (makers_of g.built.graph) (row_of g.built.graph numbers) start ≡ false
-          → AnswersTo entries (commands words take start) s s (Err fault.MarkOutOfRange)
-      commands-out_of_range s invalid =
-          let misled : leads entries targets start ≡ false = sym leads-is ∙ invalid in (
-            ends-so (faulty out_of_range) (subst (λ (b : Bool). EndsFrom b entries take start targets (faulty out_of_range)) (sym misled) refl),
-            subst (Takes s s)
-                (ap (λ (b : Bool). if b then command_lines entries (written take (commands_left entries targets start)) else []) (sym misled) ∙ ap (commands_text entries take start) (sym named-so))
-                (Takes-nil s),
+        pub commands-not_resumed : (s : SinkState) (f : MarkFault) → ResumeIs g.built.graph numbers start (Err f)
+            → AnswersTo entries (commands words validations take start) s s (Err (fault_of_mark f))
+        commands-not_resumed s mark.BadMark never = absurd never
+        commands-not_resumed s mark.MarkOutOfRange invalid = commands-out_of_range s invalid
+        commands-not_resumed s mark.OutOfMemory valid = TakesFront-none s (output_of entries (commands words validations take start))
+
+        module _ (valid : is_valid (makers_of g.built.graph) (row_of g.built.graph numbers) start ≡ true) (w : WalkState) (begins : BeginsAt g.built.graph numbers start w) where
+          walk-left : w.left ≡ commands_left entries targets start
+          walk-left =
+              begins.sound.left
+              ∙ ap (λ (h : EdgeGraph). rest_of h w.targets w.mark) begins.graph
+              ∙ ap (λ (ns : List FileNo). rest_of g.built.graph ns w.mark) begins.targets
+              ∙ ap (λ (m : List ℕ). rest_of g.built.graph numbers m) begins.mark
+              ∙ left-is
+
+          text-is : command_lines entries (written take w.left) ≡ output_of entries (commands words validations take start)
+          text-is =
+              ap (λ (es : List ℕ). command_lines entries (written take es)) walk-left
+              ∙ ap (λ (b : Bool). if b then command_lines entries (written take (commands_left entries targets start)) else []) (sym valid ∙ leads-is)
+              ∙ ap (commands_text entries take start) (sym named)
+
+          ends-from : (ending : Ending) → EndsFrom true entries take start targets ending → EndsWith entries (commands words validations take start) ending
+          ends-from ending ends = ends-so ending (subst (λ (b : Bool). EndsFrom b entries take start targets ending) (sym valid ∙ leads-is) ends)
+
+          walk-mark : (edges mark : List ℕ) → IsMarkAfter (makers_of w.graph) (count_of w.graph) (row_of w.graph w.targets) w.mark edges mark → IsMarkOf entries targets start edges mark
+          walk-mark edges mark after =
+              mark-is edges mark
+              (subst (λ (m : List ℕ). IsMarkAfter (makers_of g.built.graph) (count_of g.built.graph) (row_of g.built.graph numbers) m edges mark) begins.mark
+              (subst (λ (ns : List FileNo). IsMarkAfter (makers_of g.built.graph) (count_of g.built.graph) (row_of g.built.graph ns) w.mark edges mark) begins.targets
+              (subst (λ (h : EdgeGraph). IsMarkAfter (makers_of h) (count_of h) (row_of h w.targets) w.mark edges mark) begins.graph after)))
+
+          -- what is left was written, or so much as may be
+          pub commands-answered : (old new : SinkState) (mark : Option (List ℕ)) → Takes old new (command_lines entries (written take w.left)) → StopsAt w take mark
+              → AnswersTo entries (commands words validations take start) old new (Ok mark)
+          commands-answered old new None took stops = (
+            ends-from finished (subst (λ (es : List ℕ). left_after take es ≡ []) walk-left stops),
+            subst (Takes old new) text-is took,
+          )
+          commands-answered old new (Some mark) took stops = (
+            ends-from (stopped mark) (
+              subst (λ (es : List ℕ). left_after take es ≢ []) walk-left stops.0,
+              subst (λ (es : List ℕ). IsMarkOf entries targets start (written take es) mark) walk-left (walk-mark (written take w.left) mark stops.1),
+              stops.2,
+            ),
+            subst (Takes old new) text-is took,
           )
 
-      pub commands-not_resumed : (s : SinkState) (f : MarkFault) → ResumeIs g.built.graph numbers start (Err f)
-          → AnswersTo entries (commands words take start) s s (Err (fault_of_mark f))
-      commands-not_resumed s mark.BadMark never = absurd never
-      commands-not_resumed s mark.MarkOutOfRange invalid = commands-out_of_range s invalid
-      commands-not_resumed s mark.OutOfMemory valid = TakesFront-none s (output_of entries (commands words take start))
-
-      module _ (valid : is_valid (makers_of g.built.graph) (row_of g.built.graph numbers) start ≡ true) (w : WalkState) (begins : BeginsAt g.built.graph numbers start w) where
-        walk-left : w.left ≡ commands_left entries targets start
-        walk-left =
-            begins.sound.left
-            ∙ ap (λ (h : EdgeGraph). rest_of h w.targets w.mark) begins.graph
-            ∙ ap (λ (ns : List FileNo). rest_of g.built.graph ns w.mark) begins.targets
-            ∙ ap (λ (m : List ℕ). rest_of g.built.graph numbers m) begins.mark
-            ∙ left-is
-
-        text-is : command_lines entries (written take w.left) ≡ output_of entries (commands words take start)
-        text-is =
-            ap (λ (es : List ℕ). command_lines entries (written take es)) walk-left
-            ∙ ap (λ (b : Bool). if b then command_lines entries (written take (commands_left entries targets start)) else []) (sym valid ∙ leads-is)
-            ∙ ap (commands_text entries take start) (sym named-so)
-
-        ends-from : (ending : Ending) → EndsFrom true entries take start targets ending → EndsWith entries (commands words take start) ending
-        ends-from ending ends = ends-so ending (subst (λ (b : Bool). EndsFrom b entries take start targets ending) (sym valid ∙ leads-is) ends)
-
-        walk-mark : (edges mark : List ℕ) → IsMarkAfter (makers_of w.graph) (count_of w.graph) (row_of w.graph w.targets) w.mark edges mark → IsMarkOf entries targets start edges mark
-        walk-mark edges mark after =
-            mark-is edges mark
-            (subst (λ (m : List ℕ). IsMarkAfter (makers_of g.built.graph) (count_of g.built.graph) (row_of g.built.graph numbers) m edges mark) begins.mark
-            (subst (λ (ns : List FileNo). IsMarkAfter (makers_of g.built.graph) (count_of g.built.graph) (row_of g.built.graph ns) w.mark edges mark) begins.targets
-            (subst (λ (h : EdgeGraph). IsMarkAfter (makers_of h) (count_of h) (row_of h w.targets) w.mark edges mark) begins.graph after)))
-
-        -- what is left was written, or so much as may be
-        pub commands-answered : (old new : SinkState) (mark : Option (List ℕ)) → Takes old new (command_lines entries (written take w.left)) → StopsAt w take mark
-            → AnswersTo entries (commands words take start) old new (Ok mark)
-        commands-answered old new None took stops = (
-          ends-from finished (subst (λ (es : List ℕ). left_after take es ≡ []) walk-left stops),
-          subst (Takes old new) text-is took,
-        )
-        commands-answered old new (Some mark) took stops = (
-          ends-from (stopped mark) (
-            subst (λ (es : List ℕ). left_after take es ≢ []) walk-left stops.0,
-            subst (λ (es : List ℕ). IsMarkOf entries targets start (written take es) mark) walk-left (walk-mark (written take w.left) mark stops.1),
-            stops.2,
-          ),
-          subst (Takes old new) text-is took,
-        )
-
-        pub commands-failed : (old new : SinkState) (f : ToolFault) → StopsWithin old new (command_lines entries (written take w.left)) f
-            → AnswersTo entries (commands words take start) old new (Err (fault_of_tool f))
-        commands-failed old new f stopped_so = stops (commands words take start) old new f (subst (λ t. StopsWithin old new t f) text-is stopped_so)
+          pub commands-failed : (old new : SinkState) (f : ToolFault) → StopsWithin old new (command_lines entries (written take w.left)) f
+              → AnswersTo entries (commands words validations take start) old new (Err (fault_of_tool f))
+          commands-failed old new f stopped_so = stops (commands words validations take start) old new f (subst (λ t. StopsWithin old new t f) text-is stopped_so)

@@ -8,7 +8,7 @@ use Rattle.nj_scope.specs.ReadingList.{Entry}
 use Rattle.nj_edges.specs.Edges.{EdgePaths}
 use Rattle.nj_faults.specs.declared.fault.GraphFault.{GraphFault}
 use Rattle.nj_faults.specs.FaultLines.{fault_line}
-use Rattle.nj_marks.specs.Marks.{mark_text, ReadsBack}
+use Rattle.nj_marks.specs.Marks.{ReadsBack}
 use Rattle.nj_needs.specs.Graphs.{row_of_paths, makers_in, is_phony_in}
 use Rattle.nj_needs.specs.Marks.{rest, IsFirstPlace}
 use Rattle.nj_needs.specs.Needs.{IsAcyclic, AreWithin}
@@ -20,6 +20,8 @@ use Rattle.nj_needs.proofs.PlaceLaws.{first-places_are_one}
 use Rattle.nj_needs.proofs.Striking.{without-none}
 use Rattle.nj_request.specs.Requests.{ActionText, commands, single_commands, start_of}
 use Rattle.nj_request.specs.Requests as ask
+use Rattle.nj_request.specs.RunMarks.{run_mark_text, said_run_mark}
+use Rattle.nj_request.proofs.RunMarks.{run-mark_reads_back}
 use Rattle.nj_request.specs.declared.faults.UsageFault.TheVariants.{BadMark}
 use Rattle.nj_tools.specs.Compdb.{unheld_edge}
 use Rattle.nj_tools.specs.CommandTexts.{command_line, command_lines, written}
@@ -36,9 +38,9 @@ Goes finished = Unit {0}
 Goes (stopped mark) = Unit {0}
 Goes (faulty text) = ⊥
 
-pub record Page (entries : List Entry) (take : Option ℕ) (start : List ℕ) (words : List (List ℕ)) (ending : Ending) : Type 0 where
+pub record Page (entries : List Entry) (take : Option ℕ) (start : List ℕ) (words : List (List ℕ)) (validations : Bool) (ending : Ending) : Type 0 where
   pub targets : List (List ℕ)
-  pub named : targets_of entries words ≡ Ok targets
+  pub named : targets_of entries validations words ≡ Ok targets
   pub leads_so : leads entries targets start ≡ true
   pub ends_so : PageEnds entries take start targets ending
 
@@ -47,30 +49,30 @@ not-faulty finished text goes is = absurd cc
 not-faulty (stopped mark) text goes is = absurd cc
 not-faulty (faulty other) text goes is = goes
 
-module _ (entries : List Entry) (take : Option ℕ) (start : List ℕ) (words : List (List ℕ)) (ending : Ending) (goes : Goes ending) where
-  page-from : (targets : List (List ℕ)) → targets_of entries words ≡ Ok targets → (b : Bool) → leads entries targets start ≡ b → EndsFrom b entries take start targets ending
-      → Page entries take start words ending
+module _ (entries : List Entry) (take : Option ℕ) (start : List ℕ) (words : List (List ℕ)) (validations : Bool) (ending : Ending) (goes : Goes ending) where
+  page-from : (targets : List (List ℕ)) → targets_of entries validations words ≡ Ok targets → (b : Bool) → leads entries targets start ≡ b → EndsFrom b entries take start targets ending
+      → Page entries take start words validations ending
   page-from targets named true is ends_so = record { targets = targets; named = named; leads_so = is; ends_so = ends_so }
   page-from targets named false is refused = absurd (not-faulty ending out_of_range goes refused)
 
-  page-of : (ts : Result (List (List ℕ)) GraphFault) → targets_of entries words ≡ ts → CommandsEnd entries take start ts ending → Page entries take start words ending
+  page-of : (ts : Result (List (List ℕ)) GraphFault) → targets_of entries validations words ≡ ts → CommandsEnd entries take start ts ending → Page entries take start words validations ending
   page-of (Ok targets) named ends_so = page-from targets named (leads entries targets start) refl ends_so
   page-of (Err f) named refused = absurd (not-faulty ending (fault_line f) goes refused)
 
-  pub page : EndsWith entries (commands words take start) ending → Page entries take start words ending
-  page ends_so = page-of (targets_of entries words) refl ends_so
+  pub page : EndsWith entries (commands words validations take start) ending → Page entries take start words validations ending
+  page ends_so = page-of (targets_of entries validations words) refl ends_so
 
 -- its output
-pub output-is : (entries : List Entry) (take : Option ℕ) (start : List ℕ) (words targets : List (List ℕ)) → targets_of entries words ≡ Ok targets → leads entries targets start ≡ true
-    → output_of entries (commands words take start) ≡ command_lines entries (written take (commands_left entries targets start))
-output-is entries take start words targets named leads_so =
+pub output-is : (entries : List Entry) (take : Option ℕ) (start : List ℕ) (words : List (List ℕ)) (validations : Bool) (targets : List (List ℕ)) → targets_of entries validations words ≡ Ok targets → leads entries targets start ≡ true
+    → output_of entries (commands words validations take start) ≡ command_lines entries (written take (commands_left entries targets start))
+output-is entries take start words validations targets named leads_so =
     ap (commands_text entries take start) named
     ∙ ap (λ (b : Bool). if b then command_lines entries (written take (commands_left entries targets start)) else []) leads_so
 
 -- a run with a mark that leads to an edge finishes, if nothing limits it
-finishes-unlimited : (entries : List Entry) (start : List ℕ) (words targets : List (List ℕ)) → targets_of entries words ≡ Ok targets → leads entries targets start ≡ true
-    → EndsWith entries (commands words None start) finished
-finishes-unlimited entries start words targets named leads_so =
+finishes-unlimited : (entries : List Entry) (start : List ℕ) (words : List (List ℕ)) (validations : Bool) (targets : List (List ℕ)) → targets_of entries validations words ≡ Ok targets → leads entries targets start ≡ true
+    → EndsWith entries (commands words validations None start) finished
+finishes-unlimited entries start words validations targets named leads_so =
     subst (λ (ts : Result (List (List ℕ)) GraphFault). CommandsEnd entries None start ts finished) (sym named)
     (subst (λ (b : Bool). EndsFrom b entries None start targets finished) (sym leads_so) refl)
 
@@ -92,35 +94,36 @@ module _ (edges : List EdgePaths) (targets : List (List ℕ)) (none : NoEdgeNeed
   }
 
 pub writes-the_needed : WritesTheNeeded
-writes-the_needed entries words none ends_so =
-    let p = page entries None [] words finished tt ends_so in
+writes-the_needed entries words validations none ends_so =
+    let p = page entries None [] words validations finished tt ends_so in
     let edges = edges_by_path entries in
     let numbers = needed_commands (makers_in edges) (length edges) (is_phony_in edges) (row_of_paths edges p.targets) in (
       p.targets,
       p.named,
       numbers,
       needed edges p.targets none,
-      output-is entries None [] words p.targets p.named p.leads_so ∙ ap (command_lines entries) (without-none numbers),
+      output-is entries None [] words validations p.targets p.named p.leads_so ∙ ap (command_lines entries) (without-none numbers),
     )
 
 -- ---- pages
 
 -- the targets of the words are these alone
-same-targets : (entries : List Entry) (words targets others : List (List ℕ)) → targets_of entries words ≡ Ok targets → targets_of entries words ≡ Ok others → others ≡ targets
-same-targets entries words targets others one other = let e : Ok others ≡ Ok targets = sym other ∙ one in cc
+same-targets : (entries : List Entry) (words : List (List ℕ)) (validations : Bool) (targets others : List (List ℕ)) → targets_of entries validations words ≡ Ok targets → targets_of entries validations words ≡ Ok others → others ≡ targets
+same-targets entries words validations targets others one other = let e : Ok others ≡ Ok targets = sym other ∙ one in cc
 
 -- what was asked for is one run
-run-is : (words : List (List ℕ)) (limit : Option ℕ) (resume : Option (List ℕ)) (run : ActionText) (start : List ℕ) → start_of resume ≡ Ok start → IsRun words limit resume run
-    → run ≡ commands words limit start
-run-is words limit resume run start said (other, said_too, is) =
+run-is : (words : List (List ℕ)) (validations : Bool) (limit : Option ℕ) (resume : Option (List ℕ)) (run : ActionText) (start : List ℕ) → start_of validations resume ≡ Ok start → IsRun words validations limit resume run
+    → run ≡ commands words validations limit start
+run-is words validations limit resume run start said (other, said_too, is) =
     let e : Ok other ≡ Ok start = sym said_too ∙ said in
-    let same : other ≡ start = cc in is ∙ ap (commands words limit) same
+    let same : other ≡ start = cc in is ∙ ap (commands words validations limit) same
 
 -- a mark that reads back is that of its text
-start-said : (mark : List ℕ) → ReadsBack mark → start_of (Some (mark_text mark)) ≡ Ok mark
-start-said mark back = ap (λ (said : Option (List ℕ)). ok_or said (BadMark (mark_text mark))) back
+start-said : (validations : Bool) (mark : List ℕ) → ReadsBack mark → start_of validations (Some (run_mark_text validations mark)) ≡ Ok mark
+start-said validations mark back =
+    ap (λ (said : Option (List ℕ)). ok_or said (BadMark (run_mark_text validations mark))) (run-mark_reads_back validations mark back)
 
-module _ (entries : List Entry) (words targets : List (List ℕ)) (named : targets_of entries words ≡ Ok targets) (none : NoEdgeNeedsItself (edges_by_path entries)) where
+module _ (entries : List Entry) (words : List (List ℕ)) (validations : Bool) (targets : List (List ℕ)) (named : targets_of entries validations words ≡ Ok targets) (none : NoEdgeNeedsItself (edges_by_path entries)) where
   -- after a page: the mark leads to an edge, and the rest is left there
   after-page : (start : List ℕ) (take : ℕ) (mark : List ℕ) → leads entries targets start ≡ true
       → IsMarkOf entries targets start (written (Some take) (commands_left entries targets start)) mark
@@ -135,46 +138,46 @@ module _ (entries : List Entry) (words targets : List (List ℕ)) (named : targe
   lines-split count numbers =
       ap (command_lines entries) (sym (take-append-drop count numbers)) ∙ flat_map-append (command_line entries) (take count numbers) (drop count numbers)
 
-  join : (resume : Option (List ℕ)) (start : List ℕ) → start_of resume ≡ Ok start → (takes : List ℕ) (outputs : List (List ℕ)) (rest : List ℕ) → leads entries targets start ≡ true
-      → ArePageTexts entries words resume takes outputs rest → output_of entries (commands words None start) ≡ concat outputs ++ rest
-  join resume start said _ _ rest leads_so (no_runs run asked is) = ap (output_of entries) (sym (run-is words None resume run start said asked)) ∙ is
+  join : (resume : Option (List ℕ)) (start : List ℕ) → start_of validations resume ≡ Ok start → (takes : List ℕ) (outputs : List (List ℕ)) (rest : List ℕ) → leads entries targets start ≡ true
+      → ArePageTexts entries words validations resume takes outputs rest → output_of entries (commands words validations None start) ≡ concat outputs ++ rest
+  join resume start said _ _ rest leads_so (no_runs run asked is) = ap (output_of entries) (sym (run-is words validations None resume run start said asked)) ∙ is
   join resume start said _ _ _ leads_so (finishes {take = count} {output = output} run asked ends_so is) =
-      let run_is = run-is words (Some count) resume run start said asked in
-      let p = page entries (Some count) start words finished tt (subst (λ (a : ActionText). EndsWith entries a finished) run_is ends_so) in
+      let run_is = run-is words validations (Some count) resume run start said asked in
+      let p = page entries (Some count) start words validations finished tt (subst (λ (a : ActionText). EndsWith entries a finished) run_is ends_so) in
       let left = commands_left entries targets start in
-      let none_left : drop count left ≡ [] = subst (λ (ts : List (List ℕ)). drop count (commands_left entries ts start) ≡ []) (same-targets entries words targets p.targets named p.named) p.ends_so in
-      output-is entries None start words targets named leads_so
+      let none_left : drop count left ≡ [] = subst (λ (ts : List (List ℕ)). drop count (commands_left entries ts start) ≡ []) (same-targets entries words validations targets p.targets named p.named) p.ends_so in
+      output-is entries None start words validations targets named leads_so
       ∙ lines-split count left
       ∙ ap (λ (es : List ℕ). command_lines entries (take count left) ++ command_lines entries es) none_left
-      ∙ ap (λ (t : List ℕ). t ++ []) (sym (output-is entries (Some count) start words targets named leads_so) ∙ ap (output_of entries) (sym run_is) ∙ is)
+      ∙ ap (λ (t : List ℕ). t ++ []) (sym (output-is entries (Some count) start words validations targets named leads_so) ∙ ap (output_of entries) (sym run_is) ∙ is)
       ∙ ap (λ (t : List ℕ). t ++ []) (sym (append-nil output))
   join resume start said _ _ rest leads_so (stops {takes = takes} {output = output} {take = count} {outputs = outputs} run mark asked ends_so is more) =
-      let run_is = run-is words (Some count) resume run start said asked in
-      let p = page entries (Some count) start words (stopped mark) tt (subst (λ (a : ActionText). EndsWith entries a (stopped mark)) run_is ends_so) in
+      let run_is = run-is words validations (Some count) resume run start said asked in
+      let p = page entries (Some count) start words validations (stopped mark) tt (subst (λ (a : ActionText). EndsWith entries a (stopped mark)) run_is ends_so) in
       let left = commands_left entries targets start in
       let marked : IsMarkOf entries targets start (written (Some count) left) mark =
-      subst (λ (ts : List (List ℕ)). IsMarkOf entries ts start (written (Some count) (commands_left entries ts start)) mark) (same-targets entries words targets p.targets named p.named) p.ends_so.1 in
+      subst (λ (ts : List (List ℕ)). IsMarkOf entries ts start (written (Some count) (commands_left entries ts start)) mark) (same-targets entries words validations targets p.targets named p.named) p.ends_so.1 in
       let (leads_on, left_on) = after-page start count mark leads_so marked in
       let on : command_lines entries (drop count left) ≡ concat outputs ++ rest =
-      ap (command_lines entries) (sym left_on) ∙ sym (output-is entries None mark words targets named leads_on)
-      ∙ join (Some (mark_text mark)) mark (start-said mark p.ends_so.2) takes outputs rest leads_on more in
-      output-is entries None start words targets named leads_so
+      ap (command_lines entries) (sym left_on) ∙ sym (output-is entries None mark words validations targets named leads_on)
+      ∙ join (Some (run_mark_text validations mark)) mark (start-said validations mark p.ends_so.2) takes outputs rest leads_on more in
+      output-is entries None start words validations targets named leads_so
       ∙ lines-split count left
-      ∙ ap (λ (t : List ℕ). t ++ command_lines entries (drop count left)) (sym (output-is entries (Some count) start words targets named leads_so) ∙ ap (output_of entries) (sym run_is) ∙ is)
+      ∙ ap (λ (t : List ℕ). t ++ command_lines entries (drop count left)) (sym (output-is entries (Some count) start words validations targets named leads_so) ∙ ap (output_of entries) (sym run_is) ∙ is)
       ∙ ap (λ (t : List ℕ). output ++ t) on
       ∙ sym (append_assoc output (concat outputs) rest)
 
 pub pages-join : PageTextsJoin
-pages-join entries words none resume whole (start, said, whole_is) ends_so takes outputs rest pages =
-    let p = page entries None start words finished tt (subst (λ (a : ActionText). EndsWith entries a finished) whole_is ends_so) in
-    ap (output_of entries) whole_is ∙ join entries words p.targets p.named none resume start said takes outputs rest p.leads_so pages
+pages-join entries words validations none resume whole (start, said, whole_is) ends_so takes outputs rest pages =
+    let p = page entries None start words validations finished tt (subst (λ (a : ActionText). EndsWith entries a finished) whole_is ends_so) in
+    ap (output_of entries) whole_is ∙ join entries words validations p.targets p.named none resume start said takes outputs rest p.leads_so pages
 
 pub stopped-go_on : StoppedRunsGoOn
-stopped-go_on entries words none None start mark ends_so = let p = page entries None start words (stopped mark) tt ends_so in absurd (p.ends_so.0 refl)
-stopped-go_on entries words none (Some count) start mark ends_so =
-    let p = page entries (Some count) start words (stopped mark) tt ends_so in
-    let leads_on = (after-page entries words p.targets p.named none start count mark p.leads_so p.ends_so.1).0 in
-    (commands words None mark, (mark, start-said mark p.ends_so.2, refl), finishes-unlimited entries mark words p.targets p.named leads_on)
+stopped-go_on entries words validations none None start mark ends_so = let p = page entries None start words validations (stopped mark) tt ends_so in absurd (p.ends_so.0 refl)
+stopped-go_on entries words validations none (Some count) start mark ends_so =
+    let p = page entries (Some count) start words validations (stopped mark) tt ends_so in
+    let leads_on = (after-page entries words validations p.targets p.named none start count mark p.leads_so p.ends_so.1).0 in
+    (commands words validations None mark, (mark, start-said validations mark p.ends_so.2, refl), finishes-unlimited entries mark words validations p.targets p.named leads_on)
 
 -- ---- one ending
 
@@ -216,9 +219,9 @@ one-compdb entries None ending other is so = is ∙ sym so
 one-compdb entries (Some edge) ending other is so = is ∙ sym so
 
 pub one-ending : OneEnding
-one-ending entries (commands words take start) ending other none is so = one-commands entries take start (targets_of entries words) ending other none is so
-one-ending entries (single_commands words) ending other none is so = one-for_targets (targets_of entries words) ending other is so
-one-ending entries (ask.inputs words) ending other none is so = one-for_targets (targets_of entries words) ending other is so
+one-ending entries (commands words validations take start) ending other none is so = one-commands entries take start (targets_of entries validations words) ending other none is so
+one-ending entries (single_commands words) ending other none is so = one-for_targets (targets_of entries false words) ending other is so
+one-ending entries (ask.inputs words validations style) ending other none is so = one-for_targets (targets_of entries validations words) ending other is so
 one-ending entries (ask.targets view) ending other none is so = is ∙ sym so
 one-ending entries (ask.query words) ending other none is so = one-for_targets (targets_named (edges_by_path entries) words) ending other is so
 one-ending entries (ask.rules descriptions) ending other none is so = is ∙ sym so

@@ -10,8 +10,9 @@ use Rattle.nj_manifest.proofs.StatementRows.{at}
 use Rattle.nj_scope.specs.ReadingList.{Entry}
 use Rattle.nj_build.specs.EdgeList.{defaults_read}
 use Rattle.nj_graph.proofs.ReadingRows.{main_file, on_files, read_of}
-use Rattle.nj_marks.specs.Marks.{mark_text, said_mark, ReadsBack}
+use Rattle.nj_marks.specs.Marks.{said_mark, ReadsBack}
 use Rattle.nj_request.specs.Requests.{ActionText, commands, single_commands}
+use Rattle.nj_request.specs.RunMarks.{run_mark_text}
 use Rattle.nj_cli.specs.declared.status.Status.TheVariants.{Done, Fault, Stopped}
 use Rattle.nj_cli.specs.Answers.{output_of, Ending, finished, stopped, faulty, EndsWith, error_of, status_of}
 use Rattle.nj_cli.specs.Headline.{IsRun, ArePageTexts}
@@ -85,20 +86,20 @@ more h = true≢false (ap is_cons h)
 
 -- ---- all commands
 
-all : outputs (commands d None []) (codes "mk a\nmk b1\nmk b2\nmk d\n")
+all : outputs (commands d false None []) (codes "mk a\nmk b1\nmk b2\nmk d\n")
 unfolding on_entries
 all = refl
 
-all_ends : ends_so (commands d None []) finished
+all_ends : ends_so (commands d false None []) finished
 unfolding on_entries
 all_ends = refl
 
 -- without words the defaults are the targets, which are the roots here
-wordless : outputs (commands [] None []) (codes "mk a\nmk b1\nmk b2\nmk d\n")
+wordless : outputs (commands [] false None []) (codes "mk a\nmk b1\nmk b2\nmk d\n")
 unfolding on_entries
 wordless = refl
 
-wordless_ends : ends_so (commands [] None []) finished
+wordless_ends : ends_so (commands [] false None []) finished
 unfolding on_entries
 wordless_ends = refl
 
@@ -107,6 +108,10 @@ wordless_ends = refl
 reads_start : ReadsBack []
 unfolding digits said_mark
 reads_start = refl
+
+reads_0 : ReadsBack (0 ∷ [])
+unfolding digits said_mark
+reads_0 = refl
 
 reads_0_0 : ReadsBack (0 ∷ 0 ∷ [])
 unfolding digits said_mark
@@ -118,72 +123,72 @@ reads_0_1 = refl
 
 -- ---- at most so many
 
-two : outputs (commands d (Some 2) []) (codes "mk a\nmk b1\n")
+two : outputs (commands d false (Some 2) []) (codes "mk a\nmk b1\n")
 unfolding on_entries
 two = refl
 
-two_stops : ends_so (commands d (Some 2) []) (stopped (0 ∷ 0 ∷ []))
+two_stops : ends_so (commands d false (Some 2) []) (stopped (0 ∷ 0 ∷ []))
 unfolding on_entries
 two_stops = (more, (refl, (0 ∷ [], refl, refl)), reads_0_0)
 
-four : outputs (commands d (Some 4) []) (codes "mk a\nmk b1\nmk b2\nmk d\n")
+four : outputs (commands d false (Some 4) []) (codes "mk a\nmk b1\nmk b2\nmk d\n")
 unfolding on_entries
 four = refl
 
-four_ends : ends_so (commands d (Some 4) []) finished
+four_ends : ends_so (commands d false (Some 4) []) finished
 unfolding on_entries
 four_ends = refl
 
-none : outputs (commands d (Some 0) []) []
+none : outputs (commands d false (Some 0) []) []
 unfolding on_entries
 none = refl
 
-none_stops : ends_so (commands d (Some 0) []) (stopped [])
+none_stops : ends_so (commands d false (Some 0) []) (stopped [])
 unfolding on_entries
 none_stops = (more, refl, reads_start)
 
 -- ---- from a mark
 
-from_0_0 : outputs (commands d None (0 ∷ 0 ∷ [])) (codes "mk b2\nmk d\n")
+from_0_0 : outputs (commands d false None (0 ∷ 0 ∷ [])) (codes "mk b2\nmk d\n")
 unfolding on_entries
 from_0_0 = refl
 
-from_0_0_ends : ends_so (commands d None (0 ∷ 0 ∷ [])) finished
+from_0_0_ends : ends_so (commands d false None (0 ∷ 0 ∷ [])) finished
 unfolding on_entries
 from_0_0_ends = refl
 
-from_0 : outputs (commands d None (0 ∷ [])) []
+from_0 : outputs (commands d false None (0 ∷ [])) []
 unfolding on_entries
 from_0 = refl
 
-from_0_ends : ends_so (commands d None (0 ∷ [])) finished
+from_0_ends : ends_so (commands d false None (0 ∷ [])) finished
 unfolding on_entries
 from_0_ends = refl
 
 -- the second place of `a`, which an earlier one makes already
-from_0_1_0 : outputs (commands d (Some 1) (0 ∷ 1 ∷ 0 ∷ [])) (codes "mk b2\n")
+from_0_1_0 : outputs (commands d false (Some 1) (0 ∷ 1 ∷ 0 ∷ [])) (codes "mk b2\n")
 unfolding on_entries
 from_0_1_0 = refl
 
-from_0_1_0_stops : ends_so (commands d (Some 1) (0 ∷ 1 ∷ 0 ∷ [])) (stopped (0 ∷ 1 ∷ []))
+from_0_1_0_stops : ends_so (commands d false (Some 1) (0 ∷ 1 ∷ 0 ∷ [])) (stopped (0 ∷ 1 ∷ []))
 unfolding on_entries
 from_0_1_0_stops = (more, (refl, (0 ∷ 1 ∷ 0 ∷ [], refl, refl)), reads_0_1)
 
-from_0_2 : outputs (commands d None (0 ∷ 2 ∷ [])) []
+from_0_2 : outputs (commands d false None (0 ∷ 2 ∷ [])) []
 unfolding on_entries
 from_0_2 = refl
 
-from_0_2_ends : ends_so (commands d None (0 ∷ 2 ∷ [])) (faulty (codes "ninja-explain: mark out of range"))
+from_0_2_ends : ends_so (commands d false None (0 ∷ 2 ∷ [])) (faulty (codes "ninja-explain: mark out of range"))
 unfolding on_entries
 from_0_2_ends = refl
 
 -- ---- a target that no edge names
 
-unknown : outputs (commands (codes "x" ∷ []) None []) []
+unknown : outputs (commands (codes "x" ∷ []) false None []) []
 unfolding on_entries
 unknown = refl
 
-unknown_ends : ends_so (commands (codes "x" ∷ []) None []) (faulty (codes "ninja-explain: unknown target 'x'"))
+unknown_ends : ends_so (commands (codes "x" ∷ []) false None []) (faulty (codes "ninja-explain: unknown target 'x'"))
 unfolding on_entries
 unknown_ends = refl
 
@@ -199,50 +204,50 @@ single_ends = refl
 
 -- ---- runs one after another
 
-five_from_0_0 : outputs (commands d (Some 5) (0 ∷ 0 ∷ [])) (codes "mk b2\nmk d\n")
+five_from_0_0 : outputs (commands d false (Some 5) (0 ∷ 0 ∷ [])) (codes "mk b2\nmk d\n")
 unfolding on_entries
 five_from_0_0 = refl
 
-five_from_0_0_ends : ends_so (commands d (Some 5) (0 ∷ 0 ∷ [])) finished
+five_from_0_0_ends : ends_so (commands d false (Some 5) (0 ∷ 0 ∷ [])) finished
 unfolding on_entries
 five_from_0_0_ends = refl
 
 -- the first run; the second, and one without a limit, from the text that the first wrote after `mark `
-from_start : IsRun d (Some 2) None (commands d (Some 2) [])
+from_start : IsRun d false (Some 2) None (commands d false (Some 2) [])
 from_start = ([], refl, refl)
 
-five_from_text : IsRun d (Some 5) (Some (mark_text (0 ∷ 0 ∷ []))) (commands d (Some 5) (0 ∷ 0 ∷ []))
+five_from_text : IsRun d false (Some 5) (Some (run_mark_text false (0 ∷ 0 ∷ []))) (commands d false (Some 5) (0 ∷ 0 ∷ []))
 unfolding digits said_mark
 five_from_text = (0 ∷ 0 ∷ [], refl, refl)
 
-rest_from_text : IsRun d None (Some (mark_text (0 ∷ 0 ∷ []))) (commands d None (0 ∷ 0 ∷ []))
+rest_from_text : IsRun d false None (Some (run_mark_text false (0 ∷ 0 ∷ []))) (commands d false None (0 ∷ 0 ∷ []))
 unfolding digits said_mark
 rest_from_text = (0 ∷ 0 ∷ [], refl, refl)
 
-two_and_five : ArePageTexts entries d None (2 ∷ 5 ∷ []) (codes "mk a\nmk b1\n" ∷ codes "mk b2\nmk d\n" ∷ []) []
+two_and_five : ArePageTexts entries d false None (2 ∷ 5 ∷ []) (codes "mk a\nmk b1\n" ∷ codes "mk b2\nmk d\n" ∷ []) []
 two_and_five =
-    stops (commands d (Some 2) []) (0 ∷ 0 ∷ []) from_start two_stops two
-    (finishes (commands d (Some 5) (0 ∷ 0 ∷ [])) five_from_text five_from_0_0_ends five_from_0_0)
+    stops (commands d false (Some 2) []) (0 ∷ 0 ∷ []) from_start two_stops two
+    (finishes (commands d false (Some 5) (0 ∷ 0 ∷ [])) five_from_text five_from_0_0_ends five_from_0_0)
 
 -- and one run of two edges, before all that is left
-two_and_rest : ArePageTexts entries d None (2 ∷ []) (codes "mk a\nmk b1\n" ∷ []) (codes "mk b2\nmk d\n")
+two_and_rest : ArePageTexts entries d false None (2 ∷ []) (codes "mk a\nmk b1\n" ∷ []) (codes "mk b2\nmk d\n")
 two_and_rest =
-    stops (commands d (Some 2) []) (0 ∷ 0 ∷ []) from_start two_stops two
-    (no_runs (commands d None (0 ∷ 0 ∷ [])) rest_from_text from_0_0)
+    stops (commands d false (Some 2) []) (0 ∷ 0 ∷ []) from_start two_stops two
+    (no_runs (commands d false None (0 ∷ 0 ∷ [])) rest_from_text from_0_0)
 
 -- ---- what is told
 
-error_of_ended : error_of finished ≡ []
+error_of_ended : error_of false finished ≡ []
 error_of_ended = refl
 
-error_of_stopped : error_of (stopped (0 ∷ 0 ∷ [])) ≡ codes "mark 0.0\n"
+error_of_stopped : error_of false (stopped (0 ∷ 0 ∷ [])) ≡ codes "mark 0.0\n"
 unfolding digits
 error_of_stopped = refl
 
-error_of_start : error_of (stopped []) ≡ codes "mark start\n"
+error_of_start : error_of false (stopped []) ≡ codes "mark start\n"
 error_of_start = refl
 
-error_of_fault : error_of (faulty (codes "ninja-explain: unknown target 'x'")) ≡ codes "ninja-explain: unknown target 'x'\n"
+error_of_fault : error_of false (faulty (codes "ninja-explain: unknown target 'x'")) ≡ codes "ninja-explain: unknown target 'x'\n"
 error_of_fault = refl
 
 status_of_ended : status_of finished ≡ Done
@@ -253,3 +258,51 @@ status_of_stopped = refl
 
 status_of_fault : status_of (faulty (codes "ninja-explain: unknown target 'x'")) ≡ Fault
 status_of_fault = refl
+
+-- ---- validations
+
+-- `build t: mk |@ v` and `build v: mk t`: edge 0 makes t, edge 1 makes v
+abbrev checked : List Entry
+checked =
+    made 4 (codes "v") 10 (word 4 13 (codes "t") ∷ [])
+    ∷ entry 3 (BuildText
+    (record { explicit = word 3 7 (codes "t") ∷ []; implicit = [] })
+    (name_at 3 10 (codes "mk"))
+    (record { explicit = []; implicit = []; order_only = []; validations = word 3 16 (codes "v") ∷ [] })
+    [])
+    ∷ the_rule ∷ []
+
+abbrev t : List (List ℕ)
+t = codes "t" ∷ []
+
+unasked : output_of checked (commands t false None []) ≡ codes "mk t\n"
+unfolding on_entries
+unasked = refl
+
+followed : output_of checked (commands t true None []) ≡ codes "mk t\nmk v\n"
+unfolding on_entries
+followed = refl
+
+one_followed : output_of checked (commands t true (Some 1) []) ≡ codes "mk t\n"
+unfolding on_entries
+one_followed = refl
+
+one_followed_stops : EndsWith checked (commands t true (Some 1) []) (stopped (0 ∷ []))
+unfolding on_entries
+one_followed_stops = (more, (refl, ([], refl, refl)), reads_0)
+
+-- the second target is the validation, of which t is the first input
+from_1_0 : output_of checked (commands t true None (1 ∷ 0 ∷ [])) ≡ codes "mk v\n"
+unfolding on_entries
+from_1_0 = refl
+
+from_2_ends : EndsWith checked (commands t true None (2 ∷ [])) (faulty (codes "ninja-explain: mark out of range"))
+unfolding on_entries
+from_2_ends = refl
+
+error_of_followed : error_of true (stopped (0 ∷ [])) ≡ codes "mark v0\n"
+unfolding digits
+error_of_followed = refl
+
+error_of_followed_start : error_of true (stopped []) ≡ codes "mark vstart\n"
+error_of_followed_start = refl

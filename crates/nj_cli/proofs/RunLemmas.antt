@@ -1,5 +1,5 @@
 -- How a run ends.
-use Rattle.std.proofs.Common.{◌≡◌, ◌⊎◌, inl, inr, ℕ, Option, Some, None, Result, Ok, Err, List, [], refl, sym, subst}
+use Rattle.std.proofs.Common.{◌≡◌, ◌⊎◌, inl, inr, ℕ, Bool, Option, Some, None, Result, Ok, Err, List, [], refl, sym, subst}
 use Rattle.std.proofs.lemmas.List.{append-nil}
 use Rattle.nj_scope.specs.Readings.{Reading}
 use Rattle.nj_scope.specs.ReadingList.{Entry}
@@ -10,7 +10,7 @@ use Rattle.nj_graph.specs.Graph.{GraphText, IsGraphOf}
 use Rattle.nj_request.specs.Requests.{ActionText, RequestText}
 use Rattle.nj_tools.specs.Sinks.{SinkState, Takes}
 use Rattle.nj_tools.specs.Texts.{TakesFront}
-use Rattle.nj_cli.specs.Answers.{output_of, finished, stopped, faulty, out_of_range, EndsWith, with_line_end}
+use Rattle.nj_cli.specs.Answers.{output_of, finished, stopped, faulty, out_of_range, EndsWith, with_line_end, follows_validations}
 use Rattle.nj_cli.specs.Reported.{Reported}
 use Rattle.nj_cli.specs.RunSteps.{AnswersTo, ReportsMark, Concludes}
 use Rattle.nj_cli.specs.Runs.{Around, out_of_memory, RunEnds, AreStatements, IsAnswered}
@@ -54,7 +54,7 @@ module _ (entries : List Entry) (action : ActionText) (old new : Around) where
   graph-fault f (inr (ends, took)) (inr reported) = late took reported
 
   stopped-at : (mark : List ℕ) (status : Status) → EndsWith entries action (stopped mark) → Takes old.output new.output (output_of entries action)
-      → ReportsMark old.error new.error mark status → RunEnds entries action old new status
+      → ReportsMark (follows_validations action) old.error new.error mark status → RunEnds entries action old new status
   stopped-at mark Stopped ends took reported = told (record { ending = stopped mark; ends = ends; output = took; error = reported; status_is = refl })
   stopped-at mark OutputFailed ends took reported = untold (record { ending = stopped mark; ends = ends; output = took; error = reported; status_is = refl })
   stopped-at mark Fault ends took reported = late took reported
@@ -62,7 +62,7 @@ module _ (entries : List Entry) (action : ActionText) (old new : Around) where
   stopped-at mark Usage ends took reported = absurd reported
 
   pub Answers-from : (status : Status) (result : Result (Option (List ℕ)) RunFault) → AnswersTo entries action old.output new.output result
-      → Concludes old.error new.error result status → RunEnds entries action old new status
+      → Concludes (follows_validations action) old.error new.error result status → RunEnds entries action old new status
   Answers-from status (Ok None) answers concludes =
       told (record { ending = finished; ends = answers.0; output = answers.1; error = concludes.0; status_is = concludes.1 })
   Answers-from status (Ok (Some mark)) answers concludes = stopped-at mark status answers.0 answers.1 concludes

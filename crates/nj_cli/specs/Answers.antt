@@ -6,17 +6,18 @@ use Rattle.nj_faults.specs.declared.fault.Cause.TheVariants.{TextNotUtf8}
 use Rattle.nj_faults.specs.declared.fault.GraphFault.{GraphFault}
 use Rattle.nj_faults.specs.Faults.{fault_at, unplaced}
 use Rattle.nj_faults.specs.FaultLines.{fault_line}
-use Rattle.nj_marks.specs.Marks.{mark_text, ReadsBack}
+use Rattle.nj_marks.specs.Marks.{ReadsBack}
 use Rattle.nj_needs.specs.Graphs.{row_of_paths, makers_in, is_phony_in}
 use Rattle.nj_needs.specs.Marks.{is_valid, rest}
 use Rattle.nj_needs.specs.Pages.{IsMarkAfter}
 use Rattle.nj_tools.specs.CommandTexts.{command_lines, written, left_after, own_commands_in}
 use Rattle.nj_tools.specs.Compdb.{compdb_text, unheld_edge}
-use Rattle.nj_tools.specs.Listings.{plain_style, inputs_text, targets_text}
+use Rattle.nj_tools.specs.Listings.{inputs_text, targets_text}
 use Rattle.nj_tools.specs.Queries.{query_text}
 use Rattle.nj_tools.specs.RuleLists.{rules_text}
 use Rattle.nj_request.specs.Requests.{ActionText, commands, single_commands}
 use Rattle.nj_request.specs.Requests as ask
+use Rattle.nj_request.specs.RunMarks.{run_mark_text}
 use Rattle.nj_cli.specs.Targets.{edges_by_path, targets_named, targets_of}
 use Rattle.nj_cli.specs.declared.status.Status.{Status}
 use Rattle.nj_cli.specs.declared.status.Status.TheVariants.{Done, Fault, Stopped, OutputFailed}
@@ -57,9 +58,10 @@ single_commands_text entries targets = command_lines entries (own_commands_in (e
 
 -- the whole output; empty at a fault, except for what `compdb` writes before one
 abbrev pub output_of : List Entry → ActionText → List ℕ
-output_of entries (commands words take start) = commands_text entries take start (targets_of entries words)
-output_of entries (single_commands words) = for_targets (single_commands_text entries) (targets_of entries words)
-output_of entries (ask.inputs words) = for_targets (inputs_text plain_style (edges_by_path entries)) (targets_of entries words)
+output_of entries (commands words validations take start) = commands_text entries take start (targets_of entries validations words)
+output_of entries (single_commands words) = for_targets (single_commands_text entries) (targets_of entries false words)
+output_of entries (ask.inputs words validations style) =
+    for_targets (inputs_text style (edges_by_path entries)) (targets_of entries validations words)
 output_of entries (ask.targets view) = targets_text entries view
 output_of entries (ask.query words) = for_targets (query_text entries) (targets_named (edges_by_path entries) words)
 output_of entries (ask.rules descriptions) = rules_text entries descriptions
@@ -110,9 +112,10 @@ CompdbEnds entries (Some edge) ending = ending ≡ faulty (fault_line (text_faul
 
 -- the ending of a run; the faults of targets, from the left, come before that of the mark
 abbrev pub EndsWith : List Entry → ActionText → Ending → Type 0
-EndsWith entries (commands words take start) ending = CommandsEnd entries take start (targets_of entries words) ending
-EndsWith entries (single_commands words) ending = TargetsEnd (targets_of entries words) ending
-EndsWith entries (ask.inputs words) ending = TargetsEnd (targets_of entries words) ending
+EndsWith entries (commands words validations take start) ending =
+    CommandsEnd entries take start (targets_of entries validations words) ending
+EndsWith entries (single_commands words) ending = TargetsEnd (targets_of entries false words) ending
+EndsWith entries (ask.inputs words validations style) ending = TargetsEnd (targets_of entries validations words) ending
 EndsWith entries (ask.targets view) ending = ending ≡ finished
 EndsWith entries (ask.query words) ending = TargetsEnd (targets_named (edges_by_path entries) words) ending
 EndsWith entries (ask.rules descriptions) ending = ending ≡ finished
@@ -123,11 +126,21 @@ EndsWith entries (ask.compdb names directory expand) ending = CompdbEnds entries
 abbrev pub with_line_end : List ℕ → List ℕ
 with_line_end text = text ++ 10 ∷ []
 
+-- whether a run follows validations
+abbrev pub follows_validations : ActionText → Bool
+follows_validations (commands words validations take start) = validations
+follows_validations (ask.inputs words validations style) = validations
+follows_validations _ = false
+
+-- the line that reports a mark
+abbrev pub mark_line : (validations : Bool) → (mark : List ℕ) → List ℕ
+mark_line validations mark = with_line_end (codes "mark " ++ run_mark_text validations mark)
+
 -- the error output
-abbrev pub error_of : Ending → List ℕ
-error_of finished = []
-error_of (stopped mark) = with_line_end (codes "mark " ++ mark_text mark)
-error_of (faulty text) = with_line_end text
+abbrev pub error_of : (validations : Bool) → Ending → List ℕ
+error_of validations finished = []
+error_of validations (stopped mark) = mark_line validations mark
+error_of validations (faulty text) = with_line_end text
 
 abbrev pub status_of : Ending → Status
 status_of finished = Done

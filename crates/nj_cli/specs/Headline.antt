@@ -1,14 +1,14 @@
 -- What a run of `commands` is for.
-use Rattle.std.specs.Prelude.{◌≡◌, ◌↔◌, ℕ, false, Option, None, Some, Ok, List, [], ◌∷◌, ◌++◌, length, Contains, nat_eq}
+use Rattle.std.specs.Prelude.{◌≡◌, ◌↔◌, ℕ, Bool, false, Option, None, Some, Ok, List, [], ◌∷◌, ◌++◌, length, Contains, nat_eq}
 use Rattle.std.specs.List.{concat, IsDistinct}
 use Rattle.nj_scope.specs.ReadingList.{Entry}
 use Rattle.nj_edges.specs.Edges.{EdgePaths}
-use Rattle.nj_marks.specs.Marks.{mark_text}
 use Rattle.nj_needs.specs.Graphs.{row_of_paths, makers_in, is_phony_in}
 use Rattle.nj_needs.specs.Laws.{StandsBefore}
 use Rattle.nj_needs.specs.Needs.{NeedsByChain, Reached}
 use Rattle.nj_needs.specs.Order.{needed_commands}
 use Rattle.nj_request.specs.Requests.{ActionText, commands, start_of}
+use Rattle.nj_request.specs.RunMarks.{run_mark_text}
 use Rattle.nj_tools.specs.CommandTexts.{command_lines}
 use Rattle.nj_cli.specs.Answers.{output_of, Ending, finished, stopped, EndsWith}
 use Rattle.nj_cli.specs.Targets.{edges_by_path, NoEdgeNeedsItself, targets_of}
@@ -22,43 +22,46 @@ pub record AreNeeded (edges : List EdgePaths) (targets : List (List ℕ)) (numbe
   pub after : (e f : ℕ) → Contains numbers e → NeedsByChain (makers_in edges) e f → is_phony_in edges f ≡ false → StandsBefore numbers f e
   pub order : numbers ≡ needed_commands (makers_in edges) (length edges) (is_phony_in edges) (row_of_paths edges targets)
 
--- A run from the start that finishes writes a line for each of the needed edges: its command.
+-- A run from the start that finishes writes a line for each of the needed edges: its command. If it follows validations, the targets are
+-- those of its words and what is to be validated when they are built.
 abbrev pub WritesTheNeeded : Type 0
-WritesTheNeeded = (entries : List Entry) (words : List (List ℕ)) → NoEdgeNeedsItself (edges_by_path entries)
-    → EndsWith entries (commands words None []) finished
-    → (targets : List (List ℕ)) × (targets_of entries words ≡ Ok targets)
+WritesTheNeeded = (entries : List Entry) (words : List (List ℕ)) (validations : Bool) → NoEdgeNeedsItself (edges_by_path entries)
+    → EndsWith entries (commands words validations None []) finished
+    → (targets : List (List ℕ)) × (targets_of entries validations words ≡ Ok targets)
     × (numbers : List ℕ) × AreNeeded (edges_by_path entries) targets numbers
-    × (output_of entries (commands words None []) ≡ command_lines entries numbers)
+    × (output_of entries (commands words validations None []) ≡ command_lines entries numbers)
 
 -- the run for these words that takes at most `take` edges, and begins at the mark that the text of `--resume` says, or at the start
-abbrev pub IsRun : (words : List (List ℕ)) → (take : Option ℕ) → (resume : Option (List ℕ)) → ActionText → Type 0
-IsRun words take resume run = (start : List ℕ) × (start_of resume ≡ Ok start) × (run ≡ commands words take start)
+abbrev pub IsRun : (words : List (List ℕ)) → (validations : Bool) → (take : Option ℕ) → (resume : Option (List ℕ)) → ActionText → Type 0
+IsRun words validations take resume run =
+    (start : List ℕ) × (start_of validations resume ≡ Ok start) × (run ≡ commands words validations take start)
 
 -- Runs with these words, one after another: each takes at most the number of edges in `takes`, and resumes at the text that the one before
 -- wrote after `mark `. Their outputs, and the output of a run without a limit from the last mark; that is empty if a run finished.
-pub data ArePageTexts (entries : List Entry) (words : List (List ℕ))
+pub data ArePageTexts (entries : List Entry) (words : List (List ℕ)) (validations : Bool)
     : (resume : Option (List ℕ)) → (takes : List ℕ) → (outputs : List (List ℕ)) → (rest : List ℕ) → Type 0 where
-  no_runs : {resume : Option (List ℕ)} {rest : List ℕ} (run : ActionText) → IsRun words None resume run
-      → output_of entries run ≡ rest → ArePageTexts entries words resume [] [] rest
-  finishes : {resume : Option (List ℕ)} {take : ℕ} {output : List ℕ} (run : ActionText) → IsRun words (Some take) resume run
-      → EndsWith entries run finished → output_of entries run ≡ output → ArePageTexts entries words resume (take ∷ []) (output ∷ []) []
+  no_runs : {resume : Option (List ℕ)} {rest : List ℕ} (run : ActionText) → IsRun words validations None resume run
+      → output_of entries run ≡ rest → ArePageTexts entries words validations resume [] [] rest
+  finishes : {resume : Option (List ℕ)} {take : ℕ} {output : List ℕ} (run : ActionText) → IsRun words validations (Some take) resume run
+      → EndsWith entries run finished → output_of entries run ≡ output
+      → ArePageTexts entries words validations resume (take ∷ []) (output ∷ []) []
   stops : {resume : Option (List ℕ)} {takes output rest : List ℕ} {take : ℕ} {outputs : List (List ℕ)} (run : ActionText) (mark : List ℕ)
-      → IsRun words (Some take) resume run → EndsWith entries run (stopped mark) → output_of entries run ≡ output
-      → ArePageTexts entries words (Some (mark_text mark)) takes outputs rest
-      → ArePageTexts entries words resume (take ∷ takes) (output ∷ outputs) rest
+      → IsRun words validations (Some take) resume run → EndsWith entries run (stopped mark) → output_of entries run ≡ output
+      → ArePageTexts entries words validations (Some (run_mark_text validations mark)) takes outputs rest
+      → ArePageTexts entries words validations resume (take ∷ takes) (output ∷ outputs) rest
 
 -- The pages, followed by the rest, are the output of one run without a limit.
 abbrev pub PageTextsJoin : Type 0
-PageTextsJoin = (entries : List Entry) (words : List (List ℕ)) → NoEdgeNeedsItself (edges_by_path entries)
-    → (resume : Option (List ℕ)) (whole : ActionText) → IsRun words None resume whole → EndsWith entries whole finished
-    → (takes : List ℕ) (outputs : List (List ℕ)) (rest : List ℕ) → ArePageTexts entries words resume takes outputs rest
+PageTextsJoin = (entries : List Entry) (words : List (List ℕ)) (validations : Bool) → NoEdgeNeedsItself (edges_by_path entries)
+    → (resume : Option (List ℕ)) (whole : ActionText) → IsRun words validations None resume whole → EndsWith entries whole finished
+    → (takes : List ℕ) (outputs : List (List ℕ)) (rest : List ℕ) → ArePageTexts entries words validations resume takes outputs rest
     → output_of entries whole ≡ concat outputs ++ rest
 
 -- A run that stopped can go on: what it wrote after `mark ` is a text for `--resume`, and a run without a limit from there finishes.
 abbrev pub StoppedRunsGoOn : Type 0
-StoppedRunsGoOn = (entries : List Entry) (words : List (List ℕ)) → NoEdgeNeedsItself (edges_by_path entries)
-    → (take : Option ℕ) (start mark : List ℕ) → EndsWith entries (commands words take start) (stopped mark)
-    → (next : ActionText) × IsRun words None (Some (mark_text mark)) next × EndsWith entries next finished
+StoppedRunsGoOn = (entries : List Entry) (words : List (List ℕ)) (validations : Bool) → NoEdgeNeedsItself (edges_by_path entries)
+    → (take : Option ℕ) (start mark : List ℕ) → EndsWith entries (commands words validations take start) (stopped mark)
+    → (next : ActionText) × IsRun words validations None (Some (run_mark_text validations mark)) next × EndsWith entries next finished
 
 -- A run has one ending, so one mark.
 abbrev pub OneEnding : Type 0

@@ -1,5 +1,5 @@
 -- What the steps of a run do, on the way to its end.
-use Rattle.std.specs.Prelude.{◌≡◌, ◌⊎◌, ℕ, Option, Some, None, Result, Ok, Err, List, []}
+use Rattle.std.specs.Prelude.{◌≡◌, ◌⊎◌, ℕ, Bool, Option, Some, None, Result, Ok, Err, List, []}
 use Rattle.nj_scope.specs.Readings.{Reading}
 use Rattle.nj_scope.specs.Sources.{SourceState}
 use Rattle.nj_scope.specs.ReadingList.{Entry}
@@ -16,7 +16,7 @@ use Rattle.nj_request.specs.Requests.{ActionText, RequestText}
 use Rattle.nj_request.specs.FaultLines as lines
 use Rattle.nj_request.specs.declared.faults.UsageFault.{UsageFault}
 use Rattle.nj_request.specs.declared.faults.UsageFault.TheVariants as usage
-use Rattle.nj_cli.specs.Answers.{output_of, finished, stopped, faulty, out_of_range, EndsWith, with_line_end, error_of}
+use Rattle.nj_cli.specs.Answers.{output_of, finished, stopped, faulty, out_of_range, EndsWith, with_line_end, mark_line}
 use Rattle.nj_cli.specs.Reported.{Failed, Reported}
 use Rattle.nj_cli.specs.Runs.{out_of_memory, AreStatements, HaveFault}
 use Rattle.nj_cli.specs.declared.fault.RunFault.{RunFault}
@@ -64,20 +64,20 @@ abbrev pub ReportsLine : (old new : SinkState) → (line : List ℕ) → Type 0
 ReportsLine old new line = Reported old new line ⊎ Reported old new (with_line_end out_of_memory)
 
 -- the mark was reported; or the error output failed; or its line could not be made
-abbrev pub ReportsMark : (old new : SinkState) → (mark : List ℕ) → Status → Type 0
-ReportsMark old new mark Stopped = Takes old new (error_of (stopped mark))
-ReportsMark old new mark OutputFailed = Failed old new (error_of (stopped mark))
-ReportsMark old new mark Fault = Reported old new (with_line_end out_of_memory)
-ReportsMark old new mark other = ⊥
+abbrev pub ReportsMark : (validations : Bool) → (old new : SinkState) → (mark : List ℕ) → Status → Type 0
+ReportsMark validations old new mark Stopped = Takes old new (mark_line validations mark)
+ReportsMark validations old new mark OutputFailed = Failed old new (mark_line validations mark)
+ReportsMark validations old new mark Fault = Reported old new (with_line_end out_of_memory)
+ReportsMark validations old new mark other = ⊥
 
 -- what is reported of an answer
-abbrev pub Concludes : (old new : SinkState) → Result (Option (List ℕ)) RunFault → Status → Type 0
-Concludes old new (Ok None) status = (new ≡ old) × (status ≡ Done)
-Concludes old new (Ok (Some mark)) status = ReportsMark old new mark status
-Concludes old new (Err (fault.Graph f)) status = ReportsLine old new (with_line_end (fault_line f)) × (status ≡ Fault)
-Concludes old new (Err fault.MarkOutOfRange) status = Reported old new (with_line_end out_of_range) × (status ≡ Fault)
-Concludes old new (Err fault.Write) status = (new ≡ old) × (status ≡ OutputFailed)
-Concludes old new (Err fault.OutOfMemory) status = Reported old new (with_line_end out_of_memory) × (status ≡ Fault)
+abbrev pub Concludes : (validations : Bool) → (old new : SinkState) → Result (Option (List ℕ)) RunFault → Status → Type 0
+Concludes validations old new (Ok None) status = (new ≡ old) × (status ≡ Done)
+Concludes validations old new (Ok (Some mark)) status = ReportsMark validations old new mark status
+Concludes validations old new (Err (fault.Graph f)) status = ReportsLine old new (with_line_end (fault_line f)) × (status ≡ Fault)
+Concludes validations old new (Err fault.MarkOutOfRange) status = Reported old new (with_line_end out_of_range) × (status ≡ Fault)
+Concludes validations old new (Err fault.Write) status = (new ≡ old) × (status ≡ OutputFailed)
+Concludes validations old new (Err fault.OutOfMemory) status = Reported old new (with_line_end out_of_memory) × (status ≡ Fault)
 
 -- what is reported of words that are not a valid request
 abbrev pub ReportsMisuse : (old new : SinkState) → UsageFault → Status → Type 0

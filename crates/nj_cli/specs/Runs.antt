@@ -14,7 +14,7 @@ use Rattle.nj_tools.specs.Texts.{FailsWithin, TakesFront}
 use Rattle.nj_request.specs.FaultLines as usage
 use Rattle.nj_request.specs.Requests.{ActionText, RequestText, request_of}
 use Rattle.nj_request.specs.declared.faults.UsageFault.{UsageFault}
-use Rattle.nj_cli.specs.Answers.{output_of, Ending, EndsWith, with_line_end, error_of, status_of, status_untold}
+use Rattle.nj_cli.specs.Answers.{output_of, Ending, EndsWith, with_line_end, follows_validations, error_of, status_of, status_untold}
 use Rattle.nj_cli.specs.Reported.{Took, Failed, Reported}
 use Rattle.nj_cli.specs.Targets.{edges_by_path, NoEdgeNeedsItself}
 use Rattle.nj_cli.specs.declared.status.Status.{Status}
@@ -39,7 +39,7 @@ pub record IsTold (entries : List Entry) (action : ActionText) (old new : Around
   pub ending : Ending
   pub ends : EndsWith entries action ending
   pub output : Takes old.output new.output (output_of entries action)
-  pub error : Took old.error new.error (error_of ending)
+  pub error : Took old.error new.error (error_of (follows_validations action) ending)
   pub status_is : status ≡ status_of ending
 
 -- all was output, and the error output failed
@@ -47,7 +47,7 @@ pub record IsUntold (entries : List Entry) (action : ActionText) (old new : Arou
   pub ending : Ending
   pub ends : EndsWith entries action ending
   pub output : Takes old.output new.output (output_of entries action)
-  pub error : Failed old.error new.error (error_of ending)
+  pub error : Failed old.error new.error (error_of (follows_validations action) ending)
   pub status_is : status ≡ status_untold ending
 
 -- the output failed; nothing is reported

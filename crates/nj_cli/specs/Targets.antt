@@ -1,5 +1,5 @@
 -- The targets of a run.
-use Rattle.std.specs.Prelude.{◌≡◌, ◌⊎◌, ℕ, Result, Ok, Err, List, [], ◌∷◌, length}
+use Rattle.std.specs.Prelude.{◌≡◌, ◌⊎◌, ℕ, Bool, true, false, Result, Ok, Err, List, [], ◌∷◌, length}
 use Rattle.std.specs.Global.{Vec}
 use Rattle.nj_scope.specs.ReadingList.{Entry}
 use Rattle.nj_edges.specs.declared.files.FileNo.{FileNo}
@@ -12,6 +12,7 @@ use Rattle.nj_build.specs.EdgeList.{edges_read, paths_of_edges, defaults_read}
 use Rattle.nj_faults.specs.declared.fault.GraphFault.{GraphFault}
 use Rattle.nj_faults.specs.Faults.{no_memory}
 use Rattle.nj_graph.specs.Targets.{picked}
+use Rattle.nj_needs.specs.Growing.{grown_targets}
 
 -- the edges of statements, by their paths
 abbrev pub edges_by_path : List Entry → List EdgePaths
@@ -36,13 +37,18 @@ abbrev pub or_defaults : List Entry → (targets : List (List ℕ)) → List (Li
 or_defaults entries [] = defaults_in_force (defaults_read entries) (edges_by_path entries)
 or_defaults entries (path ∷ paths) = path ∷ paths
 
-abbrev pub targets_or_defaults : List Entry → Result (List (List ℕ)) GraphFault → Result (List (List ℕ)) GraphFault
-targets_or_defaults entries (Ok targets) = Ok (or_defaults entries targets)
-targets_or_defaults entries (Err fault) = Err fault
+-- with `--validations` what is to be validated when they are built comes after them
+abbrev pub with_validations : (validations : Bool) → List EdgePaths → (targets : List (List ℕ)) → List (List ℕ)
+with_validations false edges targets = targets
+with_validations true edges targets = grown_targets edges targets
+
+abbrev pub targets_from : List Entry → (validations : Bool) → Result (List (List ℕ)) GraphFault → Result (List (List ℕ)) GraphFault
+targets_from entries validations (Ok targets) = Ok (with_validations validations (edges_by_path entries) (or_defaults entries targets))
+targets_from entries validations (Err fault) = Err fault
 
 -- the targets of a run with these words
-abbrev pub targets_of : List Entry → (words : List (List ℕ)) → Result (List (List ℕ)) GraphFault
-targets_of entries words = targets_or_defaults entries (targets_named (edges_by_path entries) words)
+abbrev pub targets_of : List Entry → (validations : Bool) → (words : List (List ℕ)) → Result (List (List ℕ)) GraphFault
+targets_of entries validations words = targets_from entries validations (targets_named (edges_by_path entries) words)
 
 -- ---- what the code answers
 

@@ -1,19 +1,17 @@
 //! What a run answers, by the graph of its files.
 
-ghost use Rattle.std.specs.Prelude.{◌≡◌, ℕ, ◌<◌, List, All, length, map, slice_get, string_bytes, IfOk};
-ghost use Rattle.nj_edges.specs.Files.{AreFiles};
+ghost use Rattle.std.specs.Prelude.{◌≡◌, ℕ, ◌<◌, List, length, map, slice_get, string_bytes, IfOk};
 ghost use Rattle.nj_scope.specs.ReadingList.{Entry};
 ghost use Rattle.nj_build.specs.EdgeList.{edges_read};
-ghost use Rattle.nj_graph.specs.Graph.{edges_of, files_of, IsGraphOf};
+ghost use Rattle.nj_graph.specs.Graph.{edges_of, IsGraphOf};
 ghost use Rattle.nj_request.specs.Requests.{action_text, commands, single_commands};
 ghost use Rattle.nj_request.specs.Requests as ask;
-ghost use Rattle.nj_cli.specs.Answers.{text_fault};
+ghost use Rattle.nj_cli.specs.Answers.{text_fault, follows_validations};
 ghost use Rattle.nj_cli.specs.RunSteps.{AnswersTo};
-ghost use Rattle.nj_cli.specs.Targets.{or_defaults};
 
 use crate::fault::RunFault;
-use crate::targets::pick_targets;
-use nj_graph::{Cause, EdgeNo, FileNo, Graph, GraphFault, Name, Place, PlaceRef};
+use crate::targets::{pick_targets, targets_of};
+use nj_graph::{Cause, EdgeNo, Graph, GraphFault, Name, Place, PlaceRef};
 use nj_needs::{Mark, Needs};
 use nj_request::Action;
 use nj_tools::{
@@ -35,11 +33,16 @@ pub(crate) fn answer<O: Sink>(
     match action {
         Action::Commands {
             targets,
+            validations,
             take,
             start,
-        } => answer_commands(alloc, graph, targets, *take, start, out),
+        } => answer_commands(alloc, graph, targets, *validations, *take, start, out),
         Action::SingleCommands { targets } => answer_single_commands(alloc, graph, targets, out),
-        Action::Inputs { targets } => answer_inputs(alloc, graph, targets, out),
+        Action::Inputs {
+            targets,
+            validations,
+            style,
+        } => answer_inputs(alloc, graph, targets, *validations, *style, out),
         Action::Targets { view } => answer_targets(alloc, graph, view, out),
         Action::Query { files } => answer_query(alloc, graph, files, out),
         Action::Rules { descriptions } => answer_rules(alloc, graph, *descriptions, out),
@@ -51,22 +54,32 @@ pub(crate) fn answer<O: Sink>(
     }
 }
 
+/// Whether what is to be validated is asked for with the targets.
+pub(crate) fn follows_validations(action: &Action) -> bool
+    ensures { result ≡ follows_validations (action_text action.now) }
+{
+    match action {
+        Action::Commands { validations, .. } | Action::Inputs { validations, .. } => *validations,
+        _ => false,
+    }
+}
+
 // The commands that the targets need, from a mark on.
 fn answer_commands<O: Sink>(
     alloc: Global,
     graph: &Graph,
     words: &[String],
+    validations: bool,
     take: Option<u64>,
     start: &Mark,
     out: &mut O,
 ) -> Result<Option<Mark>, RunFault>
     ensures { (entries : List Entry) → IsGraphOf graph.now entries
-        → AnswersTo entries (commands (map string_bytes words.now) take start.now)
+        → AnswersTo entries (commands (map string_bytes words.now) validations take start.now)
         (O.state out.old) (O.state out.new) result }
 {
-    let picked = pick_targets(alloc, graph, words)?;
-    let targets = or_defaults(graph, &picked);
-    let mut needs = Needs::resume(alloc, graph.edge_graph(), targets, start)?;
+    let targets = targets_of(alloc, graph, words, validations)?;
+    let mut needs = Needs::resume(alloc, graph.edge_graph(), &targets, start)?;
     let mark = write_commands(alloc, graph, &mut needs, take, out)?;
     Ok(mark)
 }
@@ -82,9 +95,8 @@ fn answer_single_commands<O: Sink>(
         → AnswersTo entries (single_commands (map string_bytes words.now))
         (O.state out.old) (O.state out.new) result }
 {
-    let picked = pick_targets(alloc, graph, words)?;
-    let targets = or_defaults(graph, &picked);
-    write_single_commands(alloc, graph, targets, out)?;
+    let targets = targets_of(alloc, graph, words, false)?;
+    write_single_commands(alloc, graph, &targets, out)?;
     Ok(None)
 }
 
@@ -93,20 +105,16 @@ fn answer_inputs<O: Sink>(
     alloc: Global,
     graph: &Graph,
     words: &[String],
+    validations: bool,
+    style: InputsStyle,
     out: &mut O,
 ) -> Result<Option<Mark>, RunFault>
     ensures { (entries : List Entry) → IsGraphOf graph.now entries
-        → AnswersTo entries (ask.inputs (map string_bytes words.now))
+        → AnswersTo entries (ask.inputs (map string_bytes words.now) validations style)
         (O.state out.old) (O.state out.new) result }
 {
-    let picked = pick_targets(alloc, graph, words)?;
-    let targets = or_defaults(graph, &picked);
-    let style = InputsStyle {
-        dependency_order: false,
-        shell_escape: true,
-        zero: false,
-    };
-    write_inputs(alloc, graph, targets, style, out)?;
+    let targets = targets_of(alloc, graph, words, validations)?;
+    write_inputs(alloc, graph, &targets, style, out)?;
     Ok(None)
 }
 
@@ -190,18 +198,4 @@ fn text_fault(alloc: Global, graph: &Graph, edge: EdgeNo) -> Result<GraphFault, 
         place: Some(Place { file, spot }),
         cause: Cause::TextNotUtf8,
     })
-}
-
-// The targets, or the defaults in force if there are none.
-fn or_defaults<'a>(graph: &'a Graph, targets: &'a [FileNo]) -> &'a [FileNo]
-    requires { All (λ file. file.0 < length (files_of graph.now)) targets.now }
-    ensures files { (entries : List Entry) → IsGraphOf graph.now entries
-        → (paths : List (List ℕ)) → AreFiles (files_of graph.now) targets.now paths
-        → AreFiles (files_of graph.now) result.now (or_defaults entries paths) }
-    ensures known { All (λ file. file.0 < length (files_of graph.now)) result.now }
-{
-    match targets {
-        [] => graph.defaults(),
-        _ => targets,
-    }
 }

@@ -14,7 +14,9 @@ pub use disk::DiskFiles;
 pub use laws::commands_law;
 pub use nj_graph::Name;
 pub use nj_needs::Mark;
-pub use nj_request::{Action, Request, TargetsView, ToolOption, UsageFault, Word, read_words};
+pub use nj_request::{
+    Action, InputsStyle, Request, TargetsView, ToolOption, UsageFault, Word, read_words,
+};
 pub use nj_scope::{FileSource, FileTable, HashKeys, MemoryFiles, SourceFault};
 pub use nj_tools::{MemorySink, Sink, SinkFault, WriteSink};
 pub use report::{refuse_words, report_out_of_memory};

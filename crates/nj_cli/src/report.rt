@@ -2,10 +2,9 @@
 
 ghost use Rattle.std.specs.Prelude.{◌≡◌, ◌++◌, ◌∷◌, [], codes, IfOk};
 ghost use Rattle.nj_faults.specs.FaultLines.{fault_line};
-ghost use Rattle.nj_marks.specs.Marks.{mark_text};
 ghost use Rattle.nj_request.specs.FaultLines as usage;
 ghost use Rattle.nj_request.specs.declared.faults.UsageFault.TheVariants.{Unparsed};
-ghost use Rattle.nj_cli.specs.Answers.{with_line_end, error_of, stopped};
+ghost use Rattle.nj_cli.specs.Answers.{with_line_end, mark_line};
 ghost use Rattle.nj_cli.specs.Reported.{Reported};
 ghost use Rattle.nj_cli.specs.RunSteps.{Concludes, ReportsLine, ReportsMark, ReportsMisuse};
 ghost use Rattle.nj_cli.specs.Runs.{out_of_memory};
@@ -24,17 +23,19 @@ const UNREADABLE: &[u8] = b"ninja-explain: cannot read the arguments\n";
 
 const OUT_OF_RANGE: &[u8] = b"ninja-explain: mark out of range\n";
 
-/// Reports how a run ends by its answer.
+/// Reports how a run ends by its answer. The mark of a run that follows validations is reported as
+/// one of those.
 pub(crate) fn conclude<E: Sink>(
     alloc: Global,
     err: &mut E,
+    validations: bool,
     answer: Result<Option<Mark>, RunFault>,
 ) -> Status
-    ensures { Concludes (E.state err.old) (E.state err.new) answer result }
+    ensures { Concludes validations (E.state err.old) (E.state err.new) answer result }
 {
     match answer {
         Ok(None) => Status::Done,
-        Ok(Some(mark)) => report_mark(alloc, err, &mark),
+        Ok(Some(mark)) => report_mark(alloc, err, validations, &mark),
         Err(RunFault::Graph(fault)) => report_fault(alloc, err, &fault),
         Err(RunFault::MarkOutOfRange) => {
             report_line(err, OUT_OF_RANGE);
@@ -46,10 +47,10 @@ pub(crate) fn conclude<E: Sink>(
 }
 
 // Reports the mark at which a run stopped: without it the run cannot go on.
-fn report_mark<E: Sink>(alloc: Global, err: &mut E, mark: &Mark) -> Status
-    ensures { ReportsMark (E.state err.old) (E.state err.new) mark.now result }
+fn report_mark<E: Sink>(alloc: Global, err: &mut E, validations: bool, mark: &Mark) -> Status
+    ensures { ReportsMark validations (E.state err.old) (E.state err.new) mark.now result }
 {
-    match mark_line(alloc, mark) {
+    match mark_line(alloc, validations, mark) {
         Ok(line) => match write_whole(err, &line) {
             Ok(()) => Status::Stopped,
             Err(_) => Status::OutputFailed,
@@ -59,11 +60,11 @@ fn report_mark<E: Sink>(alloc: Global, err: &mut E, mark: &Mark) -> Status
 }
 
 // The line that reports a mark.
-fn mark_line(alloc: Global, mark: &Mark) -> Result<Vec<u8>, AllocError>
-    ensures { IfOk result (λ line. line.items ≡ error_of (stopped mark.now)) }
+fn mark_line(alloc: Global, validations: bool, mark: &Mark) -> Result<Vec<u8>, AllocError>
+    ensures { IfOk result (λ line. line.items ≡ mark_line validations mark.now) }
 {
     let text = mark.to_text(alloc)?;
-    let mut line = Vec::from_slice(alloc, b"mark ")?;
+    let mut line = Vec::from_slice(alloc, if validations { b"mark v" } else { b"mark " })?;
     line.extend_from_slice(text.as_bytes())?;
     line.push(b'\n')?;
     Ok(line)

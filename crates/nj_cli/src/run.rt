@@ -5,7 +5,7 @@ ghost use Rattle.nj_request.specs.Requests.{request_text};
 ghost use Rattle.nj_cli.specs.RunSteps.{ReadsGraph};
 ghost use Rattle.nj_cli.specs.Runs.{RunsAs, RunsWords, around};
 
-use crate::answer::answer;
+use crate::answer::{answer, follows_validations};
 use crate::report::{conclude, report_fault, report_misuse};
 use crate::status::Status;
 use nj_graph::{GraphFault, Loaded, join_dyndeps, load};
@@ -52,7 +52,7 @@ pub fn run_tool<S: FileSource, O: Sink, E: Sink>(
         Err(fault) => return report_fault(alloc, err, &fault),
     };
     let answer = answer(alloc, loaded.graph(), &request.action, out);
-    conclude(alloc, err, answer)
+    conclude(alloc, err, follows_validations(&request.action), answer)
 }
 
 // The files of a request, and their graph.

@@ -3,36 +3,41 @@ use Rattle.std.proofs.Common.{◌≡◌, [], ◌∷◌, true, false, Some, None,
 use Rattle.std.specs.Prelude.{codes}
 use Rattle.clap.proofs.OnLiterals.{clap_on_literals}
 use Rattle.nj_marks.specs.Marks.{said_mark}
+use Rattle.nj_tools.specs.declared.style.InputsStyle.{InputsStyle}
 use Rattle.nj_request.specs.CommandLine.{command}
 use Rattle.nj_request.specs.FaultLines.{fault_line}
 use Rattle.nj_request.specs.Requests.{ActionText, RequestText, commands, compdb, inputs, query, request_of, rules, single_commands, targets}
 use Rattle.nj_request.specs.declared.faults.UsageFault.{UsageFault}
 use Rattle.nj_request.specs.declared.faults.UsageFault.TheVariants.{Unparsed, UnknownTool, ForeignOption, BadNumber, BadMark, BadWords}
-use Rattle.nj_request.specs.declared.faults.ToolOption.TheVariants.{Single, Descriptions, Expand, Directory, Take, Resume}
+use Rattle.nj_request.specs.declared.faults.ToolOption.TheVariants.{Single, Descriptions, Expand, Directory, Take, Resume, Validations, DependencyOrder, NoShellEscape, Print0}
 use Rattle.nj_tools.specs.declared.view.TargetsView.TheVariants.{OfRule, Sources, Depth, All}
 
 abbrev asks : ActionText → Result RequestText UsageFault
 asks action = Ok (record { file = codes "build.ninja"; from_stdin = false; dyndep = false; action = action })
 
+-- the style of `inputs` without options
+abbrev plain : InputsStyle
+plain = record { dependency_order = false; shell_escape = true; zero = false }
+
 -- ---- the file
 
 wordless_row : request_of []
-    ≡ Ok (record { file = codes "build.ninja"; from_stdin = true; dyndep = false; action = commands [] None [] })
+    ≡ Ok (record { file = codes "build.ninja"; from_stdin = true; dyndep = false; action = commands [] false None [] })
 unfolding request_of
 wordless_row = refl
 
 file_row : request_of (codes "-f" ∷ codes "a.ninja" ∷ codes "-t" ∷ codes "commands" ∷ [])
-    ≡ Ok (record { file = codes "a.ninja"; from_stdin = false; dyndep = false; action = commands [] None [] })
+    ≡ Ok (record { file = codes "a.ninja"; from_stdin = false; dyndep = false; action = commands [] false None [] })
 unfolding request_of command clap_on_literals
 file_row = refl
 
 input_row : request_of (codes "--stdin" ∷ codes "-f=" ∷ codes "-t" ∷ codes "commands" ∷ [])
-    ≡ Ok (record { file = []; from_stdin = true; dyndep = false; action = commands [] None [] })
+    ≡ Ok (record { file = []; from_stdin = true; dyndep = false; action = commands [] false None [] })
 unfolding request_of command clap_on_literals
 input_row = refl
 
 dyndep_row : request_of (codes "-t" ∷ codes "commands" ∷ codes "--dyndep" ∷ [])
-    ≡ Ok (record { file = codes "build.ninja"; from_stdin = false; dyndep = true; action = commands [] None [] })
+    ≡ Ok (record { file = codes "build.ninja"; from_stdin = false; dyndep = true; action = commands [] false None [] })
 unfolding request_of command clap_on_literals
 dyndep_row = refl
 
@@ -44,55 +49,64 @@ dyndep_rules_row = refl
 -- ---- requests
 
 take_row : request_of (codes "-t" ∷ codes "commands" ∷ codes "--take" ∷ codes "2" ∷ codes "d" ∷ [])
-    ≡ asks (commands (codes "d" ∷ []) (Some 2) [])
+    ≡ asks (commands (codes "d" ∷ []) false (Some 2) [])
 unfolding request_of command clap_on_literals
 take_row = refl
 
 resume_row : request_of (codes "-t" ∷ codes "commands" ∷ codes "--resume" ∷ codes "0.1" ∷ codes "d" ∷ [])
-    ≡ asks (commands (codes "d" ∷ []) None (0 ∷ 1 ∷ []))
+    ≡ asks (commands (codes "d" ∷ []) false None (0 ∷ 1 ∷ []))
 unfolding request_of command clap_on_literals said_mark
 resume_row = refl
 
-start_row : request_of (codes "-t" ∷ codes "commands" ∷ codes "--resume=start" ∷ []) ≡ asks (commands ([]) None [])
+start_row : request_of (codes "-t" ∷ codes "commands" ∷ codes "--resume=start" ∷ []) ≡ asks (commands ([]) false None [])
 unfolding request_of command clap_on_literals said_mark
 start_row = refl
+
+validated_row : request_of (codes "-t" ∷ codes "commands" ∷ codes "--validations" ∷ codes "--resume" ∷ codes "v0.1" ∷ codes "d" ∷ [])
+    ≡ asks (commands (codes "d" ∷ []) true None (0 ∷ 1 ∷ []))
+unfolding request_of command clap_on_literals said_mark
+validated_row = refl
+
+validated_start_row : request_of (codes "-t" ∷ codes "commands" ∷ codes "--validations" ∷ codes "--resume=vstart" ∷ []) ≡ asks (commands ([]) true None [])
+unfolding request_of command clap_on_literals said_mark
+validated_start_row = refl
 
 single_row : request_of (codes "-t" ∷ codes "commands" ∷ codes "-s" ∷ codes "d" ∷ codes "e" ∷ [])
     ≡ asks (single_commands (codes "d" ∷ codes "e" ∷ []))
 unfolding request_of command clap_on_literals
 single_row = refl
 
-zeros_row : request_of (codes "-t" ∷ codes "commands" ∷ codes "--take=007" ∷ []) ≡ asks (commands ([]) (Some 7) [])
+zeros_row : request_of (codes "-t" ∷ codes "commands" ∷ codes "--take=007" ∷ []) ≡ asks (commands ([]) false (Some 7) [])
 unfolding request_of command clap_on_literals
 zeros_row = refl
 
 greatest_row : request_of (codes "-t" ∷ codes "commands" ∷ codes "--take" ∷ codes "18446744073709551615" ∷ [])
-    ≡ asks (commands ([]) (Some 18446744073709551615) [])
+    ≡ asks (commands ([]) false (Some 18446744073709551615) [])
 unfolding request_of command clap_on_literals
 greatest_row = refl
 
-empty_target_row : request_of (codes "-t" ∷ codes "commands" ∷ [] ∷ []) ≡ asks (commands ([] ∷ []) None [])
+empty_target_row : request_of (codes "-t" ∷ codes "commands" ∷ [] ∷ []) ≡ asks (commands ([] ∷ []) false None [])
 unfolding request_of command clap_on_literals
 empty_target_row = refl
 
-mixed_row : request_of (codes "d" ∷ codes "-t" ∷ codes "commands" ∷ codes "e" ∷ []) ≡ asks (commands (codes "d" ∷ codes "e" ∷ []) None [])
+mixed_row : request_of (codes "d" ∷ codes "-t" ∷ codes "commands" ∷ codes "e" ∷ []) ≡ asks (commands (codes "d" ∷ codes "e" ∷ []) false None [])
 unfolding request_of command clap_on_literals
 mixed_row = refl
 
 ended_row : request_of (codes "-t" ∷ codes "commands" ∷ codes "--" ∷ codes "-s" ∷ codes "--" ∷ [])
-    ≡ asks (commands (codes "-s" ∷ codes "--" ∷ []) None [])
+    ≡ asks (commands (codes "-s" ∷ codes "--" ∷ []) false None [])
 unfolding request_of command clap_on_literals
 ended_row = refl
 
-dash_row : request_of (codes "-t" ∷ codes "commands" ∷ codes "-" ∷ []) ≡ asks (commands (codes "-" ∷ []) None [])
+dash_row : request_of (codes "-t" ∷ codes "commands" ∷ codes "-" ∷ []) ≡ asks (commands (codes "-" ∷ []) false None [])
 unfolding request_of command clap_on_literals
 dash_row = refl
 
-attached_row : request_of (codes "-tcommands" ∷ []) ≡ asks (commands ([]) None [])
+attached_row : request_of (codes "-tcommands" ∷ []) ≡ asks (commands ([]) false None [])
 unfolding request_of command clap_on_literals
 attached_row = refl
 
-attached_sign_row : request_of (codes "-t=commands" ∷ []) ≡ asks (commands ([]) None [])
+attached_sign_row : request_of (codes "-t=commands" ∷ []) ≡ asks (commands ([]) false None [])
 unfolding request_of command clap_on_literals
 attached_sign_row = refl
 
@@ -102,13 +116,22 @@ bundle_row = refl
 
 -- ---- the other tools
 
-inputs_row : request_of (codes "-t" ∷ codes "inputs" ∷ codes "a" ∷ codes "b" ∷ []) ≡ asks (inputs (codes "a" ∷ codes "b" ∷ []))
+inputs_row : request_of (codes "-t" ∷ codes "inputs" ∷ codes "a" ∷ codes "b" ∷ []) ≡ asks (inputs (codes "a" ∷ codes "b" ∷ []) false plain)
 unfolding request_of command clap_on_literals
 inputs_row = refl
 
-no_inputs_row : request_of (codes "-t" ∷ codes "inputs" ∷ []) ≡ asks (inputs [])
+no_inputs_row : request_of (codes "-t" ∷ codes "inputs" ∷ []) ≡ asks (inputs [] false plain)
 unfolding request_of command clap_on_literals
 no_inputs_row = refl
+
+styles_row : request_of (codes "-t" ∷ codes "inputs" ∷ codes "--dependency-order" ∷ codes "--no-shell-escape" ∷ codes "--print0" ∷ codes "a" ∷ [])
+    ≡ asks (inputs (codes "a" ∷ []) false (record { dependency_order = true; shell_escape = false; zero = true }))
+unfolding request_of command clap_on_literals
+styles_row = refl
+
+validated_inputs_row : request_of (codes "-t" ∷ codes "inputs" ∷ codes "--validations" ∷ []) ≡ asks (inputs [] true plain)
+unfolding request_of command clap_on_literals
+validated_inputs_row = refl
 
 query_row : request_of (codes "-t" ∷ codes "query" ∷ codes "a^" ∷ []) ≡ asks (query (codes "a^" ∷ []))
 unfolding request_of command clap_on_literals
@@ -203,6 +226,26 @@ empty_mark_row : request_of (codes "-t" ∷ codes "commands" ∷ codes "--resume
 unfolding request_of command clap_on_literals said_mark
 empty_mark_row = refl
 
+validated_mark_row : request_of (codes "-t" ∷ codes "commands" ∷ codes "--resume" ∷ codes "v0" ∷ []) ≡ Err (BadMark (codes "v0"))
+unfolding request_of command clap_on_literals said_mark
+validated_mark_row = refl
+
+mark_without_letter_row : request_of (codes "-t" ∷ codes "commands" ∷ codes "--validations" ∷ codes "--resume" ∷ codes "0" ∷ []) ≡ Err (BadMark (codes "0"))
+unfolding request_of command clap_on_literals said_mark
+mark_without_letter_row = refl
+
+letter_alone_row : request_of (codes "-t" ∷ codes "commands" ∷ codes "--validations" ∷ codes "--resume=v" ∷ []) ≡ Err (BadMark (codes "v"))
+unfolding request_of command clap_on_literals said_mark
+letter_alone_row = refl
+
+two_letters_row : request_of (codes "-t" ∷ codes "commands" ∷ codes "--validations" ∷ codes "--resume=vv0" ∷ []) ≡ Err (BadMark (codes "vv0"))
+unfolding request_of command clap_on_literals said_mark
+two_letters_row = refl
+
+letter_and_zero_row : request_of (codes "-t" ∷ codes "commands" ∷ codes "--validations" ∷ codes "--resume=v01" ∷ []) ≡ Err (BadMark (codes "v01"))
+unfolding request_of command clap_on_literals said_mark
+letter_and_zero_row = refl
+
 number_before_mark_row : request_of (codes "-t" ∷ codes "commands" ∷ codes "--resume=x" ∷ codes "--take=y" ∷ [])
     ≡ Err (BadNumber (codes "y"))
 unfolding request_of command clap_on_literals said_mark
@@ -238,6 +281,29 @@ take_named_first_row : request_of (codes "-t" ∷ codes "commands" ∷ codes "--
     ≡ Err (ForeignOption Take (codes "commands"))
 unfolding request_of command clap_on_literals said_mark
 take_named_first_row = refl
+
+foreign_validations_row : request_of (codes "-t" ∷ codes "commands" ∷ codes "-s" ∷ codes "--validations" ∷ codes "t" ∷ [])
+    ≡ Err (ForeignOption Validations (codes "commands"))
+unfolding request_of command clap_on_literals
+foreign_validations_row = refl
+
+take_before_validations_row : request_of (codes "-t" ∷ codes "commands" ∷ codes "-s" ∷ codes "--validations" ∷ codes "--take" ∷ codes "1" ∷ [])
+    ≡ Err (ForeignOption Take (codes "commands"))
+unfolding request_of command clap_on_literals
+take_before_validations_row = refl
+
+foreign_order_row : request_of (codes "-t" ∷ codes "commands" ∷ codes "--dependency-order" ∷ []) ≡ Err (ForeignOption DependencyOrder (codes "commands"))
+unfolding request_of command clap_on_literals
+foreign_order_row = refl
+
+print0_query_row : request_of (codes "-t" ∷ codes "query" ∷ codes "--print0" ∷ codes "t" ∷ []) ≡ Err (ForeignOption Print0 (codes "query"))
+unfolding request_of command clap_on_literals
+print0_query_row = refl
+
+escape_named_first_row : request_of (codes "-t" ∷ codes "query" ∷ codes "--print0" ∷ codes "--no-shell-escape" ∷ codes "t" ∷ [])
+    ≡ Err (ForeignOption NoShellEscape (codes "query"))
+unfolding request_of command clap_on_literals
+escape_named_first_row = refl
 
 single_rules_row : request_of (codes "-t" ∷ codes "rules" ∷ codes "-s" ∷ []) ≡ Err (ForeignOption Single (codes "rules"))
 unfolding request_of command clap_on_literals

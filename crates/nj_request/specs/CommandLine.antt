@@ -33,7 +33,8 @@ arguments = short_option (codes "tool") 116 ∷ short_option (codes "file") 102
     ∷ long_option (codes "take") ∷ long_option (codes "resume")
     ∷ short_flag (codes "single") 115 ∷ long_flag (codes "stdin")
     ∷ short_flag (codes "descriptions") 100 ∷ short_flag (codes "expand") 120 ∷ long_option (codes "directory")
-    ∷ long_flag (codes "dyndep")
+    ∷ long_flag (codes "dyndep") ∷ long_flag (codes "validations")
+    ∷ long_flag (codes "dependency-order") ∷ long_flag (codes "no-shell-escape") ∷ long_flag (codes "print0")
     ∷ all_words ∷ []
 
 unfoldable pub command : App

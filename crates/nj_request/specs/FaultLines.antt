@@ -12,6 +12,10 @@ option_text option.Expand = codes "-x"
 option_text option.Directory = codes "--directory"
 option_text option.Take = codes "--take"
 option_text option.Resume = codes "--resume"
+option_text option.Validations = codes "--validations"
+option_text option.DependencyOrder = codes "--dependency-order"
+option_text option.NoShellEscape = codes "--no-shell-escape"
+option_text option.Print0 = codes "--print0"
 
 -- a text before a quoted word
 abbrev pub quoting : (before word : List ℕ) → List ℕ

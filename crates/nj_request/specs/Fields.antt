@@ -18,6 +18,10 @@ pub record FieldTexts : Type 0 where
   pub expand : Bool
   pub from_stdin : Bool
   pub dyndep : Bool
+  pub validations : Bool
+  pub dependency_order : Bool
+  pub no_shell_escape : Bool
+  pub print0 : Bool
   pub words : List (List ℕ)
 
 -- a flag that was given has the text `true`
@@ -40,6 +44,10 @@ fields_in rows = record {
   expand = is_on (codes "expand") rows;
   from_stdin = is_on (codes "stdin") rows;
   dyndep = is_on (codes "dyndep") rows;
+  validations = is_on (codes "validations") rows;
+  dependency_order = is_on (codes "dependency-order") rows;
+  no_shell_escape = is_on (codes "no-shell-escape") rows;
+  print0 = is_on (codes "print0") rows;
   words = words_in rows;
 }
 

@@ -24,6 +24,10 @@ field_texts fields = record {
   expand = fields.expand;
   from_stdin = fields.from_stdin;
   dyndep = fields.dyndep;
+  validations = fields.validations;
+  dependency_order = fields.dependency_order;
+  no_shell_escape = fields.no_shell_escape;
+  print0 = fields.print0;
   words = word_texts fields.words;
 }
 

@@ -4,4 +4,5 @@ pub mod Fields
 pub mod Held
 pub mod Numbers
 pub mod Requests
+pub mod RunMarks
 pub mod Tools

@@ -1,13 +1,14 @@
 -- What the words of a command line ask for.
-use Rattle.std.specs.Prelude.{ℕ, Bool, true, false, if◌then◌else◌, List, [], ◌∷◌, map, codes, string_bytes}
+use Rattle.std.specs.Prelude.{ℕ, Bool, true, false, not, if◌then◌else◌, List, [], ◌∷◌, map, codes, string_bytes}
 use Rattle.std.specs.Prelude.{Option, Some, None, option_map, unwrap_or, ok_or, Result, Ok, Err}
 use Rattle.std.specs.Option.{option_map_or}
 use Rattle.std.specs.Str.{bytes_eq}
-use Rattle.nj_marks.specs.Marks.{said_mark}
+use Rattle.nj_tools.specs.declared.style.InputsStyle.{InputsStyle}
 use Rattle.nj_tools.specs.declared.view.TargetsView.{TargetsView}
 use Rattle.nj_tools.specs.declared.view.TargetsView.TheVariants.{OfRule, Sources, Depth, All}
 use Rattle.nj_request.specs.Fields.{FieldTexts, fields_of}
 use Rattle.nj_request.specs.Numbers.{said_number, said_depth}
+use Rattle.nj_request.specs.RunMarks.{said_run_mark}
 use Rattle.nj_request.specs.Tools.{tool_named, first_foreign}
 use Rattle.nj_request.specs.declared.faults.UsageFault.{UsageFault}
 use Rattle.nj_request.specs.declared.faults.UsageFault.TheVariants.{Unparsed, UnknownTool, ForeignOption, BadNumber, BadMark, BadWords}
@@ -17,11 +18,12 @@ use Rattle.nj_request.specs.declared.requests.Request.{Request}
 use Rattle.nj_request.specs.declared.tools.Tool.{Tool}
 use Rattle.nj_request.specs.declared.tools.Tool.TheVariants as tool
 
--- `paths` are of targets or files, `names` of rules; `start` is the numbers of a mark
+-- `paths` are of targets or files, `names` of rules; `start` is the numbers of a mark; `validations`: what is to be validated when the
+-- targets are built counts as a target too
 pub data ActionText : Type 0 where
-  commands : (paths : List (List ℕ)) (take : Option ℕ) (start : List ℕ) → ActionText
+  commands : (paths : List (List ℕ)) (validations : Bool) (take : Option ℕ) (start : List ℕ) → ActionText
   single_commands : (paths : List (List ℕ)) → ActionText
-  inputs : (paths : List (List ℕ)) → ActionText
+  inputs : (paths : List (List ℕ)) (validations : Bool) (style : InputsStyle) → ActionText
   targets : (view : TargetsView) → ActionText
   query : (paths : List (List ℕ)) → ActionText
   rules : (descriptions : Bool) → ActionText
@@ -35,9 +37,9 @@ pub record RequestText : Type 0 where
   pub action : ActionText
 
 abbrev pub action_text : Action → ActionText
-action_text (action.Commands paths take start) = commands (map string_bytes paths.items) take start
+action_text (action.Commands paths validations take start) = commands (map string_bytes paths.items) validations take start
 action_text (action.SingleCommands paths) = single_commands (map string_bytes paths.items)
-action_text (action.Inputs paths) = inputs (map string_bytes paths.items)
+action_text (action.Inputs paths validations style) = inputs (map string_bytes paths.items) validations style
 action_text (action.Targets view) = targets view
 action_text (action.Query paths) = query (map string_bytes paths.items)
 action_text (action.Rules descriptions) = rules descriptions
@@ -62,16 +64,16 @@ abbrev pub take_of : Option (List ℕ) → Result (Option ℕ) UsageFault
 take_of None = Ok None
 take_of (Some text) = ok_or (option_map Some (said_number text)) (BadNumber text)
 
-abbrev pub start_of : Option (List ℕ) → Result (List ℕ) UsageFault
-start_of None = Ok []
-start_of (Some text) = ok_or (said_mark text) (BadMark text)
+abbrev pub start_of : (validations : Bool) → Option (List ℕ) → Result (List ℕ) UsageFault
+start_of validations None = Ok []
+start_of validations (Some text) = ok_or (said_run_mark validations text) (BadMark text)
 
 -- the commands of the edges that the targets need, from a mark on, up to a limit; or with `-s` those of the edges that make them
 abbrev pub commands_of : FieldTexts → Result ActionText UsageFault
 commands_of fields = if fields.is_single then Ok (single_commands fields.words) else do
   take ← take_of fields.take
-  start ← start_of fields.resume
-  Ok (commands fields.words take start)
+  start ← start_of fields.validations fields.resume
+  Ok (commands fields.words fields.validations take start)
 
 -- ---- `targets`
 
@@ -108,9 +110,17 @@ targets_of name fields = do
 
 -- ---- the other tools
 
+-- the list is sorted and quoted for a shell, a line each, unless an option says otherwise
+abbrev pub style_of : FieldTexts → InputsStyle
+style_of fields = record {
+  dependency_order = fields.dependency_order;
+  shell_escape = not fields.no_shell_escape;
+  zero = fields.print0;
+}
+
 -- any number of targets
 abbrev pub inputs_of : FieldTexts → Result ActionText UsageFault
-inputs_of fields = Ok (inputs fields.words)
+inputs_of fields = Ok (inputs fields.words fields.validations (style_of fields))
 
 -- one file or more
 abbrev pub query_of : (name : List ℕ) (words : List (List ℕ)) → Result ActionText UsageFault
@@ -163,7 +173,7 @@ given_request words = ok_or (fields_of words) Unparsed >>= request_in
 
 -- without any words: all commands of a file that standard input gives
 abbrev pub wordless : RequestText
-wordless = record { file = main_file; from_stdin = true; dyndep = false; action = commands [] None [] }
+wordless = record { file = main_file; from_stdin = true; dyndep = false; action = commands [] false None [] }
 
 unfoldable pub request_of : (words : List (List ℕ)) → Result RequestText UsageFault
 request_of [] = Ok wordless

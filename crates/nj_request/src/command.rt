@@ -1,6 +1,6 @@
 //! The command line as `clap` knows it.
 
-ghost use Rattle.std.specs.Prelude.{◌≡◌, false, IfOk, Some};
+ghost use Rattle.std.specs.Prelude.{◌≡◌, false, IfOk, Some, codes};
 ghost use Rattle.clap.specs.Words.{app_of, rule_of, new_rule, with_rule};
 ghost use Rattle.nj_request.specs.CommandLine.{
   command,
@@ -35,7 +35,21 @@ pub fn command<'a>(alloc: Global) -> Result<Command<'a>, AllocError>
     let of_rules = with(flags, descriptions)?;
     let of_compdb = with(with(of_rules, expand)?, directory)?;
     let joined = with(of_compdb, dyndep)?;
-    with(joined, all_words(alloc))
+    let of_inputs = with_flags_of_inputs(alloc, joined)?;
+    with(of_inputs, all_words(alloc))
+}
+
+// The command with the flags that go with `inputs`.
+fn with_flags_of_inputs<'a>(alloc: Global, command: Command<'a>) -> Result<Command<'a>, AllocError>
+    ensures { IfOk result (λ more. app_of more ≡ with_rule (with_rule (with_rule (with_rule
+        (app_of command.entry) (long_flag (codes "validations")))
+        (long_flag (codes "dependency-order"))) (long_flag (codes "no-shell-escape")))
+        (long_flag (codes "print0"))) }
+{
+    let validations = with(command, long_flag(alloc, "validations"))?;
+    let order = with(validations, long_flag(alloc, "dependency-order"))?;
+    let escape = with(order, long_flag(alloc, "no-shell-escape"))?;
+    with(escape, long_flag(alloc, "print0"))
 }
 
 // The command without options and words. It knows neither help nor a version.

@@ -53,6 +53,14 @@ pub enum ToolOption {
     Take,
     /// `--resume MARK`
     Resume,
+    /// `--validations`
+    Validations,
+    /// `--dependency-order`
+    DependencyOrder,
+    /// `--no-shell-escape`
+    NoShellEscape,
+    /// `--print0`
+    Print0,
 }
 
 impl ToolOption {
@@ -67,6 +75,10 @@ impl ToolOption {
             ToolOption::Directory => "--directory",
             ToolOption::Take => "--take",
             ToolOption::Resume => "--resume",
+            ToolOption::Validations => "--validations",
+            ToolOption::DependencyOrder => "--dependency-order",
+            ToolOption::NoShellEscape => "--no-shell-escape",
+            ToolOption::Print0 => "--print0",
         }
     }
 }
@@ -84,7 +96,7 @@ pub enum UsageFault {
     /// The text is not a number: for `--take` one below 2 to the power of 64, for the words `depth
     /// N` one of at most 2147483647.
     BadNumber(Word),
-    /// The text is not a mark.
+    /// The text is not a mark, or not that of such a run: with `--validations` it begins with `v`.
     BadMark(Word),
     /// The tool of this name does not take the words given beside the options ("Extra tools").
     BadWords(Word),

@@ -27,6 +27,10 @@ pub struct Fields<'m, 'w> {
     pub expand: bool,
     pub from_stdin: bool,
     pub dyndep: bool,
+    pub validations: bool,
+    pub dependency_order: bool,
+    pub no_shell_escape: bool,
+    pub print0: bool,
     pub words: Option<&'m [&'w str]>,
 }
 
@@ -70,6 +74,10 @@ pub fn fields_in<'m, 'w>(matches: &'m ArgMatches<'w>) -> Fields<'m, 'w>
         expand: is_on(matches, "expand"),
         from_stdin: is_on(matches, "stdin"),
         dyndep: is_on(matches, "dyndep"),
+        validations: is_on(matches, "validations"),
+        dependency_order: is_on(matches, "dependency-order"),
+        no_shell_escape: is_on(matches, "no-shell-escape"),
+        print0: is_on(matches, "print0"),
         words: matches.get_strs("words"),
     }
 }

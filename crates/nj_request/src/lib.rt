@@ -4,11 +4,13 @@
 mod command;
 mod faults;
 mod fields;
+mod laws;
 mod lines;
 mod numbers;
 mod requests;
 mod tools;
 
 pub use faults::{ToolOption, UsageFault, Word};
-pub use nj_tools::TargetsView;
+pub use laws::run_marks_law;
+pub use nj_tools::{InputsStyle, TargetsView};
 pub use requests::{Action, Request, read_words};

@@ -1,6 +1,7 @@
 //! Requests: what the words of a command line ask for.
 
-ghost use Rattle.std.specs.Prelude.{◌≡◌, ◌⊎◌, Ok, Err, IfOk, IfErr, OnOk, map, string_bytes};
+ghost use Rattle.std.specs.Prelude.{◌≡◌, ◌⊎◌, None, Ok, Err, IfOk, IfErr, IfSome, IfNone, map, string_bytes};
+ghost use Rattle.nj_marks.specs.Marks.{said_mark};
 ghost use Rattle.std.specs.Option.{option_copied};
 ghost use Rattle.nj_request.specs.Requests.{
   request_of,
@@ -14,6 +15,7 @@ ghost use Rattle.nj_request.specs.Requests.{
   take_of,
   start_of,
   inputs_of,
+  style_of,
   targets_of,
   view_of,
   view_of_word,
@@ -26,6 +28,7 @@ ghost use Rattle.nj_request.specs.Requests.{
   wordless,
 };
 ghost use Rattle.nj_request.specs.Held.{field_texts, word_texts};
+ghost use Rattle.nj_request.specs.RunMarks.{said_run_mark};
 ghost use Rattle.nj_request.specs.declared.faults.UsageFault.TheVariants.{OutOfMemory};
 
 use crate::faults::{UsageFault, Word};
@@ -34,7 +37,7 @@ use crate::numbers::{depth_in, number_in};
 use crate::tools::{Tool, first_foreign, tool_named};
 use nj_graph::Name;
 use nj_marks::{Mark, MarkFault};
-use nj_tools::TargetsView;
+use nj_tools::{InputsStyle, TargetsView};
 use std::alloc::{AllocError, Global};
 
 const MAIN_FILE: &str = "build.ninja";
@@ -62,6 +65,9 @@ pub enum Action {
     /// `commands`: the commands of the edges that the targets need, from a mark on.
     Commands {
         targets: Vec<String>,
+        /// Whether what is to be validated when the targets are built counts as a target too
+        /// ("Validations").
+        validations: bool,
         /// At most this many commands.
         take: Option<u64>,
         start: Mark,
@@ -73,6 +79,9 @@ pub enum Action {
     /// `inputs`: the inputs of the edges whose commands the targets need.
     Inputs {
         targets: Vec<String>,
+        /// As for `Commands`.
+        validations: bool,
+        style: InputsStyle,
     },
     /// `targets`: files of the graph, by rule, by depth or all.
     Targets {
@@ -123,6 +132,7 @@ fn wordless(alloc: Global) -> Result<Request, UsageFault>
 {
     let action = Action::Commands {
         targets: Vec::new(alloc),
+        validations: false,
         take: None,
         start: Mark::start(alloc),
     };
@@ -219,9 +229,10 @@ fn commands_of(alloc: Global, fields: &Fields<'_, '_>) -> Result<Action, UsageFa
         return Ok(Action::SingleCommands { targets });
     }
     let take = take_of(alloc, fields.take)?;
-    let start = start_of(alloc, fields.resume)?;
+    let start = start_of(alloc, fields.validations, fields.resume)?;
     Ok(Action::Commands {
         targets: owned(alloc, fields.words)?,
+        validations: fields.validations,
         take,
         start,
     })
@@ -243,19 +254,36 @@ fn take_of(alloc: Global, text: Option<&str>) -> Result<Option<u64>, UsageFault>
 }
 
 // The mark of `--resume`.
-fn start_of(alloc: Global, text: Option<&str>) -> Result<Mark, UsageFault>
-    ensures ok { IfOk result (λ start. start_of (option_copied text.entry) ≡ Ok start) }
+fn start_of(alloc: Global, validations: bool, text: Option<&str>) -> Result<Mark, UsageFault>
+    ensures ok { IfOk result (λ start. start_of validations (option_copied text.entry) ≡ Ok start) }
     ensures err { IfErr result (λ fault. (fault ≡ OutOfMemory)
-        ⊎ (start_of (option_copied text.entry) ≡ Err fault)) }
+        ⊎ (start_of validations (option_copied text.entry) ≡ Err fault)) }
 {
     let Some(text) = text else {
         return Ok(Mark::start(alloc));
     };
-    match Mark::read(alloc, text) {
+    let Some(mark) = mark_in(validations, text) else {
+        return Err(UsageFault::BadMark(Word::new(alloc, text)?));
+    };
+    match Mark::read(alloc, mark) {
         Ok(mark) => Ok(mark),
         Err(MarkFault::BadMark) => Err(UsageFault::BadMark(Word::new(alloc, text)?)),
         Err(MarkFault::MarkOutOfRange) => unreachable!(),
         Err(MarkFault::OutOfMemory) => Err(UsageFault::OutOfMemory),
+    }
+}
+
+// The text of the mark in that of a run's mark, which begins with `v` if the run follows
+// validations.
+fn mark_in(validations: bool, text: &str) -> Option<&str>
+    ensures some { IfSome result (λ mark.
+        said_run_mark validations text.now ≡ said_mark mark.now) }
+    ensures none { IfNone result (said_run_mark validations text.now ≡ None) }
+{
+    if validations {
+        text.strip_prefix('v')
+    } else {
+        Some(text)
     }
 }
 
@@ -267,7 +295,20 @@ fn inputs_of(alloc: Global, fields: &Fields<'_, '_>) -> Result<Action, UsageFaul
 {
     Ok(Action::Inputs {
         targets: owned(alloc, fields.words)?,
+        validations: fields.validations,
+        style: style_of(fields),
     })
+}
+
+// How `inputs` writes its list.
+fn style_of(fields: &Fields<'_, '_>) -> InputsStyle
+    ensures { result ≡ style_of (field_texts fields.now) }
+{
+    InputsStyle {
+        dependency_order: fields.dependency_order,
+        shell_escape: !fields.no_shell_escape,
+        zero: fields.print0,
+    }
 }
 
 // The action of `targets`.

@@ -50,6 +50,10 @@ pub fn first_foreign(tool: Tool, fields: &Fields<'_, '_>) -> Option<ToolOption>
         ToolOption::Directory,
         ToolOption::Take,
         ToolOption::Resume,
+        ToolOption::Validations,
+        ToolOption::DependencyOrder,
+        ToolOption::NoShellEscape,
+        ToolOption::Print0,
     ];
     first_foreign_of(&options, tool, fields)
 }
@@ -86,6 +90,10 @@ fn is_given(fields: &Fields<'_, '_>, option: ToolOption) -> bool
         ToolOption::Directory => fields.directory.is_some(),
         ToolOption::Take => fields.take.is_some(),
         ToolOption::Resume => fields.resume.is_some(),
+        ToolOption::Validations => fields.validations,
+        ToolOption::DependencyOrder => fields.dependency_order,
+        ToolOption::NoShellEscape => fields.no_shell_escape,
+        ToolOption::Print0 => fields.print0,
     }
 }
 
@@ -95,7 +103,15 @@ fn goes_with(tool: Tool, is_single: bool, option: ToolOption) -> bool
 {
     match (tool, option) {
         (Tool::Commands, ToolOption::Single) => true,
-        (Tool::Commands, ToolOption::Take | ToolOption::Resume) => !is_single,
+        (Tool::Commands, ToolOption::Take | ToolOption::Resume | ToolOption::Validations) =>
+            !is_single,
+        (
+            Tool::Inputs,
+            ToolOption::Validations
+            | ToolOption::DependencyOrder
+            | ToolOption::NoShellEscape
+            | ToolOption::Print0,
+        ) => true,
         (Tool::Rules, ToolOption::Descriptions) => true,
         (Tool::Compdb, ToolOption::Expand | ToolOption::Directory) => true,
         _ => false,

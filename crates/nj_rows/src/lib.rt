@@ -23,3 +23,5 @@ mod runs;
 mod sinks;
 #[cfg(test)]
 mod tools;
+#[cfg(test)]
+mod validations;

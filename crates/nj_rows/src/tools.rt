@@ -81,7 +81,69 @@ fn writes_inputs(rt: HostRuntime) -> Result<(), Fail> {
     )
 }
 
+const TWO_EDGES: &[u8] =
+    b"rule mk\n  command = mk\nbuild t: mk b z\nbuild z: mk s\nbuild b: mk q\n";
+
 #[test]
+fn writes_inputs_in_styles(rt: HostRuntime) -> Result<(), Fail> {
+    all_end(
+        &rt,
+        &[
+            (
+                TWO_EDGES,
+                &[
+                    (&["-t", "inputs", "t"], "b\nq\ns\nz\n[0] "),
+                    (
+                        &["-t", "inputs", "--dependency-order", "t"],
+                        "q\ns\nb\nz\n[0] ",
+                    ),
+                    (
+                        &["-t", "inputs", "--dependency-order", "--print0", "t"],
+                        "q\0s\0b\0z\0[0] ",
+                    ),
+                ],
+            ),
+            (
+                b"rule mk\n  command = mk\nbuild t: mk ~ a it's$ x\n",
+                &[
+                    (&["-t", "inputs", "t"], "'it'\\''s x'\n'~'\na\n[0] "),
+                    (
+                        &["-t", "inputs", "--no-shell-escape", "t"],
+                        "a\nit's x\n~\n[0] ",
+                    ),
+                    (
+                        &["-t", "inputs", "--no-shell-escape", "--print0"],
+                        "a\0it's x\0~\0[0] ",
+                    ),
+                    (
+                        &["-t", "inputs", "--dependency-order"],
+                        "'~'\na\n'it'\\''s x'\n[0] ",
+                    ),
+                ],
+            ),
+            (
+                VALIDATED,
+                &[
+                    (
+                        &["-t", "inputs", "--validations", "--dependency-order", "t"],
+                        "t\n[0] ",
+                    ),
+                    (
+                        &["-t", "inputs", "--validations", "--no-shell-escape", "t"],
+                        "t\n[0] ",
+                    ),
+                    (
+                        &["-t", "inputs", "--validations", "--print0", "t"],
+                        "t\0[0] ",
+                    ),
+                ],
+            ),
+        ],
+    )
+}
+
+#[test]
+fn writes_lists_of_targets(rt: HostRuntime)#[test]
 fn writes_lists_of_targets(rt: HostRuntime) -> Result<(), Fail> {
     all_end(
         &rt,

@@ -1,38 +1,31 @@
-use Rattle.std.proofs.Common.{Ok, Err, map, string_bytes, All, length, subst, sym, ◌<◌}
+use Rattle.std.proofs.Common.{Ok, Err, map, string_bytes, subst, sym}
 use Rattle.nj_edges.specs.Files.{AreFiles}
 use Rattle.nj_graph.specs.Graph.{files_of}
 use Rattle.nj_needs.specs.Resuming.{ResumeIs}
-use Rattle.nj_needs.proofs.Bridges.{files-within}
 use Rattle.nj_request.specs.Requests.{commands}
 use Rattle.nj_cli.specs.RunSteps.{fault_of_mark, fault_of_tool}
 use Rattle.nj_cli.proofs.AnswerLemmas.{AnswersTo-err, commands-not_resumed, commands-failed, commands-answered}
 use Rattle.nj_cli.proofs.answer.answer_commands.Goals as goal
 
-pub or_defaults-targets-requires : goal.or_defaults-targets-requires
-or_defaults-targets-requires g c =
-    let files = files_of c.args.graph.now in
-    let picked = c.in_ok-picked.ensures in
-    subst (λ ns. All (λ f. f.0 < length files) ns) (sym c.deref.ensures.value) (files-within files c.in_ok-picked.picked.items picked.0 picked.2)
-
 pub returns-in_err-needs : goal.returns-in_err-needs
 returns-in_err-needs g c = λ entries is.
-    let picked = c.in_ok-picked.ensures in
-    let are = c.or_defaults-targets.ensures.files entries is picked.0 (subst (λ ns. AreFiles (files_of c.args.graph.now) ns picked.0) (sym c.deref.ensures.value) picked.2) in
-    let resumes = subst (λ h. ResumeIs h c.or_defaults-targets.result.now c.args.start.now (Err c.in_err-needs.field-0.0)) c.edge_graph.ensures c.in_err-needs.ensures in
-    AnswersTo-err entries (commands (map string_bytes c.args.words.now) c.args.take c.args.start.now) (g.O.Sink.state c.args.out.now) (g.O.Sink.state c.args.out.now) c.from_residual-in_err-needs.result (fault_of_mark c.in_err-needs.field-0.0) c.from_residual-in_err-needs.ensures.1
-    (commands-not_resumed entries c.args.graph.now is (map string_bytes c.args.words.now) picked.0 picked.1 c.or_defaults-targets.result.now are c.args.take c.args.start.now (g.O.Sink.state c.args.out.now) c.in_err-needs.field-0.0 resumes)
+    let picked = c.in_ok-targets.ensures.picks entries is in
+    let are = subst (λ ns. AreFiles (files_of c.args.graph.now) ns picked.0) (sym c.deref.ensures.value) picked.2 in
+    let resumes = subst (λ h. ResumeIs h c.deref.result.now c.args.start.now (Err c.in_err-needs.field-0.0)) c.edge_graph.ensures c.in_err-needs.ensures in
+    AnswersTo-err entries (commands (map string_bytes c.args.words.now) c.args.validations c.args.take c.args.start.now) (g.O.Sink.state c.args.out.now) (g.O.Sink.state c.args.out.now) c.from_residual-in_err-needs.result (fault_of_mark c.in_err-needs.field-0.0) c.from_residual-in_err-needs.ensures.1
+    (commands-not_resumed entries c.args.graph.now is picked.0 c.deref.result.now are (map string_bytes c.args.words.now) c.args.validations picked.1 c.args.take c.args.start.now (g.O.Sink.state c.args.out.now) c.in_err-needs.field-0.0 resumes)
 
 pub returns-in_err-mark : goal.returns-in_err-mark
 returns-in_err-mark g c = λ entries is.
-    let picked = c.in_ok-picked.ensures in
-    let are = c.or_defaults-targets.ensures.files entries is picked.0 (subst (λ ns. AreFiles (files_of c.args.graph.now) ns picked.0) (sym c.deref.ensures.value) picked.2) in
-    let resumes = subst (λ h. ResumeIs h c.or_defaults-targets.result.now c.args.start.now (Ok c.in_ok-needs.needs)) c.edge_graph.ensures c.in_ok-needs.ensures in
-    AnswersTo-err entries (commands (map string_bytes c.args.words.now) c.args.take c.args.start.now) (g.O.Sink.state c.args.out.now) (g.O.Sink.state c.write_commands.new.out) c.from_residual-in_err-mark.result (fault_of_tool c.in_err-mark.field-0.0) c.from_residual-in_err-mark.ensures.1
-    (commands-failed entries c.args.graph.now is (map string_bytes c.args.words.now) picked.0 picked.1 c.or_defaults-targets.result.now are c.args.take c.args.start.now resumes.0 c.in_ok-needs.needs resumes.1 (g.O.Sink.state c.args.out.now) (g.O.Sink.state c.write_commands.new.out) c.in_err-mark.field-0.0 (c.in_err-mark.ensures.writes entries is))
+    let picked = c.in_ok-targets.ensures.picks entries is in
+    let are = subst (λ ns. AreFiles (files_of c.args.graph.now) ns picked.0) (sym c.deref.ensures.value) picked.2 in
+    let resumes = subst (λ h. ResumeIs h c.deref.result.now c.args.start.now (Ok c.in_ok-needs.needs)) c.edge_graph.ensures c.in_ok-needs.ensures in
+    AnswersTo-err entries (commands (map string_bytes c.args.words.now) c.args.validations c.args.take c.args.start.now) (g.O.Sink.state c.args.out.now) (g.O.Sink.state c.write_commands.new.out) c.from_residual-in_err-mark.result (fault_of_tool c.in_err-mark.field-0.0) c.from_residual-in_err-mark.ensures.1
+    (commands-failed entries c.args.graph.now is picked.0 c.deref.result.now are (map string_bytes c.args.words.now) c.args.validations picked.1 c.args.take c.args.start.now resumes.0 c.in_ok-needs.needs resumes.1 (g.O.Sink.state c.args.out.now) (g.O.Sink.state c.write_commands.new.out) c.in_err-mark.field-0.0 (c.in_err-mark.ensures.writes entries is))
 
 pub returns : goal.returns
 returns g c = λ entries is.
-    let picked = c.in_ok-picked.ensures in
-    let are = c.or_defaults-targets.ensures.files entries is picked.0 (subst (λ ns. AreFiles (files_of c.args.graph.now) ns picked.0) (sym c.deref.ensures.value) picked.2) in
-    let resumes = subst (λ h. ResumeIs h c.or_defaults-targets.result.now c.args.start.now (Ok c.in_ok-needs.needs)) c.edge_graph.ensures c.in_ok-needs.ensures in
-    commands-answered entries c.args.graph.now is (map string_bytes c.args.words.now) picked.0 picked.1 c.or_defaults-targets.result.now are c.args.take c.args.start.now resumes.0 c.in_ok-needs.needs resumes.1 (g.O.Sink.state c.args.out.now) (g.O.Sink.state c.write_commands.new.out) c.in_ok-mark.mark (c.in_ok-mark.ensures.writes entries is) c.in_ok-mark.ensures.mark
+    let picked = c.in_ok-targets.ensures.picks entries is in
+    let are = subst (λ ns. AreFiles (files_of c.args.graph.now) ns picked.0) (sym c.deref.ensures.value) picked.2 in
+    let resumes = subst (λ h. ResumeIs h c.deref.result.now c.args.start.now (Ok c.in_ok-needs.needs)) c.edge_graph.ensures c.in_ok-needs.ensures in
+    commands-answered entries c.args.graph.now is picked.0 c.deref.result.now are (map string_bytes c.args.words.now) c.args.validations picked.1 c.args.take c.args.start.now resumes.0 c.in_ok-needs.needs resumes.1 (g.O.Sink.state c.args.out.now) (g.O.Sink.state c.write_commands.new.out) c.in_ok-mark.mark (c.in_ok-mark.ensures.writes entries is) c.in_ok-mark.ensures.mark

@@ -1,6 +1,7 @@
-use Rattle.std.proofs.Common.{inr, sym, subst}
+use Rattle.std.proofs.Common.{Bool, inr, sym, subst}
 use Rattle.nj_graph.specs.Graph.{IsGraphOf}
 use Rattle.nj_request.specs.Requests.{request_text}
+use Rattle.nj_cli.specs.RunSteps.{Concludes}
 use Rattle.nj_cli.specs.Runs.{around}
 use Rattle.nj_cli.proofs.RunLemmas.{Answers-from, IsAnswered-from}
 use Rattle.nj_cli.proofs.run.run_tool.Goals as goal
@@ -15,9 +16,10 @@ returns g c =
     let reads = c.in-Ok.ensures in
     let entries = reads.2.0 in
     let is_graph = reads.2.2 in
+    let concludes = subst (λ (b : Bool). Concludes b old.error new.error c.answer-answer.result c.conclude.result) c.follows_validations.ensures c.conclude.ensures in
     let answers = c.answer-answer.ensures entries (subst (λ h. IsGraphOf h entries) (sym c.graph.ensures) is_graph) in (
       reads.0,
       reads.1,
       inr (IsAnswered-from request reads.0 old new c.in-Ok.loaded.graph entries c.conclude.result reads.2.1 is_graph
-          (Answers-from entries request.action old new c.conclude.result c.answer-answer.result answers c.conclude.ensures)),
+          (Answers-from entries request.action old new c.conclude.result c.answer-answer.result answers concludes)),
     )

@@ -1,4 +1,4 @@
-use Rattle.std.proofs.Common.{◌≡◌, ap₂, ◌∙◌, refl, codes}
+use Rattle.std.proofs.Common.{◌≡◌, ap, ap₂, ◌∙◌, refl, codes}
 use Rattle.std.proofs.lemmas.Result.{IfOk-weaker}
 use Rattle.clap.specs.Words.{App, app_of, with_rule}
 use Rattle.nj_request.specs.CommandLine.{command, nothing_yet, short_option, long_option, short_flag, long_flag, all_words}
@@ -22,7 +22,15 @@ of_compdb = with_rule (with_rule of_rules (short_flag (codes "expand") 120)) (lo
 abbrev joined : App
 joined = with_rule of_compdb (long_flag (codes "dyndep"))
 
-whole : with_rule joined all_words ≡ command
+abbrev of_inputs : App
+of_inputs =
+    with_rule (with_rule (with_rule (with_rule joined (long_flag (codes "validations"))) (long_flag (codes "dependency-order"))) (long_flag (codes "no-shell-escape"))) (long_flag (codes "print0"))
+
+abbrev with_flags : App → App
+with_flags app =
+    with_rule (with_rule (with_rule (with_rule app (long_flag (codes "validations"))) (long_flag (codes "dependency-order"))) (long_flag (codes "no-shell-escape"))) (long_flag (codes "print0"))
+
+whole : with_rule of_inputs all_words ≡ command
 unfolding command
 whole = refl
 
@@ -38,4 +46,5 @@ returns c =
     let expand = c.in_ok-with-4.ensures ∙ ap₂ with_rule descriptions c.short_flag-expand.ensures.rule in
     let directory : app_of c.in_ok-of_compdb.of_compdb ≡ of_compdb = c.in_ok-of_compdb.ensures ∙ ap₂ with_rule expand c.long_option-directory.ensures.rule in
     let dyndep : app_of c.in_ok-joined.joined ≡ joined = c.in_ok-joined.ensures ∙ ap₂ with_rule directory c.long_flag-dyndep.ensures.rule in
-    IfOk-weaker c.with-11.result _ _ (λ made h. h ∙ ap₂ with_rule dyndep c.all_words.ensures.rule ∙ whole) c.with-11.ensures
+    let inputs : app_of c.in_ok-of_inputs.of_inputs ≡ of_inputs = c.in_ok-of_inputs.ensures ∙ ap with_flags dyndep in
+    IfOk-weaker c.with-11.result _ _ (λ made h. h ∙ ap₂ with_rule inputs c.all_words.ensures.rule ∙ whole) c.with-11.ensures

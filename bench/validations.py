@@ -1,0 +1,139 @@
+#!/usr/bin/env python3
+"""Measures runs that follow validations beside runs that do not:
+
+    validations.py PROGRAM [--sizes N,M] [--rounds N]
+
+In one run, on the same files, `PROGRAM -t commands --validations` stands beside `PROGRAM -t
+commands`, and so for `inputs`. The files are made in a temporary folder:
+
+    chain   N edges, each of which is the validation of the one before: each round of validations
+            adds one edge, so what looks at the whole list in each round takes the square of N
+    tests   N edges: libraries of 18 sources; a test validates each library, and needs it
+
+The target is the first edge of the chain; the tests have a `default` line that names all libraries.
+What is written is compared with what it has to be. Each is run three times in turn, or N times, and
+the best times count: by the clock, and of the processor; of memory the most. In the end it is
+listed what grew by more than the manifest did.
+"""
+
+import argparse
+import os
+import tempfile
+
+from runs import MB, Run, best, measure
+
+RULES = """\
+rule cc
+  command = cc -c $in -o $out
+rule ar
+  command = ar $out $in
+rule test
+  command = $in && touch $out
+"""
+SOURCES = 18
+PER_LIBRARY = SOURCES + 2
+GROWTH_AIM = 1.15
+
+
+def step(number):
+    return f"out/step_{number:07}.o"
+
+
+def chain(count):
+    """The manifest, the words, and the commands without and with validations."""
+    lines = [RULES]
+    for number in range(count):
+        validation = f" |@ {step(number + 1)}" if number + 1 < count else ""
+        lines.append(f"build {step(number)}: cc src/step.c{validation}\n")
+    commands = [f"cc -c src/step.c -o {step(number)}\n" for number in range(count)]
+    return lines, [step(0)], commands[:1], commands
+
+
+def tests(count):
+    numbers = range(count // PER_LIBRARY)
+    lines, built, tested = [RULES], [], []
+    for number in numbers:
+        library, test = f"lib/lib_{number:06}.a", f"lib/test_{number:06}.stamp"
+        objects = [f"lib/{number:06}/part_{part:02}.o" for part in range(SOURCES)]
+        for name in objects:
+            lines.append(f"build {name}: cc {name}.c\n")
+            built.append(f"cc -c {name}.c -o {name}\n")
+        lines.append(f"build {library}: ar {' '.join(objects)} |@ {test}\n")
+        built.append(f"ar {library} {' '.join(objects)}\n")
+        lines.append(f"build {test}: test {library}\n")
+        tested.append(f"{library} && touch {test}\n")
+    lines.append(f"default {' '.join(f'lib/lib_{number:06}.a' for number in numbers)}\n")
+    return lines, [], built, built + tested
+
+
+SHAPES = {"chain": chain, "tests": tests}
+
+
+def check(words, folder, wanted):
+    written = Run(words, folder=folder).output
+    if written != "".join(wanted).encode():
+        raise SystemExit(f"{' '.join(words)} writes other commands than it has to")
+
+
+def measure_size(program, shape, count, rounds, before):
+    """The best figures of each run at one size."""
+    lines, targets, without, with_all = SHAPES[shape](count)
+    with tempfile.TemporaryDirectory() as folder:
+        path = os.path.join(folder, "build.ninja")
+        with open(path, "w") as file:
+            file.writelines(lines)
+        words = [program, "-t"]
+        check([*words, "commands", *targets], folder, without)
+        check([*words, "commands", "--validations", *targets], folder, with_all)
+        programs = {
+            f"{tool}{flag}": [*words, tool, *flag.split(), *targets]
+            for tool in ("commands", "inputs")
+            for flag in ("", " --validations")
+        }
+        runs = measure(programs, rounds, folder=folder, out=os.path.join(folder, "out"))
+        figures = {name: best(all_runs) for name, all_runs in runs.items()}
+        print(f"{shape}: N = {count}, {os.path.getsize(path) / MB:.1f} MB, {len(with_all)} commands")
+    for name, (seconds, processor, memory) in figures.items():
+        growth = f" x{processor / before[name][1]:.2f}" if name in before else ""
+        print(
+            f"  {name:<22} {seconds:7.3f} s | processor {processor:7.3f} s{growth}"
+            f" | memory {memory / MB:7.1f} MB"
+        )
+    for tool in ("commands", "inputs"):
+        with_flag, plain = figures[f"{tool} --validations"], figures[tool]
+        print(
+            f"  {tool}: {with_flag[1] / plain[1]:.2f} of the processor time without the option,"
+            f" {with_flag[2] / plain[2]:.2f} of the memory"
+        )
+    return figures
+
+
+def numbers(text):
+    return [int(word) for word in text.split(",")]
+
+
+def main():
+    parser = argparse.ArgumentParser()
+    parser.add_argument("program", type=os.path.abspath)
+    parser.add_argument("--sizes", type=numbers, default="100000,1000000")
+    parser.add_argument("--rounds", type=int, default=3)
+    words = parser.parse_args()
+    print(f"load before: {os.getloadavg()[0]:.2f} on {os.cpu_count()} processors")
+    missed = []
+    for shape in SHAPES:
+        before, few = {}, None
+        for count in words.sizes:
+            figures = measure_size(words.program, shape, count, words.rounds, before)
+            for name in before:
+                growth, aim = figures[name][1] / before[name][1], GROWTH_AIM * count / few
+                if growth > aim:
+                    missed.append(f"{shape}, {name}: {growth:.2f} of the time, aim {aim:.2f}")
+            before, few = figures, count
+    print(f"load after: {os.getloadavg()[0]:.2f}")
+    print("aims missed:" if missed else "no aim was missed")
+    for line in missed:
+        print(f"  {line}")
+
+
+if __name__ == "__main__":
+    main()
