@@ -1,6 +1,7 @@
 pub mod CommandLine
 pub mod FaultLines
 pub mod Fields
+pub mod FirstFaults
 pub mod Held
 pub mod Numbers
 pub mod Requests

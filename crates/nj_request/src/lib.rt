@@ -11,6 +11,6 @@ mod requests;
 mod tools;
 
 pub use faults::{ToolOption, UsageFault, Word};
-pub use laws::run_marks_law;
+pub use laws::{first_fault_law, run_marks_law};
 pub use nj_tools::{InputsStyle, TargetsView};
 pub use requests::{Action, Request, read_words};
