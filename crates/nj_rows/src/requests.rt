@@ -1,7 +1,9 @@
 //! What command lines ask for.
 
 use crate::runs::words_of;
-use nj_cli::{Action, Mark, Request, TargetsView, ToolOption, UsageFault, Word, read_words};
+use nj_cli::{
+    Action, InputsStyle, Mark, Request, TargetsView, ToolOption, UsageFault, Word, read_words,
+};
 use std::alloc::{AllocError, Global};
 use std::fmt::Write;
 use std::process::Abort;
@@ -23,6 +25,17 @@ fn put_tool(text: &mut String, tool: &str, words: &[String]) -> Result<(), Alloc
     put_words(text, words)
 }
 
+/// Those of the names whose flag is on.
+fn put_flags(text: &mut String, flags: &[(bool, &str)]) -> Result<(), AllocError> {
+    'flags: for (is_on, name) in flags {
+        if *is_on {
+            text.push_str(", ")?;
+            text.push_str(name)?;
+        }
+    }
+    Ok(())
+}
+
 /// What is asked for of `commands`.
 fn put_commands(
     alloc: Global,
@@ -36,6 +49,25 @@ fn put_commands(
         write!(text, " take {number}")?;
     }
     write!(text, " from {}", start.to_text(alloc)?.as_str())
+}
+
+/// What is asked for of `inputs`.
+fn put_inputs(
+    text: &mut String,
+    targets: &[String],
+    validations: bool,
+    style: InputsStyle,
+) -> Result<(), AllocError> {
+    put_tool(text, "inputs", targets)?;
+    put_flags(
+        text,
+        &[
+            (validations, "validations"),
+            (style.dependency_order, "in dependency order"),
+            (!style.shell_escape, "not escaped"),
+            (style.zero, "each before a zero"),
+        ],
+    )
 }
 
 /// What `targets` is to list.
@@ -56,11 +88,19 @@ fn put_action(alloc: Global, text: &mut String, action: &Action) -> Result<(), A
     match action {
         Action::Commands {
             targets,
+            validations,
             take,
             start,
-        } => put_commands(alloc, text, targets, *take, start),
+        } => {
+            put_commands(alloc, text, targets, *take, start)?;
+            put_flags(text, &[(*validations, "validations")])
+        }
         Action::SingleCommands { targets } => put_tool(text, "single commands", targets),
-        Action::Inputs { targets } => put_tool(text, "inputs", targets),
+        Action::Inputs {
+            targets,
+            validations,
+            style,
+        } => put_inputs(text, targets, *validations, *style),
         Action::Targets { view } => put_view(text, view),
         Action::Query { files } => put_tool(text, "query", files),
         Action::Rules { descriptions } => write!(text, "rules, descriptions {descriptions}"),
@@ -171,6 +211,54 @@ fn requests_of_other_tools(rt: HostRuntime) -> Result<(), Fail> {
 }
 
 #[test]
+fn requests_with_flags(rt: HostRuntime) -> Result<(), Fail> {
+    compare(
+        &rt,
+        &[
+            (
+                &["-t", "commands", "--validations", "d"],
+                "build.ninja: commands [d] from start, validations",
+            ),
+            (
+                &["--validations", "-t", "commands", "--resume", "vstart"],
+                "build.ninja: commands from start, validations",
+            ),
+            (
+                &["-tcommands", "--resume=v0.1", "--validations", "--take=2"],
+                "build.ninja: commands take 2 from 0.1, validations",
+            ),
+            (
+                &["-t", "inputs", "--validations", "a"],
+                "build.ninja: inputs [a], validations",
+            ),
+            (
+                &["-t", "inputs", "--dependency-order"],
+                "build.ninja: inputs, in dependency order",
+            ),
+            (
+                &["-t", "inputs", "--no-shell-escape"],
+                "build.ninja: inputs, not escaped",
+            ),
+            (
+                &["--print0", "-t", "inputs"],
+                "build.ninja: inputs, each before a zero",
+            ),
+            (
+                &[
+                    "-t",
+                    "inputs",
+                    "--print0",
+                    "a",
+                    "--no-shell-escape",
+                    "--dependency-order",
+                ],
+                "build.ninja: inputs [a], in dependency order, not escaped, each before a zero",
+            ),
+        ],
+    )
+}
+
+#[test]
 fn faults(rt: HostRuntime) -> Result<(), Fail> {
     compare(
         &rt,
@@ -192,6 +280,84 @@ fn faults(rt: HostRuntime) -> Result<(), Fail> {
             (
                 &["-t", "commands", "--resume", "00", "d"],
                 "ninja-explain: bad mark '00'\n",
+            ),
+        ],
+    )
+}
+
+#[test]
+fn faults_of_flags(rt: HostRuntime) -> Result<(), Fail> {
+    compare(
+        &rt,
+        &[
+            (
+                &["-t", "commands", "-s", "--validations", "t"],
+                "ninja-explain: option --validations does not go with tool 'commands'\n",
+            ),
+            (
+                &["-t", "commands", "-s", "--take", "1", "--validations", "t"],
+                "ninja-explain: option --take does not go with tool 'commands'\n",
+            ),
+            (
+                &["-t", "rules", "--dependency-order", "--validations"],
+                "ninja-explain: option --validations does not go with tool 'rules'\n",
+            ),
+            (
+                &["-t", "commands", "--no-shell-escape", "--dependency-order"],
+                "ninja-explain: option --dependency-order does not go with tool 'commands'\n",
+            ),
+            (
+                &["-t", "query", "--print0", "--no-shell-escape", "t"],
+                "ninja-explain: option --no-shell-escape does not go with tool 'query'\n",
+            ),
+            (
+                &["-t", "query", "--print0", "t"],
+                "ninja-explain: option --print0 does not go with tool 'query'\n",
+            ),
+            (
+                &["-t", "inputs", "--print0", "--take", "x"],
+                "ninja-explain: option --take does not go with tool 'inputs'\n",
+            ),
+        ],
+    )
+}
+
+#[test]
+fn marks_of_runs_with_validations(rt: HostRuntime) -> Result<(), Fail> {
+    compare(
+        &rt,
+        &[
+            (
+                &["-t", "commands", "--validations", "--resume", "0"],
+                "ninja-explain: bad mark '0'\n",
+            ),
+            (
+                &["-t", "commands", "--validations", "--resume", "v"],
+                "ninja-explain: bad mark 'v'\n",
+            ),
+            (
+                &["-t", "commands", "--validations", "--resume", "vv0"],
+                "ninja-explain: bad mark 'vv0'\n",
+            ),
+            (
+                &["-t", "commands", "--validations", "--resume", "v01"],
+                "ninja-explain: bad mark 'v01'\n",
+            ),
+            (
+                &["-t", "commands", "--validations", "--resume", "start"],
+                "ninja-explain: bad mark 'start'\n",
+            ),
+            (
+                &["-t", "commands", "--validations", "--resume="],
+                "ninja-explain: bad mark ''\n",
+            ),
+            (
+                &["-t", "commands", "--resume", "v0"],
+                "ninja-explain: bad mark 'v0'\n",
+            ),
+            (
+                &["-tcommands", "--validations", "--resume=0", "--take=x"],
+                "ninja-explain: not a number: 'x'\n",
             ),
         ],
     )
@@ -234,6 +400,10 @@ fn refused_words(rt: HostRuntime) -> Result<(), Fail> {
             (&["-t", "commands", "-h"], refused),
             (&["-t", "commands", "--help"], refused),
             (&["-t", "commands", "--version"], refused),
+            (&["-t", "commands", "--validations=1"], refused),
+            (&["-t", "inputs", "--print0", "--print0"], refused),
+            (&["-t", "inputs", "--no-shell"], refused),
+            (&["-t", "inputs", "-0"], refused),
         ],
     )
 }
