@@ -413,6 +413,7 @@ fn run_request(
 fn request_for(alloc: Global, file: &str, target: &str) -> Result<Request, AllocError> {
     let action = Action::Commands {
         targets: words_of(alloc, &[target])?,
+        validations: false,
         take: Some(2),
         start: Mark::start(alloc),
     };

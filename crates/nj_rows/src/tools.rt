@@ -143,7 +143,6 @@ fn writes_inputs_in_styles(rt: HostRuntime) -> Result<(), Fail> {
 }
 
 #[test]
-fn writes_lists_of_targets(rt: HostRuntime)#[test]
 fn writes_lists_of_targets(rt: HostRuntime) -> Result<(), Fail> {
     all_end(
         &rt,
