@@ -5,7 +5,7 @@ use Rattle.nj_scope.specs.Readings.{Reading}
 use Rattle.nj_scope.specs.Sources.{SourceState}
 use Rattle.nj_scope.specs.ReadingList.{Entry}
 use Rattle.nj_faults.specs.declared.fault.GraphFault.{GraphFault}
-use Rattle.nj_graph.specs.Loads.{LoadedOr}
+use Rattle.nj_graph.specs.Loads.{LoadedOr, main_reached}
 use Rattle.nj_graph.specs.Reading.{ReadingText, Whole, main_read}
 use Rattle.nj_graph.specs.Runs.{IsLacking}
 use Rattle.nj_graph.proofs.OtherFiles.{others_are_not_read}
@@ -27,6 +27,6 @@ module _ (main : List ℕ) (before after : SourceState) (files : List Reading) (
   pub nothing_is_joined : (entries : List Entry) → ¬ AreStatements main true before after files entries
   nothing_is_joined entries (more, joined) = no_more_is_read more
 
-  pub fault_of_loading : (fault : GraphFault) → HaveFault main true before after files fault → LoadedOr main before after files (Err fault)
+  pub fault_of_loading : (fault : GraphFault) → HaveFault main true before after files fault → LoadedOr before after files (main_reached main) (Err fault)
   fault_of_loading fault (inl loading) = loading
   fault_of_loading fault (inr (more, joining)) = absurd (no_more_is_read more)

@@ -4,8 +4,8 @@ use Rattle.nj_scope.specs.Readings.{Reading}
 use Rattle.nj_scope.specs.Sources.{SourceState}
 use Rattle.nj_scope.specs.ReadingList.{Entry}
 use Rattle.nj_faults.specs.declared.fault.GraphFault.{GraphFault}
-use Rattle.nj_graph.specs.Joining.{IsJoined, JoinedOr, Joins}
-use Rattle.nj_graph.specs.Loads.{LoadedText, IsLoaded}
+use Rattle.nj_graph.specs.Joining.{joined_after, Joins}
+use Rattle.nj_graph.specs.Loads.{LoadedText, IsWhole, IsLoaded, LoadedOr, main_reached}
 use Rattle.nj_graph.specs.Runs.{IsRead}
 use Rattle.nj_graph.proofs.Tables.{reads-then}
 use Rattle.nj_request.specs.Requests.{RequestText}
@@ -14,29 +14,29 @@ use Rattle.nj_cli.specs.Runs.{ReadsMore, AreStatements, HaveFault}
 use Rattle.nj_cli.proofs.AnswerLemmas.{NoEdgeNeedsItself-stated}
 
 statements-joined : (main : List ℕ) (dyndep : Bool) (before after : SourceState) (files : List Reading) (entries : List Entry) → dyndep ≡ true
-    → (more : ReadsMore main before after files) → IsJoined more.stated entries more.read files more.between after
+    → (more : ReadsMore main before after files) → IsWhole more.between after files (joined_after more.read more.stated) entries
     → AreStatements main dyndep before after files entries
 statements-joined main true before after files entries asked more joined = (more, joined)
 statements-joined main false before after files entries asked more joined = absurd (cc)
 
 joining-fault : (main : List ℕ) (dyndep : Bool) (before after : SourceState) (files : List Reading) (fault : GraphFault) → dyndep ≡ true
-    → (more : ReadsMore main before after files) → JoinedOr more.stated more.read files more.between after (Err fault)
+    → (more : ReadsMore main before after files) → LoadedOr more.between after files (joined_after more.read more.stated) (Err fault)
     → HaveFault main dyndep before after files fault
 joining-fault main true before after files fault asked more refused = inr (more, refused)
 joining-fault main false before after files fault asked more refused = absurd (cc)
 
 module _ (request : RequestText) (asked : request.dyndep ≡ true) (before after : SourceState) (files : List Reading)
     (more : ReadsMore request.file before after files) where
-  graph-joined : (result : Result LoadedText GraphFault) → JoinedOr more.stated more.read files more.between after result
+  graph-joined : (result : Result LoadedText GraphFault) → LoadedOr more.between after files (joined_after more.read more.stated) result
       → GraphOr request before after files result
   graph-joined (Ok loaded) graph =
-      (graph.joined, statements-joined request.file request.dyndep before after files graph.joined asked more graph.whole, graph.graph_is)
+      (graph.entries, statements-joined request.file request.dyndep before after files graph.entries asked more graph.whole, graph.graph_is)
   graph-joined (Err fault) refused = joining-fault request.file request.dyndep before after files fault asked more refused
 
 -- the files of a request whose dyndep files were joined
 pub ReadsGraph-joined : (request : RequestText) → request.dyndep ≡ true → (before between after : SourceState) (read : List Reading)
     (loaded : LoadedText) (result : Result LoadedText GraphFault) → IsRead before between [] read
-    → (l : IsLoaded request.file before between read loaded) → Joins l.entries loaded.files between after result
+    → (l : IsLoaded before between read (main_reached request.file) loaded) → Joins l.entries loaded.files between after result
     → ReadsGraph request before after result
 ReadsGraph-joined request asked before between after read loaded result reads l joins =
     let of_read = subst (λ old. Joins l.entries old between after result) l.files_are joins in

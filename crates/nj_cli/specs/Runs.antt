@@ -6,8 +6,8 @@ use Rattle.nj_scope.specs.ReadingList.{Entry}
 use Rattle.nj_faults.specs.declared.fault.GraphFault.{GraphFault}
 use Rattle.nj_faults.specs.FaultLines.{fault_line}
 use Rattle.nj_faults.specs.Faults.{no_memory}
-use Rattle.nj_graph.specs.Joining.{IsJoined, JoiningFails}
-use Rattle.nj_graph.specs.Loads.{IsWhole, LoadingFails}
+use Rattle.nj_graph.specs.Joining.{joined_after}
+use Rattle.nj_graph.specs.Loads.{IsWhole, LoadingFails, main_reached}
 use Rattle.nj_graph.specs.Runs.{IsRead}
 use Rattle.nj_tools.specs.Sinks.{SinkState, Takes}
 use Rattle.nj_tools.specs.Texts.{FailsWithin, TakesFront}
@@ -77,24 +77,24 @@ pub record ReadsMore (main : List ℕ) (before after : SourceState) (files : Lis
   pub read : List Reading
   pub stated : List Entry
   pub reads : IsRead before between [] read
-  pub whole : IsWhole main before between read stated
+  pub whole : IsWhole before between read (main_reached main) stated
   pub acyclic : NoEdgeNeedsItself (edges_by_path stated)
   pub adds : IsRead between after read files
 
 -- The statements of the files: those of the main file and all that it includes; with `--dyndep`, where no edge of these needs itself,
 -- what dyndep files discover is joined to them.
 abbrev pub AreStatements : (main : List ℕ) → (dyndep : Bool) → (before after : SourceState) → List Reading → List Entry → Type 0
-AreStatements main false before after files entries = IsWhole main before after files entries
+AreStatements main false before after files entries = IsWhole before after files (main_reached main) entries
 AreStatements main true before after files entries =
-    (more : ReadsMore main before after files) × IsJoined more.stated entries more.read files more.between after
+    (more : ReadsMore main before after files) × IsWhole more.between after files (joined_after more.read more.stated) entries
 
 -- This is what is wrong with the files: what ended the reading of the main file and all that it includes, or a cycle of their edges;
 -- with `--dyndep` also what ended the joining after it.
 abbrev pub HaveFault : (main : List ℕ) → (dyndep : Bool) → (before after : SourceState) → List Reading → GraphFault → Type 0
-HaveFault main false before after files fault = LoadingFails main before after files fault
+HaveFault main false before after files fault = LoadingFails before after files (main_reached main) fault
 HaveFault main true before after files fault =
-    LoadingFails main before after files fault
-    ⊎ ((more : ReadsMore main before after files) × JoiningFails more.stated more.read files more.between after fault)
+    LoadingFails before after files (main_reached main) fault
+    ⊎ ((more : ReadsMore main before after files) × LoadingFails more.between after files (joined_after more.read more.stated) fault)
 
 -- No graph can be made of the files: a statement has a fault, or an edge lies on a cycle, or the source failed, or an allocation did.
 -- Nothing is output. The fault is reported, or out of memory if there was no room for its line.

@@ -1,5 +1,5 @@
 -- What the joining of all dyndep files comes to: the graph of the statements with what was joined, a cycle, or where it stops.
-use Rattle.std.proofs.Common.{◌≡◌, ◌⊎◌, ℕ, inl, inr, false, Ok, Err, List, [], ◌∷◌, length, append-nil, refl, sym, ap, subst, ◌∙◌, true≢false}
+use Rattle.std.proofs.Common.{◌≡◌, ℕ, inl, inr, false, Ok, Err, List, [], ◌∷◌, length, append-nil, refl, sym, ap, subst, ◌∙◌, true≢false}
 use Rattle.std.specs.List.{AllByRecursion}
 use Rattle.std.proofs.lemmas.List.{length-map}
 use Rattle.nj_scope.specs.Readings.{Reading, EachPathOnce, paths_of, IsPrefix}
@@ -16,10 +16,12 @@ use Rattle.nj_build.specs.Joining.{discover}
 use Rattle.nj_build.specs.JoiningHeld.{JoiningText, has_pending}
 use Rattle.nj_build.proofs.DiscoverLemmas.{declared-discover, all-discover}
 use Rattle.nj_build.proofs.DiscoverEdges.{all_edges-discover}
+use Rattle.nj_graph.specs.Reading.{Whole}
 use Rattle.nj_graph.specs.Graph.{GraphText, IsOpenScope, HasRule, IsGraphOf}
 use Rattle.nj_graph.specs.GraphHeld.{IsKnown, IsGraph}
-use Rattle.nj_graph.specs.Loads.{LoadedText}
-use Rattle.nj_graph.specs.Joining.{JoinedText, all_joined, with_all_new, IsJoined, JoiningLacksMemory, JoiningEnds, JoinedOr, Joins}
+use Rattle.nj_graph.specs.Runs.{ReachedText}
+use Rattle.nj_graph.specs.Loads.{LoadedText, IsWhole}
+use Rattle.nj_graph.specs.Joining.{all_joined, with_all_new, joined_after, Joins}
 use Rattle.nj_graph.specs.JoiningContracts.{FilesJoined, FilesStop}
 use Rattle.nj_graph.proofs.Comes.{prefix-self}
 use Rattle.nj_graph.proofs.Tables.{read-nothing}
@@ -39,22 +41,21 @@ module _ (stated : List Entry) (source : SourceState) (old : List Reading) (once
     read-nothing source old once,
     record {
       files_are = ap (λ (l : LoadedText). l.files) same;
-      joined = stated;
-      whole = record { paths = []; joins = nothing-joined old stated (sym is.built.pending ∙ none-pending g.built.pending none); came_to = refl; failures = refl };
+      entries = stated;
+      whole = record { read = ap (λ (j : ReachedText). j.read) nothing; came_to = ap (λ (j : ReachedText). with_all_new (paths_of old) j.paths) nothing; failures = refl };
       graph_is = subst (λ (l : LoadedText). IsGraphOf l.graph stated) (sym same) is;
     },
   )
+    where
+      nothing : all_joined old stated ≡ record { read = record { entries = stated; end = Whole }; paths = [] }
+      nothing = nothing-joined old stated (sym is.built.pending ∙ none-pending g.built.pending none)
 
   pub joins-memory : (fault : GraphFault) → fault ≡ no_memory → Joins stated old source source (Err fault)
-  joins-memory fault none = (old, read-nothing source old once, inl (record { answered = none; failures = refl; came_to = λ all ext. all_new-prefix (paths_of old) (all_joined all stated).paths }))
+  joins-memory fault none = (old, read-nothing source old once, inl (inl (record { answered = none; failures = refl; came_to = λ all ext. all_new-prefix (paths_of old) (all_joined all stated).paths })))
 
 module _ (stated : List Entry) (before after : SourceState) (old : List Reading) where
   pub joins-stop : (fault : GraphFault) → FilesStop stated before after old fault → Joins stated old before after (Err fault)
-  joins-stop fault s = (s.files, s.reads, by s.stops)
-    where
-      by : JoiningLacksMemory stated old s.files before after fault ⊎ JoiningEnds stated old s.files before after fault → JoinedOr stated old s.files before after (Err fault)
-      by (inl m) = inl m
-      by (inr e) = inr (inl e)
+  joins-stop fault s = (s.files, s.reads, inl s.stops)
 
   -- ---- all is joined
 
@@ -62,27 +63,30 @@ module _ (stated : List Entry) (before after : SourceState) (old : List Reading)
     itself : IsPrefix f.files f.files
     itself = ([], sym (append-nil f.files))
 
-    whole : IsJoined stated f.now old f.files before after
-    whole = record { paths = f.paths; joins = f.joins f.files itself; came_to = f.came_to; failures = f.reads.failures }
+    joins : all_joined f.files stated ≡ record { read = record { entries = f.now; end = Whole }; paths = f.paths }
+    joins = f.joins f.files itself
+
+    whole : IsWhole before after f.files (joined_after old stated) f.now
+    whole = record { read = ap (λ (j : ReachedText). j.read) joins; came_to = ap (λ (j : ReachedText). with_all_new (paths_of old) j.paths) joins ∙ f.came_to; failures = f.reads.failures }
 
     pub none-pending-then : pending_read f.now ≡ []
-    none-pending-then = subst (λ (j : JoinedText). pending_read j.read.entries ≡ []) whole.joins (none-waits f.files stated (ap (λ (j : JoinedText). j.read.end) whole.joins))
+    none-pending-then = subst (λ (j : ReachedText). pending_read j.read.entries ≡ []) joins (none-waits f.files stated (ap (λ (j : ReachedText). j.read.end) joins))
 
     -- what stays of the statements
     stays : (P : List Entry → Type 0) → ((edge : ℕ) (found : Discovered) (entries : List Entry) → P entries → P (discover edge found entries)) → P stated → P f.now
-    stays P keeps h = subst (λ (j : JoinedText). P j.read.entries) whole.joins (kept-by-all P keeps f.files stated h)
+    stays P keeps h = subst (λ (j : ReachedText). P j.read.entries) joins (kept-by-all P keeps f.files stated h)
 
     pub joins-fault : (fault : GraphFault) → ComesTo f.now (Err fault) → Joins stated old before after (Err fault)
     joins-fault fault (inl none) = (
       f.files,
       f.reads.reads,
-      inl (record {
+      inl (inl (record {
         answered = none;
         failures = f.reads.failures;
-        came_to = λ all ext. subst (λ ps. IsPrefix (paths_of f.files) ps) (sym (ap (λ (j : JoinedText). with_all_new (paths_of old) j.paths) (f.joins all ext) ∙ f.came_to)) (prefix-self (paths_of f.files));
-      }),
+        came_to = λ all ext. subst (λ ps. IsPrefix (paths_of f.files) ps) (sym (ap (λ (j : ReachedText). with_all_new (paths_of old) j.paths) (f.joins all ext) ∙ f.came_to)) (prefix-self (paths_of f.files));
+      })),
     )
-    joins-fault fault (inr cycle) = (f.files, f.reads.reads, inr (inr (record { joined = f.now; whole = whole; cycle = cycle })))
+    joins-fault fault (inr cycle) = (f.files, f.reads.reads, inr (record { entries = f.now; whole = whole; cycle = cycle }))
 
     -- ---- the graph
 
@@ -107,7 +111,7 @@ module _ (stated : List Entry) (before after : SourceState) (old : List Reading)
         f.reads.reads,
         record {
           files_are = ap (λ (l : LoadedText). l.files) same ∙ f.reads.held_is;
-          joined = f.now;
+          entries = f.now;
           whole = whole;
           graph_is = subst (λ (l : LoadedText). IsGraphOf l.graph f.now) (sym same) joined-graph;
         },

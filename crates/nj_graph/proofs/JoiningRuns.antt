@@ -9,9 +9,9 @@ use Rattle.nj_build.specs.EdgeList.{Pending, pending_read}
 use Rattle.nj_build.specs.Joining.{dyndep_files}
 use Rattle.nj_build.specs.JoiningHeld.{JoiningText, HoldsJoined}
 use Rattle.nj_graph.specs.Reading.{End, Whole, Refused, Lacking, ReadingText}
-use Rattle.nj_graph.specs.Runs.{IsRead, IsEnd, paths_with}
+use Rattle.nj_graph.specs.Runs.{IsRead, IsEnd, paths_with, ReachedText, Stops}
 use Rattle.nj_graph.specs.ReaderContracts.{ReadsAll}
-use Rattle.nj_graph.specs.Joining.{JoinedText, go_on, path_asked, file_joined, files_joined, all_joined, with_all_new, JoiningLacksMemory, JoiningEnds}
+use Rattle.nj_graph.specs.Joining.{go_on, path_asked, file_joined, files_joined, all_joined, with_all_new, reached_after, joined_after}
 use Rattle.nj_graph.specs.JoiningContracts.{FileJoined, FileLacksMemory, FileEnds, FileStops, FilesJoined, FilesStop}
 use Rattle.nj_graph.proofs.Comes.{prefix-then}
 use Rattle.nj_graph.proofs.Tables.{extends-trans, read-extends, reads-then, reads-all-nothing, reads-all-then}
@@ -35,7 +35,7 @@ end-before before mid after Whole fault same h = h
 end-before before mid after (Refused expected) fault same h = (h.0, h.1 ∙ same)
 end-before before mid after (Lacking path place) fault same h = (h.0, subst (λ n. Rises n after.failures) same h.1)
 
-stays : (end : End) (p : Pending) (entries : List Entry) (others : List Entry → JoinedText) → IsStopped end → go_on end p entries others ≡ record { read = record { entries = entries; end = end }; paths = path_asked p }
+stays : (end : End) (p : Pending) (entries : List Entry) (others : List Entry → ReachedText) → IsStopped end → go_on end p entries others ≡ record { read = record { entries = entries; end = end }; paths = path_asked p }
 stays Whole p entries others h = absurd h
 stays (Refused fault) p entries others h = refl
 stays (Lacking path place) p entries others h = refl
@@ -43,7 +43,7 @@ stays (Lacking path place) p entries others h = refl
 -- ---- the files so far
 
 -- a joining after one that came to these paths
-abbrev remainder : List (List ℕ) → JoinedText → JoinedText
+abbrev remainder : List (List ℕ) → ReachedText → ReachedText
 remainder paths j = record { read = j.read; paths = paths ++ j.paths }
 
 -- What was joined is held, and the whole joins what the files that are left join from here on.
@@ -99,7 +99,7 @@ module _ (stated : List Entry) (before : SourceState) (old : List Reading) where
           there = subst (λ fs. ReadsAll mid after fs f.files later_table) u.reads.held_is f.reads
 
       -- the paths begin with that of the file
-      first-asked : (end : End) (entries : List Entry) (k : List Entry → JoinedText) → (more : List (List ℕ)) × ((go_on end p entries k).paths ≡ path_asked p ++ more)
+      first-asked : (end : End) (entries : List Entry) (k : List Entry → ReachedText) → (more : List (List ℕ)) × ((go_on end p entries k).paths ≡ path_asked p ++ more)
       first-asked Whole entries k = ((k entries).paths, refl)
       first-asked (Refused fault) entries k = ([], sym (append-nil (path_asked p)))
       first-asked (Lacking path place) entries k = ([], sym (append-nil (path_asked p)))
@@ -108,7 +108,7 @@ module _ (stated : List Entry) (before : SourceState) (old : List Reading) where
       asks all ext =
           let r : ReadingText = file_joined all stated p u.now in
           let more = first-asked r.end r.entries (files_joined all stated others) in
-          let paths : (all_joined all stated).paths ≡ (u.paths ++ path_asked p) ++ more.0 = ap (λ (j : JoinedText). j.paths) (next all ext r refl) ∙ ap (λ ps. u.paths ++ ps) more.1 ∙ sym (append_assoc u.paths (path_asked p) more.0) in
+          let paths : (all_joined all stated).paths ≡ (u.paths ++ path_asked p) ++ more.0 = ap (λ (j : ReachedText). j.paths) (next all ext r refl) ∙ ap (λ ps. u.paths ++ ps) more.1 ∙ sym (append_assoc u.paths (path_asked p) more.0) in
           let whole : with_all_new (paths_of old) (all_joined all stated).paths ≡ with_all_new (with_all_new (paths_of u.files) (path_asked p)) more.0 =
           ap (with_all_new (paths_of old)) paths ∙ all_new-append (paths_of old) (u.paths ++ path_asked p) more.0 ∙ ap (λ ps. with_all_new ps more.0) came in
           subst (IsPrefix (with_all_new (paths_of u.files) (path_asked p))) (sym whole) (all_new-prefix (with_all_new (paths_of u.files) (path_asked p)) more.0)
@@ -122,7 +122,7 @@ module _ (stated : List Entry) (before : SourceState) (old : List Reading) where
           within : (all : List Reading) → IsPrefix s.files all → IsPrefix u.files all
           within all ext = extends-trans all s.files u.files ext (read-extends mid after u.files s.files there)
 
-          by : FileLacksMemory p mid after table s.files fault ⊎ FileEnds stated u.now p mid after table s.files fault → JoiningLacksMemory stated old s.files before after fault ⊎ JoiningEnds stated old s.files before after fault
+          by : FileLacksMemory p mid after table s.files fault ⊎ FileEnds stated u.now p mid after table s.files fault → Stops before after s.files (joined_after old stated) fault
           by (inl m) = inl (record {
             answered = m.answered;
             failures = m.failures ∙ u.reads.failures;
@@ -130,8 +130,8 @@ module _ (stated : List Entry) (before : SourceState) (old : List Reading) where
                 (subst (λ fs. IsPrefix (paths_of s.files) (with_all_new (paths_of fs) (path_asked p))) u.reads.held_is m.came_to) (asks all (within all ext));
           })
           by (inr e) = inr (record {
-            joined = record { read = record { entries = e.now; end = e.end }; paths = u.paths ++ path_asked p };
+            reached = reached_after (paths_of old) (record { read = record { entries = e.now; end = e.end }; paths = u.paths ++ path_asked p });
             answered = end-before before mid after e.end fault u.reads.failures e.answered;
-            joins = λ all ext lacks. next all (within all ext) (record { entries = e.now; end = e.end }) (e.joins all ext lacks) ∙ ap (remainder u.paths) (stays e.end p e.now (files_joined all stated others) (is-stopped mid after e.end fault e.answered));
+            read = λ all ext lacks. ap (reached_after (paths_of old)) (next all (within all ext) (record { entries = e.now; end = e.end }) (e.joins all ext lacks) ∙ ap (remainder u.paths) (stays e.end p e.now (files_joined all stated others) (is-stopped mid after e.end fault e.answered)));
             came_to = came ∙ subst (λ fs. with_all_new (paths_of fs) (path_asked p) ≡ paths_with e.end s.files) u.reads.held_is e.came_to;
           })

@@ -14,7 +14,8 @@ use Rattle.nj_build.specs.Joining.{discover, discovered_by, entry_fault, with_en
 use Rattle.nj_build.proofs.DiscoverLemmas.{with_entry-by}
 use Rattle.nj_build.proofs.DiscoverEdges.{pending-discover, pending-within}
 use Rattle.nj_graph.specs.Reading.{End, Whole, Refused, Lacking, ReadingText, stopped}
-use Rattle.nj_graph.specs.Joining.{end_by, unless_fault, entries_joined, statement_place, found_joined, answer_joined, file_joined, JoinedText, go_on, files_joined, all_joined, JoinedStaysJoined}
+use Rattle.nj_graph.specs.Runs.{ReachedText}
+use Rattle.nj_graph.specs.Joining.{end_by, unless_fault, entries_joined, statement_place, found_joined, answer_joined, file_joined, go_on, files_joined, all_joined, JoinedStaysJoined}
 
 -- ---- lists
 
@@ -235,5 +236,5 @@ nothing-joined files stated none = ap (λ ps. files_joined files stated (dyndep_
 
 pub joined_stays_joined : JoinedStaysJoined
 joined_stays_joined files others stated joined is whole =
-    nothing-joined others joined.read.entries (subst (λ (j : JoinedText). pending_read j.read.entries ≡ []) is (none-waits files stated (ap (λ (j : JoinedText). j.read.end) is ∙ whole)))
+    nothing-joined others joined.read.entries (subst (λ (j : ReachedText). pending_read j.read.entries ≡ []) is (none-waits files stated (ap (λ (j : ReachedText). j.read.end) is ∙ whole)))
     ∙ ap (λ end. record { read = record { entries = joined.read.entries; end = end }; paths = [] }) (sym whole)

@@ -25,7 +25,7 @@ use Rattle.nj_graph.specs.Laws.{Faultless}
 use Rattle.nj_graph.proofs.EdgeRules.{edges-have, edges-open, known-details}
 use Rattle.nj_graph.proofs.ReadingLaws.{read_is_faultless}
 use Rattle.nj_graph.specs.Runs.{IsRead}
-use Rattle.nj_graph.specs.Loads.{LoadedText, IsWhole, Loads}
+use Rattle.nj_graph.specs.Loads.{LoadedText, IsWhole, Loads, reached_from, main_reached}
 use Rattle.nj_graph.proofs.Found.{FindsText, FindsNone, CannotTell, HasNoMemory}
 use Rattle.nj_graph.proofs.Comes.{main-comes}
 use Rattle.nj_graph.proofs.Tables.{extends-trans, reading-kept, read-extends, reads-all-then, read-nothing}
@@ -62,10 +62,9 @@ module _ (main : List ℕ) (before after : SourceState) (fault : GraphFault) whe
     files = [];
     reads = h.reads;
     stops = inr (record {
-      entries = [];
-      end = Lacking main (main_place main);
+      reached = reached_from main (record { entries = []; end = Lacking main (main_place main) });
       answered = (h.answered, h.failures);
-      read = λ all ext lacks. ap (λ r. answer_read (opened_in all most_within) (main_site main) (main_place main) [] [] r) (none (reading_of all main) lacks);
+      read = λ all ext lacks. ap (λ r. reached_from main (answer_read (opened_in all most_within) (main_site main) (main_place main) [] [] r)) (none (reading_of all main) lacks);
       came_to = itself main;
     });
   }
@@ -80,10 +79,9 @@ module _ (main : List ℕ) (before after : SourceState) (fault : GraphFault) whe
     files = h.files;
     reads = h.reads;
     stops = inr (record {
-      entries = [];
-      end = Refused (record { place = Some (main_place main); cause = Missing main });
+      reached = reached_from main (record { entries = []; end = Refused (record { place = Some (main_place main); cause = Missing main }) });
       answered = (h.answered, h.failures);
-      read = λ all ext lacks. ap (λ r. answer_read (opened_in all most_within) (main_site main) (main_place main) [] [] r) (reading-kept main (record { path = main; bytes = None }) all h.files ext h.found);
+      read = λ all ext lacks. ap (λ r. reached_from main (answer_read (opened_in all most_within) (main_site main) (main_place main) [] [] r)) (reading-kept main (record { path = main; bytes = None }) all h.files ext h.found);
       came_to = itself main ∙ sym h.came_to;
     });
   }
@@ -146,10 +144,10 @@ reads-memory main before after old held fault r none = record {
 -- ---- all was read
 
 module _ (main : List ℕ) (before after : SourceState) (old held : Reader) (r : ReadsText main before after old held (main_reading main)) where
-  is-whole : IsWhole main before after r.files r.entries
+  is-whole : IsWhole before after r.files (main_reached main) r.entries
   is-whole = record {
     read = r.read r.files ([], sym (append-nil r.files));
-    came_to = sym r.holds.paths_are ∙ ap paths_of r.reads.held_is;
+    came_to = ap (paths_come_to main) (r.read r.files ([], sym (append-nil r.files))) ∙ sym r.holds.paths_are ∙ ap paths_of r.reads.held_is;
     failures = r.reads.failures;
   }
 

@@ -26,6 +26,7 @@ use Rattle.nj_build.specs.BuildFaults.{first_fault, empty_path, unknown_rule, tw
 use Rattle.nj_build.specs.Answers.{HoldsEdges}
 use Rattle.nj_build.proofs.Holding.{names_files, holds-other}
 use Rattle.nj_graph.specs.Runs.{IsRead, Stops}
+use Rattle.nj_graph.specs.Loads.{reached_from}
 use Rattle.nj_graph.specs.Graph.{IsOpenScope}
 use Rattle.nj_graph.specs.ReaderContracts.{named_item, named_site, site_of, EntersScope, Holds, Grows, IsOpenIn, IsFault, ReadsOne, StopsAt, OpensText, OpensNamed}
 use Rattle.nj_graph.proofs.Comes.{item-comes, statements-come}
@@ -156,9 +157,9 @@ pub stops-same : (main : List ℕ) (before after : SourceState) (old : List Read
     → ((all : List Reading) → second all ≡ first all) → StopsAt main before after old first fault → StopsAt main before after old second fault
 stops-same main before after old first second fault same s = record { files = s.files; reads = s.reads; stops = by s.stops }
   where
-    by : Stops main before after s.files first fault → Stops main before after s.files second fault
+    by : Stops before after s.files (λ all. reached_from main (first all)) fault → Stops before after s.files (λ all. reached_from main (second all)) fault
     by (inl m) = inl (record { answered = m.answered; failures = m.failures; came_to = λ all e. subst (λ r. IsPrefix (paths_of s.files) (paths_come_to main r)) (sym (same all)) (m.came_to all e) })
-    by (inr e) = inr (record { entries = e.entries; end = e.end; answered = e.answered; read = λ all ext lacks. same all ∙ e.read all ext lacks; came_to = e.came_to })
+    by (inr e) = inr (record { reached = e.reached; answered = e.answered; read = λ all ext lacks. ap (reached_from main) (same all) ∙ e.read all ext lacks; came_to = e.came_to })
 
 module _ (main : List ℕ) (before after : SourceState) (old : Reader) (entries : List Entry) (holds : Holds main old entries) (same : after ≡ before) where
   read-no_more : IsRead before after old.files old.files
@@ -179,7 +180,7 @@ module _ (main : List ℕ) (before after : SourceState) (old : Reader) (entries 
   stops-refused reading fault expected is none told = record {
     files = old.files;
     reads = read-no_more;
-    stops = inr (record { entries = entries; end = Refused expected; answered = (told, ap (λ source. source.failures) same); read = λ all e lacks. is all; came_to = ap (with_named (paths_read main entries)) none ∙ sym holds.paths_are });
+    stops = inr (record { reached = reached_from main (record { entries = entries; end = Refused expected }); answered = (told, ap (λ source. source.failures) same); read = λ all e lacks. ap (reached_from main) (is all); came_to = ap (with_named (paths_read main entries)) none ∙ sym holds.paths_are });
   }
 
   -- a fault of a statement by itself

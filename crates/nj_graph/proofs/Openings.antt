@@ -13,9 +13,10 @@ use Rattle.nj_faults.specs.declared.fault.Place.{Place}
 use Rattle.nj_faults.specs.declared.fault.Cause.{Cause}
 use Rattle.nj_faults.specs.declared.fault.Cause.TheVariants.{Missing, TooDeep, TooManyOpenings}
 use Rattle.nj_faults.specs.Faults.{no_memory}
-use Rattle.nj_graph.specs.Reading.{Site, Refused, Lacking, most_opened, stopped, answer_read, if_room, opened_in, path_named, with_new, with_named, paths_read, path_at_fault, paths_come_to}
+use Rattle.nj_graph.specs.Reading.{Site, Lacking, most_opened, stopped, answer_read, if_room, opened_in, path_named, with_new, with_named, paths_read, path_at_fault, paths_come_to}
 use Rattle.nj_graph.specs.ReaderContracts.{IsFault, StopsAt, OpensText, OpensPath}
 use Rattle.nj_graph.specs.Runs.{IsRead}
+use Rattle.nj_graph.specs.Loads.{reached_from}
 use Rattle.nj_graph.proofs.Found.{FindsText, FindsNone, CannotTell, HasNoMemory}
 use Rattle.nj_graph.proofs.Tables.{reading-kept, with_new-other, read-nothing}
 use Rattle.nj_graph.proofs.Comes.{opened-comes, opened-names}
@@ -82,10 +83,9 @@ module _ (main : List ℕ) (before after : SourceState) (old : List Reading) (pl
       files = old;
       reads = subst (λ source. IsRead before source old old) (sym stays) (read-nothing before old once);
       stops = inr (record {
-        entries = entries;
-        end = Refused (record { place = Some place; cause = cause });
+        reached = reached_from main (stopped entries place cause);
         answered = (answered, ap (λ source. source.failures) stays);
-        read = λ all is lacking. read all inner e;
+        read = λ all is lacking. ap (reached_from main) (read all inner e);
         came_to = none (paths_read main entries) ∙ sym paths_are;
       });
     }
@@ -120,13 +120,12 @@ module _ (main : List ℕ) (before after : SourceState) (old : List Reading) (pl
           files = old;
           reads = failed.reads;
           stops = inr (record {
-            entries = entries;
-            end = Lacking path place;
+            reached = reached_from main (record { entries = entries; end = Lacking path place });
             answered = (failed.answered, failed.failures);
             read = λ all is lacking.
-                at_left all inner e
+                ap (reached_from main) (at_left all inner e
                 ∙ opened-answered all inner place e entries within None room (ap (reading_of all) same ∙ absent (reading_of all path) lacking)
-                ∙ ap (λ p. record { entries = entries; end = Lacking p place }) same;
+                ∙ ap (λ p. record { entries = entries; end = Lacking p place }) same);
             came_to = ap (λ before. with_new before path) (sym paths_are) ∙ with_new-other path old failed.lacking;
           });
         }
@@ -137,13 +136,12 @@ module _ (main : List ℕ) (before after : SourceState) (old : List Reading) (pl
           files = none.files;
           reads = none.reads;
           stops = inr (record {
-            entries = entries;
-            end = Refused (record { place = Some place; cause = Missing path });
+            reached = reached_from main (stopped entries place (Missing path));
             answered = (none.answered, none.failures);
             read = λ all is lacking.
-                at_left all inner e
+                ap (reached_from main) (at_left all inner e
                 ∙ opened-answered all inner place e entries within _ room (ap (reading_of all) same ∙ reading-kept path _ all none.files is none.found)
-                ∙ ap (λ p. stopped entries place (Missing p)) same;
+                ∙ ap (λ p. stopped entries place (Missing p)) same);
             came_to = ap (λ before. with_new before path) (sym paths_are) ∙ sym none.came_to;
           });
         }

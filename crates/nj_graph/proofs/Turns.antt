@@ -18,7 +18,8 @@ use Rattle.nj_faults.specs.Faults.{fault_in, no_memory}
 use Rattle.nj_graph.specs.Parsed.{Parsed, parsed_in, and_parsed}
 use Rattle.nj_graph.specs.Reading as reading
 use Rattle.nj_graph.specs.Reading.{Site, entry_at, End, Whole, Lacking, ReadingText, Opens, go_on, and_then, opened_in, statement_read, statements_read, text_read, end_by, with_named, paths_read, path_at_fault, paths_come_to}
-use Rattle.nj_graph.specs.Runs.{IsRead, IsEnd, Stops}
+use Rattle.nj_graph.specs.Runs.{IsRead, IsEnd, ReachedText, Stops}
+use Rattle.nj_graph.specs.Loads.{reached_from}
 use Rattle.nj_graph.specs.ReaderContracts.{Holds, ReadsAll, ReadsOne, StopsAt, OpensNamed, ReadsText, ReadsOrStops, NextOf, NextIs}
 use Rattle.nj_graph.proofs.Comes.{and_then-comes, statements-come}
 use Rattle.nj_graph.proofs.Tables.{extends-trans, read-extends, reads-then, reads-all-then}
@@ -58,13 +59,14 @@ module _ (main : List ℕ) (before mid after : SourceState) (old files held : Li
       within : (all : List Reading) → IsPrefix s.files all → IsPrefix files all
       within all e = extends-trans all s.files files e (read-extends mid after files s.files there)
 
-      by : Stops main mid after s.files inner fault → Stops main before after s.files outer fault
+      by : Stops mid after s.files (λ all. reached_from main (inner all)) fault → Stops before after s.files (λ all. reached_from main (outer all)) fault
       by (inl m) = inl (record { answered = m.answered; failures = m.failures ∙ reads.failures; came_to = λ all e. passes.comes all (within all e) (paths_of s.files) (m.came_to all e) })
       by (inr e) = inr (record {
-        entries = e.entries;
-        end = e.end;
-        answered = is-end-before before mid after e.end fault reads.failures e.answered;
-        read = λ all ext lacks. passes.ends all (within all ext) e.entries e.end (is-stopped mid after e.end fault e.answered) (e.read all ext lacks);
+        reached = e.reached;
+        answered = is-end-before before mid after e.reached.read.end fault reads.failures e.answered;
+        read = λ all ext lacks.
+            ap (reached_from main) (passes.ends all (within all ext) e.reached.read.entries e.reached.read.end (is-stopped mid after e.reached.read.end fault e.answered) (ap (λ (r : ReachedText). r.read) (e.read all ext lacks)))
+            ∙ sym (ap (λ (r : ReachedText). reached_from main r.read) (e.read all ext lacks)) ∙ e.read all ext lacks;
         came_to = e.came_to;
       })
 
@@ -162,10 +164,9 @@ module _ (main : List ℕ) (before after : SourceState) (old held : Reader) (lef
     files = u.files;
     reads = u.reads.reads;
     stops = inr (record {
-      entries = u.now;
-      end = reading.Refused (fault_in site.file found);
+      reached = reached_from main (record { entries = u.now; end = reading.Refused (fault_in site.file found) });
       answered = (told, u.reads.failures);
-      read = λ all ext lacks. u.goes_on all ext ∙ ap (λ (s : Parsed PlacedText). statements_read (opened_in all left) site s.items s.fault u.now) (parsed-fault next_statement u.most lines found h u.room);
+      read = λ all ext lacks. ap (reached_from main) (u.goes_on all ext ∙ ap (λ (s : Parsed PlacedText). statements_read (opened_in all left) site s.items s.fault u.now) (parsed-fault next_statement u.most lines found h u.room));
       came_to = ap (with_named (paths_read main u.now)) (syntax-names site.file found) ∙ sym u.holds.paths_are ∙ ap paths_of u.reads.held_is;
     });
   }

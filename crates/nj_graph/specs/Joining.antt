@@ -1,24 +1,23 @@
 -- The joining of dyndep files to the statements of a run ("Dynamic Dependencies" in the manual), up to the first fault.
-use Rattle.std.specs.Prelude.{◌≡◌, ◌⊎◌, ℕ, suc, if◌then◌else◌, Option, Some, None, Result, Ok, Err, List, [], ◌∷◌, ◌++◌, map, length}
+use Rattle.std.specs.Prelude.{◌≡◌, ℕ, suc, if◌then◌else◌, Option, Some, None, Result, Ok, Err, List, [], ◌∷◌, ◌++◌, map, length}
 use Rattle.std.specs.Str.{is_utf8}
 use Rattle.nj_text.specs.Lines.{Line, text_lines}
 use Rattle.nj_manifest.specs.Faults.{Fault}
 use Rattle.nj_manifest.specs.Dyndeps.{EntryText, version_next, next_entry}
-use Rattle.nj_scope.specs.Readings.{Reading, reading_of, paths_of, IsPrefix}
+use Rattle.nj_scope.specs.Readings.{Reading, reading_of, paths_of}
 use Rattle.nj_scope.specs.Sources.{SourceState}
 use Rattle.nj_scope.specs.ReadingList.{Entry}
 use Rattle.nj_faults.specs.declared.fault.Place.{Place}
 use Rattle.nj_faults.specs.declared.fault.GraphFault.{GraphFault}
 use Rattle.nj_faults.specs.declared.fault.Cause.TheVariants.{Missing, PathNotText}
-use Rattle.nj_faults.specs.Faults.{fault_in, no_memory}
+use Rattle.nj_faults.specs.Faults.{fault_in}
 use Rattle.nj_build.specs.EdgeList.{Pending, edges_read, pending_read}
-use Rattle.nj_build.specs.Built.{detail_at, detail_of, IsCycleFault}
+use Rattle.nj_build.specs.Built.{detail_at, detail_of}
 use Rattle.nj_build.specs.Joining.{entry_fault, with_entry, lacking_fault, dyndep_files}
-use Rattle.nj_graph.specs.Graph.{IsGraphOf}
 use Rattle.nj_graph.specs.Parsed.{Parsed, none_parsed, parsed_in}
 use Rattle.nj_graph.specs.Reading.{End, Whole, Refused, Lacking, ReadingText, stopped, with_new}
-use Rattle.nj_graph.specs.Runs.{IsRead, IsEnd, IsLacking, paths_with}
-use Rattle.nj_graph.specs.Loads.{LoadedText}
+use Rattle.nj_graph.specs.Runs.{ReachedText}
+use Rattle.nj_graph.specs.Loads.{LoadedText, LoadsAfter}
 
 -- ---- the entries of a text
 
@@ -76,22 +75,17 @@ file_joined files stated p joined =
     if is_utf8 p.file then answer_joined stated p (reading_of files p.file) joined
     else stopped joined (statement_place stated p.edge) PathNotText
 
--- ---- all files
-
--- the statements with what was joined, how the joining ends, and the paths of the dyndep files that it reaches
-pub record JoinedText : Type 0 where
-  pub read : ReadingText
-  pub paths : List (List ℕ)
+-- ---- all files: the statements with what was joined, and the paths of the dyndep files that it reaches
 
 -- a path that is not UTF-8 is not asked for
 abbrev pub path_asked : Pending → List (List ℕ)
 path_asked p = if is_utf8 p.file then p.file ∷ [] else []
 
-abbrev pub go_on : End → Pending → List Entry → (List Entry → JoinedText) → JoinedText
+abbrev pub go_on : End → Pending → List Entry → (List Entry → ReachedText) → ReachedText
 go_on Whole p joined others = record { read = (others joined).read; paths = path_asked p ++ (others joined).paths }
 go_on end p joined others = record { read = record { entries = joined; end = end }; paths = path_asked p }
 
-unfoldable pub files_joined : (files : List Reading) → (stated : List Entry) → List Pending → (joined : List Entry) → JoinedText
+unfoldable pub files_joined : (files : List Reading) → (stated : List Entry) → List Pending → (joined : List Entry) → ReachedText
 files_joined files stated [] joined = record { read = record { entries = joined; end = Whole }; paths = [] }
 files_joined files stated (p ∷ others) joined =
     let file = file_joined files stated p joined in
@@ -99,7 +93,7 @@ files_joined files stated (p ∷ others) joined =
 
 -- The dyndep files of all edges that wait for one, each once, in the order of their first edges: the whole file is joined before the
 -- next one is opened.
-unfoldable pub all_joined : (files : List Reading) → (stated : List Entry) → JoinedText
+unfoldable pub all_joined : (files : List Reading) → (stated : List Entry) → ReachedText
 all_joined files stated = files_joined files stated (dyndep_files (pending_read stated)) stated
 
 -- ---- what joining answers
@@ -109,62 +103,22 @@ abbrev pub with_all_new : (before paths : List (List ℕ)) → List (List ℕ)
 with_all_new before [] = before
 with_all_new before (path ∷ paths) = with_all_new (with_new before path) paths
 
--- All dyndep files are joined. What was read are those of them that were not read before. The source did not fail.
-pub record IsJoined (stated joined : List Entry) (old files : List Reading) (before after : SourceState) : Type 0 where
-  pub paths : List (List ℕ)
-  pub joins : all_joined files stated ≡ record { read = record { entries = joined; end = Whole }; paths = paths }
-  pub came_to : with_all_new (paths_of old) paths ≡ paths_of files
-  pub failures : after.failures ≡ before.failures
+-- what joining reads and reaches after these paths
+abbrev pub reached_after : (before : List (List ℕ)) → ReachedText → ReachedText
+reached_after before joined = record { read = joined.read; paths = with_all_new before joined.paths }
 
--- By these files the joining ends as was answered, whatever other files hold; and all paths that it reaches were read.
-pub record JoiningEnds (stated : List Entry) (old files : List Reading) (before after : SourceState) (fault : GraphFault) : Type 0 where
-  pub joined : JoinedText
-  pub answered : IsEnd before after joined.read.end fault
-  pub joins : (all : List Reading) → IsPrefix files all → IsLacking joined.read.end all → all_joined all stated ≡ joined
-  pub came_to : with_all_new (paths_of old) joined.paths ≡ paths_with joined.read.end files
+-- the reading of dyndep files after the old files
+abbrev pub joined_after : (old : List Reading) → (stated : List Entry) → (files : List Reading) → ReachedText
+joined_after old stated files = reached_after (paths_of old) (all_joined files stated)
 
--- Out of memory. The paths that were read are those that the joining reaches first, and the source did not fail.
-pub record JoiningLacksMemory (stated : List Entry) (old files : List Reading) (before after : SourceState) (fault : GraphFault)
-    : Type 0 where
-  pub answered : fault ≡ no_memory
-  pub failures : after.failures ≡ before.failures
-  pub came_to : (all : List Reading) → IsPrefix files all
-      → IsPrefix (paths_of files) (with_all_new (paths_of old) (all_joined all stated).paths)
-
--- All was joined, and the edges have a dependency cycle.
-pub record JoinsCycle (stated : List Entry) (old files : List Reading) (before after : SourceState) (fault : GraphFault) : Type 0 where
-  pub joined : List Entry
-  pub whole : IsJoined stated joined old files before after
-  pub cycle : IsCycleFault (edges_read joined) fault
-
--- The first fault is answered: that of a dyndep file, or else of a cycle.
-abbrev pub JoiningFails : (stated : List Entry) → (old files : List Reading) → (before after : SourceState) → GraphFault → Type 0
-JoiningFails stated old files before after fault =
-    JoiningLacksMemory stated old files before after fault
-    ⊎ (JoiningEnds stated old files before after fault ⊎ JoinsCycle stated old files before after fault)
-
--- the graph is that of the statements with what was joined to them
-pub record JoinsGraph (stated : List Entry) (old files : List Reading) (before after : SourceState) (loaded : LoadedText) : Type 0 where
-  pub files_are : loaded.files ≡ files
-  pub joined : List Entry
-  pub whole : IsJoined stated joined old files before after
-  pub graph_is : IsGraphOf loaded.graph joined
-
--- by the files that were read before and now
-abbrev pub JoinedOr : (stated : List Entry) → (old files : List Reading) → (before after : SourceState)
-    → Result LoadedText GraphFault → Type 0
-JoinedOr stated old files before after (Ok loaded) = JoinsGraph stated old files before after loaded
-JoinedOr stated old files before after (Err fault) = JoiningFails stated old files before after fault
-
--- These files were also read from the source, each path once; by them all is joined, or the first fault is answered.
+-- Dyndep files are joined to the statements of a run that has read the old files; what was read before is not read again.
 abbrev pub Joins : (stated : List Entry) → (old : List Reading) → (before after : SourceState) → Result LoadedText GraphFault → Type 0
-Joins stated old before after result =
-    (files : List Reading) × IsRead before after old files × JoinedOr stated old files before after result
+Joins stated old before after result = LoadsAfter old before after (joined_after old stated) result
 
 -- ---- laws
 
 -- What was joined stays joined: joining again changes no statement, and reaches no file.
 abbrev pub JoinedStaysJoined : Type 0
-JoinedStaysJoined = (files others : List Reading) (stated : List Entry) (joined : JoinedText)
+JoinedStaysJoined = (files others : List Reading) (stated : List Entry) (joined : ReachedText)
     → all_joined files stated ≡ joined → joined.read.end ≡ Whole
     → all_joined others joined.read.entries ≡ record { read = joined.read; paths = [] }

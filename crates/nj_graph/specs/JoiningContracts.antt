@@ -18,9 +18,9 @@ use Rattle.nj_build.specs.EdgeList.{Pending}
 use Rattle.nj_build.specs.Joining.{lacking_fault}
 use Rattle.nj_build.specs.JoiningHeld.{JoiningText, HoldsJoined}
 use Rattle.nj_graph.specs.Reading.{End, Whole, Refused}
-use Rattle.nj_graph.specs.Runs.{IsRead, IsEnd, IsLacking, paths_with}
+use Rattle.nj_graph.specs.Runs.{IsRead, IsEnd, IsLacking, paths_with, Stops}
 use Rattle.nj_graph.specs.ReaderContracts.{ReadsAll}
-use Rattle.nj_graph.specs.Joining.{end_by, text_joined, path_asked, file_joined, all_joined, with_all_new, JoiningLacksMemory, JoiningEnds}
+use Rattle.nj_graph.specs.Joining.{end_by, text_joined, path_asked, file_joined, all_joined, with_all_new, joined_after}
 
 -- ---- the name of a file
 
@@ -117,7 +117,7 @@ pub record FilesJoined (stated : List Entry) (before after : SourceState) (old t
 pub record FilesStop (stated : List Entry) (before after : SourceState) (old : List Reading) (fault : GraphFault) : Type 0 where
   pub files : List Reading
   pub reads : IsRead before after old files
-  pub stops : JoiningLacksMemory stated old files before after fault ⊎ JoiningEnds stated old files before after fault
+  pub stops : Stops before after files (joined_after old stated) fault
 
 abbrev pub JoinsFiles : (stated : List Entry) → (before after : SourceState) → (old table : List Reading) → JoiningText
     → Result (Unit {0}) GraphFault → Type 0

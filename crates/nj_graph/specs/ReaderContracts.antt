@@ -34,6 +34,7 @@ use Rattle.nj_graph.specs.Graph.{IsOpenScope}
 use Rattle.nj_graph.specs.Reading.{Site, included_site, subninja_site, own_fault, Whole, ReadingText, Opens, opened_in, statement_read}
 use Rattle.nj_graph.specs.Reading.{text_read, path_named, with_new, paths_read}
 use Rattle.nj_graph.specs.Runs.{IsRead, Stops}
+use Rattle.nj_graph.specs.Loads.{reached_from}
 
 -- ---- what is held
 
@@ -108,7 +109,7 @@ pub record StopsAt (main : List ℕ) (before after : SourceState) (old : List Re
     (fault : GraphFault) : Type 0 where
   pub files : List Reading
   pub reads : IsRead before after old files
-  pub stops : Stops main before after files reading fault
+  pub stops : Stops before after files (λ all. reached_from main (reading all)) fault
 
 -- the path that a word says, or its fault
 abbrev pub SaysPath : {Z : Type 0} → Option GraphFault → (says : List ℕ) → Result (String Z) GraphFault → Type 0

@@ -2,11 +2,10 @@
 use Rattle.std.specs.Prelude.{◌≡◌, ◌⊎◌, ℕ, false, Some, List, [], ◌∷◌, ◌++◌, ⊤}
 use Rattle.nj_scope.specs.Readings.{Reading, EachPathOnce, is_read, paths_of, IsPrefix}
 use Rattle.nj_scope.specs.Sources.{SourceState, HasRead, Rises}
-use Rattle.nj_scope.specs.ReadingList.{Entry}
 use Rattle.nj_faults.specs.declared.fault.GraphFault.{GraphFault}
 use Rattle.nj_faults.specs.declared.fault.Cause.TheVariants.{Io}
 use Rattle.nj_faults.specs.Faults.{no_memory}
-use Rattle.nj_graph.specs.Reading.{End, Whole, Refused, Lacking, ReadingText, paths_come_to}
+use Rattle.nj_graph.specs.Reading.{End, Whole, Refused, Lacking, ReadingText}
 
 -- What was read from the source is appended to the earlier files, each path once.
 pub record IsRead (before after : SourceState) (old files : List Reading) : Type 0 where
@@ -36,23 +35,25 @@ paths_with Whole files = paths_of files
 paths_with (Refused fault) files = paths_of files
 paths_with (Lacking path place) files = paths_of files ++ path ∷ []
 
+-- What is read by some files: the statements, and how that ends; and the paths that it reaches, the one at its end among them.
+pub record ReachedText : Type 0 where
+  pub read : ReadingText
+  pub paths : List (List ℕ)
+
 -- By these files the reading ends as was answered, whatever other files hold; and all paths that it reaches were read.
-pub record EndsSo (main : List ℕ) (before after : SourceState) (files : List Reading) (reading : List Reading → ReadingText)
-    (fault : GraphFault) : Type 0 where
-  pub entries : List Entry
-  pub end : End
-  pub answered : IsEnd before after end fault
-  pub read : (all : List Reading) → IsPrefix files all → IsLacking end all → reading all ≡ record { entries = entries; end = end }
-  pub came_to : paths_come_to main (record { entries = entries; end = end }) ≡ paths_with end files
+pub record EndsSo (before after : SourceState) (files : List Reading) (reading : List Reading → ReachedText) (fault : GraphFault)
+    : Type 0 where
+  pub reached : ReachedText
+  pub answered : IsEnd before after reached.read.end fault
+  pub read : (all : List Reading) → IsPrefix files all → IsLacking reached.read.end all → reading all ≡ reached
+  pub came_to : reached.paths ≡ paths_with reached.read.end files
 
 -- Out of memory. The paths that were read are those that the reading reaches first, and the source did not fail.
-pub record LacksMemory (main : List ℕ) (before after : SourceState) (files : List Reading) (reading : List Reading → ReadingText)
-    (fault : GraphFault) : Type 0 where
+pub record LacksMemory (before after : SourceState) (files : List Reading) (reading : List Reading → ReachedText) (fault : GraphFault)
+    : Type 0 where
   pub answered : fault ≡ no_memory
   pub failures : after.failures ≡ before.failures
-  pub came_to : (all : List Reading) → IsPrefix files all → IsPrefix (paths_of files) (paths_come_to main (reading all))
+  pub came_to : (all : List Reading) → IsPrefix files all → IsPrefix (paths_of files) (reading all).paths
 
-abbrev pub Stops : (main : List ℕ) → (before after : SourceState) → (files : List Reading)
-    → (reading : List Reading → ReadingText) → GraphFault → Type 0
-Stops main before after files reading fault =
-    LacksMemory main before after files reading fault ⊎ EndsSo main before after files reading fault
+abbrev pub Stops : (before after : SourceState) → (files : List Reading) → (reading : List Reading → ReachedText) → GraphFault → Type 0
+Stops before after files reading fault = LacksMemory before after files reading fault ⊎ EndsSo before after files reading fault
