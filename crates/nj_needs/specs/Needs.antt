@@ -1,15 +1,15 @@
 -- What edges need. Edges (the build statements) are numbered from 0, and `makers e` holds for each input of edge e, in order,
 -- the edge that makes it, or None for a source. A list of targets is a row of the same kind.
 use Rattle.std.specs.Prelude.{ℕ, ◌<◌, Option, Some, List, Contains}
+use Rattle.nj_order.specs.Cycles.{Chain}
 
 -- edge e needs edge f directly: f makes an input of e
 abbrev pub Needs : (makers : ℕ → List (Option ℕ)) → ℕ → ℕ → Type 0
 Needs makers e f = Contains (makers e) (Some f)
 
 -- edge e needs edge f in one step or more
-pub data NeedsByChain (makers : ℕ → List (Option ℕ)) : ℕ → ℕ → Type 0 where
-  directly : {e f : ℕ} → Needs makers e f → NeedsByChain makers e f
-  through : {e g f : ℕ} → Needs makers e g → NeedsByChain makers g f → NeedsByChain makers e f
+abbrev pub NeedsByChain : (makers : ℕ → List (Option ℕ)) → ℕ → ℕ → Type 0
+NeedsByChain makers = Chain (Needs makers)
 
 -- the edges without which the targets cannot be made
 pub data Reached (makers : ℕ → List (Option ℕ)) (targets : List (Option ℕ)) : ℕ → Type 0 where
