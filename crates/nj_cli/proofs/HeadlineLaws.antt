@@ -20,7 +20,7 @@ use Rattle.nj_needs.proofs.PlaceLaws.{first-places_are_one}
 use Rattle.nj_needs.proofs.Striking.{without-none}
 use Rattle.nj_request.specs.Requests.{ActionText, commands, single_commands, start_of}
 use Rattle.nj_request.specs.Requests as ask
-use Rattle.nj_request.specs.RunMarks.{run_mark_text, said_run_mark}
+use Rattle.nj_request.specs.RunMarks.{run_mark_text}
 use Rattle.nj_request.proofs.RunMarks.{run-mark_reads_back}
 use Rattle.nj_request.specs.declared.faults.UsageFault.TheVariants.{BadMark}
 use Rattle.nj_tools.specs.Compdb.{unheld_edge}

@@ -5,7 +5,7 @@ use Rattle.std.specs.Borrow.{Bor}
 use Rattle.std.proofs.lemmas.Bool.Decides.{nat_tests}
 use Rattle.std.specs.List.{slice_split, onto_first}
 use Rattle.std.proofs.lemmas.List.Splits.{slice_split-cons_no}
-use Rattle.nj_marks.specs.Marks.{mark_text, said_mark, number_of, and_then, numbers_in, is_dot, ReadsBack}
+use Rattle.nj_marks.specs.Marks.{said_mark, number_of, and_then, numbers_in, is_dot, ReadsBack}
 use Rattle.nj_request.specs.RunMarks.{run_mark_text, said_run_mark, RunMarksAreApart}
 
 -- a mark that reads back from its text reads back as the mark of a run, of either kind

@@ -1,4 +1,4 @@
-use Rattle.std.proofs.Common.{arith, ◌<◌}
+use Rattle.std.proofs.Common.{arith}
 use Rattle.std.proofs.lemmas.Str.Pattern.{strip_prefix_char}
 use Rattle.nj_request.proofs.RunMarks.{no_mark-without_letter}
 use Rattle.nj_request.proofs.requests.mark_in.Goals as goal
