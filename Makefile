@@ -3,8 +3,11 @@ PROGRAM := crates/ninja_explain
 BUILT := $(PROGRAM)/out/ninja_explain
 PROJECT := examples/project
 FILES := $(shell cd $(PROJECT) && find * -type f)
-# How many crates are proved side by side, each on one processor and in at most 3 GB.
+# How many crates are proved side by side, each on one processor and in at most 3 GB, and how many
+# runs of the sweeps go on at once.
 JOBS ?= $(shell nproc)
+# The sweeps that take seconds; docs/RELIABILITY.md says what each of them tries.
+SWEEPS := memory calls texts sizes
 
 # Where `make install` puts things; DESTDIR stands before all of it.
 PREFIX ?= /usr/local
@@ -15,7 +18,7 @@ INSTALLED_BASH := $(SHARE)/bash-completion/completions/ninja-explain
 INSTALLED_ZSH := $(SHARE)/zsh/site-functions/_ninja-explain
 INSTALLED_FISH := $(SHARE)/fish/vendor_completions.d/ninja-explain.fish
 
-.PHONY: all run test smoke install uninstall clean
+.PHONY: all run test smoke sweep install uninstall clean
 
 # Proves and builds the program, and leaves it as bin/ninja-explain. The crates that it stands on are
 # proved side by side; the last line builds it over what was proved.
@@ -36,7 +39,8 @@ test:
 
 # Runs the built program on real files, and looks whether docs/ARCHITECTURE.md names every module,
 # each type with a private field has a model, the man page and the completions have every tool and
-# option, and names that collide under a known number cost no more than others.
+# option, and names that collide under a known number cost no more than others. Last come the sweeps
+# that take seconds.
 smoke: $(BUILT)
 	@status=0; \
 	python3 scripts/check_docs.py || status=1; \
@@ -44,6 +48,19 @@ smoke: $(BUILT)
 	python3 scripts/check_words.py $(BUILT) || status=1; \
 	python3 scripts/check_flood.py $(BUILT) || status=1; \
 	python3 scripts/smoke.py $(BUILT) || status=1; \
+	for sweep in $(SWEEPS); do \
+	python3 scripts/sweep_$$sweep.py --jobs $(JOBS) $(BUILT) || status=1; \
+	done; \
+	exit $$status
+
+# Makes everything fail once that can fail, changes each byte of small projects, runs every tool over
+# 100,000 edges, and last the program over 100,000 hostile manifests.
+sweep: $(BUILT)
+	@status=0; \
+	for sweep in $(SWEEPS); do \
+	python3 scripts/sweep_$$sweep.py --jobs $(JOBS) $(BUILT) || status=1; \
+	done; \
+	python3 scripts/sweep_strangers.py --cases 100000 --jobs $(JOBS) $(BUILT) || status=1; \
 	exit $$status
 
 # `make` and `make test` leave it.

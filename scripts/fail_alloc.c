@@ -1,33 +1,75 @@
-/* For smoke.py, which preloads it: the allocation of the number FAIL_ALLOC, counted from 1, fails,
-   and no other one does. Then the file FAIL_ALLOC_TOLD is made. */
+/* For sweep_memory.py, which preloads it: the allocation of the number FAIL_ALLOC, counted from 1,
+   fails, and if FAIL_ALLOC_AFTER is set so does each after it. When the first one fails, the file
+   FAIL_ALLOC_TOLD is made. The program calls `malloc` and `realloc` alone; the others are here for
+   one that would not. */
+#include <errno.h>
 #include <fcntl.h>
 #include <stddef.h>
 #include <stdlib.h>
+#include <sys/syscall.h>
 #include <unistd.h>
 
 extern char **environ;
 extern void *__libc_malloc(size_t);
+extern void *__libc_calloc(size_t, size_t);
 extern void *__libc_realloc(void *, size_t);
+extern void *__libc_memalign(size_t, size_t);
 
 static long count;
+static long first;
+
+/* By a call of the system itself, as `open` may be another library's that is preloaded. */
+static void tell(void) {
+    const char *told = getenv("FAIL_ALLOC_TOLD");
+    long file = told ? syscall(SYS_openat, AT_FDCWD, told, O_CREAT | O_WRONLY, 0600) : -1;
+    if (file >= 0) {
+        syscall(SYS_close, file);
+    }
+}
 
 static int fails(void) {
-    const char *number = environ ? getenv("FAIL_ALLOC") : NULL;
-    if (!number || ++count != atol(number)) {
-        return 0;
+    if (!first) {
+        const char *number = environ ? getenv("FAIL_ALLOC") : NULL;
+        if (!number) {
+            return 0;
+        }
+        first = atol(number);
     }
-    const char *told = getenv("FAIL_ALLOC_TOLD");
-    int file = told ? open(told, O_CREAT | O_WRONLY, 0600) : -1;
-    if (file >= 0) {
-        close(file);
+    count++;
+    if (count == first) {
+        tell();
     }
-    return 1;
+    if (count == first || (count > first && getenv("FAIL_ALLOC_AFTER"))) {
+        errno = ENOMEM;
+        return 1;
+    }
+    return 0;
 }
 
 void *malloc(size_t size) {
     return fails() ? NULL : __libc_malloc(size);
 }
 
+void *calloc(size_t number, size_t size) {
+    return fails() ? NULL : __libc_calloc(number, size);
+}
+
 void *realloc(void *old, size_t size) {
     return fails() ? NULL : __libc_realloc(old, size);
+}
+
+void *aligned_alloc(size_t alignment, size_t size) {
+    return fails() ? NULL : __libc_memalign(alignment, size);
+}
+
+int posix_memalign(void **made, size_t alignment, size_t size) {
+    if (fails()) {
+        return ENOMEM;
+    }
+    void *memory = __libc_memalign(alignment, size);
+    if (!memory) {
+        return ENOMEM;
+    }
+    *made = memory;
+    return 0;
 }

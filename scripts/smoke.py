@@ -3,7 +3,7 @@
 
 Prints what differs from what it should be, and nothing else. The status is 1 if anything differs.
 Where Ninja is installed, what the tools write of a project of 22 files is compared with what it
-writes. Where `cc` is, each allocation of some runs fails in turn.
+writes.
 """
 
 import json
@@ -295,41 +295,6 @@ def compare_databases(folder, words):
         failures.append(f"project, compdb {words}: the objects are not those of Ninja")
 
 
-def try_memory(room):
-    """Each allocation fails in turn, in runs over the project of the examples: the answer is that
-    of ample memory, or a beginning of it and one line."""
-    library, told = Path(room) / "fail_alloc.so", Path(room) / "told"
-    compiler = ["cc", "-O2", "-shared", "-fPIC", "-o", library, SCRIPTS / "fail_alloc.c"]
-    subprocess.run(compiler, check=True)
-    for words in (
-        [*COMMANDS, "--take", "2"],
-        [*COMMANDS, "--resume", "0.0", "test"],
-        [*COMMANDS, "-s", "main.c^"],
-        [*COMMANDS, "nothing"],
-        [*COMMANDS, "--validations", "--take", "2"],
-        ["-t", "inputs", "test"],
-        ["-t", "inputs", "--dependency-order", "--no-shell-escape", "--print0"],
-        ["-t", "targets", "depth", "0"],
-        ["-t", "targets", "all"],
-        ["-t", "targets", "rule", "cc"],
-        ["-t", "targets", "rule"],
-        ["-t", "query", "out/libtext.a", "main.c^"],
-        ["-t", "rules", "-d"],
-        ["-t", "compdb", "-x", "cc", "link"],
-    ):
-        ample, number = run(PROJECT, words), 0
-        told.touch()
-        while told.exists():
-            told.unlink()
-            number += 1
-            preloaded = {"LD_PRELOAD": str(library), "FAIL_ALLOC": str(number)}
-            fails = {**os.environ, **preloaded, "FAIL_ALLOC_TOLD": str(told)}
-            ran = run(PROJECT, words, env=fails)
-            lacks = ran[0] == FAULT and ran[2] == b"ninja-explain: out of memory\n"
-            if ran != ample and not (lacks and ample[1].startswith(ran[1])):
-                failures.append(f"{words}, allocation {number} fails: it answers {ran}")
-
-
 def try_large(folder):
     manifest, wanted = chain()
     expect("chain from standard input", run(folder, [], input=manifest), (DONE, wanted, b""))
@@ -360,8 +325,6 @@ def main():
         try_checks(folder)
         try_styles(folder)
         try_project(folder)
-        if shutil.which("cc"):
-            try_memory(room)
         try_large(folder)
     for failure in failures:
         print(f"smoke: {failure}")

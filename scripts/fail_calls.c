@@ -1,0 +1,97 @@
+/* For sweep_calls.py, which preloads it. Of the calls of the kind FAIL_CALL the one of the number
+   FAIL_AT, counted from 1, fails with the error FAIL_ERRNO; or it takes at most FAIL_MOST bytes, if
+   that is set. If FAIL_AT is 0, each does. The kinds are `open`, `read`, `statx`, `close`,
+   `getentropy`, and `output` and `error`, which are the calls of `write` to these two.
+
+   When a call is first made to fail, the number of calls of `open` so far is written to the file
+   FAIL_TOLD. All is done by calls of the system itself. */
+#define _GNU_SOURCE
+#include <errno.h>
+#include <fcntl.h>
+#include <stdio.h>
+#include <stdlib.h>
+#include <string.h>
+#include <sys/stat.h>
+#include <sys/syscall.h>
+#include <unistd.h>
+
+static long calls;
+static long opened;
+
+static void tell(void) {
+    char line[32];
+    int length = snprintf(line, sizeof line, "%ld\n", opened);
+    long file = syscall(SYS_openat, AT_FDCWD, getenv("FAIL_TOLD"), O_CREAT | O_WRONLY, 0600);
+    syscall(SYS_write, file, line, length);
+    syscall(SYS_close, file);
+}
+
+/* Whether this call, of the kind, is one that is meant. */
+static int is_meant(const char *kind) {
+    const char *wanted = getenv("FAIL_CALL");
+    if (!wanted || strcmp(wanted, kind) != 0) {
+        return 0;
+    }
+    calls++;
+    long number = atol(getenv("FAIL_AT"));
+    if (number != 0 && number != calls) {
+        return 0;
+    }
+    if (number == calls || calls == 1) {
+        tell();
+    }
+    return 1;
+}
+
+/* Whether this call fails; then `errno` is set. */
+static int fails(const char *kind) {
+    if (getenv("FAIL_MOST") || !is_meant(kind)) {
+        return 0;
+    }
+    errno = atoi(getenv("FAIL_ERRNO"));
+    return 1;
+}
+
+/* How many of the bytes this call takes. */
+static size_t taken(const char *kind, size_t size) {
+    const char *text = getenv("FAIL_MOST");
+    if (!text || !is_meant(kind)) {
+        return size;
+    }
+    size_t most = strtoul(text, NULL, 10);
+    return size < most ? size : most;
+}
+
+int open(const char *path, int flags, ...) {
+    opened++;
+    return fails("open") ? -1 : syscall(SYS_openat, AT_FDCWD, path, flags, 0);
+}
+
+ssize_t read(int file, void *bytes, size_t size) {
+    return fails("read") ? -1 : syscall(SYS_read, file, bytes, taken("read", size));
+}
+
+ssize_t write(int file, const void *bytes, size_t size) {
+    const char *kind = file == STDERR_FILENO ? "error" : "output";
+    if (fails(kind)) {
+        return -1;
+    }
+    size_t most = taken(kind, size);
+    return most == 0 ? 0 : syscall(SYS_write, file, bytes, most);
+}
+
+int statx(int file, const char *path, int flags, unsigned mask, struct statx *found) {
+    return fails("statx") ? -1 : syscall(SYS_statx, file, path, flags, mask, found);
+}
+
+int close(int file) {
+    int result = syscall(SYS_close, file);
+    return fails("close") ? -1 : result;
+}
+
+int getentropy(void *bytes, size_t size) {
+    if (fails("getentropy")) {
+        return -1;
+    }
+    return syscall(SYS_getrandom, bytes, size, 0) == (long)size ? 0 : -1;
+}

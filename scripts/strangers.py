@@ -1,0 +1,291 @@
+"""Hostile manifests, with words for the program. Each is made of a number, its seed, alone.
+
+Most change bytes and lines of real projects: they are deleted, doubled, swapped and spliced. Others
+read themselves, have long lines, deep and wide graphs, values that grow, dyndep files in which
+little is right, and names that collide where hashes start from 0.
+"""
+
+import random
+import shutil
+import sys
+import tempfile
+
+import sweeps
+from smoke_project import project
+from sweeps import EXAMPLES, MAIN, PROJECTS, texts_below
+
+sys.path.insert(0, str(sweeps.SCRIPTS.parent / "bench"))
+import flood  # noqa: E402
+
+COLLIDING, BITS = 400, 6
+# Bytes and words that mean something to the reader of a manifest.
+BYTES = [b"\0", b"\t", b"\r", b"\r\n", b"\n", b" ", b"  ", b"\xff", b"\xc3\xa9", b"\xef\xbb\xbf"]
+ESCAPES = [b"$", b"$\n", b"$\r\n  ", b"$$", b"$ ", b"$:", b"${", b"$in", b"${in_newline}", b"$x"]
+SIGNS = [b":", b"|", b"||", b"|@", b"|@@", b"=", b"#", b"}", b"/", b"..", b"./", b"'", b'"', b"^"]
+NUMBERS = [b"0", b"-1", b"2147483648", b"99999999999999999999"]
+KEYWORDS = [b"build", b"rule", b"pool", b"default", b"include", b"subninja", b"phony", b"console"]
+VARIABLES = [b"command", b"depth", b"dyndep", b"restat", b"rspfile", b"ninja_dyndep_version = 1"]
+PIECES = [*BYTES, *ESCAPES, *SIGNS, *NUMBERS, *KEYWORDS, *VARIABLES]
+LINES = """\
+include build.ninja
+subninja build.ninja
+include .
+include dd
+subninja s
+include /dev/null
+include nothing
+include ${x}
+rule phony
+pool console
+  dyndep = dd
+  pool = $in
+  command = $command
+  command = mk $in $out
+  depth = $x
+  restat = 1
+  rspfile = $out.rsp
+  rspfile_content = $in_newline
+default $x
+build: phony
+build x: phony || x
+build o$: p: mk
+build a b | c: mk d | e || f |@ g
+rule mk
+x = $x$x$x
+ninja_required_version = 1.9.9
+ninja_dyndep_version = 1""".encode().split(b"\n")
+# Parts of which long lines are made, and what they are put into.
+LONG = [b"a", b"/", b"../", b"a/../", b"$x", b"$ ", b"$$", b"a ", b"$\n", b"'"]
+AROUND_LONG = [
+    b"build o: phony %s",
+    b"build o: phony | %s",
+    b"build %s: phony",
+    b"x = %s",
+    b"%s = x",
+    b"rule %s\n  command = c",
+    b"rule r\n  command = %s\nbuild o: r",
+    b"pool %s\n  depth = 1",
+    b"include %s",
+    b"default %s",
+    b"# %s",
+    b"ninja_required_version = 1.%s",
+]
+AROUND_GROWN = [
+    b"rule r\n  command = c $v%d\nbuild o: r\n",
+    b"rule r\n  command = c\nbuild o: r\n  pool = $v%d\n",
+    b"build $v%d: phony\n",
+    b"include $v%d\n",
+    b"ninja_required_version = $v%d\n",
+]
+HOSTILE_WORDS = ["", "^", "a^^", "..", ".", "/", "./a", "a/..", "\xff", "é", "-", "a b", "x" * 5000]
+MARKS = ["start", "0", "0.0", "0.1.0", "1.0", "0." * 1000 + "0", "", "00", "0..0", "vstart", "v0.0"]
+VIEWS = ["", "all", "rule", "rule mk", "depth", "depth 0", "depth 2", "depth 3000000000", "some"]
+
+
+def real_projects():
+    """The texts of real projects, by the names of their files."""
+    found = [dict(each.files) for each in PROJECTS.values()]
+    found.append(texts_below(EXAMPLES / "hello"))
+    found.append({name: text.encode() for name, text in project().items()})
+    return found
+
+
+def colliding_names():
+    """Names that collide where hashes start from 0; others if there is no `cc` to find them."""
+    if not shutil.which("cc"):
+        return flood.other_names(COLLIDING)
+    with tempfile.TemporaryDirectory() as folder:
+        return flood.colliding_names(folder, COLLIDING, BITS)
+
+
+class Maker:
+    """Makes cases of their seeds."""
+
+    def __init__(self):
+        self.real, self.colliding = real_projects(), colliding_names()
+        texts = [text for files in self.real for text in files.values()]
+        self.lines = [line for text in texts for line in text.split(b"\n")]
+
+    def case(self, seed):
+        """The files, the words, and whether the run may take any time: a tree of targets may, and
+        what is expanded may grow without bound."""
+        self.chance = random.Random(seed)
+        kinds = {
+            self.changed: 40,
+            self.of_pieces: 15,
+            self.bound_to_dyndeps: 8,
+            self.reading_itself: 5,
+            self.with_a_long_line: 5,
+            self.deep: 3,
+            self.wide: 3,
+            self.doubling: 3,
+            self.growing: 3,
+            self.of_collisions: 2,
+        }
+        make = self.chance.choices(list(kinds), list(kinds.values()))[0]
+        files = make()
+        if make != self.changed and self.chance.random() < 0.3:
+            files = self.change(files)
+        words = self.words(files)
+        return files, words, "depth" in words or make == self.growing
+
+    def pick(self, choices):
+        return self.chance.choice(choices)
+
+    # ---- changes of what is there
+
+    def changed(self):
+        return self.change(self.pick(self.real))
+
+    def change(self, files):
+        """The files with some places in them changed."""
+        files = dict(files)
+        for _ in range(self.pick([1, 1, 1, 2, 3, 5, 8])):
+            name = self.pick(list(files))
+            change = self.pick([self.change_bytes, self.change_lines])
+            files[name] = change(files[name])
+        return files
+
+    def change_bytes(self, text):
+        """Deletes, doubles, turns round or replaces some bytes, or puts others before them."""
+        start = self.chance.randint(0, len(text))
+        end = min(len(text), start + self.pick([0, 1, 1, 2, 5, 20]))
+        part, piece = text[start:end], self.pick(PIECES)
+        made = self.pick([b"", part + part, part[::-1], piece, piece + part])
+        return text[:start] + made + text[end:]
+
+    def change_lines(self, text):
+        """Deletes, doubles, swaps, moves or indents a line, cuts the text off before it, or puts a
+        line of another text before it."""
+        lines = text.split(b"\n")
+        at, other = self.chance.randrange(len(lines)), self.chance.randrange(len(lines))
+        line = lines[at]
+        kind = self.pick(["delete", "double", "swap", "move", "indent", "cut", "hostile", "splice"])
+        if kind == "delete":
+            del lines[at]
+        elif kind == "double":
+            lines.insert(at, line)
+        elif kind == "swap":
+            lines[at], lines[other] = lines[other], line
+        elif kind == "move":
+            lines.insert(other, lines.pop(at))
+        elif kind == "indent":
+            lines[at] = line.lstrip() if line.startswith(b" ") else b"  " + line
+        elif kind == "cut":
+            lines = lines[:at]
+        else:
+            lines.insert(at, self.pick(LINES if kind == "hostile" else self.lines))
+        return b"\n".join(lines)
+
+    # ---- what is made anew
+
+    def of_pieces(self):
+        """Pieces of texts in any order."""
+        pieces = [*PIECES, *[b"\n", b" ", b"a", b"b", b"o"] * 3]
+        text = b"".join(self.chance.choices(pieces, k=self.chance.randint(0, 60)))
+        lines = b"\n".join(self.chance.choices(LINES, k=self.chance.randint(0, 12)))
+        texts = [text, lines, lines + b"\n" + text]
+        return {name: self.pick(texts) for name in (MAIN, "s", "dd")}
+
+    def reading_itself(self):
+        """Files that read one another, in a ring or in a chain, and small ones many times."""
+        keyword, ends = self.pick([b"include", b"subninja"]), self.pick([True, False])
+        size = self.pick([1, 2, 3, 31, 32, 33, 40])
+        times = self.pick([1, 2, 3]) if size < 12 else 1
+        names = [MAIN, *(f"f{number}" for number in range(1, size))]
+        next_ones = [*names[1:], self.pick(names)]
+        texts = [keyword + b" " + name.encode() + b"\n" for name in next_ones]
+        if ends:
+            texts[-1] = b"x = $x.\n"
+        return {name: text * times for name, text in zip(names, texts)}
+
+    def with_a_long_line(self):
+        """A word, a name, a value or a join of many bytes."""
+        long = self.pick(LONG) * self.pick([500, 5000, 50_000])
+        return {MAIN: self.pick(AROUND_LONG) % long + self.pick([b"", b"\n"])}
+
+    def deep(self):
+        """A chain of edges, the last of which may need one of them, or itself."""
+        size = self.pick([100, 3000, 20_000])
+        kind = self.pick([b"", b" |", b" ||", b" |@"])
+        lines = [b"build e%d: mk%s e%d\n" % (i, kind, i + 1) for i in range(size - 1)]
+        end = self.pick([b"", b" e0", b" e%d" % (size - 1), b" e%d" % (size // 2)])
+        lines.append(b"build e%d: mk%s%s\n" % (size - 1, kind, end))
+        return {MAIN: b"rule mk\n  command = mk $out\n" + b"".join(lines)}
+
+    def wide(self):
+        """A line of many words, and many edges that need one file."""
+        size = self.pick([100, 3000, 20_000])
+        words = b" ".join(b"n%d" % number for number in range(size))
+        users = [b"build u%d: phony n0\n" % number for number in range(size // 10)]
+        form = self.pick([b"build all: phony %s\n", b"build %s: phony\n", b"default %s\n"])
+        return {MAIN: b"".join(self.pick([[form % words, *users], [*users, form % words]]))}
+
+    def doubling(self):
+        """Edges of which each needs the one before it twice: their tree doubles at each level."""
+        form = self.pick([b"build e%d: mk e%d e%d\n", b"build e%d: mk e%d | ./e%d\n"])
+        lines = [form % (i + 1, i, i) for i in range(self.pick([5, 30, 300]))]
+        return {MAIN: b"rule mk\n  command = mk $in\nbuild e0: mk\n" + b"".join(lines)}
+
+    def growing(self):
+        """Values of which each holds the one before it many times."""
+        size, times = self.pick([3, 20, 60]), self.pick([2, 3, 10])
+        lines = [b"v%d = %s\n" % (i + 1, b"$v%d" % i * times) for i in range(size)]
+        return {MAIN: b"v0 = x\n" + b"".join(lines) + self.pick(AROUND_GROWN) % size}
+
+    def of_collisions(self):
+        """A table of names that collide."""
+        names = self.colliding[: self.pick([50, COLLIDING])]
+        return {MAIN: "".join(self.pick(list(flood.TABLES.values()))(names, 2)).encode()}
+
+    def bound_to_dyndeps(self):
+        """Edges that are bound to two dyndep files, in which little is right."""
+        count = self.pick([1, 2, 5])
+        form = b"build o%d: mk i || d%d\n  dyndep = d%d\n"
+        edges = b"".join(form % (i, i % 2, i % 2) for i in range(count))
+        files = {MAIN: b"rule mk\n  command = mk $in $out\n" + edges}
+        for number in range(2):
+            lines = [b"ninja_dyndep_version = 1"]
+            for edge in range(number, count, 2):
+                made = self.pick([b"", b"", b" | m%d" % edge, b" | o0", b" | m"])
+                needed = self.pick([b"", b"", b" | h", b" | o%d" % (edge + 1), b" | o0"])
+                lines.append(b"build o%d%s: dyndep%s" % (edge, made, needed))
+                lines += self.pick([[], [], [b"  restat = 1"], [b"  depth = 1"]])
+            files[f"d{number}"] = b"\n".join(lines) + self.pick([b"", b"\n"])
+        return files
+
+    # ---- words
+
+    def words(self, files):
+        tools = ["commands"] * 4 + ["compdb"] * 2 + ["inputs", "targets", "query", "rules"]
+        tool = self.pick(tools)
+        words = [self.target(files) for _ in range(self.pick([0, 0, 0, 1, 1, 2]))]
+        if tool == "targets":
+            words = self.pick(VIEWS).split()
+        elif tool == "rules":
+            words = []
+        elif tool == "query" and not words:
+            words = [self.target(files)]
+        end = self.pick([[], ["--"]])
+        return ["-t", tool, *self.options(tool), *end, *words]
+
+    def target(self, files):
+        """A word of the main file that may be a target, or a hostile one."""
+        found = files[MAIN][:20_000].decode("latin-1").split() + HOSTILE_WORDS[:1]
+        word = self.pick(found if self.chance.random() < 0.8 else HOSTILE_WORDS)
+        return word.strip(":|").replace("\0", "")[:100_000] + self.pick(["", "", "", "^"])
+
+    def options(self, tool):
+        """Options of the tool, and now and then one that does not go with it."""
+        own = {
+            "commands": ["-s", f"--take={self.pick('01239x')}", f"--resume={self.pick(MARKS)}"],
+            "inputs": ["--print0", "--no-shell-escape", "--dependency-order", "--validations"],
+            "rules": ["-d", "-d"],
+            "compdb": ["-x", "--directory=/w", "--directory="],
+        }.get(tool, [])
+        validations = ["--validations"] if tool == "commands" else []
+        chosen = [option for option in own if self.chance.random() < 0.15]
+        chosen += [option for option in validations if self.chance.random() < 0.2]
+        chosen += ["--dyndep"] if self.chance.random() < 0.4 else []
+        foreign = ["-s", "-d", "-x", "--take=1", "--nothing", "--help", "-trules"]
+        return chosen + ([self.pick(foreign)] if self.chance.random() < 0.03 else [])

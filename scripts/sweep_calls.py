@@ -1,0 +1,194 @@
+#!/usr/bin/env python3
+"""Makes each call of the system that the program makes fail once: sweep_calls.py PROGRAM
+
+In runs of every tool each `open`, `read`, `statx`, `close`, `getentropy` and `write` fails in turn,
+with each of some errors, or takes fewer bytes than it is asked to; in some runs each takes fewer
+(fail_calls.c, which is compiled with `cc`). What may then differ from the run without, and how, is
+said from `wanted_open` on.
+
+Prints in how many runs each call was made to fail, and each run that ends otherwise. The status is
+1 if there is one, or if a call was never made to fail.
+"""
+
+import errno
+import shutil
+import sys
+import tempfile
+from functools import partial
+from pathlib import Path
+
+import sweeps
+from sweeps import FAULT, MAIN, OUTPUT_FAILED, STOPPED, Ending
+
+# The errors with which a call fails, and to how many bytes it is cut short.
+ERRORS = {
+    "open": "ENOENT EINTR EACCES EIO EMFILE ENFILE ENOTDIR EISDIR ELOOP ENAMETOOLONG ENOMEM ENXIO",
+    "read": "EINTR EIO EAGAIN EISDIR EBADF ENOMEM",
+    "statx": "EIO EACCES ENOSYS ENOMEM EINTR",
+    "close": "EIO EINTR EBADF",
+    "getentropy": "EIO ENOSYS EFAULT EINTR",
+    "output": "EINTR EAGAIN EIO ENOSPC EPIPE EBADF EFBIG",
+    "error": "EINTR EAGAIN EIO ENOSPC EPIPE EBADF EFBIG",
+}
+MOST_BYTES = {"read": [1, 7], "output": [0, 1, 7], "error": [0, 1, 7]}
+EVERY = "each"
+EDGES = 8_000
+LONG = "long"
+
+
+def long_project():
+    """A chain of edges, whose files are read and written in many pieces."""
+    edges = "".join(f"build e{i}: mk e{i - 1}\n" for i in range(1, EDGES))
+    return sweeps.Project({MAIN: f"rule mk\n  command = mk $in $out\nbuild e0: mk\n{edges}"}, {})
+
+
+PROJECTS = {**sweeps.PROJECTS, LONG: long_project()}
+RUNS = {
+    **sweeps.RUNS,
+    LONG: [
+        "",
+        "-t commands",
+        "-t commands --take 6000",
+        "-t inputs",
+        "-t targets all",
+        "-t compdb",
+    ],
+}
+
+
+def ways():
+    """Each call with each way in which it can fail: an error by its name, or a number of bytes."""
+    for call, names in ERRORS.items():
+        for name in names.split():
+            yield call, name
+    for call, counts in MOST_BYTES.items():
+        for count in counts:
+            yield call, count
+
+
+# ---- what a run may answer
+
+
+def fault_of_opening(project, words, number, text):
+    """The end of a run whose opening of this number, from 1, gave the fault."""
+    name, place = list(project.places.items())[number - 1]
+    if number == 1 and "-f" in words:
+        name = words[words.index("-f") + 1]
+        place = f"{name}:1:1"
+    return Ending(FAULT, b"", f"{place}: {text} '{name}'\n".encode())
+
+
+def wanted_open(project, words, opened, way, usual):
+    """No such file is not found; an interrupted call is tried again; any other error is told."""
+    if way == "EINTR":
+        return usual
+    text = "cannot find" if way == "ENOENT" else "cannot read"
+    return fault_of_opening(project, words, opened, text)
+
+
+def wanted_read(project, words, opened, way, usual):
+    """Any error is told of the file that is read; fewer bytes change nothing."""
+    if isinstance(way, int):
+        return usual
+    return fault_of_opening(project, words, max(opened, 1), "cannot read")
+
+
+def output_is_wrong(ran, way, usual):
+    """A beginning of the output, and nothing more; only fewer bytes change nothing."""
+    if isinstance(way, int) and way > 0:
+        return ran != usual
+    ended = (ran.status, ran.error) == (OUTPUT_FAILED, b"")
+    return not (ended and usual.output.startswith(ran.output) and ran.output != usual.output)
+
+
+def error_is_wrong(ran, way, usual):
+    """A beginning of the line, and the same output. A lost mark is a failed output, and a lost
+    fault keeps its status."""
+    if isinstance(way, int) and way > 0:
+        return ran != usual
+    status = OUTPUT_FAILED if usual.status == STOPPED else usual.status
+    ended = (ran.status, ran.output) == (status, usual.output)
+    return not (ended and usual.error.startswith(ran.error) and ran.error != usual.error)
+
+
+def is_wrong(project, words, call, way, opened, ran, usual):
+    if call == "open":
+        return ran != wanted_open(project, words, opened, way, usual)
+    if call == "read":
+        return ran != wanted_read(project, words, opened, way, usual)
+    if call == "output":
+        return output_is_wrong(ran, way, usual)
+    if call == "error":
+        return error_is_wrong(ran, way, usual)
+    return ran != usual
+
+
+# ---- runs
+
+
+class Runs:
+    """Runs over one project with the same words."""
+
+    def __init__(self, program, library, name, words, folder):
+        self.program, self.library, self.words, self.folder = program, library, words, folder
+        self.name, self.project = name, PROJECTS[name]
+        self.project.write_to(folder)
+        self.told = Path(folder) / "told"
+        self.usual = self.run()
+
+    def run(self, **fails):
+        text = self.project.input_for(self.words)
+        return self.program.run(self.words, self.folder, text, **fails)
+
+    def run_failing(self, call, way, number):
+        """The end of a run, and how many files were opened before the call failed; `None` if it
+        made no call of this number."""
+        how = "FAIL_MOST" if isinstance(way, int) else "FAIL_ERRNO"
+        value = way if isinstance(way, int) else getattr(errno, way)
+        fails = {"FAIL_CALL": call, "FAIL_AT": str(number), how: str(value)}
+        self.told.unlink(missing_ok=True)
+        ran = self.run(LD_PRELOAD=self.library, FAIL_TOLD=str(self.told), **fails)
+        return ran, int(self.told.read_text()) if self.told.exists() else None
+
+    def failures_of(self, call, way):
+        """For each call of this kind in turn how the run ends in which it fails."""
+        number = 1
+        while (failed := self.run_failing(call, way, number))[1] is not None:
+            yield number, *failed
+            number += 1
+        if isinstance(way, int) and way > 0 and number > 1:
+            yield EVERY, *self.run_failing(call, way, 0)
+
+
+def try_run(program, library, task):
+    """Makes each call of a run fail in each way. Gives the counts, and what is wrong."""
+    name, words = task
+    counts, wrong = dict.fromkeys(ERRORS, 0), []
+    with tempfile.TemporaryDirectory() as folder:
+        runs = Runs(program, library, name, words, folder)
+        for call, way in ways():
+            for number, ran, opened in runs.failures_of(call, way):
+                counts[call] += 1
+                if is_wrong(runs.project, words, call, way, opened, ran, runs.usual):
+                    case = f"{name}, {words}, {call} {number} by {way}"
+                    wrong.append(f"{case}: it answers {sweeps.shown(ran)}")
+    return counts, wrong
+
+
+def main():
+    words = sweeps.parser_of(__doc__.split("\n")[0]).parse_args()
+    if not shutil.which("cc"):
+        print("sweep_calls: left out, as there is no cc")
+        return 0
+    program, sweep = sweeps.Program(words.program), sweeps.Sweep("sweep_calls")
+    with tempfile.TemporaryDirectory() as room:
+        library = sweeps.compiled("fail_calls", room)
+        tasks = sweeps.runs_of(RUNS)
+        sweeps.in_parallel(sweep, words.jobs, partial(try_run, program, library), tasks)
+    never = [call for call in ERRORS if not sweep.counts[call]]
+    sweep.wrong += [f"{call} was never made to fail" for call in never]
+    return sweep.end()
+
+
+if __name__ == "__main__":
+    sys.exit(main())

@@ -1,0 +1,90 @@
+#!/usr/bin/env python3
+"""Changes each byte of small projects: sweep_texts.py PROGRAM
+
+Of two projects of two files, one of which has a dyndep file and the other lines that end in CR LF,
+each file is cut off after each of its bytes, and each byte is replaced in turn by NUL, a tab, CR
+and `$`. A run over the project has to give an answer, or one fault; and where the fault says that
+it is has to stand what such a fault is about, in that file or in the other one.
+
+Prints how many texts and runs were tried, and each run that ends otherwise. The status is 1 if
+there is one.
+"""
+
+import sys
+import tempfile
+from functools import partial
+
+import sweeps
+from sweeps import FAULT, MAIN, PROJECTS, Ending
+
+BYTES = {"NUL": b"\0", "a tab": b"\t", "CR": b"\r", "$": b"$"}
+WORDS = {
+    "dyndep file": [
+        "--dyndep -t commands",
+        "--dyndep -t inputs o",
+        "--dyndep -t query o extra",
+        "--dyndep -t compdb -x",
+        "-t commands",
+        "-t targets all",
+    ],
+    "generated": [
+        "-t commands",
+        "-t commands app",
+        "-t inputs",
+        "-t targets depth 0",
+        "-t query obj",
+        "-t rules -d",
+        "-t compdb -x",
+    ],
+}
+BAD_ESCAPE = b"build.ninja:1:5: bad $-escape (literal $ must be written as $$)\n"
+
+
+def changed(text):
+    """Each text that is made of this one, with what was done."""
+    for size in range(len(text)):
+        yield f"its first {size} bytes", text[:size]
+    for name, byte in BYTES.items():
+        for place in range(len(text)):
+            yield f"{name} as byte {place}", text[:place] + byte + text[place + 1 :]
+
+
+def try_file(program, task):
+    """Runs the program over each change of a file. Gives the counts, and what is wrong."""
+    name, changed_file = task
+    files, tried, wrong = dict(PROJECTS[name].files), 0, []
+    with tempfile.TemporaryDirectory() as folder:
+        sweeps.write_files(folder, files)
+        for tried, (what, text) in enumerate(changed(files[changed_file]), start=1):
+            sweeps.write_files(folder, {changed_file: text})
+            for words in WORDS[name]:
+                ran = program.run(words.split(), folder)
+                fault = sweeps.ending_is_wrong(ran, {**files, changed_file: text})
+                if fault or ran.status > FAULT:
+                    wrong.append(
+                        f"{name}, {changed_file}, {what}, {words}: "
+                        f"{fault or 'it is neither'}: {sweeps.shown(ran)}"
+                    )
+    return {"texts": tried, "runs": tried * len(WORDS[name])}, wrong
+
+
+def try_last_dollar(program):
+    """A text that ends in `$` has a bad escape there."""
+    with tempfile.TemporaryDirectory() as folder:
+        sweeps.write_files(folder, {MAIN: b"x = $"})
+        ran = program.run(["-t", "commands"], folder)
+    wrong = [] if ran == Ending(FAULT, b"", BAD_ESCAPE) else [f"x = $: it answers {ran}"]
+    return {"texts": 1, "runs": 1}, wrong
+
+
+def main():
+    words = sweeps.parser_of(__doc__.split("\n")[0]).parse_args()
+    program, sweep = sweeps.Program(words.program), sweeps.Sweep("sweep_texts")
+    tasks = [(name, file) for name in WORDS for file in PROJECTS[name].files]
+    sweeps.in_parallel(sweep, words.jobs, partial(try_file, program), tasks)
+    sweep.take(*try_last_dollar(program))
+    return sweep.end()
+
+
+if __name__ == "__main__":
+    sys.exit(main())
