@@ -6,7 +6,7 @@ FILES := $(shell cd $(PROJECT) && find * -type f)
 # How many crates are proved side by side, each on one processor and in at most 3 GB, and how many
 # runs of the sweeps go on at once.
 JOBS ?= $(shell nproc)
-# The sweeps that take seconds; docs/RELIABILITY.md says what each of them tries.
+# The sweeps that `make smoke` runs too; docs/RELIABILITY.md says what each of them tries.
 SWEEPS := memory calls texts sizes
 
 # Where `make install` puts things; DESTDIR stands before all of it.
@@ -39,8 +39,8 @@ test:
 
 # Runs the built program on real files, and looks whether docs/ARCHITECTURE.md names every module,
 # each type with a private field has a model, the man page and the completions have every tool and
-# option, and names that collide under a known number cost no more than others. Last come the sweeps
-# that take seconds.
+# option, and names that collide under a known number cost no more than others. Last come the short
+# sweeps.
 smoke: $(BUILT)
 	@status=0; \
 	python3 scripts/check_docs.py || status=1; \

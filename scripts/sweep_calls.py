@@ -183,8 +183,8 @@ def main():
     program, sweep = sweeps.Program(words.program), sweeps.Sweep("sweep_calls")
     with tempfile.TemporaryDirectory() as room:
         library = sweeps.compiled("fail_calls", room)
-        tasks = sweeps.runs_of(RUNS)
-        sweeps.in_parallel(sweep, words.jobs, partial(try_run, program, library), tasks)
+        task = partial(try_run, program, library)
+        sweeps.in_parallel(sweep, words.jobs, task, sweeps.runs_of(RUNS))
     never = [call for call in ERRORS if not sweep.counts[call]]
     sweep.wrong += [f"{call} was never made to fail" for call in never]
     return sweep.end()

@@ -124,15 +124,12 @@ def main():
     if shutil.which("cc"):
         with tempfile.TemporaryDirectory() as room:
             library = sweeps.compiled("fail_alloc", room)
-            runs = sweeps.runs_of(RUNS)
-            tasks = [(name, run, after) for name, run in runs for after in (False, True)]
-            sweeps.in_parallel(
-                sweep, words.jobs, partial(try_allocations, program, library), tasks
-            )
+            tasks = [(*run, after) for run in sweeps.runs_of(RUNS) for after in (False, True)]
+            task = partial(try_allocations, program, library)
+            sweeps.in_parallel(sweep, words.jobs, task, tasks)
     else:
         print("sweep_memory: no allocation is refused, as there is no cc")
-    tasks = room_tasks(program)
-    sweeps.in_parallel(sweep, words.jobs, partial(try_rooms, program), tasks)
+    sweeps.in_parallel(sweep, words.jobs, partial(try_rooms, program), room_tasks(program))
     return sweep.end()
 
 

@@ -205,11 +205,11 @@ def try_run(program, folders, task):
     return {"runs": 1}, [f"{name}, {about}: {', '.join(parts)} differ: {sweeps.shown(ran)}"]
 
 
-def tasks_of():
-    for name, answers in ANSWERS.items():
-        wanted = dict(answers())
-        for _, words in sweeps.runs_of({name: wanted}):
-            yield name, words, wanted[" ".join(words)]
+def tasks_of(answers):
+    """Each run as the name of its manifest, its words, and how it has to end."""
+    for name, of_manifest in answers.items():
+        for line, wanted in of_manifest():
+            yield name, line.split(), wanted
 
 
 def main():
@@ -219,8 +219,8 @@ def main():
         folders = {name: f"{room}/{name}" for name in FILES}
         for name, files in FILES.items():
             sweeps.write_files(folders[name], {file: text.encode() for file, text in files.items()})
-        tasks = tasks_of()
-        sweeps.in_parallel(sweep, words.jobs, partial(try_run, program, folders), tasks)
+        task = partial(try_run, program, folders)
+        sweeps.in_parallel(sweep, words.jobs, task, tasks_of(ANSWERS))
     return sweep.end()
 
 

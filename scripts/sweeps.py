@@ -251,9 +251,15 @@ RUNS = {
     "example": [
         "-t commands --take 2",
         "-t commands --resume 0.0 test",
+        "-t commands --validations --take 2",
         "-t commands -s main.c^",
+        "-t commands nothing",
         "-t inputs test",
+        "-t inputs --dependency-order --no-shell-escape --print0",
         "-t targets depth 0",
+        "-t targets all",
+        "-t targets rule cc",
+        "-t targets rule",
         "-t query out/libtext.a main.c^",
         "-t rules -d",
         "-t compdb -x cc link",
@@ -364,7 +370,7 @@ PLACED_FAULTS = [
     (rb"dyndep '.*' is not an input", LINE_START + rb"build"),
     (rb"cycle in rule variables at '[a-z_]+'", LINE_START + rb"build"),
     (
-        rb"ninja_required_version .* is newer than 1\.\d+",
+        rb"ninja_required_version .* is newer than 1\.12",
         LINE_START + rb"ninja_required_version",
     ),
     (rb"cannot (?:find|read) '.*'", ANYTHING),
@@ -493,9 +499,9 @@ def in_parallel(sweep, jobs, function, tasks):
             sweep.take(counts, wrong)
 
 
-def runs_of(runs):
-    """The runs of a table such as `RUNS` as pairs of a project's name and words."""
-    return [(name, line.split()) for name, lines in runs.items() for line in lines]
+def runs_of(table):
+    """The runs of a table such as `RUNS`, each as a project's name and words."""
+    return [(name, line.split()) for name, lines in table.items() for line in lines]
 
 
 def parser_of(description):
