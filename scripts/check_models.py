@@ -11,7 +11,7 @@ import sys
 from pathlib import Path
 
 ROOT = Path(__file__).resolve().parent.parent
-WITHOUT = {"nj_order": {"EdgeInputs"}}
+WITHOUT = {"nj_cycles": {"EdgeInputs"}}
 
 STRUCT = re.compile(r"^pub struct (\w+).*?(?:\{(.*?)^\}|\(([^;]*)\);|;$)", re.M | re.S)
 NAMED_FIELD = re.compile(r"^    (?!pub |ghost )\w[\w()]* ?\w*:", re.M)

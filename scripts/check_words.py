@@ -4,7 +4,7 @@
     check_words.py [PROGRAM]
 
 PROGRAM is the built program, else bin/ninja-explain. The options are those that
-crates/nj_request/specs/CommandLine.antt gives to `clap`; the tools, and the options that go with
+crates/nj_args/specs/CommandLine.antt gives to `clap`; the tools, and the options that go with
 each, are the table TOOLS below. The program is asked for each tool and option whether it agrees.
 The completion of bash is run, where bash is; the other two are read. The page has to have the text
 of each fault too, as the definitions write it.
@@ -22,7 +22,7 @@ from pathlib import Path
 
 ROOT = Path(__file__).resolve().parent.parent
 PROGRAM = os.path.abspath(sys.argv[1]) if len(sys.argv) > 1 else str(ROOT / "bin/ninja-explain")
-COMMAND_LINE = ROOT / "crates/nj_request/specs/CommandLine.antt"
+COMMAND_LINE = ROOT / "crates/nj_args/specs/CommandLine.antt"
 PAGE = ROOT / "man/ninja-explain.1"
 BASH = ROOT / "completions/ninja-explain.bash"
 ZSH = ROOT / "completions/_ninja-explain"
@@ -46,7 +46,7 @@ FAULT_TEXTS = {
     "crates/nj_faults/specs/FaultLines.antt": ["cause_text"],
     "crates/nj_faults/specs/Versions.antt": ["reader_version_text"],
     "crates/nj_manifest/specs/Faults.antt": ["wanted_text", "text_of"],
-    "crates/nj_request/specs/FaultLines.antt": ["fault_text"],
+    "crates/nj_args/specs/FaultLines.antt": ["fault_text"],
     "crates/nj_cli/specs/Answers.antt": ["out_of_range"],
 }
 REFUSED = ["-h", "--help", "-V", "--version", "-C", "--nothing"]

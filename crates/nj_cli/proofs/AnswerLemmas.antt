@@ -7,8 +7,8 @@ use Rattle.nj_edges.specs.declared.files.FileNo.{FileNo}
 use Rattle.nj_edges.specs.EdgeGraphs.{EdgeGraph}
 use Rattle.nj_edges.specs.Edges.{EdgePaths}
 use Rattle.nj_edges.specs.Files.{AreFiles, path_at}
-use Rattle.nj_build.specs.Built.{defaults_in_force}
-use Rattle.nj_build.specs.EdgeList.{defaults_read, edges_read}
+use Rattle.nj_statements.specs.Built.{defaults_in_force}
+use Rattle.nj_statements.specs.EdgeList.{defaults_read, edges_read}
 use Rattle.nj_faults.specs.declared.fault.GraphFault.{GraphFault}
 use Rattle.nj_faults.specs.FaultLines.{fault_line}
 use Rattle.nj_faults.specs.Faults.{no_memory}
@@ -23,8 +23,8 @@ use Rattle.nj_marks.specs.declared.fault.MarkFault.{MarkFault}
 use Rattle.nj_marks.specs.declared.fault.MarkFault.TheVariants as mark
 use Rattle.nj_needs.specs.Walks.{WalkState, BeginsAt, rest_of}
 use Rattle.nj_needs.proofs.Bridges.{paths-at, row-paths}
-use Rattle.nj_request.specs.Requests.{ActionText, commands, single_commands}
-use Rattle.nj_request.specs.Requests as ask
+use Rattle.nj_args.specs.Requests.{ActionText, commands, single_commands}
+use Rattle.nj_args.specs.Requests as ask
 use Rattle.nj_tools.specs.CommandTexts.{command_lines, written, left_after, StopsAt, single, own_commands_in, own_commands}
 use Rattle.nj_tools.specs.Sinks.{SinkState, Takes}
 use Rattle.nj_tools.specs.Compdb.{compdb_text, unheld_edge}

@@ -18,11 +18,11 @@ use Rattle.nj_needs.proofs.OrderLaws.{commands-reached, commands-once, commands-
 use Rattle.nj_needs.proofs.PageLaws.{mark-keeps_the_rest}
 use Rattle.nj_needs.proofs.PlaceLaws.{first-places_are_one}
 use Rattle.nj_needs.proofs.Striking.{without-none}
-use Rattle.nj_request.specs.Requests.{ActionText, commands, single_commands, start_of}
-use Rattle.nj_request.specs.Requests as ask
-use Rattle.nj_request.specs.RunMarks.{run_mark_text}
-use Rattle.nj_request.proofs.RunMarks.{run-mark_reads_back}
-use Rattle.nj_request.specs.declared.faults.UsageFault.TheVariants.{BadMark}
+use Rattle.nj_args.specs.Requests.{ActionText, commands, single_commands, start_of}
+use Rattle.nj_args.specs.Requests as ask
+use Rattle.nj_args.specs.RunMarks.{run_mark_text}
+use Rattle.nj_args.proofs.RunMarks.{run-mark_reads_back}
+use Rattle.nj_args.specs.declared.faults.UsageFault.TheVariants.{BadMark}
 use Rattle.nj_tools.specs.Compdb.{unheld_edge}
 use Rattle.nj_tools.specs.CommandTexts.{command_line, command_lines, written}
 use Rattle.nj_cli.specs.Answers.{leads, commands_left, IsMarkOf, commands_text, output_of, Ending, finished, stopped, faulty, out_of_range, PageEnds, EndsFrom, CommandsEnd, TargetsEnd, CompdbEnds, EndsWith}

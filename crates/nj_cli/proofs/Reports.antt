@@ -1,13 +1,13 @@
 -- What is told of words that ask for nothing.
 use Rattle.std.proofs.Common.{◌≡◌, ◌≢◌, ◌⊎◌, inl, inr, ℕ, Result, Err, List, refl, sym, subst}
-use Rattle.nj_request.specs.FaultLines as lines
-use Rattle.nj_request.specs.declared.faults.UsageFault.{UsageFault}
-use Rattle.nj_request.specs.declared.faults.UsageFault.TheVariants as usage
+use Rattle.nj_args.specs.FaultLines as lines
+use Rattle.nj_args.specs.declared.faults.UsageFault.{UsageFault}
+use Rattle.nj_args.specs.declared.faults.UsageFault.TheVariants as usage
 use Rattle.nj_tools.specs.Sinks.{SinkState}
 use Rattle.nj_cli.specs.Answers.{with_line_end}
 use Rattle.nj_cli.specs.Reported.{Reported}
 use Rattle.nj_cli.specs.RunSteps.{ReportsMisuse}
-use Rattle.nj_request.specs.Requests.{RequestText, request_of}
+use Rattle.nj_args.specs.Requests.{RequestText, request_of}
 use Rattle.nj_cli.specs.Runs.{Around, out_of_memory, RunsWith, RunsWords}
 use Rattle.nj_cli.specs.declared.status.Status.{Status}
 use Rattle.nj_cli.specs.declared.status.Status.TheVariants.{Fault, Usage}

@@ -8,11 +8,11 @@ use Rattle.nj_manifest.specs.LineSteps.{NameText}
 use Rattle.nj_manifest.specs.Statements.{StatementText, RuleText, BuildText}
 use Rattle.nj_manifest.proofs.StatementRows.{at}
 use Rattle.nj_scope.specs.ReadingList.{Entry}
-use Rattle.nj_build.specs.EdgeList.{defaults_read}
+use Rattle.nj_statements.specs.EdgeList.{defaults_read}
 use Rattle.nj_graph.proofs.ReadingRows.{main_file, on_files, read_of}
 use Rattle.nj_marks.specs.Marks.{said_mark, ReadsBack}
-use Rattle.nj_request.specs.Requests.{ActionText, commands, single_commands}
-use Rattle.nj_request.specs.RunMarks.{run_mark_text}
+use Rattle.nj_args.specs.Requests.{ActionText, commands, single_commands}
+use Rattle.nj_args.specs.RunMarks.{run_mark_text}
 use Rattle.nj_cli.specs.declared.status.Status.TheVariants.{Done, Fault, Stopped}
 use Rattle.nj_cli.specs.Answers.{output_of, Ending, finished, stopped, faulty, EndsWith, error_of, status_of}
 use Rattle.nj_cli.specs.Headline.{IsRun, ArePageTexts}

@@ -1,7 +1,7 @@
 -- What a run answers, by the statements of its files and by what is asked for: its output, and how it ends.
 use Rattle.std.specs.Prelude.{◌≡◌, ◌≢◌, ℕ, Bool, true, false, if◌then◌else◌, Option, Some, None, Result, Ok, Err, List, [], ◌∷◌, ◌++◌, length, slice_get, codes}
 use Rattle.nj_scope.specs.ReadingList.{Entry}
-use Rattle.nj_build.specs.EdgeList.{EdgeText, edges_read}
+use Rattle.nj_statements.specs.EdgeList.{EdgeText, edges_read}
 use Rattle.nj_faults.specs.declared.fault.Cause.TheVariants.{TextNotUtf8}
 use Rattle.nj_faults.specs.declared.fault.GraphFault.{GraphFault}
 use Rattle.nj_faults.specs.Faults.{fault_at, unplaced}
@@ -15,9 +15,9 @@ use Rattle.nj_tools.specs.Compdb.{compdb_text, unheld_edge}
 use Rattle.nj_tools.specs.Listings.{inputs_text, targets_text}
 use Rattle.nj_tools.specs.Queries.{query_text}
 use Rattle.nj_tools.specs.RuleLists.{rules_text}
-use Rattle.nj_request.specs.Requests.{ActionText, commands, single_commands}
-use Rattle.nj_request.specs.Requests as ask
-use Rattle.nj_request.specs.RunMarks.{run_mark_text}
+use Rattle.nj_args.specs.Requests.{ActionText, commands, single_commands}
+use Rattle.nj_args.specs.Requests as ask
+use Rattle.nj_args.specs.RunMarks.{run_mark_text}
 use Rattle.nj_cli.specs.Targets.{edges_by_path, targets_named, targets_of}
 use Rattle.nj_cli.specs.declared.status.Status.{Status}
 use Rattle.nj_cli.specs.declared.status.Status.TheVariants.{Done, Fault, Stopped, OutputFailed}

@@ -7,8 +7,8 @@ use Rattle.nj_needs.specs.Graphs.{row_of_paths, makers_in, is_phony_in}
 use Rattle.nj_needs.specs.Laws.{StandsBefore}
 use Rattle.nj_needs.specs.Needs.{NeedsByChain, Reached}
 use Rattle.nj_needs.specs.Order.{needed_commands}
-use Rattle.nj_request.specs.Requests.{ActionText, commands, start_of}
-use Rattle.nj_request.specs.RunMarks.{run_mark_text}
+use Rattle.nj_args.specs.Requests.{ActionText, commands, start_of}
+use Rattle.nj_args.specs.RunMarks.{run_mark_text}
 use Rattle.nj_tools.specs.CommandTexts.{command_lines}
 use Rattle.nj_cli.specs.Answers.{output_of, Ending, finished, stopped, EndsWith}
 use Rattle.nj_cli.specs.Targets.{edges_by_path, NoEdgeNeedsItself, targets_of}

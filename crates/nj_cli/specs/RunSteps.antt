@@ -12,10 +12,10 @@ use Rattle.nj_graph.specs.Loads.{LoadedText}
 use Rattle.nj_graph.specs.Runs.{IsRead}
 use Rattle.nj_tools.specs.Sinks.{SinkState, Takes}
 use Rattle.nj_tools.specs.Texts.{FailsWithin, TakesFront}
-use Rattle.nj_request.specs.Requests.{ActionText, RequestText}
-use Rattle.nj_request.specs.FaultLines as lines
-use Rattle.nj_request.specs.declared.faults.UsageFault.{UsageFault}
-use Rattle.nj_request.specs.declared.faults.UsageFault.TheVariants as usage
+use Rattle.nj_args.specs.Requests.{ActionText, RequestText}
+use Rattle.nj_args.specs.FaultLines as lines
+use Rattle.nj_args.specs.declared.faults.UsageFault.{UsageFault}
+use Rattle.nj_args.specs.declared.faults.UsageFault.TheVariants as usage
 use Rattle.nj_cli.specs.Answers.{output_of, finished, stopped, faulty, out_of_range, EndsWith, with_line_end, mark_line}
 use Rattle.nj_cli.specs.Reported.{Failed, Reported}
 use Rattle.nj_cli.specs.Runs.{out_of_memory, AreStatements, HaveFault}

@@ -11,9 +11,9 @@ use Rattle.nj_graph.specs.Loads.{IsWhole, LoadingFails, main_reached}
 use Rattle.nj_graph.specs.Runs.{IsRead}
 use Rattle.nj_tools.specs.Sinks.{SinkState, Takes}
 use Rattle.nj_tools.specs.Texts.{FailsWithin, TakesFront}
-use Rattle.nj_request.specs.FaultLines as usage
-use Rattle.nj_request.specs.Requests.{ActionText, RequestText, request_of}
-use Rattle.nj_request.specs.declared.faults.UsageFault.{UsageFault}
+use Rattle.nj_args.specs.FaultLines as usage
+use Rattle.nj_args.specs.Requests.{ActionText, RequestText, request_of}
+use Rattle.nj_args.specs.declared.faults.UsageFault.{UsageFault}
 use Rattle.nj_cli.specs.Answers.{output_of, Ending, EndsWith, with_line_end, follows_validations, error_of, status_of, status_untold}
 use Rattle.nj_cli.specs.Reported.{Took, Failed, Reported}
 use Rattle.nj_cli.specs.Targets.{edges_by_path, NoEdgeNeedsItself}

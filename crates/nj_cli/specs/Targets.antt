@@ -6,9 +6,9 @@ use Rattle.nj_edges.specs.declared.files.FileNo.{FileNo}
 use Rattle.nj_edges.specs.Edges.{EdgePaths}
 use Rattle.nj_edges.specs.Files.{AreFiles}
 use Rattle.nj_edges.specs.Needs.{makers_of_inputs}
-use Rattle.nj_order.specs.Cycles.{IsAcyclic}
-use Rattle.nj_build.specs.Built.{defaults_in_force}
-use Rattle.nj_build.specs.EdgeList.{edges_read, paths_of_edges, defaults_read}
+use Rattle.nj_cycles.specs.Cycles.{IsAcyclic}
+use Rattle.nj_statements.specs.Built.{defaults_in_force}
+use Rattle.nj_statements.specs.EdgeList.{edges_read, paths_of_edges, defaults_read}
 use Rattle.nj_faults.specs.declared.fault.GraphFault.{GraphFault}
 use Rattle.nj_faults.specs.Faults.{no_memory}
 use Rattle.nj_graph.specs.Targets.{picked}

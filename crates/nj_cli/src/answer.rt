@@ -2,10 +2,10 @@
 
 ghost use Rattle.std.specs.Prelude.{◌≡◌, ℕ, ◌<◌, List, length, map, slice_get, string_bytes, IfOk};
 ghost use Rattle.nj_scope.specs.ReadingList.{Entry};
-ghost use Rattle.nj_build.specs.EdgeList.{edges_read};
+ghost use Rattle.nj_statements.specs.EdgeList.{edges_read};
 ghost use Rattle.nj_graph.specs.Graph.{edges_of, IsGraphOf};
-ghost use Rattle.nj_request.specs.Requests.{action_text, commands, single_commands};
-ghost use Rattle.nj_request.specs.Requests as ask;
+ghost use Rattle.nj_args.specs.Requests.{action_text, commands, single_commands};
+ghost use Rattle.nj_args.specs.Requests as ask;
 ghost use Rattle.nj_cli.specs.Answers.{text_fault, follows_validations};
 ghost use Rattle.nj_cli.specs.RunSteps.{AnswersTo};
 
@@ -13,7 +13,7 @@ use crate::fault::RunFault;
 use crate::targets::{pick_targets, targets_of};
 use nj_graph::{Cause, EdgeNo, Graph, GraphFault, Name, Place, PlaceRef};
 use nj_needs::{Mark, Needs};
-use nj_request::Action;
+use nj_args::Action;
 use nj_tools::{
     InputsStyle, Sink, TargetsView, ToolFault, write_commands, write_compdb, write_inputs,
     write_query, write_rules, write_single_commands, write_targets,

@@ -14,7 +14,7 @@ pub use disk::DiskFiles;
 pub use laws::commands_law;
 pub use nj_graph::Name;
 pub use nj_needs::Mark;
-pub use nj_request::{
+pub use nj_args::{
     Action, InputsStyle, Request, TargetsView, ToolOption, UsageFault, Word, read_words,
 };
 pub use nj_scope::{FileSource, FileTable, HashKeys, MemoryFiles, SourceFault};

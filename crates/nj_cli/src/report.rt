@@ -2,8 +2,8 @@
 
 ghost use Rattle.std.specs.Prelude.{◌≡◌, ◌++◌, ◌∷◌, [], codes, IfOk};
 ghost use Rattle.nj_faults.specs.FaultLines.{fault_line};
-ghost use Rattle.nj_request.specs.FaultLines as usage;
-ghost use Rattle.nj_request.specs.declared.faults.UsageFault.TheVariants.{Unparsed};
+ghost use Rattle.nj_args.specs.FaultLines as usage;
+ghost use Rattle.nj_args.specs.declared.faults.UsageFault.TheVariants.{Unparsed};
 ghost use Rattle.nj_cli.specs.Answers.{with_line_end, mark_line};
 ghost use Rattle.nj_cli.specs.Reported.{Reported};
 ghost use Rattle.nj_cli.specs.RunSteps.{Concludes, ReportsLine, ReportsMark, ReportsMisuse};
@@ -13,7 +13,7 @@ use crate::fault::RunFault;
 use crate::status::Status;
 use nj_graph::GraphFault;
 use nj_needs::Mark;
-use nj_request::UsageFault;
+use nj_args::UsageFault;
 use nj_tools::{Sink, write_whole};
 use std::alloc::{AllocError, Global};
 

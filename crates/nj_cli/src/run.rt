@@ -1,7 +1,7 @@
 //! A run of the program.
 
 ghost use Rattle.std.specs.Prelude.{map, string_bytes};
-ghost use Rattle.nj_request.specs.Requests.{request_text};
+ghost use Rattle.nj_args.specs.Requests.{request_text};
 ghost use Rattle.nj_cli.specs.RunSteps.{ReadsGraph};
 ghost use Rattle.nj_cli.specs.Runs.{RunsAs, RunsWords, around};
 
@@ -9,7 +9,7 @@ use crate::answer::{answer, follows_validations};
 use crate::report::{conclude, report_fault, report_misuse};
 use crate::status::Status;
 use nj_graph::{GraphFault, Loaded, join_dyndeps, load};
-use nj_request::{Request, read_words};
+use nj_args::{Request, read_words};
 use nj_scope::FileSource;
 use nj_tools::Sink;
 use std::alloc::Global;

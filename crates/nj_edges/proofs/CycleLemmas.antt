@@ -5,8 +5,8 @@ use Rattle.std.specs.List.{filter_map, cons_option}
 use Rattle.std.proofs.lemmas.List.{take-append-drop, length-map}
 use Rattle.std.proofs.lemmas.Option.{get_or_from_slice_get}
 use Rattle.std.proofs.Math.Seq.{drop-cons}
-use Rattle.nj_order.specs.Cycles.{Chain, Needs, IsLeastOnCycle}
-use Rattle.nj_order.specs.Cycles.Chain.{one, more}
+use Rattle.nj_cycles.specs.Cycles.{Chain, Needs, IsLeastOnCycle}
+use Rattle.nj_cycles.specs.Cycles.Chain.{one, more}
 use Rattle.nj_edges.specs.declared.files.FileNo.{FileNo}
 use Rattle.nj_edges.specs.declared.edges.EdgeRow.{EdgeRow}
 use Rattle.nj_edges.specs.declared.edges.OpenStarts.{OpenStarts}

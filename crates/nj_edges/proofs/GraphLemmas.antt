@@ -5,9 +5,9 @@ use Rattle.std.proofs.lemmas.List.{take-append-drop, take-map, length-map, get_o
 use Rattle.std.proofs.lemmas.List.Folds.{drop_split}
 use Rattle.std.proofs.lemmas.Option.{get_or_from_slice_get}
 use Rattle.std.proofs.Math.Seq.{drop-length}
-use Rattle.nj_order.specs.Cycles.{IsFirstOnCycle, IsLeastOnCycle, Needs, Chain}
-use Rattle.nj_order.specs.Cycles.Chain.{one, more}
-use Rattle.nj_order.proofs.Same.{same_makers}
+use Rattle.nj_cycles.specs.Cycles.{IsFirstOnCycle, IsLeastOnCycle, Needs, Chain}
+use Rattle.nj_cycles.specs.Cycles.Chain.{one, more}
+use Rattle.nj_cycles.proofs.Same.{same_makers}
 use Rattle.nj_edges.specs.declared.files.FileNo.{FileNo}
 use Rattle.nj_edges.specs.declared.edges.EdgeRow.{EdgeRow}
 use Rattle.nj_edges.specs.declared.edges.OpenStarts.{OpenStarts}

@@ -1,6 +1,6 @@
 -- The graph of all edges of a run.
 use Rattle.std.specs.Prelude.{◌≡◌, ℕ, ◌<◌, Some, List, length}
-use Rattle.nj_order.specs.Cycles.{IsAcyclic, IsLeastOnCycle}
+use Rattle.nj_cycles.specs.Cycles.{IsAcyclic, IsLeastOnCycle}
 use Rattle.nj_edges.specs.declared.graph.Finished.{Finished}
 use Rattle.nj_edges.specs.declared.graph.Finished.TheVariants.{Graph, Cycle}
 use Rattle.nj_edges.specs.Edges.{EdgePaths, edge_at, first_output}

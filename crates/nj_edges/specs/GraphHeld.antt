@@ -1,6 +1,6 @@
 -- How a graph of edges is held.
 use Rattle.std.specs.Prelude.{ℕ, Option, List, length}
-use Rattle.nj_order.specs.Cycles.{IsAcyclic}
+use Rattle.nj_cycles.specs.Cycles.{IsAcyclic}
 use Rattle.nj_edges.specs.declared.files.FileNo.{FileNo}
 use Rattle.nj_edges.specs.declared.edges.EdgeRow.{EdgeRow}
 use Rattle.nj_edges.specs.declared.edges.OpenStarts.{OpenStarts}

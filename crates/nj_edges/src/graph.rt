@@ -2,7 +2,7 @@
 
 ghost use Rattle.std.specs.Prelude.{◌≡◌, ℕ, List, ◌<◌, ◌≤◌, None, Some, is_some, length, slice_index_or, slice_get, option_map, position, bytes_eq, map, IfOk, All, IfSome, if◌then◌else◌, nat_lt};
 ghost use Rattle.std.specs.List.{AllByRecursion, IsDistinct, list_any};
-ghost use Rattle.nj_order.specs.Cycles.{IsFirstOnCycle, IsAcyclic};
+ghost use Rattle.nj_cycles.specs.Cycles.{IsFirstOnCycle, IsAcyclic};
 ghost use Rattle.nj_edges.specs.Edges.{edge_at, outputs_of, inputs_of, kind_at, is_named, maker_of, roots_of, users_of, validation_users_of};
 ghost use Rattle.nj_edges.specs.EdgesHeld.{AreNumbers, IsWithin, paths_at, within, no_files};
 ghost use Rattle.nj_edges.specs.Files.{path_at, AreFiles};
@@ -16,7 +16,7 @@ use crate::flat::flat_inputs;
 use crate::lists::{first, part};
 use crate::roots::roots;
 use crate::users::{RowPart, Users, users_at, users_of_files};
-use nj_order::{EdgeInputs, first_on_cycle};
+use nj_cycles::{EdgeInputs, first_on_cycle};
 use std::alloc::{AllocError, Global};
 use std::marker::Model;
 

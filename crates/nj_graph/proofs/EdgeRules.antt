@@ -13,11 +13,11 @@ use Rattle.nj_faults.specs.declared.fault.GraphFault.{GraphFault}
 use Rattle.nj_faults.specs.declared.fault.Cause.TheVariants.{UnknownRule}
 use Rattle.nj_faults.specs.Faults.{fault_at}
 use Rattle.nj_edges.specs.Edges.{EdgePaths}
-use Rattle.nj_build.specs.EdgeList.{EdgeText, line_values, edge_paths, stated_paths, with_discovered, edge_of_build, with_edge, edges_read}
-use Rattle.nj_build.specs.BuildFaults.{unknown_rule}
-use Rattle.nj_build.specs.Built.{detail_of}
-use Rattle.nj_build.proofs.Lists.{get-longer}
-use Rattle.nj_build.proofs.LateLemmas.{is-phony, kept-phony}
+use Rattle.nj_statements.specs.EdgeList.{EdgeText, line_values, edge_paths, stated_paths, with_discovered, edge_of_build, with_edge, edges_read}
+use Rattle.nj_statements.specs.BuildFaults.{unknown_rule}
+use Rattle.nj_statements.specs.Built.{detail_of}
+use Rattle.nj_statements.proofs.Lists.{get-longer}
+use Rattle.nj_statements.proofs.LateLemmas.{is-phony, kept-phony}
 use Rattle.nj_graph.specs.Graph.{IsOpenScope, HasRule}
 use Rattle.nj_graph.specs.GraphHeld.{IsKnown}
 use Rattle.nj_graph.specs.Laws.{Faultless}

@@ -5,14 +5,14 @@ use Rattle.std.proofs.lemmas.List.{length-map}
 use Rattle.std.proofs.lemmas.Option.{slice_get-map, slice_get-get_or, get_or_from_slice_get}
 use Rattle.nj_scope.specs.Rules.{RuleText, RuleLineText, phony}
 use Rattle.nj_scope.specs.ReadingList.{Entry, value_after}
-use Rattle.nj_blocks.specs.Blocks.{BlocksText, bound_in}
+use Rattle.nj_edge_env.specs.Blocks.{BlocksText, bound_in}
 use Rattle.nj_edges.specs.Edges.{EdgePaths, edge_at}
 use Rattle.nj_edges.specs.Files.{AreFiles, path_at}
 use Rattle.nj_edges.specs.declared.files.FileNo.{FileNo}
-use Rattle.nj_late.specs.LateTexts.{LateNames, asked_text}
-use Rattle.nj_build.specs.EdgeList.{EdgeText, edges_read, names_of_edge, lines_of_rule, block_of_edge}
-use Rattle.nj_build.specs.Built.{EdgeDetail, detail_at, detail_of}
-use Rattle.nj_build.proofs.LateLemmas.{paths-are, same-everywhere}
+use Rattle.nj_edge_env.specs.LateTexts.{LateNames, asked_text}
+use Rattle.nj_statements.specs.EdgeList.{EdgeText, edges_read, names_of_edge, lines_of_rule, block_of_edge}
+use Rattle.nj_statements.specs.Built.{EdgeDetail, detail_at, detail_of}
+use Rattle.nj_statements.proofs.LateLemmas.{paths-are, same-everywhere}
 use Rattle.nj_graph.specs.Graph.{GraphText, edges_of, files_of, IsOpenScope, HasRule, IsGraphOf, text_of_edge, late_text_of}
 use Rattle.nj_graph.proofs.EdgeRules.{edges-open}
 

@@ -15,7 +15,7 @@ use Rattle.nj_graph.specs.declared.reader.Reader.{Reader}
 use Rattle.nj_faults.specs.declared.fault.Cause.TheVariants.{BadDepth, DuplicateRule, DuplicatePool}
 use Rattle.nj_faults.specs.Faults.{fault_at}
 use Rattle.nj_graph.specs.Reading.{expanded_in, fault_if, or_then, rule_fault, depth_fault, pool_fault, own_fault, path_named, with_named, paths_read}
-use Rattle.nj_build.specs.Answers.{HoldsEdges, ReadsStatement}
+use Rattle.nj_statements.specs.Answers.{HoldsEdges, ReadsStatement}
 use Rattle.nj_graph.specs.Graph.{IsOpenScope}
 use Rattle.nj_graph.proofs.OpenScopes.{open-next}
 use Rattle.nj_graph.specs.ReaderContracts.{Holds, Grows, Checks, Declares}

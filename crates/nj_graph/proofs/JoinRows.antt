@@ -13,12 +13,12 @@ use Rattle.nj_manifest.specs.Dyndeps.{version_line, version_next, word_of_form, 
 use Rattle.nj_manifest.proofs.StatementRows.{on_texts, at}
 use Rattle.nj_scope.specs.Readings.{Reading}
 use Rattle.nj_scope.specs.ReadingList.{bounds}
-use Rattle.nj_late.specs.VariableCycles.{variable_cycle_of}
+use Rattle.nj_edge_env.specs.VariableCycles.{variable_cycle_of}
 use Rattle.nj_edges.specs.Edges.{EdgePaths}
 use Rattle.nj_faults.specs.declared.fault.Cause.TheVariants.{DyndepVersion, Missing, PathNotText, DyndepExtra, DyndepTwice, DyndepNoStatement}
 use Rattle.nj_faults.specs.Faults.{fault_at}
-use Rattle.nj_build.specs.EdgeList.{edges_read, paths_of_edges, pending_read}
-use Rattle.nj_build.specs.Joining.{discover}
+use Rattle.nj_statements.specs.EdgeList.{edges_read, paths_of_edges, pending_read}
+use Rattle.nj_statements.specs.Joining.{discover}
 use Rattle.nj_graph.specs.Parsed.{parsed_in}
 use Rattle.nj_graph.specs.Reading.{Whole, Refused, Lacking, statements_read, opened_in, main_read}
 use Rattle.nj_graph.specs.Runs.{ReachedText}

@@ -9,11 +9,11 @@ use Rattle.nj_faults.specs.declared.fault.Place.{Place}
 use Rattle.nj_faults.specs.declared.fault.GraphFault.{GraphFault}
 use Rattle.nj_faults.specs.declared.fault.Cause.TheVariants.{Missing, PathNotText}
 use Rattle.nj_faults.specs.Faults.{no_memory}
-use Rattle.nj_build.specs.EdgeList.{Pending, edges_read}
-use Rattle.nj_build.specs.Built.{EdgeDetail, detail_at, detail_of}
-use Rattle.nj_build.specs.Answers.{IsFault, Checks}
-use Rattle.nj_build.specs.Joining.{lacking_fault}
-use Rattle.nj_build.specs.JoiningHeld.{JoiningText}
+use Rattle.nj_statements.specs.EdgeList.{Pending, edges_read}
+use Rattle.nj_statements.specs.Built.{EdgeDetail, detail_at, detail_of}
+use Rattle.nj_statements.specs.Answers.{IsFault, Checks}
+use Rattle.nj_statements.specs.Joining.{lacking_fault}
+use Rattle.nj_statements.specs.JoiningHeld.{JoiningText}
 use Rattle.nj_graph.specs.Reading.{Refused, Lacking, with_new, stopped}
 use Rattle.nj_graph.specs.Joining.{end_by, statement_place, text_joined, answer_joined, path_asked, file_joined, with_all_new}
 use Rattle.nj_graph.specs.JoiningContracts.{TextJoined, TextRefused, FileJoined, FileStops, JoinsFile}

@@ -6,16 +6,16 @@ use Rattle.nj_scope.specs.Readings.{Reading, EachPathOnce, paths_of, IsPrefix}
 use Rattle.nj_scope.specs.Declarations.{DeclaredBy}
 use Rattle.nj_scope.specs.ReadingList.{Discovered, Entry}
 use Rattle.nj_scope.specs.Sources.{SourceState}
-use Rattle.nj_order.specs.Cycles.{IsAcyclic}
+use Rattle.nj_cycles.specs.Cycles.{IsAcyclic}
 use Rattle.nj_edges.specs.Needs.{makers_of_inputs}
 use Rattle.nj_faults.specs.declared.fault.GraphFault.{GraphFault}
 use Rattle.nj_faults.specs.Faults.{no_memory}
-use Rattle.nj_build.specs.EdgeList.{Pending, edges_read, paths_of_edges, pending_read}
-use Rattle.nj_build.specs.Built.{BuiltText, ComesTo, detail_of}
-use Rattle.nj_build.specs.Joining.{discover}
-use Rattle.nj_build.specs.JoiningHeld.{JoiningText, has_pending}
-use Rattle.nj_build.proofs.DiscoverLemmas.{declared-discover, all-discover}
-use Rattle.nj_build.proofs.DiscoverEdges.{all_edges-discover}
+use Rattle.nj_statements.specs.EdgeList.{Pending, edges_read, paths_of_edges, pending_read}
+use Rattle.nj_statements.specs.Built.{BuiltText, ComesTo, detail_of}
+use Rattle.nj_statements.specs.Joining.{discover}
+use Rattle.nj_statements.specs.JoiningHeld.{JoiningText, has_pending}
+use Rattle.nj_statements.proofs.DiscoverLemmas.{declared-discover, all-discover}
+use Rattle.nj_statements.proofs.DiscoverEdges.{all_edges-discover}
 use Rattle.nj_graph.specs.Reading.{Whole}
 use Rattle.nj_graph.specs.Graph.{GraphText, IsOpenScope, HasRule, IsGraphOf}
 use Rattle.nj_graph.specs.GraphHeld.{IsKnown, IsGraph}

@@ -5,9 +5,9 @@ use Rattle.nj_scope.specs.Readings.{Reading, EachPathOnce, paths_of, IsPrefix}
 use Rattle.nj_scope.specs.ReadingList.{Entry}
 use Rattle.nj_scope.specs.Sources.{SourceState, Rises}
 use Rattle.nj_faults.specs.declared.fault.GraphFault.{GraphFault}
-use Rattle.nj_build.specs.EdgeList.{Pending, pending_read}
-use Rattle.nj_build.specs.Joining.{dyndep_files}
-use Rattle.nj_build.specs.JoiningHeld.{JoiningText, HoldsJoined}
+use Rattle.nj_statements.specs.EdgeList.{Pending, pending_read}
+use Rattle.nj_statements.specs.Joining.{dyndep_files}
+use Rattle.nj_statements.specs.JoiningHeld.{JoiningText, HoldsJoined}
 use Rattle.nj_graph.specs.Reading.{End, Whole, Refused, Lacking, ReadingText}
 use Rattle.nj_graph.specs.Runs.{IsRead, IsEnd, paths_with, ReachedText, Stops}
 use Rattle.nj_graph.specs.ReaderContracts.{ReadsAll}

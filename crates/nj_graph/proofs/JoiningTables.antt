@@ -5,8 +5,8 @@ use Rattle.std.proofs.lemmas.Str.{IsUtf8-string_bytes, IsUtf8-from_is_utf8, is_u
 use Rattle.nj_scope.specs.Readings.{IsPrefix}
 use Rattle.nj_edges.specs.declared.files.FileNo.{FileNo}
 use Rattle.nj_edges.specs.Files.{path_at}
-use Rattle.nj_build.specs.EdgeList.{Pending}
-use Rattle.nj_build.proofs.Lists.{get-longer}
+use Rattle.nj_statements.specs.EdgeList.{Pending}
+use Rattle.nj_statements.proofs.Lists.{get-longer}
 use Rattle.nj_graph.specs.Reading.{with_new}
 use Rattle.nj_graph.specs.Joining.{path_asked, with_all_new}
 use Rattle.nj_graph.proofs.Comes.{prefix-self, prefix-then, prefix-new}

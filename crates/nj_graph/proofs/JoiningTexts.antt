@@ -12,9 +12,9 @@ use Rattle.nj_manifest.proofs.DyndepMeasures.{entry-takes, version-takes, left_e
 use Rattle.nj_scope.specs.ReadingList.{Entry}
 use Rattle.nj_faults.specs.declared.fault.GraphFault.{GraphFault}
 use Rattle.nj_faults.specs.Faults.{fault_in, no_memory}
-use Rattle.nj_build.specs.Answers.{IsFault}
-use Rattle.nj_build.specs.Joining.{entry_fault, with_entry}
-use Rattle.nj_build.specs.JoiningHeld.{JoiningText, HoldsJoined}
+use Rattle.nj_statements.specs.Answers.{IsFault}
+use Rattle.nj_statements.specs.Joining.{entry_fault, with_entry}
+use Rattle.nj_statements.specs.JoiningHeld.{JoiningText, HoldsJoined}
 use Rattle.nj_graph.specs.Parsed.{Parsed, none_parsed, and_parsed, parsed_in}
 use Rattle.nj_graph.specs.Reading.{Refused}
 use Rattle.nj_graph.specs.Joining.{after_version, entries_of, unless_fault, entries_joined, text_joined}

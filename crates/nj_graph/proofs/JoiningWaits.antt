@@ -9,10 +9,10 @@ use Rattle.nj_scope.specs.Readings.{Reading, reading_of}
 use Rattle.nj_scope.specs.ReadingList.{Discovered, Entry}
 use Rattle.nj_faults.specs.declared.fault.GraphFault.{GraphFault}
 use Rattle.nj_faults.specs.declared.fault.Cause.TheVariants.{PathNotText}
-use Rattle.nj_build.specs.EdgeList.{EdgeText, Pending, edges_read, pending_read}
-use Rattle.nj_build.specs.Joining.{discover, discovered_by, entry_fault, with_entry, no_statement, lacking_fault, dyndep_files}
-use Rattle.nj_build.proofs.DiscoverLemmas.{with_entry-by}
-use Rattle.nj_build.proofs.DiscoverEdges.{pending-discover, pending-within}
+use Rattle.nj_statements.specs.EdgeList.{EdgeText, Pending, edges_read, pending_read}
+use Rattle.nj_statements.specs.Joining.{discover, discovered_by, entry_fault, with_entry, no_statement, lacking_fault, dyndep_files}
+use Rattle.nj_statements.proofs.DiscoverLemmas.{with_entry-by}
+use Rattle.nj_statements.proofs.DiscoverEdges.{pending-discover, pending-within}
 use Rattle.nj_graph.specs.Reading.{End, Whole, Refused, Lacking, ReadingText, stopped}
 use Rattle.nj_graph.specs.Runs.{ReachedText}
 use Rattle.nj_graph.specs.Joining.{end_by, unless_fault, entries_joined, statement_place, found_joined, answer_joined, file_joined, go_on, files_joined, all_joined, JoinedStaysJoined}

@@ -5,7 +5,7 @@ use Rattle.nj_text.specs.Words.{WordText}
 use Rattle.nj_manifest.specs.Statements.{StatementText, BindingText}
 use Rattle.nj_scope.specs.Scopes.{or_else, nearest, value_in, expanded}
 use Rattle.nj_scope.specs.ReadingList.{Entry, scope_of, binds, bounds}
-use Rattle.nj_build.specs.EdgeList.{EdgeText, with_edge, edges_read}
+use Rattle.nj_statements.specs.EdgeList.{EdgeText, with_edge, edges_read}
 use Rattle.nj_graph.specs.Reading.{expanded_in}
 use Rattle.nj_graph.specs.Laws.{LaterBindingsCount, LaterBindingsChangeNoEdge}
 

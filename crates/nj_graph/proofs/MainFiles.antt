@@ -14,11 +14,11 @@ use Rattle.nj_faults.specs.declared.fault.Cause.TheVariants.{Missing}
 use Rattle.nj_faults.specs.Faults.{no_memory}
 use Rattle.nj_graph.specs.Reading.{Refused, Lacking, ReadingText, opened_in, text_read, answer_read, most_within, main_site, main_place, main_read, with_new, paths_come_to}
 use Rattle.nj_graph.specs.ReaderContracts.{IsNew, Holds, ReadsAll, ReadsText, ReadsOrStops, StopsAt}
-use Rattle.nj_order.specs.Cycles.{IsAcyclic}
+use Rattle.nj_cycles.specs.Cycles.{IsAcyclic}
 use Rattle.nj_edges.specs.Needs.{makers_of_inputs}
-use Rattle.nj_build.specs.EdgeList.{edges_read, paths_of_edges}
-use Rattle.nj_build.specs.Answers.{HoldsEdges}
-use Rattle.nj_build.specs.Built.{BuiltText, IsBuiltOf, ComesTo, detail_of}
+use Rattle.nj_statements.specs.EdgeList.{edges_read, paths_of_edges}
+use Rattle.nj_statements.specs.Answers.{HoldsEdges}
+use Rattle.nj_statements.specs.Built.{BuiltText, IsBuiltOf, ComesTo, detail_of}
 use Rattle.nj_graph.specs.Graph.{IsOpenScope, HasRule, IsGraphOf}
 use Rattle.nj_graph.specs.GraphHeld.{IsKnown}
 use Rattle.nj_graph.specs.Laws.{Faultless}

@@ -10,8 +10,8 @@ use Rattle.nj_manifest.proofs.StatementRows.{on_texts, at}
 use Rattle.nj_scope.specs.Readings.{Reading}
 use Rattle.nj_scope.specs.ReadingList.{bounds}
 use Rattle.nj_text.specs.Paths.{clean_path_of, without_leftmost_pair}
-use Rattle.nj_late.specs.VariableCycles.{variable_cycle_of}
-use Rattle.nj_build.specs.EdgeList.{edges_read}
+use Rattle.nj_edge_env.specs.VariableCycles.{variable_cycle_of}
+use Rattle.nj_statements.specs.EdgeList.{edges_read}
 use Rattle.nj_graph.specs.Parsed.{parsed_in}
 use Rattle.nj_faults.specs.declared.fault.Cause.{Cause}
 use Rattle.nj_faults.specs.declared.fault.Cause.TheVariants.{BadEscape, Expected, MissingCommand, EmptyPath, BadDepth, DuplicateRule, DuplicatePool, VersionTooNew, Missing, PathNotText, TooDeep, UnknownRule, TwoMakers, UnknownTarget}

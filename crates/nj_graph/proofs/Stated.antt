@@ -1,8 +1,8 @@
 -- What a graph holds of the statements whose graph it is.
 use Rattle.std.proofs.Common.{◌≡◌, ℕ, ◌<◌, unwrap_or, option_map, List, [], map, length, sym, ap, ◌∙◌}
 use Rattle.nj_scope.specs.ReadingList.{Entry, rule_texts}
-use Rattle.nj_build.specs.EdgeList.{edges_read, paths_of_edges}
-use Rattle.nj_build.specs.Built.{detail_at, detail_of}
+use Rattle.nj_statements.specs.EdgeList.{edges_read, paths_of_edges}
+use Rattle.nj_statements.specs.Built.{detail_at, detail_of}
 use Rattle.nj_graph.specs.Graph.{GraphText, edges_of, IsGraphOf, rule_name, rule_name_of, rule_name_at}
 use Rattle.nj_graph.proofs.EdgeTexts.{there, detail-is}
 

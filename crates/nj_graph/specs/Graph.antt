@@ -11,12 +11,12 @@ use Rattle.nj_scope.specs.ReadingList.{Entry, rule_texts}
 use Rattle.nj_scope.specs.Late.{parts_written}
 use Rattle.nj_scope.specs.Rules.{RuleText, phony, phony_rule, rules_in, rule_names, given}
 use Rattle.nj_scope.specs.Scopes.{IsScope, ScopeText, parent_at}
-use Rattle.nj_order.specs.Cycles.{IsAcyclic}
+use Rattle.nj_cycles.specs.Cycles.{IsAcyclic}
 use Rattle.nj_edges.specs.Edges.{EdgePaths}
 use Rattle.nj_edges.specs.Needs.{makers_of_inputs}
-use Rattle.nj_late.specs.LateTexts.{asked_text}
-use Rattle.nj_build.specs.EdgeList.{EdgeText, edges_read, names_of_edge}
-use Rattle.nj_build.specs.Built.{BuiltText, IsBuiltOf}
+use Rattle.nj_edge_env.specs.LateTexts.{asked_text}
+use Rattle.nj_statements.specs.EdgeList.{EdgeText, edges_read, names_of_edge}
+use Rattle.nj_statements.specs.Built.{BuiltText, IsBuiltOf}
 
 -- what the statements of its files declare, after all reading, and the edges and defaults that they yield
 pub record GraphText : Type 0 where

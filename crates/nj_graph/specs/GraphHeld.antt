@@ -4,7 +4,7 @@ use Rattle.std.specs.Prelude.{◌≡◌, ℕ, ◌<◌, Some, None, List, map, le
 use Rattle.nj_scope.specs.Declarations.{DeclarationsText}
 use Rattle.nj_scope.specs.Rules.{RuleText}
 use Rattle.nj_scope.specs.Scopes.{parent_at}
-use Rattle.nj_build.specs.Built.{BuiltText, EdgeDetail}
+use Rattle.nj_statements.specs.Built.{BuiltText, EdgeDetail}
 use Rattle.nj_graph.specs.Graph.{main_rules_of}
 
 -- their numbers, in the order in which they are listed

@@ -11,9 +11,9 @@ use Rattle.nj_faults.specs.declared.fault.Place.{Place}
 use Rattle.nj_faults.specs.declared.fault.GraphFault.{GraphFault}
 use Rattle.nj_faults.specs.declared.fault.Cause.TheVariants.{Missing, PathNotText}
 use Rattle.nj_faults.specs.Faults.{fault_in}
-use Rattle.nj_build.specs.EdgeList.{Pending, edges_read, pending_read}
-use Rattle.nj_build.specs.Built.{detail_at, detail_of}
-use Rattle.nj_build.specs.Joining.{entry_fault, with_entry, lacking_fault, dyndep_files}
+use Rattle.nj_statements.specs.EdgeList.{Pending, edges_read, pending_read}
+use Rattle.nj_statements.specs.Built.{detail_at, detail_of}
+use Rattle.nj_statements.specs.Joining.{entry_fault, with_entry, lacking_fault, dyndep_files}
 use Rattle.nj_graph.specs.Parsed.{Parsed, none_parsed, parsed_in}
 use Rattle.nj_graph.specs.Reading.{End, Whole, Refused, Lacking, ReadingText, stopped, with_new}
 use Rattle.nj_graph.specs.Runs.{ReachedText}

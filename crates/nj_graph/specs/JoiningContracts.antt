@@ -14,9 +14,9 @@ use Rattle.nj_faults.specs.declared.fault.Place.{Place}
 use Rattle.nj_faults.specs.declared.fault.GraphFault.{GraphFault}
 use Rattle.nj_faults.specs.declared.fault.Cause.TheVariants.{PathNotText}
 use Rattle.nj_faults.specs.Faults.{fault_in, no_memory}
-use Rattle.nj_build.specs.EdgeList.{Pending}
-use Rattle.nj_build.specs.Joining.{lacking_fault}
-use Rattle.nj_build.specs.JoiningHeld.{JoiningText, HoldsJoined}
+use Rattle.nj_statements.specs.EdgeList.{Pending}
+use Rattle.nj_statements.specs.Joining.{lacking_fault}
+use Rattle.nj_statements.specs.JoiningHeld.{JoiningText, HoldsJoined}
 use Rattle.nj_graph.specs.Reading.{End, Whole, Refused}
 use Rattle.nj_graph.specs.Runs.{IsRead, IsEnd, IsLacking, paths_with, Stops}
 use Rattle.nj_graph.specs.ReaderContracts.{ReadsAll}

@@ -16,7 +16,7 @@ use Rattle.nj_edges.specs.Edges.{EdgePaths, first_output, outputs_of, inputs_of}
 use Rattle.nj_faults.specs.declared.fault.GraphFault.{GraphFault}
 use Rattle.nj_faults.specs.declared.fault.Cause.TheVariants.{EmptyPath, UnknownTarget, NoOutEdge}
 use Rattle.nj_faults.specs.Faults.{unplaced}
-use Rattle.nj_build.specs.EdgeList.{EdgeText, edges_read, names_of_edge}
+use Rattle.nj_statements.specs.EdgeList.{EdgeText, edges_read, names_of_edge}
 use Rattle.nj_graph.specs.Graph.{main_rules_of}
 use Rattle.nj_graph.specs.Joining.{entries_of}
 use Rattle.nj_graph.specs.Parsed.{parsed}

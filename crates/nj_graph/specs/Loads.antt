@@ -4,8 +4,8 @@ use Rattle.nj_scope.specs.Readings.{Reading, paths_of}
 use Rattle.nj_scope.specs.Sources.{SourceState}
 use Rattle.nj_scope.specs.ReadingList.{Entry}
 use Rattle.nj_faults.specs.declared.fault.GraphFault.{GraphFault}
-use Rattle.nj_build.specs.EdgeList.{edges_read}
-use Rattle.nj_build.specs.Built.{IsCycleFault}
+use Rattle.nj_statements.specs.EdgeList.{edges_read}
+use Rattle.nj_statements.specs.Built.{IsCycleFault}
 use Rattle.nj_graph.specs.Graph.{GraphText, IsGraphOf}
 use Rattle.nj_graph.specs.Reading.{Whole, ReadingText, main_read, paths_come_to}
 use Rattle.nj_graph.specs.Runs.{IsRead, ReachedText, Stops}

@@ -23,8 +23,8 @@ use Rattle.nj_faults.specs.declared.fault.Cause.TheVariants.{EmptyPath, BadDepth
 use Rattle.nj_faults.specs.declared.fault.Cause.TheVariants.{PathNotText, TooDeep, TooManyOpenings}
 use Rattle.nj_faults.specs.Faults.{fault_at, fault_in}
 use Rattle.nj_faults.specs.Versions.{is_newer}
-use Rattle.nj_build.specs.BuildFaults.{build_fault, default_fault}
-pub use Rattle.nj_build.specs.BuildFaults.{fault_if, or_then}
+use Rattle.nj_statements.specs.BuildFaults.{build_fault, default_fault}
+pub use Rattle.nj_statements.specs.BuildFaults.{fault_if, or_then}
 use Rattle.nj_graph.specs.Parsed.{parsed}
 
 -- ---- where a statement stands

@@ -7,7 +7,7 @@ ghost use Rattle.nj_graph.specs.Reading.{entry_at};
 ghost use Rattle.nj_graph.specs.ReaderContracts.{InFile, ScopesGrow, Declares};
 
 use crate::reader::{OpenFile, Reader};
-use nj_build::StatementPlace;
+use nj_statements::StatementPlace;
 use nj_faults::GraphFault;
 use nj_manifest::{Build, Spot, Word};
 use std::alloc::Global;

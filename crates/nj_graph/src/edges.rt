@@ -2,16 +2,16 @@
 
 ghost use Rattle.std.specs.Prelude.{◌≡◌, ℕ, List, ◌<◌, Some, is_some, length, All, IfSome, bytes_eq, map, option_map, position, slice_get};
 ghost use Rattle.std.specs.List.{IsDistinct, list_any};
-ghost use Rattle.nj_order.specs.Cycles.{IsAcyclic};
+ghost use Rattle.nj_cycles.specs.Cycles.{IsAcyclic};
 ghost use Rattle.nj_edges.specs.Edges.{edge_at, outputs_of, inputs_of, kind_at, is_named, maker_of, roots_of, users_of, validation_users_of};
 ghost use Rattle.nj_edges.specs.Files.{path_at, AreFiles};
 ghost use Rattle.nj_edges.specs.Needs.{makers_of_inputs};
-ghost use Rattle.nj_build.specs.Built.{defaults_in_force, detail_at};
+ghost use Rattle.nj_statements.specs.Built.{defaults_in_force, detail_at};
 ghost use Rattle.nj_scope.specs.ReadingList.{Entry};
 ghost use Rattle.nj_graph.specs.Graph.{edges_of, files_of, IsGraphOf, rule_name, rule_name_at};
 
 use crate::graph::{Graph, rule_name};
-use nj_build::PlaceRef;
+use nj_statements::PlaceRef;
 use nj_edges::{EdgeGraph, EdgeNo, FileNo, InputKind};
 
 impl Graph {

@@ -6,7 +6,7 @@ ghost use Rattle.nj_graph.specs.Graph.{main_rules, main_rule_at, rule_name, desc
 ghost use Rattle.std.specs.List.{AllByRecursion};
 ghost use Rattle.nj_graph.specs.GraphHeld.{HoldsMainRules, IsKnown};
 
-use nj_build::Built;
+use nj_statements::Built;
 use nj_scope::{Declarations, LateValue, Rule};
 use std::alloc::{AllocError, Global};
 use std::marker::Model;

@@ -3,8 +3,8 @@
 ghost use Rattle.std.specs.Prelude.{◌≡◌, ◌<◌, List, Some, length, slice_get, OnOk};
 ghost use Rattle.nj_scope.specs.Readings.{EachPathOnce, IsPrefix};
 ghost use Rattle.nj_scope.specs.ReadingList.{Entry};
-ghost use Rattle.nj_build.specs.EdgeList.{Pending};
-ghost use Rattle.nj_build.specs.JoiningHeld.{HoldsJoined};
+ghost use Rattle.nj_statements.specs.EdgeList.{Pending};
+ghost use Rattle.nj_statements.specs.JoiningHeld.{HoldsJoined};
 ghost use Rattle.nj_graph.specs.Graph.{IsGraphOf};
 ghost use Rattle.nj_graph.specs.Joining.{Joins};
 ghost use Rattle.nj_graph.specs.JoiningContracts.{NamesFile, JoinsText, JoinsFile, JoinsFiles, NextEntryIs};
@@ -12,7 +12,7 @@ ghost use Rattle.nj_graph.specs.JoiningContracts.{NamesFile, JoinsText, JoinsFil
 use crate::graph::Graph;
 use crate::loading::Loaded;
 use crate::opening::text_at;
-use nj_build::{DyndepFile, Joining, PlaceRef};
+use nj_statements::{DyndepFile, Joining, PlaceRef};
 use nj_edges::FileNo;
 use nj_faults::{Cause, GraphFault, Name, Place};
 use nj_manifest::{DyndepParser, Entry as DyndepEntry};

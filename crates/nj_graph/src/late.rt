@@ -1,7 +1,7 @@
 //! What the variables of rules say when an edge uses them.
 
 ghost use Rattle.std.specs.Prelude.{◌≡◌, ◌<◌, ◌++◌, List, Some, length, slice_get, codes, IfOk, OnOk, OnErr};
-ghost use Rattle.nj_build.specs.Built.{detail_at};
+ghost use Rattle.nj_statements.specs.Built.{detail_at};
 ghost use Rattle.nj_scope.specs.ReadingList.{Entry};
 ghost use Rattle.nj_graph.specs.Graph.{edges_of, IsGraphOf, late_text_of};
 ghost use Rattle.nj_graph.specs.ResponseFiles.{command_with_rsp_of};
@@ -9,7 +9,7 @@ ghost use Rattle.nj_graph.specs.ResponseFiles.{command_with_rsp_of};
 use crate::graph::Graph;
 use crate::response::with_content;
 use nj_edges::EdgeNo;
-use nj_late::LateEdge;
+use nj_edge_env::LateEdge;
 use nj_scope::Rule;
 use std::alloc::{AllocError, Global};
 

@@ -8,7 +8,7 @@ ghost use Rattle.nj_graph.specs.Reading.{entry_at, opened_in, text_read, stateme
 ghost use Rattle.nj_graph.specs.ReaderContracts.{IsNew, InFile, ScopesGrow, IsFault, ReadsItem, ReadsOrStops, NextIs};
 
 use crate::opening::{Naming, text_at};
-use nj_build::Building;
+use nj_statements::Building;
 use nj_faults::{Cause, GraphFault};
 use nj_manifest::{Parser, Placed, Spot, Statement};
 use nj_scope::{Declarations, FileSource, FileTable, HashKeys};

@@ -1,7 +1,7 @@
 -- What edges need. Edges (the build statements) are numbered from 0, and `makers e` holds for each input of edge e, in order,
 -- the edge that makes it, or None for a source. A list of targets is a row of the same kind.
 use Rattle.std.specs.Prelude.{ℕ, ◌<◌, Option, Some, List, Contains}
-use Rattle.nj_order.specs.Cycles.{Chain}
+use Rattle.nj_cycles.specs.Cycles.{Chain}
 
 -- edge e needs edge f directly: f makes an input of e
 abbrev pub Needs : (makers : ℕ → List (Option ℕ)) → ℕ → ℕ → Type 0

@@ -12,7 +12,7 @@ use Rattle.nj_scope.specs.ReadingList.{Entry}
 use Rattle.nj_edges.specs.declared.files.FileNo.{FileNo}
 use Rattle.nj_edges.specs.Edges.{inputs_of, edges_from}
 use Rattle.nj_edges.specs.Files.{AreFiles}
-use Rattle.nj_build.specs.EdgeList.{edges_read}
+use Rattle.nj_statements.specs.EdgeList.{edges_read}
 use Rattle.nj_graph.specs.Graph.{GraphText, edges_of, IsGraphOf, rule_name_of}
 use Rattle.nj_graph.proofs.Stated.{graph-edges}
 use Rattle.nj_tools.specs.declared.fault.ToolFault.{ToolFault}

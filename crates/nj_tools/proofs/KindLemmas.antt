@@ -5,7 +5,7 @@ use Rattle.std.proofs.lemmas.Bool.{lt-ltb, le-ltb}
 use Rattle.std.proofs.lemmas.List.{take_more, length-take, get_or-map}
 use Rattle.nj_edges.specs.declared.files.FileNo.{FileNo}
 use Rattle.nj_edges.specs.Files.{path_at, AreFiles}
-use Rattle.nj_build.proofs.LateLemmas.{paths-are}
+use Rattle.nj_statements.proofs.LateLemmas.{paths-are}
 use Rattle.nj_edges.specs.declared.edges.InputKind.{InputKind}
 use Rattle.nj_edges.specs.declared.edges.InputKind.TheVariants.{Explicit, Implicit, OrderOnly}
 use Rattle.nj_edges.specs.Edges.{EdgePaths, inputs_of, kind_at}

@@ -11,8 +11,8 @@ use Rattle.nj_scope.specs.ReadingList.{Entry}
 use Rattle.nj_edges.specs.declared.files.FileNo.{FileNo}
 use Rattle.nj_edges.specs.Edges.{EdgePaths, edge_at, outputs_of}
 use Rattle.nj_edges.specs.Files.{path_at, AreFiles}
-use Rattle.nj_build.specs.EdgeList.{EdgeText, edges_read}
-use Rattle.nj_build.proofs.LateLemmas.{paths-are}
+use Rattle.nj_statements.specs.EdgeList.{EdgeText, edges_read}
+use Rattle.nj_statements.proofs.LateLemmas.{paths-are}
 use Rattle.nj_graph.specs.Graph.{GraphText, edges_of, files_of, IsGraphOf, rule_name_of, rule_name_at}
 use Rattle.nj_graph.proofs.EdgeTexts.{there}
 use Rattle.nj_tools.specs.Collections.{with_files, AreOf}

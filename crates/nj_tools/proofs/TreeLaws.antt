@@ -3,7 +3,7 @@ use Rattle.std.proofs.Common.{◌≡◌, ℕ, zero, suc, ◌+◌, ◌-◌, ◌<�
 use Rattle.std.specs.List.{AllByRecursion, Contains}
 use Rattle.nj_scope.specs.ReadingList.{Entry}
 use Rattle.nj_edges.specs.Edges.{edge_at, inputs_of, maker_of}
-use Rattle.nj_build.specs.EdgeList.{edges_read, paths_of_edges}
+use Rattle.nj_statements.specs.EdgeList.{edges_read, paths_of_edges}
 use Rattle.nj_needs.proofs.Bridges.{IsAcyclic-edges, AreWithin-paths}
 use Rattle.nj_tools.specs.Laws.{DepthZeroShowsAll}
 use Rattle.nj_tools.specs.Listings.{file_line, indent, inputs_of_maker, tree_text}

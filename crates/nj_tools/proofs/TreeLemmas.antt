@@ -8,8 +8,8 @@ use Rattle.nj_scope.specs.ReadingList.{Entry}
 use Rattle.nj_edges.specs.Edges.{EdgePaths, maker_of, roots_of}
 use Rattle.nj_edges.specs.Files.{path_at, AreFiles}
 use Rattle.nj_edges.specs.declared.files.FileNo.{FileNo}
-use Rattle.nj_build.specs.EdgeList.{edges_read, paths_of_edges}
-use Rattle.nj_build.proofs.LateLemmas.{paths-are}
+use Rattle.nj_statements.specs.EdgeList.{edges_read, paths_of_edges}
+use Rattle.nj_statements.proofs.LateLemmas.{paths-are}
 use Rattle.nj_graph.specs.Graph.{rule_name_at}
 use Rattle.nj_tools.specs.Lines.{line}
 use Rattle.nj_tools.specs.Listings.{file_line, indent, inputs_of_maker, levels_of, tree_text, trees_text}

@@ -5,7 +5,7 @@ use Rattle.nj_text.specs.Words.{Text, WordText}
 use Rattle.nj_text.specs.Paths.{clean_path_of, without_leftmost_pair}
 use Rattle.nj_manifest.specs.Statements.{StatementText, BuildText}
 use Rattle.nj_scope.specs.ReadingList.{Entry, bounds}
-use Rattle.nj_build.specs.EdgeList.{edges_read, paths_of_edges}
+use Rattle.nj_statements.specs.EdgeList.{edges_read, paths_of_edges}
 use Rattle.nj_tools.specs.Listings.{file_line, indent, levels_of, tree_text}
 
 abbrev word : (text : List ℕ) → WordText

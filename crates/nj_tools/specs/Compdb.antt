@@ -6,7 +6,7 @@ use Rattle.serde_json.specs.Data.{string}
 use Rattle.serde_json.specs.Written.{compact_text}
 use Rattle.nj_scope.specs.ReadingList.{Entry}
 use Rattle.nj_edges.specs.Edges.{edge_at, inputs_of, outputs_of, is_among, edges_from}
-use Rattle.nj_build.specs.EdgeList.{EdgeText, edges_read, paths_of_edges}
+use Rattle.nj_statements.specs.EdgeList.{EdgeText, edges_read, paths_of_edges}
 use Rattle.nj_graph.specs.Graph.{late_text_of, rule_name_of}
 use Rattle.nj_graph.specs.ResponseFiles.{command_with_rsp_of}
 use Rattle.nj_tools.specs.Lines.{line}

@@ -1,9 +1,9 @@
 -- What the trees show.
 use Rattle.std.specs.Prelude.{◌≡◌, ℕ, ◌≤◌, List, length}
 use Rattle.nj_scope.specs.ReadingList.{Entry}
-use Rattle.nj_order.specs.Cycles.{IsAcyclic}
+use Rattle.nj_cycles.specs.Cycles.{IsAcyclic}
 use Rattle.nj_edges.specs.Needs.{makers_of_inputs}
-use Rattle.nj_build.specs.EdgeList.{edges_read, paths_of_edges}
+use Rattle.nj_statements.specs.EdgeList.{edges_read, paths_of_edges}
 use Rattle.nj_tools.specs.Listings.{levels_of, tree_text}
 
 -- Where no edge needs itself by a chain, depth 0 shows each tree whole: more levels change nothing.

@@ -11,7 +11,7 @@ use Rattle.nj_text.specs.Quotes.{quoted}
 use Rattle.nj_edges.specs.Edges.{EdgePaths, edge_at, inputs_of, outputs_of, maker_of, roots_of}
 use Rattle.nj_needs.specs.Graphs.{row_of_paths, makers_in, is_phony_in}
 use Rattle.nj_needs.specs.Order.{needed_commands}
-use Rattle.nj_build.specs.EdgeList.{edges_read, paths_of_edges}
+use Rattle.nj_statements.specs.EdgeList.{edges_read, paths_of_edges}
 use Rattle.nj_graph.specs.Graph.{sorted_by, is_before, rule_name_of, rule_name_at}
 use Rattle.nj_tools.specs.Lines.{line, lines}
 use Rattle.nj_tools.specs.declared.style.InputsStyle.{InputsStyle}

@@ -2,7 +2,7 @@
 use Rattle.std.specs.Prelude.{ℕ, Option, Some, None, List, [], ◌∷◌, ◌++◌, flat_map, codes}
 use Rattle.nj_scope.specs.ReadingList.{Entry}
 use Rattle.nj_edges.specs.Edges.{EdgePaths, edge_at, outputs_of, maker_of, users_of, validation_users_of}
-use Rattle.nj_build.specs.EdgeList.{edges_read, paths_of_edges}
+use Rattle.nj_statements.specs.EdgeList.{edges_read, paths_of_edges}
 use Rattle.nj_graph.specs.Graph.{rule_name_at}
 use Rattle.nj_tools.specs.Lines.{line, lines_after}
 

@@ -2,9 +2,9 @@ use Rattle.std.proofs.Common.{Ok, Err, sym, subst, ◌∙◌}
 use Rattle.std.specs.Rc.{rc_slice_items}
 use Rattle.std.proofs.lemmas.Option.{slice_get_within}
 use Rattle.nj_scope.specs.Readings.{EachPathOnce}
-use Rattle.nj_build.specs.EdgeList.{Pending}
-use Rattle.nj_build.specs.Answers.{Checks}
-use Rattle.nj_build.specs.Joining.{lacking_fault}
+use Rattle.nj_statements.specs.EdgeList.{Pending}
+use Rattle.nj_statements.specs.Answers.{Checks}
+use Rattle.nj_statements.specs.Joining.{lacking_fault}
 use Rattle.nj_graph.specs.ReaderContracts.{AnswersText}
 use Rattle.nj_graph.specs.Joining.{statement_place}
 use Rattle.nj_graph.specs.JoiningContracts.{JoinsText, JoinsFile}

@@ -1,7 +1,7 @@
 use Rattle.std.proofs.Common.{◌≡◌, ◌≤◌, List, length, drop}
 use Rattle.nj_scope.specs.Readings.{EachPathOnce}
 use Rattle.nj_scope.specs.ReadingList.{Entry}
-use Rattle.nj_build.specs.JoiningHeld.{HoldsJoined}
+use Rattle.nj_statements.specs.JoiningHeld.{HoldsJoined}
 use Rattle.nj_graph.proofs.JoiningRuns.{FilesUnderway}
 use Rattle.nj_graph.proofs.joining.join_files.Given as goal
 

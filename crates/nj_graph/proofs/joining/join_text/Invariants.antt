@@ -3,7 +3,7 @@ use Rattle.nj_text.specs.Lines.{Line}
 use Rattle.nj_manifest.specs.DyndepParsers.{left_by}
 use Rattle.nj_scope.specs.Readings.{IsPrefix}
 use Rattle.nj_scope.specs.ReadingList.{Entry}
-use Rattle.nj_build.specs.JoiningHeld.{HoldsJoined}
+use Rattle.nj_statements.specs.JoiningHeld.{HoldsJoined}
 use Rattle.nj_graph.proofs.JoiningTexts.{TextUnderway, lines_to_come}
 use Rattle.nj_graph.proofs.joining.join_text.Given as goal
 

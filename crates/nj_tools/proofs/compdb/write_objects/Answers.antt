@@ -1,5 +1,5 @@
 use Rattle.std.proofs.Common.{◌≡◌, ◌<◌, Some, None, length, ap, sym, ◌∙◌, arith, rules}
-use Rattle.nj_build.specs.EdgeList.{edges_read}
+use Rattle.nj_statements.specs.EdgeList.{edges_read}
 use Rattle.nj_graph.specs.Graph.{edges_of}
 use Rattle.nj_tools.specs.declared.fault.ToolFault.TheVariants.{OutOfMemory}
 use Rattle.nj_tools.specs.Compdb.{compilation_of, objects_text, held_before}

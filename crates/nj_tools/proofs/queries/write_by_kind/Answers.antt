@@ -1,7 +1,7 @@
 use Rattle.std.proofs.Common.{◌+◌, ◌++◌, length, take, drop, sym, ap, subst, ◌∙◌, arith}
 use Rattle.std.proofs.lemmas.List.{take_all}
 use Rattle.nj_edges.specs.Edges.{edge_at, inputs_of}
-use Rattle.nj_build.proofs.LateLemmas.{as-many}
+use Rattle.nj_statements.proofs.LateLemmas.{as-many}
 use Rattle.nj_graph.specs.Graph.{edges_of, files_of}
 use Rattle.nj_tools.specs.Blocks.{IsUnderway}
 use Rattle.nj_tools.specs.QueriesHeld.{sign_of, input_lines}

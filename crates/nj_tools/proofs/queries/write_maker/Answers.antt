@@ -2,7 +2,7 @@ use Rattle.std.proofs.Common.{◌≡◌, ◌++◌, None, [], option_map, map, re
 use Rattle.std.specs.Prelude.{codes}
 use Rattle.nj_edges.specs.Edges.{edge_at}
 use Rattle.nj_edges.specs.Files.{path_at}
-use Rattle.nj_build.proofs.LateLemmas.{paths-are}
+use Rattle.nj_statements.proofs.LateLemmas.{paths-are}
 use Rattle.nj_graph.specs.Graph.{edges_of, files_of}
 use Rattle.nj_tools.specs.Blocks.{IsUnderway, PutsText}
 use Rattle.nj_tools.specs.Lines.{line}

@@ -1,7 +1,7 @@
 use Rattle.std.proofs.Common.{get_or, ap, arith}
 use Rattle.std.specs.Prelude.{codes}
 use Rattle.nj_edges.specs.Edges.{edge_at, outputs_of}
-use Rattle.nj_build.proofs.LateLemmas.{paths-are}
+use Rattle.nj_statements.proofs.LateLemmas.{paths-are}
 use Rattle.nj_graph.specs.Graph.{edges_of, files_of}
 use Rattle.nj_tools.specs.Lines.{lines_after}
 use Rattle.nj_tools.proofs.BlockLemmas.{puts-with}

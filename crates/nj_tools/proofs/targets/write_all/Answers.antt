@@ -2,7 +2,7 @@ use Rattle.std.proofs.Common.{ℕ, ◌<◌, List, length, arith}
 use Rattle.std.specs.List.{flat_map}
 use Rattle.nj_scope.specs.ReadingList.{Entry}
 use Rattle.nj_edges.specs.Edges.{outputs_of}
-use Rattle.nj_build.specs.EdgeList.{EdgeText, edges_read}
+use Rattle.nj_statements.specs.EdgeList.{EdgeText, edges_read}
 use Rattle.nj_graph.specs.Graph.{edges_of, rule_name_of}
 use Rattle.nj_tools.specs.Listings.{made_line}
 use Rattle.nj_tools.proofs.ItemLemmas.{item-puts, item-stops, items-put}

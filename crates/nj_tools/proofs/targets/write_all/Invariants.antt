@@ -2,7 +2,7 @@ use Rattle.std.proofs.Common.{List, ◌++◌, take}
 use Rattle.std.specs.List.{flat_map}
 use Rattle.nj_scope.specs.ReadingList.{Entry}
 use Rattle.nj_edges.specs.Edges.{outputs_of}
-use Rattle.nj_build.specs.EdgeList.{edges_read}
+use Rattle.nj_statements.specs.EdgeList.{edges_read}
 use Rattle.nj_graph.specs.Graph.{IsGraphOf, rule_name_of}
 use Rattle.nj_tools.specs.Blocks.{IsUnderway}
 use Rattle.nj_tools.specs.Listings.{made_line}

@@ -1,7 +1,7 @@
 use Rattle.std.proofs.Common.{ap, ◌∙◌}
 use Rattle.nj_graph.specs.Graph.{edges_of}
 use Rattle.nj_tools.specs.Listings.{inputs_of_maker}
-use Rattle.nj_build.proofs.LateLemmas.{paths-are}
+use Rattle.nj_statements.proofs.LateLemmas.{paths-are}
 use Rattle.nj_tools.proofs.trees.inputs_of_maker.Goals as goal
 
 pub returns-in-Some-clause-paths : goal.returns-in-Some-clause-paths

@@ -1,5 +1,5 @@
 use Rattle.std.proofs.Common.{◌≡◌, ◌<◌, Some, None, ap, sym, subst, length, slice_get}
-use Rattle.nj_order.specs.Cycles.{IsLeastOnCycle}
+use Rattle.nj_cycles.specs.Cycles.{IsLeastOnCycle}
 use Rattle.nj_edges.specs.declared.edges.EdgeNo.{EdgeNo}
 use Rattle.nj_edges.specs.declared.users.RowPart.TheVariants.{Inputs, Validations}
 use Rattle.nj_edges.specs.EdgeGraphs.{EdgeGraph}

@@ -1,11 +1,11 @@
 use Rattle.std.proofs.Common.{◌≡◌, ◌++◌, ◌∷◌, sym, ap, subst, ◌∙◌}
 use Rattle.std.proofs.lemmas.Option.{get_or_from_slice_get}
 use Rattle.nj_scope.specs.Scopes.{IsScope, parent_at}
-use Rattle.nj_build.proofs.Holding.{on-ok}
+use Rattle.nj_statements.proofs.Holding.{on-ok}
 use Rattle.nj_edges.specs.Edges.{edge_at}
 use Rattle.nj_edges.specs.Files.{AreFiles}
 use Rattle.nj_scope.specs.Declarations.{DeclarationsText, DeclaredBy}
-use Rattle.nj_build.specs.Built.{BuiltText, detail_at}
+use Rattle.nj_statements.specs.Built.{BuiltText, detail_at}
 use Rattle.nj_graph.specs.Graph.{GraphText}
 use Rattle.nj_graph.proofs.EdgeTexts.{edge, edge-open, detail-is, names-same, text-same}
 use Rattle.nj_graph.proofs.graph.Graph.append_variable.Goals as goal

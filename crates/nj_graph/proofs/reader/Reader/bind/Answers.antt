@@ -4,7 +4,7 @@ use Rattle.nj_manifest.specs.Statements.{BindingText}
 use Rattle.nj_scope.specs.ReadingList.{Entry}
 use Rattle.nj_faults.specs.Versions.{is_newer}
 use Rattle.nj_graph.specs.declared.reader.Reader.{Reader}
-use Rattle.nj_build.proofs.Holding.{holds-other}
+use Rattle.nj_statements.proofs.Holding.{holds-other}
 use Rattle.nj_graph.specs.Reading.{entry_at}
 use Rattle.nj_graph.specs.ReaderContracts.{site_of}
 use Rattle.nj_graph.proofs.Holding.{holds-next, same-grows, version-accepted, name-is-other}

@@ -3,7 +3,7 @@ use Rattle.nj_manifest.specs.LineSteps.{NameText}
 use Rattle.nj_manifest.specs.Statements.{PoolText}
 use Rattle.nj_manifest.specs.Contents.{name_text, lines_text}
 use Rattle.nj_graph.specs.declared.reader.Reader.{Reader}
-use Rattle.nj_build.proofs.Holding.{holds-other}
+use Rattle.nj_statements.proofs.Holding.{holds-other}
 use Rattle.nj_graph.specs.Reading.{entry_at, site_scope, depth_fault}
 use Rattle.nj_graph.specs.ReaderContracts.{site_of}
 use Rattle.nj_graph.proofs.Holding.{holds-next, pool-new, depths-same, pool-declares, same-grows}

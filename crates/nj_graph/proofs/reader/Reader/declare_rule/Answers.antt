@@ -1,7 +1,7 @@
 use Rattle.std.proofs.Common.{refl, sym, ◌∙◌}
 use Rattle.nj_manifest.specs.Statements.{RuleText}
 use Rattle.nj_manifest.specs.Contents.{name_text, lines_text}
-use Rattle.nj_build.proofs.Holding.{holds-other}
+use Rattle.nj_statements.proofs.Holding.{holds-other}
 use Rattle.nj_graph.specs.Reading.{entry_at}
 use Rattle.nj_graph.specs.ReaderContracts.{site_of}
 use Rattle.nj_graph.proofs.Holding.{holds-next, same-grows, rule-new}

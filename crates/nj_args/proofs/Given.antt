@@ -1,0 +1,61 @@
+-- What is asked for, by what `clap` reads in the words.
+use Rattle.std.proofs.Common.{◌≡◌, ◌⊎◌, ℕ, Bool, true, false, List, [], ◌∷◌, ◌<◌, ◌≤◌, length, map, Option, Some, None, Result, Ok, Err, refl, sym, ap, ◌∙◌, inl, inr, arith, String, Global}
+use Rattle.std.specs.Prelude.{string_bytes, option_map, unwrap_or, ok_or, codes, if◌then◌else◌}
+use Rattle.std.specs.Borrow.{Bor}
+use Rattle.clap.specs.Words.{Row, matched_of, matches_of, raw_values, rows_of}
+use Rattle.clap.specs.declared.parser.matches.Found.{Found}
+use Rattle.clap.proofs.WalkLemmas.{raw_values-rows}
+use Rattle.nj_args.specs.CommandLine.{command}
+use Rattle.nj_args.specs.Fields.{FieldTexts, fields_in, is_refused, words_in}
+use Rattle.nj_args.specs.Held.{word_texts}
+use Rattle.nj_args.specs.Requests.{RequestText, given_request, request_in, request_of, wordless, ◌>>=◌}
+use Rattle.nj_args.specs.declared.faults.UsageFault.{UsageFault}
+use Rattle.nj_args.specs.declared.faults.UsageFault.TheVariants.{Unparsed, OutOfMemory}
+
+-- the words of the matches
+pub words_held : (words : Option (Bor (List (Bor (List ℕ))))) (found : Found)
+    → option_map (λ texts. map (λ text. text.now) texts.now) words ≡ option_map raw_values (matched_of found (codes "words"))
+    → word_texts words ≡ words_in (rows_of found)
+words_held words found e = ap (λ texts. unwrap_or texts []) (e ∙ raw_values-rows found (codes "words"))
+
+abbrev asked_of : (refused : Bool) → FieldTexts → Result RequestText UsageFault
+asked_of refused fields = ok_or (if refused then None else Some fields) Unparsed >>= request_in
+
+not_refused : (refused : Bool) (fields : FieldTexts) → refused ≡ false → asked_of refused fields ≡ request_in fields
+not_refused false fields e = refl
+not_refused true fields e = absurd (cc)
+
+is_unparsed : (refused : Bool) (fields : FieldTexts) → refused ≡ true → asked_of refused fields ≡ Err Unparsed
+is_unparsed true fields e = refl
+is_unparsed false fields e = absurd (cc)
+
+pub given : (words : List (List ℕ)) (rows : List Row) → is_refused words ≡ false → rows ≡ matches_of command words
+    → given_request words ≡ request_in (fields_in rows)
+given words rows read same =
+    not_refused (is_refused words) (fields_in (matches_of command words)) read ∙ ap (λ rows. request_in (fields_in rows)) (sym same)
+
+unparsed_fault : (words : List (List ℕ)) (fault : UsageFault) → fault ≡ Unparsed → given_request words ≡ Err Unparsed → given_request words ≡ Err fault
+unparsed_fault words fault e asked = asked ∙ ap Err (sym e)
+
+pub unparsed : (words : List (List ℕ)) (fault : UsageFault)
+    → (fault ≡ OutOfMemory) ⊎ ((fault ≡ Unparsed) × (is_refused words ≡ true))
+    → (fault ≡ OutOfMemory) ⊎ (given_request words ≡ Err fault)
+unparsed words fault (inl e) = inl e
+unparsed words fault (inr e) =
+    inr (unparsed_fault words fault e.0 (is_unparsed (is_refused words) (fields_in (matches_of command words)) e.1))
+
+pub of_none : (words : List (String Global)) → length words < 1 → request_of (map string_bytes words) ≡ Ok wordless
+unfolding request_of
+of_none [] h = refl
+of_none (word ∷ words) h = absurd (omega arith)
+
+pub of_some : (words : List (String Global)) → 1 ≤ length words → request_of (map string_bytes words) ≡ given_request (map string_bytes words)
+unfolding request_of
+of_some [] h = absurd (omega arith)
+of_some (word ∷ words) h = refl
+
+-- the same fault of what is equal
+pub same_fault : (asked said : Result RequestText UsageFault) (fault : UsageFault) → asked ≡ said
+    → (fault ≡ OutOfMemory) ⊎ (said ≡ Err fault) → (fault ≡ OutOfMemory) ⊎ (asked ≡ Err fault)
+same_fault asked said fault e (inl memory) = inl memory
+same_fault asked said fault e (inr told) = inr (e ∙ told)

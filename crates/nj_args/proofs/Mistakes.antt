@@ -1,0 +1,175 @@
+-- Mistakes in what is read in the words, and computations that end with the fault of the first.
+use Rattle.std.proofs.Common.{◌≡◌, ◌≢◌, ℕ, Bool, true, false, cond, List, [], ◌∷◌, ◌++◌, map, take, drop, Option, Some, None, Result, Ok, Err, refl, sym, ap, subst, ◌∙◌}
+use Rattle.std.specs.Prelude.{⊤, codes, not, ◌&&◌, is_some, find}
+use Rattle.nj_args.specs.Fields.{FieldTexts}
+use Rattle.nj_args.specs.FirstFaults.{Mistake, foreign_option, bad_take, bad_mark, bad_words, bad_depth, TakesWords, NamesTool, HasMistake, toolless, unknown, foreign, no_number, no_mark, wrong_words, no_depth, Lacks, IsFirstOf, first, later}
+use Rattle.nj_args.specs.Requests.{◌>>=◌}
+use Rattle.nj_args.specs.Tools.{tool_named, is_foreign, first_foreign, all_options}
+use Rattle.nj_args.specs.declared.faults.ToolOption.{ToolOption}
+use Rattle.nj_args.specs.declared.faults.ToolOption.TheVariants as option
+use Rattle.nj_args.specs.declared.faults.UsageFault.{UsageFault}
+use Rattle.nj_args.specs.declared.faults.UsageFault.TheVariants.{ForeignOption, BadWords}
+use Rattle.nj_args.specs.declared.tools.Tool.{Tool}
+use Rattle.nj_args.specs.declared.tools.Tool.TheVariants.{Targets}
+
+-- ---- one fault for a mistake, one first fault
+
+-- one tool is named
+same_tool : {fields : FieldTexts} {name other : List ℕ} {tool another : Tool} → NamesTool fields name tool → NamesTool fields other another
+    → (name ≡ other) × (tool ≡ another)
+same_tool {fields} {name} {other} {tool} {another} one two =
+    let names : Some name ≡ Some other = sym one.asked ∙ two.asked in
+    let same : name ≡ other = cc in
+    let tools : Some tool ≡ Some another = sym one.known ∙ ap tool_named same ∙ two.known in
+    (same, cc)
+
+-- a mistake is reported by one fault
+one_fault : {fields : FieldTexts} {mistake : Mistake} {fault other : UsageFault} → HasMistake fields mistake fault
+    → HasMistake fields mistake other → fault ≡ other
+one_fault (toolless e) (toolless f) = refl
+one_fault (unknown name e k) (unknown other f l) = let same : Some name ≡ Some other = sym e ∙ f in cc
+one_fault (foreign name tool option one e) (foreign other another option' two f) = ap (λ n. ForeignOption option n) (same_tool one two).0
+one_fault (no_number text e k) (no_number other f l) = let same : Some text ≡ Some other = sym e ∙ f in cc
+one_fault (no_mark text e k) (no_mark other f l) = let same : Some text ≡ Some other = sym e ∙ f in cc
+one_fault (wrong_words name tool one e) (wrong_words other another two f) = ap BadWords (same_tool one two).0
+one_fault (no_depth name text one e k) (no_depth other text' two f l) =
+    let same : codes "depth" ∷ text ∷ [] ≡ codes "depth" ∷ text' ∷ [] = sym e ∙ f in
+    cc
+
+-- of some mistakes one is the first
+one_first : {fields : FieldTexts} {mistakes : List Mistake} {fault other : UsageFault} → IsFirstOf fields mistakes fault
+    → IsFirstOf fields mistakes other → fault ≡ other
+one_first (first h) (first k) = one_fault h k
+one_first (first h) (later lacks k) = absurd (lacks _ h)
+one_first (later lacks h) (first k) = absurd (lacks _ k)
+one_first (later lacks h) (later lacks' k) = one_first h k
+
+-- ---- a computation ends in its first fault
+
+abbrev pub LacksAll : FieldTexts → List Mistake → Type 0
+LacksAll fields [] = ⊤
+LacksAll fields (mistake ∷ mistakes) = Lacks fields mistake × LacksAll fields mistakes
+
+-- it ends with a value where there is none of the mistakes; else with the fault of the first
+pub data Ends {A : Type 0} (fields : FieldTexts) (mistakes : List Mistake) : Result A UsageFault → Type 0 where
+  in_value : {x : A} → LacksAll fields mistakes → Ends fields mistakes (Ok x)
+  in_fault : {fault : UsageFault} → IsFirstOf fields mistakes fault → Ends fields mistakes (Err fault)
+
+-- one more mistake is not there
+pub skip : {A : Type 0} {fields : FieldTexts} {mistake : Mistake} {mistakes : List Mistake} {result : Result A UsageFault}
+    → Lacks fields mistake → Ends fields mistakes result → Ends fields (mistake ∷ mistakes) result
+skip lacks (in_value none) = in_value (lacks, none)
+skip lacks (in_fault h) = in_fault (later lacks h)
+
+-- the value is made into another
+pub mapped : {A B : Type 0} {fields : FieldTexts} {mistakes : List Mistake} {result : Result A UsageFault} (f : A → B)
+    → Ends fields mistakes result → Ends fields mistakes (result >>= (λ x. Ok (f x)))
+mapped f (in_value none) = in_value none
+mapped f (in_fault h) = in_fault h
+
+-- one mistake is looked for, then others
+pub bound : {A B : Type 0} {fields : FieldTexts} {mistake : Mistake} {mistakes : List Mistake} {result : Result A UsageFault}
+    (f : A → Result B UsageFault) → Ends fields (mistake ∷ []) result → ((x : A) → Ends fields mistakes (f x))
+    → Ends fields (mistake ∷ mistakes) (result >>= f)
+bound f (in_value {x} none) next = skip none.0 (next x)
+bound f (in_fault (first h)) next = in_fault (first h)
+bound f (in_fault (later lacks h)) next = elim h [ ]
+
+no_first : {fields : FieldTexts} {mistakes : List Mistake} {fault : UsageFault} → LacksAll fields mistakes
+    → ¬ IsFirstOf fields mistakes fault
+no_first none (first h) = none.0 _ h
+no_first none (later lacks h) = no_first none.1 h
+
+-- what ends so has a fault exactly where it is the first
+pub told : {A : Type 0} {fields : FieldTexts} {mistakes : List Mistake} {fault : UsageFault} {result : Result A UsageFault}
+    → Ends fields mistakes result → IsFirstOf fields mistakes fault → result ≡ Err fault
+told (in_value none) h = absurd (no_first none h)
+told (in_fault k) h = ap Err (one_first k h)
+
+-- ---- options that do not go with the tool
+
+module _ (fields : FieldTexts) (name : List ℕ) (tool : Tool) (names : NamesTool fields name tool) where
+  goes : (option : ToolOption) → is_foreign tool fields option ≡ false → Lacks fields (foreign_option option)
+  goes option e fault (foreign other another option' two f) =
+      let same : tool ≡ another = (same_tool names two).1 in
+      let g : is_foreign another fields option ≡ false = rw (← same) e in
+      absurd (cc)
+
+  -- a first one is found
+  pub found : (options : List ToolOption) (rest : List Mistake) (option : ToolOption) → find (is_foreign tool fields) options ≡ Some option
+      → IsFirstOf fields (map foreign_option options ++ rest) (ForeignOption option name)
+  found [] rest option e = absurd (cc)
+  found (x ∷ options) rest option e = by_test (is_foreign tool fields x) refl e (found options rest option)
+    where
+      by_test : (b : Bool) → is_foreign tool fields x ≡ b → cond b (Some x) (find (is_foreign tool fields) options) ≡ Some option
+          → (find (is_foreign tool fields) options ≡ Some option
+          → IsFirstOf fields (map foreign_option options ++ rest) (ForeignOption option name))
+          → IsFirstOf fields (foreign_option x ∷ (map foreign_option options ++ rest)) (ForeignOption option name)
+      by_test true b e others = let same : x ≡ option = cc in rw (← same) (first (foreign name tool x names b))
+      by_test false b e others = later (goes x b) (others e)
+
+  -- none is found
+  pub none_found : {A : Type 0} (options : List ToolOption) (rest : List Mistake) (result : Result A UsageFault)
+      → find (is_foreign tool fields) options ≡ None → Ends fields rest result → Ends fields (map foreign_option options ++ rest) result
+  none_found [] rest result e ends = ends
+  none_found (x ∷ options) rest result e ends = by_test (is_foreign tool fields x) refl e (λ e. none_found options rest result e ends)
+    where
+      by_test : (b : Bool) → is_foreign tool fields x ≡ b → cond b (Some x) (find (is_foreign tool fields) options) ≡ None
+          → (find (is_foreign tool fields) options ≡ None → Ends fields (map foreign_option options ++ rest) result)
+          → Ends fields (foreign_option x ∷ (map foreign_option options ++ rest)) result
+      by_test true b e others = absurd (cc)
+      by_test false b e others = skip (goes x b) (others e)
+
+-- what is true of no option of a list is not true of one
+passed_over : (p : ToolOption → Bool) (before : List ToolOption) (x : ToolOption) (after : List ToolOption)
+    → find p (before ++ x ∷ after) ≡ None → p x ≡ false
+passed_over p [] x after e = by_test (p x) refl e
+  where
+    by_test : (b : Bool) → p x ≡ b → cond b (Some x) (find p after) ≡ None → p x ≡ false
+    by_test true b e = absurd (cc)
+    by_test false b e = b
+passed_over p (y ∷ before) x after e = by_test (p y) e (passed_over p before x after)
+  where
+    by_test : (b : Bool) → cond b (Some y) (find p (before ++ x ∷ after)) ≡ None
+        → (find p (before ++ x ∷ after) ≡ None → p x ≡ false) → p x ≡ false
+    by_test true e others = absurd (cc)
+    by_test false e others = others e
+
+pub record NotForeign (tool : Tool) (fields : FieldTexts) : Type 0 where
+  pub take : is_foreign tool fields option.Take ≡ false
+  pub resume : is_foreign tool fields option.Resume ≡ false
+
+pub not_foreign : (tool : Tool) (fields : FieldTexts) → first_foreign tool fields ≡ None → NotForeign tool fields
+not_foreign tool fields e = record {
+  take = passed_over (is_foreign tool fields) (take 4 all_options) option.Take (drop 5 all_options) e;
+  resume = passed_over (is_foreign tool fields) (take 5 all_options) option.Resume (drop 6 all_options) e;
+}
+
+-- an option that does not go with the tool, and is not foreign, is not given
+pub not_given : {A : Type 0} (given : Option A) (goes : Bool) → (is_some given && not goes) ≡ false → goes ≡ false → given ≡ None
+not_given None goes e f = refl
+not_given (Some x) true e f = absurd (cc)
+not_given (Some x) false e f = absurd (cc)
+
+pub lacks_bad_take : (fields : FieldTexts) → fields.take ≡ None → Lacks fields bad_take
+lacks_bad_take fields e fault (no_number text f k) = absurd (cc)
+
+pub lacks_bad_mark : (fields : FieldTexts) → fields.resume ≡ None → Lacks fields bad_mark
+lacks_bad_mark fields e fault (no_mark text f k) = absurd (cc)
+
+-- ---- the words of a tool
+
+module _ (fields : FieldTexts) (name : List ℕ) (tool : Tool) (names : NamesTool fields name tool) where
+  pub lacks_bad_words : TakesWords tool fields.words → Lacks fields bad_words
+  lacks_bad_words takes fault (wrong_words other another two wrong) =
+      absurd (wrong (subst (λ t. TakesWords t fields.words) (same_tool names two).1 takes))
+
+  pub lacks_bad_depth : tool ≢ Targets → Lacks fields bad_depth
+  lacks_bad_depth e fault (no_depth other text two f k) = absurd (e (same_tool names two).1)
+
+  -- a tool that takes the words, and is not `targets`
+  pub takes_all : {A : Type 0} (x : A) → tool ≢ Targets → TakesWords tool fields.words → Ends fields (bad_words ∷ bad_depth ∷ []) (Ok x)
+  takes_all x other takes = in_value (lacks_bad_words takes, (lacks_bad_depth other, tt))
+
+  pub refuses : (A : Type 0) → ¬ TakesWords tool fields.words → Ends {A = A} fields (bad_words ∷ bad_depth ∷ []) (Err (BadWords name))
+  refuses A wrong = in_fault (first (wrong_words name tool names wrong))

@@ -1,0 +1,180 @@
+-- What the words of a command line ask for.
+use Rattle.std.specs.Prelude.{ℕ, Bool, true, false, not, if◌then◌else◌, List, [], ◌∷◌, map, codes, string_bytes}
+use Rattle.std.specs.Prelude.{Option, Some, None, option_map, unwrap_or, ok_or, Result, Ok, Err}
+use Rattle.std.specs.Option.{option_map_or}
+use Rattle.std.specs.Str.{bytes_eq}
+use Rattle.nj_tools.specs.declared.style.InputsStyle.{InputsStyle}
+use Rattle.nj_tools.specs.declared.view.TargetsView.{TargetsView}
+use Rattle.nj_tools.specs.declared.view.TargetsView.TheVariants.{OfRule, Sources, Depth, All}
+use Rattle.nj_args.specs.Fields.{FieldTexts, fields_of}
+use Rattle.nj_args.specs.Numbers.{said_number, said_depth}
+use Rattle.nj_args.specs.RunMarks.{said_run_mark}
+use Rattle.nj_args.specs.Tools.{tool_named, first_foreign}
+use Rattle.nj_args.specs.declared.faults.UsageFault.{UsageFault}
+use Rattle.nj_args.specs.declared.faults.UsageFault.TheVariants.{Unparsed, UnknownTool, ForeignOption, BadNumber, BadMark, BadWords}
+use Rattle.nj_args.specs.declared.requests.Action.{Action}
+use Rattle.nj_args.specs.declared.requests.Action.TheVariants as action
+use Rattle.nj_args.specs.declared.requests.Request.{Request}
+use Rattle.nj_args.specs.declared.tools.Tool.{Tool}
+use Rattle.nj_args.specs.declared.tools.Tool.TheVariants as tool
+
+-- `paths` are of targets or files, `names` of rules; `start` is the numbers of a mark; `validations`: what is to be validated when the
+-- targets are built counts as a target too
+pub data ActionText : Type 0 where
+  commands : (paths : List (List ℕ)) (validations : Bool) (take : Option ℕ) (start : List ℕ) → ActionText
+  single_commands : (paths : List (List ℕ)) → ActionText
+  inputs : (paths : List (List ℕ)) (validations : Bool) (style : InputsStyle) → ActionText
+  targets : (view : TargetsView) → ActionText
+  query : (paths : List (List ℕ)) → ActionText
+  rules : (descriptions : Bool) → ActionText
+  compdb : (names : List (List ℕ)) (directory : List ℕ) (expand : Bool) → ActionText
+
+-- `dyndep`: what dyndep files discover is joined first
+pub record RequestText : Type 0 where
+  pub file : List ℕ
+  pub from_stdin : Bool
+  pub dyndep : Bool
+  pub action : ActionText
+
+abbrev pub action_text : Action → ActionText
+action_text (action.Commands paths validations take start) = commands (map string_bytes paths.items) validations take start
+action_text (action.SingleCommands paths) = single_commands (map string_bytes paths.items)
+action_text (action.Inputs paths validations style) = inputs (map string_bytes paths.items) validations style
+action_text (action.Targets view) = targets view
+action_text (action.Query paths) = query (map string_bytes paths.items)
+action_text (action.Rules descriptions) = rules descriptions
+action_text (action.Compdb names directory expand) = compdb (map string_bytes names.items) (string_bytes directory) expand
+
+abbrev pub request_text : Request → RequestText
+request_text request = record {
+  file = string_bytes request.file;
+  from_stdin = request.from_stdin;
+  dyndep = request.dyndep;
+  action = action_text request.action;
+}
+
+infixl 10 ◌>>=◌
+abbrev pub ◌>>=◌ : {A B : Type 0} → Result A UsageFault → (A → Result B UsageFault) → Result B UsageFault
+(Ok x) >>= f = f x
+(Err fault) >>= f = Err fault
+
+-- ---- `commands`
+
+abbrev pub take_of : Option (List ℕ) → Result (Option ℕ) UsageFault
+take_of None = Ok None
+take_of (Some text) = ok_or (option_map Some (said_number text)) (BadNumber text)
+
+abbrev pub start_of : (validations : Bool) → Option (List ℕ) → Result (List ℕ) UsageFault
+start_of validations None = Ok []
+start_of validations (Some text) = ok_or (said_run_mark validations text) (BadMark text)
+
+-- the commands of the edges that the targets need, from a mark on, up to a limit; or with `-s` those of the edges that make them
+abbrev pub commands_of : FieldTexts → Result ActionText UsageFault
+commands_of fields = if fields.is_single then Ok (single_commands fields.words) else do
+  take ← take_of fields.take
+  start ← start_of fields.validations fields.resume
+  Ok (commands fields.words fields.validations take start)
+
+-- ---- `targets`
+
+-- `depth`, `all` or `rule` alone
+abbrev pub view_of_word : (name word : List ℕ) → Result TargetsView UsageFault
+view_of_word name word =
+    if bytes_eq word (codes "depth") then Ok (Depth 1)
+    else if bytes_eq word (codes "all") then Ok All
+    else if bytes_eq word (codes "rule") then Ok Sources
+    else Err (BadWords name)
+
+-- this many levels
+abbrev pub depth_of : (text : List ℕ) → Result TargetsView UsageFault
+depth_of text = ok_or (option_map Depth (said_depth text)) (BadNumber text)
+
+-- `depth N` or `rule NAME`
+abbrev pub view_of_pair : (name word value : List ℕ) → Result TargetsView UsageFault
+view_of_pair name word value =
+    if bytes_eq word (codes "depth") then depth_of value
+    else if bytes_eq word (codes "rule") then Ok (OfRule value)
+    else Err (BadWords name)
+
+-- without words as `depth 1`
+abbrev pub view_of : (name : List ℕ) (words : List (List ℕ)) → Result TargetsView UsageFault
+view_of name [] = Ok (Depth 1)
+view_of name (word ∷ []) = view_of_word name word
+view_of name (word ∷ value ∷ []) = view_of_pair name word value
+view_of name (word ∷ value ∷ more ∷ words) = Err (BadWords name)
+
+abbrev pub targets_of : (name : List ℕ) → FieldTexts → Result ActionText UsageFault
+targets_of name fields = do
+  view ← view_of name fields.words
+  Ok (targets view)
+
+-- ---- the other tools
+
+-- the list is sorted and quoted for a shell, a line each, unless an option says otherwise
+abbrev pub style_of : FieldTexts → InputsStyle
+style_of fields = record {
+  dependency_order = fields.dependency_order;
+  shell_escape = not fields.no_shell_escape;
+  zero = fields.print0;
+}
+
+-- any number of targets
+abbrev pub inputs_of : FieldTexts → Result ActionText UsageFault
+inputs_of fields = Ok (inputs fields.words fields.validations (style_of fields))
+
+-- one file or more
+abbrev pub query_of : (name : List ℕ) (words : List (List ℕ)) → Result ActionText UsageFault
+query_of name [] = Err (BadWords name)
+query_of name (word ∷ words) = Ok (query (word ∷ words))
+
+-- no words
+abbrev pub rules_of : (name : List ℕ) (descriptions : Bool) (words : List (List ℕ)) → Result ActionText UsageFault
+rules_of name descriptions [] = Ok (rules descriptions)
+rules_of name descriptions (word ∷ words) = Err (BadWords name)
+
+-- the working folder
+abbrev pub here : List ℕ
+here = codes "."
+
+-- any number of rules
+abbrev pub compdb_of : FieldTexts → Result ActionText UsageFault
+compdb_of fields = Ok (compdb fields.words (unwrap_or fields.directory here) fields.expand)
+
+-- ---- the request
+
+-- what the tool of this name is asked for, by options that go with it
+abbrev pub asked_of : Tool → (name : List ℕ) → FieldTexts → Result ActionText UsageFault
+asked_of tool.Commands name fields = commands_of fields
+asked_of tool.Inputs name fields = inputs_of fields
+asked_of tool.Targets name fields = targets_of name fields
+asked_of tool.Query name fields = query_of name fields.words
+asked_of tool.Rules name fields = rules_of name fields.descriptions fields.words
+asked_of tool.Compdb name fields = compdb_of fields
+
+-- an option that does not go with the tool is a fault
+abbrev pub action_of : (name : List ℕ) → FieldTexts → Result ActionText UsageFault
+action_of name fields = do
+  tool ← ok_or (tool_named name) (UnknownTool name)
+  option_map_or (λ option. Err (ForeignOption option name)) (first_foreign tool fields) (asked_of tool name fields)
+
+abbrev pub main_file : List ℕ
+main_file = codes "build.ninja"
+
+-- a tool is required
+abbrev pub request_in : FieldTexts → Result RequestText UsageFault
+request_in fields = do
+  name ← ok_or fields.tool Unparsed
+  action ← action_of name fields
+  Ok (record { file = unwrap_or fields.file main_file; from_stdin = fields.from_stdin; dyndep = fields.dyndep; action = action })
+
+-- the fields are those that `clap` reads in the words
+abbrev pub given_request : (words : List (List ℕ)) → Result RequestText UsageFault
+given_request words = ok_or (fields_of words) Unparsed >>= request_in
+
+-- without any words: all commands of a file that standard input gives
+abbrev pub wordless : RequestText
+wordless = record { file = main_file; from_stdin = true; dyndep = false; action = commands [] false None [] }
+
+unfoldable pub request_of : (words : List (List ℕ)) → Result RequestText UsageFault
+request_of [] = Ok wordless
+request_of (word ∷ words) = given_request (word ∷ words)

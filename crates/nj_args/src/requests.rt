@@ -1,0 +1,439 @@
+//! Requests: what the words of a command line ask for.
+
+ghost use Rattle.std.specs.Prelude.{◌≡◌, ◌⊎◌, None, Ok, Err, IfOk, IfErr, IfSome, IfNone, map, string_bytes};
+ghost use Rattle.nj_marks.specs.Marks.{said_mark};
+ghost use Rattle.std.specs.Option.{option_copied};
+ghost use Rattle.nj_args.specs.Requests.{
+  request_of,
+  given_request,
+  request_in,
+  request_text,
+  action_of,
+  action_text,
+  asked_of,
+  commands_of,
+  take_of,
+  start_of,
+  inputs_of,
+  style_of,
+  targets_of,
+  view_of,
+  view_of_word,
+  view_of_pair,
+  depth_of,
+  query_of,
+  rules_of,
+  compdb_of,
+  main_file,
+  wordless,
+};
+ghost use Rattle.nj_args.specs.Held.{field_texts, word_texts};
+ghost use Rattle.nj_args.specs.RunMarks.{said_run_mark};
+ghost use Rattle.nj_args.specs.declared.faults.UsageFault.TheVariants.{OutOfMemory};
+
+use crate::faults::{UsageFault, Word};
+use crate::fields::{Fields, fields_in, parse};
+use crate::numbers::{depth_in, number_in};
+use crate::tools::{Tool, first_foreign, tool_named};
+use nj_graph::Name;
+use nj_marks::{Mark, MarkFault};
+use nj_tools::{InputsStyle, TargetsView};
+use std::alloc::{AllocError, Global};
+
+const MAIN_FILE: &str = "build.ninja";
+
+// The working folder, which `compdb` names if no other is given.
+const HERE: &str = ".";
+
+/// What the words of a command line ask for.
+#[derive(Drop)]
+pub struct Request {
+    /// The main file's name ("Running Ninja").
+    pub file: String,
+    /// Whether standard input stands for the main file.
+    pub from_stdin: bool,
+    /// Whether what dyndep files discover is joined first.
+    pub dyndep: bool,
+    pub action: Action,
+}
+
+/// What is asked of the file ("Extra tools"). Targets, files and names of rules are the words that
+/// are not options, as they were written. Without targets, the file says which they are ("Default
+/// target statements").
+#[derive(Drop)]
+pub enum Action {
+    /// `commands`: the commands of the edges that the targets need, from a mark on.
+    Commands {
+        targets: Vec<String>,
+        /// Whether what is to be validated when the targets are built counts as a target too
+        /// ("Validations").
+        validations: bool,
+        /// At most this many commands.
+        take: Option<u64>,
+        start: Mark,
+    },
+    /// `commands` with `-s`: the commands of the edges that make the targets.
+    SingleCommands {
+        targets: Vec<String>,
+    },
+    /// `inputs`: the inputs of the edges whose commands the targets need.
+    Inputs {
+        targets: Vec<String>,
+        /// As for `Commands`.
+        validations: bool,
+        style: InputsStyle,
+    },
+    /// `targets`: files of the graph, by rule, by depth or all.
+    Targets {
+        view: TargetsView,
+    },
+    /// `query`: what each file is made of, and what is made of it. There is one or more.
+    Query {
+        files: Vec<String>,
+    },
+    /// `rules`: the names of the rules.
+    Rules {
+        /// With the description of each.
+        descriptions: bool,
+    },
+    /// `compdb`: a compilation database.
+    Compdb {
+        /// The rules whose edges it has; without any, those of all rules.
+        rules: Vec<String>,
+        /// The folder that it says each command runs in.
+        directory: String,
+        /// Whether response files are expanded in the commands.
+        expand: bool,
+    },
+}
+
+/// What the words ask for, without the program's name. The first fault of the words in the order of
+/// [`UsageFault`] is reported.
+///
+/// # Errors
+///
+/// The words are not a valid request, or an allocation failed.
+pub fn read_words(alloc: Global, words: &[String]) -> Result<Request, UsageFault>
+    ensures ok { IfOk result (λ request.
+        request_of (map string_bytes words.now) ≡ Ok (request_text request)) }
+    ensures err { IfErr result (λ fault. (fault ≡ OutOfMemory)
+        ⊎ (request_of (map string_bytes words.now) ≡ Err fault)) }
+{
+    match words {
+        [] => wordless(alloc),
+        [_, ..] => given_request(alloc, words),
+    }
+}
+
+// What is asked for without any words.
+fn wordless(alloc: Global) -> Result<Request, UsageFault>
+    ensures ok { IfOk result (λ request. request_text request ≡ wordless) }
+    ensures err { IfErr result (λ fault. fault ≡ OutOfMemory) }
+{
+    let action = Action::Commands {
+        targets: Vec::new(alloc),
+        validations: false,
+        take: None,
+        start: Mark::start(alloc),
+    };
+    Ok(Request {
+        file: String::from_str(alloc, MAIN_FILE)?,
+        from_stdin: true,
+        dyndep: false,
+        action,
+    })
+}
+
+// What is asked for by words as `clap` reads them.
+fn given_request(alloc: Global, words: &[String]) -> Result<Request, UsageFault>
+    ensures ok { IfOk result (λ request.
+        given_request (map string_bytes words.now) ≡ Ok (request_text request)) }
+    ensures err { IfErr result (λ fault. (fault ≡ OutOfMemory)
+        ⊎ (given_request (map string_bytes words.now) ≡ Err fault)) }
+{
+    match parse(alloc, words) {
+        Ok(matches) => request_in(alloc, &fields_in(&matches)),
+        Err(fault) => Err(fault),
+    }
+}
+
+// What the fields ask for.
+fn request_in(alloc: Global, fields: &Fields<'_, '_>) -> Result<Request, UsageFault>
+    ensures ok { IfOk result (λ request.
+        request_in (field_texts fields.now) ≡ Ok (request_text request)) }
+    ensures err { IfErr result (λ fault. (fault ≡ OutOfMemory)
+        ⊎ (request_in (field_texts fields.now) ≡ Err fault)) }
+{
+    let Some(name) = fields.tool else {
+        return Err(UsageFault::Unparsed);
+    };
+    let action = action_of(alloc, name, fields)?;
+    Ok(Request {
+        file: String::from_str(alloc, fields.file.unwrap_or(MAIN_FILE))?,
+        from_stdin: fields.from_stdin,
+        dyndep: fields.dyndep,
+        action,
+    })
+}
+
+// What the tool of this name is asked for.
+fn action_of(alloc: Global, name: &str, fields: &Fields<'_, '_>) -> Result<Action, UsageFault>
+    ensures ok { IfOk result (λ action.
+        action_of name.now (field_texts fields.now) ≡ Ok (action_text action)) }
+    ensures err { IfErr result (λ fault. (fault ≡ OutOfMemory)
+        ⊎ (action_of name.now (field_texts fields.now) ≡ Err fault)) }
+{
+    let Some(tool) = tool_named(name) else {
+        return Err(UsageFault::UnknownTool(Word::new(alloc, name)?));
+    };
+    match first_foreign(tool, fields) {
+        None => asked_of(alloc, tool, name, fields),
+        Some(option) => {
+            let tool = Word::new(alloc, name)?;
+            Err(UsageFault::ForeignOption { option, tool })
+        }
+    }
+}
+
+// What a tool is asked for, by options that go with it.
+fn asked_of(
+    alloc: Global,
+    tool: Tool,
+    name: &str,
+    fields: &Fields<'_, '_>,
+) -> Result<Action, UsageFault>
+    ensures ok { IfOk result (λ action.
+        asked_of tool name.now (field_texts fields.now) ≡ Ok (action_text action)) }
+    ensures err { IfErr result (λ fault. (fault ≡ OutOfMemory)
+        ⊎ (asked_of tool name.now (field_texts fields.now) ≡ Err fault)) }
+{
+    match tool {
+        Tool::Commands => commands_of(alloc, fields),
+        Tool::Inputs => inputs_of(alloc, fields),
+        Tool::Targets => targets_of(alloc, name, fields),
+        Tool::Query => query_of(alloc, name, fields.words),
+        Tool::Rules => rules_of(alloc, name, fields),
+        Tool::Compdb => compdb_of(alloc, fields),
+    }
+}
+
+// The action of `commands`.
+fn commands_of(alloc: Global, fields: &Fields<'_, '_>) -> Result<Action, UsageFault>
+    ensures ok { IfOk result (λ action.
+        commands_of (field_texts fields.now) ≡ Ok (action_text action)) }
+    ensures err { IfErr result (λ fault. (fault ≡ OutOfMemory)
+        ⊎ (commands_of (field_texts fields.now) ≡ Err fault)) }
+{
+    if fields.is_single {
+        let targets = owned(alloc, fields.words)?;
+        return Ok(Action::SingleCommands { targets });
+    }
+    let take = take_of(alloc, fields.take)?;
+    let start = start_of(alloc, fields.validations, fields.resume)?;
+    Ok(Action::Commands {
+        targets: owned(alloc, fields.words)?,
+        validations: fields.validations,
+        take,
+        start,
+    })
+}
+
+// The number of `--take`.
+fn take_of(alloc: Global, text: Option<&str>) -> Result<Option<u64>, UsageFault>
+    ensures ok { IfOk result (λ take. take_of (option_copied text.entry) ≡ Ok take) }
+    ensures err { IfErr result (λ fault. (fault ≡ OutOfMemory)
+        ⊎ (take_of (option_copied text.entry) ≡ Err fault)) }
+{
+    let Some(text) = text else {
+        return Ok(None);
+    };
+    match number_in(text) {
+        Some(number) => Ok(Some(number)),
+        None => Err(UsageFault::BadNumber(Word::new(alloc, text)?)),
+    }
+}
+
+// The mark of `--resume`.
+fn start_of(alloc: Global, validations: bool, text: Option<&str>) -> Result<Mark, UsageFault>
+    ensures ok { IfOk result (λ start. start_of validations (option_copied text.entry) ≡ Ok start) }
+    ensures err { IfErr result (λ fault. (fault ≡ OutOfMemory)
+        ⊎ (start_of validations (option_copied text.entry) ≡ Err fault)) }
+{
+    let Some(text) = text else {
+        return Ok(Mark::start(alloc));
+    };
+    let Some(mark) = mark_in(validations, text) else {
+        return Err(UsageFault::BadMark(Word::new(alloc, text)?));
+    };
+    match Mark::read(alloc, mark) {
+        Ok(mark) => Ok(mark),
+        Err(MarkFault::BadMark) => Err(UsageFault::BadMark(Word::new(alloc, text)?)),
+        Err(MarkFault::MarkOutOfRange) => unreachable!(),
+        Err(MarkFault::OutOfMemory) => Err(UsageFault::OutOfMemory),
+    }
+}
+
+// The text of the mark in that of a run's mark, which begins with `v` if the run follows
+// validations.
+fn mark_in(validations: bool, text: &str) -> Option<&str>
+    ensures some { IfSome result (λ mark.
+        said_run_mark validations text.now ≡ said_mark mark.now) }
+    ensures none { IfNone result (said_run_mark validations text.now ≡ None) }
+{
+    if validations {
+        text.strip_prefix('v')
+    } else {
+        Some(text)
+    }
+}
+
+// The action of `inputs`.
+fn inputs_of(alloc: Global, fields: &Fields<'_, '_>) -> Result<Action, UsageFault>
+    ensures ok { IfOk result (λ action.
+        inputs_of (field_texts fields.now) ≡ Ok (action_text action)) }
+    ensures err { IfErr result (λ fault. fault ≡ OutOfMemory) }
+{
+    Ok(Action::Inputs {
+        targets: owned(alloc, fields.words)?,
+        validations: fields.validations,
+        style: style_of(fields),
+    })
+}
+
+// How `inputs` writes its list.
+fn style_of(fields: &Fields<'_, '_>) -> InputsStyle
+    ensures { result ≡ style_of (field_texts fields.now) }
+{
+    InputsStyle {
+        dependency_order: fields.dependency_order,
+        shell_escape: !fields.no_shell_escape,
+        zero: fields.print0,
+    }
+}
+
+// The action of `targets`.
+fn targets_of(alloc: Global, name: &str, fields: &Fields<'_, '_>) -> Result<Action, UsageFault>
+    ensures ok { IfOk result (λ action.
+        targets_of name.now (field_texts fields.now) ≡ Ok (action_text action)) }
+    ensures err { IfErr result (λ fault. (fault ≡ OutOfMemory)
+        ⊎ (targets_of name.now (field_texts fields.now) ≡ Err fault)) }
+{
+    Ok(Action::Targets {
+        view: view_of(alloc, name, fields.words)?,
+    })
+}
+
+// What `targets` lists by its words.
+fn view_of(alloc: Global, name: &str, words: Option<&[&str]>) -> Result<TargetsView, UsageFault>
+    ensures ok { IfOk result (λ view. view_of name.now (word_texts words.entry) ≡ Ok view) }
+    ensures err { IfErr result (λ fault. (fault ≡ OutOfMemory)
+        ⊎ (view_of name.now (word_texts words.entry) ≡ Err fault)) }
+{
+    match words {
+        None | Some([]) => Ok(TargetsView::Depth(1)),
+        Some([word]) => view_of_word(alloc, name, word),
+        Some([word, value]) => view_of_pair(alloc, name, word, value),
+        Some([_, _, _, ..]) => Err(UsageFault::BadWords(Word::new(alloc, name)?)),
+    }
+}
+
+// What `targets` lists by one word.
+fn view_of_word(alloc: Global, name: &str, word: &str) -> Result<TargetsView, UsageFault>
+    ensures ok { IfOk result (λ view. view_of_word name.now word.now ≡ Ok view) }
+    ensures err { IfErr result (λ fault. (fault ≡ OutOfMemory)
+        ⊎ (view_of_word name.now word.now ≡ Err fault)) }
+{
+    match word {
+        "depth" => Ok(TargetsView::Depth(1)),
+        "all" => Ok(TargetsView::All),
+        "rule" => Ok(TargetsView::Sources),
+        _ => Err(UsageFault::BadWords(Word::new(alloc, name)?)),
+    }
+}
+
+// What `targets` lists by a word and its value.
+fn view_of_pair(
+    alloc: Global,
+    name: &str,
+    word: &str,
+    value: &str,
+) -> Result<TargetsView, UsageFault>
+    ensures ok { IfOk result (λ view. view_of_pair name.now word.now value.now ≡ Ok view) }
+    ensures err { IfErr result (λ fault. (fault ≡ OutOfMemory)
+        ⊎ (view_of_pair name.now word.now value.now ≡ Err fault)) }
+{
+    match word {
+        "depth" => depth_of(alloc, value),
+        "rule" => Ok(TargetsView::OfRule(Name::new(alloc, value.as_bytes())?)),
+        _ => Err(UsageFault::BadWords(Word::new(alloc, name)?)),
+    }
+}
+
+// The roots, with this many levels.
+fn depth_of(alloc: Global, text: &str) -> Result<TargetsView, UsageFault>
+    ensures ok { IfOk result (λ view. depth_of text.now ≡ Ok view) }
+    ensures err { IfErr result (λ fault. (fault ≡ OutOfMemory)
+        ⊎ (depth_of text.now ≡ Err fault)) }
+{
+    match depth_in(text) {
+        Some(depth) => Ok(TargetsView::Depth(depth)),
+        None => Err(UsageFault::BadNumber(Word::new(alloc, text)?)),
+    }
+}
+
+// The action of `query`.
+fn query_of(alloc: Global, name: &str, words: Option<&[&str]>) -> Result<Action, UsageFault>
+    ensures ok { IfOk result (λ action.
+        query_of name.now (word_texts words.entry) ≡ Ok (action_text action)) }
+    ensures err { IfErr result (λ fault. (fault ≡ OutOfMemory)
+        ⊎ (query_of name.now (word_texts words.entry) ≡ Err fault)) }
+{
+    match words {
+        None | Some([]) => Err(UsageFault::BadWords(Word::new(alloc, name)?)),
+        Some([_, ..]) => Ok(Action::Query {
+            files: owned(alloc, words)?,
+        }),
+    }
+}
+
+// The action of `rules`.
+fn rules_of(alloc: Global, name: &str, fields: &Fields<'_, '_>) -> Result<Action, UsageFault>
+    ensures ok { IfOk result (λ action.
+        rules_of name.now fields.now.descriptions (word_texts fields.now.words)
+        ≡ Ok (action_text action)) }
+    ensures err { IfErr result (λ fault. (fault ≡ OutOfMemory)
+        ⊎ (rules_of name.now fields.now.descriptions (word_texts fields.now.words) ≡ Err fault)) }
+{
+    let descriptions = fields.descriptions;
+    match fields.words {
+        None | Some([]) => Ok(Action::Rules { descriptions }),
+        Some([_, ..]) => Err(UsageFault::BadWords(Word::new(alloc, name)?)),
+    }
+}
+
+// The action of `compdb`.
+fn compdb_of(alloc: Global, fields: &Fields<'_, '_>) -> Result<Action, UsageFault>
+    ensures ok { IfOk result (λ action.
+        compdb_of (field_texts fields.now) ≡ Ok (action_text action)) }
+    ensures err { IfErr result (λ fault. fault ≡ OutOfMemory) }
+{
+    Ok(Action::Compdb {
+        rules: owned(alloc, fields.words)?,
+        directory: String::from_str(alloc, fields.directory.unwrap_or(HERE))?,
+        expand: fields.expand,
+    })
+}
+
+// The words, as owned strings.
+fn owned(alloc: Global, words: Option<&[&str]>) -> Result<Vec<String>, AllocError>
+    ensures { IfOk result (λ texts. map string_bytes texts.items ≡ word_texts words.entry) }
+{
+    let mut texts = Vec::new(alloc);
+    let Some(words) = words else {
+        return Ok(texts);
+    };
+    'words: for word in words {
+        texts.push(String::from_str(alloc, word)?)?;
+    }
+    Ok(texts)
+}

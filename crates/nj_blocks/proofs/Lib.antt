@@ -1,3 +1,0 @@
-pub mod BoundLemmas
-pub mod BlockLemmas
-pub mod MapLemmas

@@ -1,7 +1,0 @@
-use Rattle.std.proofs.Common.{ap, ◌∙◌}
-use Rattle.nj_blocks.specs.Blocks.{bound_in}
-use Rattle.nj_blocks.proofs.BoundLemmas.{at_err}
-use Rattle.nj_blocks.proofs.blocks.Blocks.bind.Goals as goal
-
-pub returns-clause-refused : goal.returns-clause-refused
-returns-clause-refused c = at_err c.bind_name.result c.bind_name.ensures.refused (λ same e x. same e x ∙ ap (λ b. bound_in b e x) c.self.view_is)

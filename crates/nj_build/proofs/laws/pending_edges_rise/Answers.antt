@@ -1,5 +1,0 @@
-use Rattle.nj_build.proofs.DiscoverEdges.{pending_rise}
-use Rattle.nj_build.proofs.laws.pending_edges_rise.Goals as goal
-
-pub returns : goal.returns
-returns c = pending_rise

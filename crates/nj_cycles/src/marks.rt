@@ -1,0 +1,118 @@
+//! The edges that lie on a cycle, from the order in which the walk finished the edges.
+ghost use Rattle.std.specs.Prelude.{◌≡◌, ℕ, ◌<◌, Bool, true, false, List, [], ◌∷◌, min, length, vec_len, All, MatchOption, IfOk, OnOk};
+ghost use Rattle.nj_cycles.specs.Inputs.{edge_count};
+ghost use Rattle.nj_cycles.specs.Walks.{Walked};
+ghost use Rattle.nj_cycles.specs.Places.{NeedsAt};
+ghost use Rattle.nj_cycles.specs.Users.{AreUsers};
+ghost use Rattle.nj_cycles.specs.Marks.{IsMarked, AreMarks, MarksMore, IsLeastOf};
+
+use crate::users::Users;
+use std::alloc::{AllocError, Global};
+
+/// For each edge whether it is marked, and the marked edges whose users are still to be marked.
+#[derive(Drop)]
+struct Marks {
+    flags: Vec<bool>,
+    pending: Vec<usize>,
+}
+
+impl Marks {
+    /// None of `edge_count` edges is marked.
+    fn none(alloc: Global, edge_count: usize) -> Result<Self, AllocError>
+        ensures flags { IfOk result (λ marks. All (λ flag. flag ≡ false) marks.flags.items) }
+        ensures len { IfOk result (λ marks. vec_len marks.flags ≡ edge_count) }
+        ensures pending { IfOk result (λ marks. marks.pending.items ≡ []) }
+    {
+        let flags = vec![in alloc; false; edge_count]?;
+        Ok(Marks {
+            flags,
+            pending: Vec::new(alloc),
+        })
+    }
+
+    /// Marks an edge that has no mark yet.
+    fn mark(&mut self, edge: usize) -> Result<(), AllocError>
+        requires { edge < vec_len self.old.flags }
+        ensures more { OnOk result (MarksMore (λ e. e ≡ edge) self.old self.new) }
+        ensures marked { OnOk result (IsMarked self.new.flags.items edge) }
+    {
+        if self.flags[edge] {
+            return Ok(());
+        }
+        self.pending.push(edge)?;
+        self.flags[edge] = true;
+        Ok(())
+    }
+
+    /// Marks each edge that needs this one directly.
+    fn mark_users(&mut self, users: &Users<'_>, edge: usize) -> Result<(), AllocError>
+        requires users { AreUsers users.now }
+        requires len { vec_len self.old.flags ≡ edge_count users.now.inputs }
+        requires edge_in { edge < edge_count users.now.inputs }
+        ensures more { OnOk result (MarksMore (λ e. NeedsAt users.now.inputs e edge)
+            self.old self.new) }
+        ensures marked { OnOk result ((e : ℕ) → NeedsAt users.now.inputs e edge
+            → IsMarked self.new.flags.items e) }
+    {
+        let mut place = users.last[edge];
+        'places: while let Some(at) = place {
+            self.mark(users.edges[at])?;
+            place = users.before[at];
+        }
+        Ok(())
+    }
+
+    /// Marks each edge that needs this one by a chain. The edges that need a marked one are marked
+    /// already, so that each edge's users are looked at once.
+    fn mark_needing(&mut self, users: &Users<'_>, edge: usize) -> Result<(), AllocError>
+        requires users { AreUsers users.now }
+        requires len { vec_len self.old.flags ≡ edge_count users.now.inputs }
+        requires edge_in { edge < edge_count users.now.inputs }
+        requires pending { self.old.pending.items ≡ [] }
+        ensures len_after { OnOk result (vec_len self.new.flags ≡ edge_count users.now.inputs) }
+        ensures pending_after { OnOk result (self.new.pending.items ≡ []) }
+        ensures marks { OnOk result ((edges : List ℕ)
+            → AreMarks users.now.inputs edges self.old.flags.items
+            → AreMarks users.now.inputs (edge ∷ edges) self.new.flags.items) }
+    {
+        self.pending.push(edge)?;
+        'pending: while let Some(next) = self.pending.pop() {
+            self.mark_users(users, next)?;
+        }
+        Ok(())
+    }
+}
+
+/// The smaller of an edge and the least one so far.
+fn lesser(least: Option<usize>, edge: usize) -> usize
+    ensures { MatchOption least (result ≡ edge) (λ other. result ≡ min other edge) }
+{
+    match least {
+        Some(other) => other.min(edge),
+        None => edge,
+    }
+}
+
+/// The edge of the smallest number that lies on a cycle, if one does, from the order in which the
+/// walk finished the edges. From the end of that order on, all that need an edge are marked, and
+/// the edge lies on a cycle exactly if it then is marked itself.
+pub(crate) fn least_on_cycle(
+    alloc: Global,
+    users: &Users<'_>,
+    order: &[usize],
+) -> Result<Option<usize>, AllocError>
+    requires users { AreUsers users.now }
+    requires walked { Walked users.now.inputs order.now }
+    ensures { IfOk result (λ least. IsLeastOf users.now.inputs order.now least) }
+{
+    let mut marks = Marks::none(alloc, users.inputs.edge_count())?;
+    let mut least = None;
+    'edges: for index in (0..order.len()).rev() {
+        let edge = order[index];
+        marks.mark_needing(users, edge)?;
+        if marks.flags[edge] {
+            least = Some(lesser(least, edge));
+        }
+    }
+    Ok(least)
+}

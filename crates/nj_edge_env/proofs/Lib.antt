@@ -1,0 +1,12 @@
+pub mod SaidLemmas
+pub mod CycleLaws
+pub mod LoopLemmas
+pub mod ReferenceLemmas
+pub mod CycleLemmas
+pub mod LateRows
+pub mod PathLemmas
+pub mod TextLemmas
+pub mod MemoLemmas
+pub mod BoundLemmas
+pub mod BlockLemmas
+pub mod MapLemmas

@@ -1,0 +1,28 @@
+use Rattle.std.proofs.Common.{◌==◌, length, ap, subst, ◌∙◌, sym}
+use Rattle.std.specs.Map.{lookup}
+use Rattle.nj_edge_env.specs.BlocksHeld.{values_of, BoundsAreHeld}
+use Rattle.nj_edge_env.proofs.BoundLemmas.{at_ok, at_err, in_both, on_err, values_kept, longer, bounds_grow, bound-now, held-now}
+use Rattle.nj_edge_env.proofs.bounds.bind_value.Goals as goal
+
+pub returns-in_err-bound-clause-refused : goal.returns-in_err-bound-clause-refused
+returns-in_err-bound-clause-refused c = on_err c.from_residual.result (values_kept c.args.text.now.items c.bound_to.new.text.items c.args.edge c.args.bounds.now.items c.bound_to.ensures.text c.requires.parts)
+
+pub returns-in_err-bound-clause-held : goal.returns-in_err-bound-clause-held
+returns-in_err-bound-clause-held c = bounds_grow _ _ c.args.edge c.args.bounds.now.items (longer c.args.text.now.items c.bound_to.new.text.items c.bound_to.ensures.text) c.requires
+
+pub returns-clause-bound : goal.returns-clause-bound
+returns-clause-bound c = at_ok c.set_bound.result c.set_bound.ensures.set (λ set e.
+    ap (λ bs. lookup (λ x. e == x) (values_of c.bound_to.new.text.items bs)) set
+    ∙ bound-now c.args.text.now.items c.bound_to.new.text.items c.args.edge c.args.value.now c.args.bounds.now.items c.in_ok-bound.bound c.bound_to.ensures.text c.requires c.in_ok-bound.ensures.bound e)
+
+pub returns-clause-refused : goal.returns-clause-refused
+returns-clause-refused c = at_err c.set_bound.result c.set_bound.ensures.refused (λ same.
+    ap (values_of c.bound_to.new.text.items) same
+    ∙ values_kept c.args.text.now.items c.bound_to.new.text.items c.args.edge c.args.bounds.now.items c.bound_to.ensures.text c.requires.parts)
+
+pub returns-clause-held : goal.returns-clause-held
+returns-clause-held c = in_both c.set_bound.result c.set_bound.ensures.set c.set_bound.ensures.refused
+    (λ set. subst (BoundsAreHeld (length c.bound_to.new.text.items) c.args.edge) (sym set)
+    (held-now c.args.text.now.items c.bound_to.new.text.items c.args.edge c.args.value.now c.args.bounds.now.items c.in_ok-bound.bound c.bound_to.ensures.text c.requires c.in_ok-bound.ensures.bound))
+    (λ same. subst (BoundsAreHeld (length c.bound_to.new.text.items) c.args.edge) (sym same)
+    (bounds_grow _ _ c.args.edge c.args.bounds.now.items (longer c.args.text.now.items c.bound_to.new.text.items c.bound_to.ensures.text) c.requires))

@@ -1,0 +1,6 @@
+use Rattle.std.proofs.Common.{map}
+use Rattle.nj_edge_env.specs.ReferencesHeld.{ReferringKeyText, AreFirstKeys, key_held}
+use Rattle.nj_edge_env.proofs.references.references_of.Given as goal
+
+abbrev pub invariant-keys : goal.invariant-keys
+invariant-keys l = AreFirstKeys l.rule.lines l.number (map {B = ReferringKeyText} key_held l.keys.items)

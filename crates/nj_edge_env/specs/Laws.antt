@@ -1,0 +1,43 @@
+-- Laws of late texts, in the words of Ninja's manual.
+use Rattle.std.specs.Prelude.{◌≡◌, ℕ, Bool, false, Option, Some, None, List}
+use Rattle.nj_text.specs.Words.{PartText}
+use Rattle.nj_scope.specs.Scopes.{expanded}
+use Rattle.nj_scope.specs.Rules.{RuleLineText}
+use Rattle.nj_edge_env.specs.LateTexts.{LateNames, Says, late_text, names_paths, value_given, file_value}
+use Rattle.nj_edge_env.specs.VariableCycles.{IsOnCycle, HasNoCycle, IsCycleFound, variable_cycle_of}
+
+-- Where no variable of the rule refers back to itself, each name says its late text.
+abbrev pub LateTextIsSaid : Type 0
+LateTextIsSaid = (quoting : Bool) (n : LateNames) (name : List ℕ) → HasNoCycle n.block n.lines
+    → Says quoting n name (late_text quoting n name)
+
+-- A name says one text at most.
+abbrev pub OneTextIsSaid : Type 0
+OneTextIsSaid = (quoting : Bool) (n : LateNames) (name text other : List ℕ) → Says quoting n name text → Says quoting n name other
+    → text ≡ other
+
+-- A variable on a cycle says nothing.
+abbrev pub CycleSaysNothing : Type 0
+CycleSaysNothing = (quoting : Bool) (n : LateNames) (key text : List ℕ) → IsOnCycle n.block n.lines key → ¬ Says quoting n key text
+
+-- What the block binds wins over the rule.
+abbrev pub BlockWins : Type 0
+BlockWins = (quoting : Bool) (n : LateNames) (name value : List ℕ) → names_paths name ≡ false → n.block name ≡ Some value
+    → late_text quoting n name ≡ value
+
+-- The rule wins over the file; its value is expanded by what the names in it say.
+abbrev pub RuleWins : Type 0
+RuleWins = (quoting : Bool) (n : LateNames) (name : List ℕ) (parts : List PartText) → HasNoCycle n.block n.lines
+    → names_paths name ≡ false → n.block name ≡ None → value_given n.lines name ≡ Some parts
+    → late_text quoting n name ≡ expanded (late_text quoting n) parts
+
+-- Else the file's value counts.
+abbrev pub FileIsLast : Type 0
+FileIsLast = (quoting : Bool) (n : LateNames) (name : List ℕ) → names_paths name ≡ false → n.block name ≡ None
+    → value_given n.lines name ≡ None
+    → late_text quoting n name ≡ file_value n name
+
+-- The key that is computed is the least one that refers back to itself, and there is none where none does.
+abbrev pub ComputedCycleIsFound : Type 0
+ComputedCycleIsFound = (block : List ℕ → Option (List ℕ)) (lines : List RuleLineText)
+    → IsCycleFound block lines (variable_cycle_of block lines)

@@ -1,0 +1,19 @@
+//! What variables say for an edge, as Ninja's `EdgeEnv` does: the values that its block binds, and the
+//! late texts, which the variables of its rule say when the rule is used.
+#![tactic(auto)]
+
+mod blocks;
+mod bounds;
+mod cycles;
+mod edge;
+mod laws;
+mod memo;
+mod names;
+mod paths;
+mod references;
+mod texts;
+
+pub use blocks::Blocks;
+pub use edge::LateEdge;
+pub use laws::{block_before_rule_before_file, computed_cycle_is_found, late_texts_are_said};
+pub use references::KeyReferences;

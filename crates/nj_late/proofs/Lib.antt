@@ -1,9 +1,0 @@
-pub mod SaidLemmas
-pub mod CycleLaws
-pub mod LoopLemmas
-pub mod ReferenceLemmas
-pub mod CycleLemmas
-pub mod LateRows
-pub mod PathLemmas
-pub mod TextLemmas
-pub mod MemoLemmas

@@ -1,5 +1,0 @@
-use Rattle.nj_late.proofs.SaidLemmas.{rule_wins}
-use Rattle.nj_late.proofs.laws.block_before_rule_before_file.Goals as goal
-
-pub returns-clause-rule : goal.returns-clause-rule
-returns-clause-rule c = rule_wins

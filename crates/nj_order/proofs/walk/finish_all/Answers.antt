@@ -1,6 +1,0 @@
-use Rattle.std.proofs.Common.{arith}
-use Rattle.nj_order.proofs.Turns.{ends}
-use Rattle.nj_order.proofs.walk.finish_all.Goals as goal
-
-pub returns-clause-walked : goal.returns-clause-walked
-returns-clause-walked c = ends c.args.inputs.now c.edges.walk c.edges.invariant.stands c.edges.invariant.path (λ e lt. c.edges.invariant.seen e (omega arith))

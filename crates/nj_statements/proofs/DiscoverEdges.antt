@@ -1,0 +1,475 @@
+-- What is discovered for an edge: which edges change by it, and which ones wait from then on.
+use Rattle.std.proofs.Common.{◌≡◌, ◌≢◌, ◌⊎◌, inl, inr, ℕ, zero, suc, ◌+◌, ◌<◌, ◌≤◌, ◌==◌, ◌||◌, Bool, true, false, not, cond, true≢false, if◌then◌else◌, List, [], ◌∷◌, ◌++◌, length, map, Option, Some, None, unwrap_or, slice_get, bytes_eq, is_some, refl, sym, ap, ◌∙◌, subst, arith}
+use Rattle.std.specs.Prelude.{codes, filter, ◌&&◌}
+use Rattle.std.specs.List.{AllByRecursion, AllZip, list_any}
+use Rattle.std.proofs.lemmas.Bool.{ne_eqb, eqb-true}
+use Rattle.std.proofs.lemmas.Bool.Decides.{eqb_tells}
+use Rattle.std.proofs.lemmas.List.{length-append}
+use Rattle.std.proofs.lemmas.List.Elements.{AllZip-push, filter-append}
+use Rattle.std.proofs.lemmas.List.Folds.{list_any-append}
+use Rattle.nj_manifest.specs.LineSteps.{NameText}
+use Rattle.nj_manifest.specs.Statements.{LineText, OutputsText, InputsText, StatementText, BindingText, RuleText, PoolText, BuildText, DefaultText, IncludeText, SubninjaText}
+use Rattle.nj_scope.specs.Rules.{phony}
+use Rattle.nj_scope.specs.Scopes.{Bounds, nearest, value_in}
+use Rattle.nj_scope.specs.ReadingList.{Discovered, Entry, scope_of, bounds, rules}
+use Rattle.nj_edges.specs.Joining.{with_added, changed_at}
+use Rattle.nj_faults.specs.declared.fault.GraphFault.{GraphFault}
+use Rattle.nj_faults.specs.declared.fault.Cause.TheVariants.{DyndepExtra, DyndepTwice}
+use Rattle.nj_faults.specs.Faults.{fault_at}
+use Rattle.nj_edge_env.specs.LateTexts.{LateNames, asked_text}
+use Rattle.nj_statements.specs.EdgeList.{EdgeText, Pending, path_said, block_of, on_line, stated_paths, edge_paths, with_discovered, edge_of_build, edges_read, paths_of_edges, block_of_edge, block_at}
+use Rattle.nj_statements.specs.EdgeList.{file_said, dyndep_of, pending_at, pending_read}
+use Rattle.nj_statements.specs.Joining.{no_values, discover, discovered_by, edge_meant, discover_for, waits_for, meaning_fault}
+use Rattle.nj_statements.specs.BuildFaults.{fault_if, or_then, first_fault, empty_path, outputs_fault}
+use Rattle.nj_statements.specs.Built.{detail_of}
+use Rattle.nj_statements.specs.Laws.{is_pending, with_found, AreRising, StandByNumber, AddsToOneEdge, OthersWaitAsBefore, PendingEdgesRise, AddsToItsEdge, EntriesAddToTheirEdges}
+use Rattle.nj_statements.proofs.DiscoverLemmas.{Declared, bounds-discover, rules-discover, names_of_edge-discover}
+
+-- ---- an item of a list is changed
+
+changed-last : {A : Type 0} (f : A → A) (xs : List A) (x : A) (n : ℕ) → length xs ≡ n → changed_at f n (xs ++ x ∷ []) ≡ xs ++ f x ∷ []
+unfolding changed_at
+changed-last f [] x zero is = refl
+changed-last f [] x (suc n) is = absurd (omega (arith, is))
+changed-last f (y ∷ ys) x zero is = absurd (omega (arith, is))
+changed-last f (y ∷ ys) x (suc n) is = ap (λ zs. y ∷ zs) (changed-last f ys x n (omega (arith, is)))
+
+changed-front : {A : Type 0} (f : A → A) (xs : List A) (x : A) (n : ℕ) → length xs ≢ n → changed_at f n (xs ++ x ∷ []) ≡ changed_at f n xs ++ x ∷ []
+unfolding changed_at
+changed-front f [] x zero apart = absurd (apart refl)
+changed-front f [] x (suc n) apart = refl
+changed-front f (y ∷ ys) x zero apart = refl
+changed-front f (y ∷ ys) x (suc n) apart = ap (λ zs. y ∷ zs) (changed-front f ys x n (λ is. apart (ap suc is)))
+
+pub map-changed : {A B : Type 0} (g : A → B) (f : A → A) (h : B → B) → ((a : A) → g (f a) ≡ h (g a))
+    → (n : ℕ) (xs : List A) → map g (changed_at f n xs) ≡ changed_at h n (map g xs)
+unfolding changed_at
+map-changed g f h same n [] = refl
+map-changed g f h same zero (x ∷ xs) = ap (λ y. y ∷ map g xs) (same x)
+map-changed g f h same (suc n) (x ∷ xs) = ap (λ ys. g x ∷ ys) (map-changed g f h same n xs)
+
+-- ---- one edge, by what its statement sees
+
+abbrev number_by : Entry → Declared → NameText → ℕ
+number_by e own rule = unwrap_or (if bytes_eq rule.name phony then Some 0 else nearest (λ s. own s rule.name) (scope_of e)) 0
+
+abbrev edge_by : Entry → Bounds → Declared → OutputsText → NameText → InputsText → List LineText → EdgeText
+edge_by e bound own outputs rule inputs lines = record {
+  file = e.file;
+  spot = e.spot;
+  number = e.number;
+  around = e.around;
+  rule = number_by e own rule;
+  block = block_of (value_in bound (scope_of e)) lines;
+  paths = with_discovered e.discovered
+      (edge_paths (stated_paths (on_line (value_in bound (scope_of e)) (block_of (value_in bound (scope_of e)) lines)) outputs inputs (number_by e own rule == 0)));
+}
+
+edge-same : (edge : ℕ) (found : Discovered) (e : Entry) (before : List Entry) (outputs : OutputsText) (rule : NameText) (inputs : InputsText) (lines : List LineText)
+    → edge_of_build e (discover edge found before) outputs rule inputs lines ≡ edge_of_build e before outputs rule inputs lines
+edge-same edge found e before outputs rule inputs lines =
+    ap (λ (b : Bounds). edge_by e b (rules (discover edge found before)) outputs rule inputs lines) (bounds-discover edge found before)
+    ∙ ap (λ (own : Declared). edge_by e (bounds before) own outputs rule inputs lines) (rules-discover edge found before)
+
+-- ---- all edges are the same but for their implicit files
+
+abbrev with_files : EdgeText → (outs ins : List (List ℕ)) → EdgeText
+with_files e outs ins = record e { paths = record e.paths { implicit_outputs = outs; implicit_inputs = ins } }
+
+abbrev SameEdge : (e other : EdgeText) → Type 0
+SameEdge e other = other ≡ with_files e other.paths.implicit_outputs other.paths.implicit_inputs
+
+same-all : (edges : List EdgeText) → AllZip SameEdge edges edges
+same-all [] = tt
+same-all (e ∷ edges) = (refl, same-all edges)
+
+same-found : (e : EdgeText) (d : Option Discovered) (found : Discovered) → SameEdge (record e { paths = with_discovered d e.paths }) (with_found found e)
+same-found e None found = refl
+same-found e (Some before) found = refl
+
+same-build : (edge : ℕ) (found : Discovered) (e : Entry) (before : List Entry) (outputs : OutputsText) (rule : NameText) (inputs : InputsText) (lines : List LineText)
+    → AllZip SameEdge (edges_read before) (edges_read (discover edge found before))
+    → AllZip SameEdge (edges_read (record e { item = BuildText outputs rule inputs lines } ∷ before))
+    (edges_read (discover edge found (record e { item = BuildText outputs rule inputs lines } ∷ before)))
+unfolding edges_read discover
+same-build edge found e before outputs rule inputs lines others = by (length (edges_read before) == edge)
+  where
+    own : EdgeText
+    own = edge_of_build e before outputs rule inputs lines
+
+    stated : EdgeText
+    stated = edge_of_build (record e { discovered = None }) before outputs rule inputs lines
+
+    by : (b : Bool) → AllZip SameEdge (edges_read before ++ own ∷ [])
+        (edges_read (if b then record e { item = BuildText outputs rule inputs lines; discovered = Some found } ∷ before else record e { item = BuildText outputs rule inputs lines } ∷ discover edge found before))
+    by true = AllZip-push SameEdge (edges_read before) (edges_read before) own (with_found found stated) (same-all (edges_read before)) (same-found stated e.discovered found)
+    by false =
+        AllZip-push SameEdge (edges_read before) (edges_read (discover edge found before)) own (edge_of_build e (discover edge found before) outputs rule inputs lines) others
+        (subst (SameEdge own) (sym (edge-same edge found e before outputs rule inputs lines)) refl)
+
+same-item : (edge : ℕ) (found : Discovered) (e : Entry) (before : List Entry) (item : StatementText)
+    → AllZip SameEdge (edges_read before) (edges_read (discover edge found before))
+    → AllZip SameEdge (edges_read (record e { item = item } ∷ before)) (edges_read (discover edge found (record e { item = item } ∷ before)))
+unfolding edges_read discover
+same-item edge found e before (BuildText outputs rule inputs lines) others = same-build edge found e before outputs rule inputs lines others
+same-item edge found e before (BindingText bound word) others = others
+same-item edge found e before (RuleText name lines) others = others
+same-item edge found e before (PoolText name lines) others = others
+same-item edge found e before (DefaultText words) others = others
+same-item edge found e before (IncludeText word) others = others
+same-item edge found e before (SubninjaText word) others = others
+
+same-edges : (edge : ℕ) (found : Discovered) (entries : List Entry) → AllZip SameEdge (edges_read entries) (edges_read (discover edge found entries))
+unfolding edges_read discover
+same-edges edge found [] = tt
+same-edges edge found (e ∷ before) = same-item edge found e before e.item (same-edges edge found before)
+
+map-same : {X : Type 0} (g : EdgeText → X) → ((e : EdgeText) (outs ins : List (List ℕ)) → g (record e { paths = record e.paths { implicit_outputs = outs; implicit_inputs = ins } }) ≡ g e)
+    → (edges others : List EdgeText) → AllZip SameEdge edges others → map g others ≡ map g edges
+map-same g unseen [] [] same = refl
+map-same g unseen [] (o ∷ others) same = absurd same
+map-same g unseen (e ∷ edges) [] same = absurd same
+map-same g unseen (e ∷ edges) (o ∷ others) same =
+    ap (λ x. x ∷ map g others) (ap g same.0 ∙ unseen e o.paths.implicit_outputs o.paths.implicit_inputs) ∙ ap (λ xs. g e ∷ xs) (map-same g unseen edges others same.1)
+
+-- What does not look at implicit files says the same of each edge.
+pub map-discover : {X : Type 0} (g : EdgeText → X) → ((e : EdgeText) (outs ins : List (List ℕ)) → g (record e { paths = record e.paths { implicit_outputs = outs; implicit_inputs = ins } }) ≡ g e)
+    → (edge : ℕ) (found : Discovered) (entries : List Entry) → map g (edges_read (discover edge found entries)) ≡ map g (edges_read entries)
+map-discover g unseen edge found entries = map-same g unseen (edges_read entries) (edges_read (discover edge found entries)) (same-edges edge found entries)
+
+pub details-discover : (edge : ℕ) (found : Discovered) (entries : List Entry) → map detail_of (edges_read (discover edge found entries)) ≡ map detail_of (edges_read entries)
+details-discover = map-discover detail_of (λ e outs ins. refl)
+
+count-same : (edges others : List EdgeText) → AllZip SameEdge edges others → length others ≡ length edges
+count-same [] [] same = refl
+count-same [] (o ∷ others) same = absurd same
+count-same (e ∷ edges) [] same = absurd same
+count-same (e ∷ edges) (o ∷ others) same = ap suc (count-same edges others same.1)
+
+pub count-discover : (edge : ℕ) (found : Discovered) (entries : List Entry) → length (edges_read (discover edge found entries)) ≡ length (edges_read entries)
+count-discover edge found entries = count-same (edges_read entries) (edges_read (discover edge found entries)) (same-edges edge found entries)
+
+block-same : (n : ℕ) (name : List ℕ) (edges others : List EdgeText) → AllZip SameEdge edges others → block_of_edge (slice_get others n) name ≡ block_of_edge (slice_get edges n) name
+block-same n name [] [] same = refl
+block-same n name [] (o ∷ others) same = absurd same
+block-same n name (e ∷ edges) [] same = absurd same
+block-same zero name (e ∷ edges) (o ∷ others) same = ap (λ (x : EdgeText). x.block name) same.0
+block-same (suc n) name (e ∷ edges) (o ∷ others) same = block-same n name edges others same.1
+
+pub block_at-discover : (edge : ℕ) (found : Discovered) (entries : List Entry) (n : ℕ) (name : List ℕ) → block_at (edges_read (discover edge found entries)) n name ≡ block_at (edges_read entries) n name
+block_at-discover edge found entries n name = block-same n name (edges_read entries) (edges_read (discover edge found entries)) (same-edges edge found entries)
+
+all-same : (P : EdgeText → Type 0) → ((e : EdgeText) (outs ins : List (List ℕ)) → P e → P (record e { paths = record e.paths { implicit_outputs = outs; implicit_inputs = ins } }))
+    → (edges others : List EdgeText) → AllZip SameEdge edges others → AllByRecursion P edges → AllByRecursion P others
+all-same P kept [] [] same all = tt
+all-same P kept [] (o ∷ others) same all = absurd same
+all-same P kept (e ∷ edges) [] same all = absurd same
+all-same P kept (e ∷ edges) (o ∷ others) same all = (subst P (sym same.0) (kept e o.paths.implicit_outputs o.paths.implicit_inputs all.0), all-same P kept edges others same.1 all.1)
+
+-- What holds of each edge, whatever its implicit files are, holds still.
+pub all_edges-discover : (P : EdgeText → Type 0) → ((e : EdgeText) (outs ins : List (List ℕ)) → P e → P (record e { paths = record e.paths { implicit_outputs = outs; implicit_inputs = ins } }))
+    → (edge : ℕ) (found : Discovered) (entries : List Entry) → AllByRecursion P (edges_read entries) → AllByRecursion P (edges_read (discover edge found entries))
+all_edges-discover P kept edge found entries = all-same P kept (edges_read entries) (edges_read (discover edge found entries)) (same-edges edge found entries)
+
+-- ---- lists of edges that wait
+
+all-append : {X : Type 0} (P : X → Type 0) (xs ys : List X) → AllByRecursion P xs → AllByRecursion P ys → AllByRecursion P (xs ++ ys)
+all-append P [] ys all others = others
+all-append P (x ∷ xs) ys all others = (all.0, all-append P xs ys all.1 others)
+
+all-weaker : {X : Type 0} (P Q : X → Type 0) → ((x : X) → P x → Q x) → (xs : List X) → AllByRecursion P xs → AllByRecursion Q xs
+all-weaker P Q so [] all = tt
+all-weaker P Q so (x ∷ xs) all = (so x all.0, all-weaker P Q so xs all.1)
+
+abbrev pub AreBelow : ℕ → List Pending → Type 0
+AreBelow n ps = AllByRecursion (λ p. p.edge < n) ps
+
+none-waits : (n : ℕ) (ps : List Pending) → AreBelow n ps → list_any (λ p. p.edge == n) ps ≡ false
+none-waits n [] below = refl
+none-waits n (p ∷ ps) below = ap (λ b. b || list_any (λ q. q.edge == n) ps) (ne_eqb p.edge n (λ is. omega (arith, is, below.0))) ∙ none-waits n ps below.1
+
+-- an edge that waits is one of those edges
+pub waiting-below : (n : ℕ) (most : ℕ) (ps : List Pending) → AreBelow most ps → list_any (λ p. p.edge == n) ps ≡ true → n < most
+waiting-below n most [] below waits = absurd (true≢false (sym waits))
+waiting-below n most (p ∷ ps) below waits = by (p.edge == n) (eqb-true p.edge n) (waiting-below n most ps below.1) waits
+  where
+    by : (b : Bool) → (b ≡ true → p.edge ≡ n) → (list_any (λ q. q.edge == n) ps ≡ true → n < most) → (b || list_any (λ q. q.edge == n) ps) ≡ true → n < most
+    by true is others waits = omega (arith, is refl, below.0)
+    by false is others waits = others waits
+
+none-dropped : (n : ℕ) (ps : List Pending) → AreBelow n ps → filter (λ p. not (p.edge == n)) ps ≡ ps
+none-dropped n [] below = refl
+none-dropped n (p ∷ ps) below =
+    ap (λ b. cond (not b) (p ∷ filter (λ q. not (q.edge == n)) ps) (filter (λ q. not (q.edge == n)) ps)) (ne_eqb p.edge n (λ is. omega (arith, is, below.0)))
+    ∙ ap (λ qs. p ∷ qs) (none-dropped n ps below.1)
+
+rising-append : (n : ℕ) (ps qs : List Pending) → AreRising ps → AreBelow n ps → AreRising qs → AllByRecursion (λ q. n ≤ q.edge) qs → AreRising (ps ++ qs)
+rising-append n [] qs rising below others above = others
+rising-append n (p ∷ ps) qs rising below others above = (
+  all-append (λ q. p.edge < q.edge) ps qs rising.0 (all-weaker (λ q. n ≤ q.edge) (λ q. p.edge < q.edge) (λ q least. omega (arith, least, below.0)) qs above),
+  rising-append n ps qs rising.1 below.1 others above,
+)
+
+-- ---- the edge of a statement that may wait
+
+at-below : (n : ℕ) (d : Option Discovered) (file : Option (List ℕ)) (most : ℕ) → n < most → AreBelow most (pending_at n d file)
+at-below n (Some found) file most within = tt
+at-below n None (Some file) most within = (within, tt)
+at-below n None None most within = tt
+
+at-above : (n : ℕ) (d : Option Discovered) (file : Option (List ℕ)) → AllByRecursion (λ p. n ≤ p.edge) (pending_at n d file)
+at-above n (Some found) file = tt
+at-above n None (Some file) = (omega arith, tt)
+at-above n None None = tt
+
+at-rising : (n : ℕ) (d : Option Discovered) (file : Option (List ℕ)) → AreRising (pending_at n d file)
+at-rising n (Some found) file = tt
+at-rising n None (Some file) = (tt, tt)
+at-rising n None None = tt
+
+at-other : (n edge : ℕ) (d : Option Discovered) (file : Option (List ℕ)) → (n == edge) ≡ false → list_any (λ p. p.edge == edge) (pending_at n d file) ≡ false
+at-other n edge (Some found) file other = refl
+at-other n edge None (Some file) other = ap (λ b. b || false) other
+at-other n edge None None other = refl
+
+at-not_joined : (n edge : ℕ) (d : Option Discovered) (file : Option (List ℕ)) → list_any (λ p. p.edge == edge) (pending_at n d file) ≡ true → d ≡ None
+at-not_joined n edge (Some found) file waits = absurd (true≢false (sym waits))
+at-not_joined n edge None file waits = refl
+
+at-dropped : (n edge : ℕ) (d : Option Discovered) (file : Option (List ℕ)) → (n == edge) ≡ true → filter (λ p. not (p.edge == edge)) (pending_at n d file) ≡ []
+at-dropped n edge (Some found) file same = refl
+at-dropped n edge None (Some file) same = ap (λ b. cond (not b) (record { edge = n; file = file } ∷ []) []) same
+at-dropped n edge None None same = refl
+
+at-kept : (n edge : ℕ) (d : Option Discovered) (file : Option (List ℕ)) → (n == edge) ≡ false → filter (λ p. not (p.edge == edge)) (pending_at n d file) ≡ pending_at n d file
+at-kept n edge (Some found) file other = refl
+at-kept n edge None (Some file) other = ap (λ b. cond (not b) (record { edge = n; file = file } ∷ []) []) other
+at-kept n edge None None other = refl
+
+-- ---- they stand by number
+
+stand-build : (e : Entry) (before : List Entry) (outputs : OutputsText) (rule : NameText) (inputs : InputsText) (lines : List LineText) → StandByNumber before
+    → StandByNumber (record e { item = BuildText outputs rule inputs lines } ∷ before)
+unfolding edges_read pending_read
+stand-build e before outputs rule inputs lines stand = record {
+  within = all-append (λ p. p.edge < length (edges_read before ++ own ∷ [])) (pending_read before) (pending_at (length (edges_read before)) e.discovered (dyndep_of before own))
+      (all-weaker (λ p. p.edge < length (edges_read before)) (λ p. p.edge < length (edges_read before ++ own ∷ [])) (λ p below. omega (arith, below, more)) (pending_read before) stand.within)
+      (at-below (length (edges_read before)) e.discovered (dyndep_of before own) (length (edges_read before ++ own ∷ [])) (omega (arith, more)));
+  rising = rising-append (length (edges_read before)) (pending_read before) (pending_at (length (edges_read before)) e.discovered (dyndep_of before own)) stand.rising stand.within
+      (at-rising (length (edges_read before)) e.discovered (dyndep_of before own)) (at-above (length (edges_read before)) e.discovered (dyndep_of before own));
+}
+  where
+    own : EdgeText
+    own = edge_of_build e before outputs rule inputs lines
+
+    more : length (edges_read before ++ own ∷ []) ≡ length (edges_read before) + 1
+    more = length-append (edges_read before) (own ∷ [])
+
+stand-item : (e : Entry) (before : List Entry) (item : StatementText) → StandByNumber before → StandByNumber (record e { item = item } ∷ before)
+unfolding edges_read pending_read
+stand-item e before (BuildText outputs rule inputs lines) stand = stand-build e before outputs rule inputs lines stand
+stand-item e before (BindingText bound word) stand = record { within = stand.within; rising = stand.rising }
+stand-item e before (RuleText name lines) stand = record { within = stand.within; rising = stand.rising }
+stand-item e before (PoolText name lines) stand = record { within = stand.within; rising = stand.rising }
+stand-item e before (DefaultText words) stand = record { within = stand.within; rising = stand.rising }
+stand-item e before (IncludeText word) stand = record { within = stand.within; rising = stand.rising }
+stand-item e before (SubninjaText word) stand = record { within = stand.within; rising = stand.rising }
+
+pub pending_rise : PendingEdgesRise
+unfolding edges_read pending_read
+pending_rise [] = record { within = tt; rising = tt }
+pending_rise (e ∷ before) = stand-item e before e.item (pending_rise before)
+
+pub pending-within : (entries : List Entry) → AllByRecursion (λ p. p.edge < length (edges_read entries)) (pending_read entries)
+pending-within entries = (pending_rise entries).within
+
+pub pending-rising : (entries : List Entry) → AreRising (pending_read entries)
+pending-rising entries = (pending_rise entries).rising
+
+-- ---- which edges wait from then on
+
+dyndep-same : (edge : ℕ) (found : Discovered) (before : List Entry) (e : EdgeText) → dyndep_of (discover edge found before) e ≡ dyndep_of before e
+dyndep-same edge found before e = ap (λ (n : LateNames). file_said (asked_text n (codes "dyndep"))) (names_of_edge-discover edge found before e)
+
+pending-build : (edge : ℕ) (found : Discovered) (e : Entry) (before : List Entry) (outputs : OutputsText) (rule : NameText) (inputs : InputsText) (lines : List LineText)
+    → pending_read (discover edge found before) ≡ filter (λ p. not (p.edge == edge)) (pending_read before)
+    → pending_read (discover edge found (record e { item = BuildText outputs rule inputs lines } ∷ before))
+    ≡ filter (λ p. not (p.edge == edge)) (pending_read (record e { item = BuildText outputs rule inputs lines } ∷ before))
+unfolding edges_read pending_read discover
+pending-build edge found e before outputs rule inputs lines rest = by (eqb_tells (length (edges_read before)) edge) ∙ sym (filter-append (λ p. not (p.edge == edge)) (pending_read before) last)
+  where
+    number : ℕ
+    number = length (edges_read before)
+
+    own : EdgeText
+    own = edge_of_build e before outputs rule inputs lines
+
+    last : List Pending
+    last = pending_at number e.discovered (dyndep_of before own)
+
+    after : Bool → List Entry
+    after b = if b then record e { item = BuildText outputs rule inputs lines; discovered = Some found } ∷ before else record e { item = BuildText outputs rule inputs lines } ∷ discover edge found before
+
+    by : ((number == edge) ≡ true × (number ≡ edge)) ⊎ ((number == edge) ≡ false × (number ≢ edge))
+        → pending_read (after (number == edge)) ≡ filter (λ p. not (p.edge == edge)) (pending_read before) ++ filter (λ p. not (p.edge == edge)) last
+    by (inl (same, is)) =
+        ap (λ b. pending_read (after b)) same
+        ∙ ap (λ ps. ps ++ []) (sym (none-dropped edge (pending_read before) (subst (λ n. AreBelow n (pending_read before)) is (pending-within before))))
+        ∙ ap (λ ps. filter (λ p. not (p.edge == edge)) (pending_read before) ++ ps) (sym (at-dropped number edge e.discovered (dyndep_of before own) same))
+    by (inr (other, apart)) =
+        ap (λ b. pending_read (after b)) other
+        ∙ ap (λ ps. ps ++ pending_at (length (edges_read (discover edge found before))) e.discovered (dyndep_of (discover edge found before) (edge_of_build e (discover edge found before) outputs rule inputs lines))) rest
+        ∙ ap (λ n. filter (λ p. not (p.edge == edge)) (pending_read before) ++ pending_at n e.discovered (dyndep_of (discover edge found before) (edge_of_build e (discover edge found before) outputs rule inputs lines))) (count-discover edge found before)
+        ∙ ap (λ f. filter (λ p. not (p.edge == edge)) (pending_read before) ++ pending_at number e.discovered f)
+        (ap (dyndep_of (discover edge found before)) (edge-same edge found e before outputs rule inputs lines) ∙ dyndep-same edge found before own)
+        ∙ ap (λ ps. filter (λ p. not (p.edge == edge)) (pending_read before) ++ ps) (sym (at-kept number edge e.discovered (dyndep_of before own) other))
+
+pending-item : (edge : ℕ) (found : Discovered) (e : Entry) (before : List Entry) (item : StatementText)
+    → pending_read (discover edge found before) ≡ filter (λ p. not (p.edge == edge)) (pending_read before)
+    → pending_read (discover edge found (record e { item = item } ∷ before)) ≡ filter (λ p. not (p.edge == edge)) (pending_read (record e { item = item } ∷ before))
+unfolding edges_read pending_read discover
+pending-item edge found e before (BuildText outputs rule inputs lines) rest = pending-build edge found e before outputs rule inputs lines rest
+pending-item edge found e before (BindingText bound word) rest = rest
+pending-item edge found e before (RuleText name lines) rest = rest
+pending-item edge found e before (PoolText name lines) rest = rest
+pending-item edge found e before (DefaultText words) rest = rest
+pending-item edge found e before (IncludeText word) rest = rest
+pending-item edge found e before (SubninjaText word) rest = rest
+
+pub pending-discover : (edge : ℕ) (found : Discovered) (entries : List Entry) → pending_read (discover edge found entries) ≡ filter (λ p. not (p.edge == edge)) (pending_read entries)
+unfolding edges_read pending_read discover
+pending-discover edge found [] = refl
+pending-discover edge found (e ∷ before) = pending-item edge found e before e.item (pending-discover edge found before)
+
+pub others_wait : OthersWaitAsBefore
+others_wait entries edge found = pending-discover edge found entries
+
+-- ---- the edge that changes
+
+edges-build : (edge : ℕ) (found : Discovered) (e : Entry) (before : List Entry) (outputs : OutputsText) (rule : NameText) (inputs : InputsText) (lines : List LineText)
+    → (is_pending before edge ≡ true → edges_read (discover edge found before) ≡ changed_at (with_found found) edge (edges_read before))
+    → is_pending (record e { item = BuildText outputs rule inputs lines } ∷ before) edge ≡ true
+    → edges_read (discover edge found (record e { item = BuildText outputs rule inputs lines } ∷ before))
+    ≡ changed_at (with_found found) edge (edges_read (record e { item = BuildText outputs rule inputs lines } ∷ before))
+unfolding edges_read pending_read discover
+edges-build edge found e before outputs rule inputs lines rest waits = by (eqb_tells number edge)
+  where
+    number : ℕ
+    number = length (edges_read before)
+
+    own : EdgeText
+    own = edge_of_build e before outputs rule inputs lines
+
+    stated : EdgeText
+    stated = edge_of_build (record e { discovered = None }) before outputs rule inputs lines
+
+    last : List Pending
+    last = pending_at number e.discovered (dyndep_of before own)
+
+    waits-either : (list_any (λ p. p.edge == edge) (pending_read before) || list_any (λ p. p.edge == edge) last) ≡ true
+    waits-either = sym (list_any-append (λ p. p.edge == edge) (pending_read before) last) ∙ waits
+
+    after : Bool → List Entry
+    after b = if b then record e { item = BuildText outputs rule inputs lines; discovered = Some found } ∷ before else record e { item = BuildText outputs rule inputs lines } ∷ discover edge found before
+
+    not_joined : number ≡ edge → e.discovered ≡ None
+    not_joined is = at-not_joined number edge e.discovered (dyndep_of before own)
+        (ap (λ b. b || list_any (λ p. p.edge == edge) last) (sym (none-waits edge (pending_read before) (subst (λ n. AreBelow n (pending_read before)) is (pending-within before)))) ∙ waits-either)
+
+    either : (a b : Bool) → b ≡ false → (a || b) ≡ true → a ≡ true
+    either true b none some = refl
+    either false b none some = absurd (true≢false (sym some ∙ none))
+
+    by : ((number == edge) ≡ true × (number ≡ edge)) ⊎ ((number == edge) ≡ false × (number ≢ edge))
+        → edges_read (after (number == edge)) ≡ changed_at (with_found found) edge (edges_read before ++ own ∷ [])
+    by (inl (same, is)) =
+        ap (λ b. edges_read (after b)) same
+        ∙ ap (λ d. edges_read before ++ with_found found (record stated { paths = with_discovered d stated.paths }) ∷ []) (sym (not_joined is))
+        ∙ sym (changed-last (with_found found) (edges_read before) own edge is)
+    by (inr (other, apart)) =
+        ap (λ b. edges_read (after b)) other
+        ∙ ap (λ o. edges_read (discover edge found before) ++ o ∷ []) (edge-same edge found e before outputs rule inputs lines)
+        ∙ ap (λ es. es ++ own ∷ []) (rest (either (is_pending before edge) (list_any (λ p. p.edge == edge) last) (at-other number edge e.discovered (dyndep_of before own) other) waits-either))
+        ∙ sym (changed-front (with_found found) (edges_read before) own edge apart)
+
+edges-item : (edge : ℕ) (found : Discovered) (e : Entry) (before : List Entry) (item : StatementText)
+    → (is_pending before edge ≡ true → edges_read (discover edge found before) ≡ changed_at (with_found found) edge (edges_read before))
+    → is_pending (record e { item = item } ∷ before) edge ≡ true
+    → edges_read (discover edge found (record e { item = item } ∷ before)) ≡ changed_at (with_found found) edge (edges_read (record e { item = item } ∷ before))
+unfolding edges_read pending_read discover
+edges-item edge found e before (BuildText outputs rule inputs lines) rest waits = edges-build edge found e before outputs rule inputs lines rest waits
+edges-item edge found e before (BindingText bound word) rest waits = rest waits
+edges-item edge found e before (RuleText name lines) rest waits = rest waits
+edges-item edge found e before (PoolText name lines) rest waits = rest waits
+edges-item edge found e before (DefaultText words) rest waits = rest waits
+edges-item edge found e before (IncludeText word) rest waits = rest waits
+edges-item edge found e before (SubninjaText word) rest waits = rest waits
+
+pub edges-discover : (edge : ℕ) (found : Discovered) (entries : List Entry) → is_pending entries edge ≡ true
+    → edges_read (discover edge found entries) ≡ changed_at (with_found found) edge (edges_read entries)
+unfolding edges_read pending_read discover changed_at
+edges-discover edge found [] waits = refl
+edges-discover edge found (e ∷ before) waits = edges-item edge found e before e.item (edges-discover edge found before) waits
+
+pub adds_to_one : AddsToOneEdge
+adds_to_one entries edge found waits = edges-discover edge found entries waits
+
+pub paths-discover : (edge : ℕ) (found : Discovered) (entries : List Entry) → is_pending entries edge ≡ true
+    → paths_of_edges (edges_read (discover edge found entries)) ≡ changed_at (with_added (record { outputs = found.outputs; inputs = found.inputs })) edge (paths_of_edges (edges_read entries))
+paths-discover edge found entries waits =
+    ap paths_of_edges (edges-discover edge found entries waits)
+    ∙ map-changed (λ (e : EdgeText). e.paths) (with_found found) (with_added (record { outputs = found.outputs; inputs = found.inputs })) (λ e. refl) edge (edges_read entries)
+
+-- ---- an edge that waits for a file
+
+waits-some : (file : List ℕ) (edge : ℕ) (ps : List Pending) → waits_for file ps (Some edge) ≡ true → list_any (λ p. p.edge == edge) ps ≡ true
+waits-some file edge [] waits = absurd (true≢false (sym waits))
+waits-some file edge (p ∷ ps) waits = by (p.edge == edge) (bytes_eq p.file file) (waits-some file edge ps) waits
+  where
+    by : (a b : Bool) → (waits_for file ps (Some edge) ≡ true → list_any (λ q. q.edge == edge) ps ≡ true)
+        → ((a && b) || waits_for file ps (Some edge)) ≡ true → (a || list_any (λ q. q.edge == edge) ps) ≡ true
+    by true b rest waits = refl
+    by false b rest waits = rest waits
+
+pub is_pending-from_waits : (file : List ℕ) (entries : List Entry) (edge : ℕ) → waits_for file (pending_read entries) (Some edge) ≡ true → is_pending entries edge ≡ true
+is_pending-from_waits file entries edge waits = waits-some file edge (pending_read entries) waits
+
+-- ---- an entry that has no fault
+
+pub fault_if-none : (b : Bool) (fault : GraphFault) → fault_if (not b) fault ≡ None → b ≡ true
+fault_if-none true fault none = refl
+fault_if-none false fault none = absurd (true≢false (ap is_some none))
+
+pub or_then-none : (a b : Option GraphFault) → or_then a b ≡ None → (a ≡ None) × (b ≡ None)
+or_then-none None b none = (refl, none)
+or_then-none (Some fault) b none = absurd (true≢false (ap is_some none))
+
+pub entries_add : EntriesAddToTheirEdges
+entries_add file stated joined entry none = by (edge_meant stated entry) refl waits
+  where
+    meaning : meaning_fault file stated joined entry ≡ None
+    meaning = (or_then-none (meaning_fault file stated joined entry) others (or_then-none (empty_path file no_values entry.out) (or_then (meaning_fault file stated joined entry) others) none).1).0
+      where
+        others : Option GraphFault
+        others = or_then (outputs_fault file no_values (paths_of_edges (edges_read joined)) [] entry.outs) (first_fault (empty_path file no_values) entry.ins)
+
+    extra : Option GraphFault
+    extra = fault_if (not (waits_for file (pending_read stated) (edge_meant stated entry))) (fault_at file entry.out.spot (DyndepExtra (path_said no_values entry.out)))
+
+    twice : GraphFault
+    twice = fault_at file entry.out.spot (DyndepTwice (path_said no_values entry.out))
+
+    waits : waits_for file (pending_read joined) (edge_meant stated entry) ≡ true
+    waits = fault_if-none (waits_for file (pending_read joined) (edge_meant stated entry)) twice (or_then-none extra (fault_if (not (waits_for file (pending_read joined) (edge_meant stated entry))) twice) meaning).1
+
+    by : (meant : Option ℕ) → edge_meant stated entry ≡ meant → waits_for file (pending_read joined) meant ≡ true → (edge : ℕ) × AddsToItsEdge file stated joined entry edge
+    by None is waited = absurd (true≢false (sym waited))
+    by (Some edge) is waited = (
+      edge,
+      record {
+        meant = is;
+        waited = waited;
+        edges = ap (λ m. edges_read (discover_for m (discovered_by entry) joined)) is ∙ edges-discover edge (discovered_by entry) joined (is_pending-from_waits file joined edge waited);
+        pending = ap (λ m. pending_read (discover_for m (discovered_by entry) joined)) is ∙ pending-discover edge (discovered_by entry) joined;
+      },
+    )

@@ -1,0 +1,258 @@
+-- What is held of no statement, and of one statement more.
+use Rattle.std.proofs.Common.{◌≡◌, ◌⊎◌, inl, inr, take, ℕ, ◌+◌, ◌<◌, ◌≤◌, ◌==◌, Bool, true, false, true≢false, if◌then◌else◌, List, [], ◌∷◌, ◌++◌, length, get_or, Option, Some, None, is_some, unwrap_or, Result, Ok, Err, OnOk, OnErr, IsErrAnd, map, slice_get, refl, sym, ap, subst, ◌∙◌, arith, ◌≢◌, suc}
+use Rattle.std.proofs.lemmas.List.{append_assoc, append-nil, length-append, map-append, take_more}
+use Rattle.std.proofs.lemmas.Bool.{cases_lt}
+use Rattle.std.proofs.lemmas.Bool.Decides.{eqb_tells}
+use Rattle.std.proofs.Math.Seq.{get_or-append_seam}
+use Rattle.std.proofs.lemmas.Option.{slice_get_past, slice_get-get_or}
+use Rattle.std.proofs.Math.ListN.{get_or-append}
+use Rattle.nj_text.specs.declared.word.Word.{Word}
+use Rattle.nj_text.specs.Words.{WordText, word_text}
+use Rattle.nj_manifest.specs.LineSteps.{NameText}
+use Rattle.nj_manifest.specs.Contents.{words_text}
+use Rattle.nj_manifest.specs.Statements.{LineText, OutputsText, InputsText, StatementText, BindingText, RuleText, PoolText, BuildText, DefaultText, IncludeText, SubninjaText}
+use Rattle.nj_scope.specs.Rules.{line_kept}
+use Rattle.nj_scope.specs.Readings.{IsPrefix}
+use Rattle.nj_scope.specs.Scopes.{or_else}
+use Rattle.nj_scope.specs.ReadingList.{Entry, scope_of, value_after, rule_texts}
+use Rattle.nj_edge_env.specs.Blocks.{BlocksText, bound_in}
+use Rattle.nj_edges.specs.declared.files.FileNo.{FileNo}
+use Rattle.nj_edges.specs.EdgesHeld.{no_files}
+use Rattle.nj_edges.specs.Files.{AreFiles}
+use Rattle.nj_faults.specs.declared.fault.GraphFault.{GraphFault}
+use Rattle.nj_statements.specs.EdgeList.{Values, Block, EdgeText, Pending, build_block, path_said, paths_said, edge_of_build, edges_read, defaults_read, dyndep_of, pending_at, pending_read, block_at, block_of_edge}
+use Rattle.nj_statements.specs.declared.building.DyndepEdge.{DyndepEdge}
+use Rattle.nj_statements.specs.Answers.{BuildingText, ArePending, IsFileSaid, with_dyndep, HoldsEdges, DetailText, IsDetail, AreDetails, AddsEdge, AddsTargets, IsFault, ReadsStatement, HoldsReferences}
+use Rattle.nj_statements.proofs.Lists.{get-longer}
+use Rattle.nj_statements.proofs.ReferenceLemmas.{references-none, references-longer}
+
+pub holds-none : (held : BuildingText) → held.table ≡ record { files = []; edges = []; «open» = no_files }
+    → ((edge : ℕ) (name : List ℕ) → bound_in held.blocks edge name ≡ None) → held.details ≡ [] → held.defaults ≡ [] → held.dyndeps ≡ [] → held.references ≡ [] → HoldsEdges held []
+unfolding edges_read defaults_read pending_read
+holds-none held table blocks details defaults dyndeps references = record {
+  edges = ap (λ t. t.edges) table;
+  none_open = ap (λ t. t.«open») table;
+  blocks = blocks;
+  details = subst (λ ds. AreDetails held.names ds []) (sym details) tt;
+  defaults = subst (λ ds. AreFiles held.table.files ds []) (sym defaults) refl;
+  dyndeps = subst (λ ds. ArePending held.table.files ds []) (sym dyndeps) (record { edges_are = refl; files_are = refl });
+  references = subst (λ kept. HoldsReferences kept (rule_texts [])) (sym references) (references-none (rule_texts []));
+}
+
+pub on-ok : {X Y P Q : Type 0} (r : Result X Y) → OnOk r P → (P → Q) → OnOk r Q
+on-ok (Ok x) h then_so = then_so h
+on-ok (Err e) h then_so = tt
+
+pub on-err : {X Y P : Type 0} (r : Result X Y) → P → OnErr r P
+on-err (Ok x) p = tt
+on-err (Err e) p = p
+
+pub reads-err : (after : BuildingText) (expected : Option GraphFault) (e : Entry) (before : List Entry) (r : Result (Unit {0}) GraphFault) (f : GraphFault)
+    → IsErrAnd r (λ y. y ≡ f) → IsFault expected f → ReadsStatement after expected e before r
+reads-err after expected e before (Err y) f is h = subst (IsFault expected) (sym is) h
+reads-err after expected e before (Ok x) f is h = absurd is
+
+-- ---- lists that grow
+
+get-prefix : {X : Type 0} (xs ys : List X) (i : ℕ) (x : X) → IsPrefix xs ys → slice_get xs i ≡ Some x → slice_get ys i ≡ Some x
+get-prefix xs ys i x (more, is) h = subst (λ zs. slice_get zs i ≡ Some x) (sym is) (get-longer xs more i x h)
+
+files-longer : (files longer : List (List ℕ)) (ns : List FileNo) (paths : List (List ℕ)) → IsPrefix files longer → AreFiles files ns paths → AreFiles longer ns paths
+files-longer files longer [] [] grows are = refl
+files-longer files longer [] (p ∷ paths) grows are = absurd (omega (arith, ap length are))
+files-longer files longer (n ∷ ns) [] grows are = absurd (omega (arith, ap length are))
+files-longer files longer (n ∷ ns) (p ∷ paths) grows are =
+    ap (λ o. o ∷ map (λ file. slice_get longer file.0) ns) (get-prefix files longer n.0 p grows (ap first are))
+    ∙ ap (λ os. Some p ∷ os) (files-longer files longer ns paths grows (ap rest are))
+  where
+    first : List (Option (List ℕ)) → Option (List ℕ)
+    first [] = None
+    first (o ∷ os) = o
+
+    rest : List (Option (List ℕ)) → List (Option (List ℕ))
+    rest [] = []
+    rest (o ∷ os) = os
+
+files-append : (files : List (List ℕ)) (ns ms : List FileNo) (ps qs : List (List ℕ)) → AreFiles files ns ps → AreFiles files ms qs → AreFiles files (ns ++ ms) (ps ++ qs)
+files-append files ns ms ps qs are others =
+    map-append (λ (file : FileNo). slice_get files file.0) ns ms ∙ ap (λ os. os ++ map (λ (file : FileNo). slice_get files file.0) ms) are
+    ∙ ap (λ os. map Some ps ++ os) others ∙ sym (map-append Some ps qs)
+
+-- ---- a default statement
+
+-- the file that one more word names
+pub targets-turn : (values : Values) (files : List (List ℕ)) (before held new : List FileNo) (file : FileNo) (words : List Word) (i : ℕ) (word : Word) → i < length words → word ≡ get_or words i word
+    → AddsTargets files before held (paths_said values (words_text (take i words))) → new ≡ held ++ file ∷ [] → slice_get files file.0 ≡ Some (path_said values (word_text word))
+    → AddsTargets files before new (paths_said values (words_text (take (i + 1) words)))
+targets-turn values files before held new file words i word below at adds is there = record {
+  added = adds.added ++ file ∷ [];
+  after_is = is ∙ ap (λ fs. fs ++ file ∷ []) adds.after_is ∙ append_assoc before adds.added (file ∷ []);
+  are = subst (AreFiles files (adds.added ++ file ∷ [])) (sym more) (files-append files adds.added (file ∷ []) (said (take i words)) (path_said values (word_text word) ∷ []) adds.are (ap (λ o. o ∷ []) there));
+}
+  where
+    said : List Word → List (List ℕ)
+    said ws = paths_said values (words_text ws)
+
+    more : said (take (i + 1) words) ≡ said (take i words) ++ path_said values (word_text word) ∷ []
+    more =
+        ap said (take_more words i word below ∙ ap (λ w. take i words ++ w ∷ []) (sym at))
+        ∙ ap (map (path_said values)) (map-append word_text (take i words) (word ∷ []))
+        ∙ map-append (path_said values) (words_text (take i words)) (word_text word ∷ [])
+
+pub holds-default : (old new : BuildingText) (e : Entry) (before : List Entry) (words : List WordText) → HoldsEdges old before
+    → new.table ≡ old.table → new.blocks ≡ old.blocks → new.names ≡ old.names → new.details ≡ old.details
+    → AddsTargets old.table.files old.defaults new.defaults (paths_said (value_after before (scope_of e)) words)
+    → new.dyndeps ≡ old.dyndeps → new.references ≡ old.references → HoldsEdges new (record e { item = DefaultText words } ∷ before)
+unfolding edges_read defaults_read pending_read
+holds-default old new e before words holds table blocks names details adds dyndeps references = record {
+  edges = ap (λ t. t.edges) table ∙ holds.edges;
+  none_open = ap (λ t. t.«open») table ∙ holds.none_open;
+  blocks = λ number name. ap (λ b. bound_in b number name) blocks ∙ holds.blocks number name;
+  details = subst (λ ns. AreDetails ns new.details (edges_read before)) (sym names) (subst (λ ds. AreDetails old.names ds (edges_read before)) (sym details) holds.details);
+  defaults = subst (λ t. AreFiles t.files new.defaults (defaults_read before ++ paths_said (value_after before (scope_of e)) words)) (sym table)
+      (subst (λ ns. AreFiles old.table.files ns (defaults_read before ++ paths_said (value_after before (scope_of e)) words)) (sym adds.after_is)
+      (files-append old.table.files old.defaults adds.added (defaults_read before) (paths_said (value_after before (scope_of e)) words) holds.defaults adds.are));
+  dyndeps = subst (λ t. ArePending t.files new.dyndeps (pending_read before)) (sym table) (subst (λ ds. ArePending old.table.files ds (pending_read before)) (sym dyndeps) holds.dyndeps);
+  references = subst (λ kept. HoldsReferences kept (rule_texts before)) (sym references) holds.references;
+}
+
+-- ---- a build statement
+
+pub details-count : (names : List (List ℕ)) (ds : List DetailText) (es : List EdgeText) → AreDetails names ds es → length ds ≡ length es
+details-count names [] [] are = refl
+details-count names [] (e ∷ es) are = absurd are
+details-count names (d ∷ ds) [] are = absurd are
+details-count names (d ∷ ds) (e ∷ es) (is, are) = ap suc (details-count names ds es are)
+
+details-more : (names longer : List (List ℕ)) (ds : List DetailText) (es : List EdgeText) (d : DetailText) (e : EdgeText)
+    → IsPrefix names longer → AreDetails names ds es → IsDetail longer d e → AreDetails longer (ds ++ d ∷ []) (es ++ e ∷ [])
+details-more names longer [] [] d e grows are is = (is, tt)
+details-more names longer [] (f ∷ es) d e grows are is = absurd are
+details-more names longer (c ∷ ds) [] d e grows are is = absurd are
+details-more names longer (c ∷ ds) (f ∷ es) d e grows (of, are) is =
+    (record { file = get-prefix names longer c.file.0 f.file grows of.file; spot = of.spot; scope = of.scope; rule = of.rule }, details-more names longer ds es d e grows are is)
+
+-- the blocks of one edge more
+abbrev bound-by : Option EdgeText → (name : List ℕ) → Option (List ℕ)
+bound-by o name = block_of_edge o name
+
+block-more : (edges : List EdgeText) (e : EdgeText) (n : ℕ) (name : List ℕ)
+    → (if n == length edges then or_else (e.block name) (block_at edges n name) else block_at edges n name) ≡ block_at (edges ++ e ∷ []) n name
+block-more edges e n name = by (eqb_tells n (length edges)) (cases_lt n (length edges))
+  where
+    whole : length (edges ++ e ∷ []) ≡ length edges + 1
+    whole = length-append edges (e ∷ [])
+
+    with-none : (o : Option (List ℕ)) → or_else o None ≡ o
+    with-none (Some x) = refl
+    with-none None = refl
+
+    by : ((n == length edges) ≡ true × (n ≡ length edges)) ⊎ ((n == length edges) ≡ false × (n ≢ length edges)) → (n < length edges) ⊎ (length edges ≤ n)
+        → (if n == length edges then or_else (e.block name) (block_at edges n name) else block_at edges n name) ≡ block_at (edges ++ e ∷ []) n name
+    by (inl (same, is)) h =
+        ap (λ b. if b then or_else (e.block name) (block_at edges n name) else block_at edges n name) same
+        ∙ ap (λ o. or_else (e.block name) (bound-by o name)) (slice_get_past edges n (omega (arith, is)))
+        ∙ with-none (e.block name)
+        ∙ ap (λ o. bound-by o name) (sym (slice_get-get_or (edges ++ e ∷ []) n e (omega (arith, is, whole)) ∙ ap Some (ap (λ m. get_or (edges ++ e ∷ []) m e) is ∙ get_or-append_seam edges e [] e)))
+    by (inr (other, apart)) (inl below) =
+        ap (λ b. if b then or_else (e.block name) (block_at edges n name) else block_at edges n name) other
+        ∙ ap (λ o. bound-by o name) (slice_get-get_or edges n e below ∙ ap Some (sym (get_or-append edges (e ∷ []) e n below)) ∙ sym (slice_get-get_or (edges ++ e ∷ []) n e (omega (arith, below, whole))))
+    by (inr (other, apart)) (inr above) =
+        ap (λ b. if b then or_else (e.block name) (block_at edges n name) else block_at edges n name) other
+        ∙ ap (λ o. bound-by o name) (slice_get_past edges n above ∙ sym (slice_get_past (edges ++ e ∷ []) n (omega (arith, above, apart, whole))))
+
+-- what waits with one edge more
+pending-more : (files longer : List (List ℕ)) (held : List DyndepEdge) (expected : List Pending) (edge : ℕ) (number : Option FileNo) (file : Option (List ℕ))
+    → IsPrefix files longer → ArePending files held expected → IsFileSaid longer number file → ArePending longer (with_dyndep edge number held) (expected ++ pending_at edge None file)
+pending-more files longer held expected edge None None grows are said =
+    subst (ArePending longer held) (sym (append-nil expected))
+    (record { edges_are = are.edges_are; files_are = files-longer files longer (map (λ d. d.file) held) (map (λ p. p.file) expected) grows are.files_are })
+pending-more files longer held expected edge None (Some path) grows are said = absurd (true≢false (sym (ap is_some said)))
+pending-more files longer held expected edge (Some file) None grows are said = absurd (true≢false (ap is_some said))
+pending-more files longer held expected edge (Some file) (Some path) grows are said = record {
+  edges_are = map-append (λ (d : DyndepEdge). d.edge) held (added ∷ []) ∙ ap (λ es. es ++ edge ∷ []) are.edges_are ∙ sym (map-append (λ (p : Pending). p.edge) expected (waits ∷ []));
+  files_are = subst (λ fs. AreFiles longer fs (map (λ p. p.file) (expected ++ waits ∷ []))) (sym (map-append (λ (d : DyndepEdge). d.file) held (added ∷ [])))
+      (subst (AreFiles longer (map (λ d. d.file) held ++ file ∷ [])) (sym (map-append (λ (p : Pending). p.file) expected (waits ∷ [])))
+      (files-append longer (map (λ d. d.file) held) (file ∷ []) (map (λ p. p.file) expected) (path ∷ []) (files-longer files longer (map (λ d. d.file) held) (map (λ p. p.file) expected) grows are.files_are)
+      (ap (λ o. o ∷ []) (ap (λ o. unwrap_or o None) said))));
+}
+  where
+    added : DyndepEdge
+    added = record { edge = edge; file = file }
+
+    waits : Pending
+    waits = record { edge = edge; file = path }
+
+-- a statement to which nothing was joined
+abbrev fresh : Entry → Entry
+fresh e = record e { discovered = None }
+
+pub holds-build : (old new : BuildingText) (e : Entry) (before : List Entry) (outputs : OutputsText) (rule : NameText) (inputs : InputsText) (lines : List LineText) (d : DetailText) (dyndep : Option FileNo) → HoldsEdges old before
+    → AddsEdge old.table new.table (edge_of_build (fresh e) before outputs rule inputs lines).paths
+    → ((n : ℕ) (name : List ℕ) → bound_in new.blocks n name ≡ (if n == length old.details then or_else (build_block e before lines name) (bound_in old.blocks n name) else bound_in old.blocks n name))
+    → IsPrefix old.names new.names → new.details ≡ old.details ++ d ∷ [] → IsDetail new.names d (edge_of_build (fresh e) before outputs rule inputs lines) → new.defaults ≡ old.defaults
+    → new.dyndeps ≡ with_dyndep (length old.details) dyndep old.dyndeps → IsFileSaid new.table.files dyndep (dyndep_of before (edge_of_build (fresh e) before outputs rule inputs lines))
+    → HoldsReferences new.references (rule_texts before) → HoldsEdges new (record e { item = BuildText outputs rule inputs lines; discovered = None } ∷ before)
+unfolding edges_read defaults_read pending_read
+holds-build old new e before outputs rule inputs lines d dyndep holds adds blocks names details is defaults dyndeps said references = record {
+  edges = adds.edges ∙ ap (λ es. es ++ edge.paths ∷ []) holds.edges ∙ sym (map-append (λ (x : EdgeText). x.paths) (edges_read before) (edge ∷ []));
+  none_open = adds.none_open;
+  blocks = λ n name.
+      blocks n name
+      ∙ ap (λ count. if n == count then or_else (edge.block name) (bound_in old.blocks n name) else bound_in old.blocks n name) (details-count old.names old.details (edges_read before) holds.details)
+      ∙ ap (λ o. if n == length (edges_read before) then or_else (edge.block name) o else o) (holds.blocks n name)
+      ∙ block-more (edges_read before) edge n name;
+  details = subst (λ ds. AreDetails new.names ds (edges_read before ++ edge ∷ [])) (sym details) (details-more old.names new.names old.details (edges_read before) d edge names holds.details is);
+  defaults = subst (λ ns. AreFiles new.table.files ns (defaults_read before)) (sym defaults) (files-longer old.table.files new.table.files old.defaults (defaults_read before) adds.files holds.defaults);
+  dyndeps = subst (λ n. ArePending new.table.files new.dyndeps (pending_read before ++ pending_at n None (dyndep_of before edge))) (details-count old.names old.details (edges_read before) holds.details)
+      (subst (λ ds. ArePending new.table.files ds (pending_read before ++ pending_at (length old.details) None (dyndep_of before edge))) (sym dyndeps)
+      (pending-more old.table.files new.table.files old.dyndeps (pending_read before) (length old.details) dyndep (dyndep_of before edge) adds.files holds.dyndeps said));
+  references = references;
+}
+  where
+    edge : EdgeText
+    edge = edge_of_build (fresh e) before outputs rule inputs lines
+
+-- what the block of the edge that is being read binds
+pub open-block : (old : BuildingText) (before : List Entry) (block : Block) (new : BlocksText) (edge : ℕ) → HoldsEdges old before → edge ≡ length old.details
+    → ((n : ℕ) (name : List ℕ) → bound_in new n name ≡ (if n == edge then or_else (block name) (bound_in old.blocks n name) else bound_in old.blocks n name))
+    → (name : List ℕ) → bound_in new edge name ≡ block name
+open-block old before block new edge holds is bound name =
+    bound edge name ∙ by (eqb_tells edge edge)
+    ∙ ap (or_else (block name)) (holds.blocks edge name ∙ ap (λ o. bound-by o name) (slice_get_past (edges_read before) edge (omega (arith, is, count))))
+    ∙ with-none (block name)
+  where
+    count : length old.details ≡ length (edges_read before)
+    count = details-count old.names old.details (edges_read before) holds.details
+
+    with-none : (o : Option (List ℕ)) → or_else o None ≡ o
+    with-none (Some x) = refl
+    with-none None = refl
+
+    by : ((edge == edge) ≡ true × (edge ≡ edge)) ⊎ ((edge == edge) ≡ false × (edge ≢ edge))
+        → (if edge == edge then or_else (block name) (bound_in old.blocks edge name) else bound_in old.blocks edge name) ≡ or_else (block name) (bound_in old.blocks edge name)
+    by (inl (same, h)) = ap (λ b. if b then or_else (block name) (bound_in old.blocks edge name) else bound_in old.blocks edge name) same
+    by (inr (other, apart)) = absurd (apart refl)
+
+-- ---- any other statement
+
+-- a statement that names files of edges
+abbrev pub names_files : StatementText → Bool
+names_files (BuildText outputs rule inputs lines) = true
+names_files (DefaultText words) = true
+names_files item = false
+
+holds-item : (held : BuildingText) (e : Entry) (before : List Entry) (item : StatementText) → names_files item ≡ false → HoldsEdges held before → HoldsEdges held (record e { item = item } ∷ before)
+unfolding edges_read defaults_read pending_read
+holds-item held e before (BindingText bound word) other holds = record { edges = holds.edges; none_open = holds.none_open; blocks = holds.blocks; details = holds.details; defaults = holds.defaults; dyndeps = holds.dyndeps; references = holds.references }
+holds-item held e before (RuleText declared lines) other holds =
+    record { edges = holds.edges; none_open = holds.none_open; blocks = holds.blocks; details = holds.details; defaults = holds.defaults; dyndeps = holds.dyndeps; references = references-longer held.references (rule_texts before) (record { scope = e.number; name = declared.name; lines = map line_kept lines } ∷ []) holds.references }
+holds-item held e before (PoolText declared lines) other holds = record { edges = holds.edges; none_open = holds.none_open; blocks = holds.blocks; details = holds.details; defaults = holds.defaults; dyndeps = holds.dyndeps; references = holds.references }
+holds-item held e before (BuildText outputs rule inputs lines) other holds = absurd (true≢false other)
+holds-item held e before (DefaultText words) other holds = absurd (true≢false other)
+holds-item held e before (IncludeText word) other holds = record { edges = holds.edges; none_open = holds.none_open; blocks = holds.blocks; details = holds.details; defaults = holds.defaults; dyndeps = holds.dyndeps; references = holds.references }
+holds-item held e before (SubninjaText word) other holds = record { edges = holds.edges; none_open = holds.none_open; blocks = holds.blocks; details = holds.details; defaults = holds.defaults; dyndeps = holds.dyndeps; references = holds.references }
+
+-- What is held is held still after a statement that names no files.
+pub holds-other : (held : BuildingText) (e : Entry) (before : List Entry) → names_files e.item ≡ false → HoldsEdges held before → HoldsEdges held (e ∷ before)
+holds-other held e before other holds = holds-item held e before e.item other holds

@@ -1,0 +1,64 @@
+-- Lemmas on the faults of a rule's variables.
+use Rattle.std.proofs.Common.{◌≡◌, ℕ, ◌==◌, ◌||◌, Bool, true, false, not, List, [], ◌∷◌, length, Some, None, refl, sym, ap, subst, ◌∙◌, arith, true≢false}
+use Rattle.std.proofs.lemmas.Bool.{ne_eqb}
+use Rattle.nj_text.specs.declared.spot.Spot.{Spot}
+use Rattle.nj_text.specs.Calls.{is_empty}
+use Rattle.nj_text.specs.Paths.{clean_path_of}
+use Rattle.nj_scope.specs.Pools.{is_pool}
+use Rattle.nj_faults.specs.declared.fault.GraphFault.{GraphFault}
+use Rattle.nj_faults.specs.declared.fault.Cause.TheVariants.{UnknownPool, DyndepNotInput}
+use Rattle.nj_faults.specs.Faults.{fault_at}
+use Rattle.nj_edges.specs.Edges.{is_among}
+use Rattle.nj_statements.specs.BuildFaults.{fault_if, unknown_pool, dyndep_not_input}
+use Rattle.nj_statements.specs.Answers.{IsFault}
+
+-- ---- the pool
+
+nothing-said : (said : List ℕ) → (length said == 0) ≡ true → is_empty said ≡ true
+nothing-said [] h = refl
+nothing-said (x ∷ xs) h = absurd (true≢false (sym h ∙ ne_eqb (length (x ∷ xs)) 0 (λ is. omega (arith, is))))
+
+something-said : (said : List ℕ) → (length said == 0) ≡ false → is_empty said ≡ false
+something-said [] h = absurd (true≢false h)
+something-said (x ∷ xs) h = refl
+
+module _ (file : List ℕ) (spot : Spot) (declared : List (List ℕ)) (said text : List ℕ) (says : said ≡ text) where
+  abbrev fault : GraphFault
+  fault = fault_at file spot (UnknownPool said)
+
+  or-true : (a : Bool) → (a || true) ≡ true
+  or-true true = refl
+  or-true false = refl
+
+  pub pool-empty : (length said == 0) ≡ true → unknown_pool file spot declared text ≡ None
+  pool-empty h = ap (unknown_pool file spot declared) (sym says) ∙ ap (λ b. fault_if (not (b || is_pool declared said)) fault) (nothing-said said h)
+
+  pub pool-known : is_pool declared said ≡ true → unknown_pool file spot declared text ≡ None
+  pool-known h = ap (unknown_pool file spot declared) (sym says) ∙ ap (λ b. fault_if (not (is_empty said || b)) fault) h ∙ ap (λ b. fault_if (not b) fault) (or-true (is_empty said))
+
+  pub pool-unknown : (f : GraphFault) → (length said == 0) ≡ false → is_pool declared said ≡ false → IsFault (Some fault) f → IsFault (unknown_pool file spot declared text) f
+  pool-unknown f some unknown h =
+      subst (λ o. IsFault o f) (sym (ap (unknown_pool file spot declared) (sym says) ∙ ap (λ b. fault_if (not (b || is_pool declared said)) fault) (something-said said some) ∙ ap (λ b. fault_if (not b) fault) unknown)) h
+
+-- ---- the dyndep file
+
+module _ (file : List ℕ) (spot : Spot) (inputs : List (List ℕ)) (said text : List ℕ) (says : said ≡ text) where
+  abbrev path : List ℕ
+  path = clean_path_of said
+
+  abbrev no_input : (path : List ℕ) → GraphFault
+  no_input path = fault_at file spot (DyndepNotInput path)
+
+  pub dyndep-empty : said ≡ [] → dyndep_not_input file spot inputs text ≡ None
+  dyndep-empty h = ap (dyndep_not_input file spot inputs) (sym says) ∙ ap (λ (l : List ℕ). fault_if (not (is_empty l || is_among inputs path)) (no_input path)) h
+
+  or-true' : (a : Bool) → (a || true) ≡ true
+  or-true' true = refl
+  or-true' false = refl
+
+  pub dyndep-input : is_among inputs path ≡ true → dyndep_not_input file spot inputs text ≡ None
+  dyndep-input h = ap (dyndep_not_input file spot inputs) (sym says) ∙ ap (λ b. fault_if (not (is_empty said || b)) (no_input path)) h ∙ ap (λ b. fault_if (not b) (no_input path)) (or-true' (is_empty said))
+
+  pub dyndep-other : (f : GraphFault) → is_empty said ≡ false → is_among inputs path ≡ false → IsFault (Some (no_input path)) f → IsFault (dyndep_not_input file spot inputs text) f
+  dyndep-other f some other h =
+      subst (λ o. IsFault o f) (sym (ap (dyndep_not_input file spot inputs) (sym says) ∙ ap (λ b. fault_if (not (b || is_among inputs path)) (no_input path)) some ∙ ap (λ b. fault_if (not b) (no_input path)) other)) h

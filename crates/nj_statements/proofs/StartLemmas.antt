@@ -1,0 +1,190 @@
+-- What is held before anything is joined, and after all of it.
+use Rattle.std.proofs.Common.{◌≡◌, ℕ, zero, suc, true≢false, is_some, option_map, ◌+◌, ◌<◌, ◌≤◌, false, List, [], ◌∷◌, ◌++◌, length, get_or, replicate, map, slice_get, Option, Some, None, bytes_eq, refl, sym, ap, subst, ◌∙◌, arith}
+use Rattle.std.specs.List.{AllByRecursion, IsDistinct}
+use Rattle.std.proofs.lemmas.List.{length-map, length-append, length-replicate}
+use Rattle.std.proofs.lemmas.Option.{same_Some, slice_get-map}
+use Rattle.nj_manifest.specs.Statements.{StatementText, BindingText, RuleText, PoolText, BuildText, DefaultText, IncludeText, SubninjaText}
+use Rattle.nj_scope.specs.ReadingList.{Discovered, Entry}
+use Rattle.nj_edge_env.specs.Blocks.{BlocksText}
+use Rattle.nj_edges.specs.declared.files.FileNo.{FileNo}
+use Rattle.nj_edges.specs.EdgeGraphs.{EdgeGraph}
+use Rattle.nj_cycles.specs.Cycles.{IsAcyclic, IsLeastOnCycle}
+use Rattle.nj_edges.specs.declared.graph.Finished.TheVariants.{Graph}
+use Rattle.nj_edges.specs.Edges.{EdgePaths, edge_at, outputs_of}
+use Rattle.nj_edges.specs.EdgesHeld.{paths_at}
+use Rattle.nj_edges.specs.Graph.{FinishesAs}
+use Rattle.nj_edges.specs.Needs.{makers_of_inputs}
+use Rattle.nj_faults.specs.declared.fault.GraphFault.{GraphFault}
+use Rattle.nj_faults.specs.declared.fault.Cause.TheVariants.{Cycle}
+use Rattle.nj_faults.specs.Faults.{fault_at}
+use Rattle.nj_edges.specs.Files.{path_at}
+use Rattle.nj_edges.specs.Joining.{JoinTable, join_of}
+use Rattle.nj_statements.specs.declared.building.Detail.{Detail}
+use Rattle.nj_statements.specs.declared.building.DyndepEdge.{DyndepEdge}
+use Rattle.nj_statements.specs.EdgeList.{EdgeText, edge_of_build, edges_read, paths_of_edges, pending_at, dyndep_of, pending_read}
+use Rattle.nj_statements.specs.Built.{EdgeDetail, IsBuiltOf, IsCycleFault, detail_of}
+use Rattle.nj_statements.specs.BuiltHeld.{BuiltIsHeld, built_of, detail_named, pending_named}
+use Rattle.nj_statements.specs.Joining.{dyndep_files}
+use Rattle.nj_statements.specs.JoiningHeld.{pending_of, pending_from, count_waiting, count_bound, bind_all, first_edges, file_named, joining_of, JoiningIsHeld, HoldsJoined}
+use Rattle.nj_statements.proofs.WaitingLemmas.{still-all, pending-more, firsts-all, firsts-named, bind-waiting, bind-length, bind-known, none-known, count-bind, count-none}
+
+-- ---- of each edge what it waits for
+
+-- this is what edges wait for
+pub record AreAwaited (entries : List Entry) (waiting : List (Option (List ℕ))) : Type 0 where
+  pub are : pending_read entries ≡ pending_from 0 waiting
+  pub count : length waiting ≡ length (edges_read entries)
+
+abbrev awaited-at : Option Discovered → Option (List ℕ) → Option (List ℕ)
+awaited-at (Some found) file = None
+awaited-at None file = file
+
+pending-at : (edge : ℕ) (found : Option Discovered) (file : Option (List ℕ)) → pending_at edge found file ≡ pending_of edge (awaited-at found file)
+pending-at edge (Some found) file = refl
+pending-at edge None (Some file) = refl
+pending-at edge None None = refl
+
+awaited-more : (e : Entry) (before : List Entry) (item : StatementText) (waiting : List (Option (List ℕ))) → AreAwaited before waiting
+    → (more : List (Option (List ℕ))) × AreAwaited (record e { item = item } ∷ before) more
+unfolding edges_read pending_read
+awaited-more e before (BuildText outputs rule inputs lines) waiting is = (
+  waiting ++ next ∷ [],
+  record {
+    are =
+        ap (λ ps. ps ++ pending_at (length (edges_read before)) e.discovered (dyndep_of before edge)) is.are
+        ∙ ap (λ ps. pending_from 0 waiting ++ ps) (pending-at (length (edges_read before)) e.discovered (dyndep_of before edge) ∙ ap (λ n. pending_of n next) (sym is.count ∙ (let z : length waiting ≡ 0 + length waiting = omega arith in z)))
+        ∙ sym (pending-more 0 waiting next);
+    count = length-append waiting (next ∷ []) ∙ ap (λ n. n + 1) is.count ∙ sym (length-append (edges_read before) (edge ∷ []));
+  },
+)
+  where
+    edge : EdgeText
+    edge = edge_of_build e before outputs rule inputs lines
+
+    next : Option (List ℕ)
+    next = awaited-at e.discovered (dyndep_of before edge)
+awaited-more e before (BindingText bound word) waiting is = (waiting, record { are = is.are; count = is.count })
+awaited-more e before (RuleText name lines) waiting is = (waiting, record { are = is.are; count = is.count })
+awaited-more e before (PoolText name lines) waiting is = (waiting, record { are = is.are; count = is.count })
+awaited-more e before (DefaultText words) waiting is = (waiting, record { are = is.are; count = is.count })
+awaited-more e before (IncludeText word) waiting is = (waiting, record { are = is.are; count = is.count })
+awaited-more e before (SubninjaText word) waiting is = (waiting, record { are = is.are; count = is.count })
+
+pub awaited : (entries : List Entry) → (waiting : List (Option (List ℕ))) × AreAwaited entries waiting
+unfolding edges_read pending_read
+awaited [] = ([], record { are = refl; count = refl })
+awaited (e ∷ before) = let rest = awaited before in awaited-more e before e.item rest.0 rest.1
+
+-- ---- nothing is joined yet
+
+module _ (graph : EdgeGraph) (blocks : BlocksText) (names : List (List ℕ)) (details : List Detail) (defaults : List FileNo) (dyndeps : List DyndepEdge) (held : BuiltIsHeld graph names details defaults dyndeps)
+    (once : IsDistinct bytes_eq graph.files) (table : JoinTable) (table_is : table ≡ join_of graph) (firsts : List DyndepEdge) (firsts_are : firsts ≡ first_edges dyndeps)
+    (bound : List (Option FileNo)) (bound_are : bound ≡ bind_all dyndeps (replicate (length graph.edges) None)) (waiting : List ℕ) (count : length waiting ≡ length graph.files)
+    (waiting_are : (file : FileNo) → get_or waiting file.0 0 ≡ count_bound file dyndeps) where
+  start : JoiningIsHeld (join_of graph) names details defaults (first_edges dyndeps) (bind_all dyndeps (replicate (length graph.edges) None)) waiting
+  start = record {
+    each_path_once = once;
+    as_many_joined = refl;
+    as_many_was = length-map graph.edges (λ e. false);
+    as_many_details = held.as_many;
+    as_many_bound = bind-length dyndeps (replicate (length graph.edges) None) ∙ length-replicate (length graph.edges) None;
+    unchanged = λ edge h. refl;
+    names_known = held.names_known;
+    defaults_known = held.defaults_known;
+    dyndep_files_known = firsts-all (λ (d : DyndepEdge). d.file.0 < length graph.files) dyndeps held.dyndep_files_known;
+    dyndep_edges_known = firsts-all (λ (d : DyndepEdge). d.edge < length graph.edges) dyndeps held.dyndep_edges_known;
+    bound_known =
+        bind-known (length waiting) dyndeps (replicate (length graph.edges) None) (subst (λ n. AllByRecursion (λ (d : DyndepEdge). d.file.0 < n) dyndeps) (sym count) held.dyndep_files_known)
+        (none-known (length waiting) (length graph.edges));
+    waiting_known = omega (arith, count);
+    enough_wait = λ file.
+        let all = still-all (bind_all dyndeps (replicate (length graph.edges) None)) graph.edges in
+        let most = count-bind file dyndeps (replicate (length graph.edges) None) in
+        let none = count-none file (length graph.edges) in
+        let is = waiting_are file in
+        subst (λ ws. count_waiting file ws ≤ get_or waiting file.0 0) (sym all) (omega (arith, most, none, is));
+  }
+
+  pub start-held : JoiningIsHeld table names details defaults firsts bound waiting
+  start-held =
+      subst (λ (t : JoinTable). JoiningIsHeld t names details defaults firsts bound waiting) (sym table_is)
+      (subst (λ ds. JoiningIsHeld (join_of graph) names details defaults ds bound waiting) (sym firsts_are)
+      (subst (λ bs. JoiningIsHeld (join_of graph) names details defaults (first_edges dyndeps) bs waiting) (sym bound_are) start))
+
+  module _ (stated : List Entry) (is : IsBuiltOf (built_of graph blocks names details defaults dyndeps) stated) where
+    abbrev ws : List (Option (List ℕ))
+    ws = (awaited stated).0
+
+    named : map (file_named graph.files) (bind_all dyndeps (replicate (length graph.edges) None)) ≡ ws
+    named =
+        bind-waiting graph.files dyndeps ws (length graph.edges) (is.pending ∙ (awaited stated).1.are)
+        ((awaited stated).1.count ∙ sym (length-map (edges_read stated) (λ (e : EdgeText). e.paths)) ∙ sym (ap length is.paths))
+
+    holds : HoldsJoined (joining_of (join_of graph) blocks names details defaults (first_edges dyndeps) (bind_all dyndeps (replicate (length graph.edges) None))) stated stated
+    holds = record {
+      stated_paths = is.paths;
+      joined_paths = is.paths;
+      none_open = refl;
+      stated_details = is.details;
+      details = is.details;
+      blocks = is.blocks;
+      defaults = is.defaults;
+      dyndep_files = firsts-named graph.files once dyndeps held.dyndep_files_known ∙ ap dyndep_files is.pending;
+      bound = (awaited stated).1.are ∙ ap (pending_from 0) (sym named);
+      waiting = (awaited stated).1.are ∙ ap (pending_from 0) (sym named ∙ sym (still-all (map (file_named graph.files) (bind_all dyndeps (replicate (length graph.edges) None))) graph.edges));
+    }
+
+    pub start-holds : HoldsJoined (joining_of table blocks names details defaults firsts bound) stated stated
+    start-holds =
+        subst (λ (t : JoinTable). HoldsJoined (joining_of t blocks names details defaults firsts bound) stated stated) (sym table_is)
+        (subst (λ ds. HoldsJoined (joining_of (join_of graph) blocks names details defaults ds bound) stated stated) (sym firsts_are)
+        (subst (λ bs. HoldsJoined (joining_of (join_of graph) blocks names details defaults (first_edges dyndeps) bs) stated stated) (sym bound_are) holds))
+
+-- ---- all is joined
+
+module _ (table : JoinTable) (blocks : BlocksText) (names : List (List ℕ)) (details : List Detail) (defaults : List FileNo) (firsts : List DyndepEdge) (bound : List (Option FileNo))
+    (stated joined : List Entry) (holds : HoldsJoined (joining_of table blocks names details defaults firsts bound) stated joined) where
+  edge-count : length table.joined ≡ length (edges_read joined)
+  edge-count = ap length holds.joined_paths ∙ length-map (edges_read joined) (λ (e : EdgeText). e.paths)
+
+  pub joined-built : pending_read joined ≡ [] → (g : EdgeGraph) → FinishesAs table.files table.joined (Graph g) → (dyndeps : List DyndepEdge) → dyndeps ≡ []
+      → IsBuiltOf (built_of g blocks names details defaults dyndeps) joined × IsAcyclic (makers_of_inputs (paths_of_edges (edges_read joined))) (length (edges_read joined))
+  joined-built none g finishes dyndeps empty = (
+    record {
+      paths = ap (λ (v : EdgeGraph). v.edges) finishes.0 ∙ holds.joined_paths;
+      details = holds.details;
+      blocks = holds.blocks;
+      defaults = ap (λ (v : EdgeGraph). paths_at v.files defaults) finishes.0 ∙ holds.defaults;
+      pending = ap (map (pending_named g.files)) empty ∙ sym none;
+    },
+    subst (λ n. IsAcyclic (makers_of_inputs (paths_of_edges (edges_read joined))) n) (length-map (edges_read joined) (λ (e : EdgeText). e.paths))
+        (subst (λ es. IsAcyclic (makers_of_inputs es) (length es)) holds.joined_paths finishes.1),
+  )
+
+  pub joined-cycle : (n : ℕ) (d : Detail) (output : List ℕ) (fault : GraphFault) → n < length table.joined → slice_get details n ≡ Some d
+      → IsLeastOnCycle (makers_of_inputs table.joined) n → slice_get (outputs_of (edge_at table.joined n)) 0 ≡ Some output
+      → fault ≡ fault_at (path_at names d.file) d.spot (Cycle output) → IsCycleFault (edges_read joined) fault
+  joined-cycle n d output fault below at least first is =
+      let found = get-some (edges_read joined) n (subst (λ m. n < m) edge-count below) in
+      let detail : detail_named names d ≡ detail_of found.0 =
+      same_Some (detail_named names d) (detail_of found.0)
+      (sym (slice_get-map (detail_named names) details n ∙ ap (option_map (detail_named names)) at) ∙ ap (λ ds. slice_get ds n) holds.details ∙ slice_get-map detail_of (edges_read joined) n ∙ ap (option_map detail_of) found.1) in
+      record {
+        number = n;
+        edge = found.0;
+        output = output;
+        edge_is = found.1;
+        least = subst (λ es. IsLeastOnCycle (makers_of_inputs es) n) holds.joined_paths least;
+        output_is = ap (λ (e : EdgePaths). slice_get (outputs_of e) 0) (sym (ap (λ es. edge_at es n) holds.joined_paths ∙ paths-at (edges_read joined) n found.0 found.1)) ∙ first;
+        fault_is = is ∙ ap (λ (x : EdgeDetail). fault_at x.file x.spot (Cycle output)) detail;
+      }
+    where
+      get-some : (es : List EdgeText) (n : ℕ) → n < length es → (e : EdgeText) × (slice_get es n ≡ Some e)
+      get-some [] n h = absurd (omega (arith, h))
+      get-some (e ∷ es) zero h = (e, refl)
+      get-some (e ∷ es) (suc n) h = get-some es n (omega (arith, h))
+
+      paths-at : (es : List EdgeText) (n : ℕ) (e : EdgeText) → slice_get es n ≡ Some e → edge_at (paths_of_edges es) n ≡ e.paths
+      paths-at [] n e h = absurd (true≢false (sym (ap is_some h)))
+      paths-at (f ∷ es) zero e h = ap (λ (x : EdgeText). x.paths) (same_Some f e h)
+      paths-at (f ∷ es) (suc n) e h = paths-at es n e h

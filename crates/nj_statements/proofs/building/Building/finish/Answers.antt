@@ -1,0 +1,48 @@
+use Rattle.std.proofs.Common.{◌<◌, inr, map, length, refl, sym, ap, subst, ◌∙◌}
+use Rattle.nj_edges.specs.Files.{path_at}
+use Rattle.nj_edges.specs.Graph.{FinishesAs}
+use Rattle.nj_faults.specs.declared.fault.Cause.TheVariants.{Cycle}
+use Rattle.nj_faults.specs.Faults.{fault_at}
+use Rattle.nj_statements.specs.Answers.{BuildingText, HoldsEdges, detail_text}
+use Rattle.nj_statements.proofs.Finishing.{detail-count, detail-there, detail-known, built-held, built-of, cycle-fault}
+use Rattle.nj_statements.proofs.building.Building.finish.Goals as goal
+
+pub invariant_of-result : goal.invariant_of-result
+invariant_of-result c =
+    let held : BuildingText = record { table = c.self.inside.edges; blocks = c.self.inside.block_values; names = c.self.inside.names; details = map detail_text c.self.inside.details.items; defaults = c.self.inside.defaults.items; dyndeps = c.self.inside.dyndeps.items; references = c.self.inside.references.items } in
+    let holds : HoldsEdges held c.requires.0 = subst (λ b. HoldsEdges b c.requires.0) (sym c.self.view_is) c.requires.1 in
+    let graph = subst (FinishesAs c.self.inside.edges.files c.self.inside.edges.edges) c.in-Graph.is c.in_ok-graph.ensures in
+    built-held held c.requires.0 holds c.self.inside.details.items refl c.in-Graph.graph graph.0
+
+pub returns-in-Graph : goal.returns-in-Graph
+returns-in-Graph c = λ entries holds'.
+    let held : BuildingText = record { table = c.self.inside.edges; blocks = c.self.inside.block_values; names = c.self.inside.names; details = map detail_text c.self.inside.details.items; defaults = c.self.inside.defaults.items; dyndeps = c.self.inside.dyndeps.items; references = c.self.inside.references.items } in
+    let holds : HoldsEdges held entries = subst (λ b. HoldsEdges b entries) (sym c.self.view_is) holds' in
+    let graph = subst (FinishesAs c.self.inside.edges.files c.self.inside.edges.edges) c.in-Graph.is c.in_ok-graph.ensures in
+    built-of held entries holds c.self.inside.details.items refl c.in-Graph.graph graph.0 graph.1
+
+pub index-detail-requires : goal.index-detail-requires
+index-detail-requires c =
+    let held : BuildingText = record { table = c.self.inside.edges; blocks = c.self.inside.block_values; names = c.self.inside.names; details = map detail_text c.self.inside.details.items; defaults = c.self.inside.defaults.items; dyndeps = c.self.inside.dyndeps.items; references = c.self.inside.references.items } in
+    let holds : HoldsEdges held c.requires.0 = subst (λ b. HoldsEdges b c.requires.0) (sym c.self.view_is) c.requires.1 in
+    let cycle = subst (FinishesAs c.self.inside.edges.files c.self.inside.edges.edges) c.in-Cycle.is c.in_ok-graph.ensures in
+    let below : c.in-Cycle.cycle.edge.0 < length c.self.inside.details.items = subst (λ n. c.in-Cycle.cycle.edge.0 < n) (sym (detail-count held c.requires.0 holds c.self.inside.details.items refl)) cycle.0 in
+    let same = c.self.inside.details.ok.0 in
+    subst (λ n. c.in-Cycle.cycle.edge.0 < n) (sym same) below
+
+pub cycle_fault-requires : goal.cycle_fault-requires
+cycle_fault-requires c =
+    let held : BuildingText = record { table = c.self.inside.edges; blocks = c.self.inside.block_values; names = c.self.inside.names; details = map detail_text c.self.inside.details.items; defaults = c.self.inside.defaults.items; dyndeps = c.self.inside.dyndeps.items; references = c.self.inside.references.items } in
+    let holds : HoldsEdges held c.requires.0 = subst (λ b. HoldsEdges b c.requires.0) (sym c.self.view_is) c.requires.1 in
+    let cycle = subst (FinishesAs c.self.inside.edges.files c.self.inside.edges.edges) c.in-Cycle.is c.in_ok-graph.ensures in
+    detail-known held c.requires.0 holds c.self.inside.details.items refl c.in-Cycle.cycle.edge.0 c.index-detail.result.now cycle.0
+    (detail-there held c.requires.0 holds c.self.inside.details.items refl c.in-Cycle.cycle.edge.0 c.index-detail.result.now cycle.0 c.index-detail.ensures)
+
+pub returns : goal.returns
+returns c = λ entries holds'.
+    let held : BuildingText = record { table = c.self.inside.edges; blocks = c.self.inside.block_values; names = c.self.inside.names; details = map detail_text c.self.inside.details.items; defaults = c.self.inside.defaults.items; dyndeps = c.self.inside.dyndeps.items; references = c.self.inside.references.items } in
+    let holds : HoldsEdges held entries = subst (λ b. HoldsEdges b entries) (sym c.self.view_is) holds' in
+    let cycle = subst (FinishesAs c.self.inside.edges.files c.self.inside.edges.edges) c.in-Cycle.is c.in_ok-graph.ensures in
+    let fault = c.in_ok-cycle_fault-in-Cycle.ensures ∙ ap (λ output. fault_at (path_at c.self.inside.names c.index-detail.result.now.file) c.index-detail.result.now.spot (Cycle output)) c.from-output.ensures in
+    inr (cycle-fault held entries holds c.self.inside.details.items refl c.in-Cycle.cycle.edge.0 c.index-detail.result.now c.in-Cycle.cycle.output.items c.in_ok-cycle_fault-in-Cycle.field-0 cycle.0
+    (detail-there held entries holds c.self.inside.details.items refl c.in-Cycle.cycle.edge.0 c.index-detail.result.now cycle.0 c.index-detail.ensures) cycle.1 cycle.2 fault)

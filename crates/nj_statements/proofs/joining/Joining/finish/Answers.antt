@@ -1,0 +1,26 @@
+use Rattle.std.proofs.Common.{◌≡◌, ◌<◌, Some, inr, length, slice_get, sym, ap, subst, ◌∙◌}
+use Rattle.std.proofs.lemmas.Option.{slice_get-get_or}
+use Rattle.nj_edges.specs.Files.{path_at}
+use Rattle.nj_edges.specs.Graph.{FinishesAs}
+use Rattle.nj_faults.specs.declared.fault.Cause.TheVariants.{Cycle}
+use Rattle.nj_faults.specs.Faults.{fault_at}
+use Rattle.nj_statements.specs.JoiningHeld.{JoiningText, HoldsJoined}
+use Rattle.nj_statements.proofs.StartLemmas.{joined-built, joined-cycle}
+use Rattle.nj_statements.proofs.joining.Joining.finish.Goals as goal
+
+pub returns-in-Graph : goal.returns-in-Graph
+returns-in-Graph c = λ stated joined holds' none.
+    let holds = subst (λ (h : JoiningText). HoldsJoined h stated joined) (sym c.self.view_is) holds' in
+    let graph = subst (FinishesAs c.self.inside.edges.files c.self.inside.edges.joined) c.in-Graph.is c.in_ok-graph.ensures in
+    joined-built c.self.inside.edges c.self.inside.blocks c.self.inside.names c.self.inside.details.items c.self.inside.defaults.items c.self.inside.dyndep_files.items c.self.inside.bound.items stated joined holds none c.in-Graph.graph graph c.new.result.items c.new.ensures.items
+
+pub returns : goal.returns
+returns c = λ stated joined holds' none.
+    let holds = subst (λ (h : JoiningText). HoldsJoined h stated joined) (sym c.self.view_is) holds' in
+    let cycle = subst (FinishesAs c.self.inside.edges.files c.self.inside.edges.joined) c.in-Cycle.is c.in_ok-graph.ensures in
+    let d = c.index-detail.result.now in
+    let as_many = c.self.invariant.as_many_details ∙ sym c.self.invariant.as_many_joined in
+    let below : c.in-Cycle.cycle.edge.0 < length c.self.inside.details.items = subst (λ n. c.in-Cycle.cycle.edge.0 < n) (sym as_many) cycle.0 in
+    let at : slice_get c.self.inside.details.items c.in-Cycle.cycle.edge.0 ≡ Some d = slice_get-get_or c.self.inside.details.items c.in-Cycle.cycle.edge.0 d below ∙ ap Some (sym c.index-detail.ensures) in
+    let fault = c.in_ok-cycle_fault-in-Cycle.ensures ∙ ap (λ output. fault_at (path_at c.self.inside.names d.file) d.spot (Cycle output)) c.from-output.ensures in
+    inr (joined-cycle c.self.inside.edges c.self.inside.blocks c.self.inside.names c.self.inside.details.items c.self.inside.defaults.items c.self.inside.dyndep_files.items c.self.inside.bound.items stated joined holds c.in-Cycle.cycle.edge.0 d c.in-Cycle.cycle.output.items c.in_ok-cycle_fault-in-Cycle.field-0 cycle.0 at cycle.1 cycle.2 fault)

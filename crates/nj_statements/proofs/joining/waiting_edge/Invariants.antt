@@ -1,0 +1,6 @@
+use Rattle.std.proofs.Common.{◌≡◌, ◌<◌, ℕ, None, false, get_or}
+use Rattle.nj_statements.specs.JoiningHeld.{is_bound_to, still_waiting}
+use Rattle.nj_statements.proofs.joining.waiting_edge.Given as goal
+
+abbrev pub invariant-edges : goal.invariant-edges
+invariant-edges l = (n : ℕ) → n < l.number → is_bound_to (get_or (still_waiting l.bound l.edges.was_joined) n None) l.file ≡ false

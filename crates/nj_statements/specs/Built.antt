@@ -1,0 +1,72 @@
+-- What the statements of a run yield after the last one: its edges and defaults, or a dependency cycle.
+use Rattle.std.specs.Prelude.{◌≡◌, ◌⊎◌, ℕ, Some, Result, Ok, Err, List, [], ◌∷◌, map, length, slice_get, slice_index_or}
+use Rattle.nj_text.specs.declared.spot.Spot.{Spot}
+use Rattle.nj_scope.specs.ReadingList.{Entry}
+use Rattle.nj_edge_env.specs.Blocks.{BlocksText, bound_in}
+use Rattle.nj_cycles.specs.Cycles.{IsAcyclic, IsLeastOnCycle}
+use Rattle.nj_edges.specs.EdgeGraphs.{EdgeGraph}
+use Rattle.nj_edges.specs.Edges.{EdgePaths, first_output, roots_of}
+use Rattle.nj_edges.specs.Needs.{makers_of_inputs}
+use Rattle.nj_faults.specs.declared.fault.GraphFault.{GraphFault}
+use Rattle.nj_faults.specs.declared.fault.Cause.TheVariants.{Cycle}
+use Rattle.nj_faults.specs.Faults.{fault_at, no_memory}
+use Rattle.nj_statements.specs.EdgeList.{EdgeText, Pending, edges_read, paths_of_edges, defaults_read, pending_read, block_at}
+
+-- An edge without its paths and its block: the file of its build statement, by the name under which it was opened, the place
+-- of its first byte there, the number of its scope, and that of its rule.
+pub record EdgeDetail : Type 0 where
+  pub file : List ℕ
+  pub spot : Spot
+  pub scope : ℕ
+  pub rule : ℕ
+
+pub record BuiltText : Type 0 where
+  -- the files and the edges, by their paths
+  pub graph : EdgeGraph
+  pub details : List EdgeDetail
+  pub blocks : BlocksText
+  -- the paths of all `default` lines
+  pub defaults : List (List ℕ)
+  -- the edges to which dyndep files are still to be joined
+  pub pending : List Pending
+
+-- the detail of the edge of a number; past the last edge there is none
+abbrev pub detail_at : List EdgeDetail → (number : ℕ) → EdgeDetail
+detail_at details number =
+    slice_index_or details number (record { file = []; spot = record { line = 0; column = 0 }; scope = 0; rule = 0 })
+
+-- The defaults in force: the files of the `default` lines, each of which names one or more; the roots where there is no such
+-- line.
+abbrev pub defaults_in_force : (defaults : List (List ℕ)) → List EdgePaths → List (List ℕ)
+defaults_in_force [] edges = roots_of edges
+defaults_in_force (path ∷ paths) edges = path ∷ paths
+
+-- ---- by the statements
+
+abbrev pub detail_of : EdgeText → EdgeDetail
+detail_of e = record { file = e.file; spot = e.spot; scope = e.number; rule = e.rule }
+
+-- It has the edges and the defaults of these statements, of which the last read stands first.
+pub record IsBuiltOf (built : BuiltText) (entries : List Entry) : Type 0 where
+  pub paths : built.graph.edges ≡ paths_of_edges (edges_read entries)
+  pub details : built.details ≡ map detail_of (edges_read entries)
+  pub blocks : (number : ℕ) (name : List ℕ) → bound_in built.blocks number name ≡ block_at (edges_read entries) number name
+  pub defaults : built.defaults ≡ defaults_read entries
+  pub pending : built.pending ≡ pending_read entries
+
+-- The fault of a dependency cycle: at the statement of the edge of the smallest number that lies on one itself, with the first
+-- output of that edge. An edge that only leads into a cycle does not lie on it.
+pub record IsCycleFault (edges : List EdgeText) (fault : GraphFault) : Type 0 where
+  pub number : ℕ
+  pub edge : EdgeText
+  pub output : List ℕ
+  pub edge_is : slice_get edges number ≡ Some edge
+  pub least : IsLeastOnCycle (makers_of_inputs (paths_of_edges edges)) number
+  pub output_is : first_output edge.paths ≡ Some output
+  pub fault_is : fault ≡ fault_at edge.file edge.spot (Cycle output)
+
+-- Where no edge lies on a cycle, the statements yield their edges and defaults.
+abbrev pub ComesTo : List Entry → Result BuiltText GraphFault → Type 0
+ComesTo entries (Ok built) =
+    IsBuiltOf built entries × IsAcyclic (makers_of_inputs (paths_of_edges (edges_read entries))) (length (edges_read entries))
+ComesTo entries (Err fault) = (fault ≡ no_memory) ⊎ IsCycleFault (edges_read entries) fault

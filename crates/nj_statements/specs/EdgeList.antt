@@ -1,0 +1,196 @@
+-- The edges of a run: one for each build statement, in reading order.
+use Rattle.std.specs.Prelude.{ℕ, ◌==◌, Bool, ◌&&◌, not, if◌then◌else◌, Option, option_map, unwrap_or, Some, None, List}
+use Rattle.std.specs.Prelude.{[], ◌∷◌, ◌++◌, map, find, reverse, length, slice_get, bytes_eq, codes}
+use Rattle.std.specs.List.{filter}
+use Rattle.nj_text.specs.declared.spot.Spot.{Spot}
+use Rattle.nj_text.specs.Words.{WordText}
+use Rattle.nj_text.specs.Paths.{clean_path_of}
+use Rattle.nj_text.specs.Calls.{is_empty}
+use Rattle.nj_manifest.specs.LineSteps.{NameText}
+use Rattle.nj_manifest.specs.Statements.{LineText, OutputsText, InputsText, StatementText, BuildText, DefaultText}
+use Rattle.nj_scope.specs.Rules.{RuleText, RuleLineText}
+use Rattle.nj_scope.specs.Scopes.{expanded}
+use Rattle.nj_scope.specs.ReadingList.{Discovered, Entry, scope_of, value_after, rule_in_force, rule_texts}
+use Rattle.nj_edges.specs.Edges.{EdgePaths, outputs_of, is_among}
+use Rattle.nj_edge_env.specs.LateTexts.{LateNames, asked_text}
+
+-- ---- names and paths
+
+-- what names stand for; an unknown name is empty
+abbrev pub Values : Type 0
+Values = (name : List ℕ) → List ℕ
+
+-- what the block of a build statement binds to each name
+abbrev pub Block : Type 0
+Block = (name : List ℕ) → Option (List ℕ)
+
+-- a block without lines
+abbrev pub no_block : Block
+no_block name = None
+
+-- The last line of a name counts. Its value sees the scope of the file, and no line of the block itself.
+abbrev pub block_of : Values → List LineText → Block
+block_of values lines name = option_map (λ l. expanded values l.value.parts) (find (λ l. bytes_eq name l.name) (reverse lines))
+
+-- A name on a build line is the block's, else the scope's.
+abbrev pub on_line : Values → Block → Values
+on_line values block name = unwrap_or (block name) (values name)
+
+-- the path that a word says
+abbrev pub path_said : Values → WordText → List ℕ
+path_said values word = clean_path_of (expanded values word.parts)
+
+abbrev pub paths_said : Values → List WordText → List (List ℕ)
+paths_said values words = map (path_said values) words
+
+-- ---- edges
+
+pub record EdgeText : Type 0 where
+  -- the file of the build statement, by the name under which it was opened, and the place of its first byte there
+  pub file : List ℕ
+  pub spot : Spot
+  -- the number of its scope, and those of the scopes around it, the nearest first
+  pub number : ℕ
+  pub around : List ℕ
+  -- the number of its rule: that which is in force before the statement; `phony` is 0
+  pub rule : ℕ
+  pub block : Block
+  pub paths : EdgePaths
+
+-- the files that a build statement names
+abbrev pub stated_paths : Values → OutputsText → InputsText → (is_phony : Bool) → EdgePaths
+stated_paths values outputs inputs is_phony = record {
+  explicit_outputs = paths_said values outputs.explicit;
+  implicit_outputs = paths_said values outputs.implicit;
+  explicit_inputs = paths_said values inputs.explicit;
+  implicit_inputs = paths_said values inputs.implicit;
+  order_only_inputs = paths_said values inputs.order_only;
+  validations = paths_said values inputs.validations;
+  is_phony = is_phony;
+}
+
+-- A phony edge loses the inputs that are its own output where it has one explicit output, no implicit output and no implicit
+-- input.
+abbrev pub loses_own : EdgePaths → Bool
+loses_own e = e.is_phony && length e.explicit_outputs == 1 && length e.implicit_outputs == 0 && length e.implicit_inputs == 0
+
+abbrev pub of_others : EdgePaths → List (List ℕ) → List (List ℕ)
+of_others e paths = filter (λ path. not (is_among (outputs_of e) path)) paths
+
+abbrev pub without_own : EdgePaths → EdgePaths
+without_own e = record e { explicit_inputs = of_others e e.explicit_inputs; order_only_inputs = of_others e e.order_only_inputs }
+
+abbrev pub edge_paths : EdgePaths → EdgePaths
+edge_paths e = if loses_own e then without_own e else e
+
+abbrev pub rule_number : Entry → (before : List Entry) → NameText → ℕ
+rule_number e before rule = unwrap_or (rule_in_force before (scope_of e) rule.name) 0
+
+abbrev pub build_block : Entry → (before : List Entry) → List LineText → Block
+build_block e before lines = block_of (value_after before (scope_of e)) lines
+
+-- what the names on its line stand for
+abbrev pub line_values : Entry → (before : List Entry) → List LineText → Values
+line_values e before lines = on_line (value_after before (scope_of e)) (build_block e before lines)
+
+-- Discovered files are implicit: they come after the implicit ones of the statement itself, its inputs before the order-only ones.
+abbrev pub with_discovered : Option Discovered → EdgePaths → EdgePaths
+with_discovered None e = e
+with_discovered (Some found) e = record e {
+  implicit_outputs = e.implicit_outputs ++ found.outputs;
+  implicit_inputs = e.implicit_inputs ++ found.inputs;
+}
+
+-- The edge of a build statement, by the statements before it, of which the last read stands first. It loses its own outputs as
+-- inputs before discovered files are added.
+abbrev pub edge_of_build : Entry → (before : List Entry) → OutputsText → NameText → InputsText → List LineText → EdgeText
+edge_of_build e before outputs rule inputs lines = record {
+  file = e.file;
+  spot = e.spot;
+  number = e.number;
+  around = e.around;
+  rule = rule_number e before rule;
+  block = build_block e before lines;
+  paths = with_discovered e.discovered
+      (edge_paths (stated_paths (line_values e before lines) outputs inputs (rule_number e before rule == 0)));
+}
+
+abbrev pub with_edge : Entry → (before : List Entry) → StatementText → List EdgeText → List EdgeText
+with_edge e before (BuildText outputs rule inputs lines) edges = edges ++ edge_of_build e before outputs rule inputs lines ∷ []
+with_edge e before item edges = edges
+
+-- the edges of these statements, of which the last read stands first
+unfoldable pub edges_read : List Entry → List EdgeText
+edges_read [] = []
+edges_read (e ∷ before) = with_edge e before e.item (edges_read before)
+
+-- the block of the edge of a number; past the last edge there is none
+abbrev pub block_of_edge : Option EdgeText → Block
+block_of_edge None = no_block
+block_of_edge (Some e) = e.block
+
+abbrev pub block_at : List EdgeText → (number : ℕ) → Block
+block_at edges number = block_of_edge (slice_get edges number)
+
+abbrev pub paths_of_edges : List EdgeText → List EdgePaths
+paths_of_edges edges = map (λ e. e.paths) edges
+
+-- ---- defaults
+
+abbrev pub with_defaults : Entry → (before : List Entry) → StatementText → List (List ℕ) → List (List ℕ)
+with_defaults e before (DefaultText words) paths = paths ++ paths_said (value_after before (scope_of e)) words
+with_defaults e before item paths = paths
+
+-- the paths of all `default` lines
+unfoldable pub defaults_read : List Entry → List (List ℕ)
+defaults_read [] = []
+defaults_read (e ∷ before) = with_defaults e before e.item (defaults_read before)
+
+-- ---- the names of rules
+
+abbrev pub lines_of_rule : Option RuleText → List RuleLineText
+lines_of_rule (Some r) = r.lines
+lines_of_rule None = []
+
+-- What the names of an edge depend on, where its rule is used after these statements: its block and its rule are those of its own
+-- statement, its paths those that it keeps, and a name of the file has the value that it has by then.
+abbrev pub names_of_edge : List Entry → EdgeText → LateNames
+names_of_edge entries e = record {
+  inputs = e.paths.explicit_inputs;
+  outputs = e.paths.explicit_outputs;
+  block = e.block;
+  lines = lines_of_rule (slice_get (rule_texts entries) e.rule);
+  is_phony = e.paths.is_phony;
+  file = value_after entries (e.number ∷ e.around);
+}
+
+-- ---- dyndep files
+
+-- An edge and the dyndep file to which it is bound, by its clean path.
+pub record Pending : Type 0 where
+  pub edge : ℕ
+  pub file : List ℕ
+
+-- an empty text names no file
+abbrev pub file_said : (text : List ℕ) → Option (List ℕ)
+file_said text = if is_empty text then None else Some (clean_path_of text)
+
+-- the dyndep file of an edge: what the variable says at its build statement
+abbrev pub dyndep_of : (before : List Entry) → EdgeText → Option (List ℕ)
+dyndep_of before edge = file_said (asked_text (names_of_edge before edge) (codes "dyndep"))
+
+-- an edge to which its dyndep file was not joined yet
+abbrev pub pending_at : (edge : ℕ) → (joined : Option Discovered) → (file : Option (List ℕ)) → List Pending
+pending_at edge (Some found) file = []
+pending_at edge None (Some file) = record { edge = edge; file = file } ∷ []
+pending_at edge None None = []
+
+abbrev pub with_pending : Entry → (before : List Entry) → StatementText → List Pending → List Pending
+with_pending e before (BuildText outputs rule inputs lines) others =
+    others ++ pending_at (length (edges_read before)) e.discovered (dyndep_of before (edge_of_build e before outputs rule inputs lines))
+with_pending e before item others = others
+
+-- the edges that wait for what their dyndep files say, by number
+unfoldable pub pending_read : List Entry → List Pending
+pending_read [] = []
+pending_read (e ∷ before) = with_pending e before e.item (pending_read before)

@@ -1,0 +1,199 @@
+-- How edges are held to which dyndep files are joined. Nothing here has to be believed.
+use Rattle.std.specs.Prelude.{◌≡◌, ℕ, ◌+◌, ◌<◌, ◌≤◌, ◌==◌, Bool, true, false, not, if◌then◌else◌, Option, Some, None, option_map, unwrap_or, IfSome}
+use Rattle.std.specs.Prelude.{Result, Ok, Err, List, [], ◌∷◌, ◌++◌, map, filter, length, set, slice_get, slice_index_or, bytes_eq}
+use Rattle.std.specs.List.{AllByRecursion, IsDistinct}
+use Rattle.nj_text.specs.Words.{WordText}
+use Rattle.nj_scope.specs.Readings.{IsPrefix}
+use Rattle.nj_scope.specs.ReadingList.{Entry}
+use Rattle.nj_edge_env.specs.Blocks.{BlocksText, bound_in}
+use Rattle.nj_edges.specs.declared.files.FileNo.{FileNo}
+use Rattle.nj_edges.specs.Edges.{EdgePaths, first_output, maker_of}
+use Rattle.nj_edges.specs.EdgesHeld.{AreNumbers, paths_at}
+use Rattle.nj_edges.specs.Files.{path_at}
+use Rattle.nj_edges.specs.Joining.{JoinTable, none_added, with_added_output, with_added_input, is_joined}
+use Rattle.nj_faults.specs.declared.fault.GraphFault.{GraphFault}
+use Rattle.nj_faults.specs.declared.fault.Cause.TheVariants.{DyndepExtra, DyndepTwice, DyndepNoStatement}
+use Rattle.nj_faults.specs.Faults.{fault_at}
+use Rattle.nj_statements.specs.declared.building.Detail.{Detail}
+use Rattle.nj_statements.specs.declared.building.DyndepEdge.{DyndepEdge}
+use Rattle.nj_statements.specs.EdgeList.{Pending, path_said, edges_read, paths_of_edges, defaults_read, pending_read, block_at}
+use Rattle.nj_statements.specs.BuildFaults.{fault_if}
+use Rattle.nj_statements.specs.Built.{EdgeDetail, detail_of}
+use Rattle.nj_statements.specs.BuiltHeld.{detail_named, pending_named}
+use Rattle.nj_statements.specs.Joining.{no_values, dyndep_files}
+use Rattle.nj_statements.specs.Answers.{IsFault}
+
+-- ---- the edges that wait
+
+abbrev pub has_pending : List Pending → Bool
+has_pending [] = false
+has_pending (p ∷ others) = true
+
+-- what an edge waits for, if it is bound to this, or to nothing
+abbrev pub unless_joined : {A : Type 0} → Option A → (was_joined : Bool) → Option A
+unless_joined bound true = None
+unless_joined bound false = bound
+
+-- what each edge waits for, by what it is bound to; nothing was joined to those past the end of the second list
+abbrev pub still_waiting : {A : Type 0} → (bound : List (Option A)) → (was_joined : List Bool) → List (Option A)
+still_waiting [] was_joined = []
+still_waiting (b ∷ bound) [] = b ∷ bound
+still_waiting (b ∷ bound) (was ∷ was_joined) = unless_joined b was ∷ still_waiting bound was_joined
+
+abbrev pub pending_of : (edge : ℕ) → Option (List ℕ) → List Pending
+pending_of edge (Some file) = record { edge = edge; file = file } ∷ []
+pending_of edge None = []
+
+-- the edges that wait, of which the first one has this number
+abbrev pub pending_from : (number : ℕ) → (waiting : List (Option (List ℕ))) → List Pending
+pending_from number [] = []
+pending_from number (w ∷ waiting) = pending_of number w ++ pending_from (number + 1) waiting
+
+abbrev pub waiting_from : (number : ℕ) → (bound : List (Option (List ℕ))) → (was_joined : List Bool) → List Pending
+waiting_from number bound was_joined = pending_from number (still_waiting bound was_joined)
+
+-- ---- by the numbers of files
+
+abbrev pub is_bound_to : Option FileNo → FileNo → Bool
+is_bound_to (Some bound) file = bound.0 == file.0
+is_bound_to None file = false
+
+abbrev pub one_if : Bool → ℕ
+one_if true = 1
+one_if false = 0
+
+-- how many of these wait for a file
+abbrev pub count_waiting : FileNo → (waiting : List (Option FileNo)) → ℕ
+count_waiting file [] = 0
+count_waiting file (w ∷ waiting) = one_if (is_bound_to w file) + count_waiting file waiting
+
+-- how many of these edges are bound to a file
+abbrev pub count_bound : FileNo → List DyndepEdge → ℕ
+count_bound file [] = 0
+count_bound file (d ∷ dyndeps) = one_if (d.file.0 == file.0) + count_bound file dyndeps
+
+-- these edges are bound to their files
+abbrev pub bind_all : List DyndepEdge → (bound : List (Option FileNo)) → List (Option FileNo)
+bind_all [] bound = bound
+bind_all (d ∷ dyndeps) bound = bind_all dyndeps (set bound d.edge (Some d.file))
+
+-- the first of these edges that are bound to a file, for each file
+abbrev pub first_edges : List DyndepEdge → List DyndepEdge
+first_edges [] = []
+first_edges (d ∷ others) = d ∷ filter (λ other. not (other.file.0 == d.file.0)) (first_edges others)
+
+abbrev pub file_named : (files : List (List ℕ)) → Option FileNo → Option (List ℕ)
+file_named files file = option_map (path_at files) file
+
+-- the edge, if it is bound to a file
+abbrev pub if_bound : (bound : List (Option FileNo)) → FileNo → Option ℕ → Option ℕ
+if_bound bound file None = None
+if_bound bound file (Some edge) = if is_bound_to (slice_index_or bound edge None) file then Some edge else None
+
+abbrev pub maker_fault : (name : List ℕ) → WordText → JoinTable → Option ℕ → Option GraphFault
+maker_fault name word table None = Some (fault_at name word.spot (DyndepExtra (path_said no_values word)))
+maker_fault name word table (Some edge) =
+    fault_if (is_joined table edge) (fault_at name word.spot (DyndepTwice (path_said no_values word)))
+
+-- the edge that makes what a word says, if it is bound to a file
+abbrev pub edge_bound : JoinTable → (bound : List (Option FileNo)) → FileNo → WordText → Option ℕ
+edge_bound table bound file word = if_bound bound file (maker_of table.stated (path_said no_values word))
+
+-- this edge, to which nothing was joined yet
+pub record IsMeant (table : JoinTable) (bound : List (Option FileNo)) (file : FileNo) (word : WordText) (edge : ℕ) : Type 0 where
+  pub is : edge_bound table bound file word ≡ Some edge
+  pub known : edge < length table.stated
+  pub first : is_joined table edge ≡ false
+
+-- the fault of an edge that waits for a file to the end of that file
+abbrev pub fault_of_waiting : (path : List ℕ) → EdgeDetail → EdgePaths → GraphFault
+fault_of_waiting path detail e =
+    fault_at detail.file detail.spot (DyndepNoStatement (unwrap_or (first_output e) []) path)
+
+-- ---- what is collected for an edge
+
+abbrev pub with_added_outputs : JoinTable → (paths : List (List ℕ)) → JoinTable
+with_added_outputs t [] = t
+with_added_outputs t (path ∷ paths) = with_added_outputs (with_added_output t path) paths
+
+abbrev pub with_added_inputs : JoinTable → (paths : List (List ℕ)) → JoinTable
+with_added_inputs t [] = t
+with_added_inputs t (path ∷ paths) = with_added_inputs (with_added_input t path) paths
+
+-- no edge is changed, and files keep their numbers
+pub record KeepsEdges (before after : JoinTable) : Type 0 where
+  pub files : IsPrefix before.files after.files
+  pub each_path_once : IsDistinct bytes_eq before.files → IsDistinct bytes_eq after.files
+  pub stated : after.stated ≡ before.stated
+  pub joined : after.joined ≡ before.joined
+  pub was_joined : after.was_joined ≡ before.was_joined
+
+-- ---- what is held
+
+pub record JoiningText : Type 0 where
+  pub table : JoinTable
+  pub blocks : BlocksText
+  pub details : List EdgeDetail
+  -- the paths of all `default` lines
+  pub defaults : List (List ℕ)
+  -- the dyndep files, each with its first edge
+  pub dyndep_files : List Pending
+  -- of each edge the dyndep file to which it is bound
+  pub bound : List (Option (List ℕ))
+
+abbrev pub joining_of : JoinTable → BlocksText → (names : List (List ℕ)) → List Detail → (defaults : List FileNo)
+    → (dyndep_files : List DyndepEdge) → (bound : List (Option FileNo)) → JoiningText
+joining_of table blocks names details defaults dyndep_files bound = record {
+  table = table;
+  blocks = blocks;
+  details = map (detail_named names) details;
+  defaults = paths_at table.files defaults;
+  dyndep_files = map (pending_named table.files) dyndep_files;
+  bound = map (file_named table.files) bound;
+}
+
+-- For each edge there is a detail, and what is joined to it. All numbers are those of files and edges. For each file at most as many edges
+-- wait as are counted.
+pub record JoiningIsHeld (table : JoinTable) (names : List (List ℕ)) (details : List Detail) (defaults : List FileNo)
+    (dyndep_files : List DyndepEdge) (bound : List (Option FileNo)) (waiting : List ℕ) : Type 0 where
+  pub each_path_once : IsDistinct bytes_eq table.files
+  pub as_many_joined : length table.joined ≡ length table.stated
+  pub as_many_was : length table.was_joined ≡ length table.stated
+  pub as_many_details : length details ≡ length table.stated
+  pub as_many_bound : length bound ≡ length table.stated
+  pub unchanged : (edge : ℕ) → is_joined table edge ≡ false → slice_get table.joined edge ≡ slice_get table.stated edge
+  pub names_known : AllByRecursion (λ d. d.file.0 < length names) details
+  pub defaults_known : AreNumbers (length table.files) defaults
+  pub dyndep_files_known : AllByRecursion (λ d. d.file.0 < length table.files) dyndep_files
+  pub dyndep_edges_known : AllByRecursion (λ d. d.edge < length table.stated) dyndep_files
+  pub bound_known : AllByRecursion (λ file. IfSome file (λ f. f.0 < length waiting)) bound
+  pub waiting_known : length waiting ≤ length table.files
+  pub enough_wait : (file : FileNo) → count_waiting file (still_waiting bound table.was_joined) ≤ slice_index_or waiting file.0 0
+
+-- It holds the edges and defaults of the joined statements, the edges of the statements as they were read, and which edges wait.
+pub record HoldsJoined (held : JoiningText) (stated joined : List Entry) : Type 0 where
+  pub stated_paths : held.table.stated ≡ paths_of_edges (edges_read stated)
+  pub joined_paths : held.table.joined ≡ paths_of_edges (edges_read joined)
+  pub none_open : held.table.«open» ≡ none_added
+  pub stated_details : held.details ≡ map detail_of (edges_read stated)
+  pub details : held.details ≡ map detail_of (edges_read joined)
+  pub blocks : (number : ℕ) (name : List ℕ) → bound_in held.blocks number name ≡ block_at (edges_read joined) number name
+  pub defaults : held.defaults ≡ defaults_read joined
+  pub dyndep_files : held.dyndep_files ≡ dyndep_files (pending_read stated)
+  pub bound : pending_read stated ≡ pending_from 0 held.bound
+  pub waiting : pending_read joined ≡ waiting_from 0 held.bound held.table.was_joined
+
+-- Nothing is joined to an edge: the edges are as they were, and so is what they wait for. Files may be new, which keep the
+-- numbers of the others, and what an entry adds may be collected in part.
+pub record JoinsNothing (before after : JoiningText) : Type 0 where
+  pub edges : KeepsEdges before.table after.table
+  pub blocks : after.blocks ≡ before.blocks
+  pub details : after.details ≡ before.details
+  pub defaults : after.defaults ≡ before.defaults
+  pub dyndep_files : after.dyndep_files ≡ before.dyndep_files
+  pub bound : after.bound ≡ before.bound
+
+-- the entry has no fault and is joined, or its fault is answered
+abbrev pub JoinsEntry : (after : JoiningText) → Option GraphFault → (stated joined : List Entry) → Result (Unit {0}) GraphFault → Type 0
+JoinsEntry after expected stated joined (Ok done) = (expected ≡ None) × HoldsJoined after stated joined
+JoinsEntry after expected stated joined (Err fault) = IsFault expected fault

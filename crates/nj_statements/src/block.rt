@@ -1,0 +1,45 @@
+//! The blocks of build statements.
+
+ghost use Rattle.std.specs.Prelude.{◌≡◌, ℕ, ◌<◌, ◌≤◌, ◌==◌, if◌then◌else◌, List, length, OnOk};
+ghost use Rattle.nj_manifest.specs.Contents.{lines_text};
+ghost use Rattle.nj_scope.specs.Scopes.{or_else};
+ghost use Rattle.nj_edge_env.specs.Blocks.{bound_in};
+ghost use Rattle.nj_statements.specs.EdgeList.{Values, block_of, no_block};
+ghost use Rattle.nj_statements.specs.Answers.{Sees};
+
+use crate::names::Names;
+use nj_edge_env::Blocks;
+use nj_manifest::Line;
+use nj_scope::Declarations;
+use std::alloc::AllocError;
+
+/// Binds what the lines of an edge's block say; `text` is room for their values.
+pub(crate) fn bind_block(
+    blocks: &mut Blocks,
+    text: &mut Vec<u8>,
+    declarations: &Declarations,
+    scope: usize,
+    edge: usize,
+    lines: &[Line<'_>],
+) -> Result<(), AllocError>
+    requires scope { scope < length declarations.now.scopes }
+    requires last { blocks.old.last ≤ edge }
+    ensures bound { (values : Values) → Sees declarations.now scope no_block values
+        → OnOk result ((e : ℕ) (name : List ℕ) → bound_in blocks.new e name
+        ≡ (if e == edge then or_else (block_of values (lines_text lines.now) name)
+        (bound_in blocks.old e name) else bound_in blocks.old e name)) }
+    ensures others { (e : ℕ) (name : List ℕ) → e < edge
+        → bound_in blocks.new e name ≡ bound_in blocks.old e name }
+    ensures last { blocks.new.last ≤ edge }
+{
+    let names = Names {
+        declarations,
+        scope,
+        block: None,
+    };
+    'lines: for line in lines {
+        names.expand(text, &line.value)?;
+        blocks.bind(edge, line.name, text.as_slice())?;
+    }
+    Ok(())
+}

@@ -1,0 +1,309 @@
+//! The edges that were read so far, and the defaults.
+
+ghost use Rattle.std.specs.Prelude.{◌≡◌, ℕ, ◌<◌, List, [], ◌∷◌, Some, option_map, length, slice_get, vec_len, vec_capacity, OnOk, OnErr, IfSome};
+ghost use Rattle.nj_manifest.specs.Contents.{name_text, words_text, outputs_text, inputs_text, lines_text, build_text};
+ghost use Rattle.nj_manifest.specs.Statements.{DefaultText};
+ghost use Rattle.nj_scope.specs.Readings.{IsPrefix};
+ghost use Rattle.nj_scope.specs.Scopes.{IsScope, parent_at};
+ghost use Rattle.nj_scope.specs.Declarations.{DeclaredBy};
+ghost use Rattle.nj_scope.specs.ReadingList.{Entry, rule_in_force, rule_texts};
+ghost use Rattle.nj_edges.specs.EdgesHeld.{no_files};
+ghost use Rattle.nj_statements.specs.EdgeList.{Values, paths_said, line_values, edge_of_build, edges_read, paths_of_edges};
+ghost use Rattle.nj_statements.specs.BuildFaults.{or_then, first_fault, paths_fault, late_fault, target_fault, build_fault, default_fault};
+ghost use Rattle.nj_statements.specs.Answers.{Checks, SeesNames, HoldsEdges, AddsTargets, AddsNothing, ReadsStatement, with_dyndep, entry_at_place};
+
+use crate::block::bind_block;
+use crate::edge::{EdgeRule, NamedLine, add_edge};
+use crate::names::{EdgeBlock, Names, Room};
+use crate::place::StatementPlace;
+use crate::references::{NumberedRule, keep_references, rule_references};
+use nj_edges::{Edges, FileNo, Files};
+use nj_faults::{Cause, GraphFault, Name};
+use nj_edge_env::{Blocks, KeyReferences};
+use nj_manifest::Build;
+use nj_scope::{Declarations, HashKeys};
+use nj_text::{Spot, Word};
+use std::alloc::Global;
+use std::marker::Model;
+
+// The number of the rule `phony`.
+const PHONY: usize = 0;
+
+// An edge without its paths and its block: the file in which its statement stands, its place there,
+// the numbers of its scope and of its rule.
+#[derive(Clone, Copy)]
+pub(crate) struct Detail {
+    pub(crate) file: FileNo,
+    pub(crate) spot: Spot,
+    pub(crate) scope: usize,
+    pub(crate) rule: usize,
+}
+
+// An edge that is bound to a dyndep file ("Dynamic Dependencies" in the Ninja manual).
+#[derive(Clone, Copy)]
+pub(crate) struct DyndepEdge {
+    pub(crate) edge: usize,
+    pub(crate) file: FileNo,
+}
+
+/// The edges of the build statements that were read so far, and the defaults ("Build statements"
+/// and "Default target statements" in the Ninja manual).
+#[derive(Drop)]
+pub struct Building {
+    pub(crate) edges: Edges,
+    pub(crate) block_values: Blocks,
+    pub(crate) names: Files,
+    pub(crate) details: Vec<Detail>,
+    pub(crate) defaults: Vec<FileNo>,
+    pub(crate) dyndeps: Vec<DyndepEdge>,
+    // of each rule by number, which of its variables refer to which, where an edge has used it
+    references: Vec<Option<KeyReferences>>,
+    room: Room,
+}
+
+impl Model for Building {
+    ghost use Rattle.std.specs.Prelude.{◌≤◌, length, map};
+    ghost use Rattle.nj_statements.specs.Answers.{BuildingText, detail_text};
+
+    ghost Value = { BuildingText };
+
+    ghost view = { λ b. record {
+      table = b.edges;
+      blocks = b.block_values;
+      names = b.names;
+      details = map detail_text b.details.items;
+      defaults = b.defaults.items;
+      dyndeps = b.dyndeps.items;
+      references = b.references.items;
+    } };
+
+    ghost invariant = { λ b. b.block_values.last ≤ length b.details.items };
+}
+
+impl Building {
+    /// No edges. It allocates nothing. Names and paths are hashed by these keys.
+    pub fn new(alloc: Global, keys: HashKeys) -> Building
+        ensures { HoldsEdges result [] }
+    {
+        Building {
+            edges: Edges::new(alloc, keys),
+            block_values: Blocks::new(alloc, keys),
+            names: Files::new(alloc, keys),
+            details: Vec::new(alloc),
+            defaults: Vec::new(alloc),
+            dyndeps: Vec::new(alloc),
+            references: Vec::new(alloc),
+            room: Room::new(alloc),
+        }
+    }
+
+    /// Reads a build statement as an edge.
+    ///
+    /// # Errors
+    ///
+    /// The first fault of the statement: an unknown rule, then its outputs from left to right, each
+    /// an empty path or one that has a maker, then an empty path among its inputs and validations,
+    /// and then a cycle of the rule's variables, a pool that is not declared, or a dyndep file that
+    /// is no input ("Rule variables", "Pools" and "Dynamic Dependencies" in the manual). After a
+    /// fault the edges and defaults are those that were read before, but this edge may be read in
+    /// part, and nothing more may be read.
+    pub fn read_build(
+        &mut self,
+        alloc: Global,
+        declarations: &Declarations,
+        place: StatementPlace<'_>,
+        build: &Build<'_>,
+    ) -> Result<(), GraphFault>
+        requires { place.scope < length declarations.now.scopes }
+        ensures reads { (entries : List Entry) (around : List ℕ) (depth : ℕ)
+            → DeclaredBy declarations.now entries
+            → IsScope (parent_at declarations.now.scopes) place.entry.scope
+            (place.entry.scope ∷ around)
+            → HoldsEdges self.old entries
+            → let e = entry_at_place place.entry around depth (build_text build.now) in
+            ReadsStatement self.new (build_fault e entries (outputs_text build.now.outputs)
+            (name_text build.now.rule) (inputs_text build.now.inputs)
+            (lines_text build.now.lines.items)) e entries result }
+        ensures refused { OnErr result (AddsNothing self.old self.new) }
+    {
+        let rule = match rule_named(declarations, place.scope, build.rule.name) {
+            Some(rule) => rule,
+            None => {
+                let cause = Cause::UnknownRule(Name::new(alloc, build.rule.name)?);
+                return Err(place.fault(alloc, build.rule.spot, cause));
+            }
+        };
+        self.read_edge(alloc, declarations, place, build, rule)
+    }
+
+    // Reads a build statement that has this rule.
+    fn read_edge(
+        &mut self,
+        alloc: Global,
+        declarations: &Declarations,
+        place: StatementPlace<'_>,
+        build: &Build<'_>,
+        rule: NumberedRule<'_>,
+    ) -> Result<(), GraphFault>
+        requires { place.scope < length declarations.now.scopes }
+        ensures reads { (entries : List Entry) (around : List ℕ) (depth : ℕ)
+            → DeclaredBy declarations.now entries
+            → IsScope (parent_at declarations.now.scopes) place.entry.scope
+            (place.entry.scope ∷ around)
+            → rule_in_force entries (place.entry.scope ∷ around) build.now.rule.name.now
+            ≡ Some rule.entry.number
+            → slice_get (rule_texts entries) rule.entry.number ≡ Some rule.entry.rule.now
+            → HoldsEdges self.old entries
+            → let e = entry_at_place place.entry around depth (build_text build.now) in
+            let outputs = outputs_text build.now.outputs in
+            let inputs = inputs_text build.now.inputs in
+            let lines = lines_text build.now.lines.items in
+            ReadsStatement self.new (or_then (paths_fault e.file (line_values e entries lines)
+            (paths_of_edges (edges_read entries)) outputs inputs) (late_fault entries
+            (edge_of_build e entries outputs (name_text build.now.rule) inputs lines)))
+            e entries result }
+        ensures refused { OnErr result (AddsNothing self.old self.new) }
+    {
+        let edge = self.details.as_slice().len();
+        // Room is made first, so that nothing can fail once the edge is there.
+        self.details.reserve(1)?;
+        self.dyndeps.reserve(1)?;
+        let file = self.names.name(place.file.as_bytes())?;
+        keep_references(alloc, &mut self.references, rule)?;
+        bind_block(
+            &mut self.block_values,
+            &mut self.room.text,
+            declarations,
+            place.scope,
+            edge,
+            build.lines.as_slice(),
+        )?;
+        let block = EdgeBlock {
+            blocks: &self.block_values,
+            edge,
+        };
+        let names = Names {
+            declarations,
+            scope: place.scope,
+            block: Some(block),
+        };
+        let line = NamedLine {
+            alloc,
+            place,
+            names,
+        };
+        let used = EdgeRule {
+            rule: rule.rule,
+            is_phony: rule.number == PHONY,
+            references: rule_references(&self.references, rule.number),
+            block,
+        };
+        let dyndep = add_edge(line, &mut self.room, &mut self.edges, build, used)?;
+        push_dyndep(&mut self.dyndeps, edge, dyndep);
+        self.details.push_reserved(Detail {
+            file,
+            spot: place.spot,
+            scope: place.scope,
+            rule: rule.number,
+        });
+        Ok(())
+    }
+
+    /// Reads a `default` statement.
+    ///
+    /// # Errors
+    ///
+    /// The fault of the first word that has one: an empty path, or a file that no earlier build
+    /// statement names. Nothing changes then.
+    pub fn read_default(
+        &mut self,
+        alloc: Global,
+        declarations: &Declarations,
+        place: StatementPlace<'_>,
+        words: &[Word<'_>],
+    ) -> Result<(), GraphFault>
+        requires { place.scope < length declarations.now.scopes }
+        ensures reads { (entries : List Entry) (around : List ℕ) (depth : ℕ)
+            → DeclaredBy declarations.now entries
+            → IsScope (parent_at declarations.now.scopes) place.entry.scope
+            (place.entry.scope ∷ around)
+            → HoldsEdges self.old entries
+            → let e = entry_at_place place.entry around depth (DefaultText (words_text words.now))
+            in ReadsStatement self.new (default_fault e entries (words_text words.now))
+            e entries result }
+        ensures refused { OnErr result (self.new ≡ self.old) }
+    {
+        let names = Names {
+            declarations,
+            scope: place.scope,
+            block: None,
+        };
+        let line = NamedLine {
+            alloc,
+            place,
+            names,
+        };
+        let count = self.defaults.as_slice().len();
+        match add_targets(line, &mut self.room, &self.edges, &mut self.defaults, words) {
+            Ok(()) => Ok(()),
+            Err(fault) => {
+                self.defaults.truncate(count);
+                Err(fault)
+            }
+        }
+    }
+}
+
+// Appends the edge of this number, if it is bound to a dyndep file.
+fn push_dyndep(dyndeps: &mut Vec<DyndepEdge>, edge: usize, file: Option<FileNo>)
+    requires { vec_len dyndeps.old < vec_capacity dyndeps.old }
+    ensures { dyndeps.new.items ≡ with_dyndep edge file dyndeps.old.items }
+{
+    if let Some(file) = file {
+        dyndeps.push_reserved(DyndepEdge { edge, file });
+    }
+}
+
+// Appends the files that words name, each of which an earlier edge has to name.
+fn add_targets(
+    line: NamedLine<'_, '_, '_>,
+    room: &mut Room,
+    edges: &Edges,
+    targets: &mut Vec<FileNo>,
+    words: &[Word<'_>],
+) -> Result<(), GraphFault>
+    requires { line.names.scope < length line.names.declarations.now.scopes }
+    ensures fault { (values : Values) → SeesNames line.entry.names values
+        → edges.now.«open» ≡ no_files
+        → Checks (first_fault (target_fault line.entry.place.file.now values edges.now.edges)
+        (words_text words.now)) result }
+    ensures added { (values : Values) → SeesNames line.entry.names values
+        → OnOk result (AddsTargets edges.now.files targets.old.items targets.new.items
+        (paths_said values (words_text words.now))) }
+    ensures kept { IsPrefix targets.old.items targets.new.items }
+{
+    'words: for word in words {
+        let file = line.named_file(room, edges, word)?;
+        targets.push(file)?;
+    }
+    Ok(())
+}
+
+// The rule that is in force under the name in this scope.
+fn rule_named<'a>(
+    declarations: &'a Declarations,
+    scope: usize,
+    name: &[u8],
+) -> Option<NumberedRule<'a>>
+    requires { scope < length declarations.now.scopes }
+    ensures number { (entries : List Entry) (around : List ℕ)
+        → DeclaredBy declarations.now entries
+        → IsScope (parent_at declarations.now.scopes) scope (scope ∷ around)
+        → option_map (λ r. r.number) result ≡ rule_in_force entries (scope ∷ around) name.now }
+    ensures rule { (entries : List Entry) → DeclaredBy declarations.now entries
+        → IfSome result (λ r. slice_get (rule_texts entries) r.number ≡ Some r.rule.now) }
+{
+    let number = declarations.rule(scope, name)?;
+    let rule = declarations.rules().get(number)?;
+    Some(NumberedRule { number, rule })
+}

@@ -1,0 +1,370 @@
+//! The files that a build statement names.
+
+ghost use Rattle.std.specs.Prelude.{◌≡◌, ◌<◌, ◌≤◌, ◌+◌, ◌++◌, ◌∷◌, false, Some, length, slice_get, codes, IfOk, OnOk, OnErr};
+ghost use Rattle.nj_text.specs.Words.{word_text};
+ghost use Rattle.nj_manifest.specs.Contents.{words_text, outputs_text, inputs_text};
+ghost use Rattle.nj_scope.specs.ReadingList.{value_after, pools};
+ghost use Rattle.nj_edges.specs.Edges.{inputs_of};
+ghost use Rattle.nj_edges.specs.EdgesHeld.{no_files, EndWithin, edge_read};
+ghost use Rattle.nj_edge_env.specs.LateEdges.{late_names};
+ghost use Rattle.nj_edge_env.specs.LateTexts.{asked_text};
+ghost use Rattle.nj_edge_env.specs.ReferencesHeld.{TellsCycles};
+ghost use Rattle.nj_statements.specs.EdgeList.{Values, path_said, paths_said, stated_paths, loses_own, edge_paths, file_said};
+ghost use Rattle.nj_statements.specs.BuildFaults.{or_then, empty_path, first_fault, target_fault, outputs_fault, inputs_fault, paths_fault, names_fault};
+ghost use Rattle.nj_statements.specs.Answers.{Checks, SeesNames, IsFileSaid, bound_by, Grows, KeepsRead, AddsInputs, AddsEdge, names_read, with_outputs, with_input_unless, with_inputs, with_validations};
+
+use crate::late::LateLine;
+use crate::names::{EdgeBlock, Names, Room};
+use crate::place::StatementPlace;
+use nj_edges::{Edges, FileNo, KindEnds};
+use nj_faults::{Cause, GraphFault, Name};
+use nj_edge_env::{KeyReferences, LateEdge};
+use nj_manifest::{Build, Inputs, Outputs, Word};
+use nj_scope::{Declarations, Rule};
+use nj_text::{Spot, TextFault};
+use std::alloc::{AllocError, Global};
+
+/// A line that is read: where it stands, and the names on it.
+#[derive(Clone, Copy)]
+pub(crate) struct NamedLine<'p, 'd, 'b> {
+    pub(crate) alloc: Global,
+    pub(crate) place: StatementPlace<'p>,
+    pub(crate) names: Names<'d, 'b>,
+}
+
+impl NamedLine<'_, '_, '_> {
+    /// The path that a word says.
+    pub(crate) fn path<'w>(
+        self,
+        room: &'w mut Room,
+        word: &'w Word<'_>,
+    ) -> Result<&'w [u8], GraphFault>
+        requires { self.names.scope < length self.names.declarations.now.scopes }
+        ensures path { (values : Values) → SeesNames self.entry.names values
+            → IfOk result (λ path. path.now ≡ path_said values (word_text word.now)) }
+        ensures fault { (values : Values) → SeesNames self.entry.names values
+            → Checks (empty_path self.entry.place.file.now values (word_text word.now)) result }
+    {
+        match self.names.path(room, word) {
+            Ok(path) => Ok(path),
+            Err(TextFault::EmptyPath) => {
+                Err(self.place.fault(self.alloc, word.spot, Cause::EmptyPath))
+            }
+            Err(TextFault::OutOfMemory) => Err(GraphFault::out_of_memory()),
+        }
+    }
+
+    /// The file that a word names, which an earlier edge has to name.
+    pub(crate) fn named_file(
+        self,
+        room: &mut Room,
+        edges: &Edges,
+        word: &Word<'_>,
+    ) -> Result<FileNo, GraphFault>
+        requires { self.names.scope < length self.names.declarations.now.scopes }
+        ensures fault { (values : Values) → SeesNames self.entry.names values
+            → edges.now.«open» ≡ no_files
+            → Checks (target_fault self.entry.place.file.now values edges.now.edges
+            (word_text word.now)) result }
+        ensures file { (values : Values) → SeesNames self.entry.names values
+            → IfOk result (λ file. slice_get edges.now.files file.0
+            ≡ Some (path_said values (word_text word.now))) }
+    {
+        let path = self.path(room, word)?;
+        match edges.file_named(path) {
+            Some(file) => Ok(file),
+            None => {
+                let cause = Cause::UnknownTarget(Name::new(self.alloc, path)?);
+                Err(self.place.fault(self.alloc, word.spot, cause))
+            }
+        }
+    }
+
+    /// Appends outputs to the edge that is being read.
+    #[tactic(auto, using(crate::proofs::Keeps::keeps_same, crate::proofs::Keeps::keeps_output))]
+    pub(crate) fn add_outputs(
+        self,
+        room: &mut Room,
+        edges: &mut Edges,
+        words: &[Word<'_>],
+    ) -> Result<(), GraphFault>
+        requires { self.names.scope < length self.names.declarations.now.scopes }
+        ensures fault { (values : Values) → SeesNames self.entry.names values
+            → Checks (outputs_fault self.entry.place.file.now values edges.old.edges
+            edges.old.«open».outputs (words_text words.now)) result }
+        ensures added { (values : Values) → SeesNames self.entry.names values
+            → OnOk result (edges.new
+            ≡ with_outputs edges.old (paths_said values (words_text words.now))) }
+        ensures grows { OnOk result (Grows (length words.now) edges.old edges.new) }
+        ensures keeps { KeepsRead edges.old edges.new }
+    {
+        'words: for word in words {
+            let path = self.path(room, word)?;
+            if !edges.add_output(path)? {
+                let cause = Cause::TwoMakers(Name::new(self.alloc, path)?);
+                return Err(self.place.fault(self.alloc, word.spot, cause));
+            }
+        }
+        Ok(())
+    }
+
+    /// Appends inputs to the edge that is being read, without its own outputs if it loses them.
+    #[tactic(auto, using(crate::proofs::Keeps::keeps_same))]
+    pub(crate) fn add_inputs(
+        self,
+        room: &mut Room,
+        edges: &mut Edges,
+        words: &[Word<'_>],
+        loses_own: bool,
+    ) -> Result<(), GraphFault>
+        requires { self.names.scope < length self.names.declarations.now.scopes }
+        ensures fault { (values : Values) → SeesNames self.entry.names values
+            → Checks (first_fault (empty_path self.entry.place.file.now values)
+            (words_text words.now)) result }
+        ensures added { (values : Values) → SeesNames self.entry.names values
+            → OnOk result (edges.new
+            ≡ with_inputs loses_own edges.old (paths_said values (words_text words.now))) }
+        ensures grows { OnOk result (Grows 0 edges.old edges.new) }
+        ensures keeps { KeepsRead edges.old edges.new }
+    {
+        'words: for word in words {
+            let path = self.path(room, word)?;
+            add_input(edges, path, loses_own)?;
+        }
+        Ok(())
+    }
+
+    /// Appends validations to the edge that is being read.
+    #[tactic(auto, using(crate::proofs::Keeps::keeps_same, crate::proofs::Keeps::keeps_validation))]
+    pub(crate) fn add_validations(
+        self,
+        room: &mut Room,
+        edges: &mut Edges,
+        words: &[Word<'_>],
+    ) -> Result<(), GraphFault>
+        requires { self.names.scope < length self.names.declarations.now.scopes }
+        ensures fault { (values : Values) → SeesNames self.entry.names values
+            → Checks (first_fault (empty_path self.entry.place.file.now values)
+            (words_text words.now)) result }
+        ensures added { (values : Values) → SeesNames self.entry.names values
+            → OnOk result (edges.new
+            ≡ with_validations edges.old (paths_said values (words_text words.now))) }
+        ensures grows { OnOk result (Grows 0 edges.old edges.new) }
+        ensures keeps { KeepsRead edges.old edges.new }
+    {
+        'words: for word in words {
+            let path = self.path(room, word)?;
+            edges.add_validation(path)?;
+        }
+        Ok(())
+    }
+}
+
+// Appends an input to the edge that is being read, unless it is an own output of an edge that loses
+// these.
+fn add_input(edges: &mut Edges, path: &[u8], loses_own: bool) -> Result<(), AllocError>
+    ensures added { OnOk result (edges.new ≡ with_input_unless loses_own edges.old path.now) }
+    ensures refused { OnErr result (edges.new ≡ edges.old) }
+{
+    if loses_own {
+        edges.add_input_of_another(path)
+    } else {
+        edges.add_input(path)
+    }
+}
+
+// Appends all outputs of a build statement to the edge that is being read.
+#[tactic(auto, using(crate::proofs::Keeps::keeps_then))]
+fn add_all_outputs(
+    line: NamedLine<'_, '_, '_>,
+    room: &mut Room,
+    edges: &mut Edges,
+    outputs: &Outputs<'_>,
+) -> Result<(), GraphFault>
+    requires { line.names.scope < length line.names.declarations.now.scopes }
+    ensures fault { (values : Values) → SeesNames line.entry.names values
+        → Checks (outputs_fault line.entry.place.file.now values edges.old.edges
+        edges.old.«open».outputs ((outputs_text outputs.now).explicit
+        ++ (outputs_text outputs.now).implicit)) result }
+    ensures added { (values : Values) → SeesNames line.entry.names values
+        → OnOk result (edges.new ≡ with_outputs (with_outputs edges.old
+        (paths_said values (outputs_text outputs.now).explicit))
+        (paths_said values (outputs_text outputs.now).implicit)) }
+    ensures grows { OnOk result (Grows (length outputs.now.explicit.items
+        + length outputs.now.implicit.items) edges.old edges.new) }
+    ensures keeps { KeepsRead edges.old edges.new }
+{
+    line.add_outputs(room, edges, outputs.explicit.as_slice())?;
+    line.add_outputs(room, edges, outputs.implicit.as_slice())
+}
+
+// Appends all inputs and validations of a build statement to the edge that is being read. Returns
+// where its explicit inputs end, and its implicit ones.
+#[tactic(auto, using(crate::proofs::Keeps::keeps_then))]
+fn add_all_inputs(
+    line: NamedLine<'_, '_, '_>,
+    room: &mut Room,
+    edges: &mut Edges,
+    inputs: &Inputs<'_>,
+    loses_own: bool,
+) -> Result<(usize, usize), GraphFault>
+    requires { line.names.scope < length line.names.declarations.now.scopes }
+    ensures fault { (values : Values) → SeesNames line.entry.names values
+        → Checks (inputs_fault line.entry.place.file.now values (inputs_text inputs.now)) result }
+    ensures added { (values : Values) → SeesNames line.entry.names values
+        → IfOk result (λ ends. AddsInputs loses_own values (inputs_text inputs.now)
+        edges.old edges.new ends) }
+    ensures within { IfOk result (λ ends. (ends.0 ≤ ends.1)
+        × (ends.1 ≤ length edges.new.«open».inputs)) }
+    ensures grows { OnOk result (Grows 0 edges.old edges.new) }
+    ensures keeps { KeepsRead edges.old edges.new }
+{
+    line.add_inputs(room, edges, inputs.explicit.as_slice(), loses_own)?;
+    let explicit = edges.open_inputs();
+    line.add_inputs(room, edges, inputs.implicit.as_slice(), loses_own)?;
+    let implicit = edges.open_inputs();
+    line.add_inputs(room, edges, inputs.order_only.as_slice(), loses_own)?;
+    line.add_validations(room, edges, inputs.validations.as_slice())?;
+    Ok((explicit, implicit))
+}
+
+/// The rule of an edge that is read, and its block.
+#[derive(Clone, Copy)]
+pub(crate) struct EdgeRule<'r, 'b> {
+    pub(crate) rule: &'r Rule,
+    pub(crate) is_phony: bool,
+    /// Which of its variables refer to which.
+    pub(crate) references: &'r KeyReferences,
+    pub(crate) block: EdgeBlock<'b>,
+}
+
+// Reads the files of a build statement into the edge that is being read. Returns where its kinds
+// end.
+#[tactic(auto, using(crate::proofs::Keeps::keeps_then))]
+fn add_files(
+    line: NamedLine<'_, '_, '_>,
+    room: &mut Room,
+    edges: &mut Edges,
+    build: &Build<'_>,
+    is_phony: bool,
+) -> Result<KindEnds, GraphFault>
+    requires { line.names.scope < length line.names.declarations.now.scopes }
+    ensures fault { (values : Values) → SeesNames line.entry.names values
+        → edges.old.«open» ≡ no_files
+        → Checks (paths_fault line.entry.place.file.now values edges.old.edges
+        (outputs_text build.now.outputs) (inputs_text build.now.inputs)) result }
+    ensures named { (values : Values) → SeesNames line.entry.names values
+        → edges.old.«open» ≡ no_files
+        → IfOk result (λ kinds. edge_read edges.new.«open» kinds is_phony ≡ edge_paths
+        (stated_paths values (outputs_text build.now.outputs) (inputs_text build.now.inputs)
+        is_phony)) }
+    ensures within { IfOk result (λ kinds. EndWithin kinds (length edges.new.«open».outputs)
+        (length edges.new.«open».inputs)) }
+    ensures keeps { KeepsRead edges.old edges.new }
+{
+    add_all_outputs(line, room, edges, &build.outputs)?;
+    let loses_own = loses_own(build, is_phony);
+    let (explicit_inputs, implicit_inputs) = add_all_inputs(
+        line,
+        room,
+        edges,
+        &build.inputs,
+        loses_own,
+    )?;
+    Ok(KindEnds {
+        explicit_outputs: build.outputs.explicit.as_slice().len(),
+        explicit_inputs,
+        implicit_inputs,
+    })
+}
+
+// The edge that is being read, with these ends of its kinds, for its late texts.
+fn late_edge<'a>(
+    declarations: &'a Declarations,
+    scope: usize,
+    edges: &'a Edges,
+    kinds: KindEnds,
+    rule: EdgeRule<'a, 'a>,
+) -> LateEdge<'a>
+    requires scope { scope < length declarations.now.scopes }
+    requires kinds { EndWithin kinds (length edges.now.«open».outputs)
+        (length edges.now.«open».inputs) }
+    ensures declarations { result.declarations.now ≡ declarations.now }
+    ensures scope { result.scope ≡ scope }
+    ensures names { (file : Values) → late_names result file
+        ≡ names_read (edge_read edges.now.«open» kinds rule.entry.is_phony)
+        (bound_by rule.entry.block) rule.entry.rule.now file }
+{
+    LateEdge {
+        files: edges.files(),
+        inputs: &edges.open_input_files()[..kinds.explicit_inputs],
+        outputs: &edges.open_output_files()[..kinds.explicit_outputs],
+        blocks: rule.block.blocks,
+        edge: rule.block.edge,
+        rule: rule.rule,
+        declarations,
+        scope,
+    }
+}
+
+/// Reads a build statement as an edge, which is then the last one. Returns its dyndep file, if it
+/// is bound to one.
+#[tactic(auto, using(crate::proofs::Keeps::keeps_same))]
+pub(crate) fn add_edge(
+    line: NamedLine<'_, '_, '_>,
+    room: &mut Room,
+    edges: &mut Edges,
+    build: &Build<'_>,
+    rule: EdgeRule<'_, '_>,
+) -> Result<Option<FileNo>, GraphFault>
+    requires { line.names.scope < length line.names.declarations.now.scopes }
+    ensures fault { (values : Values) (sees : SeesNames line.entry.names values)
+        → edges.old.«open» ≡ no_files
+        → TellsCycles rule.entry.rule.now.lines rule.entry.references.now
+        → let paths = edge_paths (stated_paths values (outputs_text build.now.outputs)
+        (inputs_text build.now.inputs) rule.entry.is_phony) in
+        Checks (or_then (paths_fault line.entry.place.file.now values edges.old.edges
+        (outputs_text build.now.outputs) (inputs_text build.now.inputs))
+        (names_fault line.entry.place.file.now line.entry.place.spot (pools sees.entries)
+        (inputs_of paths) (names_read paths (bound_by rule.entry.block) rule.entry.rule.now
+        (value_after sees.entries (line.entry.names.scope ∷ sees.around))))) result }
+    ensures added { (values : Values) → SeesNames line.entry.names values
+        → edges.old.«open» ≡ no_files
+        → OnOk result (AddsEdge edges.old edges.new (edge_paths (stated_paths values
+        (outputs_text build.now.outputs) (inputs_text build.now.inputs) rule.entry.is_phony))) }
+    ensures dyndep { (values : Values) (sees : SeesNames line.entry.names values)
+        → edges.old.«open» ≡ no_files
+        → let paths = edge_paths (stated_paths values (outputs_text build.now.outputs)
+        (inputs_text build.now.inputs) rule.entry.is_phony) in
+        IfOk result (λ file. IsFileSaid edges.new.files file (file_said (asked_text
+        (names_read paths (bound_by rule.entry.block) rule.entry.rule.now
+        (value_after sees.entries (line.entry.names.scope ∷ sees.around))) (codes "dyndep")))) }
+    ensures refused { OnErr result (KeepsRead edges.old edges.new) }
+{
+    let kinds = add_files(line, room, edges, build, rule.is_phony)?;
+    let late = LateLine {
+        alloc: line.alloc,
+        place: line.place,
+        edge: late_edge(
+            line.names.declarations,
+            line.names.scope,
+            edges,
+            kinds,
+            rule,
+        ),
+    };
+    let dyndep = late.check(room, edges, rule.references)?;
+    edges.end_edge(kinds, rule.is_phony)?;
+    Ok(dyndep)
+}
+
+// Whether the edge of a build statement loses the inputs that are its own output.
+fn loses_own(build: &Build<'_>, is_phony: bool) -> bool
+    ensures { (values : Values) → result ≡ loses_own (stated_paths values
+        (outputs_text build.now.outputs) (inputs_text build.now.inputs) is_phony) }
+{
+    is_phony
+        && build.outputs.explicit.len() == 1
+        && build.outputs.implicit.is_empty()
+        && build.inputs.implicit.is_empty()
+}

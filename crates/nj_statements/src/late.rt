@@ -1,0 +1,111 @@
+//! What is wrong with the edge that is being read by the variables of its rule.
+
+ghost use Rattle.std.specs.Prelude.{◌≡◌, List, false, codes, IfOk, OnOk};
+ghost use Rattle.nj_edge_env.specs.LateTexts.{LateNames, asked_text};
+ghost use Rattle.nj_edge_env.specs.ReferencesHeld.{TellsCycles};
+ghost use Rattle.nj_scope.specs.ReadingList.{Entry, pools};
+ghost use Rattle.nj_statements.specs.BuildFaults.{variable_cycle_fault, unknown_pool, dyndep_not_input, names_fault};
+ghost use Rattle.nj_statements.specs.EdgeList.{file_said};
+ghost use Rattle.nj_statements.specs.Answers.{Checks, SeesLate, IsFileSaid};
+
+use crate::names::Room;
+use crate::place::StatementPlace;
+use nj_edges::{Edges, FileNo};
+use nj_faults::{Cause, GraphFault, Name};
+use nj_edge_env::{KeyReferences, LateEdge};
+use nj_text::TextFault;
+use std::alloc::{AllocError, Global};
+
+/// The edge that is being read, for what its names say where its rule is used, and the place of its
+/// statement.
+#[derive(Clone, Copy)]
+pub(crate) struct LateLine<'p, 'e> {
+    pub(crate) alloc: Global,
+    pub(crate) place: StatementPlace<'p>,
+    pub(crate) edge: LateEdge<'e>,
+}
+
+impl LateLine<'_, '_> {
+    /// Checks the variables of the rule, then the pool, then the dyndep file, which is returned if
+    /// the edge is bound to one.
+    pub(crate) fn check(
+        self,
+        room: &mut Room,
+        edges: &Edges,
+        references: &KeyReferences,
+    ) -> Result<Option<FileNo>, GraphFault>
+        ensures fault { (entries : List Entry) (n : LateNames) → SeesLate self.entry.edge entries n
+            → TellsCycles n.lines references.now
+            → Checks (names_fault self.entry.place.file.now self.entry.place.spot (pools entries)
+            edges.now.«open».inputs n) result }
+        ensures file { (entries : List Entry) (n : LateNames) → SeesLate self.entry.edge entries n
+            → IfOk result (λ file. IsFileSaid edges.now.files file
+            (file_said (asked_text n (codes "dyndep")))) }
+    {
+        self.check_cycle(references)?;
+        self.check_pool(&mut room.text)?;
+        self.check_dyndep(room, edges)
+    }
+
+    // Sets a text to what a name says.
+    fn say(self, text: &mut Vec<u8>, name: &[u8]) -> Result<(), AllocError>
+        ensures { (entries : List Entry) (n : LateNames) → SeesLate self.entry.edge entries n
+            → OnOk result (text.new.items ≡ asked_text n name.now) }
+    {
+        text.clear();
+        self.edge.append_late_text(text, name)
+    }
+
+    // Refuses a variable of the rule that refers back to itself.
+    fn check_cycle(self, references: &KeyReferences) -> Result<(), GraphFault>
+        ensures { (entries : List Entry) (n : LateNames) → SeesLate self.entry.edge entries n
+            → TellsCycles n.lines references.now
+            → Checks (variable_cycle_fault self.entry.place.file.now
+            self.entry.place.spot n) result }
+    {
+        match references.variable_cycle(self.alloc, self.edge.blocks, self.edge.edge)? {
+            Some(key) => {
+                let cause = Cause::RuleVariableCycle(Name::new(self.alloc, key)?);
+                Err(self.place.fault(self.alloc, self.place.spot, cause))
+            }
+            None => Ok(()),
+        }
+    }
+
+    // Refuses a pool that no earlier statement declares; `text` is room for its name.
+    fn check_pool(self, text: &mut Vec<u8>) -> Result<(), GraphFault>
+        ensures { (entries : List Entry) (n : LateNames) → SeesLate self.entry.edge entries n
+            → Checks (unknown_pool self.entry.place.file.now self.entry.place.spot (pools entries)
+            (asked_text n (codes "pool"))) result }
+    {
+        self.say(text, b"pool")?;
+        let pool = text.as_slice();
+        if pool.is_empty() || self.edge.declarations.has_pool(pool) {
+            return Ok(());
+        }
+        let cause = Cause::UnknownPool(Name::new(self.alloc, pool)?);
+        Err(self.place.fault(self.alloc, self.place.spot, cause))
+    }
+
+    // The dyndep file of the edge, if there is one. Refuses one that is no input of the edge.
+    fn check_dyndep(self, room: &mut Room, edges: &Edges) -> Result<Option<FileNo>, GraphFault>
+        ensures fault { (entries : List Entry) (n : LateNames) → SeesLate self.entry.edge entries n
+            → Checks (dyndep_not_input self.entry.place.file.now self.entry.place.spot
+            edges.now.«open».inputs (asked_text n (codes "dyndep"))) result }
+        ensures file { (entries : List Entry) (n : LateNames) → SeesLate self.entry.edge entries n
+            → IfOk result (λ file. IsFileSaid edges.now.files file
+            (file_said (asked_text n (codes "dyndep")))) }
+    {
+        self.say(&mut room.text, b"dyndep")?;
+        let path = match room.clean_path() {
+            Ok(path) => path,
+            Err(TextFault::EmptyPath) => return Ok(None),
+            Err(TextFault::OutOfMemory) => return Err(GraphFault::out_of_memory()),
+        };
+        if let Some(file) = edges.open_input(path) {
+            return Ok(Some(file));
+        }
+        let cause = Cause::DyndepNotInput(Name::new(self.alloc, path)?);
+        Err(self.place.fault(self.alloc, self.place.spot, cause))
+    }
+}

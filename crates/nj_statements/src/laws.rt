@@ -1,0 +1,40 @@
+//! Laws of what dyndep files add to edges. A law is a theorem, stated as a function with an empty
+//! body.
+
+ghost use Rattle.nj_statements.specs.Laws.{AddsToOneEdge, OthersWaitAsBefore, NamesStay};
+ghost use Rattle.nj_statements.specs.Laws.{EntriesAddToTheirEdges, EdgesMakeWhatIsDiscovered};
+ghost use Rattle.nj_statements.specs.Laws.{NoFileGetsTwoMakers};
+ghost use Rattle.nj_statements.specs.Laws.{PendingEdgesRise, DyndepFilesStandOnce};
+
+/// What a dyndep file says is added to one edge that waits for it; that edge then waits no longer.
+/// The other edges stay as they are and wait as before, and what names, rules and defaults say does
+/// not change.
+pub fn discovered_files_are_added()
+    ensures added { AddsToOneEdge }
+    ensures waiting { OthersWaitAsBefore }
+    ensures names { NamesStay }
+{}
+
+/// An entry of a dyndep file that has no fault means one edge that waits for the file, and what it
+/// discovers is added to that edge: it makes the outputs, which no edge made before, and each other
+/// file has the maker that it had.
+pub fn entries_add_to_their_edges()
+    ensures added { EntriesAddToTheirEdges }
+    ensures makers { EdgesMakeWhatIsDiscovered }
+{}
+
+/// Where no statement and no entry of a dyndep file has a fault, the outputs of all edges are
+/// pairwise distinct paths.
+pub fn no_file_gets_two_makers()
+    ensures { NoFileGetsTwoMakers }
+{}
+
+/// The edges that wait for dyndep files are in ascending order of number, each once.
+pub fn pending_edges_rise()
+    ensures { PendingEdgesRise }
+{}
+
+/// The dyndep files of the edges that wait are in the order of their first edges, each once.
+pub fn dyndep_files_stand_once()
+    ensures { DyndepFilesStandOnce }
+{}

@@ -1,6 +1,0 @@
-use Rattle.std.proofs.Common.{◌≡◌}
-use Rattle.nj_edges.specs.EdgesHeld.{no_files}
-use Rattle.nj_units.proofs.needs.add_chain.Given as goal
-
-abbrev pub invariant-edges : goal.invariant-edges
-invariant-edges l = l.edges.«open» ≡ no_files
