@@ -5,7 +5,7 @@
 ghost use Rattle.std.specs.Prelude.{◌<◌, length};
 ghost use Rattle.nj_graph.specs.Graph.{edges_of};
 
-use nj_cli::DiskFiles;
+use nj_disk::DiskFiles;
 use nj_graph::{EdgeNo, Graph, GraphFault, load};
 use std::alloc::{AllocError, Global};
 use std::io::{self, Write};

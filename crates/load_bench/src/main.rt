@@ -2,7 +2,7 @@
 //! were read.
 #![tactic(auto)]
 
-use nj_cli::DiskFiles;
+use nj_disk::DiskFiles;
 use nj_graph::{GraphFault, load};
 use std::alloc::{AllocError, Global};
 use std::io::{self, Write};

@@ -2,7 +2,6 @@ pub mod AnswerLemmas
 pub mod CyclicRuns
 pub mod HeadlineLaws
 pub mod JoinedRuns
-pub mod Pieces
 pub mod Reports
 mod Rows
 pub mod RunLemmas

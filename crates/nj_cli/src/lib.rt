@@ -2,7 +2,6 @@
 #![tactic(auto)]
 
 mod answer;
-mod disk;
 mod fault;
 mod laws;
 mod report;
@@ -10,13 +9,13 @@ mod run;
 mod status;
 mod targets;
 
-pub use disk::DiskFiles;
 pub use laws::commands_law;
-pub use nj_graph::Name;
-pub use nj_needs::Mark;
 pub use nj_args::{
     Action, InputsStyle, Request, TargetsView, ToolOption, UsageFault, Word, read_words,
 };
+pub use nj_disk::DiskFiles;
+pub use nj_graph::Name;
+pub use nj_needs::Mark;
 pub use nj_scope::{FileSource, FileTable, HashKeys, MemoryFiles, SourceFault};
 pub use nj_tools::{MemorySink, Sink, SinkFault, WriteSink};
 pub use report::{refuse_words, report_out_of_memory};

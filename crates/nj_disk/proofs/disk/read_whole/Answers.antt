@@ -1,6 +1,6 @@
 use Rattle.std.proofs.Common.{arith}
-use Rattle.nj_cli.proofs.Pieces.{Consumes-piece}
-use Rattle.nj_cli.proofs.disk.read_whole.Goals as goal
+use Rattle.nj_disk.proofs.Pieces.{Consumes-piece}
+use Rattle.nj_disk.proofs.disk.read_whole.Goals as goal
 
 pub reads-preserved : goal.reads-preserved
 reads-preserved g c =

@@ -38,7 +38,7 @@ pub struct DiskFiles<R: Drop> {
 
 impl<R: Drop> Model for DiskFiles<R> {
     ghost use Rattle.std.specs.Prelude.{option_map, string_bytes};
-    ghost use Rattle.nj_cli.specs.Disk.{Disk};
+    ghost use Rattle.nj_disk.specs.Disk.{Disk};
 
     ghost Value = { Disk };
 
@@ -107,7 +107,7 @@ impl<R: Files + Input + Drop> DiskFiles<R> {
 }
 
 impl<R: Files + Input + Drop> FileSource for DiskFiles<R> {
-    ghost use Rattle.nj_cli.specs.Disk.{disk_state};
+    ghost use Rattle.nj_disk.specs.Disk.{disk_state};
 
     ghost state = { disk_state };
 
