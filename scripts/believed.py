@@ -147,7 +147,7 @@ def rust(file):
     another file the module is the crate."""
     of = Module(file)
     text = re.sub(r"(^|\s)//(.*)$|^\s*#\[.*\]$", "", file.read_text(), flags=re.M)
-    for found in re.finditer(r"^\s*ghost (use .*);", text, re.M):
+    for found in re.finditer(r"^\s*ghost (use [^;]*);", text, re.M):
         of.use(found[1])
     uses = r"^(?:pub )?use (\w+)(?:::\w+)*::(?:\{(.*?)\}|(\w+));"
     for found in re.finditer(uses, text, re.M | re.S):
