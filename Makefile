@@ -38,13 +38,14 @@ test:
 	rt ci
 
 # Runs the built program on real files, and looks whether docs/ARCHITECTURE.md names every module,
-# each type with a private field has a model, the man page and the completions have every tool and
-# option, and names that collide under a known number cost no more than others. Last come the short
-# sweeps.
+# each type with a private field has a model, what must be believed and what is plumbing stand apart,
+# the man page and the completions have every tool and option, and names that collide under a known
+# number cost no more than others. Last come the short sweeps.
 smoke: $(BUILT)
 	@status=0; \
 	python3 scripts/check_docs.py || status=1; \
 	python3 scripts/check_models.py || status=1; \
+	python3 scripts/check_specs.py || status=1; \
 	python3 scripts/check_words.py $(BUILT) || status=1; \
 	python3 scripts/check_flood.py $(BUILT) || status=1; \
 	python3 scripts/smoke.py $(BUILT) || status=1; \

@@ -28,6 +28,8 @@ START = CRATES / "nj_cli/src/run.rt", "run_words"
 TOKEN = re.compile(r'"(?:[^"\\]|\\.)*"|[^\s(){}\[\];,".]+(?:\.[^\s(){}\[\];,".]+)*|\.\w+')
 TYPE = re.compile(r"\b[A-Z]\w*")
 KEYWORDS = {"abbrev", "unfoldable", "pub", "record", "data"}
+# What of an `impl Model` must be believed: the value, and how the fields hold it.
+MODEL = r"ghost (?:Value|view) ="
 
 
 class Definition:
@@ -171,14 +173,17 @@ def type_at(of, name, text, found):
     """A type as contracts see it: its model if it has one, else its declaration."""
     whole = block_at(text, found.start())
     if model := re.search(rf"^impl\b.* Model for {name}\b", text, re.M):
-        members = r"ghost (?:Value|view) ="
-        whole = block_at(text, model.start())
+        whole = members(block_at(text, model.start()), MODEL)
     elif found[1] == "trait":
-        members = r"ghost \w+: |fn (?=[^;{]*ensures)"
+        whole = members(whole, r"ghost \w+: |fn (?=[^;{]*ensures)")
     else:
         return Definition(of, name, whole, is_type=True)
-    parts = (block_at(whole, member.start()) for member in re.finditer(members, whole))
-    return Definition(of, name, "\n".join(parts))
+    return Definition(of, name, whole)
+
+
+def members(text, which):
+    """The members of a trait or an impl that begin so."""
+    return "\n".join(block_at(text, member.start()) for member in re.finditer(which, text))
 
 
 def contract():
@@ -203,9 +208,9 @@ def named_in(definition):
     return filter(None, found)
 
 
-def reached():
-    """All definitions that are reached, each once."""
-    found, waiting = [], [contract()]
+def reached(starts):
+    """All definitions that are reached from these, each once."""
+    found, waiting = [], list(starts)
     while waiting:
         if (definition := waiting.pop()) not in found:
             found.append(definition)
@@ -221,7 +226,7 @@ def main():
     parser = argparse.ArgumentParser()
     parser.add_argument("--most", type=int, help="how many lines of definitions there may be")
     most = parser.parse_args().most
-    found = reached()
+    found = reached([contract()])
     for crate, of_crate in groupby(found, key=lambda it: it.module.crate):
         of_crate = list(of_crate)
         print(f"{count(of_crate):5} {crate}")

@@ -12,13 +12,14 @@ from pathlib import Path
 ROOT = Path(__file__).resolve().parent.parent
 TABLE = ROOT / "docs/ARCHITECTURE.md"
 # modules that every crate may have, and whose names say nothing
-PLAIN = {"src/lib.rt", "src/main.rt", "specs/Lib.antt"}
+PLAIN = {"src/lib.rt", "src/main.rt", "specs/Lib.antt", "specs/Inside.antt"}
 
 
 def named_files(cell, folder, ending):
     """The files that a cell names in code marks; what stands in parentheses are functions."""
     words = re.findall(r"`([^`]+)`", re.sub(r"\([^)]*\)", "", cell))
-    return {word if "/" in word else f"{folder}/{word}{ending}" for word in words}
+    plain = {word for word in words if "/" not in word or word.startswith("Inside/")}
+    return {f"{folder}/{word}{ending}" for word in plain} | set(words) - plain
 
 
 def named():

@@ -7,7 +7,7 @@ use Rattle.clap.specs.declared.parser.matches.Found.{Found}
 use Rattle.clap.proofs.WalkLemmas.{raw_values-rows}
 use Rattle.nj_args.specs.CommandLine.{command}
 use Rattle.nj_args.specs.Fields.{FieldTexts, fields_in, is_refused, words_in}
-use Rattle.nj_args.specs.Held.{word_texts}
+use Rattle.nj_args.specs.Inside.Held.{word_texts}
 use Rattle.nj_args.specs.Requests.{RequestText, given_request, request_in, request_of, wordless, ◌>>=◌}
 use Rattle.nj_args.specs.declared.faults.UsageFault.{UsageFault}
 use Rattle.nj_args.specs.declared.faults.UsageFault.TheVariants.{Unparsed, OutOfMemory}

@@ -8,7 +8,7 @@ use Rattle.clap.specs.declared.error.kind.ErrorKind.{ErrorKind}
 use Rattle.clap.specs.declared.error.kind.ErrorKind.TheVariants as kind
 use Rattle.clap.proofs.OnLiterals.{clap_on_literals}
 use Rattle.nj_args.specs.CommandLine.{command}
-use Rattle.nj_args.specs.Held.{is_memory, refusal}
+use Rattle.nj_args.specs.Inside.Held.{is_memory, refusal}
 use Rattle.nj_args.specs.declared.faults.UsageFault.TheVariants.{Unparsed, OutOfMemory}
 
 pub simple : is_simple command ≡ true

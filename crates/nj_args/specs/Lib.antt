@@ -1,9 +1,11 @@
+-- what must be believed
 pub mod CommandLine
 pub mod FaultLines
 pub mod Fields
 pub mod FirstFaults
-pub mod Held
 pub mod Numbers
 pub mod Requests
 pub mod RunMarks
 pub mod Tools
+-- how the code does that
+pub mod Inside

@@ -2,7 +2,7 @@
 
 ghost use Rattle.std.specs.Prelude.{◌≡◌};
 ghost use Rattle.nj_args.specs.Numbers.{said_number, said_depth};
-ghost use Rattle.nj_args.specs.Held.{begins_with_plus};
+ghost use Rattle.nj_args.specs.Inside.Held.{begins_with_plus};
 
 const GREATEST_DEPTH: u64 = 2_147_483_647;
 

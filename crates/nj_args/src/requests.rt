@@ -27,7 +27,7 @@ ghost use Rattle.nj_args.specs.Requests.{
   main_file,
   wordless,
 };
-ghost use Rattle.nj_args.specs.Held.{field_texts, word_texts};
+ghost use Rattle.nj_args.specs.Inside.Held.{field_texts, word_texts};
 ghost use Rattle.nj_args.specs.RunMarks.{said_run_mark};
 ghost use Rattle.nj_args.specs.declared.faults.UsageFault.TheVariants.{OutOfMemory};
 

@@ -1,7 +1,7 @@
 //! The tools, and which options go with which.
 
 ghost use Rattle.std.specs.Prelude.{◌≡◌, find};
-ghost use Rattle.nj_args.specs.Held.{field_texts};
+ghost use Rattle.nj_args.specs.Inside.Held.{field_texts};
 ghost use Rattle.nj_args.specs.Tools.{
   tool_named,
   goes_with,

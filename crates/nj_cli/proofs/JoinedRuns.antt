@@ -9,7 +9,7 @@ use Rattle.nj_graph.specs.Loads.{LoadedText, IsWhole, IsLoaded, LoadedOr, main_r
 use Rattle.nj_graph.specs.Runs.{IsRead}
 use Rattle.nj_graph.proofs.Tables.{reads-then}
 use Rattle.nj_args.specs.Requests.{RequestText}
-use Rattle.nj_cli.specs.RunSteps.{GraphOr, ReadsGraph}
+use Rattle.nj_cli.specs.Inside.RunSteps.{GraphOr, ReadsGraph}
 use Rattle.nj_cli.specs.Runs.{ReadsMore, AreStatements, HaveFault}
 use Rattle.nj_cli.proofs.AnswerLemmas.{NoEdgeNeedsItself-stated}
 

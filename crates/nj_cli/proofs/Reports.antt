@@ -6,7 +6,7 @@ use Rattle.nj_args.specs.declared.faults.UsageFault.TheVariants as usage
 use Rattle.nj_tools.specs.Sinks.{SinkState}
 use Rattle.nj_cli.specs.Answers.{with_line_end}
 use Rattle.nj_cli.specs.Reported.{Reported}
-use Rattle.nj_cli.specs.RunSteps.{ReportsMisuse}
+use Rattle.nj_cli.specs.Inside.RunSteps.{ReportsMisuse}
 use Rattle.nj_args.specs.Requests.{RequestText, request_of}
 use Rattle.nj_cli.specs.Runs.{Around, out_of_memory, RunsWith, RunsWords}
 use Rattle.nj_cli.specs.declared.status.Status.{Status}

@@ -12,7 +12,7 @@ use Rattle.nj_tools.specs.Sinks.{SinkState, Takes}
 use Rattle.nj_tools.specs.Texts.{TakesFront}
 use Rattle.nj_cli.specs.Answers.{output_of, finished, stopped, faulty, out_of_range, EndsWith, with_line_end, follows_validations}
 use Rattle.nj_cli.specs.Reported.{Reported}
-use Rattle.nj_cli.specs.RunSteps.{AnswersTo, ReportsMark, Concludes}
+use Rattle.nj_cli.specs.Inside.RunSteps.{AnswersTo, ReportsMark, Concludes}
 use Rattle.nj_cli.specs.Runs.{Around, out_of_memory, RunEnds, AreStatements, IsAnswered}
 use Rattle.nj_cli.specs.Runs.RunEnds.{told, untold, output_failed, memory_failed}
 use Rattle.nj_cli.specs.declared.fault.RunFault.{RunFault}

@@ -10,7 +10,8 @@ use Rattle.nj_edges.specs.Files.{AreFiles}
 use Rattle.nj_faults.specs.declared.fault.GraphFault.{GraphFault}
 use Rattle.nj_faults.specs.Faults.{no_memory}
 use Rattle.nj_graph.specs.Targets.{picked}
-use Rattle.nj_cli.specs.Targets.{and_target, targets_named, PicksTargets}
+use Rattle.nj_cli.specs.Targets.{and_target, targets_named}
+use Rattle.nj_cli.specs.Inside.RunSteps.{PicksTargets}
 
 -- both are there
 and_target-ok : (one : Result (List ℕ) GraphFault) (others : Result (List (List ℕ)) GraphFault) (paths : List (List ℕ)) → and_target one others ≡ Ok paths

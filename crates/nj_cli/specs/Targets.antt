@@ -51,8 +51,3 @@ abbrev pub targets_of : List Entry → (validations : Bool) → (words : List (L
 targets_of entries validations words = targets_from entries validations (targets_named (edges_by_path entries) words)
 
 -- ---- what the code answers
-
--- the files of the targets, or the fault; or out of memory
-abbrev pub PicksTargets : (files : List (List ℕ)) → (expected : Result (List (List ℕ)) GraphFault) → Result (Vec FileNo) GraphFault → Type 0
-PicksTargets files expected (Ok numbers) = (paths : List (List ℕ)) × (expected ≡ Ok paths) × AreFiles files numbers.items paths
-PicksTargets files expected (Err fault) = (fault ≡ no_memory) ⊎ (expected ≡ Err fault)

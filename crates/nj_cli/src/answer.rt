@@ -7,7 +7,7 @@ ghost use Rattle.nj_graph.specs.Graph.{edges_of, IsGraphOf};
 ghost use Rattle.nj_args.specs.Requests.{action_text, commands, single_commands};
 ghost use Rattle.nj_args.specs.Requests as ask;
 ghost use Rattle.nj_cli.specs.Answers.{text_fault, follows_validations};
-ghost use Rattle.nj_cli.specs.RunSteps.{AnswersTo};
+ghost use Rattle.nj_cli.specs.Inside.RunSteps.{AnswersTo};
 
 use crate::fault::RunFault;
 use crate::targets::{pick_targets, targets_of};

@@ -30,7 +30,7 @@ impl From<GraphFault> for RunFault {
 }
 
 impl From<MarkFault> for RunFault {
-    ghost use Rattle.nj_cli.specs.RunSteps.{fault_of_mark};
+    ghost use Rattle.nj_cli.specs.Inside.RunSteps.{fault_of_mark};
 
     ghost from_gives = { λ f e. e ≡ fault_of_mark f };
 
@@ -44,7 +44,7 @@ impl From<MarkFault> for RunFault {
 }
 
 impl From<ToolFault> for RunFault {
-    ghost use Rattle.nj_cli.specs.RunSteps.{fault_of_tool};
+    ghost use Rattle.nj_cli.specs.Inside.RunSteps.{fault_of_tool};
 
     ghost from_gives = { λ f e. e ≡ fault_of_tool f };
 

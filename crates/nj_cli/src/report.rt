@@ -6,7 +6,7 @@ ghost use Rattle.nj_args.specs.FaultLines as usage;
 ghost use Rattle.nj_args.specs.declared.faults.UsageFault.TheVariants.{Unparsed};
 ghost use Rattle.nj_cli.specs.Answers.{with_line_end, mark_line};
 ghost use Rattle.nj_cli.specs.Reported.{Reported};
-ghost use Rattle.nj_cli.specs.RunSteps.{Concludes, ReportsLine, ReportsMark, ReportsMisuse};
+ghost use Rattle.nj_cli.specs.Inside.RunSteps.{Concludes, ReportsLine, ReportsMark, ReportsMisuse};
 ghost use Rattle.nj_cli.specs.Runs.{out_of_memory};
 
 use crate::fault::RunFault;

@@ -2,7 +2,7 @@
 
 ghost use Rattle.std.specs.Prelude.{map, string_bytes};
 ghost use Rattle.nj_args.specs.Requests.{request_text};
-ghost use Rattle.nj_cli.specs.RunSteps.{ReadsGraph};
+ghost use Rattle.nj_cli.specs.Inside.RunSteps.{ReadsGraph};
 ghost use Rattle.nj_cli.specs.Runs.{RunsAs, RunsWords, around};
 
 use crate::answer::{answer, follows_validations};

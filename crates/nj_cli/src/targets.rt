@@ -4,7 +4,8 @@ ghost use Rattle.std.specs.Prelude.{◌≡◌, ◌<◌, ℕ, List, All, IfOk, le
 ghost use Rattle.nj_scope.specs.ReadingList.{Entry};
 ghost use Rattle.nj_edges.specs.Files.{AreFiles};
 ghost use Rattle.nj_graph.specs.Graph.{edges_of, files_of, IsGraphOf};
-ghost use Rattle.nj_cli.specs.Targets.{or_defaults, targets_named, targets_of, PicksTargets};
+ghost use Rattle.nj_cli.specs.Targets.{or_defaults, targets_named, targets_of};
+ghost use Rattle.nj_cli.specs.Inside.RunSteps.{PicksTargets};
 
 use nj_graph::{FileNo, Graph, GraphFault, pick_target};
 use nj_needs::grow_targets;

@@ -7,8 +7,8 @@ use Rattle.std.proofs.lemmas.List.Elements.{Contains-append_left, Contains-appen
 use Rattle.nj_cycles.specs.declared.inputs.EdgeInputs.{EdgeInputs}
 use Rattle.nj_cycles.specs.Cycles.{Needs, Chain}
 use Rattle.nj_cycles.specs.Inputs.{makers_of}
-use Rattle.nj_cycles.specs.Places.{first_place, past_place, maker_of}
-use Rattle.nj_cycles.specs.Places.{NeedsAt}
+use Rattle.nj_cycles.specs.Inside.Places.{first_place, past_place, maker_of}
+use Rattle.nj_cycles.specs.Inside.Places.{NeedsAt}
 use Rattle.nj_cycles.proofs.Chains.{chain_map}
 use Rattle.nj_cycles.proofs.InputPlaces.{first_bound}
 

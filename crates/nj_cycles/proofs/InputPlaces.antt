@@ -5,8 +5,8 @@ use Rattle.std.proofs.lemmas.Bool.{cases_lt, cases_order}
 use Rattle.std.proofs.lemmas.List.{get_or_past, get_or_default}
 use Rattle.nj_cycles.specs.declared.inputs.EdgeInputs.{EdgeInputs}
 use Rattle.nj_cycles.specs.Inputs.{edge_count}
-use Rattle.nj_cycles.specs.Places.{first_place, past_place}
-use Rattle.nj_cycles.specs.Users.{IsInputOf}
+use Rattle.nj_cycles.specs.Inside.Places.{first_place, past_place}
+use Rattle.nj_cycles.specs.Inside.Users.{IsInputOf}
 
 module _ (g : EdgeInputs) where
   pub first_bound : (e : ℕ) → first_place g e ≤ length g.files.now

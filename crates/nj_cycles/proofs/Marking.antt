@@ -10,10 +10,10 @@ use Rattle.nj_cycles.specs.declared.marks.Marks.{Marks}
 use Rattle.nj_cycles.specs.declared.users.Users.{Users}
 use Rattle.nj_cycles.specs.Cycles.Chain.{one, more}
 use Rattle.nj_cycles.specs.Inputs.{edge_count}
-use Rattle.nj_cycles.specs.Places.{maker_at}
-use Rattle.nj_cycles.specs.Places.{NeedsAt}
-use Rattle.nj_cycles.specs.Users.{IsInputOf, IsLastBelow, AreUsers}
-use Rattle.nj_cycles.specs.Marks.{IsMarked, unmarked, LeadsInto, AreMarks, MarksMore}
+use Rattle.nj_cycles.specs.Inside.Places.{maker_at}
+use Rattle.nj_cycles.specs.Inside.Places.{NeedsAt}
+use Rattle.nj_cycles.specs.Inside.Users.{IsInputOf, IsLastBelow, AreUsers}
+use Rattle.nj_cycles.specs.Inside.Marks.{IsMarked, unmarked, LeadsInto, AreMarks, MarksMore}
 use Rattle.nj_cycles.proofs.Places.{at_set}
 use Rattle.nj_cycles.proofs.InputPlaces.{first_bound, owner_in, one_owner}
 

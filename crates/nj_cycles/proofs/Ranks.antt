@@ -11,9 +11,9 @@ use Rattle.nj_cycles.specs.declared.inputs.EdgeInputs.{EdgeInputs}
 use Rattle.nj_cycles.specs.Cycles.{Needs, Chain, IsRank, IsAcyclic, IsFirstOnCycle, AcyclicHasNoCycle}
 use Rattle.nj_cycles.specs.Cycles.Chain.{one, more}
 use Rattle.nj_cycles.specs.Inputs.{edge_count, makers_of}
-use Rattle.nj_cycles.specs.Walks.{Reaches, IsFalling, Walked}
-use Rattle.nj_cycles.specs.Places.{NeedsAt}
-use Rattle.nj_cycles.specs.Marks.{IsMarked, AreMarks, IsOnCycleAt, IsLeastOf}
+use Rattle.nj_cycles.specs.Inside.Walks.{Reaches, IsFalling, Walked}
+use Rattle.nj_cycles.specs.Inside.Places.{NeedsAt}
+use Rattle.nj_cycles.specs.Inside.Marks.{IsMarked, AreMarks, IsOnCycleAt, IsLeastOf}
 use Rattle.nj_cycles.proofs.Chains.{comes_then, then_comes}
 use Rattle.nj_cycles.proofs.Places.{index_of, contains_at, index_before}
 use Rattle.nj_cycles.proofs.InputPlaces.{owner_in}

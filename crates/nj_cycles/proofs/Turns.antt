@@ -7,9 +7,9 @@ use Rattle.nj_cycles.specs.declared.walk.Stage.{Stage}
 use Rattle.nj_cycles.specs.declared.walk.Stage.TheVariants.{Unseen, Open, Done}
 use Rattle.nj_cycles.specs.declared.walk.Walk.{Walk}
 use Rattle.nj_cycles.specs.Inputs.{edge_count}
-use Rattle.nj_cycles.specs.Places.{past_place}
-use Rattle.nj_cycles.specs.Walks.{stage_of, turns_of, Stands, WalkStands, EndsAt, TakesTurn, Walked}
-use Rattle.nj_cycles.specs.Places.{NeedsAt}
+use Rattle.nj_cycles.specs.Inside.Places.{past_place}
+use Rattle.nj_cycles.specs.Inside.Walks.{stage_of, turns_of, Stands, WalkStands, EndsAt, TakesTurn, Walked}
+use Rattle.nj_cycles.specs.Inside.Places.{NeedsAt}
 use Rattle.nj_cycles.proofs.Places.{index_of}
 use Rattle.nj_cycles.proofs.Walking.{stage_cases, kept_by_set, open_is_seen, done_is_seen, opens, top_in, top_open, top_links, finishes}
 

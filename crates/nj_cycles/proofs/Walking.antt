@@ -11,9 +11,9 @@ use Rattle.nj_cycles.specs.declared.walk.Stage.TheVariants.{Unseen, Open, Done}
 use Rattle.nj_cycles.specs.Cycles.{Chain}
 use Rattle.nj_cycles.specs.Cycles.Chain.{one}
 use Rattle.nj_cycles.specs.Inputs.{edge_count}
-use Rattle.nj_cycles.specs.Places.{past_place, maker_at}
-use Rattle.nj_cycles.specs.Walks.{Reaches, stage_of, turns_of, IsSettled, IsFalling, Stands}
-use Rattle.nj_cycles.specs.Places.{NeedsAt}
+use Rattle.nj_cycles.specs.Inside.Places.{past_place, maker_at}
+use Rattle.nj_cycles.specs.Inside.Walks.{Reaches, stage_of, turns_of, IsSettled, IsFalling, Stands}
+use Rattle.nj_cycles.specs.Inside.Places.{NeedsAt}
 use Rattle.nj_cycles.proofs.Chains.{chain_push}
 use Rattle.nj_cycles.proofs.Places.{at_push, at_left, at_end, at_set, index_of}
 

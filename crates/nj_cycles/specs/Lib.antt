@@ -1,6 +1,5 @@
+-- what must be believed
 pub mod Cycles
 pub mod Inputs
-pub mod Places
-pub mod Walks
-pub mod Users
-pub mod Marks
+-- how the code does that
+pub mod Inside

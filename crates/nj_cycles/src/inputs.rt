@@ -21,7 +21,7 @@ pub struct EdgeInputs<'a> {
 
 impl<'a> EdgeInputs<'a> {
     ghost use Rattle.nj_cycles.specs.Inputs.{edge_count};
-    ghost use Rattle.nj_cycles.specs.Places.{first_place, past_place, maker_of, maker_at};
+    ghost use Rattle.nj_cycles.specs.Inside.Places.{first_place, past_place, maker_of, maker_at};
 
     /// The inputs of edge `e` are `files` from `starts[e]` up to where those of the next edge
     /// begin, and those of the last edge go on to the end. So `starts` begins at 0, rises and stays

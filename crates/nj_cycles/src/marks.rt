@@ -1,10 +1,10 @@
 //! The edges that lie on a cycle, from the order in which the walk finished the edges.
 ghost use Rattle.std.specs.Prelude.{◌≡◌, ℕ, ◌<◌, Bool, true, false, List, [], ◌∷◌, min, length, vec_len, All, MatchOption, IfOk, OnOk};
 ghost use Rattle.nj_cycles.specs.Inputs.{edge_count};
-ghost use Rattle.nj_cycles.specs.Walks.{Walked};
-ghost use Rattle.nj_cycles.specs.Places.{NeedsAt};
-ghost use Rattle.nj_cycles.specs.Users.{AreUsers};
-ghost use Rattle.nj_cycles.specs.Marks.{IsMarked, AreMarks, MarksMore, IsLeastOf};
+ghost use Rattle.nj_cycles.specs.Inside.Walks.{Walked};
+ghost use Rattle.nj_cycles.specs.Inside.Places.{NeedsAt};
+ghost use Rattle.nj_cycles.specs.Inside.Users.{AreUsers};
+ghost use Rattle.nj_cycles.specs.Inside.Marks.{IsMarked, AreMarks, MarksMore, IsLeastOf};
 
 use crate::users::Users;
 use std::alloc::{AllocError, Global};

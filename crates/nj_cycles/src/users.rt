@@ -1,8 +1,8 @@
 //! The users of edges: which edges need an edge directly.
 ghost use Rattle.std.specs.Prelude.{◌≡◌, ℕ, ◌+◌, ◌<◌, ◌≤◌, length, vec_len, IfOk, OnOk};
 ghost use Rattle.nj_cycles.specs.Inputs.{edge_count};
-ghost use Rattle.nj_cycles.specs.Places.{first_place, past_place};
-ghost use Rattle.nj_cycles.specs.Users.{IsInputOf, AreTied, AreUsers, TakesLast};
+ghost use Rattle.nj_cycles.specs.Inside.Places.{first_place, past_place};
+ghost use Rattle.nj_cycles.specs.Inside.Users.{IsInputOf, AreTied, AreUsers, TakesLast};
 
 use crate::inputs::EdgeInputs;
 use std::alloc::{AllocError, Global};

@@ -2,8 +2,8 @@
 ghost use Rattle.std.specs.Prelude.{◌≡◌, ℕ, ◌<◌, ◌≤◌, false, [], ◌∷◌, ◌++◌, length, vec_len, slice_index, slice_set, sum_by, Contains, IfOk, OnOk};
 ghost use Rattle.std.specs.Bool.{OnTrue, OnFalse};
 ghost use Rattle.nj_cycles.specs.Inputs.{edge_count};
-ghost use Rattle.nj_cycles.specs.Places.{first_place, past_place};
-ghost use Rattle.nj_cycles.specs.Walks.{stage_of, IsSeen, turns_of, Stands, WalkStands, Passes, EndsAt, TakesTurn, IsFalling, Walked};
+ghost use Rattle.nj_cycles.specs.Inside.Places.{first_place, past_place};
+ghost use Rattle.nj_cycles.specs.Inside.Walks.{stage_of, IsSeen, turns_of, Stands, WalkStands, Passes, EndsAt, TakesTurn, IsFalling, Walked};
 
 use crate::inputs::EdgeInputs;
 use std::alloc::{AllocError, Global};

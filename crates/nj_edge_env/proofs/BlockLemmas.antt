@@ -9,7 +9,7 @@ use Rattle.indexmap.specs.IndexMap.{insert_entry}
 use Rattle.nj_scope.proofs.ScopeLemmas.{lookup-inserted, lookup-text}
 use Rattle.nj_edge_env.specs.declared.bounds.Bound.{Bound}
 use Rattle.nj_edge_env.specs.Blocks.{bound_in}
-use Rattle.nj_edge_env.specs.BlocksHeld.{bound_of, values_of, blocks_of, BoundsAreHeld, BlocksAreHeld, BeginsWith}
+use Rattle.nj_edge_env.specs.Inside.BlocksHeld.{bound_of, values_of, blocks_of, BoundsAreHeld, BlocksAreHeld, BeginsWith}
 use Rattle.nj_edge_env.proofs.MapLemmas.{lookup-set}
 use Rattle.nj_edge_env.proofs.BoundLemmas.{values_at, values_kept, longer, bounds_grow}
 

@@ -12,8 +12,8 @@ use Rattle.nj_edge_env.specs.LateTexts.{rule_value, refers}
 use Rattle.nj_edge_env.specs.VariableCycles.{RefersTo, Reaches, IsOnCycle, IsCycleFound, variable_cycle_of}
 use Rattle.nj_edge_env.specs.VariableCycles.Reaches.{one as one_step, more as step_and}
 use Rattle.nj_edge_env.specs.ReferencesHeld.{ReferringKeyText, AreReferences, TellsCycles, name_at, row_at, unbound}
-use Rattle.nj_edge_env.specs.CyclesHeld.{IsMarked, AreCounted, Refers, LeadsTo, IsOnLoop, IsLeastLoop}
-use Rattle.nj_edge_env.specs.CyclesHeld.LeadsTo.{one, more}
+use Rattle.nj_edge_env.specs.Inside.CyclesHeld.{IsMarked, AreCounted, Refers, LeadsTo, IsOnLoop, IsLeastLoop}
+use Rattle.nj_edge_env.specs.Inside.CyclesHeld.LeadsTo.{one, more}
 use Rattle.nj_edge_env.proofs.SaidLemmas.{rule_value_is, rule_value_of, given_at}
 use Rattle.nj_edge_env.proofs.LoopLemmas.{marked_within}
 use Rattle.nj_edge_env.proofs.CycleLaws.{is_computed}

@@ -8,8 +8,8 @@ use Rattle.std.proofs.lemmas.Bool.{cases_lt}
 use Rattle.std.proofs.lemmas.List.{get_or_past, get_or-set_other}
 use Rattle.std.proofs.lemmas.List.Elements.{All-get_or}
 use Rattle.nj_edge_env.specs.ReferencesHeld.{ReferringKeyText, name_at, row_at}
-use Rattle.nj_edge_env.specs.CyclesHeld.{IsMarked, marked, unmarked, LeadsTo, IsOnLoop, SameLoops, RefersToMarked, Points, IsLeft, MarksLead, IsClosed, IsLesser, IsLeastBelow}
-use Rattle.nj_edge_env.specs.CyclesHeld.LeadsTo.{one, more}
+use Rattle.nj_edge_env.specs.Inside.CyclesHeld.{IsMarked, marked, unmarked, LeadsTo, IsOnLoop, SameLoops, RefersToMarked, Points, IsLeft, MarksLead, IsClosed, IsLesser, IsLeastBelow}
+use Rattle.nj_edge_env.specs.Inside.CyclesHeld.LeadsTo.{one, more}
 
 -- ---- marks
 

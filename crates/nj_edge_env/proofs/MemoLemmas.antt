@@ -17,7 +17,7 @@ use Rattle.nj_edge_env.specs.declared.memo.KeyText.{KeyText}
 use Rattle.nj_scope.specs.ReadingList.{value_after}
 use Rattle.nj_edge_env.specs.LateEdges.{late_names}
 use Rattle.nj_edge_env.specs.LateTexts.{LateNames, late_in, rule_value, refers, refers_in}
-use Rattle.nj_edge_env.specs.TextsHeld.{Settles, ForEdge, SettlesIn, IsKeyText, AreKeyTexts, no_higher, text_known, taller, with_text, AppendsPlain, AppendsLate}
+use Rattle.nj_edge_env.specs.Inside.TextsHeld.{Settles, ForEdge, SettlesIn, IsKeyText, AreKeyTexts, no_higher, text_known, taller, with_text, AppendsPlain, AppendsLate}
 use Rattle.nj_edge_env.proofs.SaidLemmas.{same_name, rule_value_is, given_at, of_paths, of_block, of_rule, of_file, way, once_paths, once_block, once_rule, once_file, expanded_same}
 use Rattle.nj_edge_env.proofs.TextLemmas.{text_turn, name_turn, none_turn}
 

@@ -13,7 +13,7 @@ use Rattle.nj_edge_env.specs.LateTexts.{LateNames, text_of_paths, paths_text, na
 use Rattle.nj_edge_env.specs.LateTexts.Says.{by_paths, by_block, by_rule, by_file}
 use Rattle.nj_edge_env.specs.VariableCycles.{RefersTo, Reaches, IsOnCycle, HasNoCycle}
 use Rattle.nj_edge_env.specs.VariableCycles.Reaches.{one, more}
-use Rattle.nj_edge_env.specs.TextsHeld.{Settles}
+use Rattle.nj_edge_env.specs.Inside.TextsHeld.{Settles}
 use Rattle.nj_edge_env.specs.Laws.{LateTextIsSaid, OneTextIsSaid, CycleSaysNothing, RuleWins}
 
 -- ---- names

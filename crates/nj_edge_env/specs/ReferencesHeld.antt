@@ -12,9 +12,6 @@ pub record ReferringKeyText : Type 0 where
   pub name : List ℕ
   pub refers : List Bool
 
-abbrev pub key_held : ReferringKey → ReferringKeyText
-key_held k = record { name = k.name.items; refers = k.refers.items }
-
 abbrev pub name_at : List ReferringKeyText → (number : ℕ) → List ℕ
 name_at keys number = unwrap_or (option_map (λ k. k.name) (slice_get keys number)) []
 
@@ -52,9 +49,3 @@ NeverCycles lines = (block : List ℕ → Option (List ℕ)) → variable_cycle_
 -- these are enough to find the cycles of the rule that has these lines: no key is held if there is never one
 abbrev pub TellsCycles : List RuleLineText → List ReferringKeyText → Type 0
 TellsCycles lines keys = AreReferences lines keys ⊎ ((keys ≡ []) × NeverCycles lines)
-
--- the number of the key to which a part refers, if it refers to one
-abbrev pub IsKeyNamed : List RuleLineText → PartText → Option ℕ → Type 0
-IsKeyNamed lines part None = (number : ℕ) → number < key_count lines → refers_in part (key_at lines number) ≡ false
-IsKeyNamed lines part (Some named) =
-    (named < key_count lines) × ((number : ℕ) → number < key_count lines → refers_in part (key_at lines number) ≡ (number == named))

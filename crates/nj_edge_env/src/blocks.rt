@@ -2,7 +2,7 @@
 
 ghost use Rattle.std.specs.Prelude.{◌≡◌, ℕ, ◌≤◌, ◌==◌, ◌&&◌, if◌then◌else◌, List, Some, None, length, option_copied, bytes_eq, OnOk, OnErr};
 ghost use Rattle.nj_edge_env.specs.Blocks.{bound_in};
-ghost use Rattle.nj_edge_env.specs.BlocksHeld.{blocks_of, BlocksAreHeld};
+ghost use Rattle.nj_edge_env.specs.Inside.BlocksHeld.{blocks_of, BlocksAreHeld};
 
 use crate::bounds::{Bound, bind_value, bound_of, value_at};
 use indexmap::IndexMap;
@@ -23,7 +23,7 @@ pub struct Blocks {
 impl Model for Blocks {
     ghost use Rattle.std.specs.Prelude.{length};
     ghost use Rattle.nj_edge_env.specs.Blocks.{BlocksText};
-    ghost use Rattle.nj_edge_env.specs.BlocksHeld.{blocks_of, BlocksAreHeld};
+    ghost use Rattle.nj_edge_env.specs.Inside.BlocksHeld.{blocks_of, BlocksAreHeld};
 
     ghost Value = { BlocksText };
 

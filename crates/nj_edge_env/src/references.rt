@@ -4,7 +4,8 @@ ghost use Rattle.std.specs.Prelude.{◌≡◌, ◌<◌, false, length, IfOk, is_
 ghost use Rattle.nj_text.specs.Words.{part_text};
 ghost use Rattle.nj_scope.specs.RulesHeld.{key_count, key_at};
 ghost use Rattle.nj_edge_env.specs.LateTexts.{rule_value};
-ghost use Rattle.nj_edge_env.specs.ReferencesHeld.{AreReferences, TellsCycles, IsRow, IsKeyNamed, name_at, row_at, unbound};
+ghost use Rattle.nj_edge_env.specs.ReferencesHeld.{AreReferences, TellsCycles, IsRow, name_at, row_at, unbound};
+ghost use Rattle.nj_edge_env.specs.Inside.CyclesHeld.{IsKeyNamed};
 
 use crate::names::{is_of_command, names_paths};
 use nj_scope::Rule;
@@ -30,7 +31,8 @@ pub struct KeyReferences {
 
 impl Model for KeyReferences {
     ghost use Rattle.std.specs.Prelude.{List, map};
-    ghost use Rattle.nj_edge_env.specs.ReferencesHeld.{ReferringKeyText, key_held};
+    ghost use Rattle.nj_edge_env.specs.ReferencesHeld.{ReferringKeyText};
+    ghost use Rattle.nj_edge_env.specs.Inside.CyclesHeld.{key_held};
 
     ghost Value = { List ReferringKeyText };
 

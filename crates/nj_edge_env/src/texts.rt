@@ -8,7 +8,7 @@ ghost use Rattle.nj_scope.specs.RulesHeld.{IsNumber};
 ghost use Rattle.nj_scope.specs.Scopes.{IsScope, parent_at};
 ghost use Rattle.nj_edge_env.specs.LateTexts.{value_given, file_value, asked_text};
 ghost use Rattle.nj_edge_env.specs.LateEdges.{late_names};
-ghost use Rattle.nj_edge_env.specs.TextsHeld.{AreKeyTexts, AppendsLate, AppendsPlain};
+ghost use Rattle.nj_edge_env.specs.Inside.TextsHeld.{AreKeyTexts, AppendsLate, AppendsPlain};
 
 use crate::edge::LateEdge;
 use crate::memo::{KeyText, keep_text, taller, text_known};

@@ -11,7 +11,8 @@ use Rattle.nj_edges.specs.declared.edges.EdgeRow.{EdgeRow}
 use Rattle.nj_edges.specs.declared.edges.OpenStarts.{OpenStarts}
 use Rattle.nj_edges.specs.declared.edges.KindEnds.{KindEnds}
 use Rattle.nj_edges.specs.Edges.{first_edge, is_among}
-use Rattle.nj_edges.specs.EdgesHeld.{EdgeTable, within, table_of, naming, row_between, EndWithin, plus_output, plus_input, plus_validation, with_output, with_input, with_validation, with_maker, is_edge, is_made, is_made_by, has_number, AreNumbers, AreNamed, OpenAreNew, output_rows, EdgesAreHeld, TableIsHeld}
+use Rattle.nj_edges.specs.Inside.EdgesHeld.{within, table_of, row_between, with_maker, is_edge, is_made_by, has_number, AreNumbers, AreNamed, OpenAreNew, output_rows, EdgesAreHeld, TableIsHeld}
+use Rattle.nj_edges.specs.EdgeTables.{EdgeTable, naming, EndWithin, plus_output, plus_input, plus_validation, with_output, with_input, with_validation, is_made}
 use Rattle.nj_edges.specs.Files.{with_path}
 use Rattle.nj_edges.proofs.EdgeLemmas.{all-drop, ends_of, first-last, first-more, get-last, has-push, held-ended, held-input, held-new, held-output, held-validation, IsNew, IsOld, made-at, named-cases, none-front, open-among, rows-same, table-input, table-named, table-output, table-validation, unmade}
 use Rattle.nj_edges.proofs.GraphLemmas.{first-below}

@@ -12,9 +12,10 @@ use Rattle.nj_edges.specs.declared.edges.EdgeRow.{EdgeRow}
 use Rattle.nj_edges.specs.declared.edges.OpenStarts.{OpenStarts}
 use Rattle.nj_edges.specs.EdgeGraphs.{EdgeGraph}
 use Rattle.nj_edges.specs.Edges.{EdgePaths, edge_at, outputs_of, inputs_of, first_edge, maker_of, is_among}
-use Rattle.nj_edges.specs.EdgesHeld.{paths_at, within, edge_of, table_of, EdgeTable, EdgesAreHeld}
+use Rattle.nj_edges.specs.Inside.EdgesHeld.{paths_at, within, edge_of, table_of, EdgesAreHeld}
+use Rattle.nj_edges.specs.EdgeTables.{EdgeTable}
 use Rattle.nj_edges.specs.Files.{path_at}
-use Rattle.nj_edges.specs.GraphHeld.{ends_of}
+use Rattle.nj_edges.specs.Inside.GraphHeld.{ends_of}
 use Rattle.nj_edges.specs.Needs.{makers_of_inputs}
 use Rattle.nj_edges.proofs.GraphLemmas.{edge-is, row-within}
 use Rattle.nj_edges.proofs.ListLemmas.{length-range}

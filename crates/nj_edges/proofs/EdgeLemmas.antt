@@ -13,7 +13,8 @@ use Rattle.nj_edges.specs.declared.edges.EdgeRow.{EdgeRow}
 use Rattle.nj_edges.specs.declared.edges.OpenStarts.{OpenStarts}
 use Rattle.nj_edges.specs.declared.edges.KindEnds.{KindEnds}
 use Rattle.nj_edges.specs.Edges.{first_edge, maker_of, is_among, outputs_of}
-use Rattle.nj_edges.specs.EdgesHeld.{edge_read, paths_at, within, edge_of, edges_of, table_of, EdgeTable, naming, plus_output, plus_input, plus_validation, is_made, row_between, no_files, EndWithin, has_number, AreNumbers, IsWithin, RowIsWithin, output_rows, HoldMakers, AreJoined, EdgesAreHeld}
+use Rattle.nj_edges.specs.Inside.EdgesHeld.{paths_at, within, edge_of, edges_of, table_of, row_between, has_number, AreNumbers, IsWithin, RowIsWithin, output_rows, HoldMakers, AreJoined, EdgesAreHeld}
+use Rattle.nj_edges.specs.EdgeTables.{edge_read, EdgeTable, naming, plus_output, plus_input, plus_validation, is_made, no_files, EndWithin}
 use Rattle.nj_edges.specs.Files.{with_path, path_at}
 use Rattle.nj_edges.proofs.ListLemmas.{slice_range-append, slice_range-rest}
 

@@ -8,9 +8,9 @@ use Rattle.nj_edges.specs.declared.files.FileNo.{FileNo}
 use Rattle.nj_edges.specs.declared.edges.EdgeRow.{EdgeRow}
 use Rattle.nj_edges.specs.declared.joining.AddedSpans.{AddedSpans}
 use Rattle.nj_edges.specs.Edges.{EdgePaths, first_edge}
-use Rattle.nj_edges.specs.EdgesHeld.{AreNumbers, HoldMakers, edge_of, edges_of, has_number, paths_at, within}
+use Rattle.nj_edges.specs.Inside.EdgesHeld.{AreNumbers, HoldMakers, edge_of, edges_of, has_number, paths_at, within}
 use Rattle.nj_edges.specs.Joining.{AddedFiles, JoinTable, changed_at, with_added, with_joined}
-use Rattle.nj_edges.specs.JoiningHeld.{AddedInputsAreWithin, AddedOutputsAreWithin, AreApart, AreSet, JoinIsHeld, NextAreNew, added_at, added_input_rows, added_inputs_of, added_output_rows, added_outputs_of, is_in_rows, join_held, joined_by, stated_rows, with_found}
+use Rattle.nj_edges.specs.Inside.JoiningHeld.{AddedInputsAreWithin, AddedOutputsAreWithin, AreApart, AreSet, JoinIsHeld, NextAreNew, added_at, added_input_rows, added_inputs_of, added_output_rows, added_outputs_of, is_in_rows, join_held, joined_by, stated_rows, with_found}
 use Rattle.nj_edges.proofs.EdgeLemmas.{first-last, first-more, no-more, within-numbers}
 use Rattle.nj_edges.proofs.JoiningLemmas.{added-at, hold-from, in-rows-last}
 use Rattle.nj_edges.proofs.ListLemmas.{slice_range-rest}

@@ -7,7 +7,8 @@ use Rattle.std.proofs.lemmas.List.Quantifiers.{position-Some}
 use Rattle.std.proofs.lemmas.Option.{slice_get-get_or}
 use Rattle.std.proofs.lemmas.Slice.Eq.{bytes_eq-Decides}
 use Rattle.indexmap.specs.IndexSet.{insert_key}
-use Rattle.nj_edges.specs.Files.{with_path, held_paths}
+use Rattle.nj_edges.specs.Files.{with_path}
+use Rattle.nj_edges.specs.Inside.FilesHeld.{held_paths}
 
 -- two keys are equal where their bytes are
 abbrev pub same_key : Vec ℕ → Vec ℕ → Bool

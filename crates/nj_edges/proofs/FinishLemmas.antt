@@ -9,10 +9,11 @@ use Rattle.nj_edges.specs.declared.edges.EdgeRow.{EdgeRow}
 use Rattle.nj_edges.specs.declared.edges.Span.{Span}
 use Rattle.nj_edges.specs.declared.joining.AddedSpans.{AddedSpans}
 use Rattle.nj_edges.specs.Edges.{first_edge}
-use Rattle.nj_edges.specs.EdgesHeld.{AreNumbers, EdgeTable, EdgesAreHeld, IsWithin, RowIsWithin, TableIsHeld, has_number, no_files, output_rows, paths_at, table_of, within}
-use Rattle.nj_edges.specs.GraphHeld.{ends_of}
+use Rattle.nj_edges.specs.Inside.EdgesHeld.{AreNumbers, EdgesAreHeld, IsWithin, RowIsWithin, TableIsHeld, has_number, output_rows, paths_at, table_of, within}
+use Rattle.nj_edges.specs.EdgeTables.{EdgeTable, no_files}
+use Rattle.nj_edges.specs.Inside.GraphHeld.{ends_of}
 use Rattle.nj_edges.specs.Joining.{JoinTable, none_added}
-use Rattle.nj_edges.specs.JoiningHeld.{AreJoinedMakers, InputsAreWithin, JoinIsHeld, added_input_rows, added_inputs_of, added_output_rows, added_outputs_of, flat, is_in_rows, join_held, joined_inputs, joined_outputs, joined_rows, joined_with, needed_inputs, option_or, order_only_inputs, stated_rows}
+use Rattle.nj_edges.specs.Inside.JoiningHeld.{AreJoinedMakers, InputsAreWithin, JoinIsHeld, added_input_rows, added_inputs_of, added_output_rows, added_outputs_of, flat, is_in_rows, join_held, joined_inputs, joined_outputs, joined_rows, joined_with, needed_inputs, option_or, order_only_inputs, stated_rows}
 use Rattle.nj_edges.proofs.EdgeLemmas.{all-of, first-more, length-open, no-more, within-numbers}
 use Rattle.nj_edges.proofs.FlatRows.{all-append}
 use Rattle.nj_edges.proofs.JoinedLists.{AreJoinedRows, all-inputs, needed-end, rows-from}

@@ -2,8 +2,8 @@
 use Rattle.std.proofs.Common.{◌≡◌, ℕ, List, ◌++◌, map, length, drop}
 use Rattle.nj_edges.specs.declared.files.FileNo.{FileNo}
 use Rattle.nj_edges.specs.declared.edges.EdgeRow.{EdgeRow}
-use Rattle.nj_edges.specs.EdgesHeld.{within}
-use Rattle.nj_edges.specs.FlatInputs.{flat_starts, flat_numbers}
+use Rattle.nj_edges.specs.Inside.EdgesHeld.{within}
+use Rattle.nj_edges.specs.Inside.FlatInputs.{flat_starts, flat_numbers}
 
 abbrev pub input_rows : List FileNo → List EdgeRow → List (List FileNo)
 input_rows inputs rows = map (λ (row : EdgeRow). within inputs row.inputs) rows

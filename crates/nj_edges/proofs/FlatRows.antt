@@ -5,8 +5,8 @@ use Rattle.std.proofs.lemmas.List.{length-map}
 use Rattle.std.proofs.Math.Seq.{drop-append_seam, take-append_seam}
 use Rattle.nj_edges.specs.declared.files.FileNo.{FileNo}
 use Rattle.nj_edges.specs.declared.edges.EdgeRow.{EdgeRow}
-use Rattle.nj_edges.specs.EdgesHeld.{within}
-use Rattle.nj_edges.specs.FlatInputs.{plain, flat_starts, flat_numbers}
+use Rattle.nj_edges.specs.Inside.EdgesHeld.{within}
+use Rattle.nj_edges.specs.Inside.FlatInputs.{plain, flat_starts, flat_numbers}
 use Rattle.nj_edges.proofs.EdgeLemmas.{all-take, all-drop}
 use Rattle.nj_edges.proofs.FlatLemmas.{input_rows}
 

@@ -13,10 +13,11 @@ use Rattle.nj_edges.specs.declared.edges.EdgeRow.{EdgeRow}
 use Rattle.nj_edges.specs.declared.edges.OpenStarts.{OpenStarts}
 use Rattle.nj_edges.specs.EdgeGraphs.{EdgeGraph}
 use Rattle.nj_edges.specs.Edges.{EdgePaths, edge_at, outputs_of, first_edge, maker_of, inputs_of}
-use Rattle.nj_edges.specs.EdgesHeld.{paths_at, within, edge_of, edges_of, table_of, EdgeTable, no_files, has_number, AreNumbers, RowIsWithin, output_rows, EdgesAreHeld}
+use Rattle.nj_edges.specs.Inside.EdgesHeld.{paths_at, within, edge_of, edges_of, table_of, has_number, AreNumbers, RowIsWithin, output_rows, EdgesAreHeld}
+use Rattle.nj_edges.specs.EdgeTables.{EdgeTable, no_files}
 use Rattle.nj_edges.specs.Files.{path_at, AreFiles}
-use Rattle.nj_edges.specs.FlatInputs.{plain, makers_in_row}
-use Rattle.nj_edges.specs.GraphHeld.{ends_of}
+use Rattle.nj_edges.specs.Inside.FlatInputs.{plain, makers_in_row}
+use Rattle.nj_edges.specs.Inside.GraphHeld.{ends_of}
 use Rattle.nj_edges.specs.Needs.{makers_of_inputs}
 use Rattle.nj_edges.proofs.EdgeLemmas.{all-get, all-take, first-more, get-path, maker-read, length-open, within-numbers}
 

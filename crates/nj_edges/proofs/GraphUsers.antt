@@ -11,9 +11,9 @@ use Rattle.nj_edges.specs.declared.users.RowPart.{RowPart}
 use Rattle.nj_edges.specs.declared.users.RowPart.TheVariants.{Inputs, Validations}
 use Rattle.nj_edges.specs.EdgeGraphs.{EdgeGraph}
 use Rattle.nj_edges.specs.Edges.{EdgePaths, edges_from, inputs_of, is_among, users_of, validation_users_of}
-use Rattle.nj_edges.specs.EdgesHeld.{has_number, paths_at, within, edge_of, edges_of, RowIsWithin, EdgesAreHeld}
+use Rattle.nj_edges.specs.Inside.EdgesHeld.{has_number, paths_at, within, edge_of, edges_of, RowIsWithin, EdgesAreHeld}
 use Rattle.nj_edges.specs.Files.{path_at}
-use Rattle.nj_edges.specs.UsersHeld.{HoldUsers, numbers_of, using_edges}
+use Rattle.nj_edges.specs.Inside.UsersHeld.{HoldUsers, numbers_of, using_edges}
 use Rattle.nj_edges.proofs.EdgeLemmas.{all-of, get-path, has-among, within-numbers}
 use Rattle.nj_edges.proofs.GraphLemmas.{kinds-joined}
 

@@ -12,11 +12,11 @@ use Rattle.nj_edges.specs.declared.files.FileNo.{FileNo}
 use Rattle.nj_edges.specs.declared.edges.EdgeRow.{EdgeRow}
 use Rattle.nj_edges.specs.declared.joining.AddedSpans.{AddedSpans}
 use Rattle.nj_edges.specs.Edges.{EdgePaths, first_edge, is_among, maker_of, outputs_of}
-use Rattle.nj_edges.specs.EdgesHeld.{AreNumbers, HoldMakers, edge_of, edges_of, has_number, paths_at, with_maker, within}
+use Rattle.nj_edges.specs.Inside.EdgesHeld.{AreNumbers, HoldMakers, edge_of, edges_of, has_number, paths_at, with_maker, within}
 use Rattle.nj_edges.specs.Files.{with_path}
-use Rattle.nj_edges.specs.GraphHeld.{ends_of}
+use Rattle.nj_edges.specs.Inside.GraphHeld.{ends_of}
 use Rattle.nj_edges.specs.Joining.{JoinTable, is_made_so_far, with_added_input, with_added_output}
-use Rattle.nj_edges.specs.JoiningHeld.{AddedInputsAreWithin, AddedOutputsAreWithin, AreApart, AreNamedOrAdded, JoinIsHeld, JoinListsAreHeld, NextAreNew, added_input_rows, added_inputs_of, added_output_rows, added_outputs_of, is_in_rows, join_held, joined_by, stated_rows, with_found}
+use Rattle.nj_edges.specs.Inside.JoiningHeld.{AddedInputsAreWithin, AddedOutputsAreWithin, AreApart, AreNamedOrAdded, JoinIsHeld, JoinListsAreHeld, NextAreNew, added_input_rows, added_inputs_of, added_output_rows, added_outputs_of, is_in_rows, join_held, joined_by, stated_rows, with_found}
 use Rattle.nj_edges.proofs.EdgeLemmas.{IsNew, IsOld, AreNumbers-more, all-drop, all-of, all-push, edges_of-more, first-last, first-more, first-none, first-other, get-last, has-among, has-push, held-new, makers-push, maker-read, named-cases, none-front, none-has, open-push, paths_at-more, within-append, within-numbers}
 use Rattle.nj_edges.proofs.AddLemmas.{same-number}
 

@@ -13,9 +13,10 @@ use Rattle.nj_edges.specs.declared.edges.EdgeRow.{EdgeRow}
 use Rattle.nj_edges.specs.declared.edges.OpenStarts.{OpenStarts}
 use Rattle.nj_edges.specs.Edges.{EdgePaths, inputs_of, is_among, is_named, outputs_of}
 use Rattle.nj_edges.specs.EdgeGraphs.{EdgeGraph}
-use Rattle.nj_edges.specs.EdgesHeld.{OpenEdge, EdgeTable, no_files, paths_at, within, edge_of, edges_of, table_of, is_named_so_far, has_number, AreNumbers, AreJoined, AreNamed, RowIsWithin, EdgesAreHeld, TableIsHeld}
+use Rattle.nj_edges.specs.Inside.EdgesHeld.{paths_at, within, edge_of, edges_of, table_of, has_number, AreNumbers, AreJoined, AreNamed, RowIsWithin, EdgesAreHeld, TableIsHeld}
+use Rattle.nj_edges.specs.EdgeTables.{OpenEdge, EdgeTable, no_files, is_named_so_far}
 use Rattle.nj_edges.specs.Files.{AreFiles, path_at}
-use Rattle.nj_edges.specs.GraphHeld.{ends_of}
+use Rattle.nj_edges.specs.Inside.GraphHeld.{ends_of}
 use Rattle.nj_edges.proofs.EdgeLemmas.{all-drop, among-get, get-path, has-among}
 use Rattle.nj_edges.proofs.GraphLemmas.{files-at, kinds-joined}
 use Rattle.nj_edges.proofs.RootLemmas.{among-flat}

@@ -7,10 +7,10 @@ use Rattle.std.proofs.Math.Seq.{take-length}
 use Rattle.nj_edges.specs.declared.files.FileNo.{FileNo}
 use Rattle.nj_edges.specs.declared.edges.EdgeRow.{EdgeRow}
 use Rattle.nj_edges.specs.Edges.{EdgePaths, is_among, is_used, outputs_of, inputs_of, roots_of}
-use Rattle.nj_edges.specs.EdgesHeld.{paths_at, within, edge_of, edges_of, has_number, AreNumbers, RowIsWithin, EdgesAreHeld}
+use Rattle.nj_edges.specs.Inside.EdgesHeld.{paths_at, within, edge_of, edges_of, has_number, AreNumbers, RowIsWithin, EdgesAreHeld}
 use Rattle.nj_edges.specs.Files.{path_at, AreFiles}
-use Rattle.nj_edges.specs.GraphHeld.{ends_of}
-use Rattle.nj_edges.specs.RootsHeld.{AreFlags}
+use Rattle.nj_edges.specs.Inside.GraphHeld.{ends_of}
+use Rattle.nj_edges.specs.Inside.RootsHeld.{AreFlags}
 use Rattle.nj_edges.proofs.EdgeLemmas.{get-path, has-among}
 use Rattle.nj_edges.proofs.GraphLemmas.{kinds-joined}
 

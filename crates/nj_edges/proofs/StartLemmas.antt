@@ -7,10 +7,10 @@ use Rattle.nj_edges.specs.declared.edges.EdgeRow.{EdgeRow}
 use Rattle.nj_edges.specs.declared.joining.AddedSpans.{AddedSpans}
 use Rattle.nj_edges.specs.EdgeGraphs.{EdgeGraph}
 use Rattle.nj_edges.specs.Edges.{EdgePaths, first_edge}
-use Rattle.nj_edges.specs.EdgesHeld.{AreNamed, EdgesAreHeld, edges_of, has_number}
-use Rattle.nj_edges.specs.GraphHeld.{ends_of}
+use Rattle.nj_edges.specs.Inside.EdgesHeld.{AreNamed, EdgesAreHeld, edges_of, has_number}
+use Rattle.nj_edges.specs.Inside.GraphHeld.{ends_of}
 use Rattle.nj_edges.specs.Joining.{join_of}
-use Rattle.nj_edges.specs.JoiningHeld.{AddedInputsAreWithin, AddedOutputsAreWithin, JoinIsHeld, added_input_rows, added_output_rows, is_in_rows, join_held, joined_by, with_found}
+use Rattle.nj_edges.specs.Inside.JoiningHeld.{AddedInputsAreWithin, AddedOutputsAreWithin, JoinIsHeld, added_input_rows, added_output_rows, is_in_rows, join_held, joined_by, with_found}
 use Rattle.nj_edges.proofs.JoiningLemmas.{hold-from}
 
 -- for each of so many edges nothing

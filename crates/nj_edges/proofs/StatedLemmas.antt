@@ -7,8 +7,8 @@ use Rattle.nj_edges.specs.declared.files.FileNo.{FileNo}
 use Rattle.nj_edges.specs.declared.edges.EdgeRow.{EdgeRow}
 use Rattle.nj_edges.specs.EdgeGraphs.{EdgeGraph}
 use Rattle.nj_edges.specs.Edges.{EdgePaths, is_among, maker_of, outputs_of}
-use Rattle.nj_edges.specs.EdgesHeld.{EdgesAreHeld, edges_of, paths_at, within}
-use Rattle.nj_edges.specs.GraphHeld.{ends_of}
+use Rattle.nj_edges.specs.Inside.EdgesHeld.{EdgesAreHeld, edges_of, paths_at, within}
+use Rattle.nj_edges.specs.Inside.GraphHeld.{ends_of}
 use Rattle.nj_edges.proofs.EdgeLemmas.{first-none, within-numbers}
 use Rattle.nj_edges.proofs.GraphLemmas.{found-in, maker-path}
 use Rattle.nj_edges.proofs.NamedLemmas.{none-among}

@@ -11,8 +11,8 @@ use Rattle.nj_edges.specs.declared.edges.Span.{Span}
 use Rattle.nj_edges.specs.declared.users.Link.{Link}
 use Rattle.nj_edges.specs.declared.users.RowPart.{RowPart}
 use Rattle.nj_edges.specs.Edges.{edges_from}
-use Rattle.nj_edges.specs.EdgesHeld.{IsWithin, has_number, within}
-use Rattle.nj_edges.specs.UsersHeld.{AreUses, HoldUsers, IsChain, IsPart, IsSomeChain, is_of, link_at, numbers_of, plus_use, plus_uses, span_of, using_edges, with_front}
+use Rattle.nj_edges.specs.Inside.EdgesHeld.{IsWithin, has_number, within}
+use Rattle.nj_edges.specs.Inside.UsersHeld.{AreUses, HoldUsers, IsChain, IsPart, IsSomeChain, is_of, link_at, numbers_of, plus_use, plus_uses, span_of, using_edges, with_front}
 use Rattle.nj_edges.proofs.AddLemmas.{same-number}
 use Rattle.nj_edges.proofs.EdgeLemmas.{get-append, get-last, get-push, has-push}
 use Rattle.nj_edges.proofs.ListLemmas.{slice_range-append, slice_range-rest}

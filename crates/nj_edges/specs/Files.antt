@@ -17,6 +17,3 @@ abbrev pub AreFiles : (files : List (List ℕ)) → (numbers : List FileNo) → 
 AreFiles files numbers paths = map (λ file. slice_get files file.0) numbers ≡ map Some paths
 
 -- ---- how they are held
-
-abbrev pub held_paths : List (Vec ℕ) → List (List ℕ)
-held_paths keys = map (λ key. key.items) keys

@@ -1,12 +1,10 @@
+-- what must be believed
 pub mod Edges
-pub mod EdgesHeld
 pub mod Files
 pub mod EdgeGraphs
-pub mod FlatInputs
 pub mod Graph
-pub mod GraphHeld
 pub mod Needs
-pub mod RootsHeld
-pub mod UsersHeld
 pub mod Joining
-pub mod JoiningHeld
+pub mod EdgeTables
+-- how the code does that
+pub mod Inside

@@ -4,7 +4,8 @@ ghost use Rattle.std.specs.Prelude.{◌≡◌, ℕ, ◌<◌, List, [], ◌∷◌
 ghost use Rattle.std.specs.List.{IsDistinct, list_any};
 ghost use Rattle.nj_edges.specs.Edges.{is_among, is_named};
 ghost use Rattle.nj_edges.specs.Files.{AreFiles, with_path};
-ghost use Rattle.nj_edges.specs.EdgesHeld.{no_files, EndWithin, with_output, with_input, with_validation, is_made, is_named_so_far, edge_read, row_between, with_maker, has_number, is_made_by};
+ghost use Rattle.nj_edges.specs.Inside.EdgesHeld.{row_between, with_maker, has_number, is_made_by};
+ghost use Rattle.nj_edges.specs.EdgeTables.{no_files, EndWithin, with_output, with_input, with_validation, is_made, is_named_so_far, edge_read};
 
 use crate::files::{FileNo, Files};
 use crate::lists::after;
@@ -75,7 +76,8 @@ pub struct Edges {
 }
 
 impl Model for Edges {
-    ghost use Rattle.nj_edges.specs.EdgesHeld.{EdgeTable, TableIsHeld, table_of};
+    ghost use Rattle.nj_edges.specs.Inside.EdgesHeld.{TableIsHeld, table_of};
+    ghost use Rattle.nj_edges.specs.EdgeTables.{EdgeTable};
 
     ghost Value = { EdgeTable };
 

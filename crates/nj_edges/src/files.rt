@@ -23,7 +23,7 @@ pub struct Files {
 impl Model for Files {
     ghost use Rattle.std.specs.Prelude.{List, ℕ, bytes_eq};
     ghost use Rattle.std.specs.List.{IsDistinct};
-    ghost use Rattle.nj_edges.specs.Files.{held_paths};
+    ghost use Rattle.nj_edges.specs.Inside.FilesHeld.{held_paths};
 
     ghost Value = { List (List ℕ) };
 

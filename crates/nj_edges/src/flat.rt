@@ -2,8 +2,8 @@
 
 ghost use Rattle.std.specs.Prelude.{◌≡◌, ◌++◌, map, length, IfOk, OnOk};
 ghost use Rattle.std.specs.List.{AllByRecursion};
-ghost use Rattle.nj_edges.specs.EdgesHeld.{IsWithin, within};
-ghost use Rattle.nj_edges.specs.FlatInputs.{plain, flat_starts, flat_numbers};
+ghost use Rattle.nj_edges.specs.Inside.EdgesHeld.{IsWithin, within};
+ghost use Rattle.nj_edges.specs.Inside.FlatInputs.{plain, flat_starts, flat_numbers};
 
 use crate::edges::EdgeRow;
 use crate::files::FileNo;

@@ -4,9 +4,10 @@ ghost use Rattle.std.specs.Prelude.{◌≡◌, ℕ, List, ◌<◌, ◌≤◌, No
 ghost use Rattle.std.specs.List.{AllByRecursion, IsDistinct, list_any};
 ghost use Rattle.nj_cycles.specs.Cycles.{IsFirstOnCycle, IsAcyclic};
 ghost use Rattle.nj_edges.specs.Edges.{edge_at, outputs_of, inputs_of, kind_at, is_named, maker_of, roots_of, users_of, validation_users_of};
-ghost use Rattle.nj_edges.specs.EdgesHeld.{AreNumbers, IsWithin, paths_at, within, no_files};
+ghost use Rattle.nj_edges.specs.Inside.EdgesHeld.{AreNumbers, IsWithin, paths_at, within};
+ghost use Rattle.nj_edges.specs.EdgeTables.{no_files};
 ghost use Rattle.nj_edges.specs.Files.{path_at, AreFiles};
-ghost use Rattle.nj_edges.specs.FlatInputs.{makers_in_row};
+ghost use Rattle.nj_edges.specs.Inside.FlatInputs.{makers_in_row};
 ghost use Rattle.nj_edges.specs.Graph.{FinishesAs};
 ghost use Rattle.nj_edges.specs.Needs.{makers_of_inputs};
 
@@ -35,9 +36,9 @@ pub struct EdgeGraph {
 }
 
 impl Model for EdgeGraph {
-    ghost use Rattle.nj_edges.specs.EdgesHeld.{edges_of};
+    ghost use Rattle.nj_edges.specs.Inside.EdgesHeld.{edges_of};
     ghost use Rattle.nj_edges.specs.EdgeGraphs as spec;
-    ghost use Rattle.nj_edges.specs.GraphHeld.{GraphIsHeld};
+    ghost use Rattle.nj_edges.specs.Inside.GraphHeld.{GraphIsHeld};
 
     ghost Value = { spec.EdgeGraph };
 

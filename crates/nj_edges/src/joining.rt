@@ -3,11 +3,11 @@
 ghost use Rattle.std.specs.Prelude.{◌≡◌, ◌<◌, ◌||◌, ◌++◌, [], ◌∷◌, None, Some, not, false, if◌then◌else◌, option_map, is_some, length, replicate, slice_get, slice_index_or, bytes_eq, IfOk, IfSome, OnOk, OnErr};
 ghost use Rattle.std.specs.List.{AllByRecursion, IsDistinct};
 ghost use Rattle.nj_edges.specs.Edges.{edge_at, outputs_of, maker_of};
-ghost use Rattle.nj_edges.specs.EdgesHeld.{AreNumbers, IsWithin, with_maker};
+ghost use Rattle.nj_edges.specs.Inside.EdgesHeld.{AreNumbers, IsWithin, with_maker};
 ghost use Rattle.nj_edges.specs.Files.{AreFiles, with_path};
 ghost use Rattle.nj_edges.specs.Graph.{FinishesAs};
 ghost use Rattle.nj_edges.specs.Joining.{none_added, join_of, with_added_output, with_added_input, with_joined, is_made_so_far, is_joined};
-ghost use Rattle.nj_edges.specs.JoiningHeld.{AddedInputsAreWithin, AddedOutputsAreWithin, AreJoinedMakers, AreSet, InputsAreWithin, added_inputs_of, added_outputs_of, flat, joined_inputs, joined_outputs, joined_row, joined_rows, joined_with, needed_inputs};
+ghost use Rattle.nj_edges.specs.Inside.JoiningHeld.{AddedInputsAreWithin, AddedOutputsAreWithin, AreJoinedMakers, AreSet, InputsAreWithin, added_inputs_of, added_outputs_of, flat, joined_inputs, joined_outputs, joined_row, joined_rows, joined_with, needed_inputs};
 
 use crate::edges::{EdgeNo, EdgeRow, Edges, KindEnds, OpenStarts, Span, name};
 use crate::files::{FileNo, Files};
@@ -47,7 +47,7 @@ pub struct JoiningEdges {
 
 impl Model for JoiningEdges {
     ghost use Rattle.nj_edges.specs.Joining.{JoinTable};
-    ghost use Rattle.nj_edges.specs.JoiningHeld.{JoinIsHeld, join_held};
+    ghost use Rattle.nj_edges.specs.Inside.JoiningHeld.{JoinIsHeld, join_held};
 
     ghost Value = { JoinTable };
 

@@ -2,8 +2,8 @@
 
 ghost use Rattle.std.specs.Prelude.{◌≡◌, not, false, length, slice_index_or, IfOk};
 ghost use Rattle.std.specs.List.{filter};
-ghost use Rattle.nj_edges.specs.EdgesHeld.{AreNumbers, has_number};
-ghost use Rattle.nj_edges.specs.RootsHeld.{AreFlags};
+ghost use Rattle.nj_edges.specs.Inside.EdgesHeld.{AreNumbers, has_number};
+ghost use Rattle.nj_edges.specs.Inside.RootsHeld.{AreFlags};
 
 use crate::files::FileNo;
 use std::alloc::{AllocError, Global};

@@ -2,8 +2,8 @@
 
 ghost use Rattle.std.specs.Prelude.{◌≡◌, ℕ, List, ◌<◌, ◌++◌, Some, length, map, slice_get, IfOk, OnOk};
 ghost use Rattle.std.specs.List.{AllByRecursion};
-ghost use Rattle.nj_edges.specs.EdgesHeld.{AreNumbers, IsWithin};
-ghost use Rattle.nj_edges.specs.UsersHeld.{AreUses, HoldUsers, IsChain, IsSomeChain, is_of, link_at, numbers_of, plus_use, plus_uses, span_of, using_edges};
+ghost use Rattle.nj_edges.specs.Inside.EdgesHeld.{AreNumbers, IsWithin};
+ghost use Rattle.nj_edges.specs.Inside.UsersHeld.{AreUses, HoldUsers, IsChain, IsSomeChain, is_of, link_at, numbers_of, plus_use, plus_uses, span_of, using_edges};
 
 use crate::edges::{EdgeNo, EdgeRow, Span};
 use crate::files::FileNo;

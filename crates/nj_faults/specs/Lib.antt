@@ -1,3 +1,4 @@
+-- what must be believed
 pub mod FaultLines
 pub mod Faults
 pub mod Versions

@@ -19,7 +19,7 @@ use Rattle.nj_statements.specs.Built.{detail_of}
 use Rattle.nj_statements.proofs.Lists.{get-longer}
 use Rattle.nj_statements.proofs.LateLemmas.{is-phony, kept-phony}
 use Rattle.nj_graph.specs.Graph.{IsOpenScope, HasRule}
-use Rattle.nj_graph.specs.GraphHeld.{IsKnown}
+use Rattle.nj_graph.specs.Inside.GraphHeld.{IsKnown}
 use Rattle.nj_graph.specs.Laws.{Faultless}
 use Rattle.nj_graph.specs.Reading.{fault_if, or_then, item_fault}
 use Rattle.nj_graph.proofs.OpenScopes.{AreOpen}

@@ -16,7 +16,7 @@ use Rattle.nj_faults.specs.declared.fault.Cause.TheVariants.{Missing, Io}
 use Rattle.nj_faults.specs.Faults.{no_memory}
 use Rattle.nj_graph.specs.Reading.{with_new}
 use Rattle.nj_graph.specs.Runs.{IsRead}
-use Rattle.nj_graph.specs.ReaderContracts.{ReadsAll, AnswersText}
+use Rattle.nj_graph.specs.Inside.ReaderContracts.{ReadsAll, AnswersText}
 use Rattle.nj_graph.proofs.Tables.{reading-at, with_new-known, paths-one_more, read-nothing, read-one}
 
 -- a text that is found at a path

@@ -18,7 +18,7 @@ use Rattle.nj_graph.specs.Reading.{expanded_in, fault_if, or_then, rule_fault, d
 use Rattle.nj_statements.specs.Answers.{HoldsEdges, ReadsStatement}
 use Rattle.nj_graph.specs.Graph.{IsOpenScope}
 use Rattle.nj_graph.proofs.OpenScopes.{open-next}
-use Rattle.nj_graph.specs.ReaderContracts.{Holds, Grows, Checks, Declares}
+use Rattle.nj_graph.specs.Inside.ReaderContracts.{Holds, Grows, Checks, Declares}
 
 -- a statement that names no file
 pub holds-next : (main : List ℕ) (old held : Reader) (entries : List Entry) (e : Entry) → Holds main old entries → DeclaredBy held.declarations (e ∷ entries) → held.opened ≡ old.opened → held.files ≡ old.files

@@ -16,7 +16,7 @@ use Rattle.nj_statements.specs.Joining.{lacking_fault}
 use Rattle.nj_statements.specs.JoiningHeld.{JoiningText}
 use Rattle.nj_graph.specs.Reading.{Refused, Lacking, with_new, stopped}
 use Rattle.nj_graph.specs.Joining.{end_by, statement_place, text_joined, answer_joined, path_asked, file_joined, with_all_new}
-use Rattle.nj_graph.specs.JoiningContracts.{TextJoined, TextRefused, FileJoined, FileStops, JoinsFile}
+use Rattle.nj_graph.specs.Inside.JoiningContracts.{TextJoined, TextRefused, FileJoined, FileStops, JoinsFile}
 use Rattle.nj_graph.proofs.Comes.{prefix-self}
 use Rattle.nj_graph.proofs.Found.{FindsText, FindsNone, CannotTell, HasNoMemory}
 use Rattle.nj_graph.proofs.Tables.{reading-kept, with_new-other, read-nothing}

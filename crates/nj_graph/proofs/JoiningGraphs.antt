@@ -18,11 +18,11 @@ use Rattle.nj_statements.proofs.DiscoverLemmas.{declared-discover, all-discover}
 use Rattle.nj_statements.proofs.DiscoverEdges.{all_edges-discover}
 use Rattle.nj_graph.specs.Reading.{Whole}
 use Rattle.nj_graph.specs.Graph.{GraphText, IsOpenScope, HasRule, IsGraphOf}
-use Rattle.nj_graph.specs.GraphHeld.{IsKnown, IsGraph}
+use Rattle.nj_graph.specs.Inside.GraphHeld.{IsKnown, IsGraph}
 use Rattle.nj_graph.specs.Runs.{ReachedText}
 use Rattle.nj_graph.specs.Loads.{LoadedText, IsWhole}
 use Rattle.nj_graph.specs.Joining.{all_joined, with_all_new, joined_after, Joins}
-use Rattle.nj_graph.specs.JoiningContracts.{FilesJoined, FilesStop}
+use Rattle.nj_graph.specs.Inside.JoiningContracts.{FilesJoined, FilesStop}
 use Rattle.nj_graph.proofs.Comes.{prefix-self}
 use Rattle.nj_graph.proofs.Tables.{read-nothing}
 use Rattle.nj_graph.proofs.JoiningTables.{all_new-prefix}

@@ -10,9 +10,9 @@ use Rattle.nj_statements.specs.Joining.{dyndep_files}
 use Rattle.nj_statements.specs.JoiningHeld.{JoiningText, HoldsJoined}
 use Rattle.nj_graph.specs.Reading.{End, Whole, Refused, Lacking, ReadingText}
 use Rattle.nj_graph.specs.Runs.{IsRead, IsEnd, paths_with, ReachedText, Stops}
-use Rattle.nj_graph.specs.ReaderContracts.{ReadsAll}
+use Rattle.nj_graph.specs.Inside.ReaderContracts.{ReadsAll}
 use Rattle.nj_graph.specs.Joining.{go_on, path_asked, file_joined, files_joined, all_joined, with_all_new, reached_after, joined_after}
-use Rattle.nj_graph.specs.JoiningContracts.{FileJoined, FileLacksMemory, FileEnds, FileStops, FilesJoined, FilesStop}
+use Rattle.nj_graph.specs.Inside.JoiningContracts.{FileJoined, FileLacksMemory, FileEnds, FileStops, FilesJoined, FilesStop}
 use Rattle.nj_graph.proofs.Comes.{prefix-then}
 use Rattle.nj_graph.proofs.Tables.{extends-trans, read-extends, reads-then, reads-all-nothing, reads-all-then}
 use Rattle.nj_graph.proofs.JoiningTables.{all_new-prefix, all_new-append}

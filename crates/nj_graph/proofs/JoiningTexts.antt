@@ -6,7 +6,8 @@ use Rattle.nj_manifest.specs.Faults.{Fault}
 use Rattle.nj_manifest.specs.LineSteps.{◌>>=◌}
 use Rattle.nj_manifest.specs.Dyndeps as dyndep
 use Rattle.nj_manifest.specs.Dyndeps.{EntryText, version_next, next_entry, left_entry, DyndepLeft}
-use Rattle.nj_manifest.specs.DyndepParsers.{entry_text, left_by}
+use Rattle.nj_manifest.specs.DyndepParsers.{entry_text}
+use Rattle.nj_manifest.specs.Inside.ParserContracts.{left_by}
 use Rattle.nj_manifest.proofs.Starts.{ahead}
 use Rattle.nj_manifest.proofs.DyndepMeasures.{entry-takes, version-takes, left_entry-takes, text-ahead}
 use Rattle.nj_scope.specs.ReadingList.{Entry}
@@ -19,7 +20,7 @@ use Rattle.nj_graph.specs.Parsed.{Parsed, none_parsed, and_parsed, parsed_in}
 use Rattle.nj_graph.specs.Reading.{Refused}
 use Rattle.nj_graph.specs.Joining.{after_version, entries_of, unless_fault, entries_joined, text_joined}
 use Rattle.nj_graph.proofs.ParsedLemmas.{parsed-step, parsed-end, parsed-fault}
-use Rattle.nj_graph.specs.JoiningContracts.{TextJoined, TextRefused, NextEntryOf, NextEntryIs}
+use Rattle.nj_graph.specs.Inside.JoiningContracts.{TextJoined, TextRefused, NextEntryOf, NextEntryIs}
 
 bind-ok : {A B : Type 0} (r : Result A Fault) (k : A → Result B Fault) (y : B) → (r >>= k) ≡ Ok y → (x : A) × (r ≡ Ok x) × (k x ≡ Ok y)
 bind-ok (Ok x) k y h = (x, refl, h)

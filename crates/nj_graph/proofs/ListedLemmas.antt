@@ -9,7 +9,7 @@ use Rattle.std.proofs.lemmas.List.Sorted.{ranks_by}
 use Rattle.std.proofs.lemmas.Option.{slice_get-get_or}
 use Rattle.nj_scope.specs.Rules.{RuleText, phony_rule, rules_in}
 use Rattle.nj_graph.specs.Graph.{is_before, sorted_by, main_rules_of, name_of, rule_name}
-use Rattle.nj_graph.specs.GraphHeld.{HoldsMainRules}
+use Rattle.nj_graph.specs.Inside.GraphHeld.{HoldsMainRules}
 use Rattle.nj_graph.proofs.SortLemmas.{sorted_by-map, stable_sort-is}
 
 abbrev some_rule : RuleText → Option RuleText

@@ -13,14 +13,14 @@ use Rattle.nj_graph.specs.declared.reader.Reader.{Reader}
 use Rattle.nj_faults.specs.declared.fault.Cause.TheVariants.{Missing}
 use Rattle.nj_faults.specs.Faults.{no_memory}
 use Rattle.nj_graph.specs.Reading.{Refused, Lacking, ReadingText, opened_in, text_read, answer_read, most_within, main_site, main_place, main_read, with_new, paths_come_to}
-use Rattle.nj_graph.specs.ReaderContracts.{IsNew, Holds, ReadsAll, ReadsText, ReadsOrStops, StopsAt}
+use Rattle.nj_graph.specs.Inside.ReaderContracts.{IsNew, Holds, ReadsAll, ReadsText, ReadsOrStops, StopsAt}
 use Rattle.nj_cycles.specs.Cycles.{IsAcyclic}
 use Rattle.nj_edges.specs.Needs.{makers_of_inputs}
 use Rattle.nj_statements.specs.EdgeList.{edges_read, paths_of_edges}
 use Rattle.nj_statements.specs.Answers.{HoldsEdges}
 use Rattle.nj_statements.specs.Built.{BuiltText, IsBuiltOf, ComesTo, detail_of}
 use Rattle.nj_graph.specs.Graph.{IsOpenScope, HasRule, IsGraphOf}
-use Rattle.nj_graph.specs.GraphHeld.{IsKnown}
+use Rattle.nj_graph.specs.Inside.GraphHeld.{IsKnown}
 use Rattle.nj_graph.specs.Laws.{Faultless}
 use Rattle.nj_graph.proofs.EdgeRules.{edges-have, edges-open, known-details}
 use Rattle.nj_graph.proofs.ReadingLaws.{read_is_faultless}

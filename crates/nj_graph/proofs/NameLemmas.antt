@@ -9,7 +9,8 @@ use Rattle.std.proofs.lemmas.List.Elements.{All-contains, All-filter, All-contai
 use Rattle.std.proofs.lemmas.List.Sorted.{IsPermutation-refl, IsPermutation-cons, IsPermutation-trans, IsPermutation-sym, IsPermutation-middle, Contains-permutation}
 use Rattle.std.proofs.lemmas.Map.Text.{is_eq-slice_cmp}
 use Rattle.nj_scope.specs.Rules.{RuleText, rules_in, rule_names}
-use Rattle.nj_scope.specs.ReadingList.{Entry, rule_texts, EachRuleIsNew}
+use Rattle.nj_scope.specs.ReadingList.{Entry, rule_texts}
+use Rattle.nj_scope.proofs.NewRules.{EachRuleIsNew}
 use Rattle.nj_scope.proofs.RuleNames.{names-distinct}
 use Rattle.nj_graph.specs.Graph.{insert_by, sorted_by, is_before, main_rules_of, NamesRise, ListsMainRules}
 use Rattle.nj_graph.proofs.SortLemmas.{sorted_by-map, all-insert, all-sorted}

@@ -4,7 +4,7 @@ use Rattle.std.specs.List.{AllByRecursion}
 use Rattle.nj_scope.specs.Scopes.{IsScope, outermost, child, ScopeText, parent_at}
 use Rattle.nj_scope.specs.ReadingList.{Entry}
 use Rattle.nj_graph.specs.Graph.{IsOpenScope}
-use Rattle.nj_graph.specs.ReaderContracts.{Grows}
+use Rattle.nj_graph.specs.Inside.ReaderContracts.{Grows}
 
 pub grows-self : (scopes : List ScopeText) → Grows scopes scopes
 grows-self scopes = record { count = omega arith; parents = λ n h. refl }

@@ -14,7 +14,7 @@ use Rattle.nj_faults.specs.declared.fault.Cause.{Cause}
 use Rattle.nj_faults.specs.declared.fault.Cause.TheVariants.{Missing, TooDeep, TooManyOpenings}
 use Rattle.nj_faults.specs.Faults.{no_memory}
 use Rattle.nj_graph.specs.Reading.{Site, Lacking, most_opened, stopped, answer_read, if_room, opened_in, path_named, with_new, with_named, paths_read, path_at_fault, paths_come_to}
-use Rattle.nj_graph.specs.ReaderContracts.{IsFault, StopsAt, OpensText, OpensPath}
+use Rattle.nj_graph.specs.Inside.ReaderContracts.{IsFault, StopsAt, OpensText, OpensPath}
 use Rattle.nj_graph.specs.Runs.{IsRead}
 use Rattle.nj_graph.specs.Loads.{reached_from}
 use Rattle.nj_graph.proofs.Found.{FindsText, FindsNone, CannotTell, HasNoMemory}

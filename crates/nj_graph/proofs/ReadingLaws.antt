@@ -6,7 +6,8 @@ use Rattle.nj_manifest.specs.Faults.{Fault}
 use Rattle.nj_manifest.specs.Statements.{StatementText, BindingText, RuleText, PoolText, BuildText, DefaultText, IncludeText, SubninjaText, PlacedText}
 use Rattle.nj_scope.specs.Readings as table
 use Rattle.nj_scope.specs.Readings.{reading_of, is_read}
-use Rattle.nj_scope.specs.ReadingList.{Entry, rules, is_declared, files_opened, opens_file, RuleIsNew, EachRuleIsNew}
+use Rattle.nj_scope.specs.ReadingList.{Entry, rules, is_declared, files_opened, opens_file}
+use Rattle.nj_scope.proofs.NewRules.{RuleIsNew, EachRuleIsNew}
 use Rattle.nj_faults.specs.declared.fault.Place.{Place}
 use Rattle.nj_faults.specs.declared.fault.GraphFault.{GraphFault}
 use Rattle.nj_faults.specs.declared.fault.Cause.TheVariants.{DuplicateRule}

@@ -9,7 +9,7 @@ use Rattle.nj_scope.proofs.SourceLemmas.{HasRead-nothing, HasRead-then}
 use Rattle.nj_scope.specs.Sources.{SourceState, HasRead}
 use Rattle.nj_graph.specs.Reading.{with_new}
 use Rattle.nj_graph.specs.Runs.{IsRead}
-use Rattle.nj_graph.specs.ReaderContracts.{ReadsAll}
+use Rattle.nj_graph.specs.Inside.ReaderContracts.{ReadsAll}
 
 -- ---- files, and others
 

@@ -11,8 +11,8 @@ use Rattle.nj_manifest.specs.Dyndeps.{DyndepLeft, WholeFile, Entries, Refusing}
 use Rattle.nj_manifest.specs.Statements.{Left, Lines, Refused, next_statement}
 use Rattle.nj_faults.specs.declared.fault.GraphFault.{GraphFault}
 use Rattle.nj_faults.specs.Faults.{fault_in, no_memory}
-use Rattle.nj_graph.specs.ReaderContracts.{NextIs}
-use Rattle.nj_graph.specs.JoiningContracts.{NextEntryIs}
+use Rattle.nj_graph.specs.Inside.ReaderContracts.{NextIs}
+use Rattle.nj_graph.specs.Inside.JoiningContracts.{NextEntryIs}
 
 -- out of memory; or the fault that is expected
 told : {Y : Type 0} (file : List ℕ) (f : ParseFault) (expected : Result Y Fault) (fault : GraphFault)

@@ -20,7 +20,7 @@ use Rattle.nj_graph.specs.Reading as reading
 use Rattle.nj_graph.specs.Reading.{Site, entry_at, End, Whole, Lacking, ReadingText, Opens, go_on, and_then, opened_in, statement_read, statements_read, text_read, end_by, with_named, paths_read, path_at_fault, paths_come_to}
 use Rattle.nj_graph.specs.Runs.{IsRead, IsEnd, ReachedText, Stops}
 use Rattle.nj_graph.specs.Loads.{reached_from}
-use Rattle.nj_graph.specs.ReaderContracts.{Holds, ReadsAll, ReadsOne, StopsAt, OpensNamed, ReadsText, ReadsOrStops, NextOf, NextIs}
+use Rattle.nj_graph.specs.Inside.ReaderContracts.{Holds, ReadsAll, ReadsOne, StopsAt, OpensNamed, ReadsText, ReadsOrStops, NextOf, NextIs}
 use Rattle.nj_graph.proofs.Comes.{and_then-comes, statements-come}
 use Rattle.nj_graph.proofs.Tables.{extends-trans, read-extends, reads-then, reads-all-then}
 use Rattle.nj_graph.proofs.ParsedLemmas.{parsed-step, parsed-end, parsed-fault}

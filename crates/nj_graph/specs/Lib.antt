@@ -8,7 +8,5 @@ pub mod Reading
 pub mod ResponseFiles
 pub mod Runs
 pub mod Targets
--- how the code holds that
-pub mod GraphHeld
-pub mod JoiningContracts
-pub mod ReaderContracts
+-- how the code does that
+pub mod Inside

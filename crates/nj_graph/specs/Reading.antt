@@ -37,9 +37,6 @@ pub record Site : Type 0 where
   pub number : ℕ
   pub around : List ℕ
 
-abbrev pub site_scope : Site → List ℕ
-site_scope site = site.number ∷ site.around
-
 abbrev pub entry_at : Site → PlacedText → Entry
 entry_at site s = record {
   file = site.file;

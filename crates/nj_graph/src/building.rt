@@ -4,7 +4,7 @@ ghost use Rattle.std.specs.Prelude.{◌≡◌, ◌<◌, length, OnOk};
 ghost use Rattle.nj_manifest.specs.Contents.{words_text, build_text};
 ghost use Rattle.nj_manifest.specs.Statements.{DefaultText};
 ghost use Rattle.nj_graph.specs.Reading.{entry_at};
-ghost use Rattle.nj_graph.specs.ReaderContracts.{InFile, ScopesGrow, Declares};
+ghost use Rattle.nj_graph.specs.Inside.ReaderContracts.{InFile, ScopesGrow, Declares};
 
 use crate::reader::{OpenFile, Reader};
 use nj_statements::StatementPlace;

@@ -5,8 +5,9 @@ ghost use Rattle.nj_text.specs.declared.spot.Spot.{Spot};
 ghost use Rattle.nj_text.specs.Words.{word_text};
 ghost use Rattle.nj_manifest.specs.Statements.{BindingText, RuleText, PoolText};
 ghost use Rattle.nj_manifest.specs.Contents.{name_text, lines_text};
-ghost use Rattle.nj_graph.specs.Reading.{entry_at, site_scope, depth_fault};
-ghost use Rattle.nj_graph.specs.ReaderContracts.{InFile, ScopesGrow, Checks, Declares};
+ghost use Rattle.nj_graph.specs.Reading.{entry_at, depth_fault};
+ghost use Rattle.nj_graph.specs.Inside.ReaderContracts.{site_scope};
+ghost use Rattle.nj_graph.specs.Inside.ReaderContracts.{InFile, ScopesGrow, Checks, Declares};
 
 use crate::reader::{OpenFile, Reader};
 use nj_faults::{Cause, GraphFault, Name, is_newer};

@@ -4,7 +4,7 @@ ghost use Rattle.std.specs.Prelude.{◌≡◌, ◌<◌, None, length, option_cop
 ghost use Rattle.nj_scope.specs.Scopes.{parent_at};
 ghost use Rattle.nj_graph.specs.Graph.{main_rules, main_rule_at, rule_name, description, has_description, description_text, NamesRise, ListsMainRules};
 ghost use Rattle.std.specs.List.{AllByRecursion};
-ghost use Rattle.nj_graph.specs.GraphHeld.{HoldsMainRules, IsKnown};
+ghost use Rattle.nj_graph.specs.Inside.GraphHeld.{HoldsMainRules, IsKnown};
 
 use nj_statements::Built;
 use nj_scope::{Declarations, LateValue, Rule};
@@ -26,7 +26,7 @@ pub struct Graph {
 
 impl Model for Graph {
     ghost use Rattle.nj_graph.specs.Graph.{GraphText};
-    ghost use Rattle.nj_graph.specs.GraphHeld.{IsGraph};
+    ghost use Rattle.nj_graph.specs.Inside.GraphHeld.{IsGraph};
 
     ghost Value = { GraphText };
 

@@ -7,7 +7,7 @@ ghost use Rattle.nj_statements.specs.EdgeList.{Pending};
 ghost use Rattle.nj_statements.specs.JoiningHeld.{HoldsJoined};
 ghost use Rattle.nj_graph.specs.Graph.{IsGraphOf};
 ghost use Rattle.nj_graph.specs.Joining.{Joins};
-ghost use Rattle.nj_graph.specs.JoiningContracts.{NamesFile, JoinsText, JoinsFile, JoinsFiles, NextEntryIs};
+ghost use Rattle.nj_graph.specs.Inside.JoiningContracts.{NamesFile, JoinsText, JoinsFile, JoinsFiles, NextEntryIs};
 
 use crate::graph::Graph;
 use crate::loading::Loaded;

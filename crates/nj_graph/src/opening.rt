@@ -5,8 +5,9 @@ ghost use Rattle.nj_text.specs.declared.spot.Spot.{Spot};
 ghost use Rattle.nj_text.specs.Words.{WordText, word_text};
 ghost use Rattle.nj_scope.specs.Declarations.{DeclaredBy};
 ghost use Rattle.nj_scope.specs.ReadingList.{Entry};
-ghost use Rattle.nj_graph.specs.Reading.{entry_at, site_scope, expanded_in, path_fault};
-ghost use Rattle.nj_graph.specs.ReaderContracts.{Holds, InFile, IsOpenIn, ScopesGrow, site_of, place_in, named_item, named_site, EntersScope, AnswersText, OpensOrStops, SaysPath, OpensPath};
+ghost use Rattle.nj_graph.specs.Reading.{entry_at, expanded_in, path_fault};
+ghost use Rattle.nj_graph.specs.Inside.ReaderContracts.{site_scope};
+ghost use Rattle.nj_graph.specs.Inside.ReaderContracts.{Holds, InFile, IsOpenIn, ScopesGrow, site_of, place_in, named_item, named_site, EntersScope, AnswersText, OpensOrStops, SaysPath, OpensPath};
 
 use crate::reader::{OpenFile, Opened, Reader};
 use nj_faults::{Cause, GraphFault, Name, Place};

@@ -5,7 +5,7 @@ ghost use Rattle.nj_manifest.specs.Contents.{placed_text};
 ghost use Rattle.nj_scope.specs.Scopes.{parent_at};
 ghost use Rattle.nj_faults.specs.Faults.{fault_at};
 ghost use Rattle.nj_graph.specs.Reading.{entry_at, opened_in, text_read, statement_read, main_read};
-ghost use Rattle.nj_graph.specs.ReaderContracts.{IsNew, InFile, ScopesGrow, IsFault, ReadsItem, ReadsOrStops, NextIs};
+ghost use Rattle.nj_graph.specs.Inside.ReaderContracts.{IsNew, InFile, ScopesGrow, IsFault, ReadsItem, ReadsOrStops, NextIs};
 
 use crate::opening::{Naming, text_at};
 use nj_statements::Building;

@@ -1,1 +1,2 @@
+-- what must be believed
 pub mod NameHash

@@ -20,7 +20,7 @@ use Rattle.nj_manifest.specs.Faults.{Fault, Bad}
 use Rattle.nj_manifest.specs.LineSteps.{Step, ◌>>=◌}
 use Rattle.nj_manifest.specs.Parsers.{Fails}
 use Rattle.nj_manifest.specs.Statements.{LineText, line_next, lines_from, Parse, or_last, no_lines, without_spaces, block_by, block}
-use Rattle.nj_manifest.specs.ParserContracts.{IsBetweenStatements, ParsesFrom}
+use Rattle.nj_manifest.specs.Inside.ParserContracts.{IsBetweenStatements, ParsesFrom}
 use Rattle.nj_manifest.proofs.Framing.{line-inside}
 
 -- ---- how many lines are left

@@ -11,7 +11,7 @@ use Rattle.nj_manifest.specs.declared.fault.ParseFault.TheVariants as fault
 use Rattle.nj_manifest.specs.Faults.{Fault, Bad, fault_text}
 use Rattle.nj_manifest.specs.LineSteps.{Step, called}
 use Rattle.nj_manifest.specs.Parsers.{Fails}
-use Rattle.nj_manifest.specs.ParserContracts.{TakesStep}
+use Rattle.nj_manifest.specs.Inside.ParserContracts.{TakesStep}
 
 pub gave : {Y : Type 0} (y : Y) (after : State) (r : Reply Y) → (r.answer ≡ Ok y) × (after ≡ r.after) → called r ≡ Ok (y, after)
 gave y after r h = rw h.0 (rw h.1 refl)

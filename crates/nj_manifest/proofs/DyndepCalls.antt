@@ -10,9 +10,10 @@ use Rattle.nj_manifest.specs.LineSteps.{◌>>=◌}
 use Rattle.nj_manifest.specs.Statements.{lines_from}
 use Rattle.nj_manifest.specs.Openings.{opening}
 use Rattle.nj_manifest.specs.Parsers.{Fails}
-use Rattle.nj_manifest.specs.ParserContracts.{LeadsTo, IsBetweenStatements, ParsesAt, FindsOpening}
+use Rattle.nj_manifest.specs.Inside.ParserContracts.{LeadsTo, IsBetweenStatements, ParsesAt, FindsOpening}
 use Rattle.nj_manifest.specs.Dyndeps.{version_line, version_from, version_next, entry_line, restat_block, entry_at, entry_from, next_entry}
-use Rattle.nj_manifest.specs.DyndepParsers.{entry_text, ReadsVersion}
+use Rattle.nj_manifest.specs.DyndepParsers.{entry_text}
+use Rattle.nj_manifest.specs.Inside.ParserContracts.{ReadsVersion}
 use Rattle.nj_manifest.proofs.Heres.{fails-on}
 use Rattle.nj_manifest.proofs.DyndepEnds.{entry-ends, version-ends, block-ends}
 

@@ -11,7 +11,7 @@ use Rattle.nj_manifest.specs.Faults.{Fault}
 use Rattle.nj_manifest.specs.Parsers.{Fails}
 use Rattle.nj_manifest.specs.LineSteps.{◌>>=◌}
 use Rattle.nj_manifest.specs.Statements.{HeadText, lines_from, head_next, with_block, statement_at}
-use Rattle.nj_manifest.specs.ParserContracts.{ParsesFrom, ParsesAt}
+use Rattle.nj_manifest.specs.Inside.ParserContracts.{ParsesFrom, ParsesAt}
 use Rattle.nj_manifest.specs.Contents.{statement_text, placed_text}
 use Rattle.nj_manifest.proofs.Framing.{head-inside}
 

@@ -7,7 +7,7 @@ use Rattle.nj_manifest.specs.LineSteps.{◌>>=◌}
 use Rattle.nj_manifest.specs.Statements.{PlacedText, Parse, lines_from, nothing_more, statement_at, next_by, next_statement}
 use Rattle.nj_manifest.specs.Openings.{Opening, Begun, Ended, ended, opening_by, opening}
 use Rattle.nj_manifest.specs.Parsers.{Fails}
-use Rattle.nj_manifest.specs.ParserContracts.{ParsesAt, ParsesNext, FindsOpening}
+use Rattle.nj_manifest.specs.Inside.ParserContracts.{ParsesAt, ParsesNext, FindsOpening}
 use Rattle.nj_manifest.proofs.Heres.{fails-on}
 
 -- ---- the next statement begins where the next opening is

@@ -16,7 +16,7 @@ use Rattle.nj_manifest.specs.Faults.{Fault, Bad, UnexpectedIndent}
 use Rattle.nj_manifest.specs.Parsers.{Fails}
 use Rattle.nj_manifest.specs.Statements.{lines_from, or_last}
 use Rattle.nj_manifest.specs.Openings.{Opening, Begun, ended, opening_by, opening}
-use Rattle.nj_manifest.specs.ParserContracts.{IsBetweenStatements, FindsOpening}
+use Rattle.nj_manifest.specs.Inside.ParserContracts.{IsBetweenStatements, FindsOpening}
 
 abbrev Next : Type 0
 Next = Result Opening Fault

@@ -43,15 +43,6 @@ inputs_text i =
       validations = words_text i.validations.items;
     }
 
-abbrev pub head_text : Head → HeadText
-head_text (head.Binding name value) = Alone (BindingText name.now (word_text value))
-head_text (head.Rule name) = RuleHead (name_text name)
-head_text (head.Pool name) = PoolHead (name_text name)
-head_text (head.Build outputs rule inputs) = BuildHead (outputs_text outputs) (name_text rule) (inputs_text inputs)
-head_text (head.Default words) = Alone (DefaultText (words_text words.items))
-head_text (head.Include word) = Alone (IncludeText (word_text word))
-head_text (head.Subninja word) = Alone (SubninjaText (word_text word))
-
 -- ---- statements
 
 abbrev pub build_text : Build → StatementText

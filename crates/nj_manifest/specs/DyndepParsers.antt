@@ -8,7 +8,7 @@ use Rattle.nj_manifest.specs.declared.entries.Entry.{Entry}
 use Rattle.nj_manifest.specs.Faults.{Fault, fault_text}
 use Rattle.nj_manifest.specs.Statements.{Parse, lines_from}
 use Rattle.nj_manifest.specs.Parsers.{Fails}
-use Rattle.nj_manifest.specs.ParserContracts.{IsBetweenStatements}
+use Rattle.nj_manifest.specs.Inside.ParserContracts.{IsBetweenStatements}
 use Rattle.nj_manifest.specs.Contents.{words_text}
 use Rattle.nj_manifest.specs.Dyndeps.{EntryText, version_next, DyndepLeft, WholeFile, Entries, Refusing, entry_of}
 
@@ -29,18 +29,3 @@ RefusesAgain fault (Err f) = fault_text f ≡ fault
 abbrev pub IsNextEntry : (before after : DyndepLeft) → Result (Option Entry) ParseFault → Type 0
 IsNextEntry (Refusing fault) after result = RefusesAgain fault result × (after ≡ Refusing fault)
 IsNextEntry before after result = AnswersEntry (entry_of before) after result
-
--- It reads the version of the lines, and leaves the lexer before the lines after it.
-abbrev pub ReadsVersion : (before after : State) → Result (Unit {0}) ParseFault → Type 0
-ReadsVersion before after (Ok done) = (version_next (lines_from before) ≡ Ok (lines_from after)) × IsBetweenStatements after
-ReadsVersion before after (Err f) = Fails f (version_next (lines_from before))
-
--- ---- a parser in memory
-
-abbrev pub left_by : (version_read : Bool) → List lines.Line → DyndepLeft
-left_by true ls = Entries ls
-left_by false ls = WholeFile ls
-
-abbrev pub dyndep_left : Option ParseFault → (version_read : Bool) → State → DyndepLeft
-dyndep_left None version_read s = left_by version_read (lines_from s)
-dyndep_left (Some f) version_read s = Refusing (fault_text f)

@@ -1,3 +1,4 @@
+-- what must be believed
 pub mod Contents
 pub mod DyndepForms
 pub mod DyndepLeftmost
@@ -10,6 +11,7 @@ pub mod Laws
 pub mod Leftmost
 pub mod LineSteps
 pub mod Openings
-pub mod ParserContracts
 pub mod Parsers
 pub mod Statements
+-- how the code does that
+pub mod Inside

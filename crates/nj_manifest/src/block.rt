@@ -2,10 +2,10 @@
 
 ghost use Rattle.std.specs.Prelude.{◌≡◌, map};
 ghost use Rattle.nj_text.specs.Words.{word_text};
-ghost use Rattle.nj_manifest.specs.ParserContracts.{TakesStep};
+ghost use Rattle.nj_manifest.specs.Inside.ParserContracts.{TakesStep};
 ghost use Rattle.nj_manifest.specs.Statements.{allows, equals_value, line_next, block, names, gives, whole_rule, whole_pool};
 ghost use Rattle.nj_manifest.specs.Contents.{line_text, lines_text};
-ghost use Rattle.nj_manifest.specs.ParserContracts.{ParsesFrom, Wholes};
+ghost use Rattle.nj_manifest.specs.Inside.ParserContracts.{ParsesFrom, Wholes};
 
 use crate::fault::{ParseFault, Wanted};
 use crate::statement::Line;

@@ -3,8 +3,9 @@
 ghost use Rattle.std.specs.Prelude.{◌≡◌, true, option_map};
 ghost use Rattle.nj_text.specs.Lines.{text_lines};
 ghost use Rattle.nj_manifest.specs.Dyndeps.{entry_at, next_entry, left_entry, WholeFile};
-ghost use Rattle.nj_manifest.specs.ParserContracts.{IsBetweenStatements, ParsesAt, ParsesNext, is_between_unless};
-ghost use Rattle.nj_manifest.specs.DyndepParsers.{entry_text, ReadsVersion, IsNextEntry};
+ghost use Rattle.nj_manifest.specs.Inside.ParserContracts.{IsBetweenStatements, ParsesAt, ParsesNext, is_between_unless};
+ghost use Rattle.nj_manifest.specs.DyndepParsers.{entry_text, IsNextEntry};
+ghost use Rattle.nj_manifest.specs.Inside.ParserContracts.{ReadsVersion};
 
 use crate::entries::{Entry, entry_line, restat_block, version_line};
 use crate::fault::ParseFault;
@@ -77,7 +78,7 @@ impl<'a> Model for DyndepParser<'a> {
 
     ghost Value = { DyndepLeft };
 
-    ghost use Rattle.nj_manifest.specs.DyndepParsers.{dyndep_left};
+    ghost use Rattle.nj_manifest.specs.Inside.ParserContracts.{dyndep_left};
 
     ghost view = { λ parser. dyndep_left parser.refused parser.version_read parser.lexer };
 }

@@ -3,7 +3,7 @@
 ghost use Rattle.std.specs.Prelude.{◌≡◌, IfOk, map};
 ghost use Rattle.nj_text.specs.Words.{word_text, part_text};
 ghost use Rattle.nj_manifest.specs.Contents.{words_text};
-ghost use Rattle.nj_manifest.specs.ParserContracts.{TakesStep, LeadsTo};
+ghost use Rattle.nj_manifest.specs.Inside.ParserContracts.{TakesStep, LeadsTo};
 ghost use Rattle.nj_manifest.specs.Dyndeps.{value_bytes, version_line, word_of_form, no_path, no_section, output_next, added_inputs, entry_line, restat_line, line_too_many, restat_block};
 ghost use Rattle.nj_manifest.specs.DyndepParsers.{entry_text};
 

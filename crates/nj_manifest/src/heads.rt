@@ -2,10 +2,11 @@
 
 ghost use Rattle.std.specs.Prelude.{◌≡◌, map};
 ghost use Rattle.nj_text.specs.Words.{word_text};
-ghost use Rattle.nj_manifest.specs.ParserContracts.{TakesStep};
+ghost use Rattle.nj_manifest.specs.Inside.ParserContracts.{TakesStep};
 ghost use Rattle.nj_manifest.specs.Contents.{name_text};
 ghost use Rattle.nj_manifest.specs.Statements.{name_alone, outputs_next, inputs_next, build_next, targets_next, file_next, head_after, head_next};
-ghost use Rattle.nj_manifest.specs.Contents.{words_text, outputs_text, inputs_text, head_text};
+ghost use Rattle.nj_manifest.specs.Contents.{words_text, outputs_text, inputs_text};
+ghost use Rattle.nj_manifest.specs.Inside.ParserContracts.{head_text};
 
 use crate::block::equals_value;
 use crate::fault::{ParseFault, Wanted};

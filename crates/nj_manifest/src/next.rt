@@ -2,11 +2,12 @@
 
 ghost use Rattle.std.specs.Prelude.{◌≡◌, map, Some, option_map};
 ghost use Rattle.nj_text.specs.Words.{word_text};
-ghost use Rattle.nj_manifest.specs.ParserContracts.{TakesStep};
+ghost use Rattle.nj_manifest.specs.Inside.ParserContracts.{TakesStep};
 ghost use Rattle.nj_manifest.specs.Contents.{name_text};
 ghost use Rattle.nj_manifest.specs.Statements.{with_block, statement_at, next_statement};
-ghost use Rattle.nj_manifest.specs.Contents.{head_text, statement_text, placed_text};
-ghost use Rattle.nj_manifest.specs.ParserContracts.{ParsesFrom, ParsesAt, ParsesNext, IsBetweenStatements};
+ghost use Rattle.nj_manifest.specs.Contents.{statement_text, placed_text};
+ghost use Rattle.nj_manifest.specs.Inside.ParserContracts.{head_text};
+ghost use Rattle.nj_manifest.specs.Inside.ParserContracts.{ParsesFrom, ParsesAt, ParsesNext, IsBetweenStatements};
 
 use crate::block::{Keys, block, whole_pool, whole_rule};
 use crate::fault::ParseFault;

@@ -1,7 +1,7 @@
 //! Where the next statement begins.
 
 ghost use Rattle.std.specs.Prelude.{◌≡◌};
-ghost use Rattle.nj_manifest.specs.ParserContracts.{IsBetweenStatements, FindsOpening};
+ghost use Rattle.nj_manifest.specs.Inside.ParserContracts.{IsBetweenStatements, FindsOpening};
 
 use crate::fault::ParseFault;
 use nj_text::{Lexer, LineStart, Spot};

@@ -2,7 +2,7 @@
 
 ghost use Rattle.std.specs.Prelude.{◌≡◌, true};
 ghost use Rattle.nj_manifest.specs.Statements.{Lines};
-ghost use Rattle.nj_manifest.specs.ParserContracts.{is_between_unless};
+ghost use Rattle.nj_manifest.specs.Inside.ParserContracts.{is_between_unless};
 ghost use Rattle.nj_manifest.specs.Parsers.{IsNext};
 ghost use Rattle.nj_text.specs.Lines.{text_lines};
 
@@ -29,7 +29,7 @@ impl<'a> Model for Parser<'a> {
 
     ghost Value = { Left };
 
-    ghost use Rattle.nj_manifest.specs.ParserContracts.{left_of};
+    ghost use Rattle.nj_manifest.specs.Inside.ParserContracts.{left_of};
 
     ghost view = { λ parser. left_of parser.refused parser.lexer };
 }

@@ -1,4 +1,6 @@
+-- what must be believed
 pub mod Marks
 pub mod Laws
-pub mod Scanning
 pub mod Reading
+-- how the code does that
+pub mod Inside

@@ -4,7 +4,7 @@ use Rattle.std.specs.Prelude.{slice_get}
 use Rattle.std.proofs.lemmas.Option.{get_or_from_slice_get}
 use Rattle.nj_needs.specs.Order.{unfolded_row}
 use Rattle.nj_needs.specs.Marks.{inputs_of, edge_at, done}
-use Rattle.nj_needs.specs.Paths.{IsLinked, done_at, places}
+use Rattle.nj_needs.specs.Inside.Paths.{IsLinked, done_at, places}
 use Rattle.nj_needs.specs.declared.frame.Frame.{Frame}
 
 module _ (makers : ℕ → List (Option ℕ)) (count : ℕ) where

@@ -8,12 +8,13 @@ use Rattle.nj_edges.specs.declared.files.FileNo.{FileNo}
 use Rattle.nj_edges.specs.EdgeGraphs.{EdgeGraph}
 use Rattle.nj_edges.specs.Edges.{edge_at, maker_of}
 use Rattle.nj_edges.specs.Files.{path_at, AreFiles}
-use Rattle.nj_needs.specs.Graphs.{row_in, row_of_paths, makers_of, makers_in, count_of}
+use Rattle.nj_needs.specs.Graphs.{row_of_paths, makers_of, makers_in, count_of}
+use Rattle.nj_needs.specs.Inside.Tops.{row_in}
 use Rattle.nj_needs.specs.Growing.{grown_targets}
 use Rattle.nj_needs.specs.Needs.{IsAcyclic}
-use Rattle.nj_needs.specs.Paths.{turns_left, IsLinked}
-use Rattle.nj_needs.specs.Standing.{top_of}
-use Rattle.nj_needs.specs.Tops.{IsTop}
+use Rattle.nj_needs.specs.Inside.Paths.{turns_left, IsLinked}
+use Rattle.nj_needs.specs.Inside.Standing.{top_of}
+use Rattle.nj_needs.specs.Inside.Tops.{IsTop}
 use Rattle.nj_needs.specs.declared.frame.Frame.{Frame}
 use Rattle.nj_needs.proofs.Bridges.{AreWithin-paths, paths-at, files-within}
 use Rattle.nj_needs.proofs.GrowingLaws.{grown-fixed, grown-least}

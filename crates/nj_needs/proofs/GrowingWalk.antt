@@ -9,7 +9,7 @@ use Rattle.std.proofs.lemmas.Option.{slice_get_within}
 use Rattle.nj_needs.specs.Marks.{without}
 use Rattle.nj_needs.specs.Needs.{IsRank}
 use Rattle.nj_needs.specs.Order.{made_by, unfolded, unfolded_row, first_occurrences}
-use Rattle.nj_needs.specs.Paths.{top_row, done_at, turns_left, IsLinked, IsStanding}
+use Rattle.nj_needs.specs.Inside.Paths.{top_row, done_at, turns_left, IsLinked, IsStanding}
 use Rattle.nj_needs.specs.declared.frame.Frame.{Frame}
 use Rattle.nj_needs.proofs.Fronts.{IsFront, front-map, front-first, front-get, front-take, front-same, first-append}
 use Rattle.nj_needs.proofs.Members.{In, In-tail, In-head, In-append_right, Among}

@@ -7,11 +7,11 @@ use Rattle.nj_edges.specs.EdgeGraphs.{EdgeGraph}
 use Rattle.nj_needs.specs.Counts.{saturated}
 use Rattle.nj_needs.specs.Graphs.{row_of, makers_of, count_of}
 use Rattle.nj_needs.specs.Needs.{IsAcyclic, AreWithin}
-use Rattle.nj_needs.specs.Paths.{places}
-use Rattle.nj_needs.specs.Saved.{KeepsFront}
-use Rattle.nj_needs.specs.Standing.{IsWalkAt, IsWalk, left_of, turns_left_of, HasLooked, HasClosed, HasEnded}
+use Rattle.nj_needs.specs.Inside.Paths.{places}
+use Rattle.nj_needs.specs.Inside.Saved.{KeepsFront}
+use Rattle.nj_needs.specs.Inside.Standing.{IsWalkAt, IsWalk, left_of, turns_left_of, HasLooked, HasClosed, HasEnded}
 use Rattle.nj_needs.specs.Walks.{IsSound, IsSameWalk, bound_of, rest_of, IsFirstPlaceOf}
-use Rattle.nj_needs.specs.Views.{state_of, IsNeeds}
+use Rattle.nj_needs.specs.Inside.Views.{state_of, IsNeeds}
 use Rattle.nj_needs.specs.declared.frame.Frame.{Frame}
 use Rattle.nj_needs.specs.declared.saved.Saved.{Saved}
 use Rattle.nj_needs.specs.declared.walk.Walk.{Walk}

@@ -6,9 +6,9 @@ use Rattle.std.proofs.lemmas.List.{take-append-drop, take_more, drop_more, take_
 use Rattle.std.proofs.lemmas.Option.{slice_get_within, same_Some}
 use Rattle.nj_needs.specs.Graphs.{row_of, makers_of, count_of}
 use Rattle.nj_needs.specs.Marks.{is_valid, done, without}
-use Rattle.nj_needs.specs.Paths.{IsLinked, done_at, places}
-use Rattle.nj_needs.specs.Heading.{IsHeading}
-use Rattle.nj_needs.specs.Standing.{IsWalk, top_of, left_of, HasLooked, TurnIs}
+use Rattle.nj_needs.specs.Inside.Paths.{IsLinked, done_at, places}
+use Rattle.nj_needs.specs.Inside.Heading.{IsHeading}
+use Rattle.nj_needs.specs.Inside.Standing.{IsWalk, top_of, left_of, HasLooked, TurnIs}
 use Rattle.nj_needs.specs.Walks.{rest_of, commands_of}
 use Rattle.nj_needs.specs.declared.frame.Frame.{Frame}
 use Rattle.nj_needs.specs.declared.walk.Walk.{Walk}

@@ -8,9 +8,9 @@ use Rattle.std.proofs.lemmas.Option.{slice_get-get_or, get_or_from_slice_get}
 use Rattle.nj_needs.specs.Needs.{IsRank}
 use Rattle.nj_needs.specs.Order.{unfolded, unfolded_row}
 use Rattle.nj_needs.specs.Marks.{inputs_of, is_valid, done}
-use Rattle.nj_needs.specs.Paths.{top_row, IsLinked, done_at, places}
-use Rattle.nj_needs.specs.Heading.{IsAhead, IsHeading}
-use Rattle.nj_needs.specs.Standing.{top_of, turns_left_of, HasLooked, HasClosed, HasEnded, TurnIs}
+use Rattle.nj_needs.specs.Inside.Paths.{top_row, IsLinked, done_at, places}
+use Rattle.nj_needs.specs.Inside.Heading.{IsAhead, IsHeading}
+use Rattle.nj_needs.specs.Inside.Standing.{top_of, turns_left_of, HasLooked, HasClosed, HasEnded, TurnIs}
 use Rattle.nj_needs.specs.declared.frame.Frame.{Frame}
 use Rattle.nj_needs.specs.declared.walk.Walk.{Walk}
 use Rattle.nj_needs.specs.declared.walk.Turn.{Turn}

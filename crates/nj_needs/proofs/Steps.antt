@@ -9,7 +9,7 @@ use Rattle.std.proofs.lemmas.Option.{slice_get_within}
 use Rattle.nj_needs.specs.Needs.{IsRank}
 use Rattle.nj_needs.specs.Order.{made_by, unfolded, unfolded_row, order, needed_commands, first_occurrences}
 use Rattle.nj_needs.specs.Marks.{without}
-use Rattle.nj_needs.specs.Paths.{top_row, IsLinked, done_at, opened, turns_left, left_at, IsStanding}
+use Rattle.nj_needs.specs.Inside.Paths.{top_row, IsLinked, done_at, opened, turns_left, left_at, IsStanding}
 use Rattle.nj_needs.specs.declared.frame.Frame.{Frame}
 use Rattle.nj_needs.proofs.Members.{In, In-append_cases, In-append_left, In-last, In-single, same_tests, Among}
 use Rattle.nj_needs.proofs.Striking.{filter_comm, without-same, without-all, without-next, In-first}

@@ -6,13 +6,15 @@ use Rattle.std.specs.Global.{Vec}
 use Rattle.std.proofs.lemmas.Option.{slice_get_within, same_Some}
 use Rattle.nj_edges.specs.declared.files.FileNo.{FileNo}
 use Rattle.nj_edges.specs.EdgeGraphs.{EdgeGraph}
-use Rattle.nj_needs.specs.Counts.{saturated, counted}
-use Rattle.nj_needs.specs.Graphs.{row_of, row_in, makers_of, count_of, is_phony}
+use Rattle.nj_needs.specs.Counts.{saturated}
+use Rattle.nj_needs.specs.Inside.Standing.{counted}
+use Rattle.nj_needs.specs.Graphs.{row_of, makers_of, count_of, is_phony}
+use Rattle.nj_needs.specs.Inside.Tops.{row_in}
 use Rattle.nj_needs.specs.Marks.{done, without, edge_at}
-use Rattle.nj_needs.specs.Paths.{IsLinked, places, IsStanding}
-use Rattle.nj_needs.specs.Tops.{IsTop}
+use Rattle.nj_needs.specs.Inside.Paths.{IsLinked, places, IsStanding}
+use Rattle.nj_needs.specs.Inside.Tops.{IsTop}
 use Rattle.nj_needs.specs.Walks.{bound_of, commands_of}
-use Rattle.nj_needs.specs.Standing.{left_of, turns_left_of, done_of, top_of, IsWalkAt, HasLooked, HasClosed, HasEnded}
+use Rattle.nj_needs.specs.Inside.Standing.{left_of, turns_left_of, done_of, top_of, IsWalkAt, HasLooked, HasClosed, HasEnded}
 use Rattle.nj_needs.specs.declared.frame.Frame.{Frame}
 use Rattle.nj_needs.proofs.Members.{In, Among, Contains-from_Among}
 use Rattle.nj_needs.proofs.Addresses.{done-places, edge_at-places}

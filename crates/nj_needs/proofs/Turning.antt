@@ -8,7 +8,7 @@ use Rattle.std.proofs.lemmas.List.Folds.{list_any-append}
 use Rattle.std.proofs.lemmas.List.Sums.{sum_by-cons}
 use Rattle.nj_needs.specs.Order.{unfolded_row, order}
 use Rattle.nj_needs.specs.Turns.{turn_bound}
-use Rattle.nj_needs.specs.Paths.{top_row, done_at, opened, turns_open, turns_unseen, turns_left}
+use Rattle.nj_needs.specs.Inside.Paths.{top_row, done_at, opened, turns_open, turns_unseen, turns_left}
 use Rattle.nj_needs.specs.declared.frame.Frame.{Frame}
 use Rattle.nj_needs.proofs.Members.{In, In-head, In-tail, In-cons_cases, In-append_cases, In-append_left, In-last, In-single, same_tests}
 use Rattle.nj_needs.proofs.Striking.{Differ, Differ-first, In-first_from}

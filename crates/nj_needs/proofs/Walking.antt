@@ -7,7 +7,7 @@ use Rattle.std.proofs.lemmas.List.Concat.{flat_map-append}
 use Rattle.std.proofs.lemmas.Option.{slice_get_within, get_or_from_slice_get}
 use Rattle.nj_needs.specs.Needs.{IsRank}
 use Rattle.nj_needs.specs.Order.{made_by, unfolded, unfolded_row}
-use Rattle.nj_needs.specs.Paths.{top_row, IsLinked, done_at, opened}
+use Rattle.nj_needs.specs.Inside.Paths.{top_row, IsLinked, done_at, opened}
 use Rattle.nj_needs.specs.declared.frame.Frame.{Frame}
 use Rattle.nj_needs.proofs.Members.{In, In-append_left, In-append_right, In-append_cases, In-cons_cases, Among, Among-get, Among-take}
 use Rattle.nj_needs.proofs.Unfolding.{In-row_from, In-unfolded, falls, within, unfolded-row, closed_row}

@@ -4,7 +4,3 @@ use Rattle.std.specs.Prelude.{ℕ, ◌+◌, ◌-◌, ◌^◌, min}
 -- a number as a `u64` that does not wrap
 abbrev pub saturated : ℕ → ℕ
 saturated n = min n (2 ^ 64 - 1)
-
--- the count after one more turn
-abbrev pub counted : ℕ → ℕ
-counted n = saturated (n + 1)

@@ -31,8 +31,3 @@ count_of g = length g.edges
 
 abbrev pub is_phony : EdgeGraph → ℕ → Bool
 is_phony g e = is_phony_in g.edges e
-
--- the row of an edge, or the row of the targets
-abbrev pub row_in : EdgeGraph → (targets : List FileNo) → (edge : Option ℕ) → List (Option ℕ)
-row_in g targets None = row_of g targets
-row_in g targets (Some e) = makers_of g e

@@ -1,17 +1,14 @@
+-- what must be believed
 pub mod Counts
 pub mod Graphs
 pub mod Growing
-pub mod Heading
 pub mod Laws
 pub mod Marks
 pub mod Needs
 pub mod Order
 pub mod Pages
-pub mod Paths
 pub mod Resuming
-pub mod Saved
-pub mod Standing
-pub mod Tops
 pub mod Turns
-pub mod Views
 pub mod Walks
+-- how the code does that
+pub mod Inside

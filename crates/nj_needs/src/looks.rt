@@ -3,9 +3,10 @@
 
 ghost use Rattle.std.specs.Prelude.{◌≡◌, ◌+◌, ◌^◌, ◌<◌, length, true, All, IfSome, is_some, slice_get, slice_set, if◌then◌else◌};
 ghost use Rattle.std.specs.Option.{ForSome};
-ghost use Rattle.nj_needs.specs.Graphs.{makers_of, count_of, is_phony, row_of, row_in};
+ghost use Rattle.nj_needs.specs.Graphs.{makers_of, count_of, is_phony, row_of};
+ghost use Rattle.nj_needs.specs.Inside.Tops.{row_in};
 ghost use Rattle.nj_needs.specs.Needs.{IsAcyclic, AreWithin};
-ghost use Rattle.nj_needs.specs.Counts.{counted};
+ghost use Rattle.nj_needs.specs.Inside.Standing.{counted};
 
 use nj_edges::{EdgeGraph, EdgeNo, FileNo};
 

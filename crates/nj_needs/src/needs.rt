@@ -29,7 +29,7 @@ impl<'g> Model for Needs<'g> {
 
     ghost Value = { WalkState };
 
-    ghost use Rattle.nj_needs.specs.Views.{state_of, IsNeeds};
+    ghost use Rattle.nj_needs.specs.Inside.Views.{state_of, IsNeeds};
 
     ghost view = { λ n. state_of n.walk n.saved };
 

@@ -2,8 +2,8 @@
 
 ghost use Rattle.std.specs.Prelude.{◌≡◌, ◌<◌, ◌≤◌, IfSome};
 ghost use Rattle.nj_needs.specs.Graphs.{count_of};
-ghost use Rattle.nj_needs.specs.Standing.{turns_left_of};
-ghost use Rattle.nj_needs.specs.Views.{state_of, IsNeeds};
+ghost use Rattle.nj_needs.specs.Inside.Standing.{turns_left_of};
+ghost use Rattle.nj_needs.specs.Inside.Views.{state_of, IsNeeds};
 ghost use Rattle.nj_needs.specs.Walks.{NextIs};
 
 use crate::saved::Saved;

@@ -1,8 +1,8 @@
 //! The address of the edge that a walk returned last.
 
 ghost use Rattle.std.specs.Prelude.{◌≡◌, ◌+◌, ◌<◌, ◌≤◌, List, [], ◌∷◌, ◌++◌, length, min, take, vec_len, vec_capacity, IfOk};
-ghost use Rattle.nj_needs.specs.Paths.{places};
-ghost use Rattle.nj_needs.specs.Saved.{KeepsFront};
+ghost use Rattle.nj_needs.specs.Inside.Paths.{places};
+ghost use Rattle.nj_needs.specs.Inside.Saved.{KeepsFront};
 
 use crate::frame::Frame;
 use std::alloc::{AllocError, Global};

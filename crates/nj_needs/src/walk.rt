@@ -3,8 +3,8 @@
 
 ghost use Rattle.std.specs.Prelude.{◌≡◌, ◌+◌, ◌-◌, ◌^◌, ◌<◌, ◌≤◌, [], ◌∷◌, ◌++◌, length, MatchOption, None, slice_get, slice_index_or, vec_len, vec_capacity, IfOk};
 ghost use Rattle.nj_needs.specs.Counts.{saturated};
-ghost use Rattle.nj_needs.specs.Standing.{IsWalk, TurnIs, top_of};
-ghost use Rattle.nj_needs.specs.Tops.{IsTop};
+ghost use Rattle.nj_needs.specs.Inside.Standing.{IsWalk, TurnIs, top_of};
+ghost use Rattle.nj_needs.specs.Inside.Tops.{IsTop};
 
 use crate::frame::Frame;
 use crate::looks::Looks;

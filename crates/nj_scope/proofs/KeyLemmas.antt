@@ -11,7 +11,8 @@ use Rattle.std.proofs.lemmas.Slice.Eq.{bytes_eq-Decides}
 use Rattle.nj_text.specs.Words.{PartText}
 use Rattle.nj_scope.specs.declared.rule.RuleLine.{RuleLine}
 use Rattle.nj_scope.specs.Rules.{RuleLineText, given}
-use Rattle.nj_scope.specs.RulesHeld.{line_held, has_key, last_lines, AreIndexes, HasKeyAt, key_count, key_at, KeysAreNumbered, NumbersDiffer, IsNumber}
+use Rattle.nj_scope.specs.RulesHeld.{has_key, last_lines, key_count, key_at, KeysAreNumbered, NumbersDiffer, IsNumber}
+use Rattle.nj_scope.specs.Inside.KeysHeld.{line_held, AreIndexes, HasKeyAt}
 
 same_key : (x y : List ℕ) → bytes_eq x y ≡ true → x ≡ y
 same_key x y h = (bytes_eq-Decides x y).0 h

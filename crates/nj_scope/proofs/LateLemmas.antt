@@ -11,7 +11,7 @@ use Rattle.std.proofs.lemmas.Option.{slice_get_within, get_or_from_slice_get}
 use Rattle.nj_text.specs.Words.{PartText}
 use Rattle.nj_scope.specs.declared.late.LatePart.{LatePart}
 use Rattle.nj_scope.specs.Late.{part_written, parts_written}
-use Rattle.nj_scope.specs.LateHeld.{text_or_name, late_part, late_parts, AreWithin}
+use Rattle.nj_scope.specs.Inside.LateHeld.{text_or_name, late_part, late_parts, AreWithin}
 
 sub_smaller : (n m s : ℕ) → n ≤ m → n - s ≤ m - s
 sub_smaller n m s h = omega arith

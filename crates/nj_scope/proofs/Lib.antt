@@ -13,3 +13,4 @@ pub mod ValueLaws
 pub mod ValueRows
 pub mod DeclarationLemmas
 pub mod RuleNames
+pub mod NewRules

@@ -10,7 +10,8 @@ use Rattle.nj_manifest.specs.Statements.{StatementText, BindingText, RuleText, P
 use Rattle.nj_scope.specs.Rules as kept
 use Rattle.nj_scope.specs.Rules.{rule_names, line_kept, phony, phony_rule}
 use Rattle.nj_scope.specs.Scopes.{or_else}
-use Rattle.nj_scope.specs.ReadingList.{Entry, with_rule, rule_texts, declares, rules, is_declared, RuleIsNew, EachRuleIsNew}
+use Rattle.nj_scope.specs.ReadingList.{Entry, with_rule, rule_texts, declares, rules, is_declared}
+use Rattle.nj_scope.proofs.NewRules.{RuleIsNew, EachRuleIsNew}
 use Rattle.nj_scope.proofs.DeclarationLemmas.{rules-kept}
 use Rattle.nj_scope.proofs.RuleLemmas.{or_false}
 

@@ -10,7 +10,7 @@ use Rattle.std.proofs.Math.Nat.{lt_irrefl}
 use Rattle.indexmap.specs.IndexMap.{insert_entry}
 use Rattle.nj_scope.specs.declared.scopes.Scope.{Scope}
 use Rattle.nj_scope.specs.Scopes.{ScopeText, at_scope, parent_at, bound_at, rule_at}
-use Rattle.nj_scope.specs.ScopesHeld.{scope_text, values_text, ParentsAreEarlier}
+use Rattle.nj_scope.specs.Inside.ScopesHeld.{scope_text, values_text, ParentsAreEarlier}
 
 -- ---- lists
 

@@ -9,7 +9,7 @@ use Rattle.std.proofs.lemmas.List.{map_push}
 use Rattle.indexmap.specs.IndexMap.{IndexMap, insert_entry}
 use Rattle.indexmap.proofs.CallerLemmas.{insert_entry-new}
 use Rattle.nj_scope.specs.Readings.{reading_of, is_read, EachPathOnce}
-use Rattle.nj_scope.specs.TableHeld.{kept_reading}
+use Rattle.nj_scope.specs.Inside.TableHeld.{kept_reading}
 
 abbrev pub same_name : Vec ℕ → Vec ℕ → Bool
 same_name x y = bytes_eq x.items y.items

@@ -1,12 +1,17 @@
 -- Small lists of statements, worked out on the definitions.
 use Rattle.std.proofs.Common.{◌≡◌, ℕ, List, [], ◌∷◌, Some, None, true, refl}
-use Rattle.std.specs.Prelude.{codes, reverse}
+use Rattle.std.specs.Prelude.{codes, reverse, Option, option_and_then, slice_get}
 use Rattle.nj_text.specs.Units.{first_spot}
 use Rattle.nj_text.specs.Words.{PartText, Text, Name, WordText}
 use Rattle.nj_manifest.specs.Statements.{BindingText, RuleText, PoolText, DefaultText, SubninjaText}
-use Rattle.nj_scope.specs.ReadingList.{Entry, bounds, value_after, rules, rule_in_force, rule_text_in_force, rule_texts, pools, scopes_opened, files_opened}
+use Rattle.nj_scope.specs.ReadingList.{Entry, bounds, value_after, rules, rule_in_force, rule_texts, pools, scopes_opened, files_opened}
 use Rattle.nj_scope.specs.Pools.{is_pool}
+use Rattle.nj_scope.specs.Rules as kept
 use Rattle.nj_scope.specs.Rules.{phony_rule, rule_names}
+
+-- the rule that is in force under a name
+abbrev rule_text_in_force : List Entry → (scope name : List ℕ) → Option kept.RuleText
+rule_text_in_force entries scope name = option_and_then (slice_get (rule_texts entries)) (rule_in_force entries scope name)
 
 abbrev main : List ℕ
 main = 0 ∷ []

@@ -11,10 +11,7 @@ pub mod Readings
 pub mod Rules
 pub mod Scopes
 pub mod Sources
--- how the code holds that
 pub mod Declarations
-pub mod LateHeld
-pub mod MemoryHeld
 pub mod RulesHeld
-pub mod ScopesHeld
-pub mod TableHeld
+-- how the code does that
+pub mod Inside

@@ -81,20 +81,6 @@ is_declared own name = bytes_eq name phony || is_some own
 abbrev pub rule_in_force : List Entry → (scope name : List ℕ) → Option ℕ
 rule_in_force entries scope name = if bytes_eq name phony then Some 0 else nearest (λ s. rules entries s name) scope
 
--- the rule itself
-abbrev pub rule_text_in_force : List Entry → (scope name : List ℕ) → Option kept.RuleText
-rule_text_in_force entries scope name = option_and_then (slice_get (rule_texts entries)) (rule_in_force entries scope name)
-
--- A rule is new where its scope declares none of its name yet; one called `phony` never is.
-abbrev pub RuleIsNew : List Entry → (number : ℕ) → StatementText → Type 0
-RuleIsNew before number (RuleText name lines) = is_declared (rules before number name.name) name.name ≡ false
-RuleIsNew before number item = Unit {0}
-
--- each rule was new as it was declared
-abbrev pub EachRuleIsNew : List Entry → Type 0
-EachRuleIsNew [] = Unit {0}
-EachRuleIsNew (e ∷ before) = RuleIsNew before e.number e.item × EachRuleIsNew before
-
 -- ---- pools
 
 abbrev pub with_pool : StatementText → List (List ℕ) → List (List ℕ)

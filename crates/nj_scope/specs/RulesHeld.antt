@@ -5,9 +5,6 @@ use Rattle.nj_text.specs.Words.{PartText}
 use Rattle.nj_scope.specs.declared.rule.RuleLine.{RuleLine}
 use Rattle.nj_scope.specs.Rules.{RuleLineText, given}
 
-abbrev pub line_held : RuleLine → RuleLineText
-line_held l = record { key = l.key.items; value = l.value }
-
 -- whether a line has the key
 abbrev pub has_key : List RuleLineText → (key : List ℕ) → Bool
 has_key lines key = list_any (λ l. bytes_eq key l.key) lines
@@ -16,14 +13,6 @@ has_key lines key = list_any (λ l. bytes_eq key l.key) lines
 unfoldable pub last_lines : List RuleLineText → List RuleLineText
 last_lines [] = []
 last_lines (l ∷ lines) = if has_key lines l.key then last_lines lines else last_lines lines ++ l ∷ []
-
--- these are the indexes of lines
-abbrev pub AreIndexes : List RuleLineText → (indexes : List ℕ) → (lines : List RuleLineText) → Type 0
-AreIndexes all indexes lines = map (slice_get all) indexes ≡ map Some lines
-
--- the line at an index has the key
-abbrev pub HasKeyAt : List RuleLine → (index : ℕ) → (key : List ℕ) → Type 0
-HasKeyAt lines index key = (line : RuleLine) × (slice_get lines index ≡ Some line) × (line.key.items ≡ key)
 
 -- ---- the keys of a rule, each once, by number
 

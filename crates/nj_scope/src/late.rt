@@ -3,7 +3,7 @@
 ghost use Rattle.std.specs.Prelude.{◌≡◌, ◌<◌, List, [], ◌∷◌, ◌++◌, Some, length, slice_get, IfOk, OnOk, OnErr};
 ghost use Rattle.nj_text.specs.Words.{part_text, word_text};
 ghost use Rattle.nj_scope.specs.Late.{part_written, parts_written};
-ghost use Rattle.nj_scope.specs.LateHeld.{text_or_name};
+ghost use Rattle.nj_scope.specs.Inside.LateHeld.{text_or_name};
 
 use nj_text::{Part, Word};
 use std::alloc::{AllocError, Global};
@@ -31,7 +31,7 @@ pub struct LateValue {
 impl Model for LateValue {
     ghost use Rattle.std.specs.Prelude.{List};
     ghost use Rattle.nj_text.specs.Words.{PartText};
-    ghost use Rattle.nj_scope.specs.LateHeld.{late_parts, AreWithin};
+    ghost use Rattle.nj_scope.specs.Inside.LateHeld.{late_parts, AreWithin};
 
     ghost Value = { List PartText };
 

@@ -34,7 +34,7 @@ pub struct MemoryFiles {
 impl Model for MemoryFiles {
     ghost use Rattle.std.specs.Prelude.{map};
     ghost use Rattle.nj_scope.specs.Memory.{Added, Memory};
-    ghost use Rattle.nj_scope.specs.MemoryHeld.{file_held, reading_held};
+    ghost use Rattle.nj_scope.specs.Inside.MemoryHeld.{file_held, reading_held};
     ghost use Rattle.nj_scope.specs.Readings.{Reading};
 
     ghost Value = { Memory };

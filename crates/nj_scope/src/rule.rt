@@ -2,7 +2,8 @@
 
 ghost use Rattle.std.specs.Prelude.{◌≡◌, ◌<◌, ℕ, List, Some, None, map, option_copied, length, slice_get, slice_index, All, IfOk, IfSome, IfNone};
 ghost use Rattle.nj_scope.specs.Rules.{line_kept, given};
-ghost use Rattle.nj_scope.specs.RulesHeld.{line_held, last_lines, AreIndexes, HasKeyAt, key_count, key_at, IsNumber, KeysAreNumbered, NumbersDiffer};
+ghost use Rattle.nj_scope.specs.RulesHeld.{last_lines, key_count, key_at, IsNumber, KeysAreNumbered, NumbersDiffer};
+ghost use Rattle.nj_scope.specs.Inside.KeysHeld.{line_held, AreIndexes, HasKeyAt};
 ghost use Rattle.nj_manifest.specs.Contents.{line_text};
 
 use crate::late::LateValue;
@@ -31,7 +32,8 @@ pub struct Rule {
 impl Model for Rule {
     ghost use Rattle.std.specs.Prelude.{map};
     ghost use Rattle.nj_scope.specs.Rules.{RuleText, RuleLineText};
-    ghost use Rattle.nj_scope.specs.RulesHeld.{line_held, last_lines, AreIndexes};
+    ghost use Rattle.nj_scope.specs.RulesHeld.{last_lines};
+    ghost use Rattle.nj_scope.specs.Inside.KeysHeld.{line_held, AreIndexes};
 
     ghost Value = { RuleText };
 

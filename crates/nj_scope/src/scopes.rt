@@ -3,7 +3,7 @@
 ghost use Rattle.std.specs.Prelude.{◌≡◌, ℕ, ◌+◌, ◌<◌, ◌&&◌, ◌==◌, ◌++◌, List, Option, Some, None, length, option_copied, IfSome, IfOk, OnOk, OnErr, if◌then◌else◌, bytes_eq};
 ghost use Rattle.nj_scope.specs.Scopes.{IsScope, nearest, value_in, expanded, parent_at, bound_at, rule_at};
 ghost use Rattle.std.specs.Map.{lookup};
-ghost use Rattle.nj_scope.specs.ScopesHeld.{values_text};
+ghost use Rattle.nj_scope.specs.Inside.ScopesHeld.{values_text};
 ghost use Rattle.nj_text.specs.Words.{word_text};
 
 use crate::late::written_len;
@@ -34,7 +34,7 @@ pub(crate) struct Scopes {
 impl Model for Scopes {
     ghost use Rattle.std.specs.Prelude.{List, map};
     ghost use Rattle.nj_scope.specs.Scopes.{ScopeText};
-    ghost use Rattle.nj_scope.specs.ScopesHeld.{scope_text, ParentsAreEarlier};
+    ghost use Rattle.nj_scope.specs.Inside.ScopesHeld.{scope_text, ParentsAreEarlier};
 
     ghost Value = { List ScopeText };
 

@@ -21,7 +21,7 @@ pub struct FileTable {
 impl Model for FileTable {
     ghost use Rattle.std.specs.Prelude.{List, map};
     ghost use Rattle.nj_scope.specs.Readings.{Reading, EachPathOnce};
-    ghost use Rattle.nj_scope.specs.TableHeld.{kept_reading};
+    ghost use Rattle.nj_scope.specs.Inside.TableHeld.{kept_reading};
 
     ghost Value = { List Reading };
 

@@ -16,7 +16,8 @@ use Rattle.nj_faults.specs.Faults.{fault_at}
 use Rattle.nj_statements.specs.EdgeList.{path_said, paths_said}
 use Rattle.nj_statements.specs.BuildFaults.{fault_if, or_then, first_fault, empty_path, two_makers, outputs_fault}
 use Rattle.nj_statements.specs.Joining.{no_values}
-use Rattle.nj_statements.specs.JoiningHeld.{with_added_outputs, with_added_inputs, KeepsEdges}
+use Rattle.nj_statements.specs.JoiningHeld.{KeepsEdges}
+use Rattle.nj_statements.specs.Inside.JoiningSteps.{with_added_outputs, with_added_inputs}
 use Rattle.nj_statements.proofs.Lists.{at-next}
 use Rattle.nj_statements.proofs.Tables.{named-prefix, prefix-trans}
 

@@ -4,9 +4,10 @@ use Rattle.nj_manifest.specs.Statements.{OutputsText, InputsText}
 use Rattle.nj_scope.specs.Readings.{IsPrefix}
 use Rattle.nj_edges.specs.declared.edges.KindEnds.{KindEnds}
 use Rattle.nj_edges.specs.Edges.{EdgePaths}
-use Rattle.nj_edges.specs.EdgesHeld.{EdgeTable, OpenEdge, no_files, edge_read}
+use Rattle.nj_edges.specs.EdgeTables.{EdgeTable, OpenEdge, no_files, edge_read}
 use Rattle.nj_statements.specs.EdgeList.{Values, paths_said, stated_paths, loses_own, edge_paths}
-use Rattle.nj_statements.specs.Answers.{KeepsRead, with_outputs, with_inputs, AddsInputs, AddsEdge}
+use Rattle.nj_statements.specs.Answers.{KeepsRead}
+use Rattle.nj_statements.specs.Inside.EdgeSteps.{with_outputs, with_inputs, AddsInputs, AddsEdge}
 use Rattle.nj_statements.proofs.Tables.{kept, outputs-open, inputs-open, validations-open, edge-is, edge-kept}
 
 module _ (values : Values) (outputs : OutputsText) (inputs : InputsText) (is_phony loses : Bool) (t0 t1 t2 : EdgeTable) (ends : ℕ × ℕ)

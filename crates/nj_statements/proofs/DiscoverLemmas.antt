@@ -7,7 +7,8 @@ use Rattle.nj_scope.specs.Rules as kept
 use Rattle.nj_scope.specs.Rules.{phony}
 use Rattle.nj_scope.specs.Scopes.{Bounds, or_else, nearest, value_in}
 use Rattle.nj_scope.specs.Declarations.{DeclarationsText, DeclaredBy}
-use Rattle.nj_scope.specs.ReadingList.{Discovered, Entry, scope_of, binds_in, bounds, value_after, with_rule, rule_texts, declares, rules, rule_in_force, is_declared, RuleIsNew, EachRuleIsNew}
+use Rattle.nj_scope.specs.ReadingList.{Discovered, Entry, scope_of, binds_in, bounds, value_after, with_rule, rule_texts, declares, rules, rule_in_force, is_declared}
+use Rattle.nj_scope.proofs.NewRules.{RuleIsNew, EachRuleIsNew}
 use Rattle.nj_scope.specs.ReadingList.{with_pool, pools, opens_scope, opens_file, scopes_opened, files_opened}
 use Rattle.nj_edge_env.specs.LateTexts.{LateNames}
 use Rattle.nj_statements.specs.EdgeList.{EdgeText, paths_said, edges_read, with_defaults, defaults_read, lines_of_rule, names_of_edge}

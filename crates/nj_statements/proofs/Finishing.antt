@@ -13,7 +13,7 @@ use Rattle.nj_edges.specs.Needs.{makers_of_inputs}
 use Rattle.nj_faults.specs.declared.fault.GraphFault.{GraphFault}
 use Rattle.nj_faults.specs.declared.fault.Cause.TheVariants.{Cycle}
 use Rattle.nj_faults.specs.Faults.{fault_at}
-use Rattle.nj_edges.specs.EdgesHeld.{AreNumbers, paths_at}
+use Rattle.nj_edges.specs.Inside.EdgesHeld.{AreNumbers, paths_at}
 use Rattle.nj_edges.specs.Files.{path_at, AreFiles}
 use Rattle.nj_edges.proofs.GraphLemmas.{files-at}
 use Rattle.nj_manifest.specs.Statements.{StatementText, BindingText, RuleText, PoolText, BuildText, DefaultText, IncludeText, SubninjaText}
@@ -21,9 +21,10 @@ use Rattle.nj_scope.specs.ReadingList.{Discovered, Entry}
 use Rattle.nj_statements.specs.declared.building.Detail.{Detail}
 use Rattle.nj_statements.specs.declared.building.DyndepEdge.{DyndepEdge}
 use Rattle.nj_statements.specs.EdgeList.{EdgeText, Pending, edge_of_build, with_edge, edges_read, paths_of_edges, defaults_read, dyndep_of, pending_at, with_pending, pending_read}
-use Rattle.nj_statements.specs.Answers.{BuildingText, HoldsEdges, IsDetail, AreDetails, detail_text}
+use Rattle.nj_statements.specs.Answers.{BuildingText, HoldsEdges, IsDetail, AreDetails}
+use Rattle.nj_statements.specs.Inside.EdgeSteps.{detail_text}
 use Rattle.nj_statements.specs.Built.{BuiltText, ComesTo, defaults_in_force, IsCycleFault, detail_of}
-use Rattle.nj_statements.specs.BuiltHeld.{detail_named, pending_named, built_of, BuiltIsHeld}
+use Rattle.nj_statements.specs.Inside.BuiltHeld.{detail_named, pending_named, built_of, BuiltIsHeld}
 use Rattle.nj_statements.proofs.Holding.{details-count}
 
 -- the numbers of files with some paths

@@ -11,7 +11,7 @@ use Rattle.nj_scope.specs.ReadingList.{Discovered, Entry}
 use Rattle.nj_edge_env.specs.Blocks.{BlocksText}
 use Rattle.nj_edges.specs.declared.files.FileNo.{FileNo}
 use Rattle.nj_edges.specs.Edges.{EdgePaths, edge_at, outputs_of, first_edge, maker_of}
-use Rattle.nj_edges.specs.EdgesHeld.{AreNumbers, paths_at}
+use Rattle.nj_edges.specs.Inside.EdgesHeld.{AreNumbers, paths_at}
 use Rattle.nj_edges.specs.Files.{path_at, AreFiles}
 use Rattle.nj_edges.specs.Joining.{AddedFiles, JoinTable, changed_at, with_added, with_joined, is_joined}
 use Rattle.nj_edges.proofs.EdgeLemmas.{same-number}
@@ -23,10 +23,11 @@ use Rattle.nj_statements.specs.declared.building.DyndepEdge.{DyndepEdge}
 use Rattle.nj_statements.specs.EdgeList.{Pending, EdgeText, path_said, edges_read, paths_of_edges, pending_read}
 use Rattle.nj_statements.specs.BuildFaults.{fault_if, or_then, empty_path, first_fault, outputs_fault}
 use Rattle.nj_statements.specs.Built.{EdgeDetail, detail_at, detail_of}
-use Rattle.nj_statements.specs.BuiltHeld.{detail_named, pending_named}
+use Rattle.nj_statements.specs.Inside.BuiltHeld.{detail_named, pending_named}
 use Rattle.nj_statements.specs.Joining.{no_values, discover, discovered_by, discover_for, edge_meant, with_entry, waits_for, meaning_fault, entry_fault, no_statement, lacking_fault}
 use Rattle.nj_statements.specs.Answers.{IsFault}
-use Rattle.nj_statements.specs.JoiningHeld.{unless_joined, still_waiting, pending_from, waiting_from, is_bound_to, count_waiting, fault_of_waiting, file_named, if_bound, maker_fault, edge_bound, IsMeant, KeepsEdges, JoiningText, joining_of, JoiningIsHeld, HoldsJoined, JoinsEntry, JoinsNothing}
+use Rattle.nj_statements.specs.JoiningHeld.{unless_joined, still_waiting, pending_from, waiting_from, KeepsEdges, JoiningText, HoldsJoined, JoinsEntry, JoinsNothing}
+use Rattle.nj_statements.specs.Inside.JoiningSteps.{is_bound_to, count_waiting, fault_of_waiting, file_named, if_bound, maker_fault, edge_bound, IsMeant, joining_of, JoiningIsHeld}
 use Rattle.nj_statements.proofs.Lists.{get-longer}
 use Rattle.nj_statements.proofs.WaitingLemmas.{is_path, find-first, find-none, none-first, first-passes, still-at, still-length, still-map, still-changed, waits-at, without-one, count-removed, count-less}
 use Rattle.nj_statements.proofs.DiscoverLemmas.{defaults_read-discover}

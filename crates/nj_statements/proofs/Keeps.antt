@@ -1,9 +1,10 @@
 -- Lemmas on the edges that were read, which stay as they are.
 use Rattle.std.proofs.Common.{◌≡◌, ℕ, Bool, true, false, if◌then◌else◌, List, refl, sym, subst, ◌∙◌}
 use Rattle.nj_edges.specs.Edges.{is_among}
-use Rattle.nj_edges.specs.EdgesHeld.{EdgeTable, with_output, with_input, with_validation}
+use Rattle.nj_edges.specs.EdgeTables.{EdgeTable, with_output, with_input, with_validation}
 use Rattle.nj_edges.specs.Files.{with_path}
-use Rattle.nj_statements.specs.Answers.{KeepsRead, with_input_unless}
+use Rattle.nj_statements.specs.Answers.{KeepsRead}
+use Rattle.nj_statements.specs.Inside.EdgeSteps.{with_input_unless}
 use Rattle.nj_statements.proofs.Tables.{prefix-refl, prefix-trans, named-prefix}
 
 pub keeps_none : (t : EdgeTable) → KeepsRead t t

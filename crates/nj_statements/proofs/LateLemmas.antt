@@ -16,7 +16,7 @@ use Rattle.nj_scope.proofs.InForce.{in_force, phony-there}
 use Rattle.nj_edges.specs.declared.files.FileNo.{FileNo}
 use Rattle.nj_edges.specs.declared.edges.KindEnds.{KindEnds}
 use Rattle.nj_edges.specs.Edges.{EdgePaths, inputs_of}
-use Rattle.nj_edges.specs.EdgesHeld.{OpenEdge, EndWithin, edge_read}
+use Rattle.nj_edges.specs.EdgeTables.{OpenEdge, EndWithin, edge_read}
 use Rattle.nj_edges.specs.Files.{path_at, AreFiles}
 use Rattle.nj_edges.proofs.GraphLemmas.{kinds-joined}
 use Rattle.nj_edge_env.specs.declared.edge.LateEdge.{LateEdge}
@@ -24,7 +24,7 @@ use Rattle.nj_edge_env.specs.LateTexts.{LateNames}
 use Rattle.nj_edge_env.specs.LateEdges.{late_names}
 use Rattle.nj_statements.specs.EdgeList.{Block, Values, EdgeText, line_values, loses_own, without_own, edge_paths, stated_paths, build_block, edge_of_build, lines_of_rule, names_of_edge}
 use Rattle.nj_statements.specs.BuildFaults.{names_fault, late_fault}
-use Rattle.nj_statements.specs.Answers.{names_read, SeesLate}
+use Rattle.nj_statements.specs.Inside.EdgeSteps.{names_read, SeesLate}
 
 -- functions that give the same everywhere are the same
 pub same-everywhere : {A B : Type 0} (f g : A → B) → ((x : A) → f x ≡ g x) → f ≡ g

@@ -4,7 +4,8 @@ use Rattle.std.proofs.lemmas.List.{get_or-set_same, get_or-set_other}
 use Rattle.std.proofs.lemmas.Bool.Decides.{eqb_tells}
 use Rattle.nj_scope.specs.Rules.{RuleText}
 use Rattle.nj_edge_env.specs.ReferencesHeld.{ReferringKeyText, TellsCycles}
-use Rattle.nj_statements.specs.Answers.{HoldsReferences, SameReferences}
+use Rattle.nj_statements.specs.Answers.{HoldsReferences}
+use Rattle.nj_statements.specs.Inside.EdgeSteps.{SameReferences}
 use Rattle.nj_statements.proofs.Lists.{get-longer}
 
 pub references-none : (rules : List RuleText) → HoldsReferences [] rules

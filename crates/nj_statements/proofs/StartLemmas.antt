@@ -11,7 +11,7 @@ use Rattle.nj_edges.specs.EdgeGraphs.{EdgeGraph}
 use Rattle.nj_cycles.specs.Cycles.{IsAcyclic, IsLeastOnCycle}
 use Rattle.nj_edges.specs.declared.graph.Finished.TheVariants.{Graph}
 use Rattle.nj_edges.specs.Edges.{EdgePaths, edge_at, outputs_of}
-use Rattle.nj_edges.specs.EdgesHeld.{paths_at}
+use Rattle.nj_edges.specs.Inside.EdgesHeld.{paths_at}
 use Rattle.nj_edges.specs.Graph.{FinishesAs}
 use Rattle.nj_edges.specs.Needs.{makers_of_inputs}
 use Rattle.nj_faults.specs.declared.fault.GraphFault.{GraphFault}
@@ -23,9 +23,10 @@ use Rattle.nj_statements.specs.declared.building.Detail.{Detail}
 use Rattle.nj_statements.specs.declared.building.DyndepEdge.{DyndepEdge}
 use Rattle.nj_statements.specs.EdgeList.{EdgeText, edge_of_build, edges_read, paths_of_edges, pending_at, dyndep_of, pending_read}
 use Rattle.nj_statements.specs.Built.{EdgeDetail, IsBuiltOf, IsCycleFault, detail_of}
-use Rattle.nj_statements.specs.BuiltHeld.{BuiltIsHeld, built_of, detail_named, pending_named}
+use Rattle.nj_statements.specs.Inside.BuiltHeld.{BuiltIsHeld, built_of, detail_named, pending_named}
 use Rattle.nj_statements.specs.Joining.{dyndep_files}
-use Rattle.nj_statements.specs.JoiningHeld.{pending_of, pending_from, count_waiting, count_bound, bind_all, first_edges, file_named, joining_of, JoiningIsHeld, HoldsJoined}
+use Rattle.nj_statements.specs.JoiningHeld.{pending_of, pending_from, HoldsJoined}
+use Rattle.nj_statements.specs.Inside.JoiningSteps.{count_waiting, count_bound, bind_all, first_edges, file_named, joining_of, JoiningIsHeld}
 use Rattle.nj_statements.proofs.WaitingLemmas.{still-all, pending-more, firsts-all, firsts-named, bind-waiting, bind-length, bind-known, none-known, count-bind, count-none}
 
 -- ---- of each edge what it waits for

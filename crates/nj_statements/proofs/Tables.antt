@@ -7,10 +7,10 @@ use Rattle.std.specs.Str.{bytes_eq}
 use Rattle.std.proofs.lemmas.Bool.{ne_eqb}
 use Rattle.nj_scope.specs.Readings.{IsPrefix}
 use Rattle.nj_edges.specs.Edges.{EdgePaths, outputs_of, is_among}
-use Rattle.nj_edges.specs.EdgesHeld.{EdgeTable, with_output, with_input, with_validation, edge_read}
+use Rattle.nj_edges.specs.EdgeTables.{EdgeTable, with_output, with_input, with_validation, edge_read}
 use Rattle.nj_edges.specs.Files.{with_path}
 use Rattle.nj_statements.specs.EdgeList.{loses_own, of_others, without_own, edge_paths}
-use Rattle.nj_statements.specs.Answers.{Grows, with_outputs, with_input_unless, with_inputs, with_validations}
+use Rattle.nj_statements.specs.Inside.EdgeSteps.{Grows, with_outputs, with_input_unless, with_inputs, with_validations}
 
 -- ---- files keep their numbers
 

@@ -14,9 +14,10 @@ use Rattle.nj_edges.specs.Joining.{changed_at}
 use Rattle.nj_edges.proofs.EdgeLemmas.{same-number}
 use Rattle.nj_statements.specs.declared.building.DyndepEdge.{DyndepEdge}
 use Rattle.nj_statements.specs.EdgeList.{Pending}
-use Rattle.nj_statements.specs.BuiltHeld.{pending_named}
+use Rattle.nj_statements.specs.Inside.BuiltHeld.{pending_named}
 use Rattle.nj_statements.specs.Joining.{dyndep_files, waits_for}
-use Rattle.nj_statements.specs.JoiningHeld.{unless_joined, still_waiting, pending_of, pending_from, is_bound_to, one_if, count_waiting, count_bound, bind_all, first_edges, file_named}
+use Rattle.nj_statements.specs.JoiningHeld.{unless_joined, still_waiting, pending_of, pending_from}
+use Rattle.nj_statements.specs.Inside.JoiningSteps.{is_bound_to, one_if, count_waiting, count_bound, bind_all, first_edges, file_named}
 
 -- ---- what still waits
 

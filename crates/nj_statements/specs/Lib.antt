@@ -4,7 +4,7 @@ pub mod BuildFaults
 pub mod Built
 pub mod Joining
 pub mod Laws
--- how the code holds that
 pub mod Answers
-pub mod BuiltHeld
 pub mod JoiningHeld
+-- how the code does that
+pub mod Inside

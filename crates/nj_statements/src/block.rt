@@ -5,7 +5,7 @@ ghost use Rattle.nj_manifest.specs.Contents.{lines_text};
 ghost use Rattle.nj_scope.specs.Scopes.{or_else};
 ghost use Rattle.nj_edge_env.specs.Blocks.{bound_in};
 ghost use Rattle.nj_statements.specs.EdgeList.{Values, block_of, no_block};
-ghost use Rattle.nj_statements.specs.Answers.{Sees};
+ghost use Rattle.nj_statements.specs.Inside.EdgeSteps.{Sees};
 
 use crate::names::Names;
 use nj_edge_env::Blocks;

@@ -7,10 +7,11 @@ ghost use Rattle.nj_scope.specs.Readings.{IsPrefix};
 ghost use Rattle.nj_scope.specs.Scopes.{IsScope, parent_at};
 ghost use Rattle.nj_scope.specs.Declarations.{DeclaredBy};
 ghost use Rattle.nj_scope.specs.ReadingList.{Entry, rule_in_force, rule_texts};
-ghost use Rattle.nj_edges.specs.EdgesHeld.{no_files};
+ghost use Rattle.nj_edges.specs.EdgeTables.{no_files};
 ghost use Rattle.nj_statements.specs.EdgeList.{Values, paths_said, line_values, edge_of_build, edges_read, paths_of_edges};
 ghost use Rattle.nj_statements.specs.BuildFaults.{or_then, first_fault, paths_fault, late_fault, target_fault, build_fault, default_fault};
-ghost use Rattle.nj_statements.specs.Answers.{Checks, SeesNames, HoldsEdges, AddsTargets, AddsNothing, ReadsStatement, with_dyndep, entry_at_place};
+ghost use Rattle.nj_statements.specs.Answers.{Checks, HoldsEdges, AddsNothing, ReadsStatement, entry_at_place};
+ghost use Rattle.nj_statements.specs.Inside.EdgeSteps.{SeesNames, AddsTargets, with_dyndep};
 
 use crate::block::bind_block;
 use crate::edge::{EdgeRule, NamedLine, add_edge};
@@ -63,7 +64,8 @@ pub struct Building {
 
 impl Model for Building {
     ghost use Rattle.std.specs.Prelude.{◌≤◌, length, map};
-    ghost use Rattle.nj_statements.specs.Answers.{BuildingText, detail_text};
+    ghost use Rattle.nj_statements.specs.Answers.{BuildingText};
+    ghost use Rattle.nj_statements.specs.Inside.EdgeSteps.{detail_text};
 
     ghost Value = { BuildingText };
 

@@ -42,7 +42,7 @@ impl Model for Built {
 
     ghost Value = { BuiltText };
 
-    ghost use Rattle.nj_statements.specs.BuiltHeld.{BuiltIsHeld, built_of};
+    ghost use Rattle.nj_statements.specs.Inside.BuiltHeld.{BuiltIsHeld, built_of};
 
     ghost view = { λ b. built_of b.graph b.blocks b.names b.details.items b.defaults.items
         b.dyndeps.items };

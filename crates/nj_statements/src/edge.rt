@@ -5,13 +5,14 @@ ghost use Rattle.nj_text.specs.Words.{word_text};
 ghost use Rattle.nj_manifest.specs.Contents.{words_text, outputs_text, inputs_text};
 ghost use Rattle.nj_scope.specs.ReadingList.{value_after, pools};
 ghost use Rattle.nj_edges.specs.Edges.{inputs_of};
-ghost use Rattle.nj_edges.specs.EdgesHeld.{no_files, EndWithin, edge_read};
+ghost use Rattle.nj_edges.specs.EdgeTables.{no_files, EndWithin, edge_read};
 ghost use Rattle.nj_edge_env.specs.LateEdges.{late_names};
 ghost use Rattle.nj_edge_env.specs.LateTexts.{asked_text};
 ghost use Rattle.nj_edge_env.specs.ReferencesHeld.{TellsCycles};
 ghost use Rattle.nj_statements.specs.EdgeList.{Values, path_said, paths_said, stated_paths, loses_own, edge_paths, file_said};
 ghost use Rattle.nj_statements.specs.BuildFaults.{or_then, empty_path, first_fault, target_fault, outputs_fault, inputs_fault, paths_fault, names_fault};
-ghost use Rattle.nj_statements.specs.Answers.{Checks, SeesNames, IsFileSaid, bound_by, Grows, KeepsRead, AddsInputs, AddsEdge, names_read, with_outputs, with_input_unless, with_inputs, with_validations};
+ghost use Rattle.nj_statements.specs.Answers.{Checks, KeepsRead};
+ghost use Rattle.nj_statements.specs.Inside.EdgeSteps.{SeesNames, IsFileSaid, bound_by, Grows, AddsInputs, AddsEdge, names_read, with_outputs, with_input_unless, with_inputs, with_validations};
 
 use crate::late::LateLine;
 use crate::names::{EdgeBlock, Names, Room};

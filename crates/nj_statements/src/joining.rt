@@ -16,7 +16,8 @@ ghost use Rattle.nj_statements.specs.BuildFaults.{or_then, empty_path, first_fau
 ghost use Rattle.nj_statements.specs.Built.{ComesTo, IsBuiltOf, detail_at};
 ghost use Rattle.nj_statements.specs.Joining.{no_values, entry_fault, with_entry, lacking_fault};
 ghost use Rattle.nj_statements.specs.Answers.{Checks, IsFault};
-ghost use Rattle.nj_statements.specs.JoiningHeld.{HoldsJoined, JoinsEntry, JoinsNothing, KeepsEdges, IsMeant, has_pending, still_waiting, fault_of_waiting, bind_all, first_edges, count_bound, is_bound_to, if_bound, maker_fault, edge_bound, with_added_outputs, with_added_inputs};
+ghost use Rattle.nj_statements.specs.JoiningHeld.{HoldsJoined, JoinsEntry, JoinsNothing, KeepsEdges, has_pending, still_waiting};
+ghost use Rattle.nj_statements.specs.Inside.JoiningSteps.{IsMeant, fault_of_waiting, bind_all, first_edges, count_bound, is_bound_to, if_bound, maker_fault, edge_bound, with_added_outputs, with_added_inputs};
 
 use crate::building::{Detail, DyndepEdge};
 use crate::built::{Built, PlaceRef, cycle_fault};
@@ -57,7 +58,8 @@ pub struct Joining {
 }
 
 impl Model for Joining {
-    ghost use Rattle.nj_statements.specs.JoiningHeld.{JoiningText, JoiningIsHeld, joining_of};
+    ghost use Rattle.nj_statements.specs.JoiningHeld.{JoiningText};
+    ghost use Rattle.nj_statements.specs.Inside.JoiningSteps.{JoiningIsHeld, joining_of};
 
     ghost Value = { JoiningText };
 

@@ -6,7 +6,8 @@ ghost use Rattle.nj_edge_env.specs.ReferencesHeld.{TellsCycles};
 ghost use Rattle.nj_scope.specs.ReadingList.{Entry, pools};
 ghost use Rattle.nj_statements.specs.BuildFaults.{variable_cycle_fault, unknown_pool, dyndep_not_input, names_fault};
 ghost use Rattle.nj_statements.specs.EdgeList.{file_said};
-ghost use Rattle.nj_statements.specs.Answers.{Checks, SeesLate, IsFileSaid};
+ghost use Rattle.nj_statements.specs.Answers.{Checks};
+ghost use Rattle.nj_statements.specs.Inside.EdgeSteps.{SeesLate, IsFileSaid};
 
 use crate::names::Room;
 use crate::place::StatementPlace;

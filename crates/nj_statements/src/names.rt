@@ -8,7 +8,7 @@ ghost use Rattle.nj_text.specs.declared.paths.TextFault.TheVariants.{EmptyPath};
 ghost use Rattle.nj_scope.specs.Scopes.{part_expanded, expanded};
 ghost use Rattle.nj_statements.specs.EdgeList.{Values, path_said};
 ghost use Rattle.nj_statements.specs.Joining.{no_values};
-ghost use Rattle.nj_statements.specs.Answers.{SeesNames};
+ghost use Rattle.nj_statements.specs.Inside.EdgeSteps.{SeesNames};
 
 use nj_edge_env::Blocks;
 use nj_scope::Declarations;

@@ -3,7 +3,8 @@
 ghost use Rattle.std.specs.Prelude.{◌≡◌, ◌<◌, ◌≤◌, ◌+◌, ◌^◌, List, Some, None, true, is_some, option_copied, length, slice_get, slice_index_or, OnOk};
 ghost use Rattle.nj_scope.specs.Rules.{RuleText};
 ghost use Rattle.nj_edge_env.specs.ReferencesHeld.{TellsCycles};
-ghost use Rattle.nj_statements.specs.Answers.{HoldsReferences, SameReferences};
+ghost use Rattle.nj_statements.specs.Answers.{HoldsReferences};
+ghost use Rattle.nj_statements.specs.Inside.EdgeSteps.{SameReferences};
 
 use nj_edge_env::KeyReferences;
 use nj_scope::Rule;

@@ -9,12 +9,12 @@ use Rattle.nj_text.specs.declared.fault.UnitFault.TheVariants as fault
 use Rattle.nj_text.specs.Bytes.{is_identifier_byte, drop_while}
 use Rattle.nj_text.specs.Units.{Meaning, Ordinary, Escape, Reference, Join, OpeningJoin, Comment, LeadingTab, LineEnd, TextEnd, BadByte, BadEscape, TextUnit, is_ordinary_in, Position, AtStart, found_at, position_after, spot_after, cut}
 use Rattle.nj_text.specs.Lines.{Line, ending_of, before_first_line, lines_before, lines_of, with_units, lines_after, line_spot}
-use Rattle.nj_text.specs.Scans.{units_within, Begins, BeginsBadly}
+use Rattle.nj_text.specs.Inside.Scans.{units_within, Begins, BeginsBadly}
 use Rattle.nj_text.specs.Words.{is_blank, is_blank_meaning, in_identifier, in_word, in_word_meaning, opens_word_meaning, next_fault, fault_of, fault_of_meaning, first_fault, or_else, begins_with_byte}
 use Rattle.nj_text.specs.Calls.{Inside, begins_word}
 use Rattle.nj_text.specs.declared.parts.TextKind.TheVariants as kind
-use Rattle.nj_text.specs.Gathering.{in_value_meaning, in_text}
-use Rattle.nj_text.specs.Standing.{first_line, other_lines, inside, lines_from, lines_within, ends_next}
+use Rattle.nj_text.specs.Inside.Gathering.{in_value_meaning, in_text}
+use Rattle.nj_text.specs.Inside.Standing.{first_line, other_lines, inside, lines_from, lines_within, ends_next}
 use Rattle.nj_text.proofs.LineStarts.{cut_has_line}
 use Rattle.nj_text.proofs.Lists.{drop_while-cons_yes, drop_while-cons_no, take_while-cons_yes, take_while-cons_no}
 

@@ -5,7 +5,7 @@ use Rattle.std.specs.List.{prefix_len}
 use Rattle.std.proofs.lemmas.List.Sums.{prefix_len_is}
 use Rattle.memchr.specs.Find.{IsFirstByte, is_byte}
 use Rattle.nj_text.specs.declared.runs.Run.TheVariants as run
-use Rattle.nj_text.specs.Runs.{in_run}
+use Rattle.nj_text.specs.Inside.Runs.{in_run}
 
 passes : (b : Bool) → ¬ (b ≡ true) → not b ≡ true
 passes true stops = absurd (stops refl)

@@ -8,7 +8,7 @@ use Rattle.std.proofs.lemmas.List.Splits.{length-slice_split, join_with_byte-sli
 use Rattle.nj_text.specs.Bytes.{drop_while}
 use Rattle.nj_text.specs.Paths.{is_slash, is_up, leads_nowhere, is_absolute, IsName, without_leftmost_pair, relative_text, absolute_text, clean_path_of}
 use Rattle.nj_text.specs.PathLaws.{IsCleanPath, IsHere, IsRoot, IsRelative, IsAbsolute, CleanedPathsAreClean, CleanPathsStay, CleaningIsIdempotent}
-use Rattle.nj_text.specs.Cleaning.{parts_kept, nothing_kept, text_kept, all_stay, is_here, stays_clean}
+use Rattle.nj_text.specs.Inside.Cleaning.{parts_kept, nothing_kept, text_kept, all_stay, is_here, stays_clean}
 use Rattle.nj_text.proofs.KeptParts.{down_from_names, parts_after, kept-ups, drop-kept}
 use Rattle.nj_text.proofs.SlashPieces.{slash_is}
 use Rattle.nj_text.proofs.WrittenParts.{text_of, AllGo, go-kept, long_text}

@@ -8,7 +8,7 @@ use Rattle.nj_text.specs.declared.pieces.Piece.{Piece}
 use Rattle.nj_text.specs.declared.pieces.Piece.TheVariants as piece
 use Rattle.nj_text.specs.Bytes.{drop_while}
 use Rattle.nj_text.specs.Paths.{is_slash, is_up, leads_nowhere, is_absolute, IsName, relative_text, absolute_text, clean_path_of}
-use Rattle.nj_text.specs.Cleaning.{piece_of, Kept, nothing_kept, with_piece, kept_after, parts_kept, stays, named_after, all_stay}
+use Rattle.nj_text.specs.Inside.Cleaning.{piece_of, Kept, nothing_kept, with_piece, kept_after, parts_kept, stays, named_after, all_stay}
 use Rattle.nj_text.proofs.KeptParts.{down_from_names, piece-nowhere, piece-up, piece-name, up_is, replicate-push, parts_after, pairs-kept, drop-kept}
 use Rattle.nj_text.proofs.SlashPieces.{or_false, or_of, pieces-at, pieces-none}
 use Rattle.nj_text.proofs.WrittenParts.{text_of}

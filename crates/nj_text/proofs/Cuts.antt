@@ -6,8 +6,9 @@ use Rattle.std.proofs.lemmas.List.{take_at, length-append}
 use Rattle.std.proofs.lemmas.Bool.{eqb-true, false≢true}
 use Rattle.nj_text.specs.declared.spot.Spot.{Spot}
 use Rattle.nj_text.specs.Bytes.{is_space, is_line_feed, is_ordinary_byte, is_name_byte, is_identifier_byte}
-use Rattle.nj_text.specs.Units.{Ordinary, Reference, TextUnit, Position, Within, Dollar, LineFeed, CarriageReturn, Nul, Plain, class_of, unit_by, unit_at, position_after, spot_after, spots_after, cut, Found, NameByte, follows_of, after_dollar}
-use Rattle.nj_text.specs.Scans.{along, on_next_line}
+use Rattle.nj_text.specs.Units.{Ordinary, Reference, TextUnit, Position, Within, Dollar, LineFeed, CarriageReturn, Nul, Plain, class_of, unit_by, unit_at, position_after, spot_after, cut, Found, NameByte, follows_of, after_dollar}
+use Rattle.nj_text.specs.Inside.Scans.{spots_after}
+use Rattle.nj_text.specs.Inside.Scans.{along, on_next_line}
 use Rattle.nj_text.proofs.Lists.{take_while-cons_yes, take_while-cons_no, AllIn, AllIn-take_while, AllIn-weaker, length-take_while}
 
 -- bytes that belong to the unit before are passed

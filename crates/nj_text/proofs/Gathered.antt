@@ -11,10 +11,10 @@ use Rattle.nj_text.specs.declared.parts.TextKind.TheVariants as kind
 use Rattle.nj_text.specs.Bytes.{is_ordinary_byte, is_identifier_byte, begins_with, drop_while}
 use Rattle.nj_text.specs.Units.{Meaning, Ordinary, LineEnd, BadByte, BadEscape, TextUnit, is_ordinary_in, Within, position_after, spot_after, Class, Dollar, LineFeed, CarriageReturn, Nul, Plain, unit_by, class_of, unit_at, after_dollar, named, Follows, Feed, Return, Brace, Itself, NameByte, Nothing, after_dollar_by, Found, follows_of, cut}
 use Rattle.nj_text.specs.declared.runs.Run.{Run}
-use Rattle.nj_text.specs.Runs.{in_run}
-use Rattle.nj_text.specs.Scans.{along, units_within, Begins, BeginsBadly}
+use Rattle.nj_text.specs.Inside.Runs.{in_run}
+use Rattle.nj_text.specs.Inside.Scans.{along, units_within, Begins, BeginsBadly}
 use Rattle.nj_text.specs.Words.{fault_of_meaning, next_fault, parts_of, PartText, Text, begins_with_ordinary, longer_run}
-use Rattle.nj_text.specs.Gathering.{run_of, in_text, gathered, after_text, NoneInRun}
+use Rattle.nj_text.specs.Inside.Gathering.{run_of, in_text, gathered, after_text, NoneInRun}
 use Rattle.nj_text.proofs.Lists.{AllIn, AllIn-weaker, AllIn-take_while, drop_while-append, take_while-append, take_while-cons_yes, take_while-cons_no, drop_while-cons_no}
 use Rattle.nj_text.proofs.Cuts.{plain_units, cut-run, unit-ordinary}
 

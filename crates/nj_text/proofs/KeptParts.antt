@@ -7,7 +7,7 @@ use Rattle.nj_text.specs.declared.pieces.Piece.{Piece}
 use Rattle.nj_text.specs.declared.pieces.Piece.TheVariants as piece
 use Rattle.nj_text.specs.Bytes.{drop_while}
 use Rattle.nj_text.specs.Paths.{is_up, leads_nowhere, IsName, is_pair, without_pairs}
-use Rattle.nj_text.specs.Cleaning.{piece_of, Kept, with_piece, kept_after, parts_kept}
+use Rattle.nj_text.specs.Inside.Cleaning.{piece_of, Kept, with_piece, kept_after, parts_kept}
 use Rattle.nj_text.proofs.Pairs.{HasNoPair, pairs-none, pairs-at, no_pair-push, no_pair-replicate}
 
 -- the parts that lead somewhere

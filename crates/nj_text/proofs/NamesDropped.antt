@@ -4,7 +4,7 @@ use Rattle.std.specs.Prelude.{◌||◌}
 use Rattle.std.specs.List.{list_any}
 use Rattle.std.proofs.lemmas.List.{take_at}
 use Rattle.nj_text.specs.Paths.{is_slash}
-use Rattle.nj_text.specs.Cleaning.{DropsName}
+use Rattle.nj_text.specs.Inside.Cleaning.{DropsName}
 
 -- some bytes without a slash are gone
 pub record IsDropping (floor : ℕ) (old now : List ℕ) : Type 0 where

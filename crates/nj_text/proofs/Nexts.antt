@@ -4,8 +4,9 @@ use Rattle.std.proofs.Math.Numerals.{one-add}
 use Rattle.std.proofs.lemmas.Bool.{eqb-true, false≢true}
 use Rattle.nj_text.specs.declared.spot.Spot.{Spot}
 use Rattle.nj_text.specs.Bytes.{is_ordinary_byte, begins_with}
-use Rattle.nj_text.specs.Units.{Meaning, Ordinary, Escape, Reference, Join, LineEnd, BadByte, BadEscape, Found, AtStart, Within, position_after, spot_after, spots_after, after_dollar, Dollar, LineFeed, CarriageReturn, Nul, Plain, unit_by, unit_at, cut}
-use Rattle.nj_text.specs.Scans.{along, on_next_line, line_end_length, units_within, Begins, BeginsBadly}
+use Rattle.nj_text.specs.Units.{Meaning, Ordinary, Escape, Reference, Join, LineEnd, BadByte, BadEscape, Found, AtStart, Within, position_after, spot_after, after_dollar, Dollar, LineFeed, CarriageReturn, Nul, Plain, unit_by, unit_at, cut}
+use Rattle.nj_text.specs.Inside.Scans.{spots_after}
+use Rattle.nj_text.specs.Inside.Scans.{along, on_next_line, line_end_length, units_within, Begins, BeginsBadly}
 use Rattle.nj_text.proofs.Cuts.{cut-skip, cut-ordinary}
 
 pub cut-dollar : (spot : Spot) (bs : List ℕ) (m : Meaning) (n : ℕ) → ◌≡◌ {A = Found} (m, n) (after_dollar bs) → n ≤ length bs

@@ -7,7 +7,7 @@ use Rattle.std.proofs.lemmas.Bool.Decides.{nat_tests}
 use Rattle.std.proofs.lemmas.List.{take-append-drop, take_all}
 use Rattle.std.proofs.lemmas.List.Concat.{flat_map-append}
 use Rattle.nj_text.specs.Quotes.{is_plain_byte, is_quote, within_quotes, in_quotes, quoted}
-use Rattle.nj_text.specs.Quoting.{left_in_quotes}
+use Rattle.nj_text.specs.Inside.Quoting.{left_in_quotes}
 use Rattle.nj_text.specs.QuoteLaws.{Unquoted, InQuotes, joined_words, word_from, shell_word, ShellTakesThePath}
 
 within-other : (b : ℕ) → is_quote b ≡ false → within_quotes b ≡ b ∷ []

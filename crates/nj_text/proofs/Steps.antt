@@ -11,17 +11,17 @@ use Rattle.nj_text.specs.declared.parts.TextKind.TheVariants as kind
 use Rattle.nj_text.specs.Bytes.{is_ordinary_byte, is_identifier_byte, drop_while}
 use Rattle.nj_text.specs.Units.{Meaning, Within, unit_at, position_after, spot_after, is_ordinary_in, cut}
 use Rattle.nj_text.specs.Lines.{Line, lines_of, with_units, line_spot}
-use Rattle.nj_text.specs.Scans.{along, units_within, BeginsBadly}
+use Rattle.nj_text.specs.Inside.Scans.{along, units_within, BeginsBadly}
 use Rattle.nj_text.specs.Words.{is_blank, in_identifier, in_word, opens_word_meaning, next_fault, parts_of, PartText, WordText}
 use Rattle.nj_text.specs.Calls.{State, Inside, Reply, reply, failing, unless_fault, after_blanks, bytes_of, some_bytes, ident_at, begins_word, word_here, word_at, value_at}
-use Rattle.nj_text.specs.Gathering.{gathered, after_text, FailsText}
-use Rattle.nj_text.specs.Standing.{first_line, other_lines, inside, lines_within, FailsStep}
+use Rattle.nj_text.specs.Inside.Gathering.{gathered, after_text, FailsText}
+use Rattle.nj_text.specs.Inside.Standing.{first_line, other_lines, inside, lines_within, FailsStep}
 use Rattle.nj_text.proofs.Lists.{AllIn, AllIn-weaker, AllIn-take_while, take_while-append, take_while-cons_no, drop_while-append, drop_while-cons_no}
 use Rattle.nj_text.proofs.Cuts.{plain_units, cut-run, unit-ordinary}
 use Rattle.nj_text.proofs.Gathered.{not_ordinary, none_after}
 use Rattle.nj_text.proofs.LineStarts.{cut_has_line, fails_if_no_byte}
 use Rattle.nj_text.proofs.Bridges.{passed_by, front_of, blanks_end, identifiers_end, words_end, next_fault_of_line, begins_word_of_line, spot_of_line, value_of_line, passed_has_line}
-use Rattle.nj_text.specs.Gathering.{NoneInRun}
+use Rattle.nj_text.specs.Inside.Gathering.{NoneInRun}
 
 -- ---- after the blanks
 

@@ -5,7 +5,8 @@ use Rattle.std.proofs.lemmas.List.{take-append-drop, reverse-append, reverse-rev
 use Rattle.std.proofs.lemmas.List.Sums.{sum_by_push}
 use Rattle.nj_text.specs.declared.spot.Spot.{Spot}
 use Rattle.nj_text.specs.Bytes.{is_line_feed}
-use Rattle.nj_text.specs.Units.{TextUnit, Position, AtStart, found_at, position_after, spot_after, spots_after, first_spot, units, cut}
+use Rattle.nj_text.specs.Units.{TextUnit, Position, AtStart, found_at, position_after, spot_after, first_spot, units, cut}
+use Rattle.nj_text.specs.Inside.Scans.{spots_after}
 use Rattle.nj_text.specs.Lines.{Line, spot_of_first, lines_of, lines_before, ending_of}
 use Rattle.nj_text.specs.Calls.{bytes_of}
 use Rattle.nj_text.specs.Laws.{UnitsAreTheText, UnitsStandInPlace, counted_spot, LinesAreTheUnits, Mark, InLine, AtEnd, mark_by, mark_of, marks_of}

@@ -5,7 +5,7 @@ use Rattle.std.proofs.lemmas.Bool.Decides.{nat_tests}
 use Rattle.std.proofs.lemmas.List.{append-nil}
 use Rattle.nj_text.specs.declared.pieces.Piece.TheVariants as piece
 use Rattle.nj_text.specs.Paths.{is_slash, is_up, leads_nowhere, IsName}
-use Rattle.nj_text.specs.Cleaning.{piece_of, pieces_left, Kept, nothing_kept, kept_after, with_piece, parts_kept, ups_seen, IsWritten, with_part, DropsName}
+use Rattle.nj_text.specs.Inside.Cleaning.{piece_of, pieces_left, Kept, nothing_kept, kept_after, with_piece, parts_kept, ups_seen, IsWritten, with_part, DropsName}
 use Rattle.nj_text.proofs.KeptParts.{up_is, replicate-push}
 use Rattle.nj_text.proofs.NamesDropped.{drops-at, drops-alone}
 

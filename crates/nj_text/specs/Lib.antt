@@ -10,10 +10,5 @@ pub mod Paths
 pub mod PathLaws
 pub mod Quotes
 pub mod QuoteLaws
--- how the scans and states of the code match that: no public contract cites it
-pub mod Runs
-pub mod Scans
-pub mod Gathering
-pub mod Standing
-pub mod Cleaning
-pub mod Quoting
+-- how the code does that
+pub mod Inside

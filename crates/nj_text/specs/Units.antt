@@ -154,11 +154,6 @@ spot_after b spot =
     if is_line_feed b then record { line = spot.line + 1; column = 1 }
     else record { line = spot.line; column = spot.column + 1 }
 
--- the place after some bytes
-abbrev pub spots_after : List ℕ → Spot → Spot
-spots_after [] spot = spot
-spots_after (b ∷ bs) spot = spots_after bs (spot_after b spot)
-
 -- the units of the bytes that stand at a place, without the first `skip` bytes, which belong to the unit before
 unfoldable pub cut : Position → (skip : ℕ) → Spot → List ℕ → List TextUnit
 cut position skip spot [] = record { spot = spot; bytes = []; means = TextEnd } ∷ []

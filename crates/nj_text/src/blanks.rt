@@ -2,7 +2,7 @@
 
 ghost use Rattle.std.specs.Prelude.{◌≡◌, ◌<◌, false, length, MatchOption, IfSome};
 ghost use Rattle.nj_text.specs.Bytes.{drop_while};
-ghost use Rattle.nj_text.specs.Scans.{units_within, begins_with_space_byte};
+ghost use Rattle.nj_text.specs.Inside.Scans.{units_within, begins_with_space_byte};
 ghost use Rattle.nj_text.specs.Words.{is_blank};
 
 use crate::cursor::Cursor;

@@ -3,7 +3,7 @@
 ghost use Rattle.std.specs.Prelude.{◌≡◌, ◌++◌, ◌≤◌, List, ℕ, false, length, IfOk, OnOk, OnErr};
 ghost use Rattle.std.specs.List.{list_any, slice_split};
 ghost use Rattle.nj_text.specs.Paths.{is_slash, is_absolute, clean_path_of};
-ghost use Rattle.nj_text.specs.Cleaning.{Kept, piece_of, with_piece, with_part, nothing_kept, kept_after, text_kept, IsWritten, BeginsWith, DropsName};
+ghost use Rattle.nj_text.specs.Inside.Cleaning.{Kept, piece_of, with_piece, with_part, nothing_kept, kept_after, text_kept, IsWritten, BeginsWith, DropsName};
 
 use crate::pieces::{Piece, first_piece, piece_of};
 use std::alloc::AllocError;

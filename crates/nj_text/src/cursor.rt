@@ -18,9 +18,9 @@ impl<'a> Cursor<'a> {
     ghost use Rattle.std.specs.Prelude.{◌≡◌, ◌≤◌, ◌<◌, ◌+◌, ◌++◌, ℕ, length, drop};
     ghost use Rattle.std.specs.List.{take_while};
     ghost use Rattle.nj_text.specs.Bytes.{drop_while};
-    ghost use Rattle.nj_text.specs.Runs.{in_run};
+    ghost use Rattle.nj_text.specs.Inside.Runs.{in_run};
     ghost use Rattle.nj_text.specs.Units.{first_spot};
-    ghost use Rattle.nj_text.specs.Scans.{along, on_next_line};
+    ghost use Rattle.nj_text.specs.Inside.Scans.{along, on_next_line};
 
     /// Before the first byte of a text.
     pub fn at_front(text: &'a [u8]) -> Cursor<'a>

@@ -7,7 +7,7 @@
 
 ghost use Rattle.std.specs.Prelude.{◌≡◌, not, map};
 ghost use Rattle.std.specs.Simd.Lanes.{mask_l};
-ghost use Rattle.nj_text.specs.Runs.{in_run, lane_run};
+ghost use Rattle.nj_text.specs.Inside.Runs.{in_run, lane_run};
 
 use crate::runs::Run;
 use std::simd::prelude::*;

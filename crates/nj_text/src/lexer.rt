@@ -4,7 +4,7 @@ ghost use Rattle.std.specs.Prelude.{◌≡◌, List, ℕ, Some};
 ghost use Rattle.std.specs.Option.{option_map};
 ghost use Rattle.nj_text.specs.Words.{word_text};
 ghost use Rattle.nj_text.specs.Calls.{Answers, AnswersOrLacksMemory, at_front, start_line_of, ident_of, sign_of, path_word_of, value_of, spot_of, skip_blanks_of, Failed, unit_of};
-ghost use Rattle.nj_text.specs.Standing.{Settles};
+ghost use Rattle.nj_text.specs.Inside.Standing.{Settles};
 
 use crate::blanks::skip_blanks;
 use crate::cursor::Cursor;
@@ -37,7 +37,7 @@ impl<'a> Model for Lexer<'a> {
 
     ghost Value = { State };
 
-    ghost use Rattle.nj_text.specs.Standing.{state_at};
+    ghost use Rattle.nj_text.specs.Inside.Standing.{state_at};
 
     ghost view = { λ s. state_at s.stand s.cursor.spot s.cursor.rest.now };
 }

@@ -1,7 +1,7 @@
 //! The next unit of a line.
 
 ghost use Rattle.std.specs.Prelude.{◌≡◌, ◌≤◌, ◌<◌, ◌+◌, ◌∷◌, length};
-ghost use Rattle.nj_text.specs.Scans.{NextIs, next_length, HasLength};
+ghost use Rattle.nj_text.specs.Inside.Scans.{NextIs, next_length, HasLength};
 
 use crate::dollar::{Dollar, after_dollar, line_end_length};
 use crate::runs::{first_byte, is_ordinary};

@@ -2,10 +2,10 @@
 
 ghost use Rattle.std.specs.Prelude.{◌≡◌, ◌<◌, ◌+◌, [], ◌∷◌, ◌++◌, length, map, IfSome, OnOk, IfErr};
 ghost use Rattle.nj_text.specs.declared.fault.WordFault.TheVariants.{OutOfMemory};
-ghost use Rattle.nj_text.specs.Scans.{units_within};
-ghost use Rattle.nj_text.specs.Runs.{in_run};
+ghost use Rattle.nj_text.specs.Inside.Scans.{units_within};
+ghost use Rattle.nj_text.specs.Inside.Runs.{in_run};
 ghost use Rattle.nj_text.specs.Calls.{begins_word};
-ghost use Rattle.nj_text.specs.Gathering.{run_of, Gathers, PieceIs, TakesRun, NoneInRun, IsShorter};
+ghost use Rattle.nj_text.specs.Inside.Gathering.{run_of, Gathers, PieceIs, TakesRun, NoneInRun, IsShorter};
 
 use crate::cursor::Cursor;
 use crate::fault::{UnitFault, WordFault};

@@ -3,7 +3,7 @@
 ghost use Rattle.std.specs.Prelude.{◌≡◌, ◌++◌, ◌↔◌, [], Ok, Err, IsTrue, IfOk, OnOk, OnErr};
 ghost use Rattle.nj_text.specs.declared.paths.TextFault.TheVariants.{EmptyPath, OutOfMemory};
 ghost use Rattle.nj_text.specs.Paths.{clean_path_of};
-ghost use Rattle.nj_text.specs.Cleaning.{stays_clean};
+ghost use Rattle.nj_text.specs.Inside.Cleaning.{stays_clean};
 
 use crate::cleaning::{is_absolute, push_clean};
 use crate::pieces::{all_stay, is_here};

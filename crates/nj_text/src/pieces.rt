@@ -4,7 +4,7 @@ ghost use Rattle.std.specs.Prelude.{◌≡◌, ◌∷◌, false};
 ghost use Rattle.std.specs.Option.{option_copied};
 ghost use Rattle.std.specs.List.{list_any, slice_split};
 ghost use Rattle.nj_text.specs.Paths.{is_slash};
-ghost use Rattle.nj_text.specs.Cleaning.{piece_of, pieces_left, all_stay, is_here};
+ghost use Rattle.nj_text.specs.Inside.Cleaning.{piece_of, pieces_left, all_stay, is_here};
 
 /// What a piece between two slashes says.
 #[derive(Clone, Copy)]

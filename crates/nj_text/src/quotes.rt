@@ -3,9 +3,9 @@
 ghost use Rattle.std.specs.Prelude.{◌≡◌, ◌++◌, ◌<◌, ◌≤◌, true, false, length, take, IfSome, OnOk, OnErr};
 ghost use Rattle.std.specs.Option.{option_copied};
 ghost use Rattle.std.specs.List.{list_all, flat_map};
-ghost use Rattle.nj_text.specs.Cleaning.{BeginsWith};
+ghost use Rattle.nj_text.specs.Inside.Cleaning.{BeginsWith};
 ghost use Rattle.nj_text.specs.Quotes.{is_plain_byte, within_quotes, in_quotes, quoted};
-ghost use Rattle.nj_text.specs.Quoting.{after_run};
+ghost use Rattle.nj_text.specs.Inside.Quoting.{after_run};
 
 use std::alloc::AllocError;
 

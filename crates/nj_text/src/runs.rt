@@ -3,7 +3,7 @@
 ghost use Rattle.std.specs.Prelude.{◌≡◌, ◌≤◌, [], ◌∷◌, ◌++◌, length, MatchOption};
 ghost use Rattle.std.specs.List.{prefix_len, take_while};
 ghost use Rattle.nj_text.specs.Bytes.{drop_while};
-ghost use Rattle.nj_text.specs.Runs.{in_run, lane_run};
+ghost use Rattle.nj_text.specs.Inside.Runs.{in_run, lane_run};
 
 use crate::lanes::{LANES, LaneRun, stops};
 use memchr::memchr;

@@ -2,9 +2,9 @@
 
 ghost use Rattle.std.specs.Prelude.{◌≡◌, ◌<◌, false, length, MatchOption, IfSome};
 ghost use Rattle.nj_text.specs.Units.{opens_comment};
-ghost use Rattle.nj_text.specs.Scans.{begins_with_space_byte};
+ghost use Rattle.nj_text.specs.Inside.Scans.{begins_with_space_byte};
 ghost use Rattle.nj_text.specs.Calls.{without_comments};
-ghost use Rattle.nj_text.specs.Standing.{lines_at, BegunIs, BegunAfterSpaces};
+ghost use Rattle.nj_text.specs.Inside.Standing.{lines_at, BegunIs, BegunAfterSpaces};
 
 use crate::cursor::Cursor;
 use crate::fault::UnitFault;

@@ -10,7 +10,7 @@ use Rattle.nj_edges.specs.declared.files.FileNo.{FileNo}
 use Rattle.nj_edges.specs.Edges.{is_among}
 use Rattle.nj_edges.specs.Files.{path_at}
 use Rattle.nj_edges.proofs.EdgeLemmas.{get-path, has-among}
-use Rattle.nj_tools.specs.Collections.{is_collected, with_file, with_files, AreOf}
+use Rattle.nj_tools.specs.Inside.Collections.{is_collected, with_file, with_files, AreOf}
 use Rattle.nj_tools.specs.Listings.{each_once}
 
 -- ---- lists without their repeats

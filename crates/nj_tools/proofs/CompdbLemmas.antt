@@ -19,11 +19,11 @@ use Rattle.nj_tools.specs.declared.fault.ToolFault.{ToolFault}
 use Rattle.nj_edges.specs.declared.edges.EdgeNo.{EdgeNo}
 use Rattle.nj_tools.specs.declared.fault.ToolFault.TheVariants.{TextNotUtf8, Write, OutOfMemory}
 use Rattle.nj_tools.specs.Sinks.{SinkState, Takes}
-use Rattle.nj_tools.specs.Blocks.{IsUnderway}
+use Rattle.nj_tools.specs.Inside.Blocks.{IsUnderway}
 use Rattle.nj_tools.specs.Texts.{FailsWithin, TakesFront, StopsWithin}
 use Rattle.nj_tools.specs.Lines.{line}
 use Rattle.nj_tools.specs.Compdb.{Compilation, has_any, is_chosen, has_object, listed_edges, compilation_of, first_path, is_text, json_string, object_text, objects_text, held_before, unheld_edge, end_text, compdb_text, NamesEdge, WritesCompdb}
-use Rattle.nj_tools.specs.CompdbHeld.{in_json, held_compilation, object_of_strings}
+use Rattle.nj_tools.specs.Inside.CompdbHeld.{in_json, held_compilation, object_of_strings}
 use Rattle.nj_tools.proofs.BlockLemmas.{TakesFront-whole, StopsWithin-whole, StopsWithin-more, IsUnderway-more, FailsWithin-waiting, Takes-waiting, puts-no_memory}
 use Rattle.nj_tools.proofs.SinkLemmas.{Takes-nil}
 

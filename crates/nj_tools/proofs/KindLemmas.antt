@@ -11,7 +11,7 @@ use Rattle.nj_edges.specs.declared.edges.InputKind.TheVariants.{Explicit, Implic
 use Rattle.nj_edges.specs.Edges.{EdgePaths, inputs_of, kind_at}
 use Rattle.nj_tools.specs.Lines.{line, lines_after}
 use Rattle.nj_tools.specs.Queries.{inputs_by_kind}
-use Rattle.nj_tools.specs.QueriesHeld.{sign_of, input_line, input_lines}
+use Rattle.nj_tools.specs.Inside.QueriesHeld.{sign_of, input_line, input_lines}
 
 input_lines-append : (e : EdgePaths) (index : ℕ) (paths more : List (List ℕ))
     → input_lines e index (paths ++ more) ≡ input_lines e index paths ++ input_lines e (index + length paths) more

@@ -15,7 +15,7 @@ use Rattle.nj_statements.specs.EdgeList.{EdgeText, edges_read}
 use Rattle.nj_statements.proofs.LateLemmas.{paths-are}
 use Rattle.nj_graph.specs.Graph.{GraphText, edges_of, files_of, IsGraphOf, rule_name_of, rule_name_at}
 use Rattle.nj_graph.proofs.EdgeTexts.{there}
-use Rattle.nj_tools.specs.Collections.{with_files, AreOf}
+use Rattle.nj_tools.specs.Inside.Collections.{with_files, AreOf}
 use Rattle.nj_tools.specs.declared.style.InputsStyle.{InputsStyle}
 use Rattle.nj_tools.specs.Listings.{each_once, sorted, needed_inputs, printed, terminated, inputs_text, outputs_text, made_line}
 use Rattle.nj_tools.proofs.CollectedLemmas.{AreOf-files}

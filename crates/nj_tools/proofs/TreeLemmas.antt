@@ -13,7 +13,7 @@ use Rattle.nj_statements.proofs.LateLemmas.{paths-are}
 use Rattle.nj_graph.specs.Graph.{rule_name_at}
 use Rattle.nj_tools.specs.Lines.{line}
 use Rattle.nj_tools.specs.Listings.{file_line, indent, inputs_of_maker, levels_of, tree_text, trees_text}
-use Rattle.nj_tools.specs.Trees.{rows_text, tree_lines, rows_lines, rows_after, rows_of, AreKnown}
+use Rattle.nj_tools.specs.Inside.Trees.{rows_text, tree_lines, rows_lines, rows_after, rows_of, AreKnown}
 
 -- ---- the text
 

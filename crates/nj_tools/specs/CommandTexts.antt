@@ -55,9 +55,5 @@ own_makers_in edges paths = flat_map (made_by single) (row_of_paths edges paths)
 abbrev pub own_commands_in : List EdgePaths → (targets : List (List ℕ)) → List ℕ
 own_commands_in edges targets = filter (λ e. not (is_phony_in edges e)) (first_occurrences (own_makers_in edges targets))
 
--- the same for files by their numbers
-abbrev pub own_makers : EdgeGraph → (files : List FileNo) → List ℕ
-own_makers g files = own_makers_in g.edges (map (path_at g.files) files)
-
 abbrev pub own_commands : EdgeGraph → (targets : List FileNo) → List ℕ
 own_commands g targets = own_commands_in g.edges (map (path_at g.files) targets)

@@ -9,11 +9,6 @@ pub mod RuleLists
 pub mod Compdb
 pub mod CompdbJson
 pub mod Laws
--- how the code does that
-pub mod Blocks
-pub mod Collections
-pub mod QueriesHeld
-pub mod Trees
-pub mod CompdbHeld
-pub mod Seen
 pub mod MemorySinks
+-- how the code does that
+pub mod Inside

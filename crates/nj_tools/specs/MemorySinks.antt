@@ -16,12 +16,3 @@ pub record Memory : Type 0 where
 -- what is known of it as a sink
 abbrev pub state_of : Memory → SinkState
 state_of m = record { taken = Some m.bytes; failures = m.failures; took_since_failure = m.took_since_failure }
-
--- the prefix of these bytes that the limit leaves room for, after this many bytes
-abbrev pub within_limit : Option ℕ → ℕ → List ℕ → List ℕ
-within_limit None taken bytes = bytes
-within_limit (Some limit) taken bytes = take (limit - taken) bytes
-
--- the prefix of these bytes that the sink has room for
-abbrev pub fitting : Memory → List ℕ → List ℕ
-fitting m bytes = within_limit m.limit (length m.bytes) bytes

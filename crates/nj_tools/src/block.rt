@@ -1,6 +1,6 @@
 //! Text on its way to a sink: it is written in blocks, from one buffer that is reused.
 
-ghost use Rattle.nj_tools.specs.Blocks.{PutsBlock};
+ghost use Rattle.nj_tools.specs.Inside.Blocks.{PutsBlock};
 
 use crate::sinks::{Sink, SinkFault};
 use crate::whole::write_whole;

@@ -1,7 +1,7 @@
 //! Files, each once.
 
 ghost use Rattle.std.specs.Prelude.{◌≡◌, ◌<◌, All, [], length, IfOk, OnOk};
-ghost use Rattle.nj_tools.specs.Collections.{with_file, with_files};
+ghost use Rattle.nj_tools.specs.Inside.Collections.{with_file, with_files};
 
 use nj_graph::FileNo;
 use std::alloc::{AllocError, Global};
@@ -17,7 +17,7 @@ pub(crate) struct Collected {
 
 impl Model for Collected {
     ghost use Rattle.std.specs.Prelude.{length};
-    ghost use Rattle.nj_tools.specs.Collections.{Collection, IsFlagged};
+    ghost use Rattle.nj_tools.specs.Inside.Collections.{Collection, IsFlagged};
 
     ghost Value = { Collection };
 

@@ -5,7 +5,7 @@ ghost use Rattle.nj_scope.specs.ReadingList.{Entry};
 ghost use Rattle.nj_edges.specs.Files.{AreFiles};
 ghost use Rattle.nj_statements.specs.EdgeList.{edges_read};
 ghost use Rattle.nj_graph.specs.Graph.{edges_of, files_of, IsGraphOf};
-ghost use Rattle.nj_tools.specs.Blocks.{PutsText};
+ghost use Rattle.nj_tools.specs.Inside.Blocks.{PutsText};
 ghost use Rattle.nj_tools.specs.Compdb.{
   has_object,
   command_text,
@@ -18,7 +18,7 @@ ghost use Rattle.nj_tools.specs.Compdb.{
   NamesEdge,
   WritesCompdb,
 };
-ghost use Rattle.nj_tools.specs.CompdbHeld.{held_compilation, object_of_strings};
+ghost use Rattle.nj_tools.specs.Inside.CompdbHeld.{held_compilation, object_of_strings};
 
 use crate::block::write_block;
 use crate::chosen::ChosenRules;

@@ -6,9 +6,9 @@ ghost use Rattle.nj_text.specs.Quotes.{quoted};
 ghost use Rattle.nj_edges.specs.declared.files.FileNo.{FileNo};
 ghost use Rattle.nj_edges.specs.Files.{path_at};
 ghost use Rattle.nj_graph.specs.Graph.{edges_of, files_of};
-ghost use Rattle.nj_tools.specs.Blocks.{PutsText};
-ghost use Rattle.nj_tools.specs.Collections.{AreOf, IsFlagged, with_file, with_files};
-ghost use Rattle.nj_tools.specs.Collections.{new_file, new_files};
+ghost use Rattle.nj_tools.specs.Inside.Blocks.{PutsText};
+ghost use Rattle.nj_tools.specs.Inside.Collections.{AreOf, IsFlagged, with_file, with_files};
+ghost use Rattle.nj_tools.specs.Inside.Collections.{new_file, new_files};
 ghost use Rattle.nj_tools.specs.Listings.{
   each_once,
   sorted,

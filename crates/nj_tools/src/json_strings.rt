@@ -2,7 +2,7 @@
 
 ghost use Rattle.std.specs.Prelude.{◌≡◌, IfOk, option_map};
 ghost use Rattle.nj_tools.specs.Compdb.{json_string};
-ghost use Rattle.nj_tools.specs.CompdbHeld.{held_string};
+ghost use Rattle.nj_tools.specs.Inside.CompdbHeld.{held_string};
 
 use serde_json::Value;
 use std::alloc::{AllocError, Global};

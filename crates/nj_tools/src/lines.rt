@@ -1,7 +1,7 @@
 //! Lines on their way to a sink.
 
 ghost use Rattle.std.specs.Prelude.{◌≡◌, ◌++◌, OnOk};
-ghost use Rattle.nj_tools.specs.Blocks.{PutsText};
+ghost use Rattle.nj_tools.specs.Inside.Blocks.{PutsText};
 ghost use Rattle.nj_tools.specs.Lines.{line};
 
 use crate::block::write_block;

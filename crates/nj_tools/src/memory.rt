@@ -35,7 +35,7 @@ impl Model for MemorySink {
 }
 
 impl MemorySink {
-    ghost use Rattle.nj_tools.specs.MemorySinks.{fitting};
+    ghost use Rattle.nj_tools.specs.Inside.MemorySinksHeld.{fitting};
 
     /// A sink that has taken nothing yet, and takes at most `limit` bytes. It allocates nothing.
     pub fn new(alloc: Global, limit: Option<usize>) -> MemorySink
@@ -76,7 +76,8 @@ impl MemorySink {
 
 impl Sink for MemorySink {
     ghost use Rattle.nj_tools.specs.Sinks.{Puts};
-    ghost use Rattle.nj_tools.specs.MemorySinks.{state_of, fitting};
+    ghost use Rattle.nj_tools.specs.MemorySinks.{state_of};
+    ghost use Rattle.nj_tools.specs.Inside.MemorySinksHeld.{fitting};
 
     ghost state = { state_of };
 

@@ -6,7 +6,7 @@ ghost use Rattle.nj_edges.specs.Edges.{edge_at};
 ghost use Rattle.nj_edges.specs.Files.{path_at};
 ghost use Rattle.nj_edges.specs.declared.edges.InputKind.{InputKind};
 ghost use Rattle.nj_graph.specs.Graph.{edges_of, files_of, IsGraphOf};
-ghost use Rattle.nj_tools.specs.Blocks.{PutsText};
+ghost use Rattle.nj_tools.specs.Inside.Blocks.{PutsText};
 ghost use Rattle.nj_tools.specs.Lines.{lines_after};
 ghost use Rattle.nj_tools.specs.Queries.{
   query_text,
@@ -17,7 +17,7 @@ ghost use Rattle.nj_tools.specs.Queries.{
   validated_section,
   outputs_of_all,
 };
-ghost use Rattle.nj_tools.specs.QueriesHeld.{sign_of};
+ghost use Rattle.nj_tools.specs.Inside.QueriesHeld.{sign_of};
 ghost use Rattle.nj_tools.specs.Texts.{WritesText};
 
 use crate::fault::ToolFault;

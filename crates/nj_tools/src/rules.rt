@@ -3,7 +3,7 @@
 ghost use Rattle.std.specs.Prelude.{◌≡◌, ◌<◌, ◌++◌, List, length, OnOk};
 ghost use Rattle.nj_scope.specs.ReadingList.{Entry};
 ghost use Rattle.nj_graph.specs.Graph.{IsGraphOf, main_rules, main_rule_at};
-ghost use Rattle.nj_tools.specs.Blocks.{PutsText};
+ghost use Rattle.nj_tools.specs.Inside.Blocks.{PutsText};
 ghost use Rattle.nj_tools.specs.RuleLists.{rule_line, rules_text};
 ghost use Rattle.nj_tools.specs.Texts.{WritesText};
 

@@ -6,8 +6,8 @@ ghost use Rattle.nj_scope.specs.ReadingList.{Entry};
 ghost use Rattle.nj_edges.specs.Edges.{maker_of};
 ghost use Rattle.nj_edges.specs.Files.{path_at};
 ghost use Rattle.nj_graph.specs.Graph.{edges_of, files_of, IsGraphOf};
-ghost use Rattle.nj_tools.specs.Blocks.{PutsText};
-ghost use Rattle.nj_tools.specs.Collections.{AreOf, with_files};
+ghost use Rattle.nj_tools.specs.Inside.Blocks.{PutsText};
+ghost use Rattle.nj_tools.specs.Inside.Collections.{AreOf, with_files};
 ghost use Rattle.nj_tools.specs.Lines.{lines};
 ghost use Rattle.nj_tools.specs.Listings.{
   sorted,

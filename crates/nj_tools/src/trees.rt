@@ -5,7 +5,7 @@ ghost use Rattle.nj_scope.specs.ReadingList.{Entry};
 ghost use Rattle.nj_edges.specs.Edges.{maker_of};
 ghost use Rattle.nj_edges.specs.Files.{path_at};
 ghost use Rattle.nj_graph.specs.Graph.{edges_of, files_of, IsGraphOf};
-ghost use Rattle.nj_tools.specs.Blocks.{PutsText};
+ghost use Rattle.nj_tools.specs.Inside.Blocks.{PutsText};
 ghost use Rattle.nj_tools.specs.Listings.{
   file_line,
   indent,
@@ -13,7 +13,7 @@ ghost use Rattle.nj_tools.specs.Listings.{
   levels_of,
   trees_text,
 };
-ghost use Rattle.nj_tools.specs.Trees.{rows_of, AreKnown, rows_after};
+ghost use Rattle.nj_tools.specs.Inside.Trees.{rows_of, AreKnown, rows_after};
 
 use crate::fault::ToolFault;
 use crate::lines::write_line;

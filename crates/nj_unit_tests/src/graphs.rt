@@ -5,7 +5,7 @@
 //! separated by commas.
 
 ghost use Rattle.std.specs.Prelude.{◌≡◌, OnOk};
-ghost use Rattle.nj_edges.specs.EdgesHeld.{no_files};
+ghost use Rattle.nj_edges.specs.EdgeTables.{no_files};
 
 use nj_edges::{EdgeGraph, Edges, Finished, HashKeys, KindEnds};
 use std::alloc::{AllocError, Global};

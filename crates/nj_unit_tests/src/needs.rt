@@ -4,7 +4,7 @@
 //! none is left.
 
 ghost use Rattle.std.specs.Prelude.{◌≡◌, ◌<◌, length, All, IfOk, OnOk};
-ghost use Rattle.nj_edges.specs.EdgesHeld.{no_files};
+ghost use Rattle.nj_edges.specs.EdgeTables.{no_files};
 
 use crate::graphs::{end_edge, graph_of};
 use nj_edges::{EdgeGraph, Edges, FileNo, Finished, HashKeys};

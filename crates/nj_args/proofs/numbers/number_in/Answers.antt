@@ -1,5 +1,5 @@
 use Rattle.std.proofs.Common.{◌≡◌, false, sym, ap, ◌∙◌}
-use Rattle.nj_args.specs.Held.{begins_with_plus}
+use Rattle.nj_args.specs.Inside.Held.{begins_with_plus}
 use Rattle.nj_args.proofs.Numerals.{said-some, said-none}
 use Rattle.nj_args.proofs.numbers.number_in.Goals as goal
 

@@ -1,7 +1,7 @@
 use Rattle.std.proofs.Common.{◌≡◌, List, ℕ, ap, sym, ◌∙◌, map, string_bytes}
 use Rattle.std.proofs.lemmas.Result.{IfOk-weaker, IfErr-weaker}
 use Rattle.clap.specs.Words.{found_of, rows_of}
-use Rattle.nj_args.specs.Held.{field_texts}
+use Rattle.nj_args.specs.Inside.Held.{field_texts}
 use Rattle.nj_args.specs.Requests.{given_request, request_in}
 use Rattle.nj_args.proofs.Given.{given, unparsed, same_fault}
 use Rattle.nj_args.proofs.requests.given_request.Goals as goal

@@ -3,7 +3,7 @@ use Rattle.nj_edges.specs.Files.{AreFiles}
 use Rattle.nj_graph.specs.Graph.{files_of}
 use Rattle.nj_needs.specs.Resuming.{ResumeIs}
 use Rattle.nj_args.specs.Requests.{commands}
-use Rattle.nj_cli.specs.RunSteps.{fault_of_mark, fault_of_tool}
+use Rattle.nj_cli.specs.Inside.RunSteps.{fault_of_mark, fault_of_tool}
 use Rattle.nj_cli.proofs.AnswerLemmas.{AnswersTo-err, commands-not_resumed, commands-failed, commands-answered}
 use Rattle.nj_cli.proofs.answer.answer_commands.Goals as goal
 

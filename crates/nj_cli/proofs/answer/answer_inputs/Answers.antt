@@ -2,7 +2,7 @@ use Rattle.std.proofs.Common.{map, string_bytes, subst, sym}
 use Rattle.nj_edges.specs.Files.{AreFiles}
 use Rattle.nj_graph.specs.Graph.{files_of}
 use Rattle.nj_args.specs.Requests as ask
-use Rattle.nj_cli.specs.RunSteps.{fault_of_tool}
+use Rattle.nj_cli.specs.Inside.RunSteps.{fault_of_tool}
 use Rattle.nj_cli.proofs.AnswerLemmas.{AnswersTo-err, inputs-failed, inputs-answered}
 use Rattle.nj_cli.proofs.answer.answer_inputs.Goals as goal
 

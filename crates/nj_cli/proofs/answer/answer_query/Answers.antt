@@ -3,7 +3,7 @@ use Rattle.nj_edges.specs.Files.{AreFiles}
 use Rattle.nj_graph.specs.Graph.{files_of}
 use Rattle.nj_needs.proofs.Bridges.{files-within}
 use Rattle.nj_args.specs.Requests as ask
-use Rattle.nj_cli.specs.RunSteps.{fault_of_tool}
+use Rattle.nj_cli.specs.Inside.RunSteps.{fault_of_tool}
 use Rattle.nj_cli.proofs.AnswerLemmas.{AnswersTo-err, query-failed, query-answered}
 use Rattle.nj_cli.proofs.answer.answer_query.Goals as goal
 

@@ -1,7 +1,7 @@
 use Rattle.std.proofs.Common.{Bool, inr, sym, subst}
 use Rattle.nj_graph.specs.Graph.{IsGraphOf}
 use Rattle.nj_args.specs.Requests.{request_text}
-use Rattle.nj_cli.specs.RunSteps.{Concludes}
+use Rattle.nj_cli.specs.Inside.RunSteps.{Concludes}
 use Rattle.nj_cli.specs.Runs.{around}
 use Rattle.nj_cli.proofs.RunLemmas.{Answers-from, IsAnswered-from}
 use Rattle.nj_cli.proofs.run.run_tool.Goals as goal

@@ -2,7 +2,7 @@ use Rattle.std.proofs.Common.{subst}
 use Rattle.std.proofs.lemmas.Result.{IfOk-weaker}
 use Rattle.nj_cycles.specs.Cycles.{IsFirstOnCycle}
 use Rattle.nj_cycles.specs.Inputs.{edge_count, makers_of}
-use Rattle.nj_cycles.specs.Marks.{IsLeastOf}
+use Rattle.nj_cycles.specs.Inside.Marks.{IsLeastOf}
 use Rattle.nj_cycles.proofs.Ranks.{ranked, answered}
 use Rattle.nj_cycles.proofs.check.first_on_cycle.Goals as goal
 

@@ -2,7 +2,7 @@ use Rattle.std.proofs.Common.{◌≡◌, ◌<◌, ◌-◌, false, Some, drop, le
 use Rattle.std.specs.Prelude.{slice_index, slice_index_or}
 use Rattle.std.proofs.lemmas.Bool.{both_ways}
 use Rattle.std.proofs.lemmas.List.{get_or_read}
-use Rattle.nj_cycles.specs.Marks.{IsMarked, AreMarks, IsLeastOf}
+use Rattle.nj_cycles.specs.Inside.Marks.{IsMarked, AreMarks, IsLeastOf}
 use Rattle.nj_cycles.proofs.Ranks.{stepped, marked-on_cycle, on_cycle-marked, least_past, least_more}
 use Rattle.nj_cycles.proofs.marks.least_on_cycle.Goals as goal
 

@@ -1,6 +1,6 @@
 use Rattle.std.proofs.Common.{◌≡◌, [], drop, vec_len}
 use Rattle.nj_cycles.specs.Inputs.{edge_count}
-use Rattle.nj_cycles.specs.Marks.{AreMarks, IsLeastOf}
+use Rattle.nj_cycles.specs.Inside.Marks.{AreMarks, IsLeastOf}
 use Rattle.nj_cycles.proofs.marks.least_on_cycle.Given as goal
 
 abbrev pub invariant-edges : goal.invariant-edges

@@ -1,6 +1,6 @@
 use Rattle.std.proofs.Common.{◌≡◌, ◌≢◌, ℕ, ◌<◌, []}
 use Rattle.nj_cycles.specs.declared.walk.Stage.TheVariants.{Unseen}
-use Rattle.nj_cycles.specs.Walks.{stage_of, WalkStands}
+use Rattle.nj_cycles.specs.Inside.Walks.{stage_of, WalkStands}
 use Rattle.nj_cycles.proofs.walk.finish_all.Given as goal
 
 abbrev pub invariant-edges : goal.invariant-edges

@@ -1,7 +1,7 @@
 use Rattle.std.proofs.Common.{◌≡◌, ◌≢◌, ℕ, ◌<◌, ◌≤◌, false, Some}
 use Rattle.nj_cycles.specs.declared.walk.Stage.TheVariants.{Unseen, Done}
-use Rattle.nj_cycles.specs.Places.{maker_at}
-use Rattle.nj_cycles.specs.Walks.{stage_of}
+use Rattle.nj_cycles.specs.Inside.Places.{maker_at}
+use Rattle.nj_cycles.specs.Inside.Walks.{stage_of}
 use Rattle.nj_cycles.proofs.walk.pass.Given as goal
 
 abbrev pub invariant-places : goal.invariant-places

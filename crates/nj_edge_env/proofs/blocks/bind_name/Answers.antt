@@ -2,7 +2,7 @@ use Rattle.std.proofs.Common.{◌==◌, if◌then◌else◌, Some, length, ap, s
 use Rattle.std.specs.Map.{lookup}
 use Rattle.indexmap.specs.IndexMap.{insert_entry}
 use Rattle.nj_edge_env.specs.Blocks.{bound_in}
-use Rattle.nj_edge_env.specs.BlocksHeld.{values_of, blocks_of, BlocksAreHeld}
+use Rattle.nj_edge_env.specs.Inside.BlocksHeld.{values_of, blocks_of, BlocksAreHeld}
 use Rattle.nj_edge_env.proofs.BoundLemmas.{at_ok, at_err, on_err}
 use Rattle.nj_edge_env.proofs.BlockLemmas.{same_key, unchanged, held-grown, held-at, set-bound, set-same, set-held, insert-bound, insert-held}
 use Rattle.nj_edge_env.proofs.blocks.bind_name.Goals as goal

@@ -1,6 +1,6 @@
 use Rattle.std.proofs.Common.{◌==◌, length, ap, subst, ◌∙◌, sym}
 use Rattle.std.specs.Map.{lookup}
-use Rattle.nj_edge_env.specs.BlocksHeld.{values_of, BoundsAreHeld}
+use Rattle.nj_edge_env.specs.Inside.BlocksHeld.{values_of, BoundsAreHeld}
 use Rattle.nj_edge_env.proofs.BoundLemmas.{at_ok, at_err, in_both, on_err, values_kept, longer, bounds_grow, bound-now, held-now}
 use Rattle.nj_edge_env.proofs.bounds.bind_value.Goals as goal
 

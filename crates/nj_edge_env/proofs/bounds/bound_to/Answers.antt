@@ -2,7 +2,7 @@ use Rattle.std.proofs.Common.{◌<◌, ◌-◌, length, refl, sym, ap, ◌∙◌
 use Rattle.std.proofs.lemmas.Bool.Decides.{Decides-eqb}
 use Rattle.std.proofs.lemmas.List.Elements.{All-from_recursion}
 use Rattle.std.proofs.lemmas.Slice.Eq.{slice_eq-Decides}
-use Rattle.nj_edge_env.specs.BlocksHeld.{IsPart}
+use Rattle.nj_edge_env.specs.Inside.BlocksHeld.{IsPart}
 use Rattle.nj_edge_env.proofs.bounds.bound_to.Goals as goal
 
 pub returns-then-eq-clause-bound : goal.returns-then-eq-clause-bound

@@ -1,6 +1,6 @@
 use Rattle.std.proofs.Common.{sym, ap, subst}
 use Rattle.nj_text.specs.Words.{part_text}
-use Rattle.nj_edge_env.specs.ReferencesHeld.{IsKeyNamed}
+use Rattle.nj_edge_env.specs.Inside.CyclesHeld.{IsKeyNamed}
 use Rattle.nj_edge_env.proofs.ReferenceLemmas.{named_by}
 use Rattle.nj_edge_env.proofs.references.key_named.Goals as goal
 

@@ -1,6 +1,7 @@
 use Rattle.std.proofs.Common.{◌∙◌, map, ap}
 use Rattle.std.proofs.lemmas.List.{map-append}
-use Rattle.nj_edge_env.specs.ReferencesHeld.{ReferringKeyText, key_held}
+use Rattle.nj_edge_env.specs.ReferencesHeld.{ReferringKeyText}
+use Rattle.nj_edge_env.specs.Inside.CyclesHeld.{key_held}
 use Rattle.nj_edge_env.proofs.ReferenceLemmas.{keys_more}
 use Rattle.nj_edge_env.proofs.references.references_of.Goals as goal
 

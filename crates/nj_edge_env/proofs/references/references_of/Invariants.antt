@@ -1,5 +1,6 @@
 use Rattle.std.proofs.Common.{map}
-use Rattle.nj_edge_env.specs.ReferencesHeld.{ReferringKeyText, AreFirstKeys, key_held}
+use Rattle.nj_edge_env.specs.ReferencesHeld.{ReferringKeyText, AreFirstKeys}
+use Rattle.nj_edge_env.specs.Inside.CyclesHeld.{key_held}
 use Rattle.nj_edge_env.proofs.references.references_of.Given as goal
 
 abbrev pub invariant-keys : goal.invariant-keys

@@ -1,6 +1,6 @@
 use Rattle.std.proofs.Common.{◌+◌, take, sym, subst}
 use Rattle.nj_text.specs.Words.{part_text}
-use Rattle.nj_edge_env.specs.ReferencesHeld.{IsKeyNamed}
+use Rattle.nj_edge_env.specs.Inside.CyclesHeld.{IsKeyNamed}
 use Rattle.nj_edge_env.proofs.ReferenceLemmas.{RowSoFar, row_marked, row_passed}
 use Rattle.nj_edge_env.proofs.references.row_of_key.Goals as goal
 use Rattle.nj_edge_env.proofs.references.row_of_key.Goals.{in-Some, in_default}

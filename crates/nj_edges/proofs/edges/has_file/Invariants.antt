@@ -1,5 +1,5 @@
 use Rattle.std.proofs.Common.{◌≡◌, false, take}
-use Rattle.nj_edges.specs.EdgesHeld.{has_number}
+use Rattle.nj_edges.specs.Inside.EdgesHeld.{has_number}
 use Rattle.nj_edges.proofs.edges.has_file.Given as goal
 
 abbrev pub invariant-files : goal.invariant-files

@@ -1,5 +1,5 @@
 use Rattle.std.proofs.Common.{◌≡◌, ◌++◌, take}
-use Rattle.nj_edges.specs.FlatInputs.{plain}
+use Rattle.nj_edges.specs.Inside.FlatInputs.{plain}
 use Rattle.nj_edges.proofs.flat.push_numbers.Given as goal
 
 abbrev pub invariant-files : goal.invariant-files

@@ -5,7 +5,7 @@ use Rattle.std.proofs.lemmas.Result.{IfOk-weaker}
 use Rattle.nj_cycles.specs.Cycles.{IsFirstOnCycle}
 use Rattle.nj_cycles.specs.Inputs.{edge_count, makers_of}
 use Rattle.nj_cycles.proofs.Same.{same_makers}
-use Rattle.nj_edges.specs.FlatInputs.{makers_in_row, flat_starts, flat_numbers}
+use Rattle.nj_edges.specs.Inside.FlatInputs.{makers_in_row, flat_starts, flat_numbers}
 use Rattle.nj_edges.proofs.FlatLemmas.{input_rows}
 use Rattle.nj_edges.proofs.FlatRows.{length-starts, starts-zero, starts-rise, starts-within, numbers-known, row-of-flat}
 use Rattle.nj_edges.proofs.graph.least_on_cycle.Goals as goal

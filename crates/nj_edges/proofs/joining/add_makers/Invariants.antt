@@ -1,5 +1,5 @@
 use Rattle.std.proofs.Common.{◌≡◌, ◌<◌, ◌≤◌, ℕ, None, length, slice_index_or}
-use Rattle.nj_edges.specs.JoiningHeld.{option_or}
+use Rattle.nj_edges.specs.Inside.JoiningHeld.{option_or}
 use Rattle.nj_edges.proofs.joining.add_makers.Given as goal
 
 abbrev pub invariant-files : goal.invariant-files

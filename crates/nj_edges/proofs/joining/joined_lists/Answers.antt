@@ -1,5 +1,5 @@
 use Rattle.std.proofs.Common.{length}
-use Rattle.nj_edges.specs.JoiningHeld.{AddedInputsAreWithin, AddedOutputsAreWithin, joined_inputs, joined_outputs}
+use Rattle.nj_edges.specs.Inside.JoiningHeld.{AddedInputsAreWithin, AddedOutputsAreWithin, joined_inputs, joined_outputs}
 use Rattle.nj_edges.proofs.EdgeLemmas.{all-get}
 use Rattle.nj_edges.proofs.JoinedLists.{files-step, rows-step}
 use Rattle.nj_edges.proofs.joining.joined_lists.Goals as goal

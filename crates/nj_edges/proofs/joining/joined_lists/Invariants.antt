@@ -1,5 +1,5 @@
 use Rattle.std.proofs.Common.{◌≡◌, ◌++◌, drop, length}
-use Rattle.nj_edges.specs.JoiningHeld.{flat, joined_inputs, joined_outputs, joined_rows, joined_with}
+use Rattle.nj_edges.specs.Inside.JoiningHeld.{flat, joined_inputs, joined_outputs, joined_rows, joined_with}
 use Rattle.nj_edges.proofs.joining.joined_lists.Given as goal
 
 -- what was made so far, and what the rest makes, are the whole

@@ -1,5 +1,5 @@
 use Rattle.std.proofs.Common.{take}
-use Rattle.nj_edges.specs.JoiningHeld.{AreSet}
+use Rattle.nj_edges.specs.Inside.JoiningHeld.{AreSet}
 use Rattle.nj_edges.proofs.joining.set_makers.Given as goal
 
 abbrev pub invariant-files : goal.invariant-files

@@ -1,5 +1,5 @@
 use Rattle.std.proofs.Common.{take}
-use Rattle.nj_edges.specs.RootsHeld.{AreFlags}
+use Rattle.nj_edges.specs.Inside.RootsHeld.{AreFlags}
 use Rattle.nj_edges.proofs.roots.flags_of.Given as goal
 
 abbrev pub invariant-files : goal.invariant-files

@@ -3,8 +3,8 @@ use Rattle.std.specs.Global.{Vec}
 use Rattle.std.specs.List.{filter}
 use Rattle.std.proofs.lemmas.Result.{IfOk-weaker}
 use Rattle.nj_edges.specs.declared.files.FileNo.{FileNo}
-use Rattle.nj_edges.specs.EdgesHeld.{has_number}
-use Rattle.nj_edges.specs.RootsHeld.{AreFlags}
+use Rattle.nj_edges.specs.Inside.EdgesHeld.{has_number}
+use Rattle.nj_edges.specs.Inside.RootsHeld.{AreFlags}
 use Rattle.nj_edges.proofs.RootLemmas.{flags-roots}
 use Rattle.nj_edges.proofs.roots.roots.Goals as goal
 

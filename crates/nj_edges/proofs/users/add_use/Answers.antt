@@ -1,6 +1,6 @@
 use Rattle.std.proofs.Common.{◌∙◌, ap, sym}
 use Rattle.std.proofs.lemmas.List.{get_or_default}
-use Rattle.nj_edges.specs.UsersHeld.{is_of, link_at}
+use Rattle.nj_edges.specs.Inside.UsersHeld.{is_of, link_at}
 use Rattle.nj_edges.proofs.UserLemmas.{use-more}
 use Rattle.nj_edges.proofs.users.add_use.Goals as goal
 

@@ -1,5 +1,5 @@
 use Rattle.std.proofs.Common.{◌∙◌, take}
-use Rattle.nj_edges.specs.UsersHeld.{plus_uses}
+use Rattle.nj_edges.specs.Inside.UsersHeld.{plus_uses}
 use Rattle.nj_edges.proofs.UserLemmas.{uses-next}
 use Rattle.nj_edges.proofs.users.add_uses.Goals as goal
 

@@ -1,5 +1,5 @@
 use Rattle.std.proofs.Common.{◌≡◌, ℕ, List, length, take}
-use Rattle.nj_edges.specs.UsersHeld.{AreUses, plus_uses}
+use Rattle.nj_edges.specs.Inside.UsersHeld.{AreUses, plus_uses}
 use Rattle.nj_edges.proofs.users.add_uses.Given as goal
 
 abbrev pub invariant-files : goal.invariant-files

@@ -1,6 +1,6 @@
 use Rattle.std.proofs.Common.{◌∙◌, ◌-◌, ap, subst, arith}
-use Rattle.nj_edges.specs.EdgesHeld.{within}
-use Rattle.nj_edges.specs.UsersHeld.{AreUses, plus_uses}
+use Rattle.nj_edges.specs.Inside.EdgesHeld.{within}
+use Rattle.nj_edges.specs.Inside.UsersHeld.{AreUses, plus_uses}
 use Rattle.nj_edges.proofs.UserLemmas.{rows-step}
 use Rattle.nj_edges.proofs.users.linked_uses.Goals as goal
 

@@ -1,5 +1,5 @@
 use Rattle.std.proofs.Common.{◌≡◌, ◌≤◌, length, drop}
-use Rattle.nj_edges.specs.UsersHeld.{AreUses, using_edges}
+use Rattle.nj_edges.specs.Inside.UsersHeld.{AreUses, using_edges}
 use Rattle.nj_edges.proofs.users.linked_uses.Given as goal
 
 abbrev pub invariant-rows : goal.invariant-rows

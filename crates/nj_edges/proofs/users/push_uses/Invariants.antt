@@ -1,4 +1,4 @@
-use Rattle.nj_edges.specs.UsersHeld.{IsSomeChain}
+use Rattle.nj_edges.specs.Inside.UsersHeld.{IsSomeChain}
 use Rattle.nj_edges.proofs.UserLemmas.{Appended}
 use Rattle.nj_edges.proofs.users.push_uses.Given as goal
 

@@ -1,5 +1,5 @@
 use Rattle.std.proofs.Common.{◌≡◌, length, subst, arith}
-use Rattle.nj_edges.specs.UsersHeld.{HoldUsers, numbers_of}
+use Rattle.nj_edges.specs.Inside.UsersHeld.{HoldUsers, numbers_of}
 use Rattle.nj_edges.proofs.UserLemmas.{users-push}
 use Rattle.nj_edges.proofs.users.users_in_order.Goals as goal
 

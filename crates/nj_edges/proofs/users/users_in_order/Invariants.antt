@@ -1,5 +1,5 @@
 use Rattle.std.proofs.Common.{ℕ, List}
-use Rattle.nj_edges.specs.UsersHeld.{AreUses, HoldUsers, numbers_of}
+use Rattle.nj_edges.specs.Inside.UsersHeld.{AreUses, HoldUsers, numbers_of}
 use Rattle.nj_edges.proofs.users.users_in_order.Given as goal
 
 abbrev pub invariant-files : goal.invariant-files

@@ -1,7 +1,7 @@
 use Rattle.std.proofs.Common.{◌∙◌, ℕ, List, ap, length, subst, sym}
 use Rattle.std.proofs.lemmas.Result.{IfOk-weaker}
 use Rattle.nj_edges.specs.declared.users.Users.{Users}
-use Rattle.nj_edges.specs.UsersHeld.{AreUses, HoldUsers, numbers_of, using_edges}
+use Rattle.nj_edges.specs.Inside.UsersHeld.{AreUses, HoldUsers, numbers_of, using_edges}
 use Rattle.nj_edges.proofs.users.users_of_files.Goals as goal
 
 pub users_in_order-requires : goal.users_in_order-requires

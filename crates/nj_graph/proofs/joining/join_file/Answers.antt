@@ -5,9 +5,9 @@ use Rattle.nj_scope.specs.Readings.{EachPathOnce}
 use Rattle.nj_statements.specs.EdgeList.{Pending}
 use Rattle.nj_statements.specs.Answers.{Checks}
 use Rattle.nj_statements.specs.Joining.{lacking_fault}
-use Rattle.nj_graph.specs.ReaderContracts.{AnswersText}
+use Rattle.nj_graph.specs.Inside.ReaderContracts.{AnswersText}
 use Rattle.nj_graph.specs.Joining.{statement_place}
-use Rattle.nj_graph.specs.JoiningContracts.{JoinsText, JoinsFile}
+use Rattle.nj_graph.specs.Inside.JoiningContracts.{JoinsText, JoinsFile}
 use Rattle.nj_graph.proofs.Found.{found-text, unfound}
 use Rattle.nj_manifest.proofs.Handed.{handed}
 use Rattle.nj_graph.proofs.JoiningTables.{for-ok, get-prefix, path-is, some-is}

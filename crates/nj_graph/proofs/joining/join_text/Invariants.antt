@@ -1,6 +1,6 @@
 use Rattle.std.proofs.Common.{◌≡◌, Bool, List, Some, slice_get}
 use Rattle.nj_text.specs.Lines.{Line}
-use Rattle.nj_manifest.specs.DyndepParsers.{left_by}
+use Rattle.nj_manifest.specs.Inside.ParserContracts.{left_by}
 use Rattle.nj_scope.specs.Readings.{IsPrefix}
 use Rattle.nj_scope.specs.ReadingList.{Entry}
 use Rattle.nj_statements.specs.JoiningHeld.{HoldsJoined}

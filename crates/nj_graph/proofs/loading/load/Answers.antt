@@ -1,7 +1,7 @@
 use Rattle.std.proofs.Common.{◌≡◌, inl, subst, refl}
 use Rattle.nj_faults.specs.Faults.{no_memory}
 use Rattle.nj_graph.specs.Reading.{main_read}
-use Rattle.nj_graph.specs.ReaderContracts.{StopsAt}
+use Rattle.nj_graph.specs.Inside.ReaderContracts.{StopsAt}
 use Rattle.nj_manifest.proofs.Handed.{handed, handed-as}
 use Rattle.nj_graph.proofs.MainFiles.{main-nothing, reads-memory, details-known, is-loaded, built-fault}
 use Rattle.nj_graph.proofs.loading.load.Goals as goal

@@ -1,5 +1,5 @@
 use Rattle.std.proofs.Common.{subst, refl, option_map, Ok}
-use Rattle.nj_manifest.specs.ParserContracts.{FindsOpening}
+use Rattle.nj_manifest.specs.Inside.ParserContracts.{FindsOpening}
 use Rattle.nj_manifest.specs.Dyndeps.{entry_at, entry_from, next_entry}
 use Rattle.nj_manifest.specs.DyndepParsers.{entry_text}
 use Rattle.nj_manifest.proofs.Handed.{handed}

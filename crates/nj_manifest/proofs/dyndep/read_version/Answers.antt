@@ -1,5 +1,5 @@
 use Rattle.std.proofs.Common.{subst, Ok}
-use Rattle.nj_manifest.specs.ParserContracts.{FindsOpening}
+use Rattle.nj_manifest.specs.Inside.ParserContracts.{FindsOpening}
 use Rattle.nj_manifest.proofs.Handed.{handed}
 use Rattle.nj_manifest.proofs.DyndepCalls.{version-no_opening, version-at_end, version-read}
 use Rattle.nj_manifest.proofs.dyndep.read_version.Goals as goal

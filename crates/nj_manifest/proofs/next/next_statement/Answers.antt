@@ -1,7 +1,7 @@
 use Rattle.std.proofs.Common.{subst, refl, option_map, Ok}
 use Rattle.nj_manifest.specs.Statements.{statement_at, next_statement}
 use Rattle.nj_manifest.specs.Contents.{placed_text}
-use Rattle.nj_manifest.specs.ParserContracts.{FindsOpening}
+use Rattle.nj_manifest.specs.Inside.ParserContracts.{FindsOpening}
 use Rattle.nj_manifest.proofs.Handed.{handed}
 use Rattle.nj_manifest.proofs.Nexts.{statement_from, next-opens, fails-opening, none-left, read-on}
 use Rattle.nj_manifest.proofs.next.next_statement.Goals as goal

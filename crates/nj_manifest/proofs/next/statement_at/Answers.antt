@@ -1,4 +1,4 @@
-use Rattle.nj_manifest.specs.Contents.{head_text}
+use Rattle.nj_manifest.specs.Inside.ParserContracts.{head_text}
 use Rattle.nj_manifest.proofs.Handed.{handed}
 use Rattle.nj_manifest.proofs.Heres.{here-ok, here-fails}
 use Rattle.nj_manifest.proofs.next.statement_at.Goals as goal

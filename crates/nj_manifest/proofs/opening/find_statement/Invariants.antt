@@ -1,7 +1,7 @@
 use Rattle.std.proofs.Common.{◌≡◌}
 use Rattle.nj_manifest.specs.Statements.{lines_from}
 use Rattle.nj_manifest.specs.Openings.{opening}
-use Rattle.nj_manifest.specs.ParserContracts.{IsBetweenStatements}
+use Rattle.nj_manifest.specs.Inside.ParserContracts.{IsBetweenStatements}
 use Rattle.nj_manifest.proofs.Starts.{lines_ahead}
 use Rattle.nj_manifest.proofs.opening.find_statement.Given as goal
 

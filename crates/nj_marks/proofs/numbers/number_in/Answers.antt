@@ -1,5 +1,5 @@
 use Rattle.std.proofs.Common.{◌≡◌, true, sym, ap, ◌∙◌}
-use Rattle.nj_marks.specs.Scanning.{has_plain_front}
+use Rattle.nj_marks.specs.Inside.Scanning.{has_plain_front}
 use Rattle.nj_marks.proofs.Numerals.{number-parsed, number-not_parsed}
 use Rattle.nj_marks.proofs.numbers.number_in.Goals as goal
 

@@ -1,8 +1,8 @@
 use Rattle.std.proofs.Common.{◌≡◌, ℕ, Bool, true, false, Some, None, List, [], length, get_or, refl, sym, ap, subst, ◌∙◌, arith}
 use Rattle.std.specs.Prelude.{slice_get}
 use Rattle.std.proofs.lemmas.List.{append-nil, nil_from_length}
-use Rattle.nj_needs.specs.Standing.{top_of}
-use Rattle.nj_needs.specs.Tops.{IsTop}
+use Rattle.nj_needs.specs.Inside.Standing.{top_of}
+use Rattle.nj_needs.specs.Inside.Tops.{IsTop}
 use Rattle.nj_needs.proofs.Bridges.{IsAcyclic-from}
 use Rattle.nj_needs.proofs.GrowingSteps.{stands, below, top-edge, len-flags, pass, pass-less, opened, open-less, ended, close-below, closed, close-less}
 use Rattle.nj_needs.proofs.growing.grow_targets.Goals as goal

@@ -2,7 +2,7 @@ use Rattle.std.proofs.Common.{length, map}
 use Rattle.nj_edges.specs.Files.{path_at}
 use Rattle.nj_needs.specs.Graphs.{row_of_paths, makers_in}
 use Rattle.nj_needs.specs.Growing.{grown_targets}
-use Rattle.nj_needs.specs.Paths.{turns_left}
+use Rattle.nj_needs.specs.Inside.Paths.{turns_left}
 use Rattle.nj_needs.proofs.GrowingSteps.{IsGrowingOver}
 use Rattle.nj_needs.proofs.growing.grow_targets.Given as goal
 

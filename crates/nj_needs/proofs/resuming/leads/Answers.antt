@@ -3,8 +3,10 @@ use Rattle.std.specs.Prelude.{slice_get, is_some}
 use Rattle.std.proofs.lemmas.List.{get_or_default}
 use Rattle.nj_edges.specs.declared.files.FileNo.{FileNo}
 use Rattle.nj_edges.specs.EdgeGraphs.{EdgeGraph}
-use Rattle.nj_needs.specs.Counts.{saturated, counted}
-use Rattle.nj_needs.specs.Graphs.{makers_of, count_of, row_of, row_in}
+use Rattle.nj_needs.specs.Counts.{saturated}
+use Rattle.nj_needs.specs.Inside.Standing.{counted}
+use Rattle.nj_needs.specs.Graphs.{makers_of, count_of, row_of}
+use Rattle.nj_needs.specs.Inside.Tops.{row_in}
 use Rattle.nj_needs.specs.Marks.{is_valid}
 use Rattle.nj_needs.specs.Needs.{IsAcyclic, AreWithin}
 use Rattle.nj_needs.specs.declared.looks.Looks.{Looks}

@@ -1,6 +1,7 @@
 use Rattle.std.proofs.Common.{◌≡◌, ◌<◌, ℕ, Some, drop}
 use Rattle.nj_needs.specs.Counts.{saturated}
-use Rattle.nj_needs.specs.Graphs.{makers_of, count_of, row_of, row_in}
+use Rattle.nj_needs.specs.Graphs.{makers_of, count_of, row_of}
+use Rattle.nj_needs.specs.Inside.Tops.{row_in}
 use Rattle.nj_needs.specs.Marks.{is_valid}
 use Rattle.nj_needs.proofs.resuming.leads.Given as goal
 

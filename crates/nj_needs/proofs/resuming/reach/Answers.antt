@@ -1,7 +1,7 @@
 use Rattle.std.proofs.Common.{◌≡◌, ◌<◌, ◌≤◌, length, take, ◌∙◌, arith}
 use Rattle.std.proofs.lemmas.List.{length-take-le}
-use Rattle.nj_needs.specs.Heading.{IsHeading}
-use Rattle.nj_needs.specs.Standing.{top_of, turns_left_of}
+use Rattle.nj_needs.specs.Inside.Heading.{IsHeading}
+use Rattle.nj_needs.specs.Inside.Standing.{top_of, turns_left_of}
 use Rattle.nj_needs.proofs.ResumeLemmas.{turn-goes}
 use Rattle.nj_needs.proofs.resuming.reach.Goals as goal
 use Rattle.nj_needs.proofs.resuming.reach.Goals.{After-take_turn, then-len-depth+else-walk-place, else-len-depth}

@@ -1,6 +1,6 @@
 use Rattle.std.proofs.Common.{◌≡◌, take}
-use Rattle.nj_needs.specs.Heading.{IsHeading}
-use Rattle.nj_needs.specs.Standing.{IsWalk, turns_left_of}
+use Rattle.nj_needs.specs.Inside.Heading.{IsHeading}
+use Rattle.nj_needs.specs.Inside.Standing.{IsWalk, turns_left_of}
 use Rattle.nj_needs.proofs.resuming.reach.Given as goal
 
 abbrev pub invariant-turns : goal.invariant-turns

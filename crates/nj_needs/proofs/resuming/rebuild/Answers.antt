@@ -1,7 +1,7 @@
 use Rattle.std.proofs.Common.{◌≡◌, ◌<◌, ◌⊎◌, inl, inr, ℕ, true, false, ◌==◌, List, [], length, get_or, sym, ap, ◌∙◌, arith}
 use Rattle.std.proofs.lemmas.List.{take_all, get_or_default, append-nil}
 use Rattle.std.proofs.lemmas.Bool.{eq-eqb}
-use Rattle.nj_needs.specs.Standing.{IsWalk, TurnIs}
+use Rattle.nj_needs.specs.Inside.Standing.{IsWalk, TurnIs}
 use Rattle.nj_needs.specs.declared.walk.Walk.{Walk}
 use Rattle.nj_needs.specs.declared.walk.Turn.{Turn}
 use Rattle.nj_needs.proofs.RebuildLemmas.{IsOnWay, IsCut, IsOpened, way-step, way-place_in, way-heading, way-last_in, way-rest}

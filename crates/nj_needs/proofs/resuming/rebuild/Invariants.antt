@@ -1,8 +1,8 @@
 use Rattle.std.proofs.Common.{◌≡◌, true, take, drop}
 use Rattle.nj_needs.specs.Graphs.{makers_of}
 use Rattle.nj_needs.specs.Marks.{is_valid}
-use Rattle.nj_needs.specs.Paths.{places}
-use Rattle.nj_needs.specs.Standing.{IsWalk, top_of}
+use Rattle.nj_needs.specs.Inside.Paths.{places}
+use Rattle.nj_needs.specs.Inside.Standing.{IsWalk, top_of}
 use Rattle.nj_needs.proofs.resuming.rebuild.Given as goal
 
 abbrev pub invariant-steps : goal.invariant-steps

@@ -1,9 +1,9 @@
 use Rattle.std.proofs.Common.{◌≡◌, ◌<◌, ◌-◌, min, List, [], ◌∷◌, ◌++◌, length, sym, ap, subst, ◌∙◌, arith}
 use Rattle.nj_needs.specs.Graphs.{count_of}
-use Rattle.nj_needs.specs.Paths.{places}
+use Rattle.nj_needs.specs.Inside.Paths.{places}
 use Rattle.nj_needs.specs.declared.frame.Frame.{Frame}
-use Rattle.nj_needs.specs.Saved.{KeepsFront}
-use Rattle.nj_needs.specs.Standing.{turns_left_of}
+use Rattle.nj_needs.specs.Inside.Saved.{KeepsFront}
+use Rattle.nj_needs.specs.Inside.Standing.{turns_left_of}
 use Rattle.nj_needs.proofs.NeedsLemmas.{looked-left, looked-less, looked-needs, closed-less, closed-front, closed-left, closed-needs, returned-room, returned-needs, returned-first, returned-left, ended-needs, ended-left, ended-turns}
 use Rattle.nj_needs.proofs.Below.{first-below}
 use Rattle.nj_needs.proofs.returned.next_edge.Goals as goal

@@ -1,6 +1,6 @@
 use Rattle.std.proofs.Common.{◌≡◌, ◌≤◌}
-use Rattle.nj_needs.specs.Standing.{left_of, turns_left_of}
-use Rattle.nj_needs.specs.Views.{IsNeeds}
+use Rattle.nj_needs.specs.Inside.Standing.{left_of, turns_left_of}
+use Rattle.nj_needs.specs.Inside.Views.{IsNeeds}
 use Rattle.nj_needs.proofs.returned.next_edge.Given as goal
 
 abbrev pub invariant-turns : goal.invariant-turns

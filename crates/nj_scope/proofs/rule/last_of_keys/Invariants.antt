@@ -1,5 +1,6 @@
 use Rattle.std.proofs.Common.{map, drop}
-use Rattle.nj_scope.specs.RulesHeld.{line_held, last_lines, AreIndexes}
+use Rattle.nj_scope.specs.RulesHeld.{last_lines}
+use Rattle.nj_scope.specs.Inside.KeysHeld.{line_held, AreIndexes}
 use Rattle.nj_scope.proofs.rule.last_of_keys.Given as goal
 
 abbrev pub invariant-lines : goal.invariant-lines

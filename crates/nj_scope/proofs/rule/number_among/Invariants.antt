@@ -1,5 +1,5 @@
 use Rattle.std.proofs.Common.{◌<◌, ℕ, slice_index}
-use Rattle.nj_scope.specs.RulesHeld.{HasKeyAt}
+use Rattle.nj_scope.specs.Inside.KeysHeld.{HasKeyAt}
 use Rattle.nj_scope.proofs.rule.number_among.Given as goal
 
 abbrev pub invariant-places : goal.invariant-places

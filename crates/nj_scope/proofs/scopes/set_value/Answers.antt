@@ -1,6 +1,6 @@
 use Rattle.std.proofs.Common.{cond, Some, ap, ◌∙◌, bytes_eq}
 use Rattle.std.specs.Map.{lookup}
-use Rattle.nj_scope.specs.ScopesHeld.{values_text}
+use Rattle.nj_scope.specs.Inside.ScopesHeld.{values_text}
 use Rattle.nj_scope.proofs.ScopeLemmas.{lookup-inserted}
 use Rattle.nj_scope.proofs.scopes.set_value.Goals as goal
 

@@ -3,7 +3,7 @@ use Rattle.nj_manifest.specs.Contents.{lines_text}
 use Rattle.nj_scope.specs.Scopes.{or_else}
 use Rattle.nj_edge_env.specs.Blocks.{bound_in}
 use Rattle.nj_statements.specs.EdgeList.{Values, block_of, no_block}
-use Rattle.nj_statements.specs.Answers.{Sees}
+use Rattle.nj_statements.specs.Inside.EdgeSteps.{Sees}
 use Rattle.nj_statements.proofs.block.bind_block.Given as goal
 
 abbrev pub invariant-lines : goal.invariant-lines

@@ -3,7 +3,7 @@ use Rattle.std.proofs.lemmas.List.{take_all}
 use Rattle.nj_manifest.specs.Contents.{words_text}
 use Rattle.nj_statements.specs.BuildFaults.{target_fault, first_fault}
 use Rattle.nj_statements.specs.EdgeList.{paths_said}
-use Rattle.nj_statements.specs.Answers.{AddsTargets}
+use Rattle.nj_statements.specs.Inside.EdgeSteps.{AddsTargets}
 use Rattle.nj_statements.proofs.Tables.{prefix_push}
 use Rattle.nj_statements.proofs.AddedLemmas.{no-fault-turn}
 use Rattle.nj_statements.proofs.Holding.{targets-turn}

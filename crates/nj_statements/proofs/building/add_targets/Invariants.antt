@@ -1,10 +1,10 @@
 use Rattle.std.proofs.Common.{◌≡◌, drop, take}
 use Rattle.nj_manifest.specs.Contents.{words_text}
 use Rattle.nj_scope.specs.Readings.{IsPrefix}
-use Rattle.nj_edges.specs.EdgesHeld.{no_files}
+use Rattle.nj_edges.specs.EdgeTables.{no_files}
 use Rattle.nj_statements.specs.EdgeList.{Values, paths_said}
 use Rattle.nj_statements.specs.BuildFaults.{target_fault, first_fault}
-use Rattle.nj_statements.specs.Answers.{SeesNames, AddsTargets}
+use Rattle.nj_statements.specs.Inside.EdgeSteps.{SeesNames, AddsTargets}
 use Rattle.nj_statements.proofs.building.add_targets.Given as goal
 
 abbrev pub invariant-words : goal.invariant-words

@@ -2,11 +2,12 @@ use Rattle.std.proofs.Common.{◌≡◌, ◌∷◌, None, codes, length, sym, ap
 use Rattle.nj_manifest.specs.Contents.{outputs_text, inputs_text}
 use Rattle.nj_scope.specs.ReadingList.{value_after, pools}
 use Rattle.nj_edges.specs.Edges.{EdgePaths, inputs_of}
-use Rattle.nj_edges.specs.EdgesHeld.{edge_read}
+use Rattle.nj_edges.specs.EdgeTables.{edge_read}
 use Rattle.nj_edge_env.specs.LateTexts.{LateNames, asked_text}
 use Rattle.nj_statements.specs.EdgeList.{stated_paths, edge_paths, file_said}
 use Rattle.nj_statements.specs.BuildFaults.{or_then, paths_fault, names_fault}
-use Rattle.nj_statements.specs.Answers.{IsFault, IsFileSaid, SeesLate, bound_by, names_read}
+use Rattle.nj_statements.specs.Answers.{IsFault}
+use Rattle.nj_statements.specs.Inside.EdgeSteps.{IsFileSaid, SeesLate, bound_by, names_read}
 use Rattle.nj_statements.proofs.Faults.{fault-second, both-none, err-checks}
 use Rattle.nj_statements.proofs.Adding.{adds-edge}
 use Rattle.nj_statements.proofs.LateLemmas.{inputs-read, sees-late}

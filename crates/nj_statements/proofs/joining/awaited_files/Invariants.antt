@@ -1,7 +1,7 @@
 use Rattle.std.proofs.Common.{◌≡◌, ◌<◌, drop, take, length, get_or}
 use Rattle.std.specs.List.{AllByRecursion}
 use Rattle.nj_edges.specs.declared.files.FileNo.{FileNo}
-use Rattle.nj_statements.specs.JoiningHeld.{first_edges, count_bound}
+use Rattle.nj_statements.specs.Inside.JoiningSteps.{first_edges, count_bound}
 use Rattle.nj_statements.proofs.joining.awaited_files.Given as goal
 
 abbrev pub invariant-dyndeps : goal.invariant-dyndeps

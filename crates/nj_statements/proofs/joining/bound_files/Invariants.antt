@@ -1,6 +1,6 @@
 use Rattle.std.proofs.Common.{◌≡◌, ◌<◌, None, drop, length, replicate}
 use Rattle.std.specs.List.{AllByRecursion}
-use Rattle.nj_statements.specs.JoiningHeld.{bind_all}
+use Rattle.nj_statements.specs.Inside.JoiningSteps.{bind_all}
 use Rattle.nj_statements.proofs.joining.bound_files.Given as goal
 
 abbrev pub invariant-dyndeps : goal.invariant-dyndeps

@@ -1,6 +1,7 @@
 use Rattle.std.proofs.Common.{◌≡◌, ◌<◌, ◌&&◌, Bool, true, false, not, Option, None, get_or, refl, sym, ap, subst, ◌∙◌, arith}
 use Rattle.nj_edges.specs.declared.files.FileNo.{FileNo}
-use Rattle.nj_statements.specs.JoiningHeld.{is_bound_to, still_waiting}
+use Rattle.nj_statements.specs.JoiningHeld.{still_waiting}
+use Rattle.nj_statements.specs.Inside.JoiningSteps.{is_bound_to}
 use Rattle.nj_statements.proofs.WaitingLemmas.{still-length, still-bound, to-next, first-at, first-nowhere}
 use Rattle.nj_statements.proofs.joining.waiting_edge.Goals as goal
 use Rattle.nj_statements.proofs.joining.waiting_edge.Goals.{else-is_bound_to-via-then-is_bound_to+else-not-is_joined, else-is_bound_to-via-else-is_bound_to}

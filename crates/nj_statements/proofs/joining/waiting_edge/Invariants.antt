@@ -1,5 +1,6 @@
 use Rattle.std.proofs.Common.{◌≡◌, ◌<◌, ℕ, None, false, get_or}
-use Rattle.nj_statements.specs.JoiningHeld.{is_bound_to, still_waiting}
+use Rattle.nj_statements.specs.JoiningHeld.{still_waiting}
+use Rattle.nj_statements.specs.Inside.JoiningSteps.{is_bound_to}
 use Rattle.nj_statements.proofs.joining.waiting_edge.Given as goal
 
 abbrev pub invariant-edges : goal.invariant-edges

@@ -1,5 +1,5 @@
 use Rattle.std.proofs.Common.{◌-◌, length}
-use Rattle.nj_statements.specs.Answers.{SameReferences}
+use Rattle.nj_statements.specs.Inside.EdgeSteps.{SameReferences}
 use Rattle.nj_statements.proofs.references.make_room.Given as goal
 
 abbrev pub invariant-room : goal.invariant-room

@@ -1,5 +1,5 @@
 use Rattle.std.proofs.Common.{sym, ap, ◌∙◌}
-use Rattle.nj_text.specs.Scans.{begins_with_space_byte}
+use Rattle.nj_text.specs.Inside.Scans.{begins_with_space_byte}
 use Rattle.nj_text.proofs.Passed.{blanks_over_run, no_space_after}
 use Rattle.nj_text.proofs.blanks.skip_blanks.Goals as goal
 

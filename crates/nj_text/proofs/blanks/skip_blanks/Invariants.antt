@@ -1,6 +1,6 @@
 use Rattle.std.proofs.Common.{◌≡◌, length}
 use Rattle.nj_text.specs.Bytes.{drop_while}
-use Rattle.nj_text.specs.Scans.{units_within}
+use Rattle.nj_text.specs.Inside.Scans.{units_within}
 use Rattle.nj_text.specs.Words.{is_blank}
 use Rattle.nj_text.proofs.blanks.skip_blanks.Given as goal
 

@@ -1,6 +1,6 @@
 use Rattle.std.proofs.Common.{length}
 use Rattle.std.specs.Option.{option_copied}
-use Rattle.nj_text.specs.Cleaning.{pieces_left}
+use Rattle.nj_text.specs.Inside.Cleaning.{pieces_left}
 use Rattle.nj_text.proofs.WrittenParts.{IsPushing}
 use Rattle.nj_text.proofs.cleaning.push_parts.Given as goal
 

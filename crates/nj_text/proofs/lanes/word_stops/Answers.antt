@@ -1,7 +1,7 @@
 use Rattle.std.proofs.Common.{not, bit_or, refl, arith}
 use Rattle.std.proofs.lemmas.Simd.{zip2_splat}
 use Rattle.nj_text.specs.declared.runs.Run.TheVariants as run
-use Rattle.nj_text.specs.Runs.{in_run}
+use Rattle.nj_text.specs.Inside.Runs.{in_run}
 use Rattle.nj_text.proofs.LaneRuns.{hit, joined, masked}
 use Rattle.nj_text.proofs.lanes.word_stops.Goals as goal
 

@@ -1,5 +1,5 @@
 use Rattle.std.proofs.Common.{◌≡◌, ◌++◌, length, map}
-use Rattle.nj_text.specs.Gathering.{gathered, after_text, units_at}
+use Rattle.nj_text.specs.Inside.Gathering.{gathered, after_text, units_at}
 use Rattle.nj_text.specs.Words.{part_text}
 use Rattle.nj_text.proofs.parts.gather.Given as goal
 

@@ -1,7 +1,7 @@
 use Rattle.std.proofs.Common.{[], ◌∷◌, ◌++◌, map, length, sym, ap, ◌∙◌, append_assoc, arith, length-append}
 use Rattle.std.proofs.lemmas.List.{map-append}
 use Rattle.nj_text.specs.Words.{part_text, Text}
-use Rattle.nj_text.specs.Gathering.{gathered, units_at}
+use Rattle.nj_text.specs.Inside.Gathering.{gathered, units_at}
 use Rattle.nj_text.proofs.Gathered.{run_read, run_over}
 use Rattle.nj_text.proofs.parts.take_run.Goals as goal
 

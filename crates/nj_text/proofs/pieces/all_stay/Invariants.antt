@@ -2,7 +2,7 @@ use Rattle.std.proofs.Common.{◌≡◌, length}
 use Rattle.std.specs.Option.{option_copied}
 use Rattle.std.specs.List.{slice_split}
 use Rattle.nj_text.specs.Paths.{is_slash}
-use Rattle.nj_text.specs.Cleaning.{pieces_left, all_stay}
+use Rattle.nj_text.specs.Inside.Cleaning.{pieces_left, all_stay}
 use Rattle.nj_text.proofs.pieces.all_stay.Given as goal
 
 abbrev pub invariant-pieces : goal.invariant-pieces

@@ -1,6 +1,6 @@
 use Rattle.std.proofs.Common.{◌≡◌, ◌+◌, drop}
 use Rattle.std.specs.List.{prefix_len}
-use Rattle.nj_text.specs.Runs.{in_run}
+use Rattle.nj_text.specs.Inside.Runs.{in_run}
 use Rattle.nj_text.proofs.runs.length_by_bytes.Given as goal
 
 abbrev pub invariant-loop-byte : goal.invariant-loop-byte

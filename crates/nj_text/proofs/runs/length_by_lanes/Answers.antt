@@ -1,7 +1,7 @@
 use Rattle.std.proofs.Common.{sym, ap, ◌∙◌, arith}
 use lib.Count.{count_trailing_zeros}
 use Rattle.std.proofs.lemmas.List.Sums.{prefix_len-le-length}
-use Rattle.nj_text.specs.Runs.{in_run, lane_run}
+use Rattle.nj_text.specs.Inside.Runs.{in_run, lane_run}
 use Rattle.nj_text.proofs.LaneRuns.{run_through, run_stops}
 use Rattle.nj_text.proofs.runs.length_by_lanes.Goals as goal
 

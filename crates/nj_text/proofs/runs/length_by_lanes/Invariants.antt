@@ -1,6 +1,6 @@
 use Rattle.std.proofs.Common.{◌≡◌, ◌+◌, ◌-◌, ◌≤◌, length, drop}
 use Rattle.std.specs.List.{prefix_len}
-use Rattle.nj_text.specs.Runs.{in_run, lane_run}
+use Rattle.nj_text.specs.Inside.Runs.{in_run, lane_run}
 use Rattle.nj_text.proofs.runs.length_by_lanes.Given as goal
 
 abbrev pub invariant-lanes : goal.invariant-lanes

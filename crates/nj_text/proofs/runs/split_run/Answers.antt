@@ -1,5 +1,5 @@
 use Rattle.std.proofs.Common.{ap, ◌∙◌, drop}
-use Rattle.nj_text.specs.Runs.{in_run}
+use Rattle.nj_text.specs.Inside.Runs.{in_run}
 use Rattle.nj_text.proofs.Lists.{drop-prefix_len}
 use Rattle.nj_text.proofs.runs.split_run.Goals as goal
 

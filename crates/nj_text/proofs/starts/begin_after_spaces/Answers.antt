@@ -1,7 +1,7 @@
 use Rattle.std.proofs.Common.{refl, sym, ap, ◌∙◌, drop}
 use Rattle.nj_text.specs.declared.sign.LineStart.TheVariants as start
 use Rattle.nj_text.specs.Units.{Ordinary, Escape, Reference, Join, BadByte, BadEscape}
-use Rattle.nj_text.specs.Scans.{units_within, along, on_next_line}
+use Rattle.nj_text.specs.Inside.Scans.{units_within, along, on_next_line}
 use Rattle.nj_text.specs.Calls.{Between, reply}
 use Rattle.nj_text.proofs.LineStarts.{after_end, after_line_end, after_tab, after_plain, after_badly, not_nine, lines_moved, plain_ordinary}
 use Rattle.nj_text.proofs.starts.begin_after_spaces.Goals as goal

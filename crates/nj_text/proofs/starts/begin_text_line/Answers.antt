@@ -1,5 +1,5 @@
 use Rattle.std.proofs.Common.{sym, ap, ◌∙◌}
-use Rattle.nj_text.specs.Scans.{begins_with_space_byte}
+use Rattle.nj_text.specs.Inside.Scans.{begins_with_space_byte}
 use Rattle.nj_text.proofs.Passed.{no_space_after}
 use Rattle.nj_text.proofs.LineStarts.{begun_after_spaces}
 use Rattle.nj_text.proofs.starts.begin_text_line.Goals as goal

@@ -2,8 +2,9 @@ use Rattle.std.proofs.Common.{◌+◌, [], ◌∷◌, length, take, drop, ap, su
 use Rattle.nj_scope.specs.Readings.{IsPrefix}
 use Rattle.nj_tools.specs.declared.fault.ToolFault.TheVariants.{Write}
 use Rattle.std.proofs.lemmas.List.{take_all, take_at, append-nil}
-use Rattle.nj_tools.specs.CommandTexts.{command_line, command_lines, own_makers, own_commands}
-use Rattle.nj_tools.specs.Seen.{AreSeen}
+use Rattle.nj_tools.specs.CommandTexts.{command_line, command_lines, own_commands}
+use Rattle.nj_tools.specs.Inside.Collections.{own_makers}
+use Rattle.nj_tools.specs.Inside.Seen.{AreSeen}
 use Rattle.nj_tools.specs.Sinks.{Takes}
 use Rattle.nj_tools.proofs.BlockLemmas.{IsUnderway-more, FailsWithin-waiting, FailsWithin-whole, Takes-waiting, stops-at_line, stops-with}
 use Rattle.nj_tools.proofs.CommandLemmas.{lines-last}

@@ -3,7 +3,7 @@ use Rattle.nj_statements.specs.EdgeList.{edges_read}
 use Rattle.nj_graph.specs.Graph.{edges_of}
 use Rattle.nj_tools.specs.declared.fault.ToolFault.TheVariants.{OutOfMemory}
 use Rattle.nj_tools.specs.Compdb.{compilation_of, objects_text, held_before}
-use Rattle.nj_tools.specs.CompdbHeld.{held_compilation}
+use Rattle.nj_tools.specs.Inside.CompdbHeld.{held_compilation}
 use Rattle.nj_tools.proofs.BlockLemmas.{puts-nothing, puts-with}
 use Rattle.nj_tools.proofs.CompdbLemmas.{count-is, written-nothing, takes-front, none-unheld, all-written, passed-edge, is-unheld, before-unheld, object-written, stops-at_object, stops-names, names-with}
 use Rattle.nj_tools.proofs.compdb.write_objects.Goals as goal

@@ -2,7 +2,7 @@ use Rattle.std.proofs.Common.{[], ◌∷◌, ◌++◌, sym, ap, subst, ◌∙◌
 use Rattle.nj_edges.specs.Edges.{edge_at, inputs_of}
 use Rattle.nj_graph.specs.Graph.{edges_of, files_of}
 use Rattle.nj_needs.specs.Walks.{commands_of}
-use Rattle.nj_tools.specs.Collections.{Collection, AreOf}
+use Rattle.nj_tools.specs.Inside.Collections.{Collection, AreOf}
 use Rattle.nj_tools.proofs.CollectedLemmas.{AreOf-none}
 use Rattle.nj_tools.proofs.ListingLemmas.{AreOf-row}
 use Rattle.nj_tools.proofs.inputs.needed_inputs.Goals as goal

@@ -3,7 +3,7 @@ use Rattle.std.specs.List.{flat_map}
 use Rattle.nj_edges.specs.Edges.{edge_at, inputs_of}
 use Rattle.nj_graph.specs.Graph.{edges_of, files_of}
 use Rattle.nj_needs.specs.Walks.{commands_of}
-use Rattle.nj_tools.specs.Collections.{AreOf}
+use Rattle.nj_tools.specs.Inside.Collections.{AreOf}
 use Rattle.nj_tools.proofs.inputs.needed_inputs.Given as goal
 
 abbrev pub invariant-edges : goal.invariant-edges

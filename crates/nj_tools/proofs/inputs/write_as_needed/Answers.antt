@@ -5,7 +5,7 @@ use Rattle.nj_edges.specs.Edges.{edge_at, inputs_of}
 use Rattle.nj_graph.specs.Graph.{edges_of, files_of}
 use Rattle.nj_needs.specs.Walks.{commands_of}
 use Rattle.nj_tools.specs.declared.style.InputsStyle.{InputsStyle}
-use Rattle.nj_tools.specs.Collections.{IsFlagged, with_files}
+use Rattle.nj_tools.specs.Inside.Collections.{IsFlagged, with_files}
 use Rattle.nj_tools.specs.Listings.{printed, terminated}
 use Rattle.nj_tools.proofs.BlockLemmas.{puts-nothing}
 use Rattle.nj_tools.proofs.CollectedLemmas.{AreOf-none}

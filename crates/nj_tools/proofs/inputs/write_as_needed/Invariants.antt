@@ -5,8 +5,8 @@ use Rattle.nj_edges.specs.Edges.{edge_at, inputs_of}
 use Rattle.nj_edges.specs.Files.{path_at}
 use Rattle.nj_graph.specs.Graph.{edges_of, files_of}
 use Rattle.nj_needs.specs.Walks.{commands_of}
-use Rattle.nj_tools.specs.Blocks.{IsUnderway}
-use Rattle.nj_tools.specs.Collections.{IsFlagged, AreOf}
+use Rattle.nj_tools.specs.Inside.Blocks.{IsUnderway}
+use Rattle.nj_tools.specs.Inside.Collections.{IsFlagged, AreOf}
 use Rattle.nj_tools.specs.Listings.{printed, terminated}
 use Rattle.nj_tools.proofs.inputs.write_as_needed.Given as goal
 

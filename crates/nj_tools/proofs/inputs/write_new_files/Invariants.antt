@@ -3,8 +3,8 @@ use Rattle.std.specs.List.{flat_map}
 use Rattle.nj_edges.specs.declared.files.FileNo.{FileNo}
 use Rattle.nj_edges.specs.Files.{path_at}
 use Rattle.nj_graph.specs.Graph.{files_of}
-use Rattle.nj_tools.specs.Blocks.{IsUnderway}
-use Rattle.nj_tools.specs.Collections.{IsFlagged, with_files, new_files}
+use Rattle.nj_tools.specs.Inside.Blocks.{IsUnderway}
+use Rattle.nj_tools.specs.Inside.Collections.{IsFlagged, with_files, new_files}
 use Rattle.nj_tools.specs.Listings.{printed, terminated}
 use Rattle.nj_tools.proofs.inputs.write_new_files.Given as goal
 

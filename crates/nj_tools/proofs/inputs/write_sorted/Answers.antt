@@ -2,7 +2,7 @@ use Rattle.std.proofs.Common.{map, ap, sym, subst, ◌∙◌}
 use Rattle.std.specs.List.{flat_map}
 use Rattle.nj_edges.specs.Files.{path_at}
 use Rattle.nj_graph.specs.Graph.{files_of}
-use Rattle.nj_tools.specs.Blocks.{PutsText}
+use Rattle.nj_tools.specs.Inside.Blocks.{PutsText}
 use Rattle.nj_tools.specs.Listings.{sorted, terminated}
 use Rattle.nj_tools.proofs.ListingLemmas.{printed-as_they_are}
 use Rattle.nj_tools.proofs.inputs.write_sorted.Goals as goal

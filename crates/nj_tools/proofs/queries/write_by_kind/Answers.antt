@@ -3,8 +3,8 @@ use Rattle.std.proofs.lemmas.List.{take_all}
 use Rattle.nj_edges.specs.Edges.{edge_at, inputs_of}
 use Rattle.nj_statements.proofs.LateLemmas.{as-many}
 use Rattle.nj_graph.specs.Graph.{edges_of, files_of}
-use Rattle.nj_tools.specs.Blocks.{IsUnderway}
-use Rattle.nj_tools.specs.QueriesHeld.{sign_of, input_lines}
+use Rattle.nj_tools.specs.Inside.Blocks.{IsUnderway}
+use Rattle.nj_tools.specs.Inside.QueriesHeld.{sign_of, input_lines}
 use Rattle.nj_tools.proofs.BlockLemmas.{puts-with}
 use Rattle.nj_tools.proofs.SequenceLemmas.{puts-next, stops-next}
 use Rattle.nj_tools.proofs.KindLemmas.{input_lines-all, input_lines-more, input_lines-split, input_line-is}

@@ -1,8 +1,8 @@
 use Rattle.std.proofs.Common.{◌++◌, take}
 use Rattle.nj_edges.specs.Edges.{edge_at, inputs_of}
 use Rattle.nj_graph.specs.Graph.{edges_of}
-use Rattle.nj_tools.specs.Blocks.{IsUnderway}
-use Rattle.nj_tools.specs.QueriesHeld.{input_lines}
+use Rattle.nj_tools.specs.Inside.Blocks.{IsUnderway}
+use Rattle.nj_tools.specs.Inside.QueriesHeld.{input_lines}
 use Rattle.nj_tools.proofs.queries.write_by_kind.Given as goal
 
 abbrev pub invariant-inputs : goal.invariant-inputs

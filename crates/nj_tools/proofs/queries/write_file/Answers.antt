@@ -3,7 +3,7 @@ use Rattle.std.specs.Prelude.{codes}
 use Rattle.nj_edges.specs.Edges.{maker_of, users_of, validation_users_of}
 use Rattle.nj_edges.specs.Files.{path_at}
 use Rattle.nj_graph.specs.Graph.{edges_of, files_of}
-use Rattle.nj_tools.specs.Blocks.{PutsText}
+use Rattle.nj_tools.specs.Inside.Blocks.{PutsText}
 use Rattle.nj_tools.specs.Lines.{line, lines_after}
 use Rattle.nj_tools.specs.Queries.{maker_text, outputs_of_all, validated_section}
 use Rattle.nj_tools.proofs.BlockLemmas.{puts-then, puts-stop}

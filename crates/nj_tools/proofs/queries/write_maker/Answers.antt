@@ -4,7 +4,7 @@ use Rattle.nj_edges.specs.Edges.{edge_at}
 use Rattle.nj_edges.specs.Files.{path_at}
 use Rattle.nj_statements.proofs.LateLemmas.{paths-are}
 use Rattle.nj_graph.specs.Graph.{edges_of, files_of}
-use Rattle.nj_tools.specs.Blocks.{IsUnderway, PutsText}
+use Rattle.nj_tools.specs.Inside.Blocks.{IsUnderway, PutsText}
 use Rattle.nj_tools.specs.Lines.{line}
 use Rattle.nj_tools.specs.Queries.{inputs_by_kind, maker_text, validations_section}
 use Rattle.nj_tools.proofs.BlockLemmas.{puts-nothing, puts-then}

@@ -1,7 +1,7 @@
 use Rattle.std.proofs.Common.{◌++◌, take}
 use Rattle.std.specs.List.{flat_map}
 use Rattle.nj_graph.specs.Graph.{files_of}
-use Rattle.nj_tools.specs.Blocks.{IsUnderway}
+use Rattle.nj_tools.specs.Inside.Blocks.{IsUnderway}
 use Rattle.nj_tools.proofs.QueryLemmas.{file_line}
 use Rattle.nj_tools.proofs.queries.write_paths.Given as goal
 

@@ -1,7 +1,7 @@
 use Rattle.std.proofs.Common.{◌++◌, map, sym, subst}
 use Rattle.std.specs.Prelude.{codes}
 use Rattle.nj_graph.specs.Graph.{edges_of}
-use Rattle.nj_tools.specs.Blocks.{IsUnderway, PutsText}
+use Rattle.nj_tools.specs.Inside.Blocks.{IsUnderway, PutsText}
 use Rattle.nj_tools.specs.Lines.{line, lines_after}
 use Rattle.nj_tools.specs.Queries.{outputs_of_all}
 use Rattle.nj_tools.proofs.BlockLemmas.{puts-nothing, puts-then}

@@ -1,7 +1,7 @@
 use Rattle.std.proofs.Common.{take}
 use Rattle.std.specs.List.{flat_map}
 use Rattle.nj_graph.specs.Graph.{main_rules}
-use Rattle.nj_tools.specs.Blocks.{IsUnderway}
+use Rattle.nj_tools.specs.Inside.Blocks.{IsUnderway}
 use Rattle.nj_tools.specs.RuleLists.{rule_line}
 use Rattle.nj_tools.proofs.rules.write_rules.Given as goal
 

@@ -4,7 +4,7 @@ use Rattle.nj_edges.specs.declared.files.FileNo.{FileNo}
 use Rattle.nj_edges.specs.Edges.{maker_of}
 use Rattle.nj_edges.specs.Files.{path_at}
 use Rattle.nj_graph.specs.Graph.{edges_of, files_of}
-use Rattle.nj_tools.specs.Collections.{Collection, with_file, with_files}
+use Rattle.nj_tools.specs.Inside.Collections.{Collection, with_file, with_files}
 use Rattle.nj_tools.proofs.CollectedLemmas.{with_files-push}
 use Rattle.nj_tools.proofs.targets.add_sources.Goals as goal
 use Rattle.nj_tools.proofs.targets.add_sources.Goals.{then-is_source+in_ok-add, else-is_source}

@@ -1,7 +1,7 @@
 use Rattle.std.proofs.Common.{◌<◌, length, All, bytes_eq, subst, sym, ap, ◌∙◌, arith}
 use Rattle.nj_edges.specs.declared.files.FileNo.{FileNo}
 use Rattle.nj_graph.specs.Graph.{GraphText, edges_of, files_of}
-use Rattle.nj_tools.specs.Collections.{Collection}
+use Rattle.nj_tools.specs.Inside.Collections.{Collection}
 use Rattle.nj_tools.proofs.CollectedLemmas.{All-with_files}
 use Rattle.nj_tools.proofs.ListingLemmas.{outputs-more, outputs-same}
 use Rattle.nj_tools.proofs.targets.outputs_of_rule.Goals as goal

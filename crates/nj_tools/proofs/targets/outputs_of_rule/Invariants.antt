@@ -4,7 +4,7 @@ use Rattle.nj_scope.specs.ReadingList.{Entry}
 use Rattle.nj_edges.specs.Edges.{outputs_of}
 use Rattle.nj_statements.specs.EdgeList.{edges_read}
 use Rattle.nj_graph.specs.Graph.{files_of, IsGraphOf, rule_name_of}
-use Rattle.nj_tools.specs.Collections.{AreOf}
+use Rattle.nj_tools.specs.Inside.Collections.{AreOf}
 use Rattle.nj_tools.proofs.targets.outputs_of_rule.Given as goal
 
 abbrev pub invariant-edges : goal.invariant-edges

@@ -3,7 +3,7 @@ use Rattle.std.specs.List.{flat_map}
 use Rattle.std.proofs.lemmas.List.{take_more}
 use Rattle.nj_edges.specs.Edges.{edge_at, inputs_of, maker_of}
 use Rattle.nj_graph.specs.Graph.{edges_of, files_of}
-use Rattle.nj_tools.specs.Collections.{AreOf}
+use Rattle.nj_tools.specs.Inside.Collections.{AreOf}
 use Rattle.nj_tools.proofs.ListingLemmas.{AreOf-passing}
 use Rattle.nj_tools.proofs.targets.sources.Goals as goal
 

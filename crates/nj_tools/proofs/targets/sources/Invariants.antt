@@ -2,7 +2,7 @@ use Rattle.std.proofs.Common.{◌≡◌, length, take, filter, is_none}
 use Rattle.std.specs.List.{flat_map}
 use Rattle.nj_edges.specs.Edges.{inputs_of, maker_of}
 use Rattle.nj_graph.specs.Graph.{edges_of, files_of}
-use Rattle.nj_tools.specs.Collections.{AreOf}
+use Rattle.nj_tools.specs.Inside.Collections.{AreOf}
 use Rattle.nj_tools.proofs.targets.sources.Given as goal
 
 abbrev pub invariant-edges : goal.invariant-edges

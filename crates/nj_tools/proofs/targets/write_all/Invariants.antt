@@ -4,7 +4,7 @@ use Rattle.nj_scope.specs.ReadingList.{Entry}
 use Rattle.nj_edges.specs.Edges.{outputs_of}
 use Rattle.nj_statements.specs.EdgeList.{edges_read}
 use Rattle.nj_graph.specs.Graph.{IsGraphOf, rule_name_of}
-use Rattle.nj_tools.specs.Blocks.{IsUnderway}
+use Rattle.nj_tools.specs.Inside.Blocks.{IsUnderway}
 use Rattle.nj_tools.specs.Listings.{made_line}
 use Rattle.nj_tools.proofs.targets.write_all.Given as goal
 

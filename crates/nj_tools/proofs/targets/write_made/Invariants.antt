@@ -2,7 +2,7 @@ use Rattle.std.proofs.Common.{◌++◌, take}
 use Rattle.std.specs.List.{flat_map}
 use Rattle.nj_edges.specs.Files.{path_at}
 use Rattle.nj_graph.specs.Graph.{files_of}
-use Rattle.nj_tools.specs.Blocks.{IsUnderway}
+use Rattle.nj_tools.specs.Inside.Blocks.{IsUnderway}
 use Rattle.nj_tools.specs.Listings.{made_line}
 use Rattle.nj_tools.proofs.targets.write_made.Given as goal
 

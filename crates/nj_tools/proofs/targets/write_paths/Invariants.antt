@@ -1,6 +1,6 @@
 use Rattle.std.proofs.Common.{◌++◌, take}
 use Rattle.std.specs.List.{flat_map}
-use Rattle.nj_tools.specs.Blocks.{IsUnderway}
+use Rattle.nj_tools.specs.Inside.Blocks.{IsUnderway}
 use Rattle.nj_tools.specs.Lines.{line}
 use Rattle.nj_tools.proofs.targets.write_paths.Given as goal
 

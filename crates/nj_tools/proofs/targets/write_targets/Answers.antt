@@ -1,6 +1,6 @@
 use Rattle.std.proofs.Common.{◌++◌, subst}
 use Rattle.nj_tools.specs.declared.fault.ToolFault.TheVariants.{Write}
-use Rattle.nj_tools.specs.Blocks.{IsUnderway}
+use Rattle.nj_tools.specs.Inside.Blocks.{IsUnderway}
 use Rattle.nj_tools.specs.Listings.{targets_text}
 use Rattle.nj_tools.proofs.BlockLemmas.{FailsWithin-waiting, stops-with}
 use Rattle.nj_tools.proofs.targets.write_targets.Goals as goal

@@ -1,6 +1,6 @@
 use Rattle.std.proofs.Common.{◌++◌, [], codes, subst}
 use Rattle.nj_graph.specs.Graph.{edges_of, files_of}
-use Rattle.nj_tools.specs.Blocks.{PutsText}
+use Rattle.nj_tools.specs.Inside.Blocks.{PutsText}
 use Rattle.nj_tools.specs.Lines.{line}
 use Rattle.nj_tools.specs.Listings.{indent}
 use Rattle.nj_tools.proofs.BlockLemmas.{puts-after}

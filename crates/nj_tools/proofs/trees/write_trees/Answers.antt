@@ -6,9 +6,9 @@ use Rattle.nj_edges.specs.declared.files.FileNo.{FileNo}
 use Rattle.nj_graph.specs.Graph.{edges_of, files_of}
 use Rattle.nj_graph.proofs.Stated.{graph-edges}
 use Rattle.nj_tools.specs.declared.fault.ToolFault.TheVariants.{OutOfMemory}
-use Rattle.nj_tools.specs.Blocks.{IsUnderway}
+use Rattle.nj_tools.specs.Inside.Blocks.{IsUnderway}
 use Rattle.nj_tools.specs.Listings.{file_line, indent, trees_text}
-use Rattle.nj_tools.specs.Trees.{AreKnown, rows_after, rows_of, rows_text}
+use Rattle.nj_tools.specs.Inside.Trees.{AreKnown, rows_after, rows_of, rows_text}
 use Rattle.nj_tools.proofs.BlockLemmas.{IsUnderway-more, StopsWithin-more, StopsWithin-whole, TakesFront-whole, puts-nothing, puts-with}
 use Rattle.nj_tools.proofs.TreeLemmas.{empty-is, few-after, first-rows, known-one, known-popped, row-is, smaller-after, smaller-empty, written-all, written-empty, written-turn}
 use Rattle.nj_tools.proofs.trees.write_trees.Goals as goal

@@ -1,9 +1,9 @@
 use Rattle.std.proofs.Common.{◌≡◌, ◌≤◌, ◌+◌, ◌*◌, ◌++◌, ℕ, List, length}
 use Rattle.nj_scope.specs.ReadingList.{Entry}
 use Rattle.nj_graph.specs.Graph.{edges_of, files_of, IsGraphOf}
-use Rattle.nj_tools.specs.Blocks.{IsUnderway}
+use Rattle.nj_tools.specs.Inside.Blocks.{IsUnderway}
 use Rattle.nj_tools.specs.Listings.{trees_text}
-use Rattle.nj_tools.specs.Trees.{rows_text, rows_lines, rows_of, AreKnown}
+use Rattle.nj_tools.specs.Inside.Trees.{rows_text, rows_lines, rows_of, AreKnown}
 use Rattle.nj_tools.proofs.trees.write_trees.Given as goal
 
 abbrev pub invariant-files : goal.invariant-files

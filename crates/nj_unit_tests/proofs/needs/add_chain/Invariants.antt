@@ -1,5 +1,5 @@
 use Rattle.std.proofs.Common.{◌≡◌}
-use Rattle.nj_edges.specs.EdgesHeld.{no_files}
+use Rattle.nj_edges.specs.EdgeTables.{no_files}
 use Rattle.nj_unit_tests.proofs.needs.add_chain.Given as goal
 
 abbrev pub invariant-edges : goal.invariant-edges

@@ -1,7 +1,7 @@
 use Rattle.std.proofs.Common.{◌≡◌, ℕ, ◌<◌, ◌+◌, List, ◌∷◌, length, sum_by, vec_len}
 use Rattle.std.specs.Prelude.{Contains}
 use Rattle.nj_cycles.specs.Inputs.{edge_count}
-use Rattle.nj_cycles.specs.Marks.{unmarked, AreMarks}
+use Rattle.nj_cycles.specs.Inside.Marks.{unmarked, AreMarks}
 use Rattle.nj_cycles.proofs.Marking.{Marking}
 use Rattle.nj_cycles.proofs.marks.Marks.mark_needing.Given as goal
 

@@ -1,7 +1,7 @@
 use Rattle.std.proofs.Common.{◌≡◌, ◌<◌, None, sym, subst, arith, length}
 use Rattle.std.proofs.lemmas.List.{get_or_read}
 use Rattle.std.specs.Prelude.{slice_index, slice_index_or}
-use Rattle.nj_cycles.specs.Places.{NeedsAt}
+use Rattle.nj_cycles.specs.Inside.Places.{NeedsAt}
 use Rattle.nj_cycles.proofs.Marking.{IsPlaceOf, MarkedPast, more_none, more_then, first_users, next_users, user_needs}
 use Rattle.nj_cycles.proofs.marks.Marks.mark_users.Goals as goal
 

@@ -1,5 +1,5 @@
-use Rattle.nj_cycles.specs.Places.{NeedsAt}
-use Rattle.nj_cycles.specs.Marks.{MarksMore}
+use Rattle.nj_cycles.specs.Inside.Places.{NeedsAt}
+use Rattle.nj_cycles.specs.Inside.Marks.{MarksMore}
 use Rattle.nj_cycles.proofs.Marking.{IsPlaceOf, MarkedPast, places_left}
 use Rattle.nj_cycles.proofs.marks.Marks.mark_users.Given as goal
 

@@ -1,6 +1,6 @@
 use Rattle.std.proofs.Common.{◌≡◌, subst, arith}
-use Rattle.nj_cycles.specs.Places.{past_place}
-use Rattle.nj_cycles.specs.Users.{AreTied}
+use Rattle.nj_cycles.specs.Inside.Places.{past_place}
+use Rattle.nj_cycles.specs.Inside.Users.{AreTied}
 use Rattle.nj_cycles.proofs.InputPlaces.{rises}
 use Rattle.nj_cycles.proofs.users.Users.add_edge.Goals as goal
 

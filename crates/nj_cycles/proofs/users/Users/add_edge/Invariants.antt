@@ -1,5 +1,5 @@
 use Rattle.std.proofs.Common.{◌≡◌}
-use Rattle.nj_cycles.specs.Users.{AreTied}
+use Rattle.nj_cycles.specs.Inside.Users.{AreTied}
 use Rattle.nj_cycles.proofs.users.Users.add_edge.Given as goal
 
 abbrev pub invariant-places : goal.invariant-places

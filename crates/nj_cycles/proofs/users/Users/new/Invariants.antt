@@ -1,6 +1,6 @@
 use Rattle.std.proofs.Common.{◌≡◌}
-use Rattle.nj_cycles.specs.Places.{first_place}
-use Rattle.nj_cycles.specs.Users.{AreTied}
+use Rattle.nj_cycles.specs.Inside.Places.{first_place}
+use Rattle.nj_cycles.specs.Inside.Users.{AreTied}
 use Rattle.nj_cycles.proofs.users.Users.new.Given as goal
 
 abbrev pub invariant-edges : goal.invariant-edges

@@ -1,7 +1,7 @@
 use Rattle.std.proofs.Common.{◌<◌, length, sym, subst, arith}
 use Rattle.std.proofs.lemmas.List.{get_or-set_same}
-use Rattle.nj_cycles.specs.Places.{past_place}
-use Rattle.nj_cycles.specs.Walks.{EndsAt}
+use Rattle.nj_cycles.specs.Inside.Places.{past_place}
+use Rattle.nj_cycles.specs.Inside.Walks.{EndsAt}
 use Rattle.nj_cycles.proofs.Walking.{top_in}
 use Rattle.nj_cycles.proofs.walk.Walk.pass_inputs.Goals as goal
 

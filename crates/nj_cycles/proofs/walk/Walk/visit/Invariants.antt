@@ -1,6 +1,6 @@
 use Rattle.std.proofs.Common.{◌≢◌, ℕ, sum_by}
 use Rattle.nj_cycles.specs.declared.walk.Stage.TheVariants.{Unseen}
-use Rattle.nj_cycles.specs.Walks.{stage_of, turns_of, WalkStands}
+use Rattle.nj_cycles.specs.Inside.Walks.{stage_of, turns_of, WalkStands}
 use Rattle.nj_cycles.proofs.walk.Walk.visit.Given as goal
 
 abbrev pub invariant-turns : goal.invariant-turns

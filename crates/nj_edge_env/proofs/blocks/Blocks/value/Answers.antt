@@ -1,7 +1,7 @@
 use Rattle.std.proofs.Common.{Some, option_map, option_and_then, length, slice_range, nat_eq, ap, sym, subst, ◌∙◌, arith}
 use Rattle.std.specs.Map.{lookup}
 use Rattle.nj_edge_env.specs.Blocks.{bound_in}
-use Rattle.nj_edge_env.specs.BlocksHeld.{values_of, bound_of, AreRising}
+use Rattle.nj_edge_env.specs.Inside.BlocksHeld.{values_of, bound_of, AreRising}
 use Rattle.nj_edge_env.proofs.BoundLemmas.{part_of}
 use Rattle.nj_edge_env.proofs.BlockLemmas.{texts-at, held-at, value-found}
 use Rattle.nj_edge_env.proofs.blocks.Blocks.value.Goals as goal

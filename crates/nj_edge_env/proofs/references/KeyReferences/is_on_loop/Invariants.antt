@@ -1,5 +1,5 @@
 use Rattle.std.proofs.Common.{◌≡◌, ◌+◌, false, length, cond}
-use Rattle.nj_edge_env.specs.CyclesHeld.{unmarked, MarksLead, IsClosed}
+use Rattle.nj_edge_env.specs.Inside.CyclesHeld.{unmarked, MarksLead, IsClosed}
 use Rattle.nj_edge_env.proofs.references.KeyReferences.is_on_loop.Given as goal
 
 abbrev pub invariant-rounds : goal.invariant-rounds

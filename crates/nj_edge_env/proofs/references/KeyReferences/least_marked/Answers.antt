@@ -1,5 +1,5 @@
 use Rattle.std.proofs.Common.{rules, ◌+◌, sym, subst, arith}
-use Rattle.nj_edge_env.specs.CyclesHeld.{IsLeastBelow}
+use Rattle.nj_edge_env.specs.Inside.CyclesHeld.{IsLeastBelow}
 use Rattle.nj_edge_env.proofs.LoopLemmas.{off_loop, least_past, least_more}
 use Rattle.nj_edge_env.proofs.references.KeyReferences.least_marked.Goals as goal
 use Rattle.nj_edge_env.proofs.references.KeyReferences.least_marked.Goals.{then-counts-key+in_ok-is_on_loop+then-branch, else-counts-key, else-counts-key-via-then-counts-key+in_ok-is_on_loop+else-branch, else-counts-key-via-else-counts-key}

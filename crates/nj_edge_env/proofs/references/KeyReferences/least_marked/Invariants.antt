@@ -1,4 +1,4 @@
-use Rattle.nj_edge_env.specs.CyclesHeld.{IsLeastBelow}
+use Rattle.nj_edge_env.specs.Inside.CyclesHeld.{IsLeastBelow}
 use Rattle.nj_edge_env.proofs.references.KeyReferences.least_marked.Given as goal
 
 abbrev pub invariant-keys : goal.invariant-keys

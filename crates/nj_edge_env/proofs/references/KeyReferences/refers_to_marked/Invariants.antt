@@ -1,6 +1,6 @@
 use Rattle.std.proofs.Common.{◌<◌, ℕ}
 use Rattle.nj_edge_env.specs.ReferencesHeld.{row_at}
-use Rattle.nj_edge_env.specs.CyclesHeld.{IsMarked}
+use Rattle.nj_edge_env.specs.Inside.CyclesHeld.{IsMarked}
 use Rattle.nj_edge_env.proofs.references.KeyReferences.refers_to_marked.Given as goal
 
 abbrev pub invariant-keys : goal.invariant-keys

@@ -1,5 +1,5 @@
 use Rattle.std.proofs.Common.{◌+◌, cond}
-use Rattle.nj_edge_env.specs.CyclesHeld.{SameLoops, marked}
+use Rattle.nj_edge_env.specs.Inside.CyclesHeld.{SameLoops, marked}
 use Rattle.nj_edge_env.proofs.references.KeyReferences.strip.Given as goal
 
 abbrev pub invariant-rounds : goal.invariant-rounds

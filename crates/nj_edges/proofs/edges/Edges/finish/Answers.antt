@@ -4,7 +4,7 @@ use Rattle.nj_edges.specs.declared.edges.EdgeNo.{EdgeNo}
 use Rattle.nj_edges.specs.declared.users.RowPart.TheVariants.{Inputs, Validations}
 use Rattle.nj_edges.specs.EdgeGraphs.{EdgeGraph}
 use Rattle.nj_edges.specs.Edges.{edge_at, outputs_of}
-use Rattle.nj_edges.specs.EdgesHeld.{EdgeTable}
+use Rattle.nj_edges.specs.EdgeTables.{EdgeTable}
 use Rattle.nj_edges.specs.Needs.{makers_of_inputs}
 use Rattle.nj_edges.proofs.CycleLemmas.{row-below, outputs-end, some-output, first-output}
 use Rattle.nj_edges.proofs.GraphLemmas.{held-whole, maker-below, first-paths, first-table, same-first, on-edge}

@@ -1,7 +1,7 @@
 use Rattle.std.proofs.Common.{◌∙◌, ◌<◌, length, subst, sym}
 use Rattle.nj_edges.specs.Edges.{EdgePaths, is_among}
 use Rattle.nj_edges.specs.Files.{path_at}
-use Rattle.nj_edges.specs.UsersHeld.{using_edges}
+use Rattle.nj_edges.specs.Inside.UsersHeld.{using_edges}
 use Rattle.nj_edges.specs.declared.users.RowPart.TheVariants.{Validations}
 use Rattle.nj_edges.proofs.GraphUsers.{as-many, spans-below, users-known, validation-paths}
 use Rattle.nj_edges.proofs.graph.EdgeGraph.validation_users.Goals as goal

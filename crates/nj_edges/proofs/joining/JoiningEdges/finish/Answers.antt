@@ -1,5 +1,5 @@
 use Rattle.std.proofs.Common.{IfOk, subst}
-use Rattle.nj_edges.specs.EdgesHeld.{EdgeTable}
+use Rattle.nj_edges.specs.EdgeTables.{EdgeTable}
 use Rattle.nj_edges.specs.Graph.{FinishesAs}
 use Rattle.nj_edges.proofs.FinishLemmas.{finish-held, finish-table}
 use Rattle.nj_edges.proofs.joining.JoiningEdges.finish.Goals as goal

@@ -3,7 +3,7 @@ use Rattle.std.specs.Rc.{rc_slice_items}
 use Rattle.nj_text.specs.Lines.{text_lines}
 use Rattle.nj_manifest.specs.Contents.{placed_text}
 use Rattle.nj_graph.specs.Reading.{Site, entry_at, opened_in, text_read}
-use Rattle.nj_graph.specs.ReaderContracts.{ReadsItem, ReadsOrStops, site_of}
+use Rattle.nj_graph.specs.Inside.ReaderContracts.{ReadsItem, ReadsOrStops, site_of}
 use Rattle.nj_graph.proofs.OpenScopes.{grows-self, grows-then, open-grown}
 use Rattle.nj_manifest.proofs.Handed.{handed}
 use Rattle.nj_graph.proofs.ParsedLemmas.{parsed-at-first}

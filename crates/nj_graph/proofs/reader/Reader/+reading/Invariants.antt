@@ -2,7 +2,7 @@ use Rattle.std.proofs.Common.{◌≡◌, ℕ, ◌+◌, ◌*◌, List}
 use Rattle.nj_text.specs.Lines.{Line}
 use Rattle.nj_manifest.specs.Statements.{Lines}
 use Rattle.nj_scope.specs.ReadingList.{Entry}
-use Rattle.nj_graph.specs.ReaderContracts.{Holds, Grows, IsOpenIn, site_of}
+use Rattle.nj_graph.specs.Inside.ReaderContracts.{Holds, Grows, IsOpenIn, site_of}
 use Rattle.nj_graph.proofs.Turns.{Underway, lines_left}
 use Rattle.nj_graph.proofs.reader.Reader.+reading.Given as goal
 

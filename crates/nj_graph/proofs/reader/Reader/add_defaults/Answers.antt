@@ -5,7 +5,7 @@ use Rattle.nj_scope.specs.ReadingList.{Entry}
 use Rattle.nj_scope.proofs.DeclarationLemmas.{takes-default}
 use Rattle.nj_graph.specs.declared.reader.Reader.{Reader}
 use Rattle.nj_graph.specs.Reading.{entry_at}
-use Rattle.nj_graph.specs.ReaderContracts.{site_of}
+use Rattle.nj_graph.specs.Inside.ReaderContracts.{site_of}
 use Rattle.nj_graph.proofs.OpenScopes.{grows-self}
 use Rattle.nj_graph.proofs.Holding.{built-declares}
 use Rattle.nj_graph.proofs.reader.Reader.add_defaults.Goals as goal

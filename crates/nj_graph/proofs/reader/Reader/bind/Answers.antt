@@ -6,7 +6,7 @@ use Rattle.nj_faults.specs.Versions.{is_newer}
 use Rattle.nj_graph.specs.declared.reader.Reader.{Reader}
 use Rattle.nj_statements.proofs.Holding.{holds-other}
 use Rattle.nj_graph.specs.Reading.{entry_at}
-use Rattle.nj_graph.specs.ReaderContracts.{site_of}
+use Rattle.nj_graph.specs.Inside.ReaderContracts.{site_of}
 use Rattle.nj_graph.proofs.Holding.{holds-next, same-grows, version-accepted, name-is-other}
 use Rattle.nj_graph.proofs.reader.Reader.bind.Goals as goal
 use Rattle.nj_graph.proofs.reader.Reader.bind.Goals.{then-eq+in_ok-version+else-is_newer, else-eq}

@@ -2,7 +2,7 @@ use Rattle.std.proofs.Common.{◌≡◌, ℕ, List, ◌∷◌, drop}
 use Rattle.nj_manifest.specs.Contents.{lines_text}
 use Rattle.nj_scope.specs.ReadingList.{Entry}
 use Rattle.nj_graph.specs.Reading.{depth_fault}
-use Rattle.nj_graph.specs.ReaderContracts.{Holds, IsOpenIn}
+use Rattle.nj_graph.specs.Inside.ReaderContracts.{Holds, IsOpenIn}
 use Rattle.nj_graph.proofs.reader.Reader.check_depths.Given as goal
 
 abbrev pub invariant-lines : goal.invariant-lines

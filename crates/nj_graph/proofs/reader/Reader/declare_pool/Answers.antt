@@ -4,8 +4,9 @@ use Rattle.nj_manifest.specs.Statements.{PoolText}
 use Rattle.nj_manifest.specs.Contents.{name_text, lines_text}
 use Rattle.nj_graph.specs.declared.reader.Reader.{Reader}
 use Rattle.nj_statements.proofs.Holding.{holds-other}
-use Rattle.nj_graph.specs.Reading.{entry_at, site_scope, depth_fault}
-use Rattle.nj_graph.specs.ReaderContracts.{site_of}
+use Rattle.nj_graph.specs.Reading.{entry_at, depth_fault}
+use Rattle.nj_graph.specs.Inside.ReaderContracts.{site_scope}
+use Rattle.nj_graph.specs.Inside.ReaderContracts.{site_of}
 use Rattle.nj_graph.proofs.Holding.{holds-next, pool-new, depths-same, pool-declares, same-grows}
 use Rattle.nj_graph.proofs.OpenScopes.{open-grown}
 use Rattle.nj_graph.proofs.reader.Reader.declare_pool.Goals as goal

@@ -3,7 +3,7 @@ use Rattle.nj_manifest.specs.Statements.{RuleText}
 use Rattle.nj_manifest.specs.Contents.{name_text, lines_text}
 use Rattle.nj_statements.proofs.Holding.{holds-other}
 use Rattle.nj_graph.specs.Reading.{entry_at}
-use Rattle.nj_graph.specs.ReaderContracts.{site_of}
+use Rattle.nj_graph.specs.Inside.ReaderContracts.{site_of}
 use Rattle.nj_graph.proofs.Holding.{holds-next, same-grows, rule-new}
 use Rattle.nj_graph.proofs.reader.Reader.declare_rule.Goals as goal
 

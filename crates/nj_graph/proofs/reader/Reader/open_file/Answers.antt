@@ -1,7 +1,7 @@
 -- A file that a word names is opened.
 use Rattle.std.proofs.Common.{◌≡◌, ℕ, zero, suc, ◌-◌, ◌<◌, ◌≤◌, refl, subst, arith}
 use Rattle.nj_graph.specs.Reading.{most_opened}
-use Rattle.nj_graph.specs.ReaderContracts.{place_in}
+use Rattle.nj_graph.specs.Inside.ReaderContracts.{place_in}
 use Rattle.nj_graph.proofs.Found.{answers-named, found-text, unfound}
 use Rattle.nj_graph.proofs.Openings.{stops-lacking, stops-closed, stops-full, stops-unfound, opens-text, opens-same_fault, by-fault}
 use Rattle.nj_graph.proofs.reader.Reader.open_file.Goals as goal

@@ -6,7 +6,7 @@ use Rattle.nj_manifest.specs.Statements.{BindingText, RuleText, PoolText, Defaul
 use Rattle.nj_manifest.specs.Contents.{name_text, words_text, lines_text, build_text, statement_text}
 use Rattle.nj_scope.specs.ReadingList.{Entry}
 use Rattle.nj_graph.specs.Reading.{entry_at, own_fault}
-use Rattle.nj_graph.specs.ReaderContracts.{Holds, IsFault, Declares, site_of}
+use Rattle.nj_graph.specs.Inside.ReaderContracts.{Holds, IsFault, Declares, site_of}
 use Rattle.nj_manifest.proofs.Handed.{handed}
 use Rattle.nj_graph.proofs.Naming.{stops-own, reads-one}
 use Rattle.nj_graph.proofs.reader.Reader.read_item.Goals as goal

@@ -4,7 +4,7 @@ use Rattle.nj_text.specs.declared.spot.Spot.{Spot}
 use Rattle.nj_scope.specs.Readings.{EachPathOnce}
 use Rattle.nj_graph.specs.declared.reader.Reader.{Reader}
 use Rattle.nj_graph.specs.Reading.{opened_in, text_read, most_within, main_site, main_place}
-use Rattle.nj_graph.specs.ReaderContracts.{ReadsOrStops}
+use Rattle.nj_graph.specs.Inside.ReaderContracts.{ReadsOrStops}
 use Rattle.nj_graph.proofs.Found.{answers-named, found-text, unfound}
 use Rattle.nj_manifest.proofs.Handed.{handed}
 use Rattle.nj_graph.proofs.MainFiles.{main-fault, main-stands, main-holds, main-reads}

@@ -1,6 +1,6 @@
 use Rattle.std.proofs.Common.{◌∙◌, sym, ap}
 use Rattle.nj_edges.specs.Edges.{edge_at, inputs_of}
-use Rattle.nj_needs.specs.Graphs.{row_in}
+use Rattle.nj_needs.specs.Inside.Tops.{row_in}
 use Rattle.nj_needs.proofs.Bridges.{row-paths, files-within}
 use Rattle.nj_needs.proofs.looks.Looks.files.Goals as goal
 

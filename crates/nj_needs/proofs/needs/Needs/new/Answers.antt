@@ -1,5 +1,5 @@
 use Rattle.std.proofs.Common.{◌≡◌, [], refl, ap, ◌∙◌}
-use Rattle.nj_needs.specs.Standing.{left_of}
+use Rattle.nj_needs.specs.Inside.Standing.{left_of}
 use Rattle.nj_needs.specs.Walks.{commands_of}
 use Rattle.nj_needs.specs.declared.looks.Looks.{Looks}
 use Rattle.nj_needs.specs.declared.walk.Walk.{Walk}

@@ -1,6 +1,6 @@
 use Rattle.std.proofs.Common.{◌≡◌, ℕ, ◌+◌, ◌-◌, ◌<◌, List, [], ◌∷◌, ◌++◌, length, get_or, take, drop, sym, ap, ◌∙◌, arith}
 use Rattle.std.proofs.lemmas.List.{take_more, get_or-map, get_or-drop, length-map, length-drop, take_rest}
-use Rattle.nj_needs.specs.Paths.{places}
+use Rattle.nj_needs.specs.Inside.Paths.{places}
 use Rattle.nj_needs.specs.declared.frame.Frame.{Frame}
 use Rattle.nj_needs.proofs.saved.Saved.save.Goals as goal
 

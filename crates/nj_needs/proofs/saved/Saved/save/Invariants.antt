@@ -1,5 +1,5 @@
 use Rattle.std.proofs.Common.{◌≡◌, ◌≤◌, ◌+◌, take, drop, vec_capacity}
-use Rattle.nj_needs.specs.Paths.{places}
+use Rattle.nj_needs.specs.Inside.Paths.{places}
 use Rattle.nj_needs.proofs.saved.Saved.save.Given as goal
 
 abbrev pub invariant-changed : goal.invariant-changed

@@ -2,10 +2,10 @@ use Rattle.std.proofs.Common.{◌≡◌, ℕ, ◌+◌, ◌<◌, Bool, true, fals
 use Rattle.std.specs.Prelude.{slice_get}
 use Rattle.std.proofs.lemmas.List.{get_or_read}
 use Rattle.std.proofs.lemmas.Option.{same_Some}
-use Rattle.nj_needs.specs.Graphs.{row_in}
-use Rattle.nj_needs.specs.Counts.{counted}
-use Rattle.nj_needs.specs.Standing.{IsWalkAt, top_of, done_of}
-use Rattle.nj_needs.specs.Tops.{IsTop}
+use Rattle.nj_needs.specs.Inside.Tops.{row_in}
+use Rattle.nj_needs.specs.Inside.Standing.{counted}
+use Rattle.nj_needs.specs.Inside.Standing.{IsWalkAt, top_of, done_of}
+use Rattle.nj_needs.specs.Inside.Tops.{IsTop}
 use Rattle.nj_needs.specs.declared.frame.Frame.{Frame}
 use Rattle.nj_needs.specs.declared.walk.Walk.{Walk}
 use Rattle.nj_needs.proofs.Members.{In}

@@ -1,6 +1,6 @@
 use Rattle.std.proofs.Common.{[], ◌∷◌, ◌++◌, ap, ◌∙◌, Result, Ok, Err, OnErr, arith}
 use Rattle.std.proofs.lemmas.Grind.{common_steps}
-use Rattle.nj_scope.specs.LateHeld.{text_or_name, late_parts}
+use Rattle.nj_scope.specs.Inside.LateHeld.{text_or_name, late_parts}
 use Rattle.nj_scope.proofs.LateLemmas.{parts-longer, parts-counted}
 use Rattle.nj_scope.proofs.late.LateValue.push_bytes.Goals as goal
 

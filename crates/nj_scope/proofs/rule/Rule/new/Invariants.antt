@@ -1,6 +1,6 @@
 use Rattle.std.proofs.Common.{◌≡◌, take, map}
 use Rattle.nj_scope.specs.Rules.{line_kept}
-use Rattle.nj_scope.specs.RulesHeld.{line_held}
+use Rattle.nj_scope.specs.Inside.KeysHeld.{line_held}
 use Rattle.nj_manifest.specs.Contents.{line_text}
 use Rattle.nj_scope.proofs.rule.Rule.new.Given as goal
 

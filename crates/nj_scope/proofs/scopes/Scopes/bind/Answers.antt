@@ -1,7 +1,7 @@
 use Rattle.std.proofs.Common.{◌<◌, ◌&&◌, ◌==◌, cond, Some, length, ap, ◌∙◌, subst, sym, refl, bytes_eq}
 use Rattle.std.specs.Map.{lookup}
 use Rattle.nj_scope.specs.Scopes.{parent_at, bound_at, rule_at}
-use Rattle.nj_scope.specs.ScopesHeld.{values_text}
+use Rattle.nj_scope.specs.Inside.ScopesHeld.{values_text}
 use Rattle.nj_scope.proofs.DeclarationLemmas.{at_ok, at_err}
 use Rattle.nj_scope.proofs.ScopeLemmas.{earlier-set_text, kept-text, bound-text}
 use Rattle.nj_scope.proofs.scopes.Scopes.bind.Goals as goal

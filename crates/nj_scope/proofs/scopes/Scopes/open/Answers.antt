@@ -1,6 +1,6 @@
 use Rattle.std.proofs.Common.{◌≡◌, ◌<◌, Some, map, length, ap, ◌∙◌, subst, sym, refl}
 use Rattle.nj_scope.specs.Scopes.{parent_at, bound_at, rule_at}
-use Rattle.nj_scope.specs.ScopesHeld.{scope_text, ParentsAreEarlier}
+use Rattle.nj_scope.specs.Inside.ScopesHeld.{scope_text, ParentsAreEarlier}
 use Rattle.nj_scope.proofs.ScopeLemmas.{opened, parent_at-number, parent_at-other, bound_at-opened, rule_at-opened, earlier-opened, pushed-text}
 use Rattle.nj_scope.proofs.scopes.Scopes.open.Goals as goal
 

@@ -1,6 +1,6 @@
 use Rattle.std.proofs.Common.{map, sym, ap, ◌∙◌}
 use Rattle.nj_scope.specs.Readings.{is_read}
-use Rattle.nj_scope.specs.TableHeld.{kept_reading}
+use Rattle.nj_scope.specs.Inside.TableHeld.{kept_reading}
 use Rattle.nj_scope.proofs.TableLemmas.{is_read-kept}
 use Rattle.nj_scope.proofs.table.FileTable.has.Goals as goal
 

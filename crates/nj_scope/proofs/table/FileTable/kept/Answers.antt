@@ -1,7 +1,7 @@
 use Rattle.std.proofs.Common.{ap, map, option_map, ◌∙◌}
 use Rattle.nj_scope.specs.Opening.{shared_bytes}
 use Rattle.nj_scope.specs.Readings.{reading_of}
-use Rattle.nj_scope.specs.TableHeld.{kept_reading}
+use Rattle.nj_scope.specs.Inside.TableHeld.{kept_reading}
 use Rattle.nj_scope.proofs.TableLemmas.{reading_of-kept}
 use Rattle.nj_scope.proofs.table.FileTable.kept.Goals as goal
 

@@ -3,7 +3,8 @@ use Rattle.nj_edges.specs.Files.{path_at}
 use Rattle.nj_edges.specs.Graph.{FinishesAs}
 use Rattle.nj_faults.specs.declared.fault.Cause.TheVariants.{Cycle}
 use Rattle.nj_faults.specs.Faults.{fault_at}
-use Rattle.nj_statements.specs.Answers.{BuildingText, HoldsEdges, detail_text}
+use Rattle.nj_statements.specs.Answers.{BuildingText, HoldsEdges}
+use Rattle.nj_statements.specs.Inside.EdgeSteps.{detail_text}
 use Rattle.nj_statements.proofs.Finishing.{detail-count, detail-there, detail-known, built-held, built-of, cycle-fault}
 use Rattle.nj_statements.proofs.building.Building.finish.Goals as goal
 

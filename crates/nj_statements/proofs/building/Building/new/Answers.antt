@@ -1,5 +1,5 @@
 use Rattle.std.proofs.Common.{map, ap}
-use Rattle.nj_statements.specs.Answers.{detail_text}
+use Rattle.nj_statements.specs.Inside.EdgeSteps.{detail_text}
 use Rattle.nj_statements.proofs.Holding.{holds-none}
 use Rattle.nj_statements.proofs.building.Building.new.Goals as goal
 

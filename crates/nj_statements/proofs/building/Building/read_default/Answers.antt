@@ -4,7 +4,8 @@ use Rattle.nj_manifest.specs.Statements.{DefaultText}
 use Rattle.nj_scope.specs.ReadingList.{value_after}
 use Rattle.nj_statements.specs.EdgeList.{Values, no_block}
 use Rattle.nj_statements.specs.BuildFaults.{first_fault, target_fault}
-use Rattle.nj_statements.specs.Answers.{BuildingText, HoldsEdges, Sees, detail_text, entry_at_place}
+use Rattle.nj_statements.specs.Answers.{BuildingText, HoldsEdges, entry_at_place}
+use Rattle.nj_statements.specs.Inside.EdgeSteps.{Sees, detail_text}
 use Rattle.nj_statements.proofs.Holding.{holds-default}
 use Rattle.nj_statements.proofs.building.Building.read_default.Goals as goal
 

@@ -12,7 +12,8 @@ use Rattle.nj_edges.specs.Edges.{inputs_of}
 use Rattle.nj_statements.specs.declared.building.Detail.{Detail}
 use Rattle.nj_statements.specs.EdgeList.{Values, Block, block_of, on_line, edges_read, edge_of_build, file_said, paths_of_edges, stated_paths, edge_paths, no_block}
 use Rattle.nj_statements.specs.BuildFaults.{or_then, paths_fault, names_fault, late_fault}
-use Rattle.nj_statements.specs.Answers.{BuildingText, HoldsEdges, Sees, IsFault, AddsEdge, AddsNothing, names_read, detail_text, IsFileSaid, with_dyndep, entry_at_place}
+use Rattle.nj_statements.specs.Answers.{BuildingText, HoldsEdges, IsFault, AddsNothing, entry_at_place}
+use Rattle.nj_statements.specs.Inside.EdgeSteps.{Sees, AddsEdge, names_read, detail_text, IsFileSaid, with_dyndep}
 use Rattle.nj_edge_env.specs.LateTexts.{asked_text}
 use Rattle.nj_edge_env.specs.ReferencesHeld.{TellsCycles}
 use Rattle.nj_statements.proofs.ReferenceLemmas.{same-rule}

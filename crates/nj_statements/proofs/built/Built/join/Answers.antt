@@ -4,7 +4,7 @@ use Rattle.nj_edges.specs.declared.files.FileNo.{FileNo}
 use Rattle.nj_edges.specs.Joining.{JoinTable, join_of}
 use Rattle.nj_statements.specs.declared.building.DyndepEdge.{DyndepEdge}
 use Rattle.nj_statements.specs.Built.{BuiltText, IsBuiltOf}
-use Rattle.nj_statements.specs.JoiningHeld.{first_edges, bind_all, count_bound}
+use Rattle.nj_statements.specs.Inside.JoiningSteps.{first_edges, bind_all, count_bound}
 use Rattle.nj_statements.proofs.StartLemmas.{start-held, start-holds}
 use Rattle.nj_statements.proofs.built.Built.join.Goals as goal
 

@@ -3,7 +3,7 @@ use Rattle.nj_text.specs.declared.word.Word.{Word}
 use Rattle.nj_manifest.specs.Contents.{words_text}
 use Rattle.nj_statements.specs.EdgeList.{paths_said}
 use Rattle.nj_statements.specs.BuildFaults.{empty_path}
-use Rattle.nj_statements.specs.Answers.{with_input_unless, with_inputs}
+use Rattle.nj_statements.specs.Inside.EdgeSteps.{with_input_unless, with_inputs}
 use Rattle.nj_statements.proofs.Lists.{at-next}
 use Rattle.nj_statements.proofs.Keeps.{keeps_input}
 use Rattle.nj_statements.proofs.Tables.{grows-input}

@@ -2,7 +2,8 @@ use Rattle.std.proofs.Common.{◌≡◌, drop}
 use Rattle.nj_manifest.specs.Contents.{words_text}
 use Rattle.nj_statements.specs.EdgeList.{Values, paths_said}
 use Rattle.nj_statements.specs.BuildFaults.{empty_path, first_fault}
-use Rattle.nj_statements.specs.Answers.{SeesNames, Grows, KeepsRead, with_inputs}
+use Rattle.nj_statements.specs.Answers.{KeepsRead}
+use Rattle.nj_statements.specs.Inside.EdgeSteps.{SeesNames, Grows, with_inputs}
 use Rattle.nj_statements.proofs.edge.NamedLine.add_inputs.Given as goal
 
 abbrev pub invariant-words : goal.invariant-words

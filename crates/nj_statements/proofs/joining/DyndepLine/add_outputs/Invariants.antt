@@ -3,7 +3,8 @@ use Rattle.nj_manifest.specs.Contents.{words_text}
 use Rattle.nj_statements.specs.EdgeList.{paths_said}
 use Rattle.nj_statements.specs.BuildFaults.{outputs_fault}
 use Rattle.nj_statements.specs.Joining.{no_values}
-use Rattle.nj_statements.specs.JoiningHeld.{KeepsEdges, with_added_outputs}
+use Rattle.nj_statements.specs.JoiningHeld.{KeepsEdges}
+use Rattle.nj_statements.specs.Inside.JoiningSteps.{with_added_outputs}
 use Rattle.nj_statements.proofs.joining.DyndepLine.add_outputs.Given as goal
 
 abbrev pub invariant-words : goal.invariant-words

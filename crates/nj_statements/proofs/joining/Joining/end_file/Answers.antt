@@ -6,7 +6,8 @@ use Rattle.nj_edges.specs.Edges.{edge_at, first_edge}
 use Rattle.nj_edges.specs.Files.{path_at}
 use Rattle.nj_statements.specs.Built.{detail_at}
 use Rattle.nj_statements.specs.Joining.{lacking_fault}
-use Rattle.nj_statements.specs.JoiningHeld.{JoiningText, HoldsJoined, fault_of_waiting, is_bound_to, still_waiting}
+use Rattle.nj_statements.specs.JoiningHeld.{JoiningText, HoldsJoined, still_waiting}
+use Rattle.nj_statements.specs.Inside.JoiningSteps.{fault_of_waiting, is_bound_to}
 use Rattle.nj_statements.proofs.JoiningLemmas.{path-there, waiting-known, none-lacks, zero-lacks, one-lacks}
 use Rattle.nj_statements.proofs.joining.Joining.end_file.Goals as goal
 

@@ -6,7 +6,8 @@ use Rattle.nj_statements.specs.EdgeList.{paths_said}
 use Rattle.nj_statements.specs.BuildFaults.{or_then, empty_path, first_fault, outputs_fault}
 use Rattle.nj_statements.specs.Joining.{no_values, entry_fault, with_entry}
 use Rattle.nj_statements.specs.Answers.{IsFault}
-use Rattle.nj_statements.specs.JoiningHeld.{JoiningText, HoldsJoined, IsMeant, KeepsEdges, maker_fault, edge_bound, with_added_outputs, with_added_inputs}
+use Rattle.nj_statements.specs.JoiningHeld.{JoiningText, HoldsJoined, KeepsEdges}
+use Rattle.nj_statements.specs.Inside.JoiningSteps.{IsMeant, maker_fault, edge_bound, with_added_outputs, with_added_inputs}
 use Rattle.nj_statements.proofs.Faults.{fault-first, fault-second, both-none}
 use Rattle.nj_statements.proofs.AddedLemmas.{keeps-nothing, keeps-trans, outputs-open, inputs-open}
 use Rattle.nj_statements.proofs.Holding.{on-err}

@@ -2,7 +2,7 @@ use Rattle.std.proofs.Common.{◌≡◌, ◌++◌, drop, map}
 use Rattle.nj_text.specs.Words.{part_text}
 use Rattle.nj_scope.specs.Scopes.{expanded}
 use Rattle.nj_statements.specs.EdgeList.{Values}
-use Rattle.nj_statements.specs.Answers.{SeesNames}
+use Rattle.nj_statements.specs.Inside.EdgeSteps.{SeesNames}
 use Rattle.nj_statements.proofs.names.Names.expand.Given as goal
 
 abbrev pub invariant-parts : goal.invariant-parts

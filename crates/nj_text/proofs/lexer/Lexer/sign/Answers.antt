@@ -1,6 +1,6 @@
 use Rattle.std.proofs.Common.{sym, ap, ◌∙◌}
 use Rattle.nj_text.specs.Calls.{sign_of}
-use Rattle.nj_text.specs.Standing.{state_at}
+use Rattle.nj_text.specs.Inside.Standing.{state_at}
 use Rattle.nj_text.proofs.Stands.{sign_opening}
 use Rattle.nj_text.proofs.lexer.Lexer.sign.Goals as goal
 

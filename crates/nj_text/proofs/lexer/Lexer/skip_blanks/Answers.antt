@@ -1,6 +1,6 @@
 use Rattle.std.proofs.Common.{sym, ap, ◌∙◌}
 use Rattle.nj_text.specs.Calls.{skip_blanks_of}
-use Rattle.nj_text.specs.Standing.{state_at}
+use Rattle.nj_text.specs.Inside.Standing.{state_at}
 use Rattle.nj_text.proofs.Stands.{blanks_skipped}
 use Rattle.nj_text.proofs.lexer.Lexer.skip_blanks.Goals as goal
 

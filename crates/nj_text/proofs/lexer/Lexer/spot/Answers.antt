@@ -1,6 +1,6 @@
 use Rattle.std.proofs.Common.{sym, ap, ◌∙◌}
 use Rattle.nj_text.specs.Calls.{spot_of}
-use Rattle.nj_text.specs.Standing.{state_at}
+use Rattle.nj_text.specs.Inside.Standing.{state_at}
 use Rattle.nj_text.proofs.Stands.{spot_between, spot_inside, spot_opening}
 use Rattle.nj_text.proofs.lexer.Lexer.spot.Goals as goal
 

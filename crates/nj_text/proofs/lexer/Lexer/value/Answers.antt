@@ -1,6 +1,6 @@
 use Rattle.std.proofs.Common.{sym, ap, ◌∙◌}
 use Rattle.nj_text.specs.Calls.{value_of, after_blanks, value_at, is_inside}
-use Rattle.nj_text.specs.Standing.{state_at, line_at, other_lines_at}
+use Rattle.nj_text.specs.Inside.Standing.{state_at, line_at, other_lines_at}
 use Rattle.nj_text.proofs.Stands.{value_between, value_opening, value_inside, settled}
 use Rattle.nj_text.proofs.lexer.Lexer.value.Goals as goal
 

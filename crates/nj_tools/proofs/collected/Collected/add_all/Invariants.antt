@@ -1,5 +1,5 @@
 use Rattle.std.proofs.Common.{◌≡◌, take}
-use Rattle.nj_tools.specs.Collections.{with_files}
+use Rattle.nj_tools.specs.Inside.Collections.{with_files}
 use Rattle.nj_tools.proofs.collected.Collected.add_all.Given as goal
 
 abbrev pub invariant-files : goal.invariant-files

@@ -1,0 +1,94 @@
+-- What the steps of a run do, on the way to its end.
+use Rattle.std.specs.Prelude.{◌≡◌, ◌⊎◌, ℕ, Bool, Option, Some, None, Result, Ok, Err, List, []}
+use Rattle.nj_scope.specs.Readings.{Reading}
+use Rattle.nj_scope.specs.Sources.{SourceState}
+use Rattle.nj_scope.specs.ReadingList.{Entry}
+use Rattle.nj_faults.specs.declared.fault.GraphFault.{GraphFault}
+use Rattle.nj_faults.specs.FaultLines.{fault_line}
+use Rattle.nj_faults.specs.declared.fault.Cause.TheVariants.{TextNotUtf8}
+use Rattle.nj_faults.specs.Faults.{no_memory, unplaced}
+use Rattle.nj_graph.specs.Graph.{IsGraphOf}
+use Rattle.nj_graph.specs.Loads.{LoadedText}
+use Rattle.nj_graph.specs.Runs.{IsRead}
+use Rattle.nj_tools.specs.Sinks.{SinkState, Takes}
+use Rattle.nj_tools.specs.Texts.{FailsWithin, TakesFront}
+use Rattle.nj_args.specs.Requests.{ActionText, RequestText}
+use Rattle.nj_args.specs.FaultLines as lines
+use Rattle.nj_args.specs.declared.faults.UsageFault.{UsageFault}
+use Rattle.nj_args.specs.declared.faults.UsageFault.TheVariants as usage
+use Rattle.nj_cli.specs.Answers.{output_of, finished, stopped, faulty, out_of_range, EndsWith, with_line_end, mark_line}
+use Rattle.nj_cli.specs.Reported.{Failed, Reported}
+use Rattle.nj_cli.specs.Runs.{out_of_memory, AreStatements, HaveFault}
+use Rattle.nj_cli.specs.declared.fault.RunFault.{RunFault}
+use Rattle.nj_cli.specs.declared.fault.RunFault.TheVariants as fault
+use Rattle.nj_marks.specs.declared.fault.MarkFault.{MarkFault}
+use Rattle.nj_marks.specs.declared.fault.MarkFault.TheVariants as mark
+use Rattle.nj_tools.specs.declared.fault.ToolFault.{ToolFault}
+use Rattle.nj_tools.specs.declared.fault.ToolFault.TheVariants as tool
+use Rattle.nj_cli.specs.declared.status.Status.{Status}
+use Rattle.nj_cli.specs.declared.status.Status.TheVariants.{Done, Fault, Usage, Stopped, OutputFailed}
+use Rattle.std.specs.Global.{Vec}
+use Rattle.nj_edges.specs.declared.files.FileNo.{FileNo}
+use Rattle.nj_edges.specs.Files.{AreFiles}
+
+-- the files of the targets, or the fault; or out of memory
+abbrev pub PicksTargets : (files : List (List ℕ)) → (expected : Result (List (List ℕ)) GraphFault) → Result (Vec FileNo) GraphFault → Type 0
+PicksTargets files expected (Ok numbers) = (paths : List (List ℕ)) × (expected ≡ Ok paths) × AreFiles files numbers.items paths
+PicksTargets files expected (Err fault) = (fault ≡ no_memory) ⊎ (expected ≡ Err fault)
+
+-- the graph of the statements of the files, or what is wrong with these
+abbrev pub GraphOr : RequestText → (before after : SourceState) → List Reading → Result LoadedText GraphFault → Type 0
+GraphOr request before after files (Ok loaded) =
+    (entries : List Entry) × AreStatements request.file request.dyndep before after files entries × IsGraphOf loaded.graph entries
+GraphOr request before after files (Err fault) = HaveFault request.file request.dyndep before after files fault
+
+-- these files were read, each path once
+abbrev pub ReadsGraph : RequestText → (before after : SourceState) → Result LoadedText GraphFault → Type 0
+ReadsGraph request before after result = (files : List Reading) × IsRead before after [] files × GraphOr request before after files result
+
+abbrev pub fault_of_mark : MarkFault → RunFault
+fault_of_mark mark.BadMark = fault.MarkOutOfRange
+fault_of_mark mark.MarkOutOfRange = fault.MarkOutOfRange
+fault_of_mark mark.OutOfMemory = fault.OutOfMemory
+
+abbrev pub fault_of_tool : ToolFault → RunFault
+fault_of_tool (tool.TextNotUtf8 edge) = fault.Graph (unplaced TextNotUtf8)
+fault_of_tool tool.Write = fault.Write
+fault_of_tool tool.OutOfMemory = fault.OutOfMemory
+
+-- what was output, and how the run ends accordingly
+abbrev pub AnswersTo : List Entry → ActionText → (old new : SinkState) → Result (Option (List ℕ)) RunFault → Type 0
+AnswersTo entries action old new (Ok None) = EndsWith entries action finished × Takes old new (output_of entries action)
+AnswersTo entries action old new (Ok (Some mark)) = EndsWith entries action (stopped mark) × Takes old new (output_of entries action)
+AnswersTo entries action old new (Err (fault.Graph f)) =
+    ((f ≡ no_memory) × (new ≡ old)) ⊎ (EndsWith entries action (faulty (fault_line f)) × Takes old new (output_of entries action))
+AnswersTo entries action old new (Err fault.MarkOutOfRange) =
+    EndsWith entries action (faulty out_of_range) × Takes old new (output_of entries action)
+AnswersTo entries action old new (Err fault.Write) = FailsWithin old new (output_of entries action)
+AnswersTo entries action old new (Err fault.OutOfMemory) = TakesFront old new (output_of entries action)
+
+-- the line was reported, or out of memory if there was no room to make it
+abbrev pub ReportsLine : (old new : SinkState) → (line : List ℕ) → Type 0
+ReportsLine old new line = Reported old new line ⊎ Reported old new (with_line_end out_of_memory)
+
+-- the mark was reported; or the error output failed; or its line could not be made
+abbrev pub ReportsMark : (validations : Bool) → (old new : SinkState) → (mark : List ℕ) → Status → Type 0
+ReportsMark validations old new mark Stopped = Takes old new (mark_line validations mark)
+ReportsMark validations old new mark OutputFailed = Failed old new (mark_line validations mark)
+ReportsMark validations old new mark Fault = Reported old new (with_line_end out_of_memory)
+ReportsMark validations old new mark other = ⊥
+
+-- what is reported of an answer
+abbrev pub Concludes : (validations : Bool) → (old new : SinkState) → Result (Option (List ℕ)) RunFault → Status → Type 0
+Concludes validations old new (Ok None) status = (new ≡ old) × (status ≡ Done)
+Concludes validations old new (Ok (Some mark)) status = ReportsMark validations old new mark status
+Concludes validations old new (Err (fault.Graph f)) status = ReportsLine old new (with_line_end (fault_line f)) × (status ≡ Fault)
+Concludes validations old new (Err fault.MarkOutOfRange) status = Reported old new (with_line_end out_of_range) × (status ≡ Fault)
+Concludes validations old new (Err fault.Write) status = (new ≡ old) × (status ≡ OutputFailed)
+Concludes validations old new (Err fault.OutOfMemory) status = Reported old new (with_line_end out_of_memory) × (status ≡ Fault)
+
+-- what is reported of words that are not a valid request
+abbrev pub ReportsMisuse : (old new : SinkState) → UsageFault → Status → Type 0
+ReportsMisuse old new usage.OutOfMemory status = Reported old new (with_line_end out_of_memory) × (status ≡ Fault)
+ReportsMisuse old new fault status =
+    (Reported old new (lines.fault_line fault) × (status ≡ Usage)) ⊎ (Reported old new (with_line_end out_of_memory) × (status ≡ Fault))

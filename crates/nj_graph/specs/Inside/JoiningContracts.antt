@@ -1,0 +1,126 @@
+-- What each step of the joining of dyndep files answers, by what is joined so far. Nothing here has to be believed.
+use Rattle.std.specs.Prelude.{◌≡◌, ◌⊎◌, ℕ, true, false, Option, Some, None, Result, Ok, Err, List, String, string_bytes, ⊤}
+use Rattle.std.specs.Str.{is_utf8}
+use Rattle.nj_text.specs.Lines.{Line}
+use Rattle.nj_manifest.specs.declared.entries.Entry as text
+use Rattle.nj_manifest.specs.Faults.{Fault}
+use Rattle.nj_manifest.specs.Statements.{Parse}
+use Rattle.nj_manifest.specs.Dyndeps.{EntryText, DyndepLeft, Refusing, entry_of}
+use Rattle.nj_manifest.specs.DyndepParsers.{entry_text}
+use Rattle.nj_manifest.specs.Inside.ParserContracts.{left_by}
+use Rattle.nj_scope.specs.Readings.{Reading, paths_of, IsPrefix}
+use Rattle.nj_scope.specs.Sources.{SourceState}
+use Rattle.nj_scope.specs.ReadingList.{Entry}
+use Rattle.nj_faults.specs.declared.fault.Place.{Place}
+use Rattle.nj_faults.specs.declared.fault.GraphFault.{GraphFault}
+use Rattle.nj_faults.specs.declared.fault.Cause.TheVariants.{PathNotText}
+use Rattle.nj_faults.specs.Faults.{fault_in, no_memory}
+use Rattle.nj_statements.specs.EdgeList.{Pending}
+use Rattle.nj_statements.specs.Joining.{lacking_fault}
+use Rattle.nj_statements.specs.JoiningHeld.{JoiningText, HoldsJoined}
+use Rattle.nj_graph.specs.Reading.{End, Whole, Refused}
+use Rattle.nj_graph.specs.Runs.{IsRead, IsEnd, IsLacking, paths_with, Stops}
+use Rattle.nj_graph.specs.Inside.ReaderContracts.{ReadsAll}
+use Rattle.nj_graph.specs.Joining.{end_by, text_joined, path_asked, file_joined, all_joined, with_all_new, joined_after}
+
+-- ---- the name of a file
+
+-- the path as a text, or the fault that it is not UTF-8
+abbrev pub NamesFile : {Z : Type 0} → Place → (path : List ℕ) → Result (String Z) GraphFault → Type 0
+NamesFile place path (Ok name) = (is_utf8 path ≡ true) × (string_bytes name ≡ path)
+NamesFile place path (Err fault) =
+    (fault ≡ no_memory) ⊎ ((is_utf8 path ≡ false) × (fault ≡ record { place = Some place; cause = PathNotText }))
+
+-- ---- the next entry
+
+-- what a parser answers if this is read from what is left; its faults are reported in the file
+abbrev pub NextEntryOf : (file : List ℕ) → Parse (Option EntryText) → (after : DyndepLeft) → Result (Option text.Entry) GraphFault
+    → Type 0
+NextEntryOf file expected after (Ok (Some entry)) =
+    (rest : List Line) × (expected ≡ Ok (Some (entry_text entry), rest)) × (after ≡ left_by true rest)
+NextEntryOf file expected after (Ok None) = (rest : List Line) × (expected ≡ Ok (None, rest))
+NextEntryOf file expected after (Err fault) =
+    (fault ≡ no_memory) ⊎ ((found : Fault) × (expected ≡ Err found) × (fault ≡ fault_in file found))
+
+abbrev pub NextEntryIs : (file : List ℕ) → (before after : DyndepLeft) → Result (Option text.Entry) GraphFault → Type 0
+NextEntryIs file (Refusing found) after result = ⊤
+NextEntryIs file before after result = NextEntryOf file (entry_of before) after result
+
+-- ---- a text
+
+-- All entries are joined. It remains to check whether an edge waits for the file.
+pub record TextJoined (file : List ℕ) (stated : List Entry) (text : List ℕ) (joined : List Entry) (held : JoiningText) : Type 0 where
+  pub now : List Entry
+  pub holds : HoldsJoined held stated now
+  pub joins : text_joined file stated text joined ≡ record { entries = now; end = end_by (lacking_fault file now) }
+
+-- an entry is refused, or the text is
+pub record TextRefused (file : List ℕ) (stated : List Entry) (text : List ℕ) (joined : List Entry) (fault : GraphFault) : Type 0 where
+  pub now : List Entry
+  pub joins : text_joined file stated text joined ≡ record { entries = now; end = Refused fault }
+
+abbrev pub JoinsText : (file : List ℕ) → (stated : List Entry) → (text : List ℕ) → (joined : List Entry) → JoiningText
+    → Result (Unit {0}) GraphFault → Type 0
+JoinsText file stated text joined held (Ok done) = TextJoined file stated text joined held
+JoinsText file stated text joined held (Err fault) = (fault ≡ no_memory) ⊎ TextRefused file stated text joined fault
+
+-- ---- a file
+
+-- the whole file is joined
+pub record FileJoined (stated joined : List Entry) (p : Pending) (before after : SourceState) (old table : List Reading)
+    (held : JoiningText) : Type 0 where
+  pub files : List Reading
+  pub reads : ReadsAll before after old files table
+  pub came_to : with_all_new (paths_of old) (path_asked p) ≡ paths_of files
+  pub now : List Entry
+  pub holds : HoldsJoined held stated now
+  pub joins : (all : List Reading) → IsPrefix files all → file_joined all stated p joined ≡ record { entries = now; end = Whole }
+
+pub record FileLacksMemory (p : Pending) (before after : SourceState) (old files : List Reading) (fault : GraphFault) : Type 0 where
+  pub answered : fault ≡ no_memory
+  pub failures : after.failures ≡ before.failures
+  pub came_to : IsPrefix (paths_of files) (with_all_new (paths_of old) (path_asked p))
+
+pub record FileEnds (stated joined : List Entry) (p : Pending) (before after : SourceState) (old files : List Reading)
+    (fault : GraphFault) : Type 0 where
+  pub now : List Entry
+  pub end : End
+  pub answered : IsEnd before after end fault
+  pub joins : (all : List Reading) → IsPrefix files all → IsLacking end all
+      → file_joined all stated p joined ≡ record { entries = now; end = end }
+  pub came_to : with_all_new (paths_of old) (path_asked p) ≡ paths_with end files
+
+-- the joining stops at the file
+pub record FileStops (stated joined : List Entry) (p : Pending) (before after : SourceState) (old : List Reading)
+    (fault : GraphFault) : Type 0 where
+  pub files : List Reading
+  pub reads : IsRead before after old files
+  pub stops : FileLacksMemory p before after old files fault ⊎ FileEnds stated joined p before after old files fault
+
+abbrev pub JoinsFile : (stated joined : List Entry) → Pending → (before after : SourceState) → (old table : List Reading)
+    → JoiningText → Result (Unit {0}) GraphFault → Type 0
+JoinsFile stated joined p before after old table held (Ok done) = FileJoined stated joined p before after old table held
+JoinsFile stated joined p before after old table held (Err fault) = FileStops stated joined p before after old fault
+
+-- ---- all files
+
+pub record FilesJoined (stated : List Entry) (before after : SourceState) (old table : List Reading) (held : JoiningText)
+    : Type 0 where
+  pub files : List Reading
+  pub reads : ReadsAll before after old files table
+  pub now : List Entry
+  pub holds : HoldsJoined held stated now
+  pub paths : List (List ℕ)
+  pub came_to : with_all_new (paths_of old) paths ≡ paths_of files
+  pub joins : (all : List Reading) → IsPrefix files all
+      → all_joined all stated ≡ record { read = record { entries = now; end = Whole }; paths = paths }
+
+pub record FilesStop (stated : List Entry) (before after : SourceState) (old : List Reading) (fault : GraphFault) : Type 0 where
+  pub files : List Reading
+  pub reads : IsRead before after old files
+  pub stops : Stops before after files (joined_after old stated) fault
+
+abbrev pub JoinsFiles : (stated : List Entry) → (before after : SourceState) → (old table : List Reading) → JoiningText
+    → Result (Unit {0}) GraphFault → Type 0
+JoinsFiles stated before after old table held (Ok done) = FilesJoined stated before after old table held
+JoinsFiles stated before after old table held (Err fault) = FilesStop stated before after old fault

@@ -1,0 +1,229 @@
+-- What a reader holds after some statements, and what each of its calls reads.
+use Rattle.std.specs.Prelude.{◌≡◌, ◌⊎◌, ℕ, suc, ◌<◌, ◌≤◌, Option, Some, None, Result, Ok, Err, List, [], ◌∷◌, length, String, string_bytes}
+use Rattle.std.specs.Prelude.{⊤}
+use Rattle.std.specs.Global.{Global}
+use Rattle.std.specs.List.{AllByRecursion}
+use Rattle.std.specs.Rc.{rc_slice_items}
+use Rattle.std.specs.declared.rc.RcSlice.{RcSlice}
+use Rattle.nj_text.specs.declared.spot.Spot.{Spot}
+use Rattle.nj_text.specs.Lines.{Line}
+use Rattle.nj_text.specs.Words.{WordText}
+use Rattle.nj_manifest.specs.declared.statement.Placed.{Placed}
+use Rattle.nj_manifest.specs.declared.statement.Statement.{Statement}
+use Rattle.nj_manifest.specs.Faults.{Fault}
+use Rattle.nj_manifest.specs.Contents.{placed_text}
+use Rattle.nj_manifest.specs.Statements.{StatementText, IncludeText, SubninjaText, next_statement, Left, Lines, Refused}
+use Rattle.nj_scope.specs.Readings.{Reading, EachPathOnce, paths_of, IsPrefix}
+use Rattle.nj_scope.specs.Sources.{SourceState}
+use Rattle.nj_scope.specs.Opening as table
+use Rattle.nj_scope.specs.Scopes.{ScopeText, parent_at}
+use Rattle.nj_scope.specs.Declarations.{DeclaredBy}
+use Rattle.nj_scope.specs.ReadingList.{Entry, files_opened}
+use Rattle.nj_faults.specs.declared.fault.Place.{Place}
+use Rattle.nj_faults.specs.declared.fault.GraphFault.{GraphFault}
+use Rattle.nj_faults.specs.declared.fault.Cause.TheVariants.{Missing, Io}
+use Rattle.nj_graph.specs.declared.opening.Naming.{Naming}
+use Rattle.nj_graph.specs.declared.opening.Naming.TheVariants as naming
+use Rattle.nj_graph.specs.declared.reader.Reader.{Reader}
+use Rattle.nj_graph.specs.declared.reader.OpenFile.{OpenFile}
+use Rattle.nj_graph.specs.declared.reader.Opened.{Opened}
+use Rattle.nj_faults.specs.Faults.{fault_in, no_memory}
+use Rattle.nj_statements.specs.Answers.{HoldsEdges}
+pub use Rattle.nj_statements.specs.Answers.{IsFault, Checks}
+use Rattle.nj_graph.specs.Graph.{IsOpenScope}
+use Rattle.nj_graph.specs.Reading.{Site, included_site, subninja_site, own_fault, Whole, ReadingText, Opens, opened_in, statement_read}
+use Rattle.nj_graph.specs.Reading.{text_read, path_named, with_new, paths_read}
+use Rattle.nj_graph.specs.Runs.{IsRead, Stops}
+use Rattle.nj_graph.specs.Loads.{reached_from}
+
+abbrev pub site_scope : Site → List ℕ
+site_scope site = site.number ∷ site.around
+
+-- ---- what is held
+
+-- nothing was read
+pub record IsNew (held : Reader) : Type 0 where
+  pub declares : DeclaredBy held.declarations []
+  pub outermost : parent_at held.declarations.scopes 0 ≡ None
+  pub edges : HoldsEdges held.building []
+  pub files : held.files ≡ []
+  pub opened : held.opened ≡ 1
+
+-- It holds what these statements say, of which the last read stands first.
+pub record Holds (main : List ℕ) (held : Reader) (entries : List Entry) : Type 0 where
+  pub declares : DeclaredBy held.declarations entries
+  pub edges : HoldsEdges held.building entries
+  pub scopes : AllByRecursion (λ e. IsOpenScope held.declarations.scopes e.number e.around) entries
+  pub opened : held.opened ≡ files_opened entries
+  pub paths_are : paths_of held.files ≡ paths_read main entries
+  pub once : EachPathOnce held.files
+
+-- Scopes are opened, and the earlier ones keep their numbers and parents.
+pub record Grows (before after : List ScopeText) : Type 0 where
+  pub count : length before ≤ length after
+  pub parents : (n : ℕ) → n < length before → parent_at after n ≡ parent_at before n
+
+abbrev pub ScopesGrow : (old held : Reader) → Type 0
+ScopesGrow old held = Grows old.declarations.scopes held.declarations.scopes
+
+abbrev pub site_of : OpenFile → (around : List ℕ) → (depth : ℕ) → Site
+site_of file around depth = record { file = file.name.now; depth = depth; number = file.scope; around = around }
+
+-- the scope of an open file
+abbrev pub IsOpenIn : Reader → OpenFile → (around : List ℕ) → Type 0
+IsOpenIn held file around = IsOpenScope held.declarations.scopes file.scope around
+
+-- The property holds of the main file, of the site at which the file is open, and of the statements that were read, whichever they are.
+abbrev pub InFile : Reader → OpenFile → ((main : List ℕ) → Site → List Entry → Type 0) → Type 0
+InFile held file P =
+    (main : List ℕ) (entries : List Entry) (around : List ℕ) (depth : ℕ) → Holds main held entries → IsOpenIn held file around
+    → P main (site_of file around depth) entries
+
+-- ---- a statement that names no file
+
+-- the statement has no fault and is held, or its fault is answered
+abbrev pub Declares : (main : List ℕ) → (after : Reader) → Entry → (before : List Entry) → Result (Unit {0}) GraphFault → Type 0
+Declares main after e before (Ok done) = (own_fault e before ≡ None) × Holds main after (e ∷ before)
+Declares main after e before (Err fault) = IsFault (own_fault e before) fault
+
+-- ---- files
+
+-- What is read from a source if it does not fail and the table can grow: the table then holds it.
+pub record ReadsAll (before after : SourceState) (old files held : List Reading) : Type 0 where
+  pub reads : IsRead before after old files
+  pub held_is : held ≡ files
+  pub failures : after.failures ≡ before.failures
+
+abbrev pub place_in : OpenFile → Spot → Place
+place_in file spot = record { file = file.name.now; spot = spot }
+
+-- What is answered for the file at a path that a word at this place names, by what the table did when it opened the file: the text, or the
+-- fault. Out of memory may also come before the table is asked.
+abbrev pub AnswersText : (before after : SourceState) → (old new : List Reading) → Place → (path : List ℕ)
+    → Result (RcSlice ℕ Global) GraphFault → Type 0
+AnswersText before after old new place path (Ok text) = table.OpensFile before after old new path (Ok (Some text))
+AnswersText before after old new place path (Err fault) =
+    ((fault ≡ no_memory) × table.LacksRoom before after old new path)
+    ⊎ (((fault ≡ record { place = Some place; cause = Io path }) × table.CannotBeRead before after old new path)
+    ⊎ ((fault ≡ record { place = Some place; cause = Missing path }) × table.OpensFile before after old new path (Ok None)))
+
+-- a run that stops
+pub record StopsAt (main : List ℕ) (before after : SourceState) (old : List Reading) (reading : List Reading → ReadingText)
+    (fault : GraphFault) : Type 0 where
+  pub files : List Reading
+  pub reads : IsRead before after old files
+  pub stops : Stops before after files (λ all. reached_from main (reading all)) fault
+
+-- the path that a word says, or its fault
+abbrev pub SaysPath : {Z : Type 0} → Option GraphFault → (says : List ℕ) → Result (String Z) GraphFault → Type 0
+SaysPath expected says (Ok path) = (expected ≡ None) × (string_bytes path ≡ says)
+SaysPath expected says (Err fault) = IsFault expected fault
+
+-- A file is open: what is read of it from here on is its text.
+pub record OpensText (main : List ℕ) (before after : SourceState) (old held : Reader) (left : ℕ) (place : Place) (path : List ℕ)
+    (entries : List Entry) (text : List ℕ) : Type 0 where
+  pub files : List Reading
+  pub reads : ReadsAll before after old.files files held.files
+  pub came_to : paths_of files ≡ with_new (paths_of old.files) path
+  pub within : ℕ
+  pub left_is : left ≡ suc within
+  pub read : (inner : Site) (e : Entry) (all : List Reading) → inner.file ≡ path → IsPrefix files all
+      → opened_in all left inner place e entries ≡ text_read (opened_in all within) inner text (e ∷ entries)
+
+-- a path names a file that is opened, or one at which the run stops
+abbrev pub OpensPath : (main : List ℕ) → (before after : SourceState) → (old held : Reader) → (left : ℕ) → Place
+    → (path : List ℕ) → (entries : List Entry) → Result (RcSlice ℕ Global) GraphFault → Type 0
+OpensPath main before after old held left place path entries (Ok text) =
+    OpensText main before after old held left place path entries (rc_slice_items text)
+OpensPath main before after old held left place path entries (Err fault) =
+    (inner : Site) (e : Entry) → inner.file ≡ path → path_named e entries e.item ≡ path ∷ []
+    → StopsAt main before after old.files (λ all. opened_in all left inner place e entries) fault
+
+-- ---- a statement
+
+abbrev pub named_item : Naming → WordText → StatementText
+named_item naming.Include word = IncludeText word
+named_item naming.Subninja word = SubninjaText word
+
+-- the site of the statements of the file that a statement names
+abbrev pub named_site : Naming → Entry → (before : List Entry) → WordText → Site
+named_site naming.Include e before word = included_site e before word
+named_site naming.Subninja e before word = subninja_site e before word
+
+-- The statement that names a file is held, and the scope of that file is open.
+pub record EntersScope (held : Reader) (number : ℕ) (inner : Site) (e : Entry) (entries : List Entry) : Type 0 where
+  pub number_is : inner.number ≡ number
+  pub scope : IsOpenScope held.declarations.scopes number inner.around
+  pub declares : DeclaredBy held.declarations (e ∷ entries)
+
+-- a statement was read that names no file
+pub record ReadsOne (main : List ℕ) (before after : SourceState) (old held : Reader) (e : Entry) (entries : List Entry)
+    : Type 0 where
+  pub reads : ReadsAll before after old.files old.files held.files
+  pub holds : Holds main held (e ∷ entries)
+  pub read : (opens : Opens) → statement_read opens e entries ≡ record { entries = e ∷ entries; end = Whole }
+
+-- What a statement names is open: what is read from here on is the text of the file, and what was read before that is held.
+pub record OpensNamed (main : List ℕ) (before after : SourceState) (old held : Reader) (left : ℕ) (inner : Site) (text : List ℕ)
+    (e : Entry) (entries : List Entry) : Type 0 where
+  pub files : List Reading
+  pub reads : ReadsAll before after old.files files held.files
+  pub holds : Holds main held (e ∷ entries)
+  pub within : ℕ
+  pub left_is : left ≡ suc within
+  pub read : (all : List Reading) → IsPrefix files all
+      → statement_read (opened_in all left) e entries ≡ text_read (opened_in all within) inner text (e ∷ entries)
+
+-- the file that a statement names, by the scope in which its statements stand
+pub record IsOpened (held : Reader) (opened : Opened) (inner : Site) : Type 0 where
+  pub file : inner.file ≡ string_bytes opened.path
+  pub number : inner.number ≡ opened.scope
+  pub scope : IsOpenScope held.declarations.scopes opened.scope inner.around
+
+-- a file is opened that the statement names, or the run stops there
+abbrev pub OpensOrStops : (main : List ℕ) → (before after : SourceState) → (old held : Reader) → (left : ℕ) → Entry → List Entry
+    → Result Opened GraphFault → Type 0
+OpensOrStops main before after old held left e entries (Ok opened) =
+    (inner : Site) × IsOpened held opened inner
+    × OpensNamed main before after old held left inner (rc_slice_items opened.text) e entries
+OpensOrStops main before after old held left e entries (Err fault) =
+    StopsAt main before after old.files (λ all. statement_read (opened_in all left) e entries) fault
+
+-- a statement is read, or the file is opened that it names, or the run stops there
+abbrev pub ReadsItem : (main : List ℕ) → (before after : SourceState) → (old held : Reader) → (left : ℕ) → Entry → List Entry
+    → Result (Option Opened) GraphFault → Type 0
+ReadsItem main before after old held left e entries (Ok None) = ReadsOne main before after old held e entries
+ReadsItem main before after old held left e entries (Ok (Some opened)) =
+    OpensOrStops main before after old held left e entries (Ok opened)
+ReadsItem main before after old held left e entries (Err fault) =
+    OpensOrStops main before after old held left e entries (Err fault)
+
+-- ---- texts
+
+-- all was read, and is held
+pub record ReadsText (main : List ℕ) (before after : SourceState) (old held : Reader) (reading : List Reading → ReadingText)
+    : Type 0 where
+  pub files : List Reading
+  pub reads : ReadsAll before after old.files files held.files
+  pub entries : List Entry
+  pub holds : Holds main held entries
+  pub read : (all : List Reading) → IsPrefix files all → reading all ≡ record { entries = entries; end = Whole }
+
+abbrev pub ReadsOrStops : (main : List ℕ) → (before after : SourceState) → (old held : Reader) → (reading : List Reading → ReadingText)
+    → Result (Unit {0}) GraphFault → Type 0
+ReadsOrStops main before after old held reading (Ok done) = ReadsText main before after old held reading
+ReadsOrStops main before after old held reading (Err fault) = StopsAt main before after old.files reading fault
+
+-- ---- the next statement
+
+-- what a parser answers; its faults are reported in a file
+abbrev pub NextOf : (file : List ℕ) → List Line → (after : Left) → Result (Option (Placed Statement)) GraphFault → Type 0
+NextOf file lines after (Ok (Some s)) =
+    (rest : List Line) × (next_statement lines ≡ Ok (Some (placed_text s), rest)) × (after ≡ Lines rest)
+NextOf file lines after (Ok None) = (rest : List Line) × (next_statement lines ≡ Ok (None, rest))
+NextOf file lines after (Err fault) =
+    (fault ≡ no_memory) ⊎ ((found : Fault) × (next_statement lines ≡ Err found) × (fault ≡ fault_in file found))
+
+abbrev pub NextIs : (file : List ℕ) → (before after : Left) → Result (Option (Placed Statement)) GraphFault → Type 0
+NextIs file (Lines lines) after result = NextOf file lines after result
+NextIs file (Refused found) after result = ⊤

@@ -1,0 +1,115 @@
+-- What the private functions of a parser answer, and where they leave its lexer.
+use Rattle.std.specs.Prelude.{◌≡◌, Bool, true, false, Option, Some, None, Result, Ok, Err, List}
+use Rattle.nj_text.specs.Lines as lines
+use Rattle.nj_text.specs.Calls.{State, Between, Inside, Failed, is_inside}
+use Rattle.nj_manifest.specs.declared.fault.ParseFault.{ParseFault}
+use Rattle.nj_manifest.specs.Faults.{Fault, fault_text}
+use Rattle.nj_manifest.specs.LineSteps.{Step}
+use Rattle.nj_manifest.specs.Statements.{LineText, Parse, lines_from, Left, Lines, Refused}
+use Rattle.nj_manifest.specs.Openings.{Opening, Begun, Ended, opening}
+use Rattle.nj_manifest.specs.Parsers.{Fails}
+use Rattle.nj_text.specs.Words.{word_text}
+use Rattle.nj_manifest.specs.declared.statement.Build.{Build}
+use Rattle.nj_manifest.specs.declared.heads.Head.{Head}
+use Rattle.nj_manifest.specs.declared.heads.Head.TheVariants as head
+use Rattle.nj_manifest.specs.Statements.{HeadText, Alone, RuleHead, PoolHead, BuildHead}
+use Rattle.nj_manifest.specs.Statements.{BindingText, DefaultText, IncludeText}
+use Rattle.nj_manifest.specs.Statements.{SubninjaText}
+use Rattle.nj_manifest.specs.Contents.{name_text, words_text, outputs_text, inputs_text}
+use Rattle.nj_manifest.specs.Dyndeps.{version_next, DyndepLeft, WholeFile, Entries, Refusing}
+
+-- It reads the version of the lines, and leaves the lexer before the lines after it.
+abbrev pub ReadsVersion : (before after : State) → Result (Unit {0}) ParseFault → Type 0
+ReadsVersion before after (Ok done) = (version_next (lines_from before) ≡ Ok (lines_from after)) × IsBetweenStatements after
+ReadsVersion before after (Err f) = Fails f (version_next (lines_from before))
+
+abbrev pub left_by : (version_read : Bool) → List lines.Line → DyndepLeft
+left_by true ls = Entries ls
+left_by false ls = WholeFile ls
+
+abbrev pub dyndep_left : Option ParseFault → (version_read : Bool) → State → DyndepLeft
+dyndep_left None version_read s = left_by version_read (lines_from s)
+dyndep_left (Some f) version_read s = Refusing (fault_text f)
+
+abbrev pub head_text : Head → HeadText
+head_text (head.Binding name value) = Alone (BindingText name.now (word_text value))
+head_text (head.Rule name) = RuleHead (name_text name)
+head_text (head.Pool name) = PoolHead (name_text name)
+head_text (head.Build outputs rule inputs) = BuildHead (outputs_text outputs) (name_text rule) (inputs_text inputs)
+head_text (head.Default words) = Alone (DefaultText (words_text words.items))
+head_text (head.Include word) = Alone (IncludeText (word_text word))
+head_text (head.Subninja word) = Alone (SubninjaText (word_text word))
+
+-- ---- along a line
+
+-- It reads what is expected, as the view shows it, and leaves the lexer there; or it fails.
+abbrev pub TakesStep : {X Y : Type 0} → (X → Y) → Result X ParseFault → (after : State) → Step Y → Type 0
+TakesStep view (Ok x) after expected = expected ≡ Ok (view x, after)
+TakesStep view (Err f) after expected = Fails f expected
+
+-- the same of what only leads on
+abbrev pub LeadsTo : Result (Unit {0}) ParseFault → (after : State) → Result State Fault → Type 0
+LeadsTo (Ok done) after expected = expected ≡ Ok after
+LeadsTo (Err f) after expected = Fails f expected
+
+-- ---- from line to line
+
+-- between two statements the lexer stands before lines, or at the front of a line that was begun
+abbrev pub IsBetweenStatements : State → Type 0
+IsBetweenStatements (Between ls) = Unit {0}
+IsBetweenStatements (Inside l ls) = lines.kind_of l ≡ lines.PlainLine
+IsBetweenStatements (Failed f) = ⊥
+
+-- what is read of the lines before which the lexer stands, with the lexer before the lines after it
+abbrev pub ParsesFrom : {X Y : Type 0} → (X → Y) → (before after : State) → (List lines.Line → Parse Y) → Result X ParseFault → Type 0
+ParsesFrom view (Between ls) after parse (Ok x) = (parse ls ≡ Ok (view x, lines_from after)) × IsBetweenStatements after
+ParsesFrom view (Between ls) after parse (Err f) = Fails f (parse ls)
+ParsesFrom view other after parse result = Unit {0}
+
+-- the same of a line at whose first unit the lexer stands
+abbrev pub ParsesAt : {X Y : Type 0}
+    → (X → Y) → (before after : State) → (lines.Line → List lines.Line → Parse Y) → Result X ParseFault → Type 0
+ParsesAt view (Inside l ls) after parse (Ok x) = (parse l ls ≡ Ok (view x, lines_from after)) × IsBetweenStatements after
+ParsesAt view (Inside l ls) after parse (Err f) = Fails f (parse l ls)
+ParsesAt view other after parse result = Unit {0}
+
+-- where the next statement begins, if the lexer stands there
+abbrev pub opening_at : State → Opening
+opening_at (Inside l ls) = Begun l ls
+opening_at s = Ended (lines_from s)
+
+-- It finds where the next statement begins, and leaves the lexer there: whether there is one.
+abbrev pub FindsOpening : (before after : State) → Result Bool ParseFault → Type 0
+FindsOpening before after (Ok found) =
+    (opening (lines_from before) ≡ Ok (opening_at after)) × IsBetweenStatements after × (is_inside after ≡ found)
+FindsOpening before after (Err f) = Fails f (opening (lines_from before))
+
+-- what is read of the lines that are left, with the lexer before the lines after it
+abbrev pub ParsesNext : {X Y : Type 0} → (X → Y) → (before after : State) → (List lines.Line → Parse Y) → Result X ParseFault → Type 0
+ParsesNext view before after parse (Ok x) = (parse (lines_from before) ≡ Ok (view x, lines_from after)) × IsBetweenStatements after
+ParsesNext view before after parse (Err f) = Fails f (parse (lines_from before))
+
+-- the check of a block's lines
+abbrev pub Wholes : List LineText → Result (List LineText) Fault → Result (Unit {0}) ParseFault → Type 0
+Wholes lines expected (Ok done) = expected ≡ Ok lines
+Wholes lines expected (Err f) = Fails f expected
+
+-- ---- a parser
+
+abbrev pub is_plain : lines.Kind → Bool
+is_plain lines.PlainLine = true
+is_plain kind = false
+
+-- whether the lexer stands between two statements
+abbrev pub is_between_statements : State → Bool
+is_between_statements (Between ls) = true
+is_between_statements (Inside l ls) = is_plain (lines.kind_of l)
+is_between_statements (Failed f) = false
+
+abbrev pub is_between_unless : Option ParseFault → State → Bool
+is_between_unless None s = is_between_statements s
+is_between_unless (Some f) s = true
+
+abbrev pub left_of : Option ParseFault → State → Left
+left_of None s = Lines (lines_from s)
+left_of (Some f) s = Refused (fault_text f)

@@ -1,0 +1,7 @@
+-- How the code does what the definitions beside this folder say. No contract of a public call needs these.
+pub mod Heading
+pub mod Paths
+pub mod Saved
+pub mod Standing
+pub mod Tops
+pub mod Views

@@ -1,0 +1,26 @@
+-- What a caller sees of a walk, and what holds inside.
+use Rattle.std.specs.Prelude.{◌≡◌, ◌≤◌, ◌+◌, ◌-◌, vec_capacity}
+use Rattle.nj_needs.specs.Graphs.{count_of}
+use Rattle.nj_needs.specs.Walks.{WalkState, rest_of, bound_of}
+use Rattle.nj_needs.specs.Inside.Standing.{IsWalk, left_of, turns_left_of}
+use Rattle.nj_needs.specs.Inside.Saved.{KeepsFront}
+use Rattle.nj_needs.specs.declared.walk.Walk.{Walk}
+use Rattle.nj_needs.specs.declared.saved.Saved.{Saved}
+
+abbrev pub state_of : Walk → Saved → WalkState
+state_of w s = record {
+  graph = w.looks.graph.now;
+  targets = w.looks.targets.now;
+  begun = w.begun;
+  mark = s.numbers.items;
+  left = left_of w.looks.graph.now w.looks.targets.now w.path.items w.place;
+  turns = bound_of w.looks.graph.now w.looks.targets.now + w.begun
+      - turns_left_of w.looks.graph.now w.looks.targets.now w.path.items w.place;
+}
+
+pub record IsNeeds (w : Walk) (s : Saved) : Type 0 where
+  pub walk : IsWalk w
+  pub front : KeepsFront s w.path.items
+  pub room : count_of w.looks.graph.now ≤ vec_capacity s.numbers
+  pub rest : left_of w.looks.graph.now w.looks.targets.now w.path.items w.place
+      ≡ rest_of w.looks.graph.now w.looks.targets.now s.numbers.items

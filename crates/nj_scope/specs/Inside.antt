@@ -1,0 +1,6 @@
+-- How the code does what the definitions beside this folder say. No contract of a public call needs these.
+pub mod KeysHeld
+pub mod LateHeld
+pub mod MemoryHeld
+pub mod ScopesHeld
+pub mod TableHeld

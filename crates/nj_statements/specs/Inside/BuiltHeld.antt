@@ -1,0 +1,37 @@
+-- How what the statements yield is held. Nothing here has to be believed.
+use Rattle.std.specs.Prelude.{◌≡◌, ℕ, ◌<◌, List, map, length}
+use Rattle.std.specs.List.{AllByRecursion}
+use Rattle.nj_edge_env.specs.Blocks.{BlocksText}
+use Rattle.nj_edges.specs.declared.files.FileNo.{FileNo}
+use Rattle.nj_edges.specs.EdgeGraphs.{EdgeGraph}
+use Rattle.nj_edges.specs.Inside.EdgesHeld.{AreNumbers, paths_at}
+use Rattle.nj_edges.specs.Files.{path_at}
+use Rattle.nj_statements.specs.declared.building.Detail.{Detail}
+use Rattle.nj_statements.specs.declared.building.DyndepEdge.{DyndepEdge}
+use Rattle.nj_statements.specs.EdgeList.{Pending}
+use Rattle.nj_statements.specs.Built.{EdgeDetail, BuiltText}
+
+abbrev pub detail_named : (names : List (List ℕ)) → Detail → EdgeDetail
+detail_named names d = record { file = path_at names d.file; spot = d.spot; scope = d.scope; rule = d.rule }
+
+abbrev pub pending_named : (files : List (List ℕ)) → DyndepEdge → Pending
+pending_named files d = record { edge = d.edge; file = path_at files d.file }
+
+abbrev pub built_of : EdgeGraph → BlocksText → (names : List (List ℕ)) → List Detail → (defaults : List FileNo) → List DyndepEdge
+    → BuiltText
+built_of graph blocks names details defaults dyndeps = record {
+  graph = graph;
+  details = map (detail_named names) details;
+  blocks = blocks;
+  defaults = paths_at graph.files defaults;
+  pending = map (pending_named graph.files) dyndeps;
+}
+
+-- There is a detail of each edge, and all numbers are those of files and edges.
+pub record BuiltIsHeld (graph : EdgeGraph) (names : List (List ℕ)) (details : List Detail) (defaults : List FileNo)
+    (dyndeps : List DyndepEdge) : Type 0 where
+  pub as_many : length details ≡ length graph.edges
+  pub names_known : AllByRecursion (λ d. d.file.0 < length names) details
+  pub defaults_known : AreNumbers (length graph.files) defaults
+  pub dyndep_files_known : AllByRecursion (λ d. d.file.0 < length graph.files) dyndeps
+  pub dyndep_edges_known : AllByRecursion (λ d. d.edge < length graph.edges) dyndeps

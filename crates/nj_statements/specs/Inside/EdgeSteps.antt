@@ -1,0 +1,122 @@
+-- How the code reads an edge, step by step.
+use Rattle.std.specs.Prelude.{◌≡◌, ℕ, Bool, true, false, if◌then◌else◌, Option, Some, None, option_map}
+use Rattle.std.specs.Prelude.{List, [], ◌∷◌, ◌++◌, ◌+◌, ◌≤◌, length, slice_get, slice_index_or, bytes_eq}
+use Rattle.nj_manifest.specs.Statements.{InputsText}
+use Rattle.nj_scope.specs.Rules.{RuleText, phony}
+use Rattle.nj_scope.specs.Readings.{IsPrefix}
+use Rattle.nj_scope.specs.Scopes.{IsScope, parent_at}
+use Rattle.nj_scope.specs.Declarations.{DeclarationsText, DeclaredBy}
+use Rattle.nj_scope.specs.ReadingList.{Entry, value_after}
+use Rattle.nj_edge_env.specs.Blocks.{bound_in}
+use Rattle.nj_edges.specs.declared.files.FileNo.{FileNo}
+use Rattle.nj_edges.specs.Edges.{EdgePaths, is_among}
+use Rattle.nj_edges.specs.EdgeTables.{EdgeTable, no_files, with_output, with_input, with_validation}
+use Rattle.nj_edges.specs.Files.{AreFiles}
+use Rattle.nj_edge_env.specs.declared.edge.LateEdge.{LateEdge}
+use Rattle.nj_edge_env.specs.LateTexts.{LateNames}
+use Rattle.nj_edge_env.specs.LateEdges.{late_names}
+use Rattle.nj_edge_env.specs.ReferencesHeld.{ReferringKeyText}
+use Rattle.nj_statements.specs.declared.names.Names.{Names}
+use Rattle.nj_statements.specs.declared.names.EdgeBlock.{EdgeBlock}
+use Rattle.nj_statements.specs.declared.building.Detail.{Detail}
+use Rattle.nj_statements.specs.declared.building.DyndepEdge.{DyndepEdge}
+use Rattle.nj_statements.specs.EdgeList.{Values, Block, on_line, paths_said, no_block}
+use Rattle.nj_statements.specs.Answers.{DetailText}
+
+-- Names have these values in a scope, by what the earlier statements declare and the block binds.
+pub record Sees (held : DeclarationsText) (scope : ℕ) (block : Block) (values : Values) : Type 0 where
+  pub entries : List Entry
+  pub around : List ℕ
+  pub declared : DeclaredBy held entries
+  pub within : IsScope (parent_at held.scopes) scope (scope ∷ around)
+  pub are : (name : List ℕ) → values name ≡ on_line (value_after entries (scope ∷ around)) block name
+
+abbrev pub bound_by : EdgeBlock → Block
+bound_by b = bound_in b.blocks.now b.edge
+
+abbrev pub block_seen : Option EdgeBlock → Block
+block_seen None = no_block
+block_seen (Some b) = bound_by b
+
+abbrev pub SeesNames : Names → Values → Type 0
+SeesNames names values = Sees names.declarations.now names.scope (block_seen names.block) values
+
+abbrev pub with_outputs : EdgeTable → List (List ℕ) → EdgeTable
+with_outputs t [] = t
+with_outputs t (path ∷ paths) = with_outputs (with_output t path) paths
+
+-- an input, which is left out if the edge makes it itself and loses its own outputs as inputs
+abbrev pub with_input_unless : (loses_own : Bool) → EdgeTable → (path : List ℕ) → EdgeTable
+with_input_unless false t path = with_input t path
+with_input_unless true t path = if is_among t.«open».outputs path then t else with_input t path
+
+abbrev pub with_inputs : (loses_own : Bool) → EdgeTable → List (List ℕ) → EdgeTable
+with_inputs loses_own t [] = t
+with_inputs loses_own t (path ∷ paths) = with_inputs loses_own (with_input_unless loses_own t path) paths
+
+abbrev pub with_validations : EdgeTable → List (List ℕ) → EdgeTable
+with_validations t [] = t
+with_validations t (path ∷ paths) = with_validations (with_validation t path) paths
+
+-- the edge that is being read has this many more outputs, and no fewer inputs
+pub record Grows (outputs : ℕ) (before after : EdgeTable) : Type 0 where
+  pub outputs_are : length after.«open».outputs ≡ length before.«open».outputs + outputs
+  pub inputs : length before.«open».inputs ≤ length after.«open».inputs
+
+-- the inputs and validations of a statement are appended; its explicit and its implicit inputs end at `ends`
+pub record AddsInputs (loses_own : Bool) (values : Values) (inputs : InputsText) (before after : EdgeTable) (ends : ℕ × ℕ)
+    : Type 0 where
+  pub explicit : EdgeTable
+  pub explicit_is : explicit ≡ with_inputs loses_own before (paths_said values inputs.explicit)
+  pub explicit_end : ends.0 ≡ length explicit.«open».inputs
+  pub implicit : EdgeTable
+  pub implicit_is : implicit ≡ with_inputs loses_own explicit (paths_said values inputs.implicit)
+  pub implicit_end : ends.1 ≡ length implicit.«open».inputs
+  pub after_is : after ≡ with_validations (with_inputs loses_own implicit (paths_said values inputs.order_only))
+      (paths_said values inputs.validations)
+
+-- one edge is added; files keep their numbers
+pub record AddsEdge (before after : EdgeTable) (edge : EdgePaths) : Type 0 where
+  pub edges : after.edges ≡ before.edges ++ edge ∷ []
+  pub none_open : after.«open» ≡ no_files
+  pub files : IsPrefix before.files after.files
+
+-- the numbers of files with these paths are appended
+pub record AddsTargets (files : List (List ℕ)) (before after : List FileNo) (paths : List (List ℕ)) : Type 0 where
+  pub added : List FileNo
+  pub after_is : after ≡ before ++ added
+  pub are : AreFiles files added paths
+
+-- the names of an edge with these paths and this block, where its file has these values
+abbrev pub names_read : EdgePaths → Block → RuleText → (file : Values) → LateNames
+names_read paths block rule file = record {
+  inputs = paths.explicit_inputs;
+  outputs = paths.explicit_outputs;
+  block = block;
+  lines = rule.lines;
+  is_phony = bytes_eq rule.name phony;
+  file = file;
+}
+
+-- The names of an edge depend on these, by what the earlier statements declare.
+pub record SeesLate (edge : LateEdge) (entries : List Entry) (n : LateNames) : Type 0 where
+  pub around : List ℕ
+  pub declared : DeclaredBy edge.declarations.now entries
+  pub within : IsScope (parent_at edge.declarations.now.scopes) edge.scope (edge.scope ∷ around)
+  pub are : n ≡ late_names edge (value_after entries (edge.scope ∷ around))
+
+-- the number of the file at this path, if there is one
+abbrev pub IsFileSaid : (files : List (List ℕ)) → Option FileNo → Option (List ℕ) → Type 0
+IsFileSaid files number path = option_map (λ f. slice_get files f.0) number ≡ option_map Some path
+
+-- the same is kept of each rule
+abbrev pub SameReferences : (kept others : List (Option (List ReferringKeyText))) → Type 0
+SameReferences kept others = (number : ℕ) → slice_index_or kept number None ≡ slice_index_or others number None
+
+abbrev pub detail_text : Detail → DetailText
+detail_text d = record { file = d.file; spot = d.spot; scope = d.scope; rule = d.rule }
+
+-- with the edge of this number, if it is bound to a dyndep file
+abbrev pub with_dyndep : (edge : ℕ) → Option FileNo → List DyndepEdge → List DyndepEdge
+with_dyndep edge None held = held
+with_dyndep edge (Some file) held = held ++ record { edge = edge; file = file } ∷ []

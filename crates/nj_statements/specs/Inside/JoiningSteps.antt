@@ -1,0 +1,115 @@
+-- How the code joins what dyndep files discover, step by step.
+use Rattle.std.specs.Prelude.{◌≡◌, ℕ, ◌+◌, ◌<◌, ◌≤◌, ◌==◌, Bool, true, false, not, if◌then◌else◌, Option, Some, None, option_map, unwrap_or, IfSome}
+use Rattle.std.specs.Prelude.{List, [], ◌∷◌, map, filter, length, set, slice_get, slice_index_or, bytes_eq}
+use Rattle.std.specs.List.{AllByRecursion, IsDistinct}
+use Rattle.nj_text.specs.Words.{WordText}
+use Rattle.nj_edge_env.specs.Blocks.{BlocksText}
+use Rattle.nj_edges.specs.declared.files.FileNo.{FileNo}
+use Rattle.nj_edges.specs.Edges.{EdgePaths, first_output, maker_of}
+use Rattle.nj_edges.specs.Inside.EdgesHeld.{AreNumbers, paths_at}
+use Rattle.nj_edges.specs.Files.{path_at}
+use Rattle.nj_edges.specs.Joining.{JoinTable, with_added_output, with_added_input, is_joined}
+use Rattle.nj_faults.specs.declared.fault.GraphFault.{GraphFault}
+use Rattle.nj_faults.specs.declared.fault.Cause.TheVariants.{DyndepExtra, DyndepTwice, DyndepNoStatement}
+use Rattle.nj_faults.specs.Faults.{fault_at}
+use Rattle.nj_statements.specs.declared.building.Detail.{Detail}
+use Rattle.nj_statements.specs.declared.building.DyndepEdge.{DyndepEdge}
+use Rattle.nj_statements.specs.EdgeList.{path_said}
+use Rattle.nj_statements.specs.BuildFaults.{fault_if}
+use Rattle.nj_statements.specs.Built.{EdgeDetail}
+use Rattle.nj_statements.specs.Inside.BuiltHeld.{detail_named, pending_named}
+use Rattle.nj_statements.specs.Joining.{no_values, dyndep_files}
+use Rattle.nj_statements.specs.JoiningHeld.{still_waiting, JoiningText}
+
+abbrev pub is_bound_to : Option FileNo → FileNo → Bool
+is_bound_to (Some bound) file = bound.0 == file.0
+is_bound_to None file = false
+
+abbrev pub one_if : Bool → ℕ
+one_if true = 1
+one_if false = 0
+
+-- how many of these wait for a file
+abbrev pub count_waiting : FileNo → (waiting : List (Option FileNo)) → ℕ
+count_waiting file [] = 0
+count_waiting file (w ∷ waiting) = one_if (is_bound_to w file) + count_waiting file waiting
+
+-- how many of these edges are bound to a file
+abbrev pub count_bound : FileNo → List DyndepEdge → ℕ
+count_bound file [] = 0
+count_bound file (d ∷ dyndeps) = one_if (d.file.0 == file.0) + count_bound file dyndeps
+
+-- these edges are bound to their files
+abbrev pub bind_all : List DyndepEdge → (bound : List (Option FileNo)) → List (Option FileNo)
+bind_all [] bound = bound
+bind_all (d ∷ dyndeps) bound = bind_all dyndeps (set bound d.edge (Some d.file))
+
+-- the first of these edges that are bound to a file, for each file
+abbrev pub first_edges : List DyndepEdge → List DyndepEdge
+first_edges [] = []
+first_edges (d ∷ others) = d ∷ filter (λ other. not (other.file.0 == d.file.0)) (first_edges others)
+
+abbrev pub file_named : (files : List (List ℕ)) → Option FileNo → Option (List ℕ)
+file_named files file = option_map (path_at files) file
+
+-- the edge, if it is bound to a file
+abbrev pub if_bound : (bound : List (Option FileNo)) → FileNo → Option ℕ → Option ℕ
+if_bound bound file None = None
+if_bound bound file (Some edge) = if is_bound_to (slice_index_or bound edge None) file then Some edge else None
+
+abbrev pub maker_fault : (name : List ℕ) → WordText → JoinTable → Option ℕ → Option GraphFault
+maker_fault name word table None = Some (fault_at name word.spot (DyndepExtra (path_said no_values word)))
+maker_fault name word table (Some edge) =
+    fault_if (is_joined table edge) (fault_at name word.spot (DyndepTwice (path_said no_values word)))
+
+-- the edge that makes what a word says, if it is bound to a file
+abbrev pub edge_bound : JoinTable → (bound : List (Option FileNo)) → FileNo → WordText → Option ℕ
+edge_bound table bound file word = if_bound bound file (maker_of table.stated (path_said no_values word))
+
+-- this edge, to which nothing was joined yet
+pub record IsMeant (table : JoinTable) (bound : List (Option FileNo)) (file : FileNo) (word : WordText) (edge : ℕ) : Type 0 where
+  pub is : edge_bound table bound file word ≡ Some edge
+  pub known : edge < length table.stated
+  pub first : is_joined table edge ≡ false
+
+-- the fault of an edge that waits for a file to the end of that file
+abbrev pub fault_of_waiting : (path : List ℕ) → EdgeDetail → EdgePaths → GraphFault
+fault_of_waiting path detail e =
+    fault_at detail.file detail.spot (DyndepNoStatement (unwrap_or (first_output e) []) path)
+
+abbrev pub with_added_outputs : JoinTable → (paths : List (List ℕ)) → JoinTable
+with_added_outputs t [] = t
+with_added_outputs t (path ∷ paths) = with_added_outputs (with_added_output t path) paths
+
+abbrev pub with_added_inputs : JoinTable → (paths : List (List ℕ)) → JoinTable
+with_added_inputs t [] = t
+with_added_inputs t (path ∷ paths) = with_added_inputs (with_added_input t path) paths
+
+abbrev pub joining_of : JoinTable → BlocksText → (names : List (List ℕ)) → List Detail → (defaults : List FileNo)
+    → (dyndep_files : List DyndepEdge) → (bound : List (Option FileNo)) → JoiningText
+joining_of table blocks names details defaults dyndep_files bound = record {
+  table = table;
+  blocks = blocks;
+  details = map (detail_named names) details;
+  defaults = paths_at table.files defaults;
+  dyndep_files = map (pending_named table.files) dyndep_files;
+  bound = map (file_named table.files) bound;
+}
+
+-- For each edge there is a detail, and what is joined to it. All numbers are those of files and edges. For each file at most as many edges
+-- wait as are counted.
+pub record JoiningIsHeld (table : JoinTable) (names : List (List ℕ)) (details : List Detail) (defaults : List FileNo)
+    (dyndep_files : List DyndepEdge) (bound : List (Option FileNo)) (waiting : List ℕ) : Type 0 where
+  pub each_path_once : IsDistinct bytes_eq table.files
+  pub as_many_joined : length table.joined ≡ length table.stated
+  pub as_many_was : length table.was_joined ≡ length table.stated
+  pub as_many_details : length details ≡ length table.stated
+  pub as_many_bound : length bound ≡ length table.stated
+  pub unchanged : (edge : ℕ) → is_joined table edge ≡ false → slice_get table.joined edge ≡ slice_get table.stated edge
+  pub names_known : AllByRecursion (λ d. d.file.0 < length names) details
+  pub defaults_known : AreNumbers (length table.files) defaults
+  pub dyndep_files_known : AllByRecursion (λ d. d.file.0 < length table.files) dyndep_files
+  pub dyndep_edges_known : AllByRecursion (λ d. d.edge < length table.stated) dyndep_files
+  pub bound_known : AllByRecursion (λ file. IfSome file (λ f. f.0 < length waiting)) bound
+  pub waiting_known : length waiting ≤ length table.files
+  pub enough_wait : (file : FileNo) → count_waiting file (still_waiting bound table.was_joined) ≤ slice_index_or waiting file.0 0

@@ -1,0 +1,7 @@
+-- How the code does what the definitions beside this folder say. No contract of a public call needs these.
+pub mod Cleaning
+pub mod Gathering
+pub mod Quoting
+pub mod Runs
+pub mod Scans
+pub mod Standing

@@ -1,0 +1,108 @@
+-- What the lexer's scans of bytes answer, in the words of the units.
+use Rattle.std.specs.Prelude.{◌≡◌, ℕ, ◌+◌, ◌<◌, Bool, true, false, not, ◌&&◌, if◌then◌else◌, List, [], ◌∷◌, take, drop}
+use Rattle.nj_text.specs.declared.spot.Spot.{Spot}
+use Rattle.nj_text.specs.declared.dollar.Dollar.{Dollar}
+use Rattle.nj_text.specs.declared.dollar.Dollar.TheVariants as dollar
+use Rattle.nj_text.specs.declared.next.Next.{Next}
+use Rattle.nj_text.specs.declared.next.Next.TheVariants as next
+use Rattle.nj_text.specs.declared.sign.Sign.{Sign}
+use Rattle.nj_text.specs.declared.sign.Sign.TheVariants as sign
+use Rattle.nj_text.specs.Bytes.{begins_with, is_space, is_ordinary_byte}
+use Rattle.nj_text.specs.Units.{Meaning, Ordinary, Escape, Reference, Join, LineEnd, BadByte, BadEscape, TextUnit, Found, AtStart, Within, cut}
+use Rattle.nj_text.specs.Units.{spot_after}
+
+-- the place after some bytes
+abbrev pub spots_after : List ℕ → Spot → Spot
+spots_after [] spot = spot
+spots_after (b ∷ bs) spot = spots_after bs (spot_after b spot)
+
+-- n columns farther on
+abbrev pub along : ℕ → Spot → Spot
+along n spot = record { line = spot.line; column = spot.column + n }
+
+-- after a line end and some spaces
+abbrev pub on_next_line : ℕ → Spot → Spot
+on_next_line spaces spot = record { line = spot.line + 1; column = spaces + 1 }
+
+-- the length of the line end at the front
+abbrev pub line_end_length : List ℕ → ℕ
+line_end_length bytes = if begins_with 10 bytes then 1 else (if begins_with 13 bytes && begins_with 10 (drop 1 bytes) then 2 else 0)
+
+-- the unit that was found after a `$`
+abbrev pub dollar_found : Dollar → Found
+dollar_found (dollar.Join end spaces) = (Join, end + spaces)
+dollar_found (dollar.Escape byte) = (Escape byte, 1)
+dollar_found (dollar.Reference name len) = (Reference name.now, len)
+dollar_found dollar.Bad = (BadEscape, 0)
+
+-- A join's bytes lead to the next line, after its spaces. No other unit has more bytes than there are.
+abbrev pub LandsIn : Dollar → List ℕ → Type 0
+LandsIn (dollar.Join end spaces) bytes = (spot : Spot) → spots_after (take (end + spaces) bytes) spot ≡ on_next_line spaces spot
+LandsIn (dollar.Escape byte) bytes = (take 1 bytes ≡ byte ∷ []) × ((spot : Spot) → spots_after (take 1 bytes) spot ≡ along 1 spot)
+LandsIn (dollar.Reference name len) bytes = (spot : Spot) → spots_after (take len bytes) spot ≡ along len spot
+LandsIn dollar.Bad bytes = Unit {0}
+
+-- the units that stand within a line at a place
+abbrev pub units_within : Spot → List ℕ → List TextUnit
+units_within spot bytes = cut Within 0 spot bytes
+
+-- the units at a place are one that says m and has n bytes, and then these
+abbrev pub Begins : Spot → List ℕ → Meaning → ℕ → List TextUnit → Type 0
+Begins spot bytes m n after = units_within spot bytes ≡ record { spot = spot; bytes = take n bytes; means = m } ∷ after
+
+-- the units at a place are one that says m, and then some
+abbrev pub BeginsBadly : Spot → List ℕ → Meaning → Type 0
+BeginsBadly spot bytes m = (n : ℕ) × (after : List TextUnit) × Begins spot bytes m n after
+
+-- what is at the front of the bytes, within a line, at any place
+abbrev pub NextIs : Next → List ℕ → Type 0
+NextIs next.End bytes = bytes ≡ []
+NextIs (next.Ordinary b) bytes =
+    (is_ordinary_byte b ≡ true)
+    × (begins_with b bytes ≡ true)
+    × ((spot : Spot) → Begins spot bytes (Ordinary b) 1 (units_within (along 1 spot) (drop 1 bytes)))
+NextIs (next.Join n spaces) bytes = (spot : Spot) → Begins spot bytes Join n (units_within (on_next_line spaces spot) (drop n bytes))
+NextIs (next.Escape byte) bytes =
+    (b : ℕ) × (byte.now ≡ b ∷ []) × ((spot : Spot) → Begins spot bytes (Escape b) 2 (units_within (along 2 spot) (drop 2 bytes)))
+NextIs (next.Reference name n) bytes = (spot : Spot) → Begins spot bytes (Reference name.now) n (units_within (along n spot) (drop n bytes))
+NextIs (next.LineEnd n) bytes = (spot : Spot) → Begins spot bytes LineEnd n (cut AtStart 0 (on_next_line 0 spot) (drop n bytes))
+NextIs next.BadByte bytes = (spot : Spot) → BeginsBadly spot bytes BadByte
+NextIs next.BadEscape bytes = (spot : Spot) → BeginsBadly spot bytes BadEscape
+
+-- how many bytes it takes, if it is skipped
+abbrev pub next_length : Next → ℕ
+next_length (next.Ordinary b) = 1
+next_length (next.Join n spaces) = n
+next_length (next.Escape byte) = 2
+next_length (next.Reference name n) = n
+next_length (next.LineEnd n) = n
+next_length other = 0
+
+-- a join is longer than its spaces, and a line end has bytes
+abbrev pub HasLength : Next → Type 0
+HasLength (next.Join n spaces) = spaces < n
+HasLength (next.LineEnd n) = 0 < n
+HasLength (next.Reference name n) = 0 < n
+HasLength other = Unit {0}
+
+abbrev pub begins_with_space_byte : List ℕ → Bool
+begins_with_space_byte [] = false
+begins_with_space_byte (b ∷ bs) = is_space b
+
+-- whether the bytes begin with a sign that is no line end
+abbrev pub has_sign : Sign → List ℕ → Bool
+has_sign sign.Colon bytes = begins_with 58 bytes
+has_sign sign.Equals bytes = begins_with 61 bytes
+has_sign sign.Pipe bytes = begins_with 124 bytes && not (begins_with 124 (drop 1 bytes)) && not (begins_with 64 (drop 1 bytes))
+has_sign sign.Pipe2 bytes = begins_with 124 bytes && begins_with 124 (drop 1 bytes)
+has_sign sign.PipeAt bytes = begins_with 124 bytes && begins_with 64 (drop 1 bytes)
+has_sign sign.LineEnd bytes = false
+
+abbrev pub sign_size : Sign → ℕ
+sign_size sign.Pipe2 = 2
+sign_size sign.PipeAt = 2
+sign_size want = 1
+
+-- how many bytes the sign takes that the bytes begin with; else 0
+abbrev pub sign_length : Sign → List ℕ → ℕ
+sign_length want bytes = if has_sign want bytes then sign_size want else 0

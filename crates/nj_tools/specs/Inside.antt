@@ -1,0 +1,8 @@
+-- How the code does what the definitions beside this folder say. No contract of a public call needs these.
+pub mod Blocks
+pub mod Collections
+pub mod CompdbHeld
+pub mod MemorySinksHeld
+pub mod QueriesHeld
+pub mod Seen
+pub mod Trees

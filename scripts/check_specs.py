@@ -1,0 +1,98 @@
+#!/usr/bin/env python3
+"""Checks that in each library what must be believed and what is plumbing stand apart:
+
+    check_specs.py
+
+A definition must be believed if it is named in the contract of a public call, in the value of a
+public type or in what a type gives to a trait, or in another definition that must be believed. In
+crates/*/specs such definitions stand in the files that Lib.antt lists, and all others in the
+folder Inside, which holds no such definition. How fields hold a value (`view`) is plumbing.
+
+Prints each definition that stands on the wrong side. Nothing else is printed, and the status is 0,
+if there is none.
+"""
+
+import re
+import sys
+
+import believed
+from believed import CRATES, Definition, block_at, members, module, reached, rust
+
+FUNCTION = re.compile(r"^( *)pub fn (\w+)", re.M)
+IMPL = re.compile(r"^impl\b[^{]*\{", re.M)
+
+
+def libraries():
+    """The crates that are libraries and have definitions."""
+    roots = (specs.parent / "src/lib.rt" for specs in CRATES.glob("*/specs"))
+    return sorted(root.parent.parent.name for root in roots if root.is_file())
+
+
+def given_out(crate):
+    """The names that a library gives out."""
+    text = (CRATES / crate / "src/lib.rt").read_text()
+    uses = re.findall(r"^pub use [\w:]+::(?:\{(.*?)\}|(\w+));", text, re.M | re.S)
+    names = re.split(r"[,\s]+", " ".join(several + " " + one for several, one in uses))
+    return set(filter(None, names))
+
+
+def type_of(head):
+    """The type to which an `impl` belongs."""
+    while "<" in head:
+        head = re.sub(r"<[^<>]*>", "", head.replace("->", ""))
+    return re.findall(r"\w+", head.split(" where ")[0])[-1]
+
+
+def contract(text, start, indent):
+    """The signature and the clauses of a function."""
+    brace = text.index("{", start)
+    if not re.search(r"^ *(requires|ensures)\b", text[start:brace], re.M):
+        return text[start:brace]
+    return text[start : text.index(f"\n{indent}{{", start)]
+
+
+def contracts(crate):
+    """The contracts of the public calls of a library, its public types, and what they give to
+    traits."""
+    public = given_out(crate)
+    for file in sorted((CRATES / crate).glob("src/**/*.rt")):
+        of, text = rust(file)
+        impls = list(IMPL.finditer(text))
+        for found in FUNCTION.finditer(text):
+            indent, name = found.groups()
+            if indent:
+                name = type_of([impl[0] for impl in impls if impl.start() < found.start()][-1])
+            if name in public:
+                yield Definition(of, name, contract(text, found.start(), indent))
+        for impl in impls:
+            if " for " in impl[0] and " Model for" not in impl[0] and type_of(impl[0]) in public:
+                gifts = members(block_at(text, impl.start()), r"ghost \w+ =")
+                yield Definition(of, type_of(impl[0]), gifts)
+        for name in public & set(re.findall(r"^pub (?:struct|enum|trait) (\w+)", text, re.M)):
+            yield believed.declared(crate, name)
+
+
+def definitions(crate):
+    """The definitions of a crate, and whether they stand under Inside."""
+    specs = CRATES / crate / "specs"
+    for file in sorted(specs.rglob("*.antt")):
+        path = file.relative_to(specs).with_suffix("").parts
+        for definition in set(module(".".join(["Rattle", crate, "specs", *path])).defined.values()):
+            yield definition, path[0] == "Inside"
+
+
+def main():
+    believed.MODEL = r"ghost Value ="
+    found = set(reached(start for crate in libraries() for start in contracts(crate)))
+    wrong = 0
+    for crate in libraries():
+        for definition, is_inside in definitions(crate):
+            if (definition in found) == is_inside:
+                wrong += 1
+                side = "must be believed" if is_inside else "is plumbing"
+                print(f"{definition.module.file.relative_to(CRATES)}: {definition.name} {side}")
+    return 1 if wrong else 0
+
+
+if __name__ == "__main__":
+    sys.exit(main())
