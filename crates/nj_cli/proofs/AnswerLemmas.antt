@@ -2,7 +2,7 @@
 use Rattle.std.proofs.Common.{◌≡◌, ◌≢◌, ◌⊎◌, inl, inr, ℕ, Bool, true, false, if◌then◌else◌, Option, Some, None, Result, Ok, Err, IsErrAnd, List, [], length, map, filter, not, refl, sym, ap, subst, ◌∙◌}
 use Rattle.std.specs.List.{flat_map}
 use Rattle.std.specs.Prelude.{slice_get}
-use Rattle.nj_scope.specs.ReadingList.{Entry}
+use Rattle.nj_scope.specs.ReadingList.{ReadStatement}
 use Rattle.nj_edges.specs.declared.files.FileNo.{FileNo}
 use Rattle.nj_edges.specs.EdgeGraphs.{EdgeGraph}
 use Rattle.nj_edges.specs.Edges.{EdgePaths}
@@ -46,12 +46,12 @@ pub TakesFront-none : (s : SinkState) (text : List ℕ) → TakesFront s s text
 TakesFront-none s text = ([], (text, refl), Takes-nil s)
 
 -- a fault is the answer
-pub AnswersTo-err : (entries : List Entry) (action : ActionText) (old new : SinkState) (result : Result (Option (List ℕ)) RunFault) (f : RunFault)
+pub AnswersTo-err : (entries : List ReadStatement) (action : ActionText) (old new : SinkState) (result : Result (Option (List ℕ)) RunFault) (f : RunFault)
     → IsErrAnd result (λ e. e ≡ f) → AnswersTo entries action old new (Err f) → AnswersTo entries action old new result
 AnswersTo-err entries action old new (Ok mark) f is answers = absurd is
 AnswersTo-err entries action old new (Err e) f is answers = subst (λ (r : RunFault). AnswersTo entries action old new (Err r)) (sym is) answers
 
-module _ (entries : List Entry) (g : GraphText) (is : IsGraphOf g entries) where
+module _ (entries : List ReadStatement) (g : GraphText) (is : IsGraphOf g entries) where
   edges-are : edges_of g ≡ edges_by_path entries
   edges-are = is.built.paths
 

@@ -3,7 +3,7 @@
 use Rattle.std.proofs.Common.{◌≡◌, inl, inr, ℕ, true, Err, List, sym, ap, subst, ◌∙◌}
 use Rattle.nj_scope.specs.Readings.{Reading}
 use Rattle.nj_scope.specs.Sources.{SourceState}
-use Rattle.nj_scope.specs.ReadingList.{Entry}
+use Rattle.nj_scope.specs.ReadingList.{ReadStatement}
 use Rattle.nj_faults.specs.declared.fault.GraphFault.{GraphFault}
 use Rattle.nj_graph.specs.Loads.{LoadedOr, main_reached}
 use Rattle.nj_graph.specs.Reading.{ReadingText, Whole, main_read}
@@ -12,7 +12,7 @@ use Rattle.nj_graph.proofs.OtherFiles.{others_are_not_read}
 use Rattle.nj_cli.specs.Runs.{ReadsMore, AreStatements, HaveFault}
 use Rattle.nj_cli.specs.Targets.{edges_by_path, NoEdgeNeedsItself}
 
-module _ (main : List ℕ) (before after : SourceState) (files : List Reading) (stated : List Entry)
+module _ (main : List ℕ) (before after : SourceState) (files : List Reading) (stated : List ReadStatement)
     (read : main_read files main ≡ record { entries = stated; end = Whole }) (cyclic : ¬ NoEdgeNeedsItself (edges_by_path stated)) where
   -- what was read first are these statements: further files make no difference
   stated-are : (more : ReadsMore main before after files) → more.stated ≡ stated
@@ -22,9 +22,9 @@ module _ (main : List ℕ) (before after : SourceState) (files : List Reading) (
       ap (λ (r : ReadingText). r.entries) (sym more.whole.read ∙ sym same ∙ read)
 
   pub no_more_is_read : ¬ ReadsMore main before after files
-  no_more_is_read more = cyclic (subst (λ (es : List Entry). NoEdgeNeedsItself (edges_by_path es)) (stated-are more) more.acyclic)
+  no_more_is_read more = cyclic (subst (λ (es : List ReadStatement). NoEdgeNeedsItself (edges_by_path es)) (stated-are more) more.acyclic)
 
-  pub nothing_is_joined : (entries : List Entry) → ¬ AreStatements main true before after files entries
+  pub nothing_is_joined : (entries : List ReadStatement) → ¬ AreStatements main true before after files entries
   nothing_is_joined entries (more, joined) = no_more_is_read more
 
   pub fault_of_loading : (fault : GraphFault) → HaveFault main true before after files fault → LoadedOr before after files (main_reached main) (Err fault)

@@ -4,7 +4,7 @@ use Rattle.std.specs.Prelude.{MatchOption, ok_or}
 use Rattle.std.specs.List.{concat, last_or}
 use Rattle.std.proofs.lemmas.List.{append-nil}
 use Rattle.std.proofs.lemmas.List.Concat.{flat_map-append}
-use Rattle.nj_scope.specs.ReadingList.{Entry}
+use Rattle.nj_scope.specs.ReadingList.{ReadStatement}
 use Rattle.nj_edges.specs.Edges.{EdgePaths}
 use Rattle.nj_faults.specs.declared.fault.GraphFault.{GraphFault}
 use Rattle.nj_faults.specs.FaultLines.{fault_line}
@@ -38,7 +38,7 @@ Goes finished = Unit {0}
 Goes (stopped mark) = Unit {0}
 Goes (faulty text) = ⊥
 
-pub record Page (entries : List Entry) (take : Option ℕ) (start : List ℕ) (words : List (List ℕ)) (validations : Bool) (ending : Ending) : Type 0 where
+pub record Page (entries : List ReadStatement) (take : Option ℕ) (start : List ℕ) (words : List (List ℕ)) (validations : Bool) (ending : Ending) : Type 0 where
   pub targets : List (List ℕ)
   pub named : targets_of entries validations words ≡ Ok targets
   pub leads_so : leads entries targets start ≡ true
@@ -49,7 +49,7 @@ not-faulty finished text goes is = absurd cc
 not-faulty (stopped mark) text goes is = absurd cc
 not-faulty (faulty other) text goes is = goes
 
-module _ (entries : List Entry) (take : Option ℕ) (start : List ℕ) (words : List (List ℕ)) (validations : Bool) (ending : Ending) (goes : Goes ending) where
+module _ (entries : List ReadStatement) (take : Option ℕ) (start : List ℕ) (words : List (List ℕ)) (validations : Bool) (ending : Ending) (goes : Goes ending) where
   page-from : (targets : List (List ℕ)) → targets_of entries validations words ≡ Ok targets → (b : Bool) → leads entries targets start ≡ b → EndsFrom b entries take start targets ending
       → Page entries take start words validations ending
   page-from targets named true is ends_so = record { targets = targets; named = named; leads_so = is; ends_so = ends_so }
@@ -63,14 +63,14 @@ module _ (entries : List Entry) (take : Option ℕ) (start : List ℕ) (words : 
   page ends_so = page-of (targets_of entries validations words) refl ends_so
 
 -- its output
-pub output-is : (entries : List Entry) (take : Option ℕ) (start : List ℕ) (words : List (List ℕ)) (validations : Bool) (targets : List (List ℕ)) → targets_of entries validations words ≡ Ok targets → leads entries targets start ≡ true
+pub output-is : (entries : List ReadStatement) (take : Option ℕ) (start : List ℕ) (words : List (List ℕ)) (validations : Bool) (targets : List (List ℕ)) → targets_of entries validations words ≡ Ok targets → leads entries targets start ≡ true
     → output_of entries (commands words validations take start) ≡ command_lines entries (written take (commands_left entries targets start))
 output-is entries take start words validations targets named leads_so =
     ap (commands_text entries take start) named
     ∙ ap (λ (b : Bool). if b then command_lines entries (written take (commands_left entries targets start)) else []) leads_so
 
 -- a run with a mark that leads to an edge finishes, if nothing limits it
-finishes-unlimited : (entries : List Entry) (start : List ℕ) (words : List (List ℕ)) (validations : Bool) (targets : List (List ℕ)) → targets_of entries validations words ≡ Ok targets → leads entries targets start ≡ true
+finishes-unlimited : (entries : List ReadStatement) (start : List ℕ) (words : List (List ℕ)) (validations : Bool) (targets : List (List ℕ)) → targets_of entries validations words ≡ Ok targets → leads entries targets start ≡ true
     → EndsWith entries (commands words validations None start) finished
 finishes-unlimited entries start words validations targets named leads_so =
     subst (λ (ts : Result (List (List ℕ)) GraphFault). CommandsEnd entries None start ts finished) (sym named)
@@ -108,7 +108,7 @@ writes-the_needed entries words validations none ends_so =
 -- ---- pages
 
 -- the targets of the words are these alone
-same-targets : (entries : List Entry) (words : List (List ℕ)) (validations : Bool) (targets others : List (List ℕ)) → targets_of entries validations words ≡ Ok targets → targets_of entries validations words ≡ Ok others → others ≡ targets
+same-targets : (entries : List ReadStatement) (words : List (List ℕ)) (validations : Bool) (targets others : List (List ℕ)) → targets_of entries validations words ≡ Ok targets → targets_of entries validations words ≡ Ok others → others ≡ targets
 same-targets entries words validations targets others one other = let e : Ok others ≡ Ok targets = sym other ∙ one in cc
 
 -- what was asked for is one run
@@ -123,7 +123,7 @@ start-said : (validations : Bool) (mark : List ℕ) → ReadsBack mark → start
 start-said validations mark back =
     ap (λ (said : Option (List ℕ)). ok_or said (BadMark (run_mark_text validations mark))) (run-mark_reads_back validations mark back)
 
-module _ (entries : List Entry) (words : List (List ℕ)) (validations : Bool) (targets : List (List ℕ)) (named : targets_of entries validations words ≡ Ok targets) (none : NoEdgeNeedsItself (edges_by_path entries)) where
+module _ (entries : List ReadStatement) (words : List (List ℕ)) (validations : Bool) (targets : List (List ℕ)) (named : targets_of entries validations words ≡ Ok targets) (none : NoEdgeNeedsItself (edges_by_path entries)) where
   -- after a page: the mark leads to an edge, and the rest is left there
   after-page : (start : List ℕ) (take : ℕ) (mark : List ℕ) → leads entries targets start ≡ true
       → IsMarkOf entries targets start (written (Some take) (commands_left entries targets start)) mark
@@ -181,7 +181,7 @@ stopped-go_on entries words validations none (Some count) start mark ends_so =
 
 -- ---- one ending
 
-module _ (entries : List Entry) (take : Option ℕ) (start : List ℕ) (targets : List (List ℕ)) (none : NoEdgeNeedsItself (edges_by_path entries)) where
+module _ (entries : List ReadStatement) (take : Option ℕ) (start : List ℕ) (targets : List (List ℕ)) (none : NoEdgeNeedsItself (edges_by_path entries)) where
   -- an edge has one first place
   one-mark : (last : Option ℕ) (mark other : List ℕ)
       → MatchOption last (mark ≡ start) (λ e. IsFirstPlace (makers_in (edges_by_path entries)) (length (edges_by_path entries)) (row_of_paths (edges_by_path entries) targets) mark e)
@@ -205,7 +205,7 @@ module _ (entries : List Entry) (take : Option ℕ) (start : List ℕ) (targets 
   one-from true ending other is so = one-page ending other is so
   one-from false ending other is so = is ∙ sym so
 
-one-commands : (entries : List Entry) (take : Option ℕ) (start : List ℕ) (targets : Result (List (List ℕ)) GraphFault) (ending other : Ending) → NoEdgeNeedsItself (edges_by_path entries)
+one-commands : (entries : List ReadStatement) (take : Option ℕ) (start : List ℕ) (targets : Result (List (List ℕ)) GraphFault) (ending other : Ending) → NoEdgeNeedsItself (edges_by_path entries)
     → CommandsEnd entries take start targets ending → CommandsEnd entries take start targets other → ending ≡ other
 one-commands entries take start (Ok targets) ending other none is so = one-from entries take start targets none (leads entries targets start) ending other is so
 one-commands entries take start (Err f) ending other none is so = is ∙ sym so
@@ -214,7 +214,7 @@ one-for_targets : (targets : Result (List (List ℕ)) GraphFault) (ending other 
 one-for_targets (Ok targets) ending other is so = is ∙ sym so
 one-for_targets (Err f) ending other is so = is ∙ sym so
 
-one-compdb : (entries : List Entry) (unheld : Option ℕ) (ending other : Ending) → CompdbEnds entries unheld ending → CompdbEnds entries unheld other → ending ≡ other
+one-compdb : (entries : List ReadStatement) (unheld : Option ℕ) (ending other : Ending) → CompdbEnds entries unheld ending → CompdbEnds entries unheld other → ending ≡ other
 one-compdb entries None ending other is so = is ∙ sym so
 one-compdb entries (Some edge) ending other is so = is ∙ sym so
 

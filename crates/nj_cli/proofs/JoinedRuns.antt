@@ -2,7 +2,7 @@
 use Rattle.std.proofs.Common.{◌≡◌, inr, ℕ, Bool, true, false, Result, Ok, Err, List, [], subst}
 use Rattle.nj_scope.specs.Readings.{Reading}
 use Rattle.nj_scope.specs.Sources.{SourceState}
-use Rattle.nj_scope.specs.ReadingList.{Entry}
+use Rattle.nj_scope.specs.ReadingList.{ReadStatement}
 use Rattle.nj_faults.specs.declared.fault.GraphFault.{GraphFault}
 use Rattle.nj_graph.specs.Joining.{joined_after, Joins}
 use Rattle.nj_graph.specs.Loads.{LoadedText, IsWhole, IsLoaded, LoadedOr, main_reached}
@@ -13,7 +13,7 @@ use Rattle.nj_cli.specs.Inside.RunSteps.{GraphOr, ReadsGraph}
 use Rattle.nj_cli.specs.Runs.{ReadsMore, AreStatements, HaveFault}
 use Rattle.nj_cli.proofs.AnswerLemmas.{NoEdgeNeedsItself-stated}
 
-statements-joined : (main : List ℕ) (dyndep : Bool) (before after : SourceState) (files : List Reading) (entries : List Entry) → dyndep ≡ true
+statements-joined : (main : List ℕ) (dyndep : Bool) (before after : SourceState) (files : List Reading) (entries : List ReadStatement) → dyndep ≡ true
     → (more : ReadsMore main before after files) → IsWhole more.between after files (joined_after more.read more.stated) entries
     → AreStatements main dyndep before after files entries
 statements-joined main true before after files entries asked more joined = (more, joined)

@@ -7,7 +7,7 @@ use Rattle.nj_text.specs.Quotes.{quoted}
 use Rattle.nj_manifest.specs.LineSteps.{NameText}
 use Rattle.nj_manifest.specs.Statements.{StatementText, RuleText, BuildText}
 use Rattle.nj_manifest.proofs.StatementRows.{at}
-use Rattle.nj_scope.specs.ReadingList.{Entry}
+use Rattle.nj_scope.specs.ReadingList.{ReadStatement}
 use Rattle.nj_statements.specs.EdgeList.{defaults_read}
 use Rattle.nj_graph.proofs.ReadingRows.{main_file, on_files, read_of}
 use Rattle.nj_marks.specs.Marks.{said_mark, ReadsBack}
@@ -23,7 +23,7 @@ use Rattle.nj_cli.specs.Headline.ArePageTexts.{no_runs, finishes, stops}
 abbrev text : List ℕ
 text = codes "rule mk\n  command = mk $out\nbuild a: mk\nbuild b1: mk a\nbuild b2: mk a\nbuild d: mk b1 b2\n"
 
-abbrev entry : (line : ℕ) → StatementText → Entry
+abbrev entry : (line : ℕ) → StatementText → ReadStatement
 entry line item = record { file = main_file; spot = at line 1; depth = 0; number = 0; around = []; item = item; discovered = None }
 
 abbrev word : (line column : ℕ) → List ℕ → WordText
@@ -33,7 +33,7 @@ abbrev name_at : (line column : ℕ) → List ℕ → NameText
 name_at line column name = record { spot = at line column; name = name }
 
 -- `rule mk` in line 1, with the command `mk $out`
-abbrev the_rule : Entry
+abbrev the_rule : ReadStatement
 the_rule = entry 1 (RuleText (name_at 1 6 (codes "mk")) (record {
   spot = at 2 3;
   name = codes "command";
@@ -41,7 +41,7 @@ the_rule = entry 1 (RuleText (name_at 1 6 (codes "mk")) (record {
 } ∷ []))
 
 -- `build OUTPUT: mk INPUTS`
-abbrev made : (line : ℕ) → (output : List ℕ) → (column : ℕ) → (inputs : List WordText) → Entry
+abbrev made : (line : ℕ) → (output : List ℕ) → (column : ℕ) → (inputs : List WordText) → ReadStatement
 made line output column inputs = entry line (BuildText
     (record { explicit = word line 7 output ∷ []; implicit = [] })
     (name_at line column (codes "mk"))
@@ -49,7 +49,7 @@ made line output column inputs = entry line (BuildText
     [])
 
 -- the statements of the file, of which the last read stands first; the edges are 0 for a, 1 for b1, 2 for b2 and 3 for d
-abbrev entries : List Entry
+abbrev entries : List ReadStatement
 entries =
     made 6 (codes "d") 10 (word 6 13 (codes "b1") ∷ word 6 16 (codes "b2") ∷ [])
     ∷ made 5 (codes "b2") 11 (word 5 14 (codes "a") ∷ [])
@@ -262,7 +262,7 @@ status_of_fault = refl
 -- ---- validations
 
 -- `build t: mk |@ v` and `build v: mk t`: edge 0 makes t, edge 1 makes v
-abbrev checked : List Entry
+abbrev checked : List ReadStatement
 checked =
     made 4 (codes "v") 10 (word 4 13 (codes "t") ∷ [])
     ∷ entry 3 (BuildText

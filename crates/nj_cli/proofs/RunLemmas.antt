@@ -2,7 +2,7 @@
 use Rattle.std.proofs.Common.{◌≡◌, ◌⊎◌, inl, inr, ℕ, Option, Some, None, Result, Ok, Err, List, [], refl, sym, subst}
 use Rattle.std.proofs.lemmas.List.{append-nil}
 use Rattle.nj_scope.specs.Readings.{Reading}
-use Rattle.nj_scope.specs.ReadingList.{Entry}
+use Rattle.nj_scope.specs.ReadingList.{ReadStatement}
 use Rattle.nj_faults.specs.declared.fault.GraphFault.{GraphFault}
 use Rattle.nj_faults.specs.FaultLines.{fault_line}
 use Rattle.nj_faults.specs.Faults.{no_memory}
@@ -25,7 +25,7 @@ use Rattle.nj_cli.proofs.AnswerLemmas.{NoEdgeNeedsItself-stated, TakesFront-none
 
 -- ---- the ends
 
-module _ (entries : List Entry) (action : ActionText) (old new : Around) where
+module _ (entries : List ReadStatement) (action : ActionText) (old new : Around) where
   -- memory ran out before anything was output
   early : new.output ≡ old.output → Reported old.error new.error (with_line_end out_of_memory) → RunEnds entries action old new Fault
   early same reported = memory_failed (record {
@@ -74,7 +74,7 @@ module _ (entries : List Entry) (action : ActionText) (old new : Around) where
   Answers-from status (Err fault.OutOfMemory) answers concludes = memory_failed (record { output = answers; error = concludes.0; status_is = concludes.1 })
 
 -- all files were read, and this is the graph of their statements
-pub IsAnswered-from : (request : RequestText) (files : List Reading) (old new : Around) (graph : GraphText) (entries : List Entry) (status : Status)
+pub IsAnswered-from : (request : RequestText) (files : List Reading) (old new : Around) (graph : GraphText) (entries : List ReadStatement) (status : Status)
     → AreStatements request.file request.dyndep old.source new.source files entries → IsGraphOf graph entries
     → RunEnds entries request.action old new status → IsAnswered request files old new status
 IsAnswered-from request files old new graph entries status statements graph_is answers = record {

@@ -1,6 +1,6 @@
 -- What a run answers, by the statements of its files and by what is asked for: its output, and how it ends.
 use Rattle.std.specs.Prelude.{◌≡◌, ◌≢◌, ℕ, Bool, true, false, if◌then◌else◌, Option, Some, None, Result, Ok, Err, List, [], ◌∷◌, ◌++◌, length, slice_get, codes}
-use Rattle.nj_scope.specs.ReadingList.{Entry}
+use Rattle.nj_scope.specs.ReadingList.{ReadStatement}
 use Rattle.nj_statements.specs.EdgeList.{EdgeText, edges_read}
 use Rattle.nj_faults.specs.declared.fault.Cause.TheVariants.{TextNotUtf8}
 use Rattle.nj_faults.specs.declared.fault.GraphFault.{GraphFault}
@@ -25,24 +25,24 @@ use Rattle.nj_cli.specs.declared.status.Status.TheVariants.{Done, Fault, Stopped
 -- ---- what is left to write
 
 -- each step of a mark leads to an edge, starting from these targets; the mark of the start has no steps
-abbrev pub leads : List Entry → (targets : List (List ℕ)) → (mark : List ℕ) → Bool
+abbrev pub leads : List ReadStatement → (targets : List (List ℕ)) → (mark : List ℕ) → Bool
 leads entries targets mark = is_valid (makers_in (edges_by_path entries)) (row_of_paths (edges_by_path entries) targets) mark
 
 -- the edges whose commands are left at a mark
-abbrev pub commands_left : List Entry → (targets : List (List ℕ)) → (mark : List ℕ) → List ℕ
+abbrev pub commands_left : List ReadStatement → (targets : List (List ℕ)) → (mark : List ℕ) → List ℕ
 commands_left entries targets mark =
     rest (makers_in (edges_by_path entries)) (length (edges_by_path entries)) (is_phony_in (edges_by_path entries))
     (row_of_paths (edges_by_path entries) targets) mark
 
 -- the mark after these edges, in a run that began at the mark `begun`
-abbrev pub IsMarkOf : List Entry → (targets : List (List ℕ)) → (begun : List ℕ) → (edges : List ℕ) → (mark : List ℕ) → Type 0
+abbrev pub IsMarkOf : List ReadStatement → (targets : List (List ℕ)) → (begun : List ℕ) → (edges : List ℕ) → (mark : List ℕ) → Type 0
 IsMarkOf entries targets begun edges mark =
     IsMarkAfter (makers_in (edges_by_path entries)) (length (edges_by_path entries)) (row_of_paths (edges_by_path entries) targets)
     begun edges mark
 
 -- ---- the output
 
-abbrev pub commands_text : List Entry → (take : Option ℕ) → (start : List ℕ) → (targets : Result (List (List ℕ)) GraphFault) → List ℕ
+abbrev pub commands_text : List ReadStatement → (take : Option ℕ) → (start : List ℕ) → (targets : Result (List (List ℕ)) GraphFault) → List ℕ
 commands_text entries take start (Ok targets) =
     if leads entries targets start then command_lines entries (written take (commands_left entries targets start)) else []
 commands_text entries take start (Err fault) = []
@@ -53,11 +53,11 @@ for_targets text (Ok targets) = text targets
 for_targets text (Err fault) = []
 
 -- the commands of the edges that make the targets
-abbrev pub single_commands_text : List Entry → (targets : List (List ℕ)) → List ℕ
+abbrev pub single_commands_text : List ReadStatement → (targets : List (List ℕ)) → List ℕ
 single_commands_text entries targets = command_lines entries (own_commands_in (edges_by_path entries) targets)
 
 -- the whole output; empty at a fault, except for what `compdb` writes before one
-abbrev pub output_of : List Entry → ActionText → List ℕ
+abbrev pub output_of : List ReadStatement → ActionText → List ℕ
 output_of entries (commands words validations take start) = commands_text entries take start (targets_of entries validations words)
 output_of entries (single_commands words) = for_targets (single_commands_text entries) (targets_of entries false words)
 output_of entries (ask.inputs words validations style) =
@@ -79,7 +79,7 @@ abbrev pub out_of_range : List ℕ
 out_of_range = codes "ninja-explain: mark out of range"
 
 -- from a mark whose steps lead to edges: nothing is left after what is written; or the run stops at the mark after that, whose text says it
-abbrev pub PageEnds : List Entry → (take : Option ℕ) → (start : List ℕ) → (targets : List (List ℕ)) → Ending → Type 0
+abbrev pub PageEnds : List ReadStatement → (take : Option ℕ) → (start : List ℕ) → (targets : List (List ℕ)) → Ending → Type 0
 PageEnds entries take start targets finished = left_after take (commands_left entries targets start) ≡ []
 PageEnds entries take start targets (stopped mark) =
     (left_after take (commands_left entries targets start) ≢ [])
@@ -87,11 +87,11 @@ PageEnds entries take start targets (stopped mark) =
     × ReadsBack mark
 PageEnds entries take start targets (faulty text) = ⊥
 
-abbrev pub EndsFrom : (leads : Bool) → List Entry → (take : Option ℕ) → (start : List ℕ) → (targets : List (List ℕ)) → Ending → Type 0
+abbrev pub EndsFrom : (leads : Bool) → List ReadStatement → (take : Option ℕ) → (start : List ℕ) → (targets : List (List ℕ)) → Ending → Type 0
 EndsFrom true entries take start targets ending = PageEnds entries take start targets ending
 EndsFrom false entries take start targets ending = ending ≡ faulty out_of_range
 
-abbrev pub CommandsEnd : List Entry → (take : Option ℕ) → (start : List ℕ) → (targets : Result (List (List ℕ)) GraphFault) → Ending → Type 0
+abbrev pub CommandsEnd : List ReadStatement → (take : Option ℕ) → (start : List ℕ) → (targets : Result (List (List ℕ)) GraphFault) → Ending → Type 0
 CommandsEnd entries take start (Ok targets) ending = EndsFrom (leads entries targets start) entries take start targets ending
 CommandsEnd entries take start (Err fault) ending = ending ≡ faulty (fault_line fault)
 
@@ -106,12 +106,12 @@ text_fault (Some e) = fault_at e.file e.spot TextNotUtf8
 text_fault None = unplaced TextNotUtf8
 
 -- by the first edge that JSON cannot hold, if there is one
-abbrev pub CompdbEnds : List Entry → (unheld : Option ℕ) → Ending → Type 0
+abbrev pub CompdbEnds : List ReadStatement → (unheld : Option ℕ) → Ending → Type 0
 CompdbEnds entries None ending = ending ≡ finished
 CompdbEnds entries (Some edge) ending = ending ≡ faulty (fault_line (text_fault (slice_get (edges_read entries) edge)))
 
 -- the ending of a run; the faults of targets, from the left, come before that of the mark
-abbrev pub EndsWith : List Entry → ActionText → Ending → Type 0
+abbrev pub EndsWith : List ReadStatement → ActionText → Ending → Type 0
 EndsWith entries (commands words validations take start) ending =
     CommandsEnd entries take start (targets_of entries validations words) ending
 EndsWith entries (single_commands words) ending = TargetsEnd (targets_of entries false words) ending

@@ -1,7 +1,7 @@
 -- What a run of `commands` is for.
 use Rattle.std.specs.Prelude.{◌≡◌, ◌↔◌, ℕ, Bool, false, Option, None, Some, Ok, List, [], ◌∷◌, ◌++◌, length, Contains, nat_eq}
 use Rattle.std.specs.List.{concat, IsDistinct}
-use Rattle.nj_scope.specs.ReadingList.{Entry}
+use Rattle.nj_scope.specs.ReadingList.{ReadStatement}
 use Rattle.nj_edges.specs.Edges.{EdgePaths}
 use Rattle.nj_needs.specs.Graphs.{row_of_paths, makers_in, is_phony_in}
 use Rattle.nj_needs.specs.Laws.{StandsBefore}
@@ -25,7 +25,7 @@ pub record AreNeeded (edges : List EdgePaths) (targets : List (List ℕ)) (numbe
 -- A run from the start that finishes writes a line for each of the needed edges: its command. If it follows validations, the targets are
 -- those of its words and what is to be validated when they are built.
 abbrev pub WritesTheNeeded : Type 0
-WritesTheNeeded = (entries : List Entry) (words : List (List ℕ)) (validations : Bool) → NoEdgeNeedsItself (edges_by_path entries)
+WritesTheNeeded = (entries : List ReadStatement) (words : List (List ℕ)) (validations : Bool) → NoEdgeNeedsItself (edges_by_path entries)
     → EndsWith entries (commands words validations None []) finished
     → (targets : List (List ℕ)) × (targets_of entries validations words ≡ Ok targets)
     × (numbers : List ℕ) × AreNeeded (edges_by_path entries) targets numbers
@@ -38,7 +38,7 @@ IsRun words validations take resume run =
 
 -- Runs with these words, one after another: each takes at most the number of edges in `takes`, and resumes at the text that the one before
 -- wrote after `mark `. Their outputs, and the output of a run without a limit from the last mark; that is empty if a run finished.
-pub data ArePageTexts (entries : List Entry) (words : List (List ℕ)) (validations : Bool)
+pub data ArePageTexts (entries : List ReadStatement) (words : List (List ℕ)) (validations : Bool)
     : (resume : Option (List ℕ)) → (takes : List ℕ) → (outputs : List (List ℕ)) → (rest : List ℕ) → Type 0 where
   no_runs : {resume : Option (List ℕ)} {rest : List ℕ} (run : ActionText) → IsRun words validations None resume run
       → output_of entries run ≡ rest → ArePageTexts entries words validations resume [] [] rest
@@ -52,18 +52,18 @@ pub data ArePageTexts (entries : List Entry) (words : List (List ℕ)) (validati
 
 -- The pages, followed by the rest, are the output of one run without a limit.
 abbrev pub PageTextsJoin : Type 0
-PageTextsJoin = (entries : List Entry) (words : List (List ℕ)) (validations : Bool) → NoEdgeNeedsItself (edges_by_path entries)
+PageTextsJoin = (entries : List ReadStatement) (words : List (List ℕ)) (validations : Bool) → NoEdgeNeedsItself (edges_by_path entries)
     → (resume : Option (List ℕ)) (whole : ActionText) → IsRun words validations None resume whole → EndsWith entries whole finished
     → (takes : List ℕ) (outputs : List (List ℕ)) (rest : List ℕ) → ArePageTexts entries words validations resume takes outputs rest
     → output_of entries whole ≡ concat outputs ++ rest
 
 -- A run that stopped can go on: what it wrote after `mark ` is a text for `--resume`, and a run without a limit from there finishes.
 abbrev pub StoppedRunsGoOn : Type 0
-StoppedRunsGoOn = (entries : List Entry) (words : List (List ℕ)) (validations : Bool) → NoEdgeNeedsItself (edges_by_path entries)
+StoppedRunsGoOn = (entries : List ReadStatement) (words : List (List ℕ)) (validations : Bool) → NoEdgeNeedsItself (edges_by_path entries)
     → (take : Option ℕ) (start mark : List ℕ) → EndsWith entries (commands words validations take start) (stopped mark)
     → (next : ActionText) × IsRun words validations None (Some (run_mark_text validations mark)) next × EndsWith entries next finished
 
 -- A run has one ending, so one mark.
 abbrev pub OneEnding : Type 0
-OneEnding = (entries : List Entry) (action : ActionText) (ending other : Ending) → NoEdgeNeedsItself (edges_by_path entries)
+OneEnding = (entries : List ReadStatement) (action : ActionText) (ending other : Ending) → NoEdgeNeedsItself (edges_by_path entries)
     → EndsWith entries action ending → EndsWith entries action other → ending ≡ other

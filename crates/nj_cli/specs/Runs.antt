@@ -2,7 +2,7 @@
 use Rattle.std.specs.Prelude.{◌≡◌, ◌⊎◌, ℕ, Bool, true, false, Result, Ok, Err, List, []}
 use Rattle.nj_scope.specs.Readings.{Reading}
 use Rattle.nj_scope.specs.Sources.{SourceState}
-use Rattle.nj_scope.specs.ReadingList.{Entry}
+use Rattle.nj_scope.specs.ReadingList.{ReadStatement}
 use Rattle.nj_faults.specs.declared.fault.GraphFault.{GraphFault}
 use Rattle.nj_faults.specs.FaultLines.{fault_line}
 use Rattle.nj_faults.specs.Faults.{no_memory}
@@ -35,7 +35,7 @@ out_of_memory = fault_line no_memory
 -- ---- by the statements of its files
 
 -- all was output and reported
-pub record IsTold (entries : List Entry) (action : ActionText) (old new : Around) (status : Status) : Type 0 where
+pub record IsTold (entries : List ReadStatement) (action : ActionText) (old new : Around) (status : Status) : Type 0 where
   pub ending : Ending
   pub ends : EndsWith entries action ending
   pub output : Takes old.output new.output (output_of entries action)
@@ -43,7 +43,7 @@ pub record IsTold (entries : List Entry) (action : ActionText) (old new : Around
   pub status_is : status ≡ status_of ending
 
 -- all was output, and the error output failed
-pub record IsUntold (entries : List Entry) (action : ActionText) (old new : Around) (status : Status) : Type 0 where
+pub record IsUntold (entries : List ReadStatement) (action : ActionText) (old new : Around) (status : Status) : Type 0 where
   pub ending : Ending
   pub ends : EndsWith entries action ending
   pub output : Takes old.output new.output (output_of entries action)
@@ -51,18 +51,18 @@ pub record IsUntold (entries : List Entry) (action : ActionText) (old new : Arou
   pub status_is : status ≡ status_untold ending
 
 -- the output failed; nothing is reported
-pub record OutputFails (entries : List Entry) (action : ActionText) (old new : Around) (status : Status) : Type 0 where
+pub record OutputFails (entries : List ReadStatement) (action : ActionText) (old new : Around) (status : Status) : Type 0 where
   pub output : FailsWithin old.output new.output (output_of entries action)
   pub error : new.error ≡ old.error
   pub status_is : status ≡ OutputFailed
 
 -- an allocation failed, after a prefix of the output
-pub record MemoryFails (entries : List Entry) (action : ActionText) (old new : Around) (status : Status) : Type 0 where
+pub record MemoryFails (entries : List ReadStatement) (action : ActionText) (old new : Around) (status : Status) : Type 0 where
   pub output : TakesFront old.output new.output (output_of entries action)
   pub error : Reported old.error new.error (with_line_end out_of_memory)
   pub status_is : status ≡ Fault
 
-pub data RunEnds (entries : List Entry) (action : ActionText) (old new : Around) (status : Status) : Type 0 where
+pub data RunEnds (entries : List ReadStatement) (action : ActionText) (old new : Around) (status : Status) : Type 0 where
   told : IsTold entries action old new status → RunEnds entries action old new status
   untold : IsUntold entries action old new status → RunEnds entries action old new status
   output_failed : OutputFails entries action old new status → RunEnds entries action old new status
@@ -75,7 +75,7 @@ pub data RunEnds (entries : List Entry) (action : ActionText) (old new : Around)
 pub record ReadsMore (main : List ℕ) (before after : SourceState) (files : List Reading) : Type 0 where
   pub between : SourceState
   pub read : List Reading
-  pub stated : List Entry
+  pub stated : List ReadStatement
   pub reads : IsRead before between [] read
   pub whole : IsWhole before between read (main_reached main) stated
   pub acyclic : NoEdgeNeedsItself (edges_by_path stated)
@@ -83,7 +83,7 @@ pub record ReadsMore (main : List ℕ) (before after : SourceState) (files : Lis
 
 -- The statements of the files: those of the main file and all that it includes; with `--dyndep`, where no edge of these needs itself,
 -- what dyndep files discover is joined to them.
-abbrev pub AreStatements : (main : List ℕ) → (dyndep : Bool) → (before after : SourceState) → List Reading → List Entry → Type 0
+abbrev pub AreStatements : (main : List ℕ) → (dyndep : Bool) → (before after : SourceState) → List Reading → List ReadStatement → Type 0
 AreStatements main false before after files entries = IsWhole before after files (main_reached main) entries
 AreStatements main true before after files entries =
     (more : ReadsMore main before after files) × IsWhole more.between after files (joined_after more.read more.stated) entries
@@ -107,7 +107,7 @@ pub record IsRefused (request : RequestText) (files : List Reading) (old new : A
 
 -- the files were read, and no edge of their statements needs itself by a chain
 pub record IsAnswered (request : RequestText) (files : List Reading) (old new : Around) (status : Status) : Type 0 where
-  pub entries : List Entry
+  pub entries : List ReadStatement
   pub statements : AreStatements request.file request.dyndep old.source new.source files entries
   pub acyclic : NoEdgeNeedsItself (edges_by_path entries)
   pub answers : RunEnds entries request.action old new status

@@ -1,7 +1,7 @@
 -- The targets of a run.
 use Rattle.std.specs.Prelude.{◌≡◌, ◌⊎◌, ℕ, Bool, true, false, Result, Ok, Err, List, [], ◌∷◌, length}
 use Rattle.std.specs.Global.{Vec}
-use Rattle.nj_scope.specs.ReadingList.{Entry}
+use Rattle.nj_scope.specs.ReadingList.{ReadStatement}
 use Rattle.nj_edges.specs.declared.files.FileNo.{FileNo}
 use Rattle.nj_edges.specs.Edges.{EdgePaths}
 use Rattle.nj_edges.specs.Files.{AreFiles}
@@ -15,7 +15,7 @@ use Rattle.nj_graph.specs.Targets.{picked}
 use Rattle.nj_needs.specs.Growing.{grown_targets}
 
 -- the edges of statements, by their paths
-abbrev pub edges_by_path : List Entry → List EdgePaths
+abbrev pub edges_by_path : List ReadStatement → List EdgePaths
 edges_by_path entries = paths_of_edges (edges_read entries)
 
 abbrev pub and_target : Result (List ℕ) GraphFault → Result (List (List ℕ)) GraphFault → Result (List (List ℕ)) GraphFault
@@ -33,7 +33,7 @@ abbrev pub NoEdgeNeedsItself : List EdgePaths → Type 0
 NoEdgeNeedsItself edges = IsAcyclic (makers_of_inputs edges) (length edges)
 
 -- the defaults in force if there are no targets
-abbrev pub or_defaults : List Entry → (targets : List (List ℕ)) → List (List ℕ)
+abbrev pub or_defaults : List ReadStatement → (targets : List (List ℕ)) → List (List ℕ)
 or_defaults entries [] = defaults_in_force (defaults_read entries) (edges_by_path entries)
 or_defaults entries (path ∷ paths) = path ∷ paths
 
@@ -42,12 +42,12 @@ abbrev pub with_validations : (validations : Bool) → List EdgePaths → (targe
 with_validations false edges targets = targets
 with_validations true edges targets = grown_targets edges targets
 
-abbrev pub targets_from : List Entry → (validations : Bool) → Result (List (List ℕ)) GraphFault → Result (List (List ℕ)) GraphFault
+abbrev pub targets_from : List ReadStatement → (validations : Bool) → Result (List (List ℕ)) GraphFault → Result (List (List ℕ)) GraphFault
 targets_from entries validations (Ok targets) = Ok (with_validations validations (edges_by_path entries) (or_defaults entries targets))
 targets_from entries validations (Err fault) = Err fault
 
 -- the targets of a run with these words
-abbrev pub targets_of : List Entry → (validations : Bool) → (words : List (List ℕ)) → Result (List (List ℕ)) GraphFault
+abbrev pub targets_of : List ReadStatement → (validations : Bool) → (words : List (List ℕ)) → Result (List (List ℕ)) GraphFault
 targets_of entries validations words = targets_from entries validations (targets_named (edges_by_path entries) words)
 
 -- ---- what the code answers

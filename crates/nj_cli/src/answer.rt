@@ -1,7 +1,7 @@
 //! What a run answers, by the graph of its files.
 
 ghost use Rattle.std.specs.Prelude.{◌≡◌, ℕ, ◌<◌, List, length, map, slice_get, string_bytes, IfOk};
-ghost use Rattle.nj_scope.specs.ReadingList.{Entry};
+ghost use Rattle.nj_scope.specs.ReadingList.{ReadStatement};
 ghost use Rattle.nj_statements.specs.EdgeList.{edges_read};
 ghost use Rattle.nj_graph.specs.Graph.{edges_of, IsGraphOf};
 ghost use Rattle.nj_args.specs.Requests.{action_text, commands, single_commands};
@@ -27,7 +27,7 @@ pub(crate) fn answer<O: Sink>(
     action: &Action,
     out: &mut O,
 ) -> Result<Option<Mark>, RunFault>
-    ensures { (entries : List Entry) → IsGraphOf graph.now entries
+    ensures { (entries : List ReadStatement) → IsGraphOf graph.now entries
         → AnswersTo entries (action_text action.now) (O.state out.old) (O.state out.new) result }
 {
     match action {
@@ -74,7 +74,7 @@ fn answer_commands<O: Sink>(
     start: &Mark,
     out: &mut O,
 ) -> Result<Option<Mark>, RunFault>
-    ensures { (entries : List Entry) → IsGraphOf graph.now entries
+    ensures { (entries : List ReadStatement) → IsGraphOf graph.now entries
         → AnswersTo entries (commands (map string_bytes words.now) validations take start.now)
         (O.state out.old) (O.state out.new) result }
 {
@@ -91,7 +91,7 @@ fn answer_single_commands<O: Sink>(
     words: &[String],
     out: &mut O,
 ) -> Result<Option<Mark>, RunFault>
-    ensures { (entries : List Entry) → IsGraphOf graph.now entries
+    ensures { (entries : List ReadStatement) → IsGraphOf graph.now entries
         → AnswersTo entries (single_commands (map string_bytes words.now))
         (O.state out.old) (O.state out.new) result }
 {
@@ -109,7 +109,7 @@ fn answer_inputs<O: Sink>(
     style: InputsStyle,
     out: &mut O,
 ) -> Result<Option<Mark>, RunFault>
-    ensures { (entries : List Entry) → IsGraphOf graph.now entries
+    ensures { (entries : List ReadStatement) → IsGraphOf graph.now entries
         → AnswersTo entries (ask.inputs (map string_bytes words.now) validations style)
         (O.state out.old) (O.state out.new) result }
 {
@@ -125,7 +125,7 @@ fn answer_targets<O: Sink>(
     view: &TargetsView,
     out: &mut O,
 ) -> Result<Option<Mark>, RunFault>
-    ensures { (entries : List Entry) → IsGraphOf graph.now entries
+    ensures { (entries : List ReadStatement) → IsGraphOf graph.now entries
         → AnswersTo entries (ask.targets view.now) (O.state out.old) (O.state out.new) result }
 {
     write_targets(alloc, graph, view, out)?;
@@ -139,7 +139,7 @@ fn answer_query<O: Sink>(
     words: &[String],
     out: &mut O,
 ) -> Result<Option<Mark>, RunFault>
-    ensures { (entries : List Entry) → IsGraphOf graph.now entries
+    ensures { (entries : List ReadStatement) → IsGraphOf graph.now entries
         → AnswersTo entries (ask.query (map string_bytes words.now))
         (O.state out.old) (O.state out.new) result }
 {
@@ -155,7 +155,7 @@ fn answer_rules<O: Sink>(
     descriptions: bool,
     out: &mut O,
 ) -> Result<Option<Mark>, RunFault>
-    ensures { (entries : List Entry) → IsGraphOf graph.now entries
+    ensures { (entries : List ReadStatement) → IsGraphOf graph.now entries
         → AnswersTo entries (ask.rules descriptions) (O.state out.old) (O.state out.new) result }
 {
     write_rules(alloc, graph, descriptions, out)?;
@@ -171,7 +171,7 @@ fn answer_compdb<O: Sink>(
     expand: bool,
     out: &mut O,
 ) -> Result<Option<Mark>, RunFault>
-    ensures { (entries : List Entry) → IsGraphOf graph.now entries
+    ensures { (entries : List ReadStatement) → IsGraphOf graph.now entries
         → AnswersTo entries (ask.compdb (map string_bytes rules.now) directory.now expand)
         (O.state out.old) (O.state out.new) result }
 {
@@ -189,7 +189,7 @@ fn answer_compdb<O: Sink>(
 // The fault of an edge with a text that JSON cannot hold.
 fn text_fault(alloc: Global, graph: &Graph, edge: EdgeNo) -> Result<GraphFault, AllocError>
     requires { edge.0 < length (edges_of graph.now) }
-    ensures { (entries : List Entry) → IsGraphOf graph.now entries
+    ensures { (entries : List ReadStatement) → IsGraphOf graph.now entries
         → IfOk result (λ fault. fault ≡ text_fault (slice_get (edges_read entries) edge.0)) }
 {
     let PlaceRef { file, spot } = graph.edge_place(edge);

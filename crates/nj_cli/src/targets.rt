@@ -1,7 +1,7 @@
 //! The targets of a run.
 
 ghost use Rattle.std.specs.Prelude.{◌≡◌, ◌<◌, ℕ, List, All, IfOk, length, map, string_bytes};
-ghost use Rattle.nj_scope.specs.ReadingList.{Entry};
+ghost use Rattle.nj_scope.specs.ReadingList.{ReadStatement};
 ghost use Rattle.nj_edges.specs.Files.{AreFiles};
 ghost use Rattle.nj_graph.specs.Graph.{edges_of, files_of, IsGraphOf};
 ghost use Rattle.nj_cli.specs.Targets.{or_defaults, targets_named, targets_of};
@@ -24,7 +24,7 @@ pub(crate) fn targets_of(
     words: &[String],
     validations: bool,
 ) -> Result<Vec<FileNo>, GraphFault>
-    ensures picks { (entries : List Entry) → IsGraphOf graph.now entries
+    ensures picks { (entries : List ReadStatement) → IsGraphOf graph.now entries
         → PicksTargets (files_of graph.now)
         (targets_of entries validations (map string_bytes words.now)) result }
     ensures known { IfOk result (λ files.
@@ -66,7 +66,7 @@ fn or_defaults(
     targets: Vec<FileNo>,
 ) -> Result<Vec<FileNo>, AllocError>
     requires { All (λ file. file.0 < length (files_of graph.now)) targets.items }
-    ensures files { (entries : List Entry) → IsGraphOf graph.now entries
+    ensures files { (entries : List ReadStatement) → IsGraphOf graph.now entries
         → (paths : List (List ℕ)) → AreFiles (files_of graph.now) targets.items paths
         → IfOk result (λ files.
         AreFiles (files_of graph.now) files.items (or_defaults entries paths)) }

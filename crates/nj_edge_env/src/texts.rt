@@ -2,7 +2,7 @@
 
 ghost use Rattle.std.specs.Prelude.{◌≡◌, ◌<◌, ◌++◌, ◌∷◌, ℕ, List, length, All, IfOk, IfSome, OnOk, OnErr, is_some};
 ghost use Rattle.nj_scope.specs.Declarations.{DeclaredBy};
-ghost use Rattle.nj_scope.specs.ReadingList.{Entry, value_after};
+ghost use Rattle.nj_scope.specs.ReadingList.{ReadStatement, value_after};
 ghost use Rattle.nj_scope.specs.Readings.{IsPrefix};
 ghost use Rattle.nj_scope.specs.RulesHeld.{IsNumber};
 ghost use Rattle.nj_scope.specs.Scopes.{IsScope, parent_at};
@@ -33,7 +33,7 @@ impl<'a> LateEdge<'a> {
     ///
     /// If an allocation failed; `out` is then unchanged.
     pub fn append_late_text(&self, out: &mut Vec<u8>, asked: &[u8]) -> Result<(), AllocError>
-        ensures appended { (entries : List Entry) (around : List ℕ)
+        ensures appended { (entries : List ReadStatement) (around : List ℕ)
             → DeclaredBy self.now.declarations.now entries
             → IsScope (parent_at self.now.declarations.now.scopes) self.now.scope
             (self.now.scope ∷ around)
@@ -132,7 +132,7 @@ impl<'a> LateEdge<'a> {
 
     // The value of the name in the file; a phony edge runs nothing.
     fn file_value(&self, name: &[u8]) -> &[u8]
-        ensures { (entries : List Entry) (around : List ℕ)
+        ensures { (entries : List ReadStatement) (around : List ℕ)
             → DeclaredBy self.now.declarations.now entries
             → IsScope (parent_at self.now.declarations.now.scopes) self.now.scope
             (self.now.scope ∷ around)

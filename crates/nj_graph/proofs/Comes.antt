@@ -6,7 +6,7 @@ use Rattle.nj_manifest.specs.Faults.{Fault}
 use Rattle.nj_manifest.specs.Statements.{StatementText, BindingText, RuleText, PoolText, BuildText, DefaultText, IncludeText, SubninjaText, PlacedText}
 use Rattle.nj_scope.specs.Readings as table
 use Rattle.nj_scope.specs.Readings.{reading_of, IsPrefix}
-use Rattle.nj_scope.specs.ReadingList.{Entry, files_opened}
+use Rattle.nj_scope.specs.ReadingList.{ReadStatement, files_opened}
 use Rattle.nj_faults.specs.declared.fault.Place.{Place}
 use Rattle.nj_faults.specs.declared.fault.GraphFault.{GraphFault}
 use Rattle.nj_graph.specs.Parsed.{parsed}
@@ -33,9 +33,9 @@ prefix-named before (path ∷ paths) = prefix-new before path
 
 -- ---- one reading after the other
 
-pub and_then-comes : (main : List ℕ) (front : List (List ℕ)) (r : ReadingText) (k : List Entry → ReadingText)
+pub and_then-comes : (main : List ℕ) (front : List (List ℕ)) (r : ReadingText) (k : List ReadStatement → ReadingText)
     → IsPrefix front (paths_come_to main r)
-    → ((entries : List Entry) → IsPrefix (paths_read main entries) (paths_come_to main (k entries)))
+    → ((entries : List ReadStatement) → IsPrefix (paths_read main entries) (paths_come_to main (k entries)))
     → IsPrefix front (paths_come_to main (and_then r k))
 and_then-comes main front r k comes others = by_end r.end comes
   where
@@ -45,17 +45,17 @@ and_then-comes main front r k comes others = by_end r.end comes
     by_end (Lacking path place) p = p
 
 -- a reading, by what was read before it
-abbrev pub ComesTo : (main : List ℕ) → List Entry → ReadingText → Type 0
+abbrev pub ComesTo : (main : List ℕ) → List ReadStatement → ReadingText → Type 0
 ComesTo main before r = IsPrefix (paths_read main before) (paths_come_to main r)
 
 abbrev pub OpensCome : (main : List ℕ) → Opens → Type 0
-OpensCome main opens = (site : Site) (place : Place) (e : Entry) (before : List Entry) → ComesTo main before (opens site place e before)
+OpensCome main opens = (site : Site) (place : Place) (e : ReadStatement) (before : List ReadStatement) → ComesTo main before (opens site place e before)
 
 -- a reading that ends before the next statement
-ends-there : (main : List ℕ) (before : List Entry) (end : End) → ComesTo main before (record { entries = before; end = end })
+ends-there : (main : List ℕ) (before : List ReadStatement) (end : End) → ComesTo main before (record { entries = before; end = end })
 ends-there main before end = prefix-named (paths_read main before) (path_at_end end)
 
-item_read-comes : (main : List ℕ) (opens : Opens) → OpensCome main opens → (e : Entry) (before : List Entry) (item : StatementText) → ComesTo main before (item_read opens e before item)
+item_read-comes : (main : List ℕ) (opens : Opens) → OpensCome main opens → (e : ReadStatement) (before : List ReadStatement) (item : StatementText) → ComesTo main before (item_read opens e before item)
 item_read-comes main opens comes e before (BindingText name value) = prefix-named (paths_read main before) (path_named e before e.item)
 item_read-comes main opens comes e before (RuleText name lines) = prefix-named (paths_read main before) (path_named e before e.item)
 item_read-comes main opens comes e before (PoolText name lines) = prefix-named (paths_read main before) (path_named e before e.item)
@@ -64,14 +64,14 @@ item_read-comes main opens comes e before (DefaultText words) = prefix-named (pa
 item_read-comes main opens comes e before (IncludeText word) = comes _ _ _ before
 item_read-comes main opens comes e before (SubninjaText word) = comes _ _ _ before
 
-statement_read-comes : (main : List ℕ) (opens : Opens) → OpensCome main opens → (e : Entry) (before : List Entry) → ComesTo main before (statement_read opens e before)
+statement_read-comes : (main : List ℕ) (opens : Opens) → OpensCome main opens → (e : ReadStatement) (before : List ReadStatement) → ComesTo main before (statement_read opens e before)
 statement_read-comes main opens comes e before = by_fault (own_fault e before)
   where
     by_fault : (f : Option GraphFault) → ComesTo main before (unless_fault f opens e before)
     by_fault (Some fault) = ends-there main before (Refused fault)
     by_fault None = item_read-comes main opens comes e before e.item
 
-statements_read-come : (main : List ℕ) (opens : Opens) → OpensCome main opens → (site : Site) (statements : List PlacedText) (fault : Option Fault) (before : List Entry) → ComesTo main before (statements_read opens site statements fault before)
+statements_read-come : (main : List ℕ) (opens : Opens) → OpensCome main opens → (site : Site) (statements : List PlacedText) (fault : Option Fault) (before : List ReadStatement) → ComesTo main before (statements_read opens site statements fault before)
 unfolding statements_read
 statements_read-come main opens comes site [] fault before = ends-there main before (end_by site.file fault)
 statements_read-come main opens comes site (s ∷ others) fault before =
@@ -79,16 +79,16 @@ statements_read-come main opens comes site (s ∷ others) fault before =
 
 -- ---- a file
 
-found_read-comes : (main : List ℕ) (within : Opens) → OpensCome main within → (site : Site) (place : Place) (entries before : List Entry) → IsPrefix (paths_read main before) (paths_read main entries) → (text : Option (List ℕ)) → ComesTo main before (found_read within site place entries before text)
+found_read-comes : (main : List ℕ) (within : Opens) → OpensCome main within → (site : Site) (place : Place) (entries before : List ReadStatement) → IsPrefix (paths_read main before) (paths_read main entries) → (text : Option (List ℕ)) → ComesTo main before (found_read within site place entries before text)
 found_read-comes main within comes site place entries before more None = prefix-new (paths_read main before) site.file
 found_read-comes main within comes site place entries before more (Some text) =
     prefix-then (paths_read main before) (paths_read main entries) _ more (statements_read-come main within comes site (parsed text).items (parsed text).fault entries)
 
-answer_read-comes : (main : List ℕ) (within : Opens) → OpensCome main within → (site : Site) (place : Place) (entries before : List Entry) → IsPrefix (paths_read main before) (paths_read main entries) → (r : Option table.Reading) → ComesTo main before (answer_read within site place entries before r)
+answer_read-comes : (main : List ℕ) (within : Opens) → OpensCome main within → (site : Site) (place : Place) (entries before : List ReadStatement) → IsPrefix (paths_read main before) (paths_read main entries) → (r : Option table.Reading) → ComesTo main before (answer_read within site place entries before r)
 answer_read-comes main within comes site place entries before more None = prefix-new (paths_read main before) site.file
 answer_read-comes main within comes site place entries before more (Some r) = found_read-comes main within comes site place entries before more r.bytes
 
-pub opened-comes : (main : List ℕ) (files : List table.Reading) (left : ℕ) (site : Site) (place : Place) (e : Entry) (before : List Entry) → IsPrefix (paths_read main before) (paths_come_to main (opened_in files left site place e before))
+pub opened-comes : (main : List ℕ) (files : List table.Reading) (left : ℕ) (site : Site) (place : Place) (e : ReadStatement) (before : List ReadStatement) → IsPrefix (paths_read main before) (paths_come_to main (opened_in files left site place e before))
 unfolding opened_in
 opened-comes main files zero site place e before = prefix-self (paths_read main before)
 opened-comes main files (suc left) site place e before = by_room (nat_lt (files_opened before) most_opened) (opened-comes main files left)
@@ -97,16 +97,16 @@ opened-comes main files (suc left) site place e before = by_room (nat_lt (files_
     by_room false comes = prefix-self (paths_read main before)
     by_room true comes = answer_read-comes main (opened_in files left) comes site place (e ∷ before) before (prefix-named (paths_read main before) (path_named e before e.item)) (reading_of files site.file)
 
-pub item-comes : (main : List ℕ) (files : List table.Reading) (left : ℕ) (e : Entry) (before : List Entry) → IsPrefix (paths_read main before) (paths_come_to main (statement_read (opened_in files left) e before))
+pub item-comes : (main : List ℕ) (files : List table.Reading) (left : ℕ) (e : ReadStatement) (before : List ReadStatement) → IsPrefix (paths_read main before) (paths_come_to main (statement_read (opened_in files left) e before))
 item-comes main files left = statement_read-comes main (opened_in files left) (opened-comes main files left)
 
-pub statements-come : (main : List ℕ) (files : List table.Reading) (left : ℕ) (site : Site) (statements : List PlacedText) (fault : Option Fault) (before : List Entry) → IsPrefix (paths_read main before) (paths_come_to main (statements_read (opened_in files left) site statements fault before))
+pub statements-come : (main : List ℕ) (files : List table.Reading) (left : ℕ) (site : Site) (statements : List PlacedText) (fault : Option Fault) (before : List ReadStatement) → IsPrefix (paths_read main before) (paths_come_to main (statements_read (opened_in files left) site statements fault before))
 statements-come main files left = statements_read-come main (opened_in files left) (opened-comes main files left)
 
 -- ---- the path of a file
 
 -- The path that a statement names comes next, whatever is found there.
-pub opened-names : (main : List ℕ) (files : List table.Reading) (left : ℕ) (site : Site) (place : Place) (e : Entry) (before : List Entry)
+pub opened-names : (main : List ℕ) (files : List table.Reading) (left : ℕ) (site : Site) (place : Place) (e : ReadStatement) (before : List ReadStatement)
     → path_named e before e.item ≡ site.file ∷ []
     → nat_lt (files_opened before) most_opened ≡ true
     → IsPrefix (with_new (paths_read main before) site.file) (paths_come_to main (opened_in files (suc left) site place e before))

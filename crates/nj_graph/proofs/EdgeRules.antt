@@ -7,7 +7,7 @@ use Rattle.nj_manifest.specs.Statements.{StatementText, BindingText, RuleText, P
 use Rattle.nj_scope.specs.Rules as kept
 use Rattle.nj_scope.specs.Scopes.{ScopeText}
 use Rattle.nj_scope.specs.Declarations.{DeclarationsText}
-use Rattle.nj_scope.specs.ReadingList.{Discovered, Entry, scope_of, rule_in_force, rule_texts, with_rule}
+use Rattle.nj_scope.specs.ReadingList.{Discovered, ReadStatement, scope_of, rule_in_force, rule_texts, with_rule}
 use Rattle.nj_scope.proofs.InForce.{in_force}
 use Rattle.nj_faults.specs.declared.fault.GraphFault.{GraphFault}
 use Rattle.nj_faults.specs.declared.fault.Cause.TheVariants.{UnknownRule}
@@ -49,7 +49,7 @@ discovered-phony : (found : Option Discovered) (paths : EdgePaths) → (with_dis
 discovered-phony None paths = refl
 discovered-phony (Some found) paths = refl
 
-module _ (e : Entry) (before : List Entry) (outputs : OutputsText) (rule : NameText) (inputs : InputsText) (lines : List LineText) where
+module _ (e : ReadStatement) (before : List ReadStatement) (outputs : OutputsText) (rule : NameText) (inputs : InputsText) (lines : List LineText) where
   abbrev edge : EdgeText
   edge = edge_of_build e before outputs rule inputs lines
 
@@ -69,7 +69,7 @@ module _ (e : Entry) (before : List Entry) (outputs : OutputsText) (rule : NameT
   new-rule : item_fault e before (BuildText outputs rule inputs lines) ≡ None → HasRule (rule_texts before) edge
   new-rule none = by-rule (rule_in_force before (scope_of e) rule.name) refl (first-none (unknown_rule e before rule) _ none)
 
-pub edges-have : (entries : List Entry) → Faultless entries → AllByRecursion (HasRule (rule_texts entries)) (edges_read entries)
+pub edges-have : (entries : List ReadStatement) → Faultless entries → AllByRecursion (HasRule (rule_texts entries)) (edges_read entries)
 unfolding edges_read
 edges-have [] faultless = tt
 edges-have (e ∷ before) faultless = by e.item faultless.0 (edges-have before faultless.1)
@@ -89,7 +89,7 @@ edges-have (e ∷ before) faultless = by e.item faultless.0 (edges-have before f
 abbrev InOpen : List ScopeText → EdgeText → Type 0
 InOpen scopes x = IsOpenScope scopes x.number x.around
 
-pub edges-open : (scopes : List ScopeText) (entries : List Entry) → AreOpen scopes entries → AllByRecursion (λ x. IsOpenScope scopes x.number x.around) (edges_read entries)
+pub edges-open : (scopes : List ScopeText) (entries : List ReadStatement) → AreOpen scopes entries → AllByRecursion (λ x. IsOpenScope scopes x.number x.around) (edges_read entries)
 unfolding edges_read
 edges-open scopes [] opened = tt
 edges-open scopes (e ∷ before) opened = by e.item (edges-open scopes before opened.1)

@@ -4,7 +4,7 @@ use Rattle.std.specs.List.{AllByRecursion}
 use Rattle.std.proofs.lemmas.List.{length-map}
 use Rattle.std.proofs.lemmas.Option.{slice_get-map, slice_get-get_or, get_or_from_slice_get}
 use Rattle.nj_scope.specs.Rules.{RuleText, RuleLineText, phony}
-use Rattle.nj_scope.specs.ReadingList.{Entry, value_after}
+use Rattle.nj_scope.specs.ReadingList.{ReadStatement, value_after}
 use Rattle.nj_edge_env.specs.Blocks.{BlocksText, bound_in}
 use Rattle.nj_edges.specs.Edges.{EdgePaths, edge_at}
 use Rattle.nj_edges.specs.Files.{AreFiles, path_at}
@@ -50,7 +50,7 @@ names-are n m inputs outputs block lines is_phony file =
 
 -- ---- an edge
 
-module _ (g : GraphText) (entries : List Entry) (is : IsGraphOf g entries) (n : ℕ) (below : n < length (edges_of g)) where
+module _ (g : GraphText) (entries : List ReadStatement) (is : IsGraphOf g entries) (n : ℕ) (below : n < length (edges_of g)) where
   pub there : (e : EdgeText) × (slice_get (edges_read entries) n ≡ Some e)
   there =
       let count = ap length is.built.paths ∙ length-map (edges_read entries) (λ e. e.paths) in

@@ -9,7 +9,7 @@ use Rattle.nj_scope.specs.Scopes.{or_else, Bounds, value_in, expanded, rule_at}
 use Rattle.nj_scope.specs.Declarations.{DeclarationsText, DeclaredBy, SameScopes}
 use Rattle.nj_scope.specs.Limits.{is_depth}
 use Rattle.nj_scope.specs.Pools.{is_pool}
-use Rattle.nj_scope.specs.ReadingList.{Entry, scope_of, binds, bounds, files_opened, opens_file, rules, is_declared, pools}
+use Rattle.nj_scope.specs.ReadingList.{ReadStatement, scope_of, binds, bounds, files_opened, opens_file, rules, is_declared, pools}
 use Rattle.nj_faults.specs.declared.fault.GraphFault.{GraphFault}
 use Rattle.nj_graph.specs.declared.reader.Reader.{Reader}
 use Rattle.nj_faults.specs.declared.fault.Cause.TheVariants.{BadDepth, DuplicateRule, DuplicatePool}
@@ -21,7 +21,7 @@ use Rattle.nj_graph.proofs.OpenScopes.{open-next}
 use Rattle.nj_graph.specs.Inside.ReaderContracts.{Holds, Grows, Checks, Declares}
 
 -- a statement that names no file
-pub holds-next : (main : List ℕ) (old held : Reader) (entries : List Entry) (e : Entry) → Holds main old entries → DeclaredBy held.declarations (e ∷ entries) → held.opened ≡ old.opened → held.files ≡ old.files
+pub holds-next : (main : List ℕ) (old held : Reader) (entries : List ReadStatement) (e : ReadStatement) → Holds main old entries → DeclaredBy held.declarations (e ∷ entries) → held.opened ≡ old.opened → held.files ≡ old.files
     → opens_file e.item ≡ 0 → path_named e entries e.item ≡ [] → HoldsEdges held.building (e ∷ entries) → Grows old.declarations.scopes held.declarations.scopes → IsOpenScope old.declarations.scopes e.number e.around → Holds main held (e ∷ entries)
 holds-next main old held entries e holds follows opened files none names edges grows inside = record {
   declares = follows;
@@ -47,14 +47,14 @@ name-is-other true newer fault h = absurd (true≢false h)
 name-is-other false newer fault h = refl
 
 -- a rule that is new
-pub rule-new : (main : List ℕ) (held : Reader) (entries : List Entry) (file : List ℕ) (number : ℕ) (name : NameText) → Holds main held entries
+pub rule-new : (main : List ℕ) (held : Reader) (entries : List ReadStatement) (file : List ℕ) (number : ℕ) (name : NameText) → Holds main held entries
     → true ≡ not (is_declared (rule_at held.declarations.scopes number name.name) name.name) → rule_fault file number entries name ≡ None
 rule-new main held entries file number name holds new =
     fault-unless (is_declared (rules entries number name.name) name.name) (fault_at file name.spot (DuplicateRule name.name))
     (new ∙ ap (λ r. not (is_declared r name.name)) (holds.declares.declared number name.name))
 
 -- a pool that is new
-pub pool-new : (main : List ℕ) (held : Reader) (entries : List Entry) (file scope : List ℕ) (name : NameText) (lines : List LineText) → Holds main held entries
+pub pool-new : (main : List ℕ) (held : Reader) (entries : List ReadStatement) (file scope : List ℕ) (name : NameText) (lines : List LineText) → Holds main held entries
     → true ≡ not (is_pool held.declarations.pools name.name) → pool_fault file scope entries name lines ≡ depth_fault file scope entries lines
 pool-new main held entries file scope name lines holds new =
     ap (λ f. or_then f (depth_fault file scope entries lines)) (fault-unless (is_pool (pools entries) name.name) (fault_at file name.spot (DuplicatePool name.name)) (new ∙ ap (λ ps. not (is_pool ps name.name)) holds.declares.pools))
@@ -62,7 +62,7 @@ pool-new main held entries file scope name lines holds new =
 -- ---- depths
 
 -- after a statement that binds nothing each scope binds the same
-bounds-same : (e : Entry) (entries : List Entry) → ((value : List ℕ → List ℕ) (x : List ℕ) → binds value e.item x ≡ None) → (n : ℕ) (x : List ℕ) → bounds (e ∷ entries) n x ≡ bounds entries n x
+bounds-same : (e : ReadStatement) (entries : List ReadStatement) → ((value : List ℕ → List ℕ) (x : List ℕ) → binds value e.item x ≡ None) → (n : ℕ) (x : List ℕ) → bounds (e ∷ entries) n x ≡ bounds entries n x
 unfolding bounds
 bounds-same e entries nothing n x = by (n == e.number)
   where
@@ -70,11 +70,11 @@ bounds-same e entries nothing n x = by (n == e.number)
     by true = ap (λ o. or_else o (bounds entries n x)) (nothing (value_in (bounds entries) (scope_of e)) x)
     by false = refl
 
-expanded-kept : (e : Entry) (entries : List Entry) → ((value : List ℕ → List ℕ) (x : List ℕ) → binds value e.item x ≡ None) → (scope : List ℕ) (word : WordText) → expanded_in scope (e ∷ entries) word ≡ expanded_in scope entries word
+expanded-kept : (e : ReadStatement) (entries : List ReadStatement) → ((value : List ℕ → List ℕ) (x : List ℕ) → binds value e.item x ≡ None) → (scope : List ℕ) (word : WordText) → expanded_in scope (e ∷ entries) word ≡ expanded_in scope entries word
 expanded-kept e entries nothing scope word =
     ap (λ (bound : Bounds). expanded (value_in bound scope) word.parts) (fun_ext (λ n. fun_ext (λ x. bounds-same e entries nothing n x)))
 
-pub depths-same : (file : List ℕ) (e : Entry) (entries : List Entry) → ((value : List ℕ → List ℕ) (x : List ℕ) → binds value e.item x ≡ None) → (scope : List ℕ) (lines : List LineText) → depth_fault file scope (e ∷ entries) lines ≡ depth_fault file scope entries lines
+pub depths-same : (file : List ℕ) (e : ReadStatement) (entries : List ReadStatement) → ((value : List ℕ → List ℕ) (x : List ℕ) → binds value e.item x ≡ None) → (scope : List ℕ) (lines : List LineText) → depth_fault file scope (e ∷ entries) lines ≡ depth_fault file scope entries lines
 depths-same file e entries nothing scope [] = refl
 depths-same file e entries nothing scope (l ∷ lines) =
     ap (λ says. option_map told (cond (not (is_depth says)) (Some l) (find (λ m. not (is_depth (expanded_in scope (e ∷ entries) m.value))) lines))) (expanded-kept e entries nothing scope l.value)
@@ -88,7 +88,7 @@ depths-same file e entries nothing scope (l ∷ lines) =
     by false others = others
 
 -- a pool whose depths were checked
-pub pool-declares : (main : List ℕ) (held : Reader) (e : Entry) (depths : Option GraphFault) (entries : List Entry) (result : Result (Unit {0}) GraphFault) → own_fault e entries ≡ depths → Checks depths result → Holds main held (e ∷ entries) → Declares main held e entries result
+pub pool-declares : (main : List ℕ) (held : Reader) (e : ReadStatement) (depths : Option GraphFault) (entries : List ReadStatement) (result : Result (Unit {0}) GraphFault) → own_fault e entries ≡ depths → Checks depths result → Holds main held (e ∷ entries) → Declares main held e entries result
 pool-declares main held e depths entries (Ok done) same checks holds = (same ∙ checks, holds)
 pool-declares main held e depths entries (Err fault) same (inl no_memory) holds = inl no_memory
 pool-declares main held e depths entries (Err fault) same (inr told) holds = inr (same ∙ told)
@@ -101,7 +101,7 @@ same-grows before after same = let count = same.count in record { count = omega 
 -- ---- statements that say what is built
 
 -- a statement by which the declarations stay, and the edges are those of one statement more
-pub built-declares : (main : List ℕ) (old held : Reader) (entries : List Entry) (e : Entry) (result : Result (Unit {0}) GraphFault) → Holds main old entries
+pub built-declares : (main : List ℕ) (old held : Reader) (entries : List ReadStatement) (e : ReadStatement) (result : Result (Unit {0}) GraphFault) → Holds main old entries
     → DeclaredBy held.declarations (e ∷ entries) → held.opened ≡ old.opened → held.files ≡ old.files → opens_file e.item ≡ 0 → path_named e entries e.item ≡ []
     → Grows old.declarations.scopes held.declarations.scopes → IsOpenScope old.declarations.scopes e.number e.around
     → ReadsStatement held.building (own_fault e entries) e entries result → Declares main held e entries result

@@ -4,7 +4,7 @@ use Rattle.std.specs.Str.{is_utf8}
 use Rattle.nj_text.specs.declared.spot.Spot.{Spot}
 use Rattle.nj_scope.specs.Readings.{Reading, EachPathOnce, reading_of, is_read, paths_of, IsPrefix}
 use Rattle.nj_scope.specs.Sources.{SourceState}
-use Rattle.nj_scope.specs.ReadingList.{Entry}
+use Rattle.nj_scope.specs.ReadingList.{ReadStatement}
 use Rattle.nj_faults.specs.declared.fault.Place.{Place}
 use Rattle.nj_faults.specs.declared.fault.GraphFault.{GraphFault}
 use Rattle.nj_faults.specs.declared.fault.Cause.TheVariants.{Missing, PathNotText}
@@ -26,7 +26,7 @@ absent : {X : Type 0} (o : Option X) → is_some o ≡ false → o ≡ None
 absent None h = refl
 absent (Some x) h = absurd (true≢false h)
 
-module _ (stated joined : List Entry) (p : Pending) where
+module _ (stated joined : List ReadStatement) (p : Pending) where
   abbrev at_statement : Place
   at_statement = statement_place stated p.edge
 

@@ -4,7 +4,7 @@ use Rattle.std.specs.List.{AllByRecursion}
 use Rattle.std.proofs.lemmas.List.{length-map}
 use Rattle.nj_scope.specs.Readings.{Reading, EachPathOnce, paths_of, IsPrefix}
 use Rattle.nj_scope.specs.Declarations.{DeclaredBy}
-use Rattle.nj_scope.specs.ReadingList.{Discovered, Entry}
+use Rattle.nj_scope.specs.ReadingList.{Discovered, ReadStatement}
 use Rattle.nj_scope.specs.Sources.{SourceState}
 use Rattle.nj_cycles.specs.Cycles.{IsAcyclic}
 use Rattle.nj_edges.specs.Needs.{makers_of_inputs}
@@ -34,7 +34,7 @@ none-pending : (ps : List Pending) → has_pending ps ≡ false → ps ≡ []
 none-pending [] h = refl
 none-pending (p ∷ ps) h = absurd (true≢false h)
 
-module _ (stated : List Entry) (source : SourceState) (old : List Reading) (once : EachPathOnce old) where
+module _ (stated : List ReadStatement) (source : SourceState) (old : List Reading) (once : EachPathOnce old) where
   pub joins-nothing : (loaded : LoadedText) (g : GraphText) → loaded ≡ record { files = old; graph = g } → IsGraphOf g stated → has_pending g.built.pending ≡ false → Joins stated old source source (Ok loaded)
   joins-nothing loaded g same is none = (
     old,
@@ -53,7 +53,7 @@ module _ (stated : List Entry) (source : SourceState) (old : List Reading) (once
   pub joins-memory : (fault : GraphFault) → fault ≡ no_memory → Joins stated old source source (Err fault)
   joins-memory fault none = (old, read-nothing source old once, inl (inl (record { answered = none; failures = refl; came_to = λ all ext. all_new-prefix (paths_of old) (all_joined all stated).paths })))
 
-module _ (stated : List Entry) (before after : SourceState) (old : List Reading) where
+module _ (stated : List ReadStatement) (before after : SourceState) (old : List Reading) where
   pub joins-stop : (fault : GraphFault) → FilesStop stated before after old fault → Joins stated old before after (Err fault)
   joins-stop fault s = (s.files, s.reads, inl s.stops)
 
@@ -73,7 +73,7 @@ module _ (stated : List Entry) (before after : SourceState) (old : List Reading)
     none-pending-then = subst (λ (j : ReachedText). pending_read j.read.entries ≡ []) joins (none-waits f.files stated (ap (λ (j : ReachedText). j.read.end) joins))
 
     -- what stays of the statements
-    stays : (P : List Entry → Type 0) → ((edge : ℕ) (found : Discovered) (entries : List Entry) → P entries → P (discover edge found entries)) → P stated → P f.now
+    stays : (P : List ReadStatement → Type 0) → ((edge : ℕ) (found : Discovered) (entries : List ReadStatement) → P entries → P (discover edge found entries)) → P stated → P f.now
     stays P keeps h = subst (λ (j : ReachedText). P j.read.entries) joins (kept-by-all P keeps f.files stated h)
 
     pub joins-fault : (fault : GraphFault) → ComesTo f.now (Err fault) → Joins stated old before after (Err fault)

@@ -2,7 +2,7 @@
 use Rattle.std.proofs.Common.{◌≡◌, ◌⊎◌, ℕ, inl, inr, List, [], ◌∷◌, ◌++◌, append-nil, append_assoc, refl, sym, ap, subst, ◌∙◌}
 use Rattle.std.specs.Prelude.{⊤}
 use Rattle.nj_scope.specs.Readings.{Reading, EachPathOnce, paths_of, IsPrefix}
-use Rattle.nj_scope.specs.ReadingList.{Entry}
+use Rattle.nj_scope.specs.ReadingList.{ReadStatement}
 use Rattle.nj_scope.specs.Sources.{SourceState, Rises}
 use Rattle.nj_faults.specs.declared.fault.GraphFault.{GraphFault}
 use Rattle.nj_statements.specs.EdgeList.{Pending, pending_read}
@@ -35,7 +35,7 @@ end-before before mid after Whole fault same h = h
 end-before before mid after (Refused expected) fault same h = (h.0, h.1 ∙ same)
 end-before before mid after (Lacking path place) fault same h = (h.0, subst (λ n. Rises n after.failures) same h.1)
 
-stays : (end : End) (p : Pending) (entries : List Entry) (others : List Entry → ReachedText) → IsStopped end → go_on end p entries others ≡ record { read = record { entries = entries; end = end }; paths = path_asked p }
+stays : (end : End) (p : Pending) (entries : List ReadStatement) (others : List ReadStatement → ReachedText) → IsStopped end → go_on end p entries others ≡ record { read = record { entries = entries; end = end }; paths = path_asked p }
 stays Whole p entries others h = absurd h
 stays (Refused fault) p entries others h = refl
 stays (Lacking path place) p entries others h = refl
@@ -47,16 +47,16 @@ abbrev remainder : List (List ℕ) → ReachedText → ReachedText
 remainder paths j = record { read = j.read; paths = paths ++ j.paths }
 
 -- What was joined is held, and the whole joins what the files that are left join from here on.
-pub record FilesUnderway (stated : List Entry) (before after : SourceState) (old table : List Reading) (held : JoiningText) (left : List Pending) : Type 0 where
+pub record FilesUnderway (stated : List ReadStatement) (before after : SourceState) (old table : List Reading) (held : JoiningText) (left : List Pending) : Type 0 where
   pub files : List Reading
   pub reads : ReadsAll before after old files table
-  pub now : List Entry
+  pub now : List ReadStatement
   pub holds : HoldsJoined held stated now
   pub paths : List (List ℕ)
   pub came_to : with_all_new (paths_of old) paths ≡ paths_of files
   pub goes_on : (all : List Reading) → IsPrefix files all → all_joined all stated ≡ remainder paths (files_joined all stated left now)
 
-module _ (stated : List Entry) (before : SourceState) (old : List Reading) where
+module _ (stated : List ReadStatement) (before : SourceState) (old : List Reading) where
   pub files-at-first : (held : JoiningText) → EachPathOnce old → HoldsJoined held stated stated → FilesUnderway stated before before old old held (dyndep_files (pending_read stated))
   unfolding all_joined
   files-at-first held once holds = record { files = old; reads = reads-all-nothing before old once; now = stated; holds = holds; paths = []; came_to = refl; goes_on = λ all ext. refl }
@@ -99,7 +99,7 @@ module _ (stated : List Entry) (before : SourceState) (old : List Reading) where
           there = subst (λ fs. ReadsAll mid after fs f.files later_table) u.reads.held_is f.reads
 
       -- the paths begin with that of the file
-      first-asked : (end : End) (entries : List Entry) (k : List Entry → ReachedText) → (more : List (List ℕ)) × ((go_on end p entries k).paths ≡ path_asked p ++ more)
+      first-asked : (end : End) (entries : List ReadStatement) (k : List ReadStatement → ReachedText) → (more : List (List ℕ)) × ((go_on end p entries k).paths ≡ path_asked p ++ more)
       first-asked Whole entries k = ((k entries).paths, refl)
       first-asked (Refused fault) entries k = ([], sym (append-nil (path_asked p)))
       first-asked (Lacking path place) entries k = ([], sym (append-nil (path_asked p)))

@@ -10,7 +10,7 @@ use Rattle.nj_manifest.specs.DyndepParsers.{entry_text}
 use Rattle.nj_manifest.specs.Inside.ParserContracts.{left_by}
 use Rattle.nj_manifest.proofs.Starts.{ahead}
 use Rattle.nj_manifest.proofs.DyndepMeasures.{entry-takes, version-takes, left_entry-takes, text-ahead}
-use Rattle.nj_scope.specs.ReadingList.{Entry}
+use Rattle.nj_scope.specs.ReadingList.{ReadStatement}
 use Rattle.nj_faults.specs.declared.fault.GraphFault.{GraphFault}
 use Rattle.nj_faults.specs.Faults.{fault_in, no_memory}
 use Rattle.nj_statements.specs.Answers.{IsFault}
@@ -66,14 +66,14 @@ entries-fault most false ls f h less = by (bind-err (version_next ls) next_entry
 -- ---- the entries so far
 
 -- What was joined is held, and what the text joins is what the lines that are left join from here on.
-pub record TextUnderway (file : List ℕ) (stated : List Entry) (text : List ℕ) (joined : List Entry) (held : JoiningText) (version_read : Bool) (lines : List Line) : Type 0 where
-  pub now : List Entry
+pub record TextUnderway (file : List ℕ) (stated : List ReadStatement) (text : List ℕ) (joined : List ReadStatement) (held : JoiningText) (version_read : Bool) (lines : List Line) : Type 0 where
+  pub now : List ReadStatement
   pub holds : HoldsJoined held stated now
   pub most : ℕ
   pub room : ahead lines < most
   pub goes_on : text_joined file stated text joined ≡ entries_joined file stated (entries_left most version_read lines).items (entries_left most version_read lines).fault now
 
-module _ (file : List ℕ) (stated : List Entry) (text : List ℕ) (joined : List Entry) (held : JoiningText) where
+module _ (file : List ℕ) (stated : List ReadStatement) (text : List ℕ) (joined : List ReadStatement) (held : JoiningText) where
   pub text-at-first : HoldsJoined held stated joined → TextUnderway file stated text joined held false (text_lines text)
   unfolding entries_of
   text-at-first holds = record { now = joined; holds = holds; most = suc (length text); room = text-ahead text; goes_on = refl }
@@ -152,7 +152,7 @@ fewer-to-come before after b lines rest entry at remainder next =
     let there : lines_to_come after ≡ ahead rest = ap lines_to_come remainder in
     omega (arith, takes, here, there)
 
-pub next-stops : (file : List ℕ) (stated : List Entry) (text : List ℕ) (joined : List Entry) (held : JoiningText) (b : Bool) (lines : List Line) (before after : DyndepLeft) (fault : GraphFault)
+pub next-stops : (file : List ℕ) (stated : List ReadStatement) (text : List ℕ) (joined : List ReadStatement) (held : JoiningText) (b : Bool) (lines : List Line) (before after : DyndepLeft) (fault : GraphFault)
     → TextUnderway file stated text joined held b lines → before ≡ left_by b lines → NextEntryIs file before after (Err fault) → (fault ≡ no_memory) ⊎ TextRefused file stated text joined fault
 next-stops file stated text joined held b lines before after fault u at next = by (next-of file b lines after (Err fault) (subst (λ s. NextEntryIs file s after (Err fault)) at next))
   where

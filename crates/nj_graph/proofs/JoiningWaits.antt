@@ -6,7 +6,7 @@ use Rattle.std.proofs.lemmas.Slice.Eq.{bytes_eq-Decides}
 use Rattle.nj_manifest.specs.Faults.{Fault}
 use Rattle.nj_manifest.specs.Dyndeps.{EntryText}
 use Rattle.nj_scope.specs.Readings.{Reading, reading_of}
-use Rattle.nj_scope.specs.ReadingList.{Discovered, Entry}
+use Rattle.nj_scope.specs.ReadingList.{Discovered, ReadStatement}
 use Rattle.nj_faults.specs.declared.fault.GraphFault.{GraphFault}
 use Rattle.nj_faults.specs.declared.fault.Cause.TheVariants.{PathNotText}
 use Rattle.nj_statements.specs.EdgeList.{EdgeText, Pending, edges_read, pending_read}
@@ -62,11 +62,11 @@ find-none test (x ∷ xs) h = by (test x) (find-none test xs) refl h
 
 -- ---- what stays as files are joined
 
-module _ (P : List Entry → Type 0) (keeps : (edge : ℕ) (found : Discovered) (entries : List Entry) → P entries → P (discover edge found entries)) where
-  pub kept-by-entry : (stated joined : List Entry) (entry : EntryText) → P joined → P (with_entry stated joined entry)
+module _ (P : List ReadStatement → Type 0) (keeps : (edge : ℕ) (found : Discovered) (entries : List ReadStatement) → P entries → P (discover edge found entries)) where
+  pub kept-by-entry : (stated joined : List ReadStatement) (entry : EntryText) → P joined → P (with_entry stated joined entry)
   kept-by-entry stated joined entry h = with_entry-by P stated joined entry h (λ edge. keeps edge (discovered_by entry) joined h)
 
-  kept-by-entries : (file : List ℕ) (stated : List Entry) (entries : List EntryText) (fault : Option Fault) (joined : List Entry) → P joined → P (entries_joined file stated entries fault joined).entries
+  kept-by-entries : (file : List ℕ) (stated : List ReadStatement) (entries : List EntryText) (fault : Option Fault) (joined : List ReadStatement) → P joined → P (entries_joined file stated entries fault joined).entries
   unfolding entries_joined
   kept-by-entries file stated [] None joined h = h
   kept-by-entries file stated [] (Some fault) joined h = h
@@ -77,7 +77,7 @@ module _ (P : List Entry → Type 0) (keeps : (edge : ℕ) (found : Discovered) 
       by (Some f) later = h
       by None later = later
 
-  pub kept-by-file : (files : List Reading) (stated : List Entry) (p : Pending) (joined : List Entry) → P joined → P (file_joined files stated p joined).entries
+  pub kept-by-file : (files : List Reading) (stated : List ReadStatement) (p : Pending) (joined : List ReadStatement) → P joined → P (file_joined files stated p joined).entries
   unfolding file_joined
   kept-by-file files stated p joined h = by_text (is_utf8 p.file)
     where
@@ -93,7 +93,7 @@ module _ (P : List Entry → Type 0) (keeps : (edge : ℕ) (found : Discovered) 
       by_text true = by_answer (reading_of files p.file)
       by_text false = h
 
-  pub kept-by-files : (files : List Reading) (stated : List Entry) (ps : List Pending) (joined : List Entry) → P joined → P (files_joined files stated ps joined).read.entries
+  pub kept-by-files : (files : List Reading) (stated : List ReadStatement) (ps : List Pending) (joined : List ReadStatement) → P joined → P (files_joined files stated ps joined).read.entries
   unfolding files_joined
   kept-by-files files stated [] joined h = h
   kept-by-files files stated (p ∷ others) joined h = by (file_joined files stated p joined).end (kept-by-files files stated others (file_joined files stated p joined).entries)
@@ -104,13 +104,13 @@ module _ (P : List Entry → Type 0) (keeps : (edge : ℕ) (found : Discovered) 
       by (Refused fault) later = kept-by-file files stated p joined h
       by (Lacking path place) later = kept-by-file files stated p joined h
 
-  pub kept-by-all : (files : List Reading) (stated : List Entry) → P stated → P (all_joined files stated).read.entries
+  pub kept-by-all : (files : List Reading) (stated : List ReadStatement) → P stated → P (all_joined files stated).read.entries
   unfolding all_joined
   kept-by-all files stated h = kept-by-files files stated (dyndep_files (pending_read stated)) stated h
 
 -- ---- after a whole file no edge waits for it
 
-entries-whole : (file : List ℕ) (stated : List Entry) (entries : List EntryText) (fault : Option Fault) (joined : List Entry) → (entries_joined file stated entries fault joined).end ≡ Whole
+entries-whole : (file : List ℕ) (stated : List ReadStatement) (entries : List EntryText) (fault : Option Fault) (joined : List ReadStatement) → (entries_joined file stated entries fault joined).end ≡ Whole
     → lacking_fault file (entries_joined file stated entries fault joined).entries ≡ None
 unfolding entries_joined
 entries-whole file stated [] None joined h = by (lacking_fault file joined) h
@@ -128,7 +128,7 @@ entries-whole file stated (entry ∷ others) fault joined h = by (entry_fault fi
     by (Some f) others e = absurd cc
     by None others e = others e
 
-file-whole : (files : List Reading) (stated : List Entry) (p : Pending) (joined : List Entry) → (file_joined files stated p joined).end ≡ Whole → lacking_fault p.file (file_joined files stated p joined).entries ≡ None
+file-whole : (files : List Reading) (stated : List ReadStatement) (p : Pending) (joined : List ReadStatement) → (file_joined files stated p joined).end ≡ Whole → lacking_fault p.file (file_joined files stated p joined).entries ≡ None
 unfolding file_joined
 file-whole files stated p joined h = by_text (is_utf8 p.file) h
   where
@@ -146,7 +146,7 @@ file-whole files stated p joined h = by_text (is_utf8 p.file) h
     by_text false e = absurd cc
 
 -- an edge that waits is one of the statements
-lacking-none : (file : List ℕ) (joined : List Entry) → lacking_fault file joined ≡ None → AllByRecursion (λ q. bytes_eq q.file file ≡ false) (pending_read joined)
+lacking-none : (file : List ℕ) (joined : List ReadStatement) → lacking_fault file joined ≡ None → AllByRecursion (λ q. bytes_eq q.file file ≡ false) (pending_read joined)
 lacking-none file joined h = find-none (λ q. bytes_eq q.file file) (pending_read joined) (by (find (λ q. bytes_eq q.file file) (pending_read joined)) refl h)
   where
     there : (q : Pending) → q.edge < length (edges_read joined) → (found : Option EdgeText) → slice_get (edges_read joined) q.edge ≡ found → option_map (no_statement file) found ≡ None → ⊥
@@ -164,32 +164,32 @@ lacking-none file joined h = find-none (λ q. bytes_eq q.file file) (pending_rea
 abbrev waits_among : List Pending → Pending → Bool
 waits_among files q = list_any (λ p. bytes_eq q.file p.file) files
 
-abbrev WaitAmong : List Pending → List Entry → Type 0
+abbrev WaitAmong : List Pending → List ReadStatement → Type 0
 WaitAmong files joined = AllByRecursion (λ q. waits_among files q ≡ true) (pending_read joined)
 
-wait-keeps : (files : List Pending) (edge : ℕ) (found : Discovered) (entries : List Entry) → WaitAmong files entries → WaitAmong files (discover edge found entries)
+wait-keeps : (files : List Pending) (edge : ℕ) (found : Discovered) (entries : List ReadStatement) → WaitAmong files entries → WaitAmong files (discover edge found entries)
 wait-keeps files edge found entries h =
     subst (AllByRecursion (λ q. waits_among files q ≡ true)) (sym (pending-discover edge found entries)) (all-filter (λ q. waits_among files q ≡ true) (λ p. not (p.edge == edge)) (pending_read entries) h)
 
-wait-others : (p : Pending) (others : List Pending) (joined : List Entry) → WaitAmong (p ∷ others) joined → lacking_fault p.file joined ≡ None → WaitAmong others joined
+wait-others : (p : Pending) (others : List Pending) (joined : List ReadStatement) → WaitAmong (p ∷ others) joined → lacking_fault p.file joined ≡ None → WaitAmong others joined
 wait-others p others joined h none =
     all-to (λ q. (waits_among (p ∷ others) q ≡ true) × (bytes_eq q.file p.file ≡ false)) (λ q. waits_among others q ≡ true) (λ q both. ap (λ b. b || waits_among others q) (sym both.1) ∙ both.0)
     (pending_read joined) (all-both (λ q. waits_among (p ∷ others) q ≡ true) (λ q. bytes_eq q.file p.file ≡ false) (pending_read joined) h (lacking-none p.file joined none))
 
-wait-none : (joined : List Entry) → WaitAmong [] joined → pending_read joined ≡ []
+wait-none : (joined : List ReadStatement) → WaitAmong [] joined → pending_read joined ≡ []
 wait-none joined h = by (pending_read joined) h
   where
     by : (ps : List Pending) → AllByRecursion (λ q. waits_among [] q ≡ true) ps → ps ≡ []
     by [] all = refl
     by (p ∷ ps) all = absurd (true≢false (sym all.0))
 
-files-whole : (files : List Reading) (stated : List Entry) (ps : List Pending) (joined : List Entry) → WaitAmong ps joined → (files_joined files stated ps joined).read.end ≡ Whole
+files-whole : (files : List Reading) (stated : List ReadStatement) (ps : List Pending) (joined : List ReadStatement) → WaitAmong ps joined → (files_joined files stated ps joined).read.end ≡ Whole
     → pending_read (files_joined files stated ps joined).read.entries ≡ []
 unfolding files_joined
 files-whole files stated [] joined waits h = wait-none joined waits
 files-whole files stated (p ∷ others) joined waits h = by (file_joined files stated p joined).end (files-whole files stated others (file_joined files stated p joined).entries) refl h
   where
-    next : List Entry
+    next : List ReadStatement
     next = (file_joined files stated p joined).entries
 
     by : (end : End) → (WaitAmong others next → (files_joined files stated others next).read.end ≡ Whole → pending_read (files_joined files stated others next).read.entries ≡ [])
@@ -226,11 +226,11 @@ listed (p ∷ ps) = (
     by q false e h = ap (λ b. b || waits_among (filter (λ q. not (bytes_eq q.file p.file)) (dyndep_files ps)) q) e ∙ listed-after p q (dyndep_files ps) e h
 
 -- After a whole joining no edge waits.
-pub none-waits : (files : List Reading) (stated : List Entry) → (all_joined files stated).read.end ≡ Whole → pending_read (all_joined files stated).read.entries ≡ []
+pub none-waits : (files : List Reading) (stated : List ReadStatement) → (all_joined files stated).read.end ≡ Whole → pending_read (all_joined files stated).read.entries ≡ []
 unfolding all_joined
 none-waits files stated h = files-whole files stated (dyndep_files (pending_read stated)) stated (listed (pending_read stated)) h
 
-pub nothing-joined : (files : List Reading) (stated : List Entry) → pending_read stated ≡ [] → all_joined files stated ≡ record { read = record { entries = stated; end = Whole }; paths = [] }
+pub nothing-joined : (files : List Reading) (stated : List ReadStatement) → pending_read stated ≡ [] → all_joined files stated ≡ record { read = record { entries = stated; end = Whole }; paths = [] }
 unfolding all_joined files_joined
 nothing-joined files stated none = ap (λ ps. files_joined files stated (dyndep_files ps) stated) none
 

@@ -4,13 +4,13 @@ use Rattle.std.proofs.lemmas.Slice.Eq.{bytes_eq-Decides}
 use Rattle.nj_text.specs.Words.{WordText}
 use Rattle.nj_manifest.specs.Statements.{StatementText, BindingText}
 use Rattle.nj_scope.specs.Scopes.{or_else, nearest, value_in, expanded}
-use Rattle.nj_scope.specs.ReadingList.{Entry, scope_of, binds, bounds}
+use Rattle.nj_scope.specs.ReadingList.{ReadStatement, scope_of, binds, bounds}
 use Rattle.nj_statements.specs.EdgeList.{EdgeText, with_edge, edges_read}
 use Rattle.nj_graph.specs.Reading.{expanded_in}
 use Rattle.nj_graph.specs.Laws.{LaterBindingsCount, LaterBindingsChangeNoEdge}
 
 -- what the scope of the edge binds is the new value
-binds-now : (e : Entry) (before : List Entry) (edge : EdgeText) (name : List ℕ) (word : WordText) → e.item ≡ BindingText name word → e.number ≡ edge.number → bounds (e ∷ before) edge.number name ≡ Some (expanded_in (scope_of e) before word)
+binds-now : (e : ReadStatement) (before : List ReadStatement) (edge : EdgeText) (name : List ℕ) (word : WordText) → e.item ≡ BindingText name word → e.number ≡ edge.number → bounds (e ∷ before) edge.number name ≡ Some (expanded_in (scope_of e) before word)
 unfolding bounds
 binds-now e before edge name word is number =
     ap (λ b. or_else (if b then binds value e.item name else None) (bounds before edge.number name)) (eq-eqb edge.number e.number (sym number))

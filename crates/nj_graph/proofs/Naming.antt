@@ -8,7 +8,7 @@ use Rattle.nj_manifest.specs.Statements.{StatementText, BindingText, RuleText, P
 use Rattle.nj_scope.specs.Readings.{Reading, EachPathOnce, IsPrefix, paths_of}
 use Rattle.nj_scope.specs.Scopes.{child, parent_at}
 use Rattle.nj_scope.specs.Declarations.{DeclarationsText, DeclaredBy, TakesIn}
-use Rattle.nj_scope.specs.ReadingList.{Entry, scope_of, value_after, files_opened, opens_file}
+use Rattle.nj_scope.specs.ReadingList.{ReadStatement, scope_of, value_after, files_opened, opens_file}
 use Rattle.nj_scope.specs.Sources.{SourceState}
 use Rattle.nj_faults.specs.declared.fault.GraphFault.{GraphFault}
 use Rattle.nj_graph.specs.declared.opening.Naming.{Naming}
@@ -81,12 +81,12 @@ key-names : (file : List ℕ) (spot : Spot) (key : Option (List ℕ)) → NamesN
 key-names file spot (Some k) fault h = ap (λ f. path_at_fault f.cause) (sym (some-is _ fault h))
 key-names file spot None fault h = absurd cc
 
-late-names : (before : List Entry) (edge : EdgeText) → NamesNone (late_fault before edge)
+late-names : (before : List ReadStatement) (edge : EdgeText) → NamesNone (late_fault before edge)
 late-names before edge =
     or-names (variable_cycle_fault edge.file edge.spot (names_of_edge before edge)) _ (key-names edge.file edge.spot _)
     (or-names _ _ (if-names _ edge.file edge.spot _ refl) (if-names _ edge.file edge.spot _ refl))
 
-item-names : (e : Entry) (before : List Entry) (item : StatementText) → NamesNone (item_fault e before item)
+item-names : (e : ReadStatement) (before : List ReadStatement) (item : StatementText) → NamesNone (item_fault e before item)
 item-names e before (BindingText name value) = if-names _ e.file e.spot _ refl
 item-names e before (RuleText name lines) = if-names _ e.file name.spot _ refl
 item-names e before (PoolText name lines) = or-names _ (depth_fault e.file (scope_of e) before lines) (if-names _ e.file name.spot _ refl) (depth-names e.file _ _ refl)
@@ -107,8 +107,8 @@ syntax-names file fault = refl
 
 -- ---- the two kinds of statements that name a file
 
-module _ (kind : Naming) (site : Site) (start : Spot) (entries : List Entry) (word : WordText) where
-  abbrev names : Entry
+module _ (kind : Naming) (site : Site) (start : Spot) (entries : List ReadStatement) (word : WordText) where
+  abbrev names : ReadStatement
   names = entry_at site (record { spot = start; item = named_item kind word })
 
   pub named-fault : own_fault names entries ≡ path_fault site.file word.spot (expanded_in (site_scope site) entries word)
@@ -134,7 +134,7 @@ module _ (kind : Naming) (site : Site) (start : Spot) (entries : List Entry) (wo
   named-read none opens = ap (λ f. unless_fault f opens names entries) (named-fault ∙ none) ∙ named-item opens
 
 -- a new scope for the file after `subninja`
-pub enters-new : {X : Type 0} (old : Reader) (new : DeclarationsText) (file : OpenFile) (start : Spot) (word : WordText) (entries : List Entry) (around : List ℕ) (depth : ℕ) (result : Result ℕ X)
+pub enters-new : {X : Type 0} (old : Reader) (new : DeclarationsText) (file : OpenFile) (start : Spot) (word : WordText) (entries : List ReadStatement) (around : List ℕ) (depth : ℕ) (result : Result ℕ X)
     → IfOk result (λ n. n ≡ length old.declarations.scopes) → OnOk result (parent_at new.scopes (length old.declarations.scopes) ≡ Some file.scope)
     → ((n : ℕ) → n < length old.declarations.scopes → parent_at new.scopes n ≡ parent_at old.declarations.scopes n) → OnOk result (length new.scopes ≡ length old.declarations.scopes + 1)
     → OnOk result (TakesIn old.declarations new file.scope around (SubninjaText word)) → DeclaredBy old.declarations entries → IsOpenIn old file around
@@ -162,7 +162,7 @@ stops-same main before after old first second fault same s = record { files = s.
     by (inl m) = inl (record { answered = m.answered; failures = m.failures; came_to = λ all e. subst (λ r. IsPrefix (paths_of s.files) (paths_come_to main r)) (sym (same all)) (m.came_to all e) })
     by (inr e) = inr (record { reached = e.reached; answered = e.answered; read = λ all ext lacks. ap (reached_from main) (same all) ∙ e.read all ext lacks; came_to = e.came_to })
 
-module _ (main : List ℕ) (before after : SourceState) (old : Reader) (entries : List Entry) (holds : Holds main old entries) (same : after ≡ before) where
+module _ (main : List ℕ) (before after : SourceState) (old : Reader) (entries : List ReadStatement) (holds : Holds main old entries) (same : after ≡ before) where
   read-no_more : IsRead before after old.files old.files
   read-no_more = subst (λ source. IsRead before source old.files old.files) (sym same) (read-nothing before old.files holds.once)
 
@@ -185,7 +185,7 @@ module _ (main : List ℕ) (before after : SourceState) (old : Reader) (entries 
   }
 
   -- a fault of a statement by itself
-  pub stops-own : (left : ℕ) (e : Entry) (fault : GraphFault) → IsFault (own_fault e entries) fault
+  pub stops-own : (left : ℕ) (e : ReadStatement) (fault : GraphFault) → IsFault (own_fault e entries) fault
       → StopsAt main before after old.files (λ all. statement_read (opened_in all left) e entries) fault
   stops-own left e fault (inl none) = stops-memory (λ all. statement_read (opened_in all left) e entries) fault (λ all. item-comes main all left e entries) none
   stops-own left e fault (inr told) =
@@ -194,7 +194,7 @@ module _ (main : List ℕ) (before after : SourceState) (old : Reader) (entries 
 
 -- ---- a file that is named
 
-module _ (main : List ℕ) (before after : SourceState) (old mid held : Reader) (left : ℕ) (place : Place) (path : List ℕ) (e : Entry) (entries : List Entry) (text : List ℕ) where
+module _ (main : List ℕ) (before after : SourceState) (old mid held : Reader) (left : ℕ) (place : Place) (path : List ℕ) (e : ReadStatement) (entries : List ReadStatement) (text : List ℕ) where
   pub opens-file : (inner : Site) → Holds main old entries → OpensText main before after old mid left place path entries text → held.files ≡ mid.files → held.opened ≡ suc old.opened → held.building ≡ old.building → names_files e.item ≡ false → Grows old.declarations.scopes held.declarations.scopes → IsOpenScope old.declarations.scopes e.number e.around
       → DeclaredBy held.declarations (e ∷ entries) → opens_file e.item ≡ 1 → inner.file ≡ path → path_named e entries e.item ≡ path ∷ []
       → ((opens : Opens) → statement_read opens e entries ≡ opens inner place e entries)
@@ -235,7 +235,7 @@ module _ (main : List ℕ) (before after : SourceState) (old mid held : Reader) 
 
 -- ---- a statement that names none
 
-pub reads-one : (main : List ℕ) (source : SourceState) (old held : Reader) (e : Entry) (entries : List Entry)
+pub reads-one : (main : List ℕ) (source : SourceState) (old held : Reader) (e : ReadStatement) (entries : List ReadStatement)
     → Holds main old entries → Holds main held (e ∷ entries) → own_fault e entries ≡ None → held.files ≡ old.files
     → ((opens : Opens) → item_read opens e entries e.item ≡ record { entries = e ∷ entries; end = Whole })
     → ReadsOne main source source old held e entries

@@ -2,7 +2,7 @@
 use Rattle.std.proofs.Common.{◌≡◌, ℕ, ◌<◌, ◌≤◌, Option, List, [], ◌∷◌, length, arith, refl, ◌∙◌}
 use Rattle.std.specs.List.{AllByRecursion}
 use Rattle.nj_scope.specs.Scopes.{IsScope, outermost, child, ScopeText, parent_at}
-use Rattle.nj_scope.specs.ReadingList.{Entry}
+use Rattle.nj_scope.specs.ReadingList.{ReadStatement}
 use Rattle.nj_graph.specs.Graph.{IsOpenScope}
 use Rattle.nj_graph.specs.Inside.ReaderContracts.{Grows}
 
@@ -30,12 +30,12 @@ open-grown before after number around grows stands = record {
 }
 
 -- the scopes in which statements stand
-abbrev pub AreOpen : List ScopeText → List Entry → Type 0
+abbrev pub AreOpen : List ScopeText → List ReadStatement → Type 0
 AreOpen scopes entries = AllByRecursion (λ e. IsOpenScope scopes e.number e.around) entries
 
-all-grown : (before after : List ScopeText) → Grows before after → (entries : List Entry) → AreOpen before entries → AreOpen after entries
+all-grown : (before after : List ScopeText) → Grows before after → (entries : List ReadStatement) → AreOpen before entries → AreOpen after entries
 all-grown before after grows [] opened = tt
 all-grown before after grows (e ∷ entries) opened = (open-grown before after e.number e.around grows opened.0, all-grown before after grows entries opened.1)
 
-pub open-next : (before after : List ScopeText) (e : Entry) (entries : List Entry) → Grows before after → IsOpenScope before e.number e.around → AreOpen before entries → AreOpen after (e ∷ entries)
+pub open-next : (before after : List ScopeText) (e : ReadStatement) (entries : List ReadStatement) → Grows before after → IsOpenScope before e.number e.around → AreOpen before entries → AreOpen after (e ∷ entries)
 open-next before after e entries grows inside opened = all-grown before after grows (e ∷ entries) (inside, opened)

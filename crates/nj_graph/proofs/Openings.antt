@@ -5,7 +5,7 @@ use Rattle.std.specs.Result.{IsErrAnd}
 use Rattle.std.specs.declared.rc.RcSlice.{RcSlice}
 use Rattle.std.proofs.lemmas.Bool.{lt-ltb, le-ltb}
 use Rattle.nj_scope.specs.Readings.{Reading, EachPathOnce, reading_of, is_read, IsPrefix, paths_of}
-use Rattle.nj_scope.specs.ReadingList.{Entry, files_opened}
+use Rattle.nj_scope.specs.ReadingList.{ReadStatement, files_opened}
 use Rattle.nj_scope.specs.Sources.{SourceState}
 use Rattle.nj_faults.specs.declared.fault.GraphFault.{GraphFault}
 use Rattle.nj_graph.specs.declared.reader.Reader.{Reader}
@@ -32,7 +32,7 @@ by-fault expected fault (inr told) lacks is = is cc
 
 -- ---- what is read of a file
 
-module _ (all : List Reading) (inner : Site) (place : Place) (e : Entry) (entries : List Entry) where
+module _ (all : List Reading) (inner : Site) (place : Place) (e : ReadStatement) (entries : List ReadStatement) where
   opened-closed : opened_in all zero inner place e entries ≡ stopped entries place TooDeep
   unfolding opened_in
   opened-closed = refl
@@ -50,17 +50,17 @@ module _ (all : List Reading) (inner : Site) (place : Place) (e : Entry) (entrie
 
 -- ---- how a run stops there
 
-module _ (main : List ℕ) (before after : SourceState) (old : List Reading) (place : Place) (path : List ℕ) (entries : List Entry) where
+module _ (main : List ℕ) (before after : SourceState) (old : List Reading) (place : Place) (path : List ℕ) (entries : List ReadStatement) where
   -- the run stops, where the file is that of the path and the statement names it
   abbrev pub StopsHere : (left : ℕ) → GraphFault → Type 0
-  StopsHere left f = (inner : Site) (e : Entry) → inner.file ≡ path → path_named e entries e.item ≡ path ∷ [] → StopsAt main before after old (λ all. opened_in all left inner place e entries) f
+  StopsHere left f = (inner : Site) (e : ReadStatement) → inner.file ≡ path → path_named e entries e.item ≡ path ∷ [] → StopsAt main before after old (λ all. opened_in all left inner place e entries) f
 
   module _ (paths_are : paths_of old ≡ paths_read main entries) where
-    comes : (files : List Reading) → paths_of files ≡ paths_of old → (all : List Reading) (left : ℕ) (inner : Site) (e : Entry) → IsPrefix (paths_of files) (paths_come_to main (opened_in all left inner place e entries))
+    comes : (files : List Reading) → paths_of files ≡ paths_of old → (all : List Reading) (left : ℕ) (inner : Site) (e : ReadStatement) → IsPrefix (paths_of files) (paths_come_to main (opened_in all left inner place e entries))
     comes files same all left inner e =
         subst (λ front. IsPrefix front (paths_come_to main (opened_in all left inner place e entries))) (sym (same ∙ paths_are)) (opened-comes main all left inner place e entries)
 
-    names : (files : List Reading) → paths_of files ≡ with_new (paths_of old) path → (all : List Reading) (within : ℕ) (inner : Site) (e : Entry) → inner.file ≡ path → path_named e entries e.item ≡ path ∷ [] → files_opened entries < most_opened
+    names : (files : List Reading) → paths_of files ≡ with_new (paths_of old) path → (all : List Reading) (within : ℕ) (inner : Site) (e : ReadStatement) → inner.file ≡ path → path_named e entries e.item ≡ path ∷ [] → files_opened entries < most_opened
         → IsPrefix (paths_of files) (paths_come_to main (opened_in all (suc within) inner place e entries))
     names files came_to all within inner e same named room =
         subst (λ front. IsPrefix front (paths_come_to main (opened_in all (suc within) inner place e entries)))
@@ -77,7 +77,7 @@ module _ (main : List ℕ) (before after : SourceState) (old : List Reading) (pl
 
     -- no more files may be open, or opened
     stops-refused : (left : ℕ) (cause : Cause) → ((before : List (List ℕ)) → with_named before (path_at_fault cause) ≡ before)
-        → ((all : List Reading) (inner : Site) (e : Entry) → opened_in all left inner place e entries ≡ stopped entries place cause)
+        → ((all : List Reading) (inner : Site) (e : ReadStatement) → opened_in all left inner place e entries ≡ stopped entries place cause)
         → EachPathOnce old → after ≡ before → (f : GraphFault) → f ≡ record { place = Some place; cause = cause } → StopsHere left f
     stops-refused left cause none read once stays f answered inner e same named = record {
       files = old;
@@ -95,7 +95,7 @@ module _ (main : List ℕ) (before after : SourceState) (old : List Reading) (pl
         stops-refused left TooDeep (λ before. refl) (λ all inner e. ap (λ n. opened_in all n inner place e entries) closed ∙ opened-closed all inner place e entries)
 
     module _ (left within : ℕ) (left_is : left ≡ suc within) where
-      at_left : (all : List Reading) (inner : Site) (e : Entry) → opened_in all left inner place e entries ≡ opened_in all (suc within) inner place e entries
+      at_left : (all : List Reading) (inner : Site) (e : ReadStatement) → opened_in all left inner place e entries ≡ opened_in all (suc within) inner place e entries
       at_left all inner e = ap (λ n. opened_in all n inner place e entries) left_is
 
       pub stops-full : most_opened ≤ files_opened entries → EachPathOnce old → after ≡ before → (f : GraphFault) → f ≡ record { place = Some place; cause = TooManyOpenings } → StopsHere left f
@@ -153,7 +153,7 @@ module _ (main : List ℕ) (before after : SourceState) (old : List Reading) (pl
 
 -- ---- a file that is open
 
-pub opens-text : (main : List ℕ) (before after : SourceState) (old held : Reader) (left within : ℕ) (place : Place) (path : List ℕ) (entries : List Entry) (text : List ℕ) → left ≡ suc within → files_opened entries < most_opened
+pub opens-text : (main : List ℕ) (before after : SourceState) (old held : Reader) (left within : ℕ) (place : Place) (path : List ℕ) (entries : List ReadStatement) (text : List ℕ) → left ≡ suc within → files_opened entries < most_opened
     → FindsText before after old.files held.files path text → OpensText main before after old held left place path entries text
 opens-text main before after old held left within place path entries text left_is room found = record {
   files = found.files;
@@ -167,7 +167,7 @@ opens-text main before after old held left within place path entries text left_i
 }
 
 -- what is answered where the run stops
-module _ (main : List ℕ) (before after : SourceState) (old held : Reader) (left : ℕ) (place : Place) (path : List ℕ) (entries : List Entry) where
+module _ (main : List ℕ) (before after : SourceState) (old held : Reader) (left : ℕ) (place : Place) (path : List ℕ) (entries : List ReadStatement) where
   pub opens-fault : (result : Result (RcSlice ℕ Global) GraphFault) (P : GraphFault → Type 0)
       → IsErrAnd result P → ((f : GraphFault) → P f → StopsHere main before after old.files place path entries left f) → OpensPath main before after old held left place path entries result
   opens-fault (Ok text) P h stops = absurd h

@@ -4,7 +4,7 @@ use Rattle.nj_manifest.specs.Faults.{Fault}
 use Rattle.nj_manifest.specs.Statements.{StatementText, BindingText, RuleText, PoolText, BuildText, DefaultText, IncludeText, SubninjaText, PlacedText}
 use Rattle.nj_scope.specs.Readings as table
 use Rattle.nj_scope.specs.Readings.{reading_of, is_read, IsPrefix}
-use Rattle.nj_scope.specs.ReadingList.{Entry, files_opened}
+use Rattle.nj_scope.specs.ReadingList.{ReadStatement, files_opened}
 use Rattle.nj_faults.specs.declared.fault.Place.{Place}
 use Rattle.nj_faults.specs.declared.fault.GraphFault.{GraphFault}
 use Rattle.nj_graph.specs.Parsed.{parsed}
@@ -18,9 +18,9 @@ abbrev SameReading : (all : List table.Reading) → ReadingText → ReadingText 
 SameReading all few more = IsLacking few.end all → more ≡ few
 
 abbrev SameOpens : (all : List table.Reading) → Opens → Opens → Type 0
-SameOpens all few more = (site : Site) (place : Place) (e : Entry) (before : List Entry) → SameReading all (few site place e before) (more site place e before)
+SameOpens all few more = (site : Site) (place : Place) (e : ReadStatement) (before : List ReadStatement) → SameReading all (few site place e before) (more site place e before)
 
-and_then-same : (all : List table.Reading) (few more : ReadingText) (k l : List Entry → ReadingText) → SameReading all few more → ((entries : List Entry) → SameReading all (k entries) (l entries)) → SameReading all (and_then few k) (and_then more l)
+and_then-same : (all : List table.Reading) (few more : ReadingText) (k l : List ReadStatement → ReadingText) → SameReading all few more → ((entries : List ReadStatement) → SameReading all (k entries) (l entries)) → SameReading all (and_then few k) (and_then more l)
 and_then-same all few more k l first others lacks = by few.end refl
   where
     by : (end : End) → few.end ≡ end → and_then more l ≡ and_then few k
@@ -35,7 +35,7 @@ and_then-same all few more k l first others lacks = by few.end refl
         let lacking : few ≡ record { entries = few.entries; end = Lacking path place } = ap (λ e. record { entries = few.entries; end = e }) is in
         ap (λ r. and_then r l) (first (subst (λ e. IsLacking e all) (sym is) (subst (λ r. IsLacking (and_then r k).end all) lacking lacks)) ∙ lacking) ∙ ap (λ r. and_then r k) (sym lacking)
 
-item-same : (all : List table.Reading) (few more : Opens) → SameOpens all few more → (e : Entry) (before : List Entry) (item : StatementText) → SameReading all (item_read few e before item) (item_read more e before item)
+item-same : (all : List table.Reading) (few more : Opens) → SameOpens all few more → (e : ReadStatement) (before : List ReadStatement) (item : StatementText) → SameReading all (item_read few e before item) (item_read more e before item)
 item-same all few more same e before (BindingText name value) = λ lacks. refl
 item-same all few more same e before (RuleText name lines) = λ lacks. refl
 item-same all few more same e before (PoolText name lines) = λ lacks. refl
@@ -44,21 +44,21 @@ item-same all few more same e before (DefaultText words) = λ lacks. refl
 item-same all few more same e before (IncludeText word) = same _ _ _ before
 item-same all few more same e before (SubninjaText word) = same _ _ _ before
 
-statement-same : (all : List table.Reading) (few more : Opens) → SameOpens all few more → (e : Entry) (before : List Entry) → SameReading all (statement_read few e before) (statement_read more e before)
+statement-same : (all : List table.Reading) (few more : Opens) → SameOpens all few more → (e : ReadStatement) (before : List ReadStatement) → SameReading all (statement_read few e before) (statement_read more e before)
 statement-same all few more same e before = by (own_fault e before)
   where
     by : (f : Option GraphFault) → SameReading all (unless_fault f few e before) (unless_fault f more e before)
     by (Some fault) = λ lacks. refl
     by None = item-same all few more same e before e.item
 
-statements-same : (all : List table.Reading) (few more : Opens) → SameOpens all few more → (site : Site) (statements : List PlacedText) (fault : Option Fault) (before : List Entry) → SameReading all (statements_read few site statements fault before) (statements_read more site statements fault before)
+statements-same : (all : List table.Reading) (few more : Opens) → SameOpens all few more → (site : Site) (statements : List PlacedText) (fault : Option Fault) (before : List ReadStatement) → SameReading all (statements_read few site statements fault before) (statements_read more site statements fault before)
 unfolding statements_read
 statements-same all few more same site [] fault before = λ lacks. refl
 statements-same all few more same site (s ∷ others) fault before =
     and_then-same all (statement_read few (entry_at site s) before) (statement_read more (entry_at site s) before) (λ entries. statements_read few site others fault entries) (λ entries. statements_read more site others fault entries)
     (statement-same all few more same (entry_at site s) before) (statements-same all few more same site others fault)
 
-answer-same : (files all : List table.Reading) (few more : Opens) → IsPrefix files all → SameOpens all few more → (site : Site) (place : Place) (entries before : List Entry)
+answer-same : (files all : List table.Reading) (few more : Opens) → IsPrefix files all → SameOpens all few more → (site : Site) (place : Place) (entries before : List ReadStatement)
     → SameReading all (answer_read few site place entries before (reading_of files site.file)) (answer_read more site place entries before (reading_of all site.file))
 answer-same files all few more extends same site place entries before = by (reading_of files site.file) refl
   where
@@ -79,7 +79,7 @@ unfolding opened_in
 opened-same files all extends zero = λ site place e before lacks. refl
 opened-same files all extends (suc left) = λ site place e before. by site place e before (nat_lt (files_opened before) most_opened) (opened-same files all extends left)
   where
-    by : (site : Site) (place : Place) (e : Entry) (before : List Entry) (room : Bool) → SameOpens all (opened_in files left) (opened_in all left)
+    by : (site : Site) (place : Place) (e : ReadStatement) (before : List ReadStatement) (room : Bool) → SameOpens all (opened_in files left) (opened_in all left)
         → SameReading all (if_room room (opened_in files left) files site place e before) (if_room room (opened_in all left) all site place e before)
     by site place e before false same = λ lacks. refl
     by site place e before true same = answer-same files all (opened_in files left) (opened_in all left) extends same site place (e ∷ before) before

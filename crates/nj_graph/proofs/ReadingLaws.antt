@@ -6,7 +6,7 @@ use Rattle.nj_manifest.specs.Faults.{Fault}
 use Rattle.nj_manifest.specs.Statements.{StatementText, BindingText, RuleText, PoolText, BuildText, DefaultText, IncludeText, SubninjaText, PlacedText}
 use Rattle.nj_scope.specs.Readings as table
 use Rattle.nj_scope.specs.Readings.{reading_of, is_read}
-use Rattle.nj_scope.specs.ReadingList.{Entry, rules, is_declared, files_opened, opens_file}
+use Rattle.nj_scope.specs.ReadingList.{ReadStatement, rules, is_declared, files_opened, opens_file}
 use Rattle.nj_scope.proofs.NewRules.{RuleIsNew, EachRuleIsNew}
 use Rattle.nj_faults.specs.declared.fault.Place.{Place}
 use Rattle.nj_faults.specs.declared.fault.GraphFault.{GraphFault}
@@ -18,21 +18,21 @@ use Rattle.nj_graph.specs.Laws.{Faultless, ReadIsFaultless, OpenFilesAreBounded,
 use Rattle.nj_graph.proofs.NameLemmas.{names_rise-read}
 
 -- there is room for a file that the statement names
-abbrev pub HasRoom : StatementText → (before : List Entry) → Type 0
+abbrev pub HasRoom : StatementText → (before : List ReadStatement) → Type 0
 HasRoom item before = opens_file item ≡ 1 → nat_lt (files_opened before) most_opened ≡ true
 
 opens-none : ◌≡◌ {A = ℕ} 0 1 → ⊥
 opens-none e = omega (arith, e)
 
 -- What holds of no statement, and of one more that is read, holds of all that are read.
-module _ (P : List Entry → Type 0) (next : (e : Entry) (before : List Entry) → P before → own_fault e before ≡ None → HasRoom e.item before → e.depth ≤ most_within → P (e ∷ before)) where
+module _ (P : List ReadStatement → Type 0) (next : (e : ReadStatement) (before : List ReadStatement) → P before → own_fault e before ≡ None → HasRoom e.item before → e.depth ≤ most_within → P (e ∷ before)) where
   -- it holds where a file is opened within which so many more may be open, if it holds with the statement that opens it
   -- wherever there is room
   abbrev OpensKeep : (left : ℕ) → Opens → Type 0
-  OpensKeep left opens = (site : Site) (place : Place) (e : Entry) (before : List Entry) → site.depth + left ≡ suc most_within → P before → (nat_lt (files_opened before) most_opened ≡ true → P (e ∷ before)) → P (opens site place e before).entries
+  OpensKeep left opens = (site : Site) (place : Place) (e : ReadStatement) (before : List ReadStatement) → site.depth + left ≡ suc most_within → P before → (nat_lt (files_opened before) most_opened ≡ true → P (e ∷ before)) → P (opens site place e before).entries
 
   module _ (left : ℕ) (opens : Opens) (keeps : OpensKeep left opens) where
-    statement-keeps : (e : Entry) (before : List Entry) → e.depth + left ≡ most_within → P before → P (statement_read opens e before).entries
+    statement-keeps : (e : ReadStatement) (before : List ReadStatement) → e.depth + left ≡ most_within → P before → P (statement_read opens e before).entries
     statement-keeps e before depth p = by (own_fault e before) refl
       where
         deeper : suc e.depth + left ≡ suc most_within
@@ -54,12 +54,12 @@ module _ (P : List Entry → Type 0) (next : (e : Entry) (before : List Entry) �
         by (Some fault) is = p
         by None is = by_item e.item refl is
 
-    statements-keep : (site : Site) (statements : List PlacedText) (fault : Option Fault) (before : List Entry) → site.depth + left ≡ most_within → P before → P (statements_read opens site statements fault before).entries
+    statements-keep : (site : Site) (statements : List PlacedText) (fault : Option Fault) (before : List ReadStatement) → site.depth + left ≡ most_within → P before → P (statements_read opens site statements fault before).entries
     unfolding statements_read
     statements-keep site [] fault before depth p = p
     statements-keep site (s ∷ others) fault before depth p = by (statement_read opens (entry_at site s) before) (statement-keeps (entry_at site s) before depth p) (λ entries q. statements-keep site others fault entries depth q)
       where
-        by : (r : ReadingText) → P r.entries → ((before : List Entry) → P before → P (statements_read opens site others fault before).entries) → P (and_then r (λ entries. statements_read opens site others fault entries)).entries
+        by : (r : ReadingText) → P r.entries → ((before : List ReadStatement) → P before → P (statements_read opens site others fault before).entries) → P (and_then r (λ entries. statements_read opens site others fault entries)).entries
         by r q rest = by_end r.end
           where
             by_end : (end : End) → P (go_on end r.entries (λ entries. statements_read opens site others fault entries)).entries
@@ -67,7 +67,7 @@ module _ (P : List Entry → Type 0) (next : (e : Entry) (before : List Entry) �
             by_end (Refused f) = q
             by_end (Lacking path place) = q
 
-    answer-keeps : (site : Site) (place : Place) (entries before : List Entry) (r : Option table.Reading) → site.depth + left ≡ most_within → P entries → P before → P (answer_read opens site place entries before r).entries
+    answer-keeps : (site : Site) (place : Place) (entries before : List ReadStatement) (r : Option table.Reading) → site.depth + left ≡ most_within → P entries → P before → P (answer_read opens site place entries before r).entries
     answer-keeps site place entries before None depth p q = q
     answer-keeps site place entries before (Some r) depth p q = by r.bytes
       where
@@ -80,7 +80,7 @@ module _ (P : List Entry → Type 0) (next : (e : Entry) (before : List Entry) �
   opened-keeps files zero = λ site place e before depth p q. p
   opened-keeps files (suc left) = λ site place e before depth p q. by site place e before (omega (arith, depth)) p (nat_lt (files_opened before) most_opened) q (opened-keeps files left)
     where
-      by : (site : Site) (place : Place) (e : Entry) (before : List Entry) → site.depth + left ≡ most_within → P before → (room : Bool) → (room ≡ true → P (e ∷ before)) → OpensKeep left (opened_in files left) → P (if_room room (opened_in files left) files site place e before).entries
+      by : (site : Site) (place : Place) (e : ReadStatement) (before : List ReadStatement) → site.depth + left ≡ most_within → P before → (room : Bool) → (room ≡ true → P (e ∷ before)) → OpensKeep left (opened_in files left) → P (if_room room (opened_in files left) files site place e before).entries
       by site place e before depth p false q keeps = p
       by site place e before depth p true q keeps = answer-keeps left (opened_in files left) keeps site place (e ∷ before) before (reading_of files site.file) depth (q refl) p
 
@@ -106,7 +106,7 @@ openings_are_bounded files main = reading-keeps (λ entries. files_opened entrie
     opens_one (IncludeText word) = omega arith
     opens_one (SubninjaText word) = omega arith
 
-    by : (before : List Entry) (item : StatementText) → files_opened before ≤ most_opened → HasRoom item before → (n : ℕ) → opens_file item ≡ n → n ≤ 1 → files_opened before + n ≤ most_opened
+    by : (before : List ReadStatement) (item : StatementText) → files_opened before ≤ most_opened → HasRoom item before → (n : ℕ) → opens_file item ≡ n → n ≤ 1 → files_opened before + n ≤ most_opened
     by before item p room zero e less = omega (arith, p)
     by before item p room (suc zero) e less = omega (arith, ltb-true (files_opened before) most_opened (room e))
     by before item p room (suc (suc n)) e less = absurd (omega (arith, less))
@@ -114,7 +114,7 @@ openings_are_bounded files main = reading-keeps (λ entries. files_opened entrie
 -- ---- rules
 
 -- a rule that has no fault is new
-rule-is-new : (e : Entry) (before : List Entry) (item : StatementText) → item_fault e before item ≡ None → RuleIsNew before e.number item
+rule-is-new : (e : ReadStatement) (before : List ReadStatement) (item : StatementText) → item_fault e before item ≡ None → RuleIsNew before e.number item
 rule-is-new e before (RuleText name lines) none = by (is_declared (rules before e.number name.name) name.name) refl none
   where
     by : (b : Bool) → is_declared (rules before e.number name.name) name.name ≡ b → fault_if b (fault_at e.file name.spot (DuplicateRule name.name)) ≡ None → is_declared (rules before e.number name.name) name.name ≡ false

@@ -10,7 +10,7 @@ use Rattle.nj_manifest.specs.Statements.{PlacedText, next_statement, Left, Lines
 use Rattle.nj_manifest.proofs.Starts.{ahead}
 use Rattle.nj_manifest.proofs.Consumed.{statement_takes}
 use Rattle.nj_scope.specs.Readings.{Reading, IsPrefix, paths_of}
-use Rattle.nj_scope.specs.ReadingList.{Entry}
+use Rattle.nj_scope.specs.ReadingList.{ReadStatement}
 use Rattle.nj_scope.specs.Sources.{SourceState, Rises}
 use Rattle.nj_faults.specs.declared.fault.GraphFault.{GraphFault}
 use Rattle.nj_graph.specs.declared.reader.Reader.{Reader}
@@ -47,7 +47,7 @@ is-end-before before mid after (Lacking path place) fault same h = (h.0, subst (
 -- a reading passes on how another one stops
 pub record Passes (main : List ℕ) (files : List Reading) (inner outer : List Reading → ReadingText) : Type 0 where
   pub comes : (all : List Reading) → IsPrefix files all → (front : List (List ℕ)) → IsPrefix front (paths_come_to main (inner all)) → IsPrefix front (paths_come_to main (outer all))
-  pub ends : (all : List Reading) → IsPrefix files all → (entries : List Entry) (end : End) → IsStopped end → inner all ≡ record { entries = entries; end = end } → outer all ≡ record { entries = entries; end = end }
+  pub ends : (all : List Reading) → IsPrefix files all → (entries : List ReadStatement) (end : End) → IsStopped end → inner all ≡ record { entries = entries; end = end } → outer all ≡ record { entries = entries; end = end }
 
 module _ (main : List ℕ) (before mid after : SourceState) (old files held : List Reading) (inner outer : List Reading → ReadingText) (reads : ReadsAll before mid old files held) (passes : Passes main files inner outer) where
   pub stops-then : (fault : GraphFault) → StopsAt main mid after held inner fault → StopsAt main before after old outer fault
@@ -72,7 +72,7 @@ module _ (main : List ℕ) (before mid after : SourceState) (old files held : Li
 
 -- ---- the file that a statement names
 
-module _ (main : List ℕ) (before mid after : SourceState) (old opened held : Reader) (left : ℕ) (inner : Site) (text : List ℕ) (e : Entry) (entries : List Entry) where
+module _ (main : List ℕ) (before mid after : SourceState) (old opened held : Reader) (left : ℕ) (inner : Site) (text : List ℕ) (e : ReadStatement) (entries : List ReadStatement) where
   abbrev outer : List Reading → ReadingText
   outer all = statement_read (opened_in all left) e entries
 
@@ -105,7 +105,7 @@ module _ (main : List ℕ) (before mid after : SourceState) (old opened held : R
       is all ext = o.read all ext ∙ ap (λ n. text_read (opened_in all n) inner text (e ∷ entries)) (sym one-less)
 
 -- a statement that names none
-pub one-read : (main : List ℕ) (before after : SourceState) (old held : Reader) (left : ℕ) (e : Entry) (entries : List Entry) → ReadsOne main before after old held e entries → ReadsText main before after old held (λ all. statement_read (opened_in all left) e entries)
+pub one-read : (main : List ℕ) (before after : SourceState) (old held : Reader) (left : ℕ) (e : ReadStatement) (entries : List ReadStatement) → ReadsOne main before after old held e entries → ReadsText main before after old held (λ all. statement_read (opened_in all left) e entries)
 one-read main before after old held left e entries r = record {
   files = old.files;
   reads = r.reads;
@@ -121,16 +121,16 @@ lines_left (Lines ls) = ahead ls
 lines_left (Refused fault) = 0
 
 -- What was read is held, and what the text reads is what the lines that are left read from here on.
-pub record Underway (main : List ℕ) (before after : SourceState) (old held : Reader) (left : ℕ) (site : Site) (text : List ℕ) (entries : List Entry) (lines : List Line) : Type 0 where
+pub record Underway (main : List ℕ) (before after : SourceState) (old held : Reader) (left : ℕ) (site : Site) (text : List ℕ) (entries : List ReadStatement) (lines : List Line) : Type 0 where
   pub files : List Reading
   pub reads : ReadsAll before after old.files files held.files
-  pub now : List Entry
+  pub now : List ReadStatement
   pub holds : Holds main held now
   pub most : ℕ
   pub room : ahead lines < most
   pub goes_on : (all : List Reading) → IsPrefix files all → text_read (opened_in all left) site text entries ≡ statements_read (opened_in all left) site (parsed_in next_statement most lines).items (parsed_in next_statement most lines).fault now
 
-module _ (main : List ℕ) (before after : SourceState) (old held : Reader) (left : ℕ) (site : Site) (text : List ℕ) (entries : List Entry) (lines : List Line) where
+module _ (main : List ℕ) (before after : SourceState) (old held : Reader) (left : ℕ) (site : Site) (text : List ℕ) (entries : List ReadStatement) (lines : List Line) where
   abbrev reading_of_text : List Reading → ReadingText
   reading_of_text all = text_read (opened_in all left) site text entries
 
@@ -174,7 +174,7 @@ module _ (main : List ℕ) (before after : SourceState) (old held : Reader) (lef
   -- ---- a statement
 
   module _ (last : SourceState) (later : Reader) (s : PlacedText) (rest : List Line) (next : next_statement lines ≡ Ok (Some s, rest)) where
-    abbrev remainder : (fewer : ℕ) → List Reading → List Entry → ReadingText
+    abbrev remainder : (fewer : ℕ) → List Reading → List ReadStatement → ReadingText
     remainder fewer all es = statements_read (opened_in all left) site (parsed_in next_statement fewer rest).items (parsed_in next_statement fewer rest).fault es
 
     first : (u : Underway main before after old held left site text entries lines) (fewer : ℕ) → parsed_in next_statement u.most lines ≡ and_parsed s (parsed_in next_statement fewer rest)
@@ -207,7 +207,7 @@ module _ (main : List ℕ) (before after : SourceState) (old held : Reader) (lef
           ends = λ all ext es end stopped h. first u step.0 step.1 all ext ∙ ap (λ x. and_then x (remainder step.0 all)) h ∙ stays es end (remainder step.0 all) stopped;
         }) fault stops
       where
-        stays : (es : List Entry) (end : End) (k : List Entry → ReadingText) → IsStopped end → go_on end es k ≡ record { entries = es; end = end }
+        stays : (es : List ReadStatement) (end : End) (k : List ReadStatement → ReadingText) → IsStopped end → go_on end es k ≡ record { entries = es; end = end }
         stays es Whole k h = absurd h
         stays es (reading.Refused f) k h = refl
         stays es (Lacking path place) k h = refl
@@ -224,7 +224,7 @@ next-none file before after lines found at is next = subst (λ f. NextOf file li
 pub fewer-left : (before after : Left) (lines rest : List Line) (s : PlacedText) → before ≡ Lines lines → after ≡ Lines rest → next_statement lines ≡ Ok (Some s, rest) → lines_left after < lines_left before
 fewer-left before after lines rest s at remainder next = rw (at, remainder) (statement_takes lines s rest next)
 
-pub next-stops : (main : List ℕ) (told after : SourceState) (old held : Reader) (left : ℕ) (site : Site) (text : List ℕ) (entries : List Entry) (lines : List Line) (before later : Left) (fault : GraphFault)
+pub next-stops : (main : List ℕ) (told after : SourceState) (old held : Reader) (left : ℕ) (site : Site) (text : List ℕ) (entries : List ReadStatement) (lines : List Line) (before later : Left) (fault : GraphFault)
     → Underway main told after old held left site text entries lines → before ≡ Lines lines → NextIs site.file before later (Err fault)
     → StopsAt main told after old.files (λ all. text_read (opened_in all left) site text entries) fault
 next-stops main told after old held left site text entries lines before later fault u at next = by (subst (λ b. NextIs site.file b later (Err fault)) at next)

@@ -7,7 +7,7 @@ use Rattle.std.specs.Cmp.Lexicographic.{slice_cmp}
 use Rattle.std.specs.Ordering.{is_lt, nat_cmp}
 use Rattle.nj_text.specs.Words.{PartText}
 use Rattle.nj_scope.specs.Declarations.{DeclarationsText, DeclaredBy}
-use Rattle.nj_scope.specs.ReadingList.{Entry, rule_texts}
+use Rattle.nj_scope.specs.ReadingList.{ReadStatement, rule_texts}
 use Rattle.nj_scope.specs.Late.{parts_written}
 use Rattle.nj_scope.specs.Rules.{RuleText, phony, phony_rule, rules_in, rule_names, given}
 use Rattle.nj_scope.specs.Scopes.{IsScope, ScopeText, parent_at}
@@ -44,7 +44,7 @@ pub record HasRule (rules : List RuleText) (e : EdgeText) : Type 0 where
 
 -- The graph is what the statements say: what they declare, in which scopes, and their edges and defaults; each edge has a rule, and none
 -- needs itself by a chain.
-pub record IsGraphOf (g : GraphText) (entries : List Entry) : Type 0 where
+pub record IsGraphOf (g : GraphText) (entries : List ReadStatement) : Type 0 where
   pub declares : DeclaredBy g.declarations entries
   pub scopes : AllByRecursion (λ e. IsOpenScope g.declarations.scopes e.number e.around) entries
   pub built : IsBuiltOf g.built entries
@@ -53,12 +53,12 @@ pub record IsGraphOf (g : GraphText) (entries : List Entry) : Type 0 where
 
 -- ---- late texts
 
-abbrev pub text_of_edge : List Entry → (asked : List ℕ) → Option EdgeText → List ℕ
+abbrev pub text_of_edge : List ReadStatement → (asked : List ℕ) → Option EdgeText → List ℕ
 text_of_edge entries asked (Some e) = asked_text (names_of_edge entries e) asked
 text_of_edge entries asked None = []
 
 -- What a variable says for the edge of a number where its rule is used, after all statements.
-abbrev pub late_text_of : List Entry → (number : ℕ) → (asked : List ℕ) → List ℕ
+abbrev pub late_text_of : List ReadStatement → (number : ℕ) → (asked : List ℕ) → List ℕ
 late_text_of entries number asked = text_of_edge entries asked (slice_get (edges_read entries) number)
 
 -- ---- the rule of an edge
@@ -73,11 +73,11 @@ abbrev pub rule_name : List RuleText → (number : ℕ) → List ℕ
 rule_name rules number = name_of (slice_get rules number)
 
 -- the name of the rule of an edge: of the rule that is in force before its statement
-abbrev pub rule_name_of : List Entry → EdgeText → List ℕ
+abbrev pub rule_name_of : List ReadStatement → EdgeText → List ℕ
 rule_name_of entries e = rule_name (rule_texts entries) e.rule
 
 -- that of the edge of a number; past the last edge it is empty
-abbrev pub rule_name_at : List Entry → (number : ℕ) → List ℕ
+abbrev pub rule_name_at : List ReadStatement → (number : ℕ) → List ℕ
 rule_name_at entries number = unwrap_or (option_map (rule_name_of entries) (slice_get (edges_read entries) number)) []
 
 -- ---- the rules that are listed

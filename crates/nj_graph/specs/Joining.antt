@@ -6,7 +6,7 @@ use Rattle.nj_manifest.specs.Faults.{Fault}
 use Rattle.nj_manifest.specs.Dyndeps.{EntryText, version_next, next_entry}
 use Rattle.nj_scope.specs.Readings.{Reading, reading_of, paths_of}
 use Rattle.nj_scope.specs.Sources.{SourceState}
-use Rattle.nj_scope.specs.ReadingList.{Entry}
+use Rattle.nj_scope.specs.ReadingList.{ReadStatement}
 use Rattle.nj_faults.specs.declared.fault.Place.{Place}
 use Rattle.nj_faults.specs.declared.fault.GraphFault.{GraphFault}
 use Rattle.nj_faults.specs.declared.fault.Cause.TheVariants.{Missing, PathNotText}
@@ -36,41 +36,41 @@ abbrev pub end_by : Option GraphFault → End
 end_by None = Whole
 end_by (Some fault) = Refused fault
 
-abbrev pub at_end : (file : List ℕ) → Option Fault → (joined : List Entry) → ReadingText
+abbrev pub at_end : (file : List ℕ) → Option Fault → (joined : List ReadStatement) → ReadingText
 at_end file None joined = record { entries = joined; end = end_by (lacking_fault file joined) }
 at_end file (Some fault) joined = record { entries = joined; end = Refused (fault_in file fault) }
 
-abbrev pub unless_fault : Option GraphFault → (joined : List Entry) → ReadingText → ReadingText
+abbrev pub unless_fault : Option GraphFault → (joined : List ReadStatement) → ReadingText → ReadingText
 unless_fault (Some fault) joined others = record { entries = joined; end = Refused fault }
 unless_fault None joined others = others
 
 -- Its entries, one after the other: the statements as they were read, and as they are with what was joined so far.
-unfoldable pub entries_joined : (file : List ℕ) → (stated : List Entry) → List EntryText → Option Fault → (joined : List Entry)
+unfoldable pub entries_joined : (file : List ℕ) → (stated : List ReadStatement) → List EntryText → Option Fault → (joined : List ReadStatement)
     → ReadingText
 entries_joined file stated [] fault joined = at_end file fault joined
 entries_joined file stated (entry ∷ others) fault joined =
     unless_fault (entry_fault file stated joined entry) joined
     (entries_joined file stated others fault (with_entry stated joined entry))
 
-abbrev pub text_joined : (file : List ℕ) → (stated : List Entry) → (text : List ℕ) → (joined : List Entry) → ReadingText
+abbrev pub text_joined : (file : List ℕ) → (stated : List ReadStatement) → (text : List ℕ) → (joined : List ReadStatement) → ReadingText
 text_joined file stated text joined = entries_joined file stated (entries_of text).items (entries_of text).fault joined
 
 -- the build statement of an edge
-abbrev pub statement_place : (stated : List Entry) → (edge : ℕ) → Place
+abbrev pub statement_place : (stated : List ReadStatement) → (edge : ℕ) → Place
 statement_place stated edge =
     let detail = detail_at (map detail_of (edges_read stated)) edge in
     record { file = detail.file; spot = detail.spot }
 
 -- by what was found at its path; where there is no file, or none that can be read, the first edge that is bound to it is to blame
-abbrev pub found_joined : (stated : List Entry) → Pending → Option (List ℕ) → (joined : List Entry) → ReadingText
+abbrev pub found_joined : (stated : List ReadStatement) → Pending → Option (List ℕ) → (joined : List ReadStatement) → ReadingText
 found_joined stated p None joined = stopped joined (statement_place stated p.edge) (Missing p.file)
 found_joined stated p (Some text) joined = text_joined p.file stated text joined
 
-abbrev pub answer_joined : (stated : List Entry) → Pending → Option Reading → (joined : List Entry) → ReadingText
+abbrev pub answer_joined : (stated : List ReadStatement) → Pending → Option Reading → (joined : List ReadStatement) → ReadingText
 answer_joined stated p None joined = record { entries = joined; end = Lacking p.file (statement_place stated p.edge) }
 answer_joined stated p (Some reading) joined = found_joined stated p reading.bytes joined
 
-unfoldable pub file_joined : (files : List Reading) → (stated : List Entry) → Pending → (joined : List Entry) → ReadingText
+unfoldable pub file_joined : (files : List Reading) → (stated : List ReadStatement) → Pending → (joined : List ReadStatement) → ReadingText
 file_joined files stated p joined =
     if is_utf8 p.file then answer_joined stated p (reading_of files p.file) joined
     else stopped joined (statement_place stated p.edge) PathNotText
@@ -81,11 +81,11 @@ file_joined files stated p joined =
 abbrev pub path_asked : Pending → List (List ℕ)
 path_asked p = if is_utf8 p.file then p.file ∷ [] else []
 
-abbrev pub go_on : End → Pending → List Entry → (List Entry → ReachedText) → ReachedText
+abbrev pub go_on : End → Pending → List ReadStatement → (List ReadStatement → ReachedText) → ReachedText
 go_on Whole p joined others = record { read = (others joined).read; paths = path_asked p ++ (others joined).paths }
 go_on end p joined others = record { read = record { entries = joined; end = end }; paths = path_asked p }
 
-unfoldable pub files_joined : (files : List Reading) → (stated : List Entry) → List Pending → (joined : List Entry) → ReachedText
+unfoldable pub files_joined : (files : List Reading) → (stated : List ReadStatement) → List Pending → (joined : List ReadStatement) → ReachedText
 files_joined files stated [] joined = record { read = record { entries = joined; end = Whole }; paths = [] }
 files_joined files stated (p ∷ others) joined =
     let file = file_joined files stated p joined in
@@ -93,7 +93,7 @@ files_joined files stated (p ∷ others) joined =
 
 -- The dyndep files of all edges that wait for one, each once, in the order of their first edges: the whole file is joined before the
 -- next one is opened.
-unfoldable pub all_joined : (files : List Reading) → (stated : List Entry) → ReachedText
+unfoldable pub all_joined : (files : List Reading) → (stated : List ReadStatement) → ReachedText
 all_joined files stated = files_joined files stated (dyndep_files (pending_read stated)) stated
 
 -- ---- what joining answers
@@ -108,17 +108,17 @@ abbrev pub reached_after : (before : List (List ℕ)) → ReachedText → Reache
 reached_after before joined = record { read = joined.read; paths = with_all_new before joined.paths }
 
 -- the reading of dyndep files after the old files
-abbrev pub joined_after : (old : List Reading) → (stated : List Entry) → (files : List Reading) → ReachedText
+abbrev pub joined_after : (old : List Reading) → (stated : List ReadStatement) → (files : List Reading) → ReachedText
 joined_after old stated files = reached_after (paths_of old) (all_joined files stated)
 
 -- Dyndep files are joined to the statements of a run that has read the old files; what was read before is not read again.
-abbrev pub Joins : (stated : List Entry) → (old : List Reading) → (before after : SourceState) → Result LoadedText GraphFault → Type 0
+abbrev pub Joins : (stated : List ReadStatement) → (old : List Reading) → (before after : SourceState) → Result LoadedText GraphFault → Type 0
 Joins stated old before after result = LoadsAfter old before after (joined_after old stated) result
 
 -- ---- laws
 
 -- What was joined stays joined: joining again changes no statement, and reaches no file.
 abbrev pub JoinedStaysJoined : Type 0
-JoinedStaysJoined = (files others : List Reading) (stated : List Entry) (joined : ReachedText)
+JoinedStaysJoined = (files others : List Reading) (stated : List ReadStatement) (joined : ReachedText)
     → all_joined files stated ≡ joined → joined.read.end ≡ Whole
     → all_joined others joined.read.entries ≡ record { read = joined.read; paths = [] }

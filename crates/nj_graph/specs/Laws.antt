@@ -11,7 +11,7 @@ use Rattle.nj_text.specs.Words.{WordText}
 use Rattle.nj_manifest.specs.Dyndeps.{version_next, next_entry}
 use Rattle.nj_manifest.specs.Faults.{Fault}
 use Rattle.nj_manifest.specs.Statements.{BindingText, Parse, next_statement}
-use Rattle.nj_scope.specs.ReadingList.{Entry, scope_of, rule_texts, files_opened}
+use Rattle.nj_scope.specs.ReadingList.{ReadStatement, scope_of, rule_texts, files_opened}
 use Rattle.nj_edges.specs.Edges.{EdgePaths, first_output, outputs_of, inputs_of}
 use Rattle.nj_faults.specs.declared.fault.GraphFault.{GraphFault}
 use Rattle.nj_faults.specs.declared.fault.Cause.TheVariants.{EmptyPath, UnknownTarget, NoOutEdge}
@@ -26,7 +26,7 @@ use Rattle.nj_graph.specs.Runs.{IsLacking}
 use Rattle.nj_graph.specs.Targets.{picked}
 
 -- No statement has a fault of its own, by the statements before it. The last one stands first.
-abbrev pub Faultless : List Entry → Type 0
+abbrev pub Faultless : List ReadStatement → Type 0
 Faultless [] = ⊤
 Faultless (e ∷ before) = (own_fault e before ≡ None) × Faultless before
 
@@ -56,13 +56,13 @@ OthersAreNotRead = (files all : List Reading) (main : List ℕ) → IsPrefix fil
 
 -- What a file binds after the statement of an edge, in the same scope, affects what the variables of the edge say.
 abbrev pub LaterBindingsCount : Type 0
-LaterBindingsCount = (e : Entry) (before : List Entry) (edge : EdgeText) (name : List ℕ) (word : WordText)
+LaterBindingsCount = (e : ReadStatement) (before : List ReadStatement) (edge : EdgeText) (name : List ℕ) (word : WordText)
     → e.item ≡ BindingText name word → e.number ≡ edge.number
     → (names_of_edge (e ∷ before) edge).file name ≡ expanded_in (scope_of e) before word
 
 -- It changes no edge: neither its paths, nor what its block binds, nor its rule.
 abbrev pub LaterBindingsChangeNoEdge : Type 0
-LaterBindingsChangeNoEdge = (e : Entry) (before : List Entry) (name : List ℕ) (word : WordText)
+LaterBindingsChangeNoEdge = (e : ReadStatement) (before : List ReadStatement) (name : List ℕ) (word : WordText)
     → e.item ≡ BindingText name word → edges_read (e ∷ before) ≡ edges_read before
 
 -- ---- what is parsed of a text

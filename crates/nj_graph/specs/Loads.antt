@@ -2,7 +2,7 @@
 use Rattle.std.specs.Prelude.{◌≡◌, ◌⊎◌, Result, Ok, Err, ℕ, List, []}
 use Rattle.nj_scope.specs.Readings.{Reading, paths_of}
 use Rattle.nj_scope.specs.Sources.{SourceState}
-use Rattle.nj_scope.specs.ReadingList.{Entry}
+use Rattle.nj_scope.specs.ReadingList.{ReadStatement}
 use Rattle.nj_faults.specs.declared.fault.GraphFault.{GraphFault}
 use Rattle.nj_statements.specs.EdgeList.{edges_read}
 use Rattle.nj_statements.specs.Built.{IsCycleFault}
@@ -17,7 +17,7 @@ pub record LoadedText : Type 0 where
 
 -- By these files the reading goes to its end: these statements, none of which has a fault. The files are those at the paths that it
 -- reaches. The source did not fail.
-pub record IsWhole (before after : SourceState) (files : List Reading) (reading : List Reading → ReachedText) (entries : List Entry)
+pub record IsWhole (before after : SourceState) (files : List Reading) (reading : List Reading → ReachedText) (entries : List ReadStatement)
     : Type 0 where
   pub read : (reading files).read ≡ record { entries = entries; end = Whole }
   pub came_to : (reading files).paths ≡ paths_of files
@@ -27,14 +27,14 @@ pub record IsWhole (before after : SourceState) (files : List Reading) (reading 
 pub record IsLoaded (before after : SourceState) (files : List Reading) (reading : List Reading → ReachedText) (loaded : LoadedText)
     : Type 0 where
   pub files_are : loaded.files ≡ files
-  pub entries : List Entry
+  pub entries : List ReadStatement
   pub whole : IsWhole before after files reading entries
   pub graph_is : IsGraphOf loaded.graph entries
 
 -- All was read, and the edges of the statements have a dependency cycle.
 pub record HasCycle (before after : SourceState) (files : List Reading) (reading : List Reading → ReachedText) (fault : GraphFault)
     : Type 0 where
-  pub entries : List Entry
+  pub entries : List ReadStatement
   pub whole : IsWhole before after files reading entries
   pub cycle : IsCycleFault (edges_read entries) fault
 

@@ -15,7 +15,7 @@ use Rattle.nj_scope.specs.Readings.{reading_of}
 use Rattle.nj_scope.specs.Scopes.{expanded}
 use Rattle.nj_scope.specs.Limits.{is_depth}
 use Rattle.nj_scope.specs.Pools.{is_pool}
-use Rattle.nj_scope.specs.ReadingList.{Entry, scope_of, value_after, rules, is_declared, pools, scopes_opened, files_opened}
+use Rattle.nj_scope.specs.ReadingList.{ReadStatement, scope_of, value_after, rules, is_declared, pools, scopes_opened, files_opened}
 use Rattle.nj_faults.specs.declared.fault.Place.{Place}
 use Rattle.nj_faults.specs.declared.fault.Cause.{Cause}
 use Rattle.nj_faults.specs.declared.fault.GraphFault.{GraphFault}
@@ -37,7 +37,7 @@ pub record Site : Type 0 where
   pub number : ℕ
   pub around : List ℕ
 
-abbrev pub entry_at : Site → PlacedText → Entry
+abbrev pub entry_at : Site → PlacedText → ReadStatement
 entry_at site s = record {
   file = site.file;
   spot = s.spot;
@@ -49,7 +49,7 @@ entry_at site s = record {
 }
 
 -- a word that is expanded in a scope, by the statements before it, of which the last read stands first
-abbrev pub expanded_in : (scope : List ℕ) → (before : List Entry) → WordText → List ℕ
+abbrev pub expanded_in : (scope : List ℕ) → (before : List ReadStatement) → WordText → List ℕ
 expanded_in scope before word = expanded (value_after before scope) word.parts
 
 -- ---- what is wrong with a statement by itself
@@ -58,16 +58,16 @@ abbrev pub binding_fault : (file : List ℕ) → Spot → (name value : List ℕ
 binding_fault file spot name value =
     fault_if (bytes_eq name (codes "ninja_required_version") && is_newer value) (fault_at file spot (VersionTooNew value))
 
-abbrev pub rule_fault : (file : List ℕ) → (number : ℕ) → (before : List Entry) → NameText → Option GraphFault
+abbrev pub rule_fault : (file : List ℕ) → (number : ℕ) → (before : List ReadStatement) → NameText → Option GraphFault
 rule_fault file number before name =
     fault_if (is_declared (rules before number name.name) name.name) (fault_at file name.spot (DuplicateRule name.name))
 
 -- each depth of a pool's block counts, also one that a later line overrides
-abbrev pub depth_fault : (file scope : List ℕ) → (before : List Entry) → List LineText → Option GraphFault
+abbrev pub depth_fault : (file scope : List ℕ) → (before : List ReadStatement) → List LineText → Option GraphFault
 depth_fault file scope before lines =
     option_map (λ l. fault_at file l.spot BadDepth) (find (λ l. not (is_depth (expanded_in scope before l.value))) lines)
 
-abbrev pub pool_fault : (file scope : List ℕ) → (before : List Entry) → NameText → List LineText → Option GraphFault
+abbrev pub pool_fault : (file scope : List ℕ) → (before : List ReadStatement) → NameText → List LineText → Option GraphFault
 pool_fault file scope before name lines =
     or_then (fault_if (is_pool (pools before) name.name) (fault_at file name.spot (DuplicatePool name.name)))
     (depth_fault file scope before lines)
@@ -76,7 +76,7 @@ abbrev pub path_fault : (file : List ℕ) → Spot → (path : List ℕ) → Opt
 path_fault file spot path =
     or_then (fault_if (is_empty path) (fault_at file spot EmptyPath)) (fault_if (not (is_utf8 path)) (fault_at file spot PathNotText))
 
-abbrev pub item_fault : Entry → (before : List Entry) → StatementText → Option GraphFault
+abbrev pub item_fault : ReadStatement → (before : List ReadStatement) → StatementText → Option GraphFault
 item_fault e before (BindingText name value) = binding_fault e.file e.spot name (expanded_in (scope_of e) before value)
 item_fault e before (RuleText name lines) = rule_fault e.file e.number before name
 item_fault e before (PoolText name lines) = pool_fault e.file (scope_of e) before name lines
@@ -86,7 +86,7 @@ item_fault e before (IncludeText word) = path_fault e.file word.spot (expanded_i
 item_fault e before (SubninjaText word) = path_fault e.file word.spot (expanded_in (scope_of e) before word)
 
 -- the first fault of a statement, except those of its syntax and of the file that it names
-abbrev pub own_fault : Entry → (before : List Entry) → Option GraphFault
+abbrev pub own_fault : ReadStatement → (before : List ReadStatement) → Option GraphFault
 own_fault e before = item_fault e before e.item
 
 -- ---- a reading
@@ -102,29 +102,29 @@ pub data End : Type 0 where
 
 -- the statements that were read, the last one first
 pub record ReadingText : Type 0 where
-  pub entries : List Entry
+  pub entries : List ReadStatement
   pub end : End
 
-abbrev pub go_on : End → List Entry → (List Entry → ReadingText) → ReadingText
+abbrev pub go_on : End → List ReadStatement → (List ReadStatement → ReadingText) → ReadingText
 go_on Whole entries others = others entries
 go_on (Refused fault) entries others = record { entries = entries; end = Refused fault }
 go_on (Lacking path place) entries others = record { entries = entries; end = Lacking path place }
 
 -- one reading, and where all of it was read another one
-abbrev pub and_then : ReadingText → (List Entry → ReadingText) → ReadingText
+abbrev pub and_then : ReadingText → (List ReadStatement → ReadingText) → ReadingText
 and_then r others = go_on r.end r.entries others
 
 -- What is read of the file that a statement names: where its own statements stand, the place of its name, the statement
 -- itself, and the statements before it.
 abbrev pub Opens : Type 0
-Opens = Site → Place → Entry → (before : List Entry) → ReadingText
+Opens = Site → Place → ReadStatement → (before : List ReadStatement) → ReadingText
 
-abbrev pub place_at : Entry → Spot → Place
+abbrev pub place_at : ReadStatement → Spot → Place
 place_at e spot = record { file = e.file; spot = spot }
 
 -- The statements of a file that is included stand in the scope of the `include`, those of a file after `subninja` in a new
 -- scope within that of the statement.
-abbrev pub included_site : Entry → (before : List Entry) → WordText → Site
+abbrev pub included_site : ReadStatement → (before : List ReadStatement) → WordText → Site
 included_site e before word = record {
   file = expanded_in (scope_of e) before word;
   depth = suc e.depth;
@@ -132,7 +132,7 @@ included_site e before word = record {
   around = e.around;
 }
 
-abbrev pub subninja_site : Entry → (before : List Entry) → WordText → Site
+abbrev pub subninja_site : ReadStatement → (before : List ReadStatement) → WordText → Site
 subninja_site e before word = record {
   file = expanded_in (scope_of e) before word;
   depth = suc e.depth;
@@ -140,16 +140,16 @@ subninja_site e before word = record {
   around = scope_of e;
 }
 
-abbrev pub item_read : Opens → Entry → (before : List Entry) → StatementText → ReadingText
+abbrev pub item_read : Opens → ReadStatement → (before : List ReadStatement) → StatementText → ReadingText
 item_read opens e before (IncludeText word) = opens (included_site e before word) (place_at e word.spot) e before
 item_read opens e before (SubninjaText word) = opens (subninja_site e before word) (place_at e word.spot) e before
 item_read opens e before item = record { entries = e ∷ before; end = Whole }
 
-abbrev pub unless_fault : Option GraphFault → Opens → Entry → (before : List Entry) → ReadingText
+abbrev pub unless_fault : Option GraphFault → Opens → ReadStatement → (before : List ReadStatement) → ReadingText
 unless_fault (Some fault) opens e before = record { entries = before; end = Refused fault }
 unless_fault None opens e before = item_read opens e before e.item
 
-abbrev pub statement_read : Opens → Entry → (before : List Entry) → ReadingText
+abbrev pub statement_read : Opens → ReadStatement → (before : List ReadStatement) → ReadingText
 statement_read opens e before = unless_fault (own_fault e before) opens e before
 
 abbrev pub end_by : (file : List ℕ) → Option Fault → End
@@ -157,12 +157,12 @@ end_by file None = Whole
 end_by file (Some fault) = Refused (fault_in file fault)
 
 -- the statements of a file, one after the other
-unfoldable pub statements_read : Opens → Site → (statements : List PlacedText) → Option Fault → (before : List Entry) → ReadingText
+unfoldable pub statements_read : Opens → Site → (statements : List PlacedText) → Option Fault → (before : List ReadStatement) → ReadingText
 statements_read opens site [] fault before = record { entries = before; end = end_by site.file fault }
 statements_read opens site (s ∷ others) fault before =
     and_then (statement_read opens (entry_at site s) before) (λ entries. statements_read opens site others fault entries)
 
-abbrev pub text_read : Opens → Site → (text : List ℕ) → (before : List Entry) → ReadingText
+abbrev pub text_read : Opens → Site → (text : List ℕ) → (before : List ReadStatement) → ReadingText
 text_read opens site text before = statements_read opens site (parsed text).items (parsed text).fault before
 
 -- how many files may be opened in a run, the main file and repeated ones among them
@@ -173,19 +173,19 @@ most_opened = 65536
 abbrev pub most_within : ℕ
 most_within = 31
 
-abbrev pub stopped : List Entry → Place → Cause → ReadingText
+abbrev pub stopped : List ReadStatement → Place → Cause → ReadingText
 stopped before place cause = record { entries = before; end = Refused (record { place = Some place; cause = cause }) }
 
 -- by the table's answer for a path
-abbrev pub found_read : Opens → Site → Place → (entries before : List Entry) → Option (List ℕ) → ReadingText
+abbrev pub found_read : Opens → Site → Place → (entries before : List ReadStatement) → Option (List ℕ) → ReadingText
 found_read within site place entries before None = stopped before place (Missing site.file)
 found_read within site place entries before (Some text) = text_read within site text entries
 
-abbrev pub answer_read : Opens → Site → Place → (entries before : List Entry) → Option table.Reading → ReadingText
+abbrev pub answer_read : Opens → Site → Place → (entries before : List ReadStatement) → Option table.Reading → ReadingText
 answer_read within site place entries before None = record { entries = before; end = Lacking site.file place }
 answer_read within site place entries before (Some r) = found_read within site place entries before r.bytes
 
-abbrev pub if_room : Bool → (within : Opens) → (files : List table.Reading) → Site → Place → Entry → (before : List Entry) → ReadingText
+abbrev pub if_room : Bool → (within : Opens) → (files : List table.Reading) → Site → Place → ReadStatement → (before : List ReadStatement) → ReadingText
 if_room false within files site place e before = stopped before place TooManyOpenings
 if_room true within files site place e before = answer_read within site place (e ∷ before) before (reading_of files site.file)
 
@@ -210,7 +210,7 @@ main_read files main =
 
 -- ---- the paths that a reading reaches
 
-abbrev pub path_named : Entry → (before : List Entry) → StatementText → List (List ℕ)
+abbrev pub path_named : ReadStatement → (before : List ReadStatement) → StatementText → List (List ℕ)
 path_named e before (IncludeText word) = expanded_in (scope_of e) before word ∷ []
 path_named e before (SubninjaText word) = expanded_in (scope_of e) before word ∷ []
 path_named e before item = []
@@ -224,7 +224,7 @@ with_named before [] = before
 with_named before (path ∷ paths) = with_new before path
 
 -- the main file, and the files that the statements name, each at its first occurrence
-abbrev pub paths_read : (main : List ℕ) → List Entry → List (List ℕ)
+abbrev pub paths_read : (main : List ℕ) → List ReadStatement → List (List ℕ)
 paths_read main [] = main ∷ []
 paths_read main (e ∷ before) = with_named (paths_read main before) (path_named e before e.item)
 

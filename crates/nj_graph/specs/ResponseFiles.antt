@@ -3,7 +3,7 @@
 use Rattle.std.specs.Prelude.{ℕ, zero, suc, ◌+◌, ◌==◌, if◌then◌else◌, Option, Some, None, option_map, option_and_then, List, [], ◌∷◌, ◌++◌}
 use Rattle.std.specs.Prelude.{map, length, take, drop, slice_index, codes, nat_eq}
 use Rattle.std.specs.List.{starts_with}
-use Rattle.nj_scope.specs.ReadingList.{Entry}
+use Rattle.nj_scope.specs.ReadingList.{ReadStatement}
 use Rattle.nj_graph.specs.Graph.{late_text_of}
 
 -- the position in a text at which a part of it first occurs; an empty part occurs at the start
@@ -34,7 +34,7 @@ abbrev pub with_content : (command file content : List ℕ) → List ℕ
 with_content command file content = content_at command file content (sign_position command file)
 
 -- the command of the edge of a number
-abbrev pub command_with_rsp_of : List Entry → (number : ℕ) → List ℕ
+abbrev pub command_with_rsp_of : List ReadStatement → (number : ℕ) → List ℕ
 command_with_rsp_of entries number =
     with_content (late_text_of entries number (codes "command")) (late_text_of entries number (codes "rspfile"))
     (late_text_of entries number (codes "rspfile_content"))

@@ -7,7 +7,7 @@ ghost use Rattle.nj_edges.specs.Edges.{edge_at, outputs_of, inputs_of, kind_at, 
 ghost use Rattle.nj_edges.specs.Files.{path_at, AreFiles};
 ghost use Rattle.nj_edges.specs.Needs.{makers_of_inputs};
 ghost use Rattle.nj_statements.specs.Built.{defaults_in_force, detail_at};
-ghost use Rattle.nj_scope.specs.ReadingList.{Entry};
+ghost use Rattle.nj_scope.specs.ReadingList.{ReadStatement};
 ghost use Rattle.nj_graph.specs.Graph.{edges_of, files_of, IsGraphOf, rule_name, rule_name_at};
 
 use crate::graph::{Graph, rule_name};
@@ -151,7 +151,7 @@ impl Graph {
         requires { edge.0 < length (edges_of self.now) }
         ensures held { result.now ≡ rule_name self.now.declarations.rules
             (detail_at self.now.built.details edge.0).rule }
-        ensures stated { (entries : List Entry) → IsGraphOf self.now entries
+        ensures stated { (entries : List ReadStatement) → IsGraphOf self.now entries
             → result.now ≡ rule_name_at entries edge.0 }
     {
         rule_name(self.declarations.rules(), self.built.rule_number(edge))

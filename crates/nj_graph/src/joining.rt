@@ -2,7 +2,7 @@
 
 ghost use Rattle.std.specs.Prelude.{◌≡◌, ◌<◌, List, Some, length, slice_get, OnOk};
 ghost use Rattle.nj_scope.specs.Readings.{EachPathOnce, IsPrefix};
-ghost use Rattle.nj_scope.specs.ReadingList.{Entry};
+ghost use Rattle.nj_scope.specs.ReadingList.{ReadStatement};
 ghost use Rattle.nj_statements.specs.EdgeList.{Pending};
 ghost use Rattle.nj_statements.specs.JoiningHeld.{HoldsJoined};
 ghost use Rattle.nj_graph.specs.Graph.{IsGraphOf};
@@ -15,7 +15,7 @@ use crate::opening::text_at;
 use nj_statements::{DyndepFile, Joining, PlaceRef};
 use nj_edges::FileNo;
 use nj_faults::{Cause, GraphFault, Name, Place};
-use nj_manifest::{DyndepParser, Entry as DyndepEntry};
+use nj_manifest::{DyndepParser, Entry};
 use nj_scope::{FileSource, FileTable};
 use std::alloc::Global;
 
@@ -35,7 +35,7 @@ pub fn join_dyndeps<S: FileSource>(
     loaded: Loaded,
     source: &mut S,
 ) -> Result<Loaded, GraphFault>
-    ensures { (stated : List Entry) → IsGraphOf loaded.graph stated
+    ensures { (stated : List ReadStatement) → IsGraphOf loaded.graph stated
         → Joins stated loaded.files (S.state source.old) (S.state source.new) result }
 {
     let Loaded { mut files, graph } = loaded;
@@ -79,7 +79,7 @@ fn join_files<S: FileSource>(
     joining: &mut Joining,
 ) -> Result<(), GraphFault>
     requires { EachPathOnce files.old }
-    ensures joins { (stated : List Entry) → HoldsJoined joining.old stated stated
+    ensures joins { (stated : List ReadStatement) → HoldsJoined joining.old stated stated
         → JoinsFiles stated (S.state source.old) (S.state source.new) files.old files.new
         joining.new result }
 {
@@ -99,7 +99,7 @@ fn join_file<S: FileSource>(
 ) -> Result<(), GraphFault>
     requires there { index < length joining.old.dyndep_files }
     requires once { EachPathOnce files.old }
-    ensures joins { (stated joined : List Entry) (p : Pending)
+    ensures joins { (stated joined : List ReadStatement) (p : Pending)
         → HoldsJoined joining.old stated joined
         → slice_get joining.old.dyndep_files index ≡ Some p
         → JoinsFile stated joined p (S.state source.old) (S.state source.new)
@@ -142,7 +142,7 @@ fn join_text(
     text: &[u8],
 ) -> Result<(), GraphFault>
     requires { slice_get joining.old.table.files file.0 ≡ Some name.now }
-    ensures joins { (stated joined : List Entry) → HoldsJoined joining.old stated joined
+    ensures joins { (stated joined : List ReadStatement) → HoldsJoined joining.old stated joined
         → JoinsText name.now stated text.now joined joining.new result }
     ensures files { OnOk result (IsPrefix joining.old.table.files joining.new.table.files) }
     ensures dyndeps { OnOk result (joining.new.dyndep_files ≡ joining.old.dyndep_files) }
@@ -160,7 +160,7 @@ fn next_entry<'a>(
     alloc: Global,
     parser: &mut DyndepParser<'a>,
     name: &str,
-) -> Result<Option<DyndepEntry<'a>>, GraphFault>
+) -> Result<Option<Entry<'a>>, GraphFault>
     ensures { NextEntryIs name.now parser.old parser.new result }
 {
     match parser.next_entry(alloc) {

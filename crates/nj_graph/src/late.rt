@@ -2,7 +2,7 @@
 
 ghost use Rattle.std.specs.Prelude.{◌≡◌, ◌<◌, ◌++◌, List, Some, length, slice_get, codes, IfOk, OnOk, OnErr};
 ghost use Rattle.nj_statements.specs.Built.{detail_at};
-ghost use Rattle.nj_scope.specs.ReadingList.{Entry};
+ghost use Rattle.nj_scope.specs.ReadingList.{ReadStatement};
 ghost use Rattle.nj_graph.specs.Graph.{edges_of, IsGraphOf, late_text_of};
 ghost use Rattle.nj_graph.specs.ResponseFiles.{command_with_rsp_of};
 
@@ -28,7 +28,7 @@ impl Graph {
         name: &[u8],
     ) -> Result<(), AllocError>
         requires { edge.0 < length (edges_of self.now) }
-        ensures appended { (entries : List Entry) → IsGraphOf self.now entries
+        ensures appended { (entries : List ReadStatement) → IsGraphOf self.now entries
             → OnOk result (out.new.items
             ≡ out.old.items ++ late_text_of entries edge.0 name.now) }
         ensures refused { OnErr result (out.new.items ≡ out.old.items) }
@@ -59,7 +59,7 @@ impl Graph {
     /// else empty.
     pub fn command(&self, alloc: Global, edge: EdgeNo) -> Result<Vec<u8>, AllocError>
         requires { edge.0 < length (edges_of self.now) }
-        ensures { (entries : List Entry) → IsGraphOf self.now entries
+        ensures { (entries : List ReadStatement) → IsGraphOf self.now entries
             → IfOk result (λ text.
             text.items ≡ late_text_of entries edge.0 (codes "command")) }
     {
@@ -76,7 +76,7 @@ impl Graph {
     /// If an allocation failed.
     pub fn command_with_rsp(&self, alloc: Global, edge: EdgeNo) -> Result<Vec<u8>, AllocError>
         requires { edge.0 < length (edges_of self.now) }
-        ensures { (entries : List Entry) → IsGraphOf self.now entries
+        ensures { (entries : List ReadStatement) → IsGraphOf self.now entries
             → IfOk result (λ text. text.items ≡ command_with_rsp_of entries edge.0) }
     {
         let command = self.command(alloc, edge)?;
@@ -88,7 +88,7 @@ impl Graph {
     // What a variable says for an edge.
     fn variable(&self, alloc: Global, edge: EdgeNo, name: &[u8]) -> Result<Vec<u8>, AllocError>
         requires { edge.0 < length (edges_of self.now) }
-        ensures { (entries : List Entry) → IsGraphOf self.now entries
+        ensures { (entries : List ReadStatement) → IsGraphOf self.now entries
             → IfOk result (λ text. text.items ≡ late_text_of entries edge.0 name.now) }
     {
         let mut text = Vec::new(alloc);

@@ -25,11 +25,11 @@ impl Model for Loaded {
     ghost view = { λ l. record { files = l.files; graph = l.graph } };
 
     ghost use Rattle.std.specs.Prelude.{List};
-    ghost use Rattle.nj_scope.specs.ReadingList.{Entry};
+    ghost use Rattle.nj_scope.specs.ReadingList.{ReadStatement};
     ghost use Rattle.nj_graph.specs.Graph.{IsGraphOf};
 
     // it is the graph of some statements
-    ghost invariant = { λ l. (entries : List Entry) × IsGraphOf l.graph entries };
+    ghost invariant = { λ l. (entries : List ReadStatement) × IsGraphOf l.graph entries };
 }
 
 impl Loaded {

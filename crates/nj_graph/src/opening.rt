@@ -4,7 +4,7 @@ ghost use Rattle.std.specs.Prelude.{◌≡◌, ℕ, ◌<◌, List, length, suc, 
 ghost use Rattle.nj_text.specs.declared.spot.Spot.{Spot};
 ghost use Rattle.nj_text.specs.Words.{WordText, word_text};
 ghost use Rattle.nj_scope.specs.Declarations.{DeclaredBy};
-ghost use Rattle.nj_scope.specs.ReadingList.{Entry};
+ghost use Rattle.nj_scope.specs.ReadingList.{ReadStatement};
 ghost use Rattle.nj_graph.specs.Reading.{entry_at, expanded_in, path_fault};
 ghost use Rattle.nj_graph.specs.Inside.ReaderContracts.{site_scope};
 ghost use Rattle.nj_graph.specs.Inside.ReaderContracts.{Holds, InFile, IsOpenIn, ScopesGrow, site_of, place_in, named_item, named_site, EntersScope, AnswersText, OpensOrStops, SaysPath, OpensPath};
@@ -78,7 +78,7 @@ impl Reader {
         spot: Spot,
         path: &str,
     ) -> Result<RcSlice<u8>, GraphFault>
-        ensures opens { (main : List ℕ) (entries : List Entry) → Holds main self.old entries
+        ensures opens { (main : List ℕ) (entries : List ReadStatement) → Holds main self.old entries
             → OpensPath main (S.state source.old) (S.state source.new) self.old self.new
             file.entry.left (place_in file.entry spot) path.now entries result }
         ensures left { OnOk result (0 < file.entry.left) }
@@ -102,7 +102,7 @@ impl Reader {
     fn scope_for(&mut self, file: OpenFile<'_>, naming: Naming) -> Result<usize, AllocError>
         requires { file.scope < length self.old.declarations.scopes }
         ensures enters { (start : Spot) (word : WordText)
-            (entries : List Entry) (around : List ℕ) (depth : ℕ)
+            (entries : List ReadStatement) (around : List ℕ) (depth : ℕ)
             → DeclaredBy self.old.declarations entries → IsOpenIn self.old file.entry around
             → let site = site_of file.entry around depth in
             let e = entry_at site (record { spot = start; item = named_item naming word }) in

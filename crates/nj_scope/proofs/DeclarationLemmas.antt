@@ -6,7 +6,7 @@ use Rattle.nj_manifest.specs.Statements.{LineText, OutputsText, InputsText, Stat
 use Rattle.nj_scope.specs.Rules.{line_kept, phony_rule}
 use Rattle.nj_scope.specs.Scopes.{or_else, nearest, Bounds, value_in, expanded, bound_at, rule_at}
 use Rattle.nj_scope.specs.Declarations.{DeclarationsText, DeclaredBy, TakesIn}
-use Rattle.nj_scope.specs.ReadingList.{Entry, scope_of, binds, declares, bounds, rules, with_rule, rule_texts, with_pool, pools, opens_scope, scopes_opened, value_after}
+use Rattle.nj_scope.specs.ReadingList.{ReadStatement, scope_of, binds, declares, bounds, rules, with_rule, rule_texts, with_pool, pools, opens_scope, scopes_opened, value_after}
 
 pub at_ok : {X Y P Q : Type 0} (r : Result X Y) → OnOk r P → (P → Q) → OnOk r Q
 at_ok (Ok x) h then_so = then_so h
@@ -36,8 +36,8 @@ expanded-same f g same (Name name ∷ parts) = ap (λ v. v ++ expanded f parts) 
 
 -- ---- a binding
 
-module _ (held after : DeclarationsText) (entries : List Entry) (e : Entry) (name value : List ℕ) (word : WordText) (follows : DeclaredBy held entries) where
-  abbrev pub binding : Entry
+module _ (held after : DeclarationsText) (entries : List ReadStatement) (e : ReadStatement) (name value : List ℕ) (word : WordText) (follows : DeclaredBy held entries) where
+  abbrev pub binding : ReadStatement
   binding = record e { item = BindingText name word }
 
   -- the value is the one of the list
@@ -79,7 +79,7 @@ module _ (held after : DeclarationsText) (entries : List Entry) (e : Entry) (nam
 -- ---- statements that bind nothing
 
 -- of a statement that is no binding and no rule the scopes' own names stay
-bounds-kept : (e : Entry) (entries : List Entry) → ((value : List ℕ → List ℕ) (x : List ℕ) → binds value e.item x ≡ None) → (n : ℕ) (x : List ℕ) → bounds (e ∷ entries) n x ≡ bounds entries n x
+bounds-kept : (e : ReadStatement) (entries : List ReadStatement) → ((value : List ℕ → List ℕ) (x : List ℕ) → binds value e.item x ≡ None) → (n : ℕ) (x : List ℕ) → bounds (e ∷ entries) n x ≡ bounds entries n x
 unfolding bounds
 bounds-kept e entries nothing n x = by (n == e.number)
   where
@@ -87,7 +87,7 @@ bounds-kept e entries nothing n x = by (n == e.number)
     by true = ap (λ o. or_else o (bounds entries n x)) (nothing (value_in (bounds entries) (scope_of e)) x)
     by false = refl
 
-pub rules-kept : (e : Entry) (entries : List Entry) → ((x : List ℕ) → declares e.item x ≡ false) → (n : ℕ) (x : List ℕ) → rules (e ∷ entries) n x ≡ rules entries n x
+pub rules-kept : (e : ReadStatement) (entries : List ReadStatement) → ((x : List ℕ) → declares e.item x ≡ false) → (n : ℕ) (x : List ℕ) → rules (e ∷ entries) n x ≡ rules entries n x
 rules-kept e entries nothing n x = by (n == e.number) (declares e.item x) (nothing x)
   where
     by : (a b : Bool) → b ≡ false → or_else (if a && b then Some (length (rule_texts entries)) else None) (rules entries n x) ≡ rules entries n x
@@ -97,7 +97,7 @@ rules-kept e entries nothing n x = by (n == e.number) (declares e.item x) (nothi
 
 -- ---- a rule
 
-module _ (held after : DeclarationsText) (entries : List Entry) (e : Entry) (name : NameText) (lines : List LineText) (follows : DeclaredBy held entries) where
+module _ (held after : DeclarationsText) (entries : List ReadStatement) (e : ReadStatement) (name : NameText) (lines : List LineText) (follows : DeclaredBy held entries) where
   pub with-rule : ((n : ℕ) (x : List ℕ) → rule_at after.scopes n x ≡ (if n == e.number && bytes_eq x name.name then Some (length held.rules) else rule_at held.scopes n x))
       → ((n : ℕ) (x : List ℕ) → bound_at after.scopes n x ≡ bound_at held.scopes n x) → length after.scopes ≡ length held.scopes
       → after.rules ≡ held.rules ++ record { scope = e.number; name = name.name; lines = map line_kept lines } ∷ [] → after.pools ≡ held.pools
@@ -117,7 +117,7 @@ module _ (held after : DeclarationsText) (entries : List Entry) (e : Entry) (nam
 
 -- ---- a pool
 
-module _ (held after : DeclarationsText) (entries : List Entry) (e : Entry) (name : NameText) (lines : List LineText) (follows : DeclaredBy held entries) where
+module _ (held after : DeclarationsText) (entries : List ReadStatement) (e : ReadStatement) (name : NameText) (lines : List LineText) (follows : DeclaredBy held entries) where
   pub with-pool : after.scopes ≡ held.scopes → after.rules ≡ held.rules → after.pools ≡ held.pools ++ name.name ∷ []
       → DeclaredBy after (record e { item = PoolText name lines } ∷ entries)
   with-pool same_scopes same_rules one_more = record {
@@ -130,7 +130,7 @@ module _ (held after : DeclarationsText) (entries : List Entry) (e : Entry) (nam
 
 -- ---- a scope
 
-module _ (held after : DeclarationsText) (entries : List Entry) (e : Entry) (word : WordText) (follows : DeclaredBy held entries) where
+module _ (held after : DeclarationsText) (entries : List ReadStatement) (e : ReadStatement) (word : WordText) (follows : DeclaredBy held entries) where
   pub with-subninja : ((n : ℕ) (x : List ℕ) → bound_at after.scopes n x ≡ bound_at held.scopes n x) → ((n : ℕ) (x : List ℕ) → rule_at after.scopes n x ≡ rule_at held.scopes n x)
       → length after.scopes ≡ length held.scopes + 1 → after.rules ≡ held.rules → after.pools ≡ held.pools
       → DeclaredBy after (record e { item = SubninjaText word } ∷ entries)
@@ -144,10 +144,10 @@ module _ (held after : DeclarationsText) (entries : List Entry) (e : Entry) (wor
 
 -- ---- statements that declare nothing
 
-abbrev with_item : Entry → StatementText → Entry
+abbrev with_item : ReadStatement → StatementText → ReadStatement
 with_item e item = record e { item = item }
 
-nothing-more : (held : DeclarationsText) (entries : List Entry) (e : Entry) (item : StatementText) → ((value : List ℕ → List ℕ) (x : List ℕ) → binds value item x ≡ None) → ((x : List ℕ) → declares item x ≡ false)
+nothing-more : (held : DeclarationsText) (entries : List ReadStatement) (e : ReadStatement) (item : StatementText) → ((value : List ℕ → List ℕ) (x : List ℕ) → binds value item x ≡ None) → ((x : List ℕ) → declares item x ≡ false)
     → opens_scope item ≡ 0 → with_rule e.number item (rule_texts entries) ≡ rule_texts entries → with_pool item (pools entries) ≡ pools entries
     → DeclaredBy held entries → DeclaredBy held (record e { item = item } ∷ entries)
 nothing-more held entries e item no_value no_rule no_scope same_rules same_pools by = record {
@@ -173,16 +173,16 @@ module _ (held : DeclarationsText) (number : ℕ) (around : List ℕ) where
 
 -- ---- look-ups
 
-pub value-listed : (held : DeclarationsText) (entries : List Entry) → DeclaredBy held entries → (scope : List ℕ) (parts : List PartText)
+pub value-listed : (held : DeclarationsText) (entries : List ReadStatement) → DeclaredBy held entries → (scope : List ℕ) (parts : List PartText)
     → expanded (value_in (bound_at held.scopes) scope) parts ≡ expanded (value_after entries scope) parts
 value-listed held entries follows scope parts =
     expanded-same (value_in (bound_at held.scopes) scope) (value_after entries scope) (value-same (bound_at held.scopes) (bounds entries) follows.bound scope) parts
 
-pub name-listed : (held : DeclarationsText) (entries : List Entry) → DeclaredBy held entries → (scope name : List ℕ)
+pub name-listed : (held : DeclarationsText) (entries : List ReadStatement) → DeclaredBy held entries → (scope name : List ℕ)
     → value_in (bound_at held.scopes) scope name ≡ value_after entries scope name
 name-listed held entries follows scope name = value-same (bound_at held.scopes) (bounds entries) follows.bound scope name
 
-pub rule-listed : (held : DeclarationsText) (entries : List Entry) → DeclaredBy held entries → (scope name : List ℕ)
+pub rule-listed : (held : DeclarationsText) (entries : List ReadStatement) → DeclaredBy held entries → (scope name : List ℕ)
     → nearest (λ s. rule_at held.scopes s name) scope ≡ nearest (λ s. rules entries s name) scope
 rule-listed held entries follows scope name = nearest-same (λ s. rule_at held.scopes s name) (λ s. rules entries s name) (λ s. follows.declared s name) scope
 

@@ -12,7 +12,7 @@ use Rattle.nj_scope.specs.Rules.{line_kept, phony, phony_rule}
 use Rattle.nj_scope.specs.Scopes.{or_else, nearest, rule_at}
 use Rattle.nj_scope.specs.Declarations.{DeclarationsText, DeclaredBy}
 use Rattle.nj_scope.specs.Laws.{InForceIsDeclared}
-use Rattle.nj_scope.specs.ReadingList.{Entry, with_rule, rule_texts, rules}
+use Rattle.nj_scope.specs.ReadingList.{ReadStatement, with_rule, rule_texts, rules}
 use Rattle.nj_scope.proofs.DeclarationLemmas.{rules-kept, rule-listed}
 
 some_same : {X : Type 0} {x y : X} → Some x ≡ Some y → x ≡ y
@@ -42,7 +42,7 @@ pub record Found (texts : List kept.RuleText) (scope : ℕ) (name : List ℕ) (n
 found-old : (texts : List kept.RuleText) (more : kept.RuleText) (scope : ℕ) (name : List ℕ) (number : ℕ) → Found texts scope name number → Found (texts ++ more ∷ []) scope name number
 found-old texts more scope name number f = record { rule = f.rule; there = get-old texts more number f.rule f.there; its_scope = f.its_scope; its_name = f.its_name }
 
-found-more : (before : List Entry) (e : Entry) (item : StatementText) (scope : ℕ) (name : List ℕ) (number : ℕ) → (rules before scope name ≡ Some number → Found (rule_texts before) scope name number)
+found-more : (before : List ReadStatement) (e : ReadStatement) (item : StatementText) (scope : ℕ) (name : List ℕ) (number : ℕ) → (rules before scope name ≡ Some number → Found (rule_texts before) scope name number)
     → rules (record e { item = item } ∷ before) scope name ≡ Some number → Found (with_rule e.number item (rule_texts before)) scope name number
 found-more before e (RuleText declared lines) scope name number rest h = by (scope == e.number) (bytes_eq name declared.name) (eqb-true scope e.number) (bytes_eq-Decides name declared.name).0 h
   where
@@ -65,7 +65,7 @@ found-more before e (DefaultText words) scope name number rest h = rest (sym (ru
 found-more before e (IncludeText word) scope name number rest h = rest (sym (rules-kept (record e { item = IncludeText word }) before (λ x. refl) scope name) ∙ h)
 found-more before e (SubninjaText word) scope name number rest h = rest (sym (rules-kept (record e { item = SubninjaText word }) before (λ x. refl) scope name) ∙ h)
 
-pub found : (entries : List Entry) (scope : ℕ) (name : List ℕ) (number : ℕ) → rules entries scope name ≡ Some number → Found (rule_texts entries) scope name number
+pub found : (entries : List ReadStatement) (scope : ℕ) (name : List ℕ) (number : ℕ) → rules entries scope name ≡ Some number → Found (rule_texts entries) scope name number
 found [] scope name number h = none_some h
 found (e ∷ before) scope name number h = found-more before e e.item scope name number (found before scope name number) h
 
@@ -92,7 +92,7 @@ phony-kept number (DefaultText words) texts h = h
 phony-kept number (IncludeText word) texts h = h
 phony-kept number (SubninjaText word) texts h = h
 
-pub phony-there : (entries : List Entry) → slice_get (rule_texts entries) 0 ≡ Some phony_rule
+pub phony-there : (entries : List ReadStatement) → slice_get (rule_texts entries) 0 ≡ Some phony_rule
 phony-there [] = refl
 phony-there (e ∷ before) = phony-kept e.number e.item (rule_texts before) (phony-there before)
 
@@ -112,10 +112,10 @@ in_force entries scope name number h = by (bytes_eq name phony) (bytes_eq-Decide
 
 -- ---- its number
 
-pub phony-within : (held : DeclarationsText) (entries : List Entry) → DeclaredBy held entries → 0 < length held.rules
+pub phony-within : (held : DeclarationsText) (entries : List ReadStatement) → DeclaredBy held entries → 0 < length held.rules
 phony-within held entries by = subst (λ rs. 0 < length rs) (sym by.rules) (slice_get_within (rule_texts entries) 0 phony_rule (phony-there entries))
 
-pub nearest-within : (held : DeclarationsText) (entries : List Entry) → DeclaredBy held entries → (scope name : List ℕ) → IfSome (nearest (λ s. rule_at held.scopes s name) scope) (λ n. n < length held.rules)
+pub nearest-within : (held : DeclarationsText) (entries : List ReadStatement) → DeclaredBy held entries → (scope name : List ℕ) → IfSome (nearest (λ s. rule_at held.scopes s name) scope) (λ n. n < length held.rules)
 nearest-within held entries by scope name = at (nearest (λ s. rule_at held.scopes s name) scope) (sym (rule-listed held entries by scope name))
   where
     found-within : (number : ℕ) → (s : ℕ) × Contains scope s × (rules entries s name ≡ Some number) → number < length held.rules

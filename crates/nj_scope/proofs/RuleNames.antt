@@ -10,7 +10,7 @@ use Rattle.nj_manifest.specs.Statements.{StatementText, BindingText, RuleText, P
 use Rattle.nj_scope.specs.Rules as kept
 use Rattle.nj_scope.specs.Rules.{rule_names, line_kept, phony, phony_rule}
 use Rattle.nj_scope.specs.Scopes.{or_else}
-use Rattle.nj_scope.specs.ReadingList.{Entry, with_rule, rule_texts, declares, rules, is_declared}
+use Rattle.nj_scope.specs.ReadingList.{ReadStatement, with_rule, rule_texts, declares, rules, is_declared}
 use Rattle.nj_scope.proofs.NewRules.{RuleIsNew, EachRuleIsNew}
 use Rattle.nj_scope.proofs.DeclarationLemmas.{rules-kept}
 use Rattle.nj_scope.proofs.RuleLemmas.{or_false}
@@ -56,11 +56,11 @@ taken-push false true k (Some x) = refl
 taken-push false false k None = refl
 taken-push false false k (Some x) = refl
 
-module _ (before : List Entry) (e : Entry) (number : ℕ) (name : List ℕ) (rest : is_declared (rules before number name) name ≡ names_have (rule_texts before) number name) where
+module _ (before : List ReadStatement) (e : ReadStatement) (number : ℕ) (name : List ℕ) (rest : is_declared (rules before number name) name ≡ names_have (rule_texts before) number name) where
   no_rule : ((x : List ℕ) → declares e.item x ≡ false) → is_declared (rules (e ∷ before) number name) name ≡ names_have (rule_texts before) number name
   no_rule nothing = ap (λ o. is_declared o name) (rules-kept e before nothing number name) ∙ rest
 
-listed-more : (before : List Entry) (number : ℕ) (e : Entry) (item : StatementText) (name : List ℕ)
+listed-more : (before : List ReadStatement) (number : ℕ) (e : ReadStatement) (item : StatementText) (name : List ℕ)
     → is_declared (rules before number name) name ≡ names_have (rule_texts before) number name
     → is_declared (rules (record e { item = item } ∷ before) number name) name ≡ names_have (with_rule e.number item (rule_texts before)) number name
 listed-more before number e (RuleText declared lines) name rest =
@@ -78,7 +78,7 @@ listed-more before number e (IncludeText word) name rest = no_rule before (recor
 listed-more before number e (SubninjaText word) name rest = no_rule before (record e { item = SubninjaText word }) number name rest (λ x. refl)
 
 -- a name is taken in a scope where it is one of its names
-pub is_declared-listed : (entries : List Entry) (number : ℕ) (name : List ℕ) → is_declared (rules entries number name) name ≡ names_have (rule_texts entries) number name
+pub is_declared-listed : (entries : List ReadStatement) (number : ℕ) (name : List ℕ) → is_declared (rules entries number name) name ≡ names_have (rule_texts entries) number name
 is_declared-listed [] number name = by (number == 0)
   where
     has : (b : Bool) → (b || false) ≡ (b || (b || false))
@@ -101,7 +101,7 @@ distinct-more before r number new distinct = subst (IsDistinct bytes_eq) (sym (n
     by true same = IsDistinct-push nat_list_eq_equiv (rule_names before number) r.name distinct (new (same refl))
     by false same = subst (IsDistinct bytes_eq) (sym (append-nil (rule_names before number))) distinct
 
-distinct-with : (before : List Entry) (number m : ℕ) (item : StatementText) → RuleIsNew before m item → IsDistinct bytes_eq (rule_names (rule_texts before) number) → IsDistinct bytes_eq (rule_names (with_rule m item (rule_texts before)) number)
+distinct-with : (before : List ReadStatement) (number m : ℕ) (item : StatementText) → RuleIsNew before m item → IsDistinct bytes_eq (rule_names (rule_texts before) number) → IsDistinct bytes_eq (rule_names (with_rule m item (rule_texts before)) number)
 distinct-with before number m (RuleText declared lines) is_new rest =
     distinct-more (rule_texts before) (record { scope = m; name = declared.name; lines = map line_kept lines }) number
     (λ same. or_false (bytes_eq declared.name phony) (list_any (bytes_eq declared.name) (rule_names (rule_texts before) number))
@@ -114,7 +114,7 @@ distinct-with before number m (IncludeText word) is_new rest = rest
 distinct-with before number m (SubninjaText word) is_new rest = rest
 
 -- Where each rule was new, no two rules of a scope have one name, and none is called `phony`.
-pub names-distinct : (entries : List Entry) → EachRuleIsNew entries → (number : ℕ) → IsDistinct bytes_eq (rule_names (rule_texts entries) number)
+pub names-distinct : (entries : List ReadStatement) → EachRuleIsNew entries → (number : ℕ) → IsDistinct bytes_eq (rule_names (rule_texts entries) number)
 unfolding IsDistinct
 names-distinct [] new number = by (number == 0)
   where

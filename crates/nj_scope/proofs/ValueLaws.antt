@@ -5,7 +5,7 @@ use Rattle.std.proofs.lemmas.Bool.{eq-eqb}
 use Rattle.nj_manifest.specs.Statements.{StatementText, BindingText, RuleText, PoolText, BuildText, DefaultText, IncludeText, SubninjaText}
 use Rattle.nj_scope.specs.Scopes.{or_else, value_in, nearest, expanded}
 use Rattle.nj_scope.specs.Laws.{binds_name, NoneBinds, LastBindingCounts, OthersAreInherited, OthersKeepTheirs}
-use Rattle.nj_scope.specs.ReadingList.{Entry, scope_of, binds, binds_in, bounds, value_after}
+use Rattle.nj_scope.specs.ReadingList.{ReadStatement, scope_of, binds, binds_in, bounds, value_after}
 
 -- a statement that does not bind the name
 not_binding : (value : List ℕ → List ℕ) (item : StatementText) (name : List ℕ) → binds_name item name ≡ false → binds value item name ≡ None
@@ -17,7 +17,7 @@ not_binding value (DefaultText words) name h = refl
 not_binding value (IncludeText word) name h = refl
 not_binding value (SubninjaText word) name h = refl
 
-none_here : (e : Entry) (number : ℕ) (name : List ℕ) (value : List ℕ → List ℕ) → (number == e.number && binds_name e.item name) ≡ false → binds_in number e value name ≡ None
+none_here : (e : ReadStatement) (number : ℕ) (name : List ℕ) (value : List ℕ → List ℕ) → (number == e.number && binds_name e.item name) ≡ false → binds_in number e value name ≡ None
 none_here e number name value h = by (number == e.number) h
   where
     by : (b : Bool) → (b && binds_name e.item name) ≡ false → (if b then binds value e.item name else None) ≡ None
@@ -25,7 +25,7 @@ none_here e number name value h = by (number == e.number) h
     by false h = refl
 
 -- statements that do not bind the name change nothing of it
-passed : (after before : List Entry) (number : ℕ) (name : List ℕ) → NoneBinds after number name → bounds (after ++ before) number name ≡ bounds before number name
+passed : (after before : List ReadStatement) (number : ℕ) (name : List ℕ) → NoneBinds after number name → bounds (after ++ before) number name ≡ bounds before number name
 unfolding bounds
 passed [] before number name none = refl
 passed (e ∷ after) before number name none =
@@ -39,7 +39,7 @@ last_counts after before e name word is none = subst (λ item. value_after (afte
     ∙ ap (λ b. or_else (if b then (if bytes_eq name name then Some (expanded (value_in (bounds before) (scope_of e)) word.parts) else None) else None) (bounds before e.number name)) (eq-eqb e.number e.number refl)
     ∙ ap (λ b. or_else (if b then Some (expanded (value_in (bounds before) (scope_of e)) word.parts) else None) (bounds before e.number name)) ((bytes_eq-Decides name name).1 refl)))
 
-unbound : (entries : List Entry) (number : ℕ) (name : List ℕ) → NoneBinds entries number name → bounds entries number name ≡ None
+unbound : (entries : List ReadStatement) (number : ℕ) (name : List ℕ) → NoneBinds entries number name → bounds entries number name ≡ None
 unfolding bounds
 unbound [] number name none = refl
 unbound (e ∷ before) number name none =

@@ -4,13 +4,13 @@ use Rattle.std.specs.Prelude.{codes, reverse, Option, option_and_then, slice_get
 use Rattle.nj_text.specs.Units.{first_spot}
 use Rattle.nj_text.specs.Words.{PartText, Text, Name, WordText}
 use Rattle.nj_manifest.specs.Statements.{BindingText, RuleText, PoolText, DefaultText, SubninjaText}
-use Rattle.nj_scope.specs.ReadingList.{Entry, bounds, value_after, rules, rule_in_force, rule_texts, pools, scopes_opened, files_opened}
+use Rattle.nj_scope.specs.ReadingList.{ReadStatement, bounds, value_after, rules, rule_in_force, rule_texts, pools, scopes_opened, files_opened}
 use Rattle.nj_scope.specs.Pools.{is_pool}
 use Rattle.nj_scope.specs.Rules as kept
 use Rattle.nj_scope.specs.Rules.{phony_rule, rule_names}
 
 -- the rule that is in force under a name
-abbrev rule_text_in_force : List Entry → (scope name : List ℕ) → Option kept.RuleText
+abbrev rule_text_in_force : List ReadStatement → (scope name : List ℕ) → Option kept.RuleText
 rule_text_in_force entries scope name = option_and_then (slice_get (rule_texts entries)) (rule_in_force entries scope name)
 
 abbrev main : List ℕ
@@ -24,14 +24,14 @@ abbrev word : List PartText → WordText
 word parts = record { spot = first_spot; parts = parts }
 
 -- where the statements stand; their spots say nothing here
-abbrev at_main : Entry
+abbrev at_main : ReadStatement
 at_main = record { file = codes "build.ninja"; spot = first_spot; depth = 0; number = 0; around = []; item = DefaultText []; discovered = None }
 
-abbrev at_child : Entry
+abbrev at_child : ReadStatement
 at_child = record { file = codes "s"; spot = first_spot; depth = 1; number = 1; around = 0 ∷ []; item = DefaultText []; discovered = None }
 
 -- x = 1, y = a$x, x = 2: a value expands at once
-abbrev at_once : List Entry
+abbrev at_once : List ReadStatement
 at_once =
     reverse
     (record at_main { item = BindingText (codes "x") (word (Text (codes "1") ∷ [])) }
@@ -51,7 +51,7 @@ unfolding bounds
 unknown = refl
 
 -- x = p, subninja s, and there x = c$x: the child shadows, and its parent stays
-abbrev shadowed : List Entry
+abbrev shadowed : List ReadStatement
 shadowed =
     reverse
     (record at_main { item = BindingText (codes "x") (word (Text (codes "p") ∷ [])) }

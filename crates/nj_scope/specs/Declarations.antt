@@ -14,7 +14,7 @@ pub record DeclarationsText : Type 0 where
 
 -- What is held is what these statements declare, of which the last read stands first: each scope binds what they bind there,
 -- and declares the rules that they declare there; there are as many scopes, and the same rules and pools.
-pub record DeclaredBy (held : DeclarationsText) (entries : List list.Entry) : Type 0 where
+pub record DeclaredBy (held : DeclarationsText) (entries : List list.ReadStatement) : Type 0 where
   pub bound : (number : ℕ) (name : List ℕ) → bound_at held.scopes number name ≡ list.bounds entries number name
   pub declared : (number : ℕ) (name : List ℕ) → rule_at held.scopes number name ≡ list.rules entries number name
   pub scopes : length held.scopes ≡ list.scopes_opened entries
@@ -24,7 +24,7 @@ pub record DeclaredBy (held : DeclarationsText) (entries : List list.Entry) : Ty
 -- One statement more is held: it stands in the scope of this number, within those around it, wherever in the files.
 abbrev pub TakesIn : (old new : DeclarationsText) → (number : ℕ) → (around : List ℕ) → StatementText → Type 0
 TakesIn old new number around item =
-    (entries : List list.Entry) (file : List ℕ) (spot : Spot) (depth : ℕ) → DeclaredBy old entries
+    (entries : List list.ReadStatement) (file : List ℕ) (spot : Spot) (depth : ℕ) → DeclaredBy old entries
     → DeclaredBy new (record {
       file = file;
       spot = spot;
@@ -37,7 +37,7 @@ TakesIn old new number around item =
 
 -- What was held before is still held.
 abbrev pub Keeps : (old new : DeclarationsText) → Type 0
-Keeps old new = (entries : List list.Entry) → DeclaredBy old entries → DeclaredBy new entries
+Keeps old new = (entries : List list.ReadStatement) → DeclaredBy old entries → DeclaredBy new entries
 
 -- There are the same scopes, each within the same one.
 pub record SameScopes (old new : DeclarationsText) : Type 0 where

@@ -6,35 +6,35 @@ use Rattle.nj_manifest.specs.Statements.{StatementText, BindingText}
 use Rattle.nj_scope.specs.Rules as kept
 use Rattle.nj_scope.specs.Rules.{phony_rule}
 use Rattle.nj_scope.specs.Scopes.{expanded}
-use Rattle.nj_scope.specs.ReadingList.{Entry, scope_of, bounds, value_after, rule_texts, rule_in_force}
+use Rattle.nj_scope.specs.ReadingList.{ReadStatement, scope_of, bounds, value_after, rule_texts, rule_in_force}
 
 -- no statement of the list binds the name in the scope of this number itself
 abbrev pub binds_name : StatementText → (name : List ℕ) → Bool
 binds_name (BindingText bound word) name = bytes_eq name bound
 binds_name item name = false
 
-abbrev pub NoneBinds : List Entry → (number : ℕ) → (name : List ℕ) → Type 0
+abbrev pub NoneBinds : List ReadStatement → (number : ℕ) → (name : List ℕ) → Type 0
 NoneBinds [] number name = Unit {0}
 NoneBinds (e ∷ others) number name = ((number == e.number && binds_name e.item name) ≡ false) × NoneBinds others number name
 
 -- The value of a name in a scope that binds it itself is that of its last binding there, expanded by what was bound before.
 abbrev pub LastBindingCounts : Type 0
-LastBindingCounts = (after before : List Entry) (e : Entry) (name : List ℕ) (word : WordText)
+LastBindingCounts = (after before : List ReadStatement) (e : ReadStatement) (name : List ℕ) (word : WordText)
     → e.item ≡ BindingText name word → NoneBinds after e.number name
     → value_after (after ++ e ∷ before) (scope_of e) name ≡ expanded (value_after before (scope_of e)) word.parts
 
 -- In a scope that does not bind it, a name has the value that it has in the scopes around.
 abbrev pub OthersAreInherited : Type 0
-OthersAreInherited = (entries : List Entry) (number : ℕ) (around name : List ℕ) → NoneBinds entries number name
+OthersAreInherited = (entries : List ReadStatement) (number : ℕ) (around name : List ℕ) → NoneBinds entries number name
     → value_after entries (number ∷ around) name ≡ value_after entries around name
 
 -- What a scope binds changes the values of no other scope's own names.
 abbrev pub OthersKeepTheirs : Type 0
-OthersKeepTheirs = (e : Entry) (before : List Entry) (number : ℕ) (name : List ℕ) → (number == e.number) ≡ false
+OthersKeepTheirs = (e : ReadStatement) (before : List ReadStatement) (number : ℕ) (name : List ℕ) → (number == e.number) ≡ false
     → bounds (e ∷ before) number name ≡ bounds before number name
 
 -- A rule that is in force under a name has that name, and one of the scopes declares it; `phony` belongs to the main file's.
 abbrev pub InForceIsDeclared : Type 0
-InForceIsDeclared = (entries : List Entry) (scope name : List ℕ) (number : ℕ) → rule_in_force entries scope name ≡ Some number
+InForceIsDeclared = (entries : List ReadStatement) (scope name : List ℕ) (number : ℕ) → rule_in_force entries scope name ≡ Some number
     → (rule : kept.RuleText) × (slice_get (rule_texts entries) number ≡ Some rule) × (rule.name ≡ name)
     × ((rule ≡ phony_rule) ⊎ Contains scope rule.scope)

@@ -12,7 +12,7 @@ pub record Discovered : Type 0 where
   pub inputs : List (List ℕ)
 
 -- A statement that was read: where it stands, and what it says.
-pub record Entry : Type 0 where
+pub record ReadStatement : Type 0 where
   -- the file, by the name under which it was opened
   pub file : List ℕ
   -- the place of its first byte in the file
@@ -27,7 +27,7 @@ pub record Entry : Type 0 where
   pub discovered : Option Discovered
 
 -- its scope, with those around it
-abbrev pub scope_of : Entry → List ℕ
+abbrev pub scope_of : ReadStatement → List ℕ
 scope_of e = e.number ∷ e.around
 
 -- ---- values
@@ -38,17 +38,17 @@ binds value (BindingText bound word) name = if bytes_eq name bound then Some (ex
 binds value item name = None
 
 -- what a statement binds in a scope
-abbrev pub binds_in : (number : ℕ) → Entry → (value : List ℕ → List ℕ) → (name : List ℕ) → Option (List ℕ)
+abbrev pub binds_in : (number : ℕ) → ReadStatement → (value : List ℕ → List ℕ) → (name : List ℕ) → Option (List ℕ)
 binds_in number e value name = if number == e.number then binds value e.item name else None
 
 -- What each scope binds after some statements, of which the last read stands first. A value is expanded where it is read: by
 -- what the statements before it bind.
-unfoldable pub bounds : List Entry → Bounds
+unfoldable pub bounds : List ReadStatement → Bounds
 bounds [] number name = None
 bounds (e ∷ before) number name = or_else (binds_in number e (value_in (bounds before) (scope_of e)) name) (bounds before number name)
 
 -- the value of a name in a scope, after these statements
-abbrev pub value_after : List Entry → (scope name : List ℕ) → List ℕ
+abbrev pub value_after : List ReadStatement → (scope name : List ℕ) → List ℕ
 value_after entries scope name = value_in (bounds entries) scope name
 
 -- ---- rules
@@ -58,7 +58,7 @@ abbrev pub with_rule : (number : ℕ) → StatementText → List kept.RuleText �
 with_rule number (RuleText name lines) before = before ++ record { scope = number; name = name.name; lines = map line_kept lines } ∷ []
 with_rule number item before = before
 
-abbrev pub rule_texts : List Entry → List kept.RuleText
+abbrev pub rule_texts : List ReadStatement → List kept.RuleText
 rule_texts [] = phony_rule ∷ []
 rule_texts (e ∷ before) = with_rule e.number e.item (rule_texts before)
 
@@ -67,7 +67,7 @@ declares (RuleText declared lines) name = bytes_eq name declared.name
 declares item name = false
 
 -- the number of the rule that a scope itself declares under a name
-abbrev pub rules : List Entry → (number : ℕ) → (name : List ℕ) → Option ℕ
+abbrev pub rules : List ReadStatement → (number : ℕ) → (name : List ℕ) → Option ℕ
 rules [] number name = None
 rules (e ∷ before) number name =
     or_else (if number == e.number && declares e.item name then Some (length (rule_texts before)) else None) (rules before number name)
@@ -78,7 +78,7 @@ is_declared own name = bytes_eq name phony || is_some own
 
 -- The number of the rule that is in force under a name in a scope, after these statements: of `phony` 0, of another name that
 -- of the nearest scope which declares a rule under it.
-abbrev pub rule_in_force : List Entry → (scope name : List ℕ) → Option ℕ
+abbrev pub rule_in_force : List ReadStatement → (scope name : List ℕ) → Option ℕ
 rule_in_force entries scope name = if bytes_eq name phony then Some 0 else nearest (λ s. rules entries s name) scope
 
 -- ---- pools
@@ -88,7 +88,7 @@ with_pool (PoolText name lines) before = before ++ name.name ∷ []
 with_pool item before = before
 
 -- the pools in the order in which they were declared
-abbrev pub pools : List Entry → List (List ℕ)
+abbrev pub pools : List ReadStatement → List (List ℕ)
 pools [] = []
 pools (e ∷ before) = with_pool e.item (pools before)
 
@@ -104,11 +104,11 @@ opens_file (SubninjaText word) = 1
 opens_file item = 0
 
 -- how many scopes there are, the main file's among them
-abbrev pub scopes_opened : List Entry → ℕ
+abbrev pub scopes_opened : List ReadStatement → ℕ
 scopes_opened [] = 1
 scopes_opened (e ∷ before) = scopes_opened before + opens_scope e.item
 
 -- how many files were opened, the main file and repeated ones among them
-abbrev pub files_opened : List Entry → ℕ
+abbrev pub files_opened : List ReadStatement → ℕ
 files_opened [] = 1
 files_opened (e ∷ before) = files_opened before + opens_file e.item

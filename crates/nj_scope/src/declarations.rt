@@ -8,7 +8,7 @@ ghost use Rattle.nj_manifest.specs.Statements.{LineText, BindingText, RuleText, 
 ghost use Rattle.nj_scope.specs.Scopes.{IsScope, expanded, parent_at, rule_at};
 ghost use Rattle.nj_scope.specs.Pools.{is_pool};
 ghost use Rattle.nj_scope.specs.Declarations.{DeclaredBy, TakesIn, Keeps, SameScopes};
-ghost use Rattle.nj_scope.specs.ReadingList.{Entry, value_after, is_declared, rule_in_force};
+ghost use Rattle.nj_scope.specs.ReadingList.{ReadStatement, value_after, is_declared, rule_in_force};
 
 use crate::pools::Pools;
 use crate::rule::Rule;
@@ -155,7 +155,7 @@ impl Declarations {
         word: &Word<'_>,
     ) -> Result<Vec<u8>, AllocError>
         requires { scope < length self.now.scopes }
-        ensures { (entries : List Entry) (around : List ℕ) → DeclaredBy self.now entries
+        ensures { (entries : List ReadStatement) (around : List ℕ) → DeclaredBy self.now entries
             → IsScope (parent_at self.now.scopes) scope (scope ∷ around)
             → IfOk result (λ v. v.items
             ≡ expanded (value_after entries (scope ∷ around)) (word_text word.now).parts) }
@@ -166,7 +166,7 @@ impl Declarations {
     /// The value of the name in this scope, by what is bound so far. An unknown name is empty.
     pub fn value(&self, scope: usize, name: &[u8]) -> &[u8]
         requires { scope < length self.now.scopes }
-        ensures { (entries : List Entry) (around : List ℕ) → DeclaredBy self.now entries
+        ensures { (entries : List ReadStatement) (around : List ℕ) → DeclaredBy self.now entries
             → IsScope (parent_at self.now.scopes) scope (scope ∷ around)
             → result.now ≡ value_after entries (scope ∷ around) name.now }
     {
@@ -185,10 +185,12 @@ impl Declarations {
     /// none.
     pub fn rule(&self, scope: usize, name: &[u8]) -> Option<usize>
         requires { scope < length self.now.scopes }
-        ensures in_force { (entries : List Entry) (around : List ℕ) → DeclaredBy self.now entries
+        ensures in_force { (entries : List ReadStatement) (around : List ℕ)
+            → DeclaredBy self.now entries
             → IsScope (parent_at self.now.scopes) scope (scope ∷ around)
             → result ≡ rule_in_force entries (scope ∷ around) name.now }
-        ensures within { (entries : List Entry) (around : List ℕ) → DeclaredBy self.now entries
+        ensures within { (entries : List ReadStatement) (around : List ℕ)
+            → DeclaredBy self.now entries
             → IsScope (parent_at self.now.scopes) scope (scope ∷ around)
             → IfSome result (λ n. n < length self.now.rules) }
     {

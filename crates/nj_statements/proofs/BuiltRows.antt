@@ -4,7 +4,7 @@ use Rattle.std.specs.Prelude.{codes, Contains}
 use Rattle.nj_text.specs.Words.{Text, WordText}
 use Rattle.nj_text.specs.Paths.{clean_path_of, without_leftmost_pair}
 use Rattle.nj_manifest.specs.Statements.{StatementText, BuildText, DefaultText}
-use Rattle.nj_scope.specs.ReadingList.{Entry, bounds}
+use Rattle.nj_scope.specs.ReadingList.{ReadStatement, bounds}
 use Rattle.nj_cycles.specs.Cycles.{Chain, Needs}
 use Rattle.nj_cycles.specs.Cycles.Chain.{one, more}
 use Rattle.nj_edges.specs.Needs.{makers_of_inputs}
@@ -17,7 +17,7 @@ abbrev word : (text : List ℕ) → WordText
 word text = record { spot = record { line = 1; column = 7 }; parts = Text text ∷ [] }
 
 -- a statement on a line of its own
-abbrev on : (line : ℕ) → StatementText → Entry
+abbrev on : (line : ℕ) → StatementText → ReadStatement
 on line item = record { file = codes "build.ninja"; spot = record { line = line; column = 1 }; depth = 0; number = 0; around = []; item = item; discovered = None }
 
 abbrev build : (output : List ℕ) → (inputs : List WordText) → StatementText
@@ -25,11 +25,11 @@ build output inputs =
     BuildText (record { explicit = word output ∷ []; implicit = [] }) (record { spot = record { line = 1; column = 9 }; name = codes "phony" })
     (record { explicit = inputs; implicit = []; order_only = []; validations = [] }) []
 
-abbrev in_force : List Entry → List (List ℕ)
+abbrev in_force : List ReadStatement → List (List ℕ)
 in_force entries = defaults_in_force (defaults_read entries) (paths_of_edges (edges_read entries))
 
 -- `build a: phony`, and then `build b: phony a`
-abbrev two : List Entry
+abbrev two : List ReadStatement
 two = on 2 (build (codes "b") (word (codes "a") ∷ [])) ∷ on 1 (build (codes "a") []) ∷ []
 
 pub row-roots : in_force two ≡ codes "b" ∷ []
@@ -44,7 +44,7 @@ row-default = refl
 -- ---- a cycle
 
 -- `build c: phony a`, `build a: phony b` and `build b: phony a`: the first edge only leads into the cycle
-abbrev cycle : List Entry
+abbrev cycle : List ReadStatement
 cycle = on 3 (build (codes "b") (word (codes "a") ∷ [])) ∷ on 2 (build (codes "a") (word (codes "b") ∷ [])) ∷ on 1 (build (codes "c") (word (codes "a") ∷ [])) ∷ []
 
 abbrev makers : ℕ → List ℕ

@@ -11,7 +11,7 @@ use Rattle.nj_manifest.specs.LineSteps.{NameText}
 use Rattle.nj_manifest.specs.Statements.{LineText, OutputsText, InputsText, StatementText, BindingText, RuleText, PoolText, BuildText, DefaultText, IncludeText, SubninjaText}
 use Rattle.nj_scope.specs.Rules.{phony}
 use Rattle.nj_scope.specs.Scopes.{Bounds, nearest, value_in}
-use Rattle.nj_scope.specs.ReadingList.{Discovered, Entry, scope_of, bounds, rules}
+use Rattle.nj_scope.specs.ReadingList.{Discovered, ReadStatement, scope_of, bounds, rules}
 use Rattle.nj_edges.specs.Joining.{with_added, changed_at}
 use Rattle.nj_faults.specs.declared.fault.GraphFault.{GraphFault}
 use Rattle.nj_faults.specs.declared.fault.Cause.TheVariants.{DyndepExtra, DyndepTwice}
@@ -50,10 +50,10 @@ map-changed g f h same (suc n) (x ∷ xs) = ap (λ ys. g x ∷ ys) (map-changed 
 
 -- ---- one edge, by what its statement sees
 
-abbrev number_by : Entry → Declared → NameText → ℕ
+abbrev number_by : ReadStatement → Declared → NameText → ℕ
 number_by e own rule = unwrap_or (if bytes_eq rule.name phony then Some 0 else nearest (λ s. own s rule.name) (scope_of e)) 0
 
-abbrev edge_by : Entry → Bounds → Declared → OutputsText → NameText → InputsText → List LineText → EdgeText
+abbrev edge_by : ReadStatement → Bounds → Declared → OutputsText → NameText → InputsText → List LineText → EdgeText
 edge_by e bound own outputs rule inputs lines = record {
   file = e.file;
   spot = e.spot;
@@ -65,7 +65,7 @@ edge_by e bound own outputs rule inputs lines = record {
       (edge_paths (stated_paths (on_line (value_in bound (scope_of e)) (block_of (value_in bound (scope_of e)) lines)) outputs inputs (number_by e own rule == 0)));
 }
 
-edge-same : (edge : ℕ) (found : Discovered) (e : Entry) (before : List Entry) (outputs : OutputsText) (rule : NameText) (inputs : InputsText) (lines : List LineText)
+edge-same : (edge : ℕ) (found : Discovered) (e : ReadStatement) (before : List ReadStatement) (outputs : OutputsText) (rule : NameText) (inputs : InputsText) (lines : List LineText)
     → edge_of_build e (discover edge found before) outputs rule inputs lines ≡ edge_of_build e before outputs rule inputs lines
 edge-same edge found e before outputs rule inputs lines =
     ap (λ (b : Bounds). edge_by e b (rules (discover edge found before)) outputs rule inputs lines) (bounds-discover edge found before)
@@ -87,7 +87,7 @@ same-found : (e : EdgeText) (d : Option Discovered) (found : Discovered) → Sam
 same-found e None found = refl
 same-found e (Some before) found = refl
 
-same-build : (edge : ℕ) (found : Discovered) (e : Entry) (before : List Entry) (outputs : OutputsText) (rule : NameText) (inputs : InputsText) (lines : List LineText)
+same-build : (edge : ℕ) (found : Discovered) (e : ReadStatement) (before : List ReadStatement) (outputs : OutputsText) (rule : NameText) (inputs : InputsText) (lines : List LineText)
     → AllZip SameEdge (edges_read before) (edges_read (discover edge found before))
     → AllZip SameEdge (edges_read (record e { item = BuildText outputs rule inputs lines } ∷ before))
     (edges_read (discover edge found (record e { item = BuildText outputs rule inputs lines } ∷ before)))
@@ -107,7 +107,7 @@ same-build edge found e before outputs rule inputs lines others = by (length (ed
         AllZip-push SameEdge (edges_read before) (edges_read (discover edge found before)) own (edge_of_build e (discover edge found before) outputs rule inputs lines) others
         (subst (SameEdge own) (sym (edge-same edge found e before outputs rule inputs lines)) refl)
 
-same-item : (edge : ℕ) (found : Discovered) (e : Entry) (before : List Entry) (item : StatementText)
+same-item : (edge : ℕ) (found : Discovered) (e : ReadStatement) (before : List ReadStatement) (item : StatementText)
     → AllZip SameEdge (edges_read before) (edges_read (discover edge found before))
     → AllZip SameEdge (edges_read (record e { item = item } ∷ before)) (edges_read (discover edge found (record e { item = item } ∷ before)))
 unfolding edges_read discover
@@ -119,7 +119,7 @@ same-item edge found e before (DefaultText words) others = others
 same-item edge found e before (IncludeText word) others = others
 same-item edge found e before (SubninjaText word) others = others
 
-same-edges : (edge : ℕ) (found : Discovered) (entries : List Entry) → AllZip SameEdge (edges_read entries) (edges_read (discover edge found entries))
+same-edges : (edge : ℕ) (found : Discovered) (entries : List ReadStatement) → AllZip SameEdge (edges_read entries) (edges_read (discover edge found entries))
 unfolding edges_read discover
 same-edges edge found [] = tt
 same-edges edge found (e ∷ before) = same-item edge found e before e.item (same-edges edge found before)
@@ -134,10 +134,10 @@ map-same g unseen (e ∷ edges) (o ∷ others) same =
 
 -- What does not look at implicit files says the same of each edge.
 pub map-discover : {X : Type 0} (g : EdgeText → X) → ((e : EdgeText) (outs ins : List (List ℕ)) → g (record e { paths = record e.paths { implicit_outputs = outs; implicit_inputs = ins } }) ≡ g e)
-    → (edge : ℕ) (found : Discovered) (entries : List Entry) → map g (edges_read (discover edge found entries)) ≡ map g (edges_read entries)
+    → (edge : ℕ) (found : Discovered) (entries : List ReadStatement) → map g (edges_read (discover edge found entries)) ≡ map g (edges_read entries)
 map-discover g unseen edge found entries = map-same g unseen (edges_read entries) (edges_read (discover edge found entries)) (same-edges edge found entries)
 
-pub details-discover : (edge : ℕ) (found : Discovered) (entries : List Entry) → map detail_of (edges_read (discover edge found entries)) ≡ map detail_of (edges_read entries)
+pub details-discover : (edge : ℕ) (found : Discovered) (entries : List ReadStatement) → map detail_of (edges_read (discover edge found entries)) ≡ map detail_of (edges_read entries)
 details-discover = map-discover detail_of (λ e outs ins. refl)
 
 count-same : (edges others : List EdgeText) → AllZip SameEdge edges others → length others ≡ length edges
@@ -146,7 +146,7 @@ count-same [] (o ∷ others) same = absurd same
 count-same (e ∷ edges) [] same = absurd same
 count-same (e ∷ edges) (o ∷ others) same = ap suc (count-same edges others same.1)
 
-pub count-discover : (edge : ℕ) (found : Discovered) (entries : List Entry) → length (edges_read (discover edge found entries)) ≡ length (edges_read entries)
+pub count-discover : (edge : ℕ) (found : Discovered) (entries : List ReadStatement) → length (edges_read (discover edge found entries)) ≡ length (edges_read entries)
 count-discover edge found entries = count-same (edges_read entries) (edges_read (discover edge found entries)) (same-edges edge found entries)
 
 block-same : (n : ℕ) (name : List ℕ) (edges others : List EdgeText) → AllZip SameEdge edges others → block_of_edge (slice_get others n) name ≡ block_of_edge (slice_get edges n) name
@@ -156,7 +156,7 @@ block-same n name (e ∷ edges) [] same = absurd same
 block-same zero name (e ∷ edges) (o ∷ others) same = ap (λ (x : EdgeText). x.block name) same.0
 block-same (suc n) name (e ∷ edges) (o ∷ others) same = block-same n name edges others same.1
 
-pub block_at-discover : (edge : ℕ) (found : Discovered) (entries : List Entry) (n : ℕ) (name : List ℕ) → block_at (edges_read (discover edge found entries)) n name ≡ block_at (edges_read entries) n name
+pub block_at-discover : (edge : ℕ) (found : Discovered) (entries : List ReadStatement) (n : ℕ) (name : List ℕ) → block_at (edges_read (discover edge found entries)) n name ≡ block_at (edges_read entries) n name
 block_at-discover edge found entries n name = block-same n name (edges_read entries) (edges_read (discover edge found entries)) (same-edges edge found entries)
 
 all-same : (P : EdgeText → Type 0) → ((e : EdgeText) (outs ins : List (List ℕ)) → P e → P (record e { paths = record e.paths { implicit_outputs = outs; implicit_inputs = ins } }))
@@ -168,7 +168,7 @@ all-same P kept (e ∷ edges) (o ∷ others) same all = (subst P (sym same.0) (k
 
 -- What holds of each edge, whatever its implicit files are, holds still.
 pub all_edges-discover : (P : EdgeText → Type 0) → ((e : EdgeText) (outs ins : List (List ℕ)) → P e → P (record e { paths = record e.paths { implicit_outputs = outs; implicit_inputs = ins } }))
-    → (edge : ℕ) (found : Discovered) (entries : List Entry) → AllByRecursion P (edges_read entries) → AllByRecursion P (edges_read (discover edge found entries))
+    → (edge : ℕ) (found : Discovered) (entries : List ReadStatement) → AllByRecursion P (edges_read entries) → AllByRecursion P (edges_read (discover edge found entries))
 all_edges-discover P kept edge found entries = all-same P kept (edges_read entries) (edges_read (discover edge found entries)) (same-edges edge found entries)
 
 -- ---- lists of edges that wait
@@ -248,7 +248,7 @@ at-kept n edge None None other = refl
 
 -- ---- they stand by number
 
-stand-build : (e : Entry) (before : List Entry) (outputs : OutputsText) (rule : NameText) (inputs : InputsText) (lines : List LineText) → StandByNumber before
+stand-build : (e : ReadStatement) (before : List ReadStatement) (outputs : OutputsText) (rule : NameText) (inputs : InputsText) (lines : List LineText) → StandByNumber before
     → StandByNumber (record e { item = BuildText outputs rule inputs lines } ∷ before)
 unfolding edges_read pending_read
 stand-build e before outputs rule inputs lines stand = record {
@@ -265,7 +265,7 @@ stand-build e before outputs rule inputs lines stand = record {
     more : length (edges_read before ++ own ∷ []) ≡ length (edges_read before) + 1
     more = length-append (edges_read before) (own ∷ [])
 
-stand-item : (e : Entry) (before : List Entry) (item : StatementText) → StandByNumber before → StandByNumber (record e { item = item } ∷ before)
+stand-item : (e : ReadStatement) (before : List ReadStatement) (item : StatementText) → StandByNumber before → StandByNumber (record e { item = item } ∷ before)
 unfolding edges_read pending_read
 stand-item e before (BuildText outputs rule inputs lines) stand = stand-build e before outputs rule inputs lines stand
 stand-item e before (BindingText bound word) stand = record { within = stand.within; rising = stand.rising }
@@ -280,18 +280,18 @@ unfolding edges_read pending_read
 pending_rise [] = record { within = tt; rising = tt }
 pending_rise (e ∷ before) = stand-item e before e.item (pending_rise before)
 
-pub pending-within : (entries : List Entry) → AllByRecursion (λ p. p.edge < length (edges_read entries)) (pending_read entries)
+pub pending-within : (entries : List ReadStatement) → AllByRecursion (λ p. p.edge < length (edges_read entries)) (pending_read entries)
 pending-within entries = (pending_rise entries).within
 
-pub pending-rising : (entries : List Entry) → AreRising (pending_read entries)
+pub pending-rising : (entries : List ReadStatement) → AreRising (pending_read entries)
 pending-rising entries = (pending_rise entries).rising
 
 -- ---- which edges wait from then on
 
-dyndep-same : (edge : ℕ) (found : Discovered) (before : List Entry) (e : EdgeText) → dyndep_of (discover edge found before) e ≡ dyndep_of before e
+dyndep-same : (edge : ℕ) (found : Discovered) (before : List ReadStatement) (e : EdgeText) → dyndep_of (discover edge found before) e ≡ dyndep_of before e
 dyndep-same edge found before e = ap (λ (n : LateNames). file_said (asked_text n (codes "dyndep"))) (names_of_edge-discover edge found before e)
 
-pending-build : (edge : ℕ) (found : Discovered) (e : Entry) (before : List Entry) (outputs : OutputsText) (rule : NameText) (inputs : InputsText) (lines : List LineText)
+pending-build : (edge : ℕ) (found : Discovered) (e : ReadStatement) (before : List ReadStatement) (outputs : OutputsText) (rule : NameText) (inputs : InputsText) (lines : List LineText)
     → pending_read (discover edge found before) ≡ filter (λ p. not (p.edge == edge)) (pending_read before)
     → pending_read (discover edge found (record e { item = BuildText outputs rule inputs lines } ∷ before))
     ≡ filter (λ p. not (p.edge == edge)) (pending_read (record e { item = BuildText outputs rule inputs lines } ∷ before))
@@ -307,7 +307,7 @@ pending-build edge found e before outputs rule inputs lines rest = by (eqb_tells
     last : List Pending
     last = pending_at number e.discovered (dyndep_of before own)
 
-    after : Bool → List Entry
+    after : Bool → List ReadStatement
     after b = if b then record e { item = BuildText outputs rule inputs lines; discovered = Some found } ∷ before else record e { item = BuildText outputs rule inputs lines } ∷ discover edge found before
 
     by : ((number == edge) ≡ true × (number ≡ edge)) ⊎ ((number == edge) ≡ false × (number ≢ edge))
@@ -324,7 +324,7 @@ pending-build edge found e before outputs rule inputs lines rest = by (eqb_tells
         (ap (dyndep_of (discover edge found before)) (edge-same edge found e before outputs rule inputs lines) ∙ dyndep-same edge found before own)
         ∙ ap (λ ps. filter (λ p. not (p.edge == edge)) (pending_read before) ++ ps) (sym (at-kept number edge e.discovered (dyndep_of before own) other))
 
-pending-item : (edge : ℕ) (found : Discovered) (e : Entry) (before : List Entry) (item : StatementText)
+pending-item : (edge : ℕ) (found : Discovered) (e : ReadStatement) (before : List ReadStatement) (item : StatementText)
     → pending_read (discover edge found before) ≡ filter (λ p. not (p.edge == edge)) (pending_read before)
     → pending_read (discover edge found (record e { item = item } ∷ before)) ≡ filter (λ p. not (p.edge == edge)) (pending_read (record e { item = item } ∷ before))
 unfolding edges_read pending_read discover
@@ -336,7 +336,7 @@ pending-item edge found e before (DefaultText words) rest = rest
 pending-item edge found e before (IncludeText word) rest = rest
 pending-item edge found e before (SubninjaText word) rest = rest
 
-pub pending-discover : (edge : ℕ) (found : Discovered) (entries : List Entry) → pending_read (discover edge found entries) ≡ filter (λ p. not (p.edge == edge)) (pending_read entries)
+pub pending-discover : (edge : ℕ) (found : Discovered) (entries : List ReadStatement) → pending_read (discover edge found entries) ≡ filter (λ p. not (p.edge == edge)) (pending_read entries)
 unfolding edges_read pending_read discover
 pending-discover edge found [] = refl
 pending-discover edge found (e ∷ before) = pending-item edge found e before e.item (pending-discover edge found before)
@@ -346,7 +346,7 @@ others_wait entries edge found = pending-discover edge found entries
 
 -- ---- the edge that changes
 
-edges-build : (edge : ℕ) (found : Discovered) (e : Entry) (before : List Entry) (outputs : OutputsText) (rule : NameText) (inputs : InputsText) (lines : List LineText)
+edges-build : (edge : ℕ) (found : Discovered) (e : ReadStatement) (before : List ReadStatement) (outputs : OutputsText) (rule : NameText) (inputs : InputsText) (lines : List LineText)
     → (is_pending before edge ≡ true → edges_read (discover edge found before) ≡ changed_at (with_found found) edge (edges_read before))
     → is_pending (record e { item = BuildText outputs rule inputs lines } ∷ before) edge ≡ true
     → edges_read (discover edge found (record e { item = BuildText outputs rule inputs lines } ∷ before))
@@ -369,7 +369,7 @@ edges-build edge found e before outputs rule inputs lines rest waits = by (eqb_t
     waits-either : (list_any (λ p. p.edge == edge) (pending_read before) || list_any (λ p. p.edge == edge) last) ≡ true
     waits-either = sym (list_any-append (λ p. p.edge == edge) (pending_read before) last) ∙ waits
 
-    after : Bool → List Entry
+    after : Bool → List ReadStatement
     after b = if b then record e { item = BuildText outputs rule inputs lines; discovered = Some found } ∷ before else record e { item = BuildText outputs rule inputs lines } ∷ discover edge found before
 
     not_joined : number ≡ edge → e.discovered ≡ None
@@ -392,7 +392,7 @@ edges-build edge found e before outputs rule inputs lines rest waits = by (eqb_t
         ∙ ap (λ es. es ++ own ∷ []) (rest (either (is_pending before edge) (list_any (λ p. p.edge == edge) last) (at-other number edge e.discovered (dyndep_of before own) other) waits-either))
         ∙ sym (changed-front (with_found found) (edges_read before) own edge apart)
 
-edges-item : (edge : ℕ) (found : Discovered) (e : Entry) (before : List Entry) (item : StatementText)
+edges-item : (edge : ℕ) (found : Discovered) (e : ReadStatement) (before : List ReadStatement) (item : StatementText)
     → (is_pending before edge ≡ true → edges_read (discover edge found before) ≡ changed_at (with_found found) edge (edges_read before))
     → is_pending (record e { item = item } ∷ before) edge ≡ true
     → edges_read (discover edge found (record e { item = item } ∷ before)) ≡ changed_at (with_found found) edge (edges_read (record e { item = item } ∷ before))
@@ -405,7 +405,7 @@ edges-item edge found e before (DefaultText words) rest waits = rest waits
 edges-item edge found e before (IncludeText word) rest waits = rest waits
 edges-item edge found e before (SubninjaText word) rest waits = rest waits
 
-pub edges-discover : (edge : ℕ) (found : Discovered) (entries : List Entry) → is_pending entries edge ≡ true
+pub edges-discover : (edge : ℕ) (found : Discovered) (entries : List ReadStatement) → is_pending entries edge ≡ true
     → edges_read (discover edge found entries) ≡ changed_at (with_found found) edge (edges_read entries)
 unfolding edges_read pending_read discover changed_at
 edges-discover edge found [] waits = refl
@@ -414,7 +414,7 @@ edges-discover edge found (e ∷ before) waits = edges-item edge found e before 
 pub adds_to_one : AddsToOneEdge
 adds_to_one entries edge found waits = edges-discover edge found entries waits
 
-pub paths-discover : (edge : ℕ) (found : Discovered) (entries : List Entry) → is_pending entries edge ≡ true
+pub paths-discover : (edge : ℕ) (found : Discovered) (entries : List ReadStatement) → is_pending entries edge ≡ true
     → paths_of_edges (edges_read (discover edge found entries)) ≡ changed_at (with_added (record { outputs = found.outputs; inputs = found.inputs })) edge (paths_of_edges (edges_read entries))
 paths-discover edge found entries waits =
     ap paths_of_edges (edges-discover edge found entries waits)
@@ -431,7 +431,7 @@ waits-some file edge (p ∷ ps) waits = by (p.edge == edge) (bytes_eq p.file fil
     by true b rest waits = refl
     by false b rest waits = rest waits
 
-pub is_pending-from_waits : (file : List ℕ) (entries : List Entry) (edge : ℕ) → waits_for file (pending_read entries) (Some edge) ≡ true → is_pending entries edge ≡ true
+pub is_pending-from_waits : (file : List ℕ) (entries : List ReadStatement) (edge : ℕ) → waits_for file (pending_read entries) (Some edge) ≡ true → is_pending entries edge ≡ true
 is_pending-from_waits file entries edge waits = waits-some file edge (pending_read entries) waits
 
 -- ---- an entry that has no fault

@@ -7,7 +7,7 @@ use Rattle.nj_scope.specs.Rules as kept
 use Rattle.nj_scope.specs.Rules.{phony}
 use Rattle.nj_scope.specs.Scopes.{Bounds, or_else, nearest, value_in}
 use Rattle.nj_scope.specs.Declarations.{DeclarationsText, DeclaredBy}
-use Rattle.nj_scope.specs.ReadingList.{Discovered, Entry, scope_of, binds_in, bounds, value_after, with_rule, rule_texts, declares, rules, rule_in_force, is_declared}
+use Rattle.nj_scope.specs.ReadingList.{Discovered, ReadStatement, scope_of, binds_in, bounds, value_after, with_rule, rule_texts, declares, rules, rule_in_force, is_declared}
 use Rattle.nj_scope.proofs.NewRules.{RuleIsNew, EachRuleIsNew}
 use Rattle.nj_scope.specs.ReadingList.{with_pool, pools, opens_scope, opens_file, scopes_opened, files_opened}
 use Rattle.nj_edge_env.specs.LateTexts.{LateNames}
@@ -17,14 +17,14 @@ use Rattle.nj_statements.specs.Laws.{NamesStay}
 
 -- ---- statements as they were read
 
-abbrev unseen : Entry → Entry
+abbrev unseen : ReadStatement → ReadStatement
 unseen e = record e { discovered = None }
 
 -- what was discovered does not count
-abbrev as_read : List Entry → List Entry
+abbrev as_read : List ReadStatement → List ReadStatement
 as_read entries = map unseen entries
 
-as_read-discover : (edge : ℕ) (found : Discovered) (entries : List Entry) → as_read (discover edge found entries) ≡ as_read entries
+as_read-discover : (edge : ℕ) (found : Discovered) (entries : List ReadStatement) → as_read (discover edge found entries) ≡ as_read entries
 unfolding discover
 as_read-discover edge found [] = refl
 as_read-discover edge found (e ∷ before) = by (is_build e.item && length (edges_read before) == edge) (as_read-discover edge found before)
@@ -35,34 +35,34 @@ as_read-discover edge found (e ∷ before) = by (is_build e.item && length (edge
     by false rest = ap (λ es. unseen e ∷ es) rest
 
 -- what does not look at what was discovered stays the same
-kept-by : {A : Type 0} (f : List Entry → A) → ((entries : List Entry) → f (as_read entries) ≡ f entries)
-    → (edge : ℕ) (found : Discovered) (entries : List Entry) → f (discover edge found entries) ≡ f entries
+kept-by : {A : Type 0} (f : List ReadStatement → A) → ((entries : List ReadStatement) → f (as_read entries) ≡ f entries)
+    → (edge : ℕ) (found : Discovered) (entries : List ReadStatement) → f (discover edge found entries) ≡ f entries
 kept-by f same edge found entries = sym (same (discover edge found entries)) ∙ ap f (as_read-discover edge found entries) ∙ same entries
 
 -- ---- values
 
 -- one statement more
-abbrev bounds_with : Entry → Bounds → Bounds
+abbrev bounds_with : ReadStatement → Bounds → Bounds
 bounds_with e before number name = or_else (binds_in number e (value_in before (scope_of e)) name) (before number name)
 
-bounds-as_read : (entries : List Entry) → bounds (as_read entries) ≡ bounds entries
+bounds-as_read : (entries : List ReadStatement) → bounds (as_read entries) ≡ bounds entries
 unfolding bounds
 bounds-as_read [] = refl
 bounds-as_read (e ∷ before) = ap (bounds_with e) (bounds-as_read before)
 
-pub bounds-discover : (edge : ℕ) (found : Discovered) (entries : List Entry) → bounds (discover edge found entries) ≡ bounds entries
+pub bounds-discover : (edge : ℕ) (found : Discovered) (entries : List ReadStatement) → bounds (discover edge found entries) ≡ bounds entries
 bounds-discover = kept-by bounds bounds-as_read
 
-pub value_after-discover : (edge : ℕ) (found : Discovered) (entries : List Entry) → value_after (discover edge found entries) ≡ value_after entries
+pub value_after-discover : (edge : ℕ) (found : Discovered) (entries : List ReadStatement) → value_after (discover edge found entries) ≡ value_after entries
 value_after-discover edge found entries = ap value_in (bounds-discover edge found entries)
 
 -- ---- rules
 
-rule_texts-as_read : (entries : List Entry) → rule_texts (as_read entries) ≡ rule_texts entries
+rule_texts-as_read : (entries : List ReadStatement) → rule_texts (as_read entries) ≡ rule_texts entries
 rule_texts-as_read [] = refl
 rule_texts-as_read (e ∷ before) = ap (with_rule e.number e.item) (rule_texts-as_read before)
 
-pub rule_texts-discover : (edge : ℕ) (found : Discovered) (entries : List Entry) → rule_texts (discover edge found entries) ≡ rule_texts entries
+pub rule_texts-discover : (edge : ℕ) (found : Discovered) (entries : List ReadStatement) → rule_texts (discover edge found entries) ≡ rule_texts entries
 rule_texts-discover = kept-by rule_texts rule_texts-as_read
 
 -- the rules that scopes themselves declare
@@ -70,24 +70,24 @@ abbrev pub Declared : Type 0
 Declared = ℕ → List ℕ → Option ℕ
 
 -- one statement more, after so many rules
-abbrev declared_with : Entry → (texts : List kept.RuleText) → Declared → Declared
+abbrev declared_with : ReadStatement → (texts : List kept.RuleText) → Declared → Declared
 declared_with e texts own number name = or_else (if number == e.number && declares e.item name then Some (length texts) else None) (own number name)
 
-rules-as_read : (entries : List Entry) → rules (as_read entries) ≡ rules entries
+rules-as_read : (entries : List ReadStatement) → rules (as_read entries) ≡ rules entries
 rules-as_read [] = refl
 rules-as_read (e ∷ before) =
     ap (λ texts. declared_with e texts (rules (as_read before))) (rule_texts-as_read before) ∙ ap (declared_with e (rule_texts before)) (rules-as_read before)
 
-pub rules-discover : (edge : ℕ) (found : Discovered) (entries : List Entry) → rules (discover edge found entries) ≡ rules entries
+pub rules-discover : (edge : ℕ) (found : Discovered) (entries : List ReadStatement) → rules (discover edge found entries) ≡ rules entries
 rules-discover = kept-by rules rules-as_read
 
 abbrev in_force_by : Declared → (scope name : List ℕ) → Option ℕ
 in_force_by own scope name = if bytes_eq name phony then Some 0 else nearest (λ s. own s name) scope
 
-pub rule_in_force-discover : (edge : ℕ) (found : Discovered) (entries : List Entry) → rule_in_force (discover edge found entries) ≡ rule_in_force entries
+pub rule_in_force-discover : (edge : ℕ) (found : Discovered) (entries : List ReadStatement) → rule_in_force (discover edge found entries) ≡ rule_in_force entries
 rule_in_force-discover edge found entries = ap in_force_by (rules-discover edge found entries)
 
-is_new-by : (some others : List Entry) → rules others ≡ rules some → (number : ℕ) (item : StatementText) → RuleIsNew some number item → RuleIsNew others number item
+is_new-by : (some others : List ReadStatement) → rules others ≡ rules some → (number : ℕ) (item : StatementText) → RuleIsNew some number item → RuleIsNew others number item
 is_new-by some others same number (RuleText name lines) new = ap (λ (own : Declared). is_declared (own number name.name) name.name) same ∙ new
 is_new-by some others same number (BindingText bound word) new = tt
 is_new-by some others same number (PoolText name lines) new = tt
@@ -96,48 +96,48 @@ is_new-by some others same number (DefaultText words) new = tt
 is_new-by some others same number (IncludeText word) new = tt
 is_new-by some others same number (SubninjaText word) new = tt
 
-rules_new-as_read : (entries : List Entry) → EachRuleIsNew entries → EachRuleIsNew (as_read entries)
+rules_new-as_read : (entries : List ReadStatement) → EachRuleIsNew entries → EachRuleIsNew (as_read entries)
 rules_new-as_read [] new = tt
 rules_new-as_read (e ∷ before) new = (is_new-by before (as_read before) (rules-as_read before) e.number e.item new.0, rules_new-as_read before new.1)
 
-rules_new-from_as_read : (entries : List Entry) → EachRuleIsNew (as_read entries) → EachRuleIsNew entries
+rules_new-from_as_read : (entries : List ReadStatement) → EachRuleIsNew (as_read entries) → EachRuleIsNew entries
 rules_new-from_as_read [] new = tt
 rules_new-from_as_read (e ∷ before) new = (is_new-by (as_read before) before (sym (rules-as_read before)) e.number e.item new.0, rules_new-from_as_read before new.1)
 
-pub rules_new-discover : (edge : ℕ) (found : Discovered) (entries : List Entry) → EachRuleIsNew entries → EachRuleIsNew (discover edge found entries)
+pub rules_new-discover : (edge : ℕ) (found : Discovered) (entries : List ReadStatement) → EachRuleIsNew entries → EachRuleIsNew (discover edge found entries)
 rules_new-discover edge found entries new =
     rules_new-from_as_read (discover edge found entries) (subst EachRuleIsNew (sym (as_read-discover edge found entries)) (rules_new-as_read entries new))
 
-pub rules_new-from_discover : (edge : ℕ) (found : Discovered) (entries : List Entry) → EachRuleIsNew (discover edge found entries) → EachRuleIsNew entries
+pub rules_new-from_discover : (edge : ℕ) (found : Discovered) (entries : List ReadStatement) → EachRuleIsNew (discover edge found entries) → EachRuleIsNew entries
 rules_new-from_discover edge found entries new =
     rules_new-from_as_read entries (subst EachRuleIsNew (as_read-discover edge found entries) (rules_new-as_read (discover edge found entries) new))
 
 -- ---- pools, scopes and openings
 
-pools-as_read : (entries : List Entry) → pools (as_read entries) ≡ pools entries
+pools-as_read : (entries : List ReadStatement) → pools (as_read entries) ≡ pools entries
 pools-as_read [] = refl
 pools-as_read (e ∷ before) = ap (with_pool e.item) (pools-as_read before)
 
-pub pools-discover : (edge : ℕ) (found : Discovered) (entries : List Entry) → pools (discover edge found entries) ≡ pools entries
+pub pools-discover : (edge : ℕ) (found : Discovered) (entries : List ReadStatement) → pools (discover edge found entries) ≡ pools entries
 pools-discover = kept-by pools pools-as_read
 
-scopes_opened-as_read : (entries : List Entry) → scopes_opened (as_read entries) ≡ scopes_opened entries
+scopes_opened-as_read : (entries : List ReadStatement) → scopes_opened (as_read entries) ≡ scopes_opened entries
 scopes_opened-as_read [] = refl
 scopes_opened-as_read (e ∷ before) = ap (λ n. n + opens_scope e.item) (scopes_opened-as_read before)
 
-pub scopes_opened-discover : (edge : ℕ) (found : Discovered) (entries : List Entry) → scopes_opened (discover edge found entries) ≡ scopes_opened entries
+pub scopes_opened-discover : (edge : ℕ) (found : Discovered) (entries : List ReadStatement) → scopes_opened (discover edge found entries) ≡ scopes_opened entries
 scopes_opened-discover = kept-by scopes_opened scopes_opened-as_read
 
-files_opened-as_read : (entries : List Entry) → files_opened (as_read entries) ≡ files_opened entries
+files_opened-as_read : (entries : List ReadStatement) → files_opened (as_read entries) ≡ files_opened entries
 files_opened-as_read [] = refl
 files_opened-as_read (e ∷ before) = ap (λ n. n + opens_file e.item) (files_opened-as_read before)
 
-pub files_opened-discover : (edge : ℕ) (found : Discovered) (entries : List Entry) → files_opened (discover edge found entries) ≡ files_opened entries
+pub files_opened-discover : (edge : ℕ) (found : Discovered) (entries : List ReadStatement) → files_opened (discover edge found entries) ≡ files_opened entries
 files_opened-discover = kept-by files_opened files_opened-as_read
 
 -- ---- defaults
 
-with_defaults-as_read : (e : Entry) (before : List Entry) (item : StatementText) (paths : List (List ℕ)) → with_defaults (unseen e) (as_read before) item paths ≡ with_defaults e before item paths
+with_defaults-as_read : (e : ReadStatement) (before : List ReadStatement) (item : StatementText) (paths : List (List ℕ)) → with_defaults (unseen e) (as_read before) item paths ≡ with_defaults e before item paths
 with_defaults-as_read e before (DefaultText words) paths = ap (λ (b : Bounds). paths ++ paths_said (value_in b (scope_of e)) words) (bounds-as_read before)
 with_defaults-as_read e before (BindingText bound word) paths = refl
 with_defaults-as_read e before (RuleText name lines) paths = refl
@@ -146,13 +146,13 @@ with_defaults-as_read e before (BuildText outputs rule inputs lines) paths = ref
 with_defaults-as_read e before (IncludeText word) paths = refl
 with_defaults-as_read e before (SubninjaText word) paths = refl
 
-defaults_read-as_read : (entries : List Entry) → defaults_read (as_read entries) ≡ defaults_read entries
+defaults_read-as_read : (entries : List ReadStatement) → defaults_read (as_read entries) ≡ defaults_read entries
 unfolding defaults_read
 defaults_read-as_read [] = refl
 defaults_read-as_read (e ∷ before) =
     with_defaults-as_read e before e.item (defaults_read (as_read before)) ∙ ap (with_defaults e before e.item) (defaults_read-as_read before)
 
-pub defaults_read-discover : (edge : ℕ) (found : Discovered) (entries : List Entry) → defaults_read (discover edge found entries) ≡ defaults_read entries
+pub defaults_read-discover : (edge : ℕ) (found : Discovered) (entries : List ReadStatement) → defaults_read (discover edge found entries) ≡ defaults_read entries
 defaults_read-discover = kept-by defaults_read defaults_read-as_read
 
 -- ---- the names of an edge
@@ -168,7 +168,7 @@ names_by texts b e = record {
   file = value_in b (e.number ∷ e.around);
 }
 
-pub names_of_edge-discover : (edge : ℕ) (found : Discovered) (entries : List Entry) (e : EdgeText) → names_of_edge (discover edge found entries) e ≡ names_of_edge entries e
+pub names_of_edge-discover : (edge : ℕ) (found : Discovered) (entries : List ReadStatement) (e : EdgeText) → names_of_edge (discover edge found entries) e ≡ names_of_edge entries e
 names_of_edge-discover edge found entries e =
     ap (λ texts. names_by texts (bounds (discover edge found entries)) e) (rule_texts-discover edge found entries)
     ∙ ap (λ (b : Bounds). names_by (rule_texts entries) b e) (bounds-discover edge found entries)
@@ -186,7 +186,7 @@ names_stay entries edge found = record {
 }
 
 -- What is held of the statements is held still.
-pub declared-discover : (held : DeclarationsText) (edge : ℕ) (found : Discovered) (entries : List Entry) → DeclaredBy held entries → DeclaredBy held (discover edge found entries)
+pub declared-discover : (held : DeclarationsText) (edge : ℕ) (found : Discovered) (entries : List ReadStatement) → DeclaredBy held entries → DeclaredBy held (discover edge found entries)
 declared-discover held edge found entries by = record {
   bound = λ number name. by.bound number name ∙ ap (λ (b : Bounds). b number name) (sym (bounds-discover edge found entries));
   declared = λ number name. by.declared number name ∙ ap (λ (own : Declared). own number name) (sym (rules-discover edge found entries));
@@ -197,16 +197,16 @@ declared-discover held edge found entries by = record {
 
 -- ---- the statements themselves
 
-length-as_read : (entries : List Entry) → length (as_read entries) ≡ length entries
+length-as_read : (entries : List ReadStatement) → length (as_read entries) ≡ length entries
 length-as_read [] = refl
 length-as_read (e ∷ before) = ap suc (length-as_read before)
 
-pub length-discover : (edge : ℕ) (found : Discovered) (entries : List Entry) → length (discover edge found entries) ≡ length entries
+pub length-discover : (edge : ℕ) (found : Discovered) (entries : List ReadStatement) → length (discover edge found entries) ≡ length entries
 length-discover = kept-by length length-as_read
 
 -- What holds of each statement, whatever was discovered for it, holds still.
-pub all-discover : (P : Entry → Type 0) → ((e : Entry) (d : Option Discovered) → P e → P (record e { discovered = d }))
-    → (edge : ℕ) (found : Discovered) (entries : List Entry) → AllByRecursion P entries → AllByRecursion P (discover edge found entries)
+pub all-discover : (P : ReadStatement → Type 0) → ((e : ReadStatement) (d : Option Discovered) → P e → P (record e { discovered = d }))
+    → (edge : ℕ) (found : Discovered) (entries : List ReadStatement) → AllByRecursion P entries → AllByRecursion P (discover edge found entries)
 unfolding discover
 all-discover P kept edge found [] all = tt
 all-discover P kept edge found (e ∷ before) all = by (is_build e.item && length (edges_read before) == edge) (all-discover P kept edge found before all.1)
@@ -216,7 +216,7 @@ all-discover P kept edge found (e ∷ before) all = by (is_build e.item && lengt
     by false rest = (all.0, rest)
 
 -- What holds of statements, and of them with what is discovered for any edge, holds of them with what an entry adds.
-pub with_entry-by : (P : List Entry → Type 0) (stated joined : List Entry) (entry : EntryText) → P joined
+pub with_entry-by : (P : List ReadStatement → Type 0) (stated joined : List ReadStatement) (entry : EntryText) → P joined
     → ((edge : ℕ) → P (discover edge (discovered_by entry) joined)) → P (with_entry stated joined entry)
 with_entry-by P stated joined entry same more = by (edge_meant stated entry)
   where

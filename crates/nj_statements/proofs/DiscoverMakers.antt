@@ -14,7 +14,7 @@ use Rattle.nj_faults.specs.Faults.{fault_at}
 use Rattle.nj_statements.specs.EdgeList.{Values, EdgeText, path_said, paths_said, edges_read, paths_of_edges, pending_read}
 use Rattle.nj_statements.specs.BuildFaults.{fault_if, or_then, first_fault, empty_path, two_makers, outputs_fault}
 use Rattle.nj_manifest.specs.Dyndeps.{EntryText}
-use Rattle.nj_scope.specs.ReadingList.{Entry}
+use Rattle.nj_scope.specs.ReadingList.{ReadStatement}
 use Rattle.nj_statements.specs.Joining.{no_values, discovered_by, edge_meant, discover_for, with_entry, meaning_fault, entry_fault}
 use Rattle.nj_statements.specs.Laws.{AddsToItsEdge, EdgesMakeWhatIsDiscovered}
 use Rattle.nj_statements.proofs.DiscoverEdges.{or_then-none, waiting-below, pending-within, paths-discover, is_pending-from_waits, entries_add}
@@ -106,7 +106,7 @@ outputs-new file values edges left (word ∷ words) path none among = by (bytes_
 
 -- ---- an entry that has no fault
 
-module _ (file : List ℕ) (stated joined : List Entry) (entry : EntryText) (edge : ℕ) (none : entry_fault file stated joined entry ≡ None) (means : edge_meant stated entry ≡ Some edge) where
+module _ (file : List ℕ) (stated joined : List ReadStatement) (entry : EntryText) (edge : ℕ) (none : entry_fault file stated joined entry ≡ None) (means : edge_meant stated entry ≡ Some edge) where
   abbrev before : List EdgePaths
   before = paths_of_edges (edges_read joined)
 

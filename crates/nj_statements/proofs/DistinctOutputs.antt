@@ -13,7 +13,7 @@ use Rattle.nj_text.specs.Words.{WordText}
 use Rattle.nj_manifest.specs.Dyndeps.{EntryText}
 use Rattle.nj_manifest.specs.LineSteps.{NameText}
 use Rattle.nj_manifest.specs.Statements.{LineText, OutputsText, InputsText, StatementText, BuildText}
-use Rattle.nj_scope.specs.ReadingList.{Discovered, Entry}
+use Rattle.nj_scope.specs.ReadingList.{Discovered, ReadStatement}
 use Rattle.nj_edges.specs.Edges.{EdgePaths, outputs_of, is_among, maker_of}
 use Rattle.nj_edges.specs.Joining.{AddedFiles, with_added, changed_at}
 use Rattle.nj_statements.specs.EdgeList.{Values, EdgeText, path_said, paths_said, line_values, stated_paths, loses_own, without_own, edge_paths, with_discovered, rule_number, edge_of_build, with_edge, edges_read, paths_of_edges}
@@ -69,7 +69,7 @@ outputs-stated e = by (loses_own e)
     by true = refl
     by false = refl
 
-module _ (e : Entry) (before : List Entry) (outputs : OutputsText) (rule : NameText) (inputs : InputsText) (lines : List LineText) (nothing : e.discovered ≡ None) where
+module _ (e : ReadStatement) (before : List ReadStatement) (outputs : OutputsText) (rule : NameText) (inputs : InputsText) (lines : List LineText) (nothing : e.discovered ≡ None) where
   outputs-read : outputs_of (edge_of_build e before outputs rule inputs lines).paths ≡ paths_said (line_values e before lines) (outputs.explicit ++ outputs.implicit)
   outputs-read =
       ap (λ (found : Option Discovered). outputs_of (with_discovered found (edge_paths paths))) nothing ∙ outputs-stated paths
@@ -105,12 +105,12 @@ module _ (e : Entry) (before : List Entry) (outputs : OutputsText) (rule : NameT
           ∙ flat_map-append outputs_of edges (edge.paths ∷ [])
           ∙ ap (λ paths. all_outputs edges ++ paths) (append-nil (outputs_of edge.paths) ∙ outputs-read)
 
-statement-apart : (e : Entry) (before : List Entry) (item : StatementText) → IsFaultless e before item → IsDistinct bytes_eq (all_outputs (paths_of_edges (edges_read before)))
+statement-apart : (e : ReadStatement) (before : List ReadStatement) (item : StatementText) → IsFaultless e before item → IsDistinct bytes_eq (all_outputs (paths_of_edges (edges_read before)))
     → IsDistinct bytes_eq (all_outputs (paths_of_edges (with_edge e before item (edges_read before))))
 statement-apart e before (BuildText outputs rule inputs lines) fine apart = build-apart e before outputs rule inputs lines fine.1 fine.0 apart
 statement-apart e before item fine apart = apart
 
-stated-apart : (stated : List Entry) → AreFaultless stated → IsDistinct bytes_eq (all_outputs (paths_of_edges (edges_read stated)))
+stated-apart : (stated : List ReadStatement) → AreFaultless stated → IsDistinct bytes_eq (all_outputs (paths_of_edges (edges_read stated)))
 unfolding edges_read IsDistinct
 stated-apart [] fine = tt
 stated-apart (e ∷ before) fine = statement-apart e before e.item fine.0 (stated-apart before fine.1)
@@ -131,7 +131,7 @@ added-last added (suc edge) (e ∷ edges) within =
     subst (λ paths. IsPermutation paths (outputs_of e ++ all_outputs (changed_at (with_added added) edge edges))) (sym (append_assoc (outputs_of e) (all_outputs edges) added.outputs))
     (IsPermutation-append (outputs_of e) (outputs_of e) (all_outputs edges ++ added.outputs) (all_outputs (changed_at (with_added added) edge edges)) (IsPermutation-refl (outputs_of e)) (added-last added edge edges (omega (arith, within))))
 
-entry-apart : (file : List ℕ) (stated joined : List Entry) (entry : EntryText) → entry_fault file stated joined entry ≡ None
+entry-apart : (file : List ℕ) (stated joined : List ReadStatement) (entry : EntryText) → entry_fault file stated joined entry ≡ None
     → IsDistinct bytes_eq (all_outputs (paths_of_edges (edges_read joined))) → IsDistinct bytes_eq (all_outputs (paths_of_edges (edges_read (with_entry stated joined entry))))
 entry-apart file stated joined entry none apart =
     subst (λ es. IsDistinct bytes_eq (all_outputs es)) (sym (after-is file stated joined entry edge none means))
@@ -153,7 +153,7 @@ entry-apart file stated joined entry none apart =
     added : AddedFiles
     added = added-by file stated joined entry edge none means
 
-joined-apart : (stated joined : List Entry) → IsWithEntries stated joined → IsDistinct bytes_eq (all_outputs (paths_of_edges (edges_read stated)))
+joined-apart : (stated joined : List ReadStatement) → IsWithEntries stated joined → IsDistinct bytes_eq (all_outputs (paths_of_edges (edges_read stated)))
     → IsDistinct bytes_eq (all_outputs (paths_of_edges (edges_read joined)))
 joined-apart stated _ as_stated apart = apart
 joined-apart stated _ (with_one_more {joined = joined} file entry others none) apart = entry-apart file stated joined entry none (joined-apart stated joined others apart)

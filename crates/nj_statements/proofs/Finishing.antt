@@ -17,7 +17,7 @@ use Rattle.nj_edges.specs.Inside.EdgesHeld.{AreNumbers, paths_at}
 use Rattle.nj_edges.specs.Files.{path_at, AreFiles}
 use Rattle.nj_edges.proofs.GraphLemmas.{files-at}
 use Rattle.nj_manifest.specs.Statements.{StatementText, BindingText, RuleText, PoolText, BuildText, DefaultText, IncludeText, SubninjaText}
-use Rattle.nj_scope.specs.ReadingList.{Discovered, Entry}
+use Rattle.nj_scope.specs.ReadingList.{Discovered, ReadStatement}
 use Rattle.nj_statements.specs.declared.building.Detail.{Detail}
 use Rattle.nj_statements.specs.declared.building.DyndepEdge.{DyndepEdge}
 use Rattle.nj_statements.specs.EdgeList.{EdgeText, Pending, edge_of_build, with_edge, edges_read, paths_of_edges, defaults_read, dyndep_of, pending_at, with_pending, pending_read}
@@ -131,7 +131,7 @@ waiting-last edge None (Some file) = (omega arith, tt)
 waiting-last edge None None = tt
 
 -- what waits is an edge that was read
-pub waiting-known : (entries : List Entry) → AllByRecursion (λ (p : Pending). p.edge < length (edges_read entries)) (pending_read entries)
+pub waiting-known : (entries : List ReadStatement) → AllByRecursion (λ (p : Pending). p.edge < length (edges_read entries)) (pending_read entries)
 unfolding edges_read pending_read
 waiting-known [] = tt
 waiting-known (e ∷ before) = by e.item (waiting-known before)
@@ -190,7 +190,7 @@ paths-at (f ∷ es) (suc n) e h = paths-at es n e h
 
 -- ---- without a cycle
 
-module _ (held : BuildingText) (entries : List Entry) (holds : HoldsEdges held entries) (ds : List Detail) (details_are : map detail_text ds ≡ held.details) where
+module _ (held : BuildingText) (entries : List ReadStatement) (holds : HoldsEdges held entries) (ds : List Detail) (details_are : map detail_text ds ≡ held.details) where
   all-details : AreDetails held.names (map detail_text ds) (edges_read entries)
   all-details = subst (λ xs. AreDetails held.names xs (edges_read entries)) (sym details_are) holds.details
 

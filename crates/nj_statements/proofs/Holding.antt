@@ -14,7 +14,7 @@ use Rattle.nj_manifest.specs.Statements.{LineText, OutputsText, InputsText, Stat
 use Rattle.nj_scope.specs.Rules.{line_kept}
 use Rattle.nj_scope.specs.Readings.{IsPrefix}
 use Rattle.nj_scope.specs.Scopes.{or_else}
-use Rattle.nj_scope.specs.ReadingList.{Entry, scope_of, value_after, rule_texts}
+use Rattle.nj_scope.specs.ReadingList.{ReadStatement, scope_of, value_after, rule_texts}
 use Rattle.nj_edge_env.specs.Blocks.{BlocksText, bound_in}
 use Rattle.nj_edges.specs.declared.files.FileNo.{FileNo}
 use Rattle.nj_edges.specs.EdgeTables.{no_files}
@@ -48,7 +48,7 @@ pub on-err : {X Y P : Type 0} (r : Result X Y) → P → OnErr r P
 on-err (Ok x) p = tt
 on-err (Err e) p = p
 
-pub reads-err : (after : BuildingText) (expected : Option GraphFault) (e : Entry) (before : List Entry) (r : Result (Unit {0}) GraphFault) (f : GraphFault)
+pub reads-err : (after : BuildingText) (expected : Option GraphFault) (e : ReadStatement) (before : List ReadStatement) (r : Result (Unit {0}) GraphFault) (f : GraphFault)
     → IsErrAnd r (λ y. y ≡ f) → IsFault expected f → ReadsStatement after expected e before r
 reads-err after expected e before (Err y) f is h = subst (IsFault expected) (sym is) h
 reads-err after expected e before (Ok x) f is h = absurd is
@@ -100,7 +100,7 @@ targets-turn values files before held new file words i word below at adds is the
         ∙ ap (map (path_said values)) (map-append word_text (take i words) (word ∷ []))
         ∙ map-append (path_said values) (words_text (take i words)) (word_text word ∷ [])
 
-pub holds-default : (old new : BuildingText) (e : Entry) (before : List Entry) (words : List WordText) → HoldsEdges old before
+pub holds-default : (old new : BuildingText) (e : ReadStatement) (before : List ReadStatement) (words : List WordText) → HoldsEdges old before
     → new.table ≡ old.table → new.blocks ≡ old.blocks → new.names ≡ old.names → new.details ≡ old.details
     → AddsTargets old.table.files old.defaults new.defaults (paths_said (value_after before (scope_of e)) words)
     → new.dyndeps ≡ old.dyndeps → new.references ≡ old.references → HoldsEdges new (record e { item = DefaultText words } ∷ before)
@@ -185,10 +185,10 @@ pending-more files longer held expected edge (Some file) (Some path) grows are s
     waits = record { edge = edge; file = path }
 
 -- a statement to which nothing was joined
-abbrev fresh : Entry → Entry
+abbrev fresh : ReadStatement → ReadStatement
 fresh e = record e { discovered = None }
 
-pub holds-build : (old new : BuildingText) (e : Entry) (before : List Entry) (outputs : OutputsText) (rule : NameText) (inputs : InputsText) (lines : List LineText) (d : DetailText) (dyndep : Option FileNo) → HoldsEdges old before
+pub holds-build : (old new : BuildingText) (e : ReadStatement) (before : List ReadStatement) (outputs : OutputsText) (rule : NameText) (inputs : InputsText) (lines : List LineText) (d : DetailText) (dyndep : Option FileNo) → HoldsEdges old before
     → AddsEdge old.table new.table (edge_of_build (fresh e) before outputs rule inputs lines).paths
     → ((n : ℕ) (name : List ℕ) → bound_in new.blocks n name ≡ (if n == length old.details then or_else (build_block e before lines name) (bound_in old.blocks n name) else bound_in old.blocks n name))
     → IsPrefix old.names new.names → new.details ≡ old.details ++ d ∷ [] → IsDetail new.names d (edge_of_build (fresh e) before outputs rule inputs lines) → new.defaults ≡ old.defaults
@@ -215,7 +215,7 @@ holds-build old new e before outputs rule inputs lines d dyndep holds adds block
     edge = edge_of_build (fresh e) before outputs rule inputs lines
 
 -- what the block of the edge that is being read binds
-pub open-block : (old : BuildingText) (before : List Entry) (block : Block) (new : BlocksText) (edge : ℕ) → HoldsEdges old before → edge ≡ length old.details
+pub open-block : (old : BuildingText) (before : List ReadStatement) (block : Block) (new : BlocksText) (edge : ℕ) → HoldsEdges old before → edge ≡ length old.details
     → ((n : ℕ) (name : List ℕ) → bound_in new n name ≡ (if n == edge then or_else (block name) (bound_in old.blocks n name) else bound_in old.blocks n name))
     → (name : List ℕ) → bound_in new edge name ≡ block name
 open-block old before block new edge holds is bound name =
@@ -243,7 +243,7 @@ names_files (BuildText outputs rule inputs lines) = true
 names_files (DefaultText words) = true
 names_files item = false
 
-holds-item : (held : BuildingText) (e : Entry) (before : List Entry) (item : StatementText) → names_files item ≡ false → HoldsEdges held before → HoldsEdges held (record e { item = item } ∷ before)
+holds-item : (held : BuildingText) (e : ReadStatement) (before : List ReadStatement) (item : StatementText) → names_files item ≡ false → HoldsEdges held before → HoldsEdges held (record e { item = item } ∷ before)
 unfolding edges_read defaults_read pending_read
 holds-item held e before (BindingText bound word) other holds = record { edges = holds.edges; none_open = holds.none_open; blocks = holds.blocks; details = holds.details; defaults = holds.defaults; dyndeps = holds.dyndeps; references = holds.references }
 holds-item held e before (RuleText declared lines) other holds =
@@ -255,5 +255,5 @@ holds-item held e before (IncludeText word) other holds = record { edges = holds
 holds-item held e before (SubninjaText word) other holds = record { edges = holds.edges; none_open = holds.none_open; blocks = holds.blocks; details = holds.details; defaults = holds.defaults; dyndeps = holds.dyndeps; references = holds.references }
 
 -- What is held is held still after a statement that names no files.
-pub holds-other : (held : BuildingText) (e : Entry) (before : List Entry) → names_files e.item ≡ false → HoldsEdges held before → HoldsEdges held (e ∷ before)
+pub holds-other : (held : BuildingText) (e : ReadStatement) (before : List ReadStatement) → names_files e.item ≡ false → HoldsEdges held before → HoldsEdges held (e ∷ before)
 holds-other held e before other holds = holds-item held e before e.item other holds

@@ -7,7 +7,7 @@ use Rattle.std.proofs.lemmas.Option.{same_Some, slice_get-get_or, slice_get_with
 use Rattle.nj_text.specs.Words.{WordText}
 use Rattle.nj_manifest.specs.Dyndeps.{EntryText}
 use Rattle.nj_scope.specs.Readings.{IsPrefix}
-use Rattle.nj_scope.specs.ReadingList.{Discovered, Entry}
+use Rattle.nj_scope.specs.ReadingList.{Discovered, ReadStatement}
 use Rattle.nj_edge_env.specs.Blocks.{BlocksText}
 use Rattle.nj_edges.specs.declared.files.FileNo.{FileNo}
 use Rattle.nj_edges.specs.Edges.{EdgePaths, edge_at, outputs_of, first_edge, maker_of}
@@ -36,7 +36,7 @@ use Rattle.nj_statements.proofs.DiscoverEdges.{details-discover, block_at-discov
 -- ---- answers
 
 -- what the exit of a `?` answers
-pub joins-err : (after : JoiningText) (expected : Option GraphFault) (stated joined : List Entry) (r : Result (Unit {0}) GraphFault) (f : GraphFault)
+pub joins-err : (after : JoiningText) (expected : Option GraphFault) (stated joined : List ReadStatement) (r : Result (Unit {0}) GraphFault) (f : GraphFault)
     → IsErrAnd r (λ y. y ≡ f) → IsFault expected f → JoinsEntry after expected stated joined r
 joins-err after expected stated joined (Err y) f is h = subst (IsFault expected) (sym is) h
 joins-err after expected stated joined (Ok x) f is h = absurd is
@@ -289,7 +289,7 @@ module _ (table : JoinTable) (blocks : BlocksText) (names : List (List ℕ)) (de
 
   -- ---- by the statements
 
-  module _ (stated joined : List Entry) (holds : HoldsJoined (joining_of table blocks names details defaults firsts bound) stated joined) where
+  module _ (stated joined : List ReadStatement) (holds : HoldsJoined (joining_of table blocks names details defaults firsts bound) stated joined) where
     module _ (file : FileNo) (name : List ℕ) (here : slice_get table.files file.0 ≡ Some name) where
       pub bound-waits : (edge : ℕ) → waits_for name (pending_read stated) (Some edge) ≡ is_bound_to (get_or bound edge None) file
       bound-waits edge =

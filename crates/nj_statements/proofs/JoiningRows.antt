@@ -6,7 +6,7 @@ use Rattle.nj_text.specs.Words.{Text, Name, WordText}
 use Rattle.nj_text.specs.Paths.{clean_path_of, without_leftmost_pair}
 use Rattle.nj_manifest.specs.Statements.{BuildText}
 use Rattle.nj_manifest.specs.Dyndeps.{EntryText}
-use Rattle.nj_scope.specs.ReadingList.{Entry, bounds}
+use Rattle.nj_scope.specs.ReadingList.{ReadStatement, bounds}
 use Rattle.nj_edges.specs.Edges.{edge_at}
 use Rattle.nj_faults.specs.declared.fault.GraphFault.{GraphFault}
 use Rattle.nj_faults.specs.declared.fault.Cause.{Cause}
@@ -24,7 +24,7 @@ abbrev word : (column : ℕ) → (text : List ℕ) → WordText
 word column text = record { spot = at 2 column; parts = Text text ∷ [] }
 
 -- a build statement on a line of its own, with an explicit output, an implicit one and one input of each kind
-abbrev build : (line : ℕ) → (output implicit dyndep : List ℕ) → Entry
+abbrev build : (line : ℕ) → (output implicit dyndep : List ℕ) → ReadStatement
 build line output implicit dyndep = record {
   file = codes "build.ninja";
   spot = at line 1;
@@ -38,7 +38,7 @@ build line output implicit dyndep = record {
 }
 
 -- `build o | m: phony x | y || dd ee` and two more, with `dyndep = dd`, `dyndep = ee` and `dyndep = ./dd`
-abbrev stated : List Entry
+abbrev stated : List ReadStatement
 stated = build 3 (codes "q") (codes "r") (codes "./dd") ∷ build 2 (codes "p") (codes "n") (codes "ee") ∷ build 1 (codes "o") (codes "m") (codes "dd") ∷ []
 
 abbrev pending : (edge : ℕ) → (file : List ℕ) → Pending
@@ -59,7 +59,7 @@ entry out outs ins = record { out = word 7 out; outs = outs; ins = ins }
 abbrev of_o : EntryText
 of_o = entry (codes "o") (word 11 (codes "o2") ∷ []) (word 24 (codes "extra") ∷ [])
 
-abbrev joined : List Entry
+abbrev joined : List ReadStatement
 joined = with_entry stated stated of_o
 
 -- what is wrong with an entry, where nothing was joined before

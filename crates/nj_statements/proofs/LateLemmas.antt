@@ -11,7 +11,7 @@ use Rattle.nj_manifest.specs.Statements.{LineText, OutputsText, InputsText}
 use Rattle.nj_scope.specs.Rules.{RuleText, phony}
 use Rattle.nj_scope.specs.Scopes.{nearest, IsScope, parent_at}
 use Rattle.nj_scope.specs.Declarations.{DeclarationsText, DeclaredBy}
-use Rattle.nj_scope.specs.ReadingList.{Entry, scope_of, value_after, rules, rule_in_force, rule_texts, pools}
+use Rattle.nj_scope.specs.ReadingList.{ReadStatement, scope_of, value_after, rules, rule_in_force, rule_texts, pools}
 use Rattle.nj_scope.proofs.InForce.{in_force, phony-there}
 use Rattle.nj_edges.specs.declared.files.FileNo.{FileNo}
 use Rattle.nj_edges.specs.declared.edges.KindEnds.{KindEnds}
@@ -41,7 +41,7 @@ some_same : {X : Type 0} {x y : X} → Some x ≡ Some y → x ≡ y
 some_same {x = x} h = ap (λ o. unwrap_or o x) h
 
 -- the rule in force under a name is `phony` where its number is 0
-pub is-phony : (entries : List Entry) (scope name : List ℕ) (number : ℕ) (rule : RuleText)
+pub is-phony : (entries : List ReadStatement) (scope name : List ℕ) (number : ℕ) (rule : RuleText)
     → rule_in_force entries scope name ≡ Some number → slice_get (rule_texts entries) number ≡ Some rule → bytes_eq rule.name phony ≡ (number == 0)
 is-phony entries scope name number rule is there =
     same_truth (bytes_eq rule.name phony) (number == 0)
@@ -61,7 +61,7 @@ kept-phony s = by (loses_own s)
 
 -- ---- the names of the edge
 
-module _ (e : Entry) (entries : List Entry) (outputs : OutputsText) (rule : NameText) (inputs : InputsText) (lines : List LineText) (number : ℕ) (text : RuleText) (block : Block)
+module _ (e : ReadStatement) (entries : List ReadStatement) (outputs : OutputsText) (rule : NameText) (inputs : InputsText) (lines : List LineText) (number : ℕ) (text : RuleText) (block : Block)
     (is : rule_in_force entries (scope_of e) rule.name ≡ Some number) (there : slice_get (rule_texts entries) number ≡ Some text)
     (block_is : (name : List ℕ) → block name ≡ build_block e entries lines name) where
   abbrev file : Values
@@ -160,7 +160,7 @@ names-by-numbers files held ins outs inputs outputs i o n held_is are_inputs are
     ∙ ap (λ (ps : List (List ℕ)). record n { inputs = take i inputs; outputs = ps }) (first-paths files outs outputs o are_outputs)
 
 -- what the names of the edge that is being read depend on
-pub sees-late : (edge : LateEdge) (held : DeclarationsText) (scope : ℕ) (entries : List Entry) (around : List ℕ) (read paths : EdgePaths) (block : Block) (rule : RuleText)
+pub sees-late : (edge : LateEdge) (held : DeclarationsText) (scope : ℕ) (entries : List ReadStatement) (around : List ℕ) (read paths : EdgePaths) (block : Block) (rule : RuleText)
     → edge.declarations.now ≡ held → edge.scope ≡ scope → ((file : Values) → late_names edge file ≡ names_read read block rule file) → read ≡ paths
     → DeclaredBy held entries → IsScope (parent_at held.scopes) scope (scope ∷ around)
     → SeesLate edge entries (names_read paths block rule (value_after entries (scope ∷ around)))

@@ -7,7 +7,7 @@ use Rattle.nj_text.specs.Paths.{clean_path_of, without_leftmost_pair}
 use Rattle.nj_text.specs.Quotes.{quoted}
 use Rattle.nj_manifest.specs.LineSteps.{NameText}
 use Rattle.nj_manifest.specs.Statements.{LineText, OutputsText, InputsText, StatementText, BindingText, RuleText, PoolText, BuildText, DefaultText}
-use Rattle.nj_scope.specs.ReadingList.{Entry, bounds}
+use Rattle.nj_scope.specs.ReadingList.{ReadStatement, bounds}
 use Rattle.nj_edges.specs.Edges.{EdgePaths, inputs_of}
 use Rattle.nj_faults.specs.declared.fault.GraphFault.{GraphFault}
 use Rattle.nj_faults.specs.declared.fault.Cause.{Cause}
@@ -44,10 +44,10 @@ by_rule name = record { spot = at 10; name = name }
 abbrev phony : NameText
 phony = by_rule (codes "phony")
 
-abbrev entry : StatementText → Entry
+abbrev entry : StatementText → ReadStatement
 entry item = record { file = codes "build.ninja"; spot = at 1; depth = 0; number = 0; around = []; item = item; discovered = None }
 
-abbrev entries : List StatementText → List Entry
+abbrev entries : List StatementText → List ReadStatement
 entries items = map entry items
 
 abbrev line : (name value : List ℕ) → LineText
@@ -255,7 +255,7 @@ unfolding clean_path_of without_leftmost_pair edges_read pending_read bounds
 row-pending_empty = refl
 
 -- `build a: phony || dd` with `dyndep = dd`, joined to an output `x` and an input `y`
-abbrev joined_a : Entry
+abbrev joined_a : ReadStatement
 joined_a = record (entry (build_with_dd (codes "a") phony (line (codes "dyndep") (codes "dd") ∷ []))) { discovered = Some (record { outputs = codes "x" ∷ []; inputs = codes "y" ∷ [] }) }
 
 -- it does not wait, and `build b: phony || dd` with `dyndep = dd` does

@@ -4,7 +4,7 @@ use Rattle.std.specs.List.{AllByRecursion, IsDistinct}
 use Rattle.std.proofs.lemmas.List.{length-map, length-append, length-replicate}
 use Rattle.std.proofs.lemmas.Option.{same_Some, slice_get-map}
 use Rattle.nj_manifest.specs.Statements.{StatementText, BindingText, RuleText, PoolText, BuildText, DefaultText, IncludeText, SubninjaText}
-use Rattle.nj_scope.specs.ReadingList.{Discovered, Entry}
+use Rattle.nj_scope.specs.ReadingList.{Discovered, ReadStatement}
 use Rattle.nj_edge_env.specs.Blocks.{BlocksText}
 use Rattle.nj_edges.specs.declared.files.FileNo.{FileNo}
 use Rattle.nj_edges.specs.EdgeGraphs.{EdgeGraph}
@@ -32,7 +32,7 @@ use Rattle.nj_statements.proofs.WaitingLemmas.{still-all, pending-more, firsts-a
 -- ---- of each edge what it waits for
 
 -- this is what edges wait for
-pub record AreAwaited (entries : List Entry) (waiting : List (Option (List ℕ))) : Type 0 where
+pub record AreAwaited (entries : List ReadStatement) (waiting : List (Option (List ℕ))) : Type 0 where
   pub are : pending_read entries ≡ pending_from 0 waiting
   pub count : length waiting ≡ length (edges_read entries)
 
@@ -45,7 +45,7 @@ pending-at edge (Some found) file = refl
 pending-at edge None (Some file) = refl
 pending-at edge None None = refl
 
-awaited-more : (e : Entry) (before : List Entry) (item : StatementText) (waiting : List (Option (List ℕ))) → AreAwaited before waiting
+awaited-more : (e : ReadStatement) (before : List ReadStatement) (item : StatementText) (waiting : List (Option (List ℕ))) → AreAwaited before waiting
     → (more : List (Option (List ℕ))) × AreAwaited (record e { item = item } ∷ before) more
 unfolding edges_read pending_read
 awaited-more e before (BuildText outputs rule inputs lines) waiting is = (
@@ -71,7 +71,7 @@ awaited-more e before (DefaultText words) waiting is = (waiting, record { are = 
 awaited-more e before (IncludeText word) waiting is = (waiting, record { are = is.are; count = is.count })
 awaited-more e before (SubninjaText word) waiting is = (waiting, record { are = is.are; count = is.count })
 
-pub awaited : (entries : List Entry) → (waiting : List (Option (List ℕ))) × AreAwaited entries waiting
+pub awaited : (entries : List ReadStatement) → (waiting : List (Option (List ℕ))) × AreAwaited entries waiting
 unfolding edges_read pending_read
 awaited [] = ([], record { are = refl; count = refl })
 awaited (e ∷ before) = let rest = awaited before in awaited-more e before e.item rest.0 rest.1
@@ -112,7 +112,7 @@ module _ (graph : EdgeGraph) (blocks : BlocksText) (names : List (List ℕ)) (de
       (subst (λ ds. JoiningIsHeld (join_of graph) names details defaults ds bound waiting) (sym firsts_are)
       (subst (λ bs. JoiningIsHeld (join_of graph) names details defaults (first_edges dyndeps) bs waiting) (sym bound_are) start))
 
-  module _ (stated : List Entry) (is : IsBuiltOf (built_of graph blocks names details defaults dyndeps) stated) where
+  module _ (stated : List ReadStatement) (is : IsBuiltOf (built_of graph blocks names details defaults dyndeps) stated) where
     abbrev ws : List (Option (List ℕ))
     ws = (awaited stated).0
 
@@ -144,7 +144,7 @@ module _ (graph : EdgeGraph) (blocks : BlocksText) (names : List (List ℕ)) (de
 -- ---- all is joined
 
 module _ (table : JoinTable) (blocks : BlocksText) (names : List (List ℕ)) (details : List Detail) (defaults : List FileNo) (firsts : List DyndepEdge) (bound : List (Option FileNo))
-    (stated joined : List Entry) (holds : HoldsJoined (joining_of table blocks names details defaults firsts bound) stated joined) where
+    (stated joined : List ReadStatement) (holds : HoldsJoined (joining_of table blocks names details defaults firsts bound) stated joined) where
   edge-count : length table.joined ≡ length (edges_read joined)
   edge-count = ap length holds.joined_paths ∙ length-map (edges_read joined) (λ (e : EdgeText). e.paths)
 

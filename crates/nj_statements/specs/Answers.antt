@@ -7,7 +7,7 @@ use Rattle.nj_scope.specs.Rules.{RuleText, phony}
 use Rattle.nj_scope.specs.Readings.{IsPrefix}
 use Rattle.nj_scope.specs.Scopes.{IsScope, parent_at}
 use Rattle.nj_scope.specs.Declarations.{DeclarationsText, DeclaredBy}
-use Rattle.nj_scope.specs.ReadingList.{Entry, value_after, rule_texts}
+use Rattle.nj_scope.specs.ReadingList.{ReadStatement, value_after, rule_texts}
 use Rattle.nj_edge_env.specs.Blocks.{BlocksText, bound_in}
 use Rattle.nj_edges.specs.declared.files.FileNo.{FileNo}
 use Rattle.nj_edges.specs.Edges.{EdgePaths, is_among}
@@ -93,7 +93,7 @@ pub record ArePending (files : List (List ℕ)) (held : List DyndepEdge) (expect
   pub files_are : AreFiles files (map (λ d. d.file) held) (map (λ p. p.file) expected)
 
 -- It holds the edges and defaults of these statements, of which the last read stands first.
-pub record HoldsEdges (held : BuildingText) (entries : List Entry) : Type 0 where
+pub record HoldsEdges (held : BuildingText) (entries : List ReadStatement) : Type 0 where
   pub edges : held.table.edges ≡ paths_of_edges (edges_read entries)
   pub none_open : held.table.«open» ≡ no_files
   pub blocks : (number : ℕ) (name : List ℕ) → bound_in held.blocks number name ≡ block_at (edges_read entries) number name
@@ -115,7 +115,7 @@ pub record AddsNothing (before after : BuildingText) : Type 0 where
 
 -- ---- a statement
 
-abbrev pub entry_at_place : StatementPlace → (around : List ℕ) → (depth : ℕ) → StatementText → Entry
+abbrev pub entry_at_place : StatementPlace → (around : List ℕ) → (depth : ℕ) → StatementText → ReadStatement
 entry_at_place place around depth item = record {
   file = place.file.now;
   spot = place.spot;
@@ -127,7 +127,7 @@ entry_at_place place around depth item = record {
 }
 
 -- the statement has no fault and is held, or its fault is answered
-abbrev pub ReadsStatement : (after : BuildingText) → Option GraphFault → Entry → (before : List Entry)
+abbrev pub ReadsStatement : (after : BuildingText) → Option GraphFault → ReadStatement → (before : List ReadStatement)
     → Result (Unit {0}) GraphFault → Type 0
 ReadsStatement after expected e before (Ok done) = (expected ≡ None) × HoldsEdges after (e ∷ before)
 ReadsStatement after expected e before (Err fault) = IsFault expected fault

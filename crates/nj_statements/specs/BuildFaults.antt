@@ -8,7 +8,7 @@ use Rattle.nj_manifest.specs.LineSteps.{NameText}
 use Rattle.nj_manifest.specs.Statements.{LineText, OutputsText, InputsText}
 use Rattle.nj_scope.specs.Scopes.{expanded}
 use Rattle.nj_scope.specs.Pools.{is_pool}
-use Rattle.nj_scope.specs.ReadingList.{Entry, scope_of, value_after, rule_in_force, pools}
+use Rattle.nj_scope.specs.ReadingList.{ReadStatement, scope_of, value_after, rule_in_force, pools}
 use Rattle.nj_faults.specs.declared.fault.GraphFault.{GraphFault}
 use Rattle.nj_faults.specs.declared.fault.Cause.TheVariants.{EmptyPath, UnknownRule, TwoMakers, UnknownTarget}
 use Rattle.nj_faults.specs.declared.fault.Cause.TheVariants.{RuleVariableCycle, UnknownPool, DyndepNotInput}
@@ -36,7 +36,7 @@ empty_path file values word = fault_if (is_empty (expanded values word.parts)) (
 
 -- ---- build statements
 
-abbrev pub unknown_rule : Entry → (before : List Entry) → NameText → Option GraphFault
+abbrev pub unknown_rule : ReadStatement → (before : List ReadStatement) → NameText → Option GraphFault
 unknown_rule e before rule =
     fault_if (not (is_some (rule_in_force before (scope_of e) rule.name))) (fault_at e.file rule.spot (UnknownRule rule.name))
 
@@ -82,11 +82,11 @@ names_fault file spot declared inputs n =
 
 -- The edge is the one that the statement makes, with its block and without the inputs that it loses. A name of the file has the
 -- value that it has before the statement.
-abbrev pub late_fault : (before : List Entry) → EdgeText → Option GraphFault
+abbrev pub late_fault : (before : List ReadStatement) → EdgeText → Option GraphFault
 late_fault before edge = names_fault edge.file edge.spot (pools before) (inputs_of edge.paths) (names_of_edge before edge)
 
 -- its rule, its outputs from left to right, its inputs, its validations; then the variables of the rule, the pool, the dyndep file
-abbrev pub build_fault : Entry → (before : List Entry) → OutputsText → NameText → InputsText → List LineText → Option GraphFault
+abbrev pub build_fault : ReadStatement → (before : List ReadStatement) → OutputsText → NameText → InputsText → List LineText → Option GraphFault
 build_fault e before outputs rule inputs lines =
     or_then (unknown_rule e before rule)
     (or_then (paths_fault e.file (line_values e before lines) (paths_of_edges (edges_read before)) outputs inputs)
@@ -102,6 +102,6 @@ unknown_target file values edges word =
 abbrev pub target_fault : (file : List ℕ) → Values → List EdgePaths → WordText → Option GraphFault
 target_fault file values edges word = or_then (empty_path file values word) (unknown_target file values edges word)
 
-abbrev pub default_fault : Entry → (before : List Entry) → List WordText → Option GraphFault
+abbrev pub default_fault : ReadStatement → (before : List ReadStatement) → List WordText → Option GraphFault
 default_fault e before words =
     first_fault (target_fault e.file (value_after before (scope_of e)) (paths_of_edges (edges_read before))) words

@@ -1,7 +1,7 @@
 -- What the statements of a run yield after the last one: its edges and defaults, or a dependency cycle.
 use Rattle.std.specs.Prelude.{◌≡◌, ◌⊎◌, ℕ, Some, Result, Ok, Err, List, [], ◌∷◌, map, length, slice_get, slice_index_or}
 use Rattle.nj_text.specs.declared.spot.Spot.{Spot}
-use Rattle.nj_scope.specs.ReadingList.{Entry}
+use Rattle.nj_scope.specs.ReadingList.{ReadStatement}
 use Rattle.nj_edge_env.specs.Blocks.{BlocksText, bound_in}
 use Rattle.nj_cycles.specs.Cycles.{IsAcyclic, IsLeastOnCycle}
 use Rattle.nj_edges.specs.EdgeGraphs.{EdgeGraph}
@@ -47,7 +47,7 @@ abbrev pub detail_of : EdgeText → EdgeDetail
 detail_of e = record { file = e.file; spot = e.spot; scope = e.number; rule = e.rule }
 
 -- It has the edges and the defaults of these statements, of which the last read stands first.
-pub record IsBuiltOf (built : BuiltText) (entries : List Entry) : Type 0 where
+pub record IsBuiltOf (built : BuiltText) (entries : List ReadStatement) : Type 0 where
   pub paths : built.graph.edges ≡ paths_of_edges (edges_read entries)
   pub details : built.details ≡ map detail_of (edges_read entries)
   pub blocks : (number : ℕ) (name : List ℕ) → bound_in built.blocks number name ≡ block_at (edges_read entries) number name
@@ -66,7 +66,7 @@ pub record IsCycleFault (edges : List EdgeText) (fault : GraphFault) : Type 0 wh
   pub fault_is : fault ≡ fault_at edge.file edge.spot (Cycle output)
 
 -- Where no edge lies on a cycle, the statements yield their edges and defaults.
-abbrev pub ComesTo : List Entry → Result BuiltText GraphFault → Type 0
+abbrev pub ComesTo : List ReadStatement → Result BuiltText GraphFault → Type 0
 ComesTo entries (Ok built) =
     IsBuiltOf built entries × IsAcyclic (makers_of_inputs (paths_of_edges (edges_read entries))) (length (edges_read entries))
 ComesTo entries (Err fault) = (fault ≡ no_memory) ⊎ IsCycleFault (edges_read entries) fault

@@ -10,7 +10,7 @@ use Rattle.nj_manifest.specs.LineSteps.{NameText}
 use Rattle.nj_manifest.specs.Statements.{LineText, OutputsText, InputsText, StatementText, BuildText, DefaultText}
 use Rattle.nj_scope.specs.Rules.{RuleText, RuleLineText}
 use Rattle.nj_scope.specs.Scopes.{expanded}
-use Rattle.nj_scope.specs.ReadingList.{Discovered, Entry, scope_of, value_after, rule_in_force, rule_texts}
+use Rattle.nj_scope.specs.ReadingList.{Discovered, ReadStatement, scope_of, value_after, rule_in_force, rule_texts}
 use Rattle.nj_edges.specs.Edges.{EdgePaths, outputs_of, is_among}
 use Rattle.nj_edge_env.specs.LateTexts.{LateNames, asked_text}
 
@@ -83,14 +83,14 @@ without_own e = record e { explicit_inputs = of_others e e.explicit_inputs; orde
 abbrev pub edge_paths : EdgePaths → EdgePaths
 edge_paths e = if loses_own e then without_own e else e
 
-abbrev pub rule_number : Entry → (before : List Entry) → NameText → ℕ
+abbrev pub rule_number : ReadStatement → (before : List ReadStatement) → NameText → ℕ
 rule_number e before rule = unwrap_or (rule_in_force before (scope_of e) rule.name) 0
 
-abbrev pub build_block : Entry → (before : List Entry) → List LineText → Block
+abbrev pub build_block : ReadStatement → (before : List ReadStatement) → List LineText → Block
 build_block e before lines = block_of (value_after before (scope_of e)) lines
 
 -- what the names on its line stand for
-abbrev pub line_values : Entry → (before : List Entry) → List LineText → Values
+abbrev pub line_values : ReadStatement → (before : List ReadStatement) → List LineText → Values
 line_values e before lines = on_line (value_after before (scope_of e)) (build_block e before lines)
 
 -- Discovered files are implicit: they come after the implicit ones of the statement itself, its inputs before the order-only ones.
@@ -103,7 +103,7 @@ with_discovered (Some found) e = record e {
 
 -- The edge of a build statement, by the statements before it, of which the last read stands first. It loses its own outputs as
 -- inputs before discovered files are added.
-abbrev pub edge_of_build : Entry → (before : List Entry) → OutputsText → NameText → InputsText → List LineText → EdgeText
+abbrev pub edge_of_build : ReadStatement → (before : List ReadStatement) → OutputsText → NameText → InputsText → List LineText → EdgeText
 edge_of_build e before outputs rule inputs lines = record {
   file = e.file;
   spot = e.spot;
@@ -115,12 +115,12 @@ edge_of_build e before outputs rule inputs lines = record {
       (edge_paths (stated_paths (line_values e before lines) outputs inputs (rule_number e before rule == 0)));
 }
 
-abbrev pub with_edge : Entry → (before : List Entry) → StatementText → List EdgeText → List EdgeText
+abbrev pub with_edge : ReadStatement → (before : List ReadStatement) → StatementText → List EdgeText → List EdgeText
 with_edge e before (BuildText outputs rule inputs lines) edges = edges ++ edge_of_build e before outputs rule inputs lines ∷ []
 with_edge e before item edges = edges
 
 -- the edges of these statements, of which the last read stands first
-unfoldable pub edges_read : List Entry → List EdgeText
+unfoldable pub edges_read : List ReadStatement → List EdgeText
 edges_read [] = []
 edges_read (e ∷ before) = with_edge e before e.item (edges_read before)
 
@@ -137,12 +137,12 @@ paths_of_edges edges = map (λ e. e.paths) edges
 
 -- ---- defaults
 
-abbrev pub with_defaults : Entry → (before : List Entry) → StatementText → List (List ℕ) → List (List ℕ)
+abbrev pub with_defaults : ReadStatement → (before : List ReadStatement) → StatementText → List (List ℕ) → List (List ℕ)
 with_defaults e before (DefaultText words) paths = paths ++ paths_said (value_after before (scope_of e)) words
 with_defaults e before item paths = paths
 
 -- the paths of all `default` lines
-unfoldable pub defaults_read : List Entry → List (List ℕ)
+unfoldable pub defaults_read : List ReadStatement → List (List ℕ)
 defaults_read [] = []
 defaults_read (e ∷ before) = with_defaults e before e.item (defaults_read before)
 
@@ -154,7 +154,7 @@ lines_of_rule None = []
 
 -- What the names of an edge depend on, where its rule is used after these statements: its block and its rule are those of its own
 -- statement, its paths those that it keeps, and a name of the file has the value that it has by then.
-abbrev pub names_of_edge : List Entry → EdgeText → LateNames
+abbrev pub names_of_edge : List ReadStatement → EdgeText → LateNames
 names_of_edge entries e = record {
   inputs = e.paths.explicit_inputs;
   outputs = e.paths.explicit_outputs;
@@ -176,7 +176,7 @@ abbrev pub file_said : (text : List ℕ) → Option (List ℕ)
 file_said text = if is_empty text then None else Some (clean_path_of text)
 
 -- the dyndep file of an edge: what the variable says at its build statement
-abbrev pub dyndep_of : (before : List Entry) → EdgeText → Option (List ℕ)
+abbrev pub dyndep_of : (before : List ReadStatement) → EdgeText → Option (List ℕ)
 dyndep_of before edge = file_said (asked_text (names_of_edge before edge) (codes "dyndep"))
 
 -- an edge to which its dyndep file was not joined yet
@@ -185,12 +185,12 @@ pending_at edge (Some found) file = []
 pending_at edge None (Some file) = record { edge = edge; file = file } ∷ []
 pending_at edge None None = []
 
-abbrev pub with_pending : Entry → (before : List Entry) → StatementText → List Pending → List Pending
+abbrev pub with_pending : ReadStatement → (before : List ReadStatement) → StatementText → List Pending → List Pending
 with_pending e before (BuildText outputs rule inputs lines) others =
     others ++ pending_at (length (edges_read before)) e.discovered (dyndep_of before (edge_of_build e before outputs rule inputs lines))
 with_pending e before item others = others
 
 -- the edges that wait for what their dyndep files say, by number
-unfoldable pub pending_read : List Entry → List Pending
+unfoldable pub pending_read : List ReadStatement → List Pending
 pending_read [] = []
 pending_read (e ∷ before) = with_pending e before e.item (pending_read before)

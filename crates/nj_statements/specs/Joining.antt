@@ -4,7 +4,7 @@ use Rattle.std.specs.Prelude.{find, filter, length, slice_get, bytes_eq}
 use Rattle.std.specs.List.{list_any}
 use Rattle.nj_manifest.specs.Statements.{StatementText, BuildText}
 use Rattle.nj_manifest.specs.Dyndeps.{EntryText}
-use Rattle.nj_scope.specs.ReadingList.{Discovered, Entry}
+use Rattle.nj_scope.specs.ReadingList.{Discovered, ReadStatement}
 use Rattle.nj_edges.specs.Edges.{first_output, maker_of}
 use Rattle.nj_faults.specs.declared.fault.GraphFault.{GraphFault}
 use Rattle.nj_faults.specs.declared.fault.Cause.TheVariants.{DyndepExtra, DyndepTwice, DyndepNoStatement}
@@ -23,7 +23,7 @@ is_build (BuildText outputs rule inputs lines) = true
 is_build item = false
 
 -- the statements with what was discovered for the build statement of an edge
-unfoldable pub discover : (edge : ℕ) → Discovered → List Entry → List Entry
+unfoldable pub discover : (edge : ℕ) → Discovered → List ReadStatement → List ReadStatement
 discover edge found [] = []
 discover edge found (e ∷ before) =
     if is_build e.item && length (edges_read before) == edge then record e { discovered = Some found } ∷ before
@@ -34,15 +34,15 @@ abbrev pub discovered_by : EntryText → Discovered
 discovered_by entry = record { outputs = paths_said no_values entry.outs; inputs = paths_said no_values entry.ins }
 
 -- An entry means the build statement that has its output; an output that another entry discovered names none.
-abbrev pub edge_meant : (stated : List Entry) → EntryText → Option ℕ
+abbrev pub edge_meant : (stated : List ReadStatement) → EntryText → Option ℕ
 edge_meant stated entry = maker_of (paths_of_edges (edges_read stated)) (path_said no_values entry.out)
 
-abbrev pub discover_for : Option ℕ → Discovered → List Entry → List Entry
+abbrev pub discover_for : Option ℕ → Discovered → List ReadStatement → List ReadStatement
 discover_for (Some edge) found joined = discover edge found joined
 discover_for None found joined = joined
 
 -- The statements with what an entry adds, by the statements as they were read, and those with what was joined before.
-abbrev pub with_entry : (stated joined : List Entry) → EntryText → List Entry
+abbrev pub with_entry : (stated joined : List ReadStatement) → EntryText → List ReadStatement
 with_entry stated joined entry = discover_for (edge_meant stated entry) (discovered_by entry) joined
 
 -- ---- what is wrong with an entry
@@ -53,7 +53,7 @@ waits_for file edges (Some edge) = list_any (λ p. p.edge == edge && bytes_eq p.
 waits_for file edges None = false
 
 -- The build statement that is meant has to be bound to this file, and to be meant by no other entry.
-abbrev pub meaning_fault : (file : List ℕ) → (stated joined : List Entry) → EntryText → Option GraphFault
+abbrev pub meaning_fault : (file : List ℕ) → (stated joined : List ReadStatement) → EntryText → Option GraphFault
 meaning_fault file stated joined entry =
     let path = path_said no_values entry.out in
     let edge = edge_meant stated entry in
@@ -62,7 +62,7 @@ meaning_fault file stated joined entry =
 
 -- its output, and which statement it means; the outputs that it discovers, from left to right, each of which no other edge may
 -- make; and the inputs
-abbrev pub entry_fault : (file : List ℕ) → (stated joined : List Entry) → EntryText → Option GraphFault
+abbrev pub entry_fault : (file : List ℕ) → (stated joined : List ReadStatement) → EntryText → Option GraphFault
 entry_fault file stated joined entry =
     or_then (empty_path file no_values entry.out)
     (or_then (meaning_fault file stated joined entry)
@@ -75,7 +75,7 @@ abbrev pub no_statement : (file : List ℕ) → EdgeText → GraphFault
 no_statement file e = fault_at e.file e.spot (DyndepNoStatement (unwrap_or (first_output e.paths) []) file)
 
 -- After its last entry no edge may wait for it; the fault is that of the edge of the smallest number.
-abbrev pub lacking_fault : (file : List ℕ) → (joined : List Entry) → Option GraphFault
+abbrev pub lacking_fault : (file : List ℕ) → (joined : List ReadStatement) → Option GraphFault
 lacking_fault file joined =
     option_and_then (λ p. option_map (no_statement file) (slice_get (edges_read joined) p.edge))
     (find (λ p. bytes_eq p.file file) (pending_read joined))

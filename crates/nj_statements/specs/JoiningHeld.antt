@@ -4,7 +4,7 @@ use Rattle.std.specs.Prelude.{Result, Ok, Err, List, [], ◌∷◌, ◌++◌, ma
 use Rattle.std.specs.List.{AllByRecursion, IsDistinct}
 use Rattle.nj_text.specs.Words.{WordText}
 use Rattle.nj_scope.specs.Readings.{IsPrefix}
-use Rattle.nj_scope.specs.ReadingList.{Entry}
+use Rattle.nj_scope.specs.ReadingList.{ReadStatement}
 use Rattle.nj_edge_env.specs.Blocks.{BlocksText, bound_in}
 use Rattle.nj_edges.specs.declared.files.FileNo.{FileNo}
 use Rattle.nj_edges.specs.Edges.{EdgePaths, first_output, maker_of}
@@ -78,7 +78,7 @@ pub record JoiningText : Type 0 where
   pub bound : List (Option (List ℕ))
 
 -- It holds the edges and defaults of the joined statements, the edges of the statements as they were read, and which edges wait.
-pub record HoldsJoined (held : JoiningText) (stated joined : List Entry) : Type 0 where
+pub record HoldsJoined (held : JoiningText) (stated joined : List ReadStatement) : Type 0 where
   pub stated_paths : held.table.stated ≡ paths_of_edges (edges_read stated)
   pub joined_paths : held.table.joined ≡ paths_of_edges (edges_read joined)
   pub none_open : held.table.«open» ≡ none_added
@@ -101,6 +101,6 @@ pub record JoinsNothing (before after : JoiningText) : Type 0 where
   pub bound : after.bound ≡ before.bound
 
 -- the entry has no fault and is joined, or its fault is answered
-abbrev pub JoinsEntry : (after : JoiningText) → Option GraphFault → (stated joined : List Entry) → Result (Unit {0}) GraphFault → Type 0
+abbrev pub JoinsEntry : (after : JoiningText) → Option GraphFault → (stated joined : List ReadStatement) → Result (Unit {0}) GraphFault → Type 0
 JoinsEntry after expected stated joined (Ok done) = (expected ≡ None) × HoldsJoined after stated joined
 JoinsEntry after expected stated joined (Err fault) = IsFault expected fault

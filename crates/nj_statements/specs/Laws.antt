@@ -3,7 +3,7 @@ use Rattle.std.specs.Prelude.{◌≡◌, ℕ, ◌<◌, ◌==◌, Bool, true, fal
 use Rattle.std.specs.List.{AllByRecursion, IsDistinct, list_any, flat_map}
 use Rattle.nj_manifest.specs.Statements.{StatementText, BuildText}
 use Rattle.nj_manifest.specs.Dyndeps.{EntryText}
-use Rattle.nj_scope.specs.ReadingList.{Discovered, Entry, value_after, rule_texts, rule_in_force, pools}
+use Rattle.nj_scope.specs.ReadingList.{Discovered, ReadStatement, value_after, rule_texts, rule_in_force, pools}
 use Rattle.nj_edges.specs.Edges.{EdgePaths, outputs_of, maker_of, is_among}
 use Rattle.nj_edges.specs.Joining.{changed_at}
 use Rattle.nj_statements.specs.EdgeList.{EdgeText, Pending, with_discovered, edges_read, paths_of_edges, defaults_read}
@@ -12,7 +12,7 @@ use Rattle.nj_statements.specs.BuildFaults.{build_fault}
 use Rattle.nj_statements.specs.Joining.{discover, discovered_by, edge_meant, with_entry, waits_for, entry_fault, dyndep_files}
 
 -- an edge waits for a dyndep file
-abbrev pub is_pending : List Entry → (edge : ℕ) → Bool
+abbrev pub is_pending : List ReadStatement → (edge : ℕ) → Bool
 is_pending entries edge = list_any (λ p. p.edge == edge) (pending_read entries)
 
 -- The same edge with discovered files: its outputs stand after the implicit ones, and its inputs after the implicit ones and
@@ -22,16 +22,16 @@ with_found found e = record e { paths = with_discovered (Some found) e.paths }
 
 -- What is discovered for an edge that waits is added to that edge, and every other edge stays as it is.
 abbrev pub AddsToOneEdge : Type 0
-AddsToOneEdge = (entries : List Entry) (edge : ℕ) (found : Discovered) → is_pending entries edge ≡ true
+AddsToOneEdge = (entries : List ReadStatement) (edge : ℕ) (found : Discovered) → is_pending entries edge ≡ true
     → edges_read (discover edge found entries) ≡ changed_at (with_found found) edge (edges_read entries)
 
 -- From then on that edge does not wait, and the others wait as before.
 abbrev pub OthersWaitAsBefore : Type 0
-OthersWaitAsBefore = (entries : List Entry) (edge : ℕ) (found : Discovered)
+OthersWaitAsBefore = (entries : List ReadStatement) (edge : ℕ) (found : Discovered)
     → pending_read (discover edge found entries) ≡ filter (λ p. not (p.edge == edge)) (pending_read entries)
 
 -- What an entry of a dyndep file discovers is added to this edge, which waited for the file.
-pub record AddsToItsEdge (file : List ℕ) (stated joined : List Entry) (entry : EntryText) (edge : ℕ) : Type 0 where
+pub record AddsToItsEdge (file : List ℕ) (stated joined : List ReadStatement) (entry : EntryText) (edge : ℕ) : Type 0 where
   pub meant : edge_meant stated entry ≡ Some edge
   pub waited : waits_for file (pending_read joined) (Some edge) ≡ true
   pub edges : edges_read (with_entry stated joined entry) ≡ changed_at (with_found (discovered_by entry)) edge (edges_read joined)
@@ -39,12 +39,12 @@ pub record AddsToItsEdge (file : List ℕ) (stated joined : List Entry) (entry :
 
 -- An entry that has no fault means one edge that waits, and adds to that one.
 abbrev pub EntriesAddToTheirEdges : Type 0
-EntriesAddToTheirEdges = (file : List ℕ) (stated joined : List Entry) (entry : EntryText)
+EntriesAddToTheirEdges = (file : List ℕ) (stated joined : List ReadStatement) (entry : EntryText)
     → entry_fault file stated joined entry ≡ None → (edge : ℕ) × AddsToItsEdge file stated joined entry edge
 
 -- An edge that has the entry of its dyndep file makes what the entry discovers, which no edge made before; each other file has the
 -- maker that it had.
-pub record MakesWhatItDiscovers (stated joined : List Entry) (entry : EntryText) (edge : ℕ) (path : List ℕ) : Type 0 where
+pub record MakesWhatItDiscovers (stated joined : List ReadStatement) (entry : EntryText) (edge : ℕ) (path : List ℕ) : Type 0 where
   pub new : is_among (discovered_by entry).outputs path ≡ true → maker_of (paths_of_edges (edges_read joined)) path ≡ None
   pub makes : is_among (discovered_by entry).outputs path ≡ true
       → maker_of (paths_of_edges (edges_read (with_entry stated joined entry))) path ≡ Some edge
@@ -52,25 +52,25 @@ pub record MakesWhatItDiscovers (stated joined : List Entry) (entry : EntryText)
       → maker_of (paths_of_edges (edges_read (with_entry stated joined entry))) path ≡ maker_of (paths_of_edges (edges_read joined)) path
 
 abbrev pub EdgesMakeWhatIsDiscovered : Type 0
-EdgesMakeWhatIsDiscovered = (file : List ℕ) (stated joined : List Entry) (entry : EntryText) (edge : ℕ) (path : List ℕ)
+EdgesMakeWhatIsDiscovered = (file : List ℕ) (stated joined : List ReadStatement) (entry : EntryText) (edge : ℕ) (path : List ℕ)
     → entry_fault file stated joined entry ≡ None → edge_meant stated entry ≡ Some edge
     → MakesWhatItDiscovers stated joined entry edge path
 
 -- A build statement as it is read: it has no fault by the statements before it, and nothing is discovered for it yet.
-abbrev pub IsFaultless : Entry → (before : List Entry) → StatementText → Type 0
+abbrev pub IsFaultless : ReadStatement → (before : List ReadStatement) → StatementText → Type 0
 IsFaultless e before (BuildText outputs rule inputs lines) =
     (build_fault e before outputs rule inputs lines ≡ None) × (e.discovered ≡ None)
 IsFaultless e before item = Unit {0}
 
 -- so is each of these statements, of which the last read stands first
-abbrev pub AreFaultless : List Entry → Type 0
+abbrev pub AreFaultless : List ReadStatement → Type 0
 AreFaultless [] = Unit {0}
 AreFaultless (e ∷ before) = IsFaultless e before e.item × AreFaultless before
 
 -- The statements with what entries of dyndep files add, one after the other, each of which has no fault by then.
-pub data IsWithEntries (stated : List Entry) : List Entry → Type 0 where
+pub data IsWithEntries (stated : List ReadStatement) : List ReadStatement → Type 0 where
   as_stated : IsWithEntries stated stated
-  with_one_more : {joined : List Entry} → (file : List ℕ) → (entry : EntryText) → IsWithEntries stated joined
+  with_one_more : {joined : List ReadStatement} → (file : List ℕ) → (entry : EntryText) → IsWithEntries stated joined
       → entry_fault file stated joined entry ≡ None → IsWithEntries stated (with_entry stated joined entry)
 
 -- the outputs of all edges, by edge and then by output
@@ -79,11 +79,11 @@ all_outputs edges = flat_map outputs_of edges
 
 -- Of statements without a fault no two edges make the same file, and no edge makes one twice; nor with what dyndep files add.
 abbrev pub NoFileGetsTwoMakers : Type 0
-NoFileGetsTwoMakers = (stated joined : List Entry) → AreFaultless stated → IsWithEntries stated joined
+NoFileGetsTwoMakers = (stated joined : List ReadStatement) → AreFaultless stated → IsWithEntries stated joined
     → IsDistinct bytes_eq (all_outputs (paths_of_edges (edges_read joined)))
 
 -- What names and rules stand for stays as it is, for statements and for edges, and so do the rules, the pools and the defaults.
-pub record SaysTheSame (entries others : List Entry) : Type 0 where
+pub record SaysTheSame (entries others : List ReadStatement) : Type 0 where
   pub values : value_after others ≡ value_after entries
   pub rules : rule_texts others ≡ rule_texts entries
   pub in_force : rule_in_force others ≡ rule_in_force entries
@@ -92,7 +92,7 @@ pub record SaysTheSame (entries others : List Entry) : Type 0 where
   pub names : (e : EdgeText) → names_of_edge others e ≡ names_of_edge entries e
 
 abbrev pub NamesStay : Type 0
-NamesStay = (entries : List Entry) (edge : ℕ) (found : Discovered) → SaysTheSame entries (discover edge found entries)
+NamesStay = (entries : List ReadStatement) (edge : ℕ) (found : Discovered) → SaysTheSame entries (discover edge found entries)
 
 -- each has a smaller number than those after it
 abbrev pub AreRising : List Pending → Type 0
@@ -100,12 +100,12 @@ AreRising [] = Unit {0}
 AreRising (p ∷ others) = AllByRecursion (λ q. p.edge < q.edge) others × AreRising others
 
 -- The edges that wait are edges of the statements, in ascending order of number, each once.
-pub record StandByNumber (entries : List Entry) : Type 0 where
+pub record StandByNumber (entries : List ReadStatement) : Type 0 where
   pub within : AllByRecursion (λ p. p.edge < length (edges_read entries)) (pending_read entries)
   pub rising : AreRising (pending_read entries)
 
 abbrev pub PendingEdgesRise : Type 0
-PendingEdgesRise = (entries : List Entry) → StandByNumber entries
+PendingEdgesRise = (entries : List ReadStatement) → StandByNumber entries
 
 -- The dyndep files of the edges that wait: each once, with the edge of the smallest number that waits for it, and in the order of these
 -- edges.
@@ -115,4 +115,4 @@ pub record StandOnce (edges : List Pending) : Type 0 where
   pub rising : AreRising (dyndep_files edges)
 
 abbrev pub DyndepFilesStandOnce : Type 0
-DyndepFilesStandOnce = (entries : List Entry) → StandOnce (pending_read entries)
+DyndepFilesStandOnce = (entries : List ReadStatement) → StandOnce (pending_read entries)

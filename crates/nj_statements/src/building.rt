@@ -6,7 +6,7 @@ ghost use Rattle.nj_manifest.specs.Statements.{DefaultText};
 ghost use Rattle.nj_scope.specs.Readings.{IsPrefix};
 ghost use Rattle.nj_scope.specs.Scopes.{IsScope, parent_at};
 ghost use Rattle.nj_scope.specs.Declarations.{DeclaredBy};
-ghost use Rattle.nj_scope.specs.ReadingList.{Entry, rule_in_force, rule_texts};
+ghost use Rattle.nj_scope.specs.ReadingList.{ReadStatement, rule_in_force, rule_texts};
 ghost use Rattle.nj_edges.specs.EdgeTables.{no_files};
 ghost use Rattle.nj_statements.specs.EdgeList.{Values, paths_said, line_values, edge_of_build, edges_read, paths_of_edges};
 ghost use Rattle.nj_statements.specs.BuildFaults.{or_then, first_fault, paths_fault, late_fault, target_fault, build_fault, default_fault};
@@ -117,7 +117,7 @@ impl Building {
         build: &Build<'_>,
     ) -> Result<(), GraphFault>
         requires { place.scope < length declarations.now.scopes }
-        ensures reads { (entries : List Entry) (around : List ℕ) (depth : ℕ)
+        ensures reads { (entries : List ReadStatement) (around : List ℕ) (depth : ℕ)
             → DeclaredBy declarations.now entries
             → IsScope (parent_at declarations.now.scopes) place.entry.scope
             (place.entry.scope ∷ around)
@@ -148,7 +148,7 @@ impl Building {
         rule: NumberedRule<'_>,
     ) -> Result<(), GraphFault>
         requires { place.scope < length declarations.now.scopes }
-        ensures reads { (entries : List Entry) (around : List ℕ) (depth : ℕ)
+        ensures reads { (entries : List ReadStatement) (around : List ℕ) (depth : ℕ)
             → DeclaredBy declarations.now entries
             → IsScope (parent_at declarations.now.scopes) place.entry.scope
             (place.entry.scope ∷ around)
@@ -225,7 +225,7 @@ impl Building {
         words: &[Word<'_>],
     ) -> Result<(), GraphFault>
         requires { place.scope < length declarations.now.scopes }
-        ensures reads { (entries : List Entry) (around : List ℕ) (depth : ℕ)
+        ensures reads { (entries : List ReadStatement) (around : List ℕ) (depth : ℕ)
             → DeclaredBy declarations.now entries
             → IsScope (parent_at declarations.now.scopes) place.entry.scope
             (place.entry.scope ∷ around)
@@ -298,11 +298,11 @@ fn rule_named<'a>(
     name: &[u8],
 ) -> Option<NumberedRule<'a>>
     requires { scope < length declarations.now.scopes }
-    ensures number { (entries : List Entry) (around : List ℕ)
+    ensures number { (entries : List ReadStatement) (around : List ℕ)
         → DeclaredBy declarations.now entries
         → IsScope (parent_at declarations.now.scopes) scope (scope ∷ around)
         → option_map (λ r. r.number) result ≡ rule_in_force entries (scope ∷ around) name.now }
-    ensures rule { (entries : List Entry) → DeclaredBy declarations.now entries
+    ensures rule { (entries : List ReadStatement) → DeclaredBy declarations.now entries
         → IfSome result (λ r. slice_get (rule_texts entries) r.number ≡ Some r.rule.now) }
 {
     let number = declarations.rule(scope, name)?;

@@ -1,7 +1,7 @@
 //! The edges and defaults of a run, after its last statement.
 
 ghost use Rattle.std.specs.Prelude.{◌≡◌, List, ◌<◌, length, None, Some, All, IfOk, option_copied};
-ghost use Rattle.nj_scope.specs.ReadingList.{Entry};
+ghost use Rattle.nj_scope.specs.ReadingList.{ReadStatement};
 ghost use Rattle.nj_edge_env.specs.Blocks.{bound_in};
 ghost use Rattle.nj_edges.specs.Edges.{edge_at, outputs_of, inputs_of, roots_of};
 ghost use Rattle.nj_edges.specs.Files.{path_at, AreFiles};
@@ -60,8 +60,9 @@ impl Building {
     /// A dependency cycle: at the statement of the lowest-numbered edge that lies on one itself,
     /// with the first output of that edge. An edge that only leads into a cycle is not named.
     pub fn finish(self, alloc: Global) -> Result<Built, GraphFault>
-        requires { (entries : List Entry) × HoldsEdges self entries }
-        ensures { (entries : List Entry) → HoldsEdges self entries → ComesTo entries result }
+        requires { (entries : List ReadStatement) × HoldsEdges self entries }
+        ensures { (entries : List ReadStatement) → HoldsEdges self entries
+            → ComesTo entries result }
     {
         let Building {
             edges,

@@ -6,7 +6,7 @@ ghost use Rattle.nj_text.specs.Words.{word_text};
 ghost use Rattle.nj_manifest.specs.Contents.{words_text};
 ghost use Rattle.nj_manifest.specs.DyndepParsers.{entry_text};
 ghost use Rattle.nj_scope.specs.Readings.{IsPrefix};
-ghost use Rattle.nj_scope.specs.ReadingList.{Entry as Statement};
+ghost use Rattle.nj_scope.specs.ReadingList.{ReadStatement};
 ghost use Rattle.nj_edges.specs.Edges.{edge_at, first_output, first_edge, maker_of};
 ghost use Rattle.nj_edges.specs.Files.{path_at};
 ghost use Rattle.nj_edges.specs.Joining.{none_added};
@@ -80,7 +80,7 @@ impl Built {
 
     /// The edges, to which dyndep files can be joined.
     pub fn join(self, alloc: Global) -> Result<Joining, AllocError>
-        ensures { (stated : List Statement) → IsBuiltOf self stated
+        ensures { (stated : List ReadStatement) → IsBuiltOf self stated
             → IfOk result (λ joining. HoldsJoined joining stated stated) }
     {
         let Built {
@@ -215,7 +215,7 @@ impl Joining {
         entry: &Entry<'_>,
     ) -> Result<(), GraphFault>
         requires { slice_get self.old.table.files file.0 ≡ Some name.now }
-        ensures joins { (stated joined : List Statement) → HoldsJoined self.old stated joined
+        ensures joins { (stated joined : List ReadStatement) → HoldsJoined self.old stated joined
             → JoinsEntry self.new (entry_fault name.now stated joined (entry_text entry.now))
             stated (with_entry stated joined (entry_text entry.now)) result }
         ensures refused { OnErr result (JoinsNothing self.old self.new) }
@@ -239,7 +239,7 @@ impl Joining {
     /// The lowest-numbered edge that does, at its build statement; or an allocation failed.
     pub fn end_file(&self, alloc: Global, file: FileNo) -> Result<(), GraphFault>
         requires { file.0 < length self.now.table.files }
-        ensures { (stated joined : List Statement) → HoldsJoined self.now stated joined
+        ensures { (stated joined : List ReadStatement) → HoldsJoined self.now stated joined
             → Checks (lacking_fault (path_at self.now.table.files file) joined) result }
     {
         if is_zero(&self.waiting, file.0) {
@@ -282,7 +282,7 @@ impl Joining {
     /// A dependency cycle, as before dyndep files were joined.
     pub fn finish(self, alloc: Global) -> Result<Built, GraphFault>
         requires { self.table.«open» ≡ none_added }
-        ensures { (stated joined : List Statement) → HoldsJoined self stated joined
+        ensures { (stated joined : List ReadStatement) → HoldsJoined self stated joined
             → pending_read joined ≡ [] → ComesTo joined result }
     {
         let Joining {

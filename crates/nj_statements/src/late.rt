@@ -3,7 +3,7 @@
 ghost use Rattle.std.specs.Prelude.{◌≡◌, List, false, codes, IfOk, OnOk};
 ghost use Rattle.nj_edge_env.specs.LateTexts.{LateNames, asked_text};
 ghost use Rattle.nj_edge_env.specs.ReferencesHeld.{TellsCycles};
-ghost use Rattle.nj_scope.specs.ReadingList.{Entry, pools};
+ghost use Rattle.nj_scope.specs.ReadingList.{ReadStatement, pools};
 ghost use Rattle.nj_statements.specs.BuildFaults.{variable_cycle_fault, unknown_pool, dyndep_not_input, names_fault};
 ghost use Rattle.nj_statements.specs.EdgeList.{file_said};
 ghost use Rattle.nj_statements.specs.Answers.{Checks};
@@ -35,11 +35,13 @@ impl LateLine<'_, '_> {
         edges: &Edges,
         references: &KeyReferences,
     ) -> Result<Option<FileNo>, GraphFault>
-        ensures fault { (entries : List Entry) (n : LateNames) → SeesLate self.entry.edge entries n
+        ensures fault { (entries : List ReadStatement) (n : LateNames)
+            → SeesLate self.entry.edge entries n
             → TellsCycles n.lines references.now
             → Checks (names_fault self.entry.place.file.now self.entry.place.spot (pools entries)
             edges.now.«open».inputs n) result }
-        ensures file { (entries : List Entry) (n : LateNames) → SeesLate self.entry.edge entries n
+        ensures file { (entries : List ReadStatement) (n : LateNames)
+            → SeesLate self.entry.edge entries n
             → IfOk result (λ file. IsFileSaid edges.now.files file
             (file_said (asked_text n (codes "dyndep")))) }
     {
@@ -50,7 +52,8 @@ impl LateLine<'_, '_> {
 
     // Sets a text to what a name says.
     fn say(self, text: &mut Vec<u8>, name: &[u8]) -> Result<(), AllocError>
-        ensures { (entries : List Entry) (n : LateNames) → SeesLate self.entry.edge entries n
+        ensures { (entries : List ReadStatement) (n : LateNames)
+            → SeesLate self.entry.edge entries n
             → OnOk result (text.new.items ≡ asked_text n name.now) }
     {
         text.clear();
@@ -59,7 +62,8 @@ impl LateLine<'_, '_> {
 
     // Refuses a variable of the rule that refers back to itself.
     fn check_cycle(self, references: &KeyReferences) -> Result<(), GraphFault>
-        ensures { (entries : List Entry) (n : LateNames) → SeesLate self.entry.edge entries n
+        ensures { (entries : List ReadStatement) (n : LateNames)
+            → SeesLate self.entry.edge entries n
             → TellsCycles n.lines references.now
             → Checks (variable_cycle_fault self.entry.place.file.now
             self.entry.place.spot n) result }
@@ -75,7 +79,8 @@ impl LateLine<'_, '_> {
 
     // Refuses a pool that no earlier statement declares; `text` is room for its name.
     fn check_pool(self, text: &mut Vec<u8>) -> Result<(), GraphFault>
-        ensures { (entries : List Entry) (n : LateNames) → SeesLate self.entry.edge entries n
+        ensures { (entries : List ReadStatement) (n : LateNames)
+            → SeesLate self.entry.edge entries n
             → Checks (unknown_pool self.entry.place.file.now self.entry.place.spot (pools entries)
             (asked_text n (codes "pool"))) result }
     {
@@ -90,10 +95,12 @@ impl LateLine<'_, '_> {
 
     // The dyndep file of the edge, if there is one. Refuses one that is no input of the edge.
     fn check_dyndep(self, room: &mut Room, edges: &Edges) -> Result<Option<FileNo>, GraphFault>
-        ensures fault { (entries : List Entry) (n : LateNames) → SeesLate self.entry.edge entries n
+        ensures fault { (entries : List ReadStatement) (n : LateNames)
+            → SeesLate self.entry.edge entries n
             → Checks (dyndep_not_input self.entry.place.file.now self.entry.place.spot
             edges.now.«open».inputs (asked_text n (codes "dyndep"))) result }
-        ensures file { (entries : List Entry) (n : LateNames) → SeesLate self.entry.edge entries n
+        ensures file { (entries : List ReadStatement) (n : LateNames)
+            → SeesLate self.entry.edge entries n
             → IfOk result (λ file. IsFileSaid edges.now.files file
             (file_said (asked_text n (codes "dyndep")))) }
     {

@@ -4,7 +4,7 @@ use Rattle.std.specs.Prelude.{option_map}
 use Rattle.std.proofs.lemmas.List.{append-nil}
 use Rattle.std.proofs.lemmas.List.Concat.{flat_map-append}
 use Rattle.nj_scope.specs.Readings.{IsPrefix}
-use Rattle.nj_scope.specs.ReadingList.{Entry}
+use Rattle.nj_scope.specs.ReadingList.{ReadStatement}
 use Rattle.nj_needs.specs.Graphs.{row_of, makers_of, count_of}
 use Rattle.nj_needs.specs.Pages.{IsMarkAfter}
 use Rattle.nj_needs.proofs.PageLaws.{IsMarkAfter-push}
@@ -48,14 +48,14 @@ so_far-all limit all edges remaining left none is = is ∙ ap (λ es. edges ++ e
 
 -- ---- lines
 
-pub lines-append : (entries : List Entry) (edges more : List ℕ) → command_lines entries (edges ++ more) ≡ command_lines entries edges ++ command_lines entries more
+pub lines-append : (entries : List ReadStatement) (edges more : List ℕ) → command_lines entries (edges ++ more) ≡ command_lines entries edges ++ command_lines entries more
 lines-append entries edges more = flat_map-append (command_line entries) edges more
 
-pub lines-last : (entries : List Entry) (edges : List ℕ) (e : ℕ) → command_lines entries (edges ++ e ∷ []) ≡ command_lines entries edges ++ command_line entries e
+pub lines-last : (entries : List ReadStatement) (edges : List ℕ) (e : ℕ) → command_lines entries (edges ++ e ∷ []) ≡ command_lines entries edges ++ command_line entries e
 lines-last entries edges e =
     lines-append entries edges (e ∷ []) ∙ ap (λ t. command_lines entries edges ++ t) (append-nil (command_line entries e))
 
-pub lines-front : (entries : List Entry) (edges more all : List ℕ) → all ≡ edges ++ more → IsPrefix (command_lines entries edges) (command_lines entries all)
+pub lines-front : (entries : List ReadStatement) (edges more all : List ℕ) → all ≡ edges ++ more → IsPrefix (command_lines entries edges) (command_lines entries all)
 lines-front entries edges more all is = (command_lines entries more, ap (command_lines entries) is ∙ lines-append entries edges more)
 
 -- ---- marks

@@ -8,7 +8,7 @@ use Rattle.std.proofs.lemmas.List.Sums.{take_while-cons}
 use Rattle.std.proofs.lemmas.Result.{err_from_is_err_and}
 use Rattle.std.specs.Result.{IsErrAnd}
 use Rattle.nj_scope.specs.Readings.{IsPrefix}
-use Rattle.nj_scope.specs.ReadingList.{Entry}
+use Rattle.nj_scope.specs.ReadingList.{ReadStatement}
 use Rattle.nj_edges.specs.declared.files.FileNo.{FileNo}
 use Rattle.nj_edges.specs.Edges.{inputs_of, edges_from}
 use Rattle.nj_edges.specs.Files.{AreFiles}
@@ -151,12 +151,12 @@ module _ (c : Compilation) where
       by false h = refl
 
 -- there are edges as there are statements of them
-pub count-is : (g : GraphText) (entries : List Entry) → IsGraphOf g entries → length (edges_of g) ≡ length (edges_read entries)
+pub count-is : (g : GraphText) (entries : List ReadStatement) → IsGraphOf g entries → length (edges_of g) ≡ length (edges_read entries)
 count-is g entries is = ap length (graph-edges is) ∙ length-map (edges_read entries) (λ e. e.paths)
 
 -- ---- edge by edge
 
-module _ (entries : List Entry) (rules : List (List ℕ)) (expand : Bool) where
+module _ (entries : List ReadStatement) (rules : List (List ℕ)) (expand : Bool) where
   abbrev told : ℕ → Compilation
   told edge = compilation_of entries expand edge
 
@@ -337,7 +337,7 @@ compdb-with old new text unheld fault result err stops =
 pub compdb-no_memory : (s : SinkState) (text : List ℕ) (unheld : Option ℕ) (result : Result Unit ToolFault) → IsErrAnd result (λ e. e ≡ OutOfMemory) → WritesCompdb s s text unheld result
 compdb-no_memory s text unheld result err = compdb-with s s text unheld OutOfMemory result err (puts-no_memory s [] text)
 
-module _ (entries : List Entry) (directory : List ℕ) (chosen rules : List (List ℕ)) (expand : Bool) (same : (rule : List ℕ) → is_chosen chosen rule ≡ is_chosen rules rule) where
+module _ (entries : List ReadStatement) (directory : List ℕ) (chosen rules : List (List ℕ)) (expand : Bool) (same : (rule : List ℕ) → is_chosen chosen rule ≡ is_chosen rules rule) where
   listed-same : listed_edges entries chosen ≡ listed_edges entries rules
   unfolding listed_edges
   listed-same =

@@ -7,7 +7,7 @@ use Rattle.std.proofs.lemmas.List.Concat.{flat_map-append}
 use Rattle.std.proofs.lemmas.List.Elements.{All-filter, filter-append, filter_more}
 use Rattle.std.proofs.lemmas.Option.{slice_get-map, get_or_from_slice_get}
 use Rattle.nj_text.specs.Quotes.{quoted}
-use Rattle.nj_scope.specs.ReadingList.{Entry}
+use Rattle.nj_scope.specs.ReadingList.{ReadStatement}
 use Rattle.nj_edges.specs.declared.files.FileNo.{FileNo}
 use Rattle.nj_edges.specs.Edges.{EdgePaths, edge_at, outputs_of}
 use Rattle.nj_edges.specs.Files.{path_at, AreFiles}
@@ -55,7 +55,7 @@ module _ {X : Type 0} (paths : List (List ℕ)) (distinct : IsDistinct bytes_eq 
 
 -- ---- the edge of a number as it is stated
 
-module _ (g : GraphText) (entries : List Entry) (is : IsGraphOf g entries) where
+module _ (g : GraphText) (entries : List ReadStatement) (is : IsGraphOf g entries) where
   pub edge-count : length (edges_of g) ≡ length (edges_read entries)
   edge-count = ap length is.built.paths ∙ length-map (edges_read entries) (λ e. e.paths)
 
@@ -156,6 +156,6 @@ no_maker h o maker none is tells = sym (none-is o none tells) ∙ sym (is_none-m
 
 -- ---- what `targets all` writes
 
-pub outputs-are : (entries : List Entry) → outputs_text entries ≡ flat_map (λ e. flat_map (λ path. made_line path (rule_name_of entries e)) (outputs_of e.paths)) (edges_read entries)
+pub outputs-are : (entries : List ReadStatement) → outputs_text entries ≡ flat_map (λ e. flat_map (λ path. made_line path (rule_name_of entries e)) (outputs_of e.paths)) (edges_read entries)
 unfolding outputs_text
 outputs-are entries = refl

@@ -6,7 +6,7 @@ use Rattle.std.proofs.lemmas.List.{map-append, take_more}
 use Rattle.std.proofs.lemmas.List.Concat.{flat_map-append}
 use Rattle.std.proofs.lemmas.List.Elements.{filter-append, filter_agree}
 use Rattle.nj_scope.specs.Readings.{IsPrefix}
-use Rattle.nj_scope.specs.ReadingList.{Entry}
+use Rattle.nj_scope.specs.ReadingList.{ReadStatement}
 use Rattle.nj_edges.specs.declared.files.FileNo.{FileNo}
 use Rattle.nj_edges.specs.EdgeGraphs.{EdgeGraph}
 use Rattle.nj_edges.specs.Edges.{maker_of}
@@ -78,7 +78,7 @@ own-more g targets i d edges lt new =
     ap (own_commands g) (take_more targets i d lt) ∙ own-next g (take i targets) (get_or targets i d) ∙ ap (λ es. own_commands g (take i targets) ++ es) (sym new)
 
 -- the lines of the first targets are a front of all
-pub own-front : (entries : List Entry) (g : EdgeGraph) (targets : List FileNo) (i : ℕ)
+pub own-front : (entries : List ReadStatement) (g : EdgeGraph) (targets : List FileNo) (i : ℕ)
     → IsPrefix (command_lines entries (own_commands g (take i targets))) (command_lines entries (own_commands g targets))
 own-front entries g targets i =
     lines-front entries (own_commands g (take i targets)) _ (own_commands g targets) (ap (own_commands g) (sym (take-append-drop i targets)) ∙ own-append g (take i targets) (drop i targets))

@@ -5,7 +5,7 @@ use Rattle.std.specs.List.{flat_map}
 use Rattle.std.proofs.lemmas.Grind.{common_steps}
 use Rattle.std.proofs.lemmas.List.Concat.{flat_map-append}
 use Rattle.std.proofs.lemmas.List.Folds.{flat_map-map}
-use Rattle.nj_scope.specs.ReadingList.{Entry}
+use Rattle.nj_scope.specs.ReadingList.{ReadStatement}
 use Rattle.nj_edges.specs.declared.edges.EdgeNo.{EdgeNo}
 use Rattle.nj_edges.specs.declared.files.FileNo.{FileNo}
 use Rattle.nj_edges.specs.Edges.{EdgePaths, edge_at, outputs_of, maker_of, users_of, validation_users_of}
@@ -44,10 +44,10 @@ output_lines-are edges (edge ∷ numbers) =
     ∙ sym (flat_map-append (λ path. line (codes "    " ++ path)) (outputs_of (edge_at edges edge.0)) (outputs_of_all edges (map (λ edge. edge.0) numbers)))
 
 -- what is written of a file
-abbrev pub file_text : List Entry → GraphText → FileNo → List ℕ
+abbrev pub file_text : List ReadStatement → GraphText → FileNo → List ℕ
 file_text entries g file = query_in entries (edges_of g) (path_at (files_of g) file)
 
-pub file_texts-are : (entries : List Entry) (g : GraphText) (numbers : List FileNo) → IsGraphOf g entries
+pub file_texts-are : (entries : List ReadStatement) (g : GraphText) (numbers : List FileNo) → IsGraphOf g entries
     → flat_map (file_text entries g) numbers ≡ query_text entries (map (path_at (files_of g)) numbers)
 file_texts-are entries g numbers is =
     ap (λ edges. flat_map (λ file. query_in entries edges (path_at (files_of g) file)) numbers) (graph-edges is)
@@ -89,11 +89,11 @@ validated-some edges (user ∷ users) some = refl
 
 -- ---- parts
 
-pub maker-none : (entries : List Entry) (edges : List EdgePaths) → maker_text entries edges None ≡ []
+pub maker-none : (entries : List ReadStatement) (edges : List EdgePaths) → maker_text entries edges None ≡ []
 unfolding maker_text
 maker-none entries edges = refl
 
-pub maker-parts : (entries : List Entry) (edges : List EdgePaths) (edge : ℕ) (name : List ℕ) (validations : List (List ℕ))
+pub maker-parts : (entries : List ReadStatement) (edges : List EdgePaths) (edge : ℕ) (name : List ℕ) (validations : List (List ℕ))
     → name ≡ rule_name_at entries edge → validations ≡ (edge_at edges edge).validations
     → line (codes "  input: " ++ name) ++ (inputs_by_kind (edge_at edges edge) ++ validations_section validations) ≡ maker_text entries edges (Some edge)
 unfolding maker_text
@@ -107,7 +107,7 @@ maker-parts entries edges edge name validations named are =
 abbrev pub users_part : List EdgePaths → (users : List ℕ) → List ℕ
 users_part edges users = line (codes "  outputs:") ++ lines_after (codes "    ") (outputs_of_all edges users)
 
-pub file-parts : (entries : List Entry) (g : GraphText) (file : FileNo) (path : List ℕ) (maker : Option ℕ) (users validation_users : List ℕ)
+pub file-parts : (entries : List ReadStatement) (g : GraphText) (file : FileNo) (path : List ℕ) (maker : Option ℕ) (users validation_users : List ℕ)
     → slice_get (files_of g) file.0 ≡ Some path → maker ≡ maker_of (edges_of g) (path_at (files_of g) file)
     → users ≡ users_of (edges_of g) (path_at (files_of g) file) → validation_users ≡ validation_users_of (edges_of g) (path_at (files_of g) file)
     → line (path ++ codes ":") ++ (maker_text entries (edges_of g) maker ++ (users_part (edges_of g) users ++ validated_section (edges_of g) validation_users))

@@ -1,7 +1,7 @@
 -- How many levels a tree has.
 use Rattle.std.proofs.Common.{◌≡◌, ℕ, zero, suc, ◌+◌, ◌-◌, ◌<◌, ◌≤◌, Option, Some, None, List, [], ◌∷◌, ◌++◌, map, flat_map, length, refl, ap, ◌∙◌, arith}
 use Rattle.std.specs.List.{AllByRecursion, Contains}
-use Rattle.nj_scope.specs.ReadingList.{Entry}
+use Rattle.nj_scope.specs.ReadingList.{ReadStatement}
 use Rattle.nj_edges.specs.Edges.{edge_at, inputs_of, maker_of}
 use Rattle.nj_statements.specs.EdgeList.{edges_read, paths_of_edges}
 use Rattle.nj_needs.proofs.Bridges.{IsAcyclic-edges, AreWithin-paths}
@@ -23,7 +23,7 @@ flat-same f g Q [] same all = refl
 flat-same f g Q (x ∷ xs) same all = ap (λ t. t ++ flat_map f xs) (same x all.0) ∙ ap (λ t. g x ++ t) (flat-same f g Q xs same all.1)
 
 -- a file whose maker has a rank below both numbers of levels
-tree-enough : (entries : List Entry) (rank : ℕ → ℕ)
+tree-enough : (entries : List ReadStatement) (rank : ℕ → ℕ)
     → ((e f : ℕ) → Contains (map (maker_of (paths_of_edges (edges_read entries))) (inputs_of (edge_at (paths_of_edges (edges_read entries)) e))) (Some f) → rank f < rank e)
     → (n m depth : ℕ) (path : List ℕ)
     → ((e : ℕ) → maker_of (paths_of_edges (edges_read entries)) path ≡ Some e → rank e < n)

@@ -4,7 +4,7 @@ use Rattle.std.proofs.lemmas.Bool.Decides.{nat_tests}
 use Rattle.std.proofs.lemmas.List.{length-append, length-map, map-append, take_all}
 use Rattle.std.proofs.lemmas.List.Elements.{All-nil, All-cons, All-pop}
 use Rattle.std.proofs.lemmas.List.Sums.{sum_by-cons}
-use Rattle.nj_scope.specs.ReadingList.{Entry}
+use Rattle.nj_scope.specs.ReadingList.{ReadStatement}
 use Rattle.nj_edges.specs.Edges.{EdgePaths, maker_of, roots_of}
 use Rattle.nj_edges.specs.Files.{path_at, AreFiles}
 use Rattle.nj_edges.specs.declared.files.FileNo.{FileNo}
@@ -18,15 +18,15 @@ use Rattle.nj_tools.specs.Inside.Trees.{rows_text, tree_lines, rows_lines, rows_
 -- ---- the text
 
 -- the line of a file at a depth
-abbrev pub line_at : List Entry → (depth : ℕ) → (path : List ℕ) → List ℕ
+abbrev pub line_at : List ReadStatement → (depth : ℕ) → (path : List ℕ) → List ℕ
 line_at entries depth path = indent depth ++ file_line entries (maker_of (paths_of_edges (edges_read entries)) path) path
 
 -- what a file of these statements is made of
-abbrev pub made_of : List Entry → (path : List ℕ) → List (List ℕ)
+abbrev pub made_of : List ReadStatement → (path : List ℕ) → List (List ℕ)
 made_of entries path = inputs_of_maker (paths_of_edges (edges_read entries)) (maker_of (paths_of_edges (edges_read entries)) path)
 
 -- what is left is first of the deepest row
-pub rows-last : (entries : List Entry) (levels depth : ℕ) (rows : List (List (List ℕ))) (row : List (List ℕ))
+pub rows-last : (entries : List ReadStatement) (levels depth : ℕ) (rows : List (List (List ℕ))) (row : List (List ℕ))
     → rows_text entries levels depth (rows ++ row ∷ [])
     ≡ flat_map (tree_text entries (levels - (depth + length rows)) (depth + length rows)) row ++ rows_text entries levels depth rows
 unfolding rows_text
@@ -39,7 +39,7 @@ rows-last entries levels depth (upper ∷ rows) row =
     ∙ append_assoc (flat_map (tree_text entries (levels - (depth + 1 + length rows)) (depth + 1 + length rows)) row) _ _
     ∙ ap (λ k. flat_map (tree_text entries (levels - k) k) row ++ rows_text entries levels depth (upper ∷ rows)) deeper
 
-pub rows-top : (entries : List Entry) (levels : ℕ) (rows : List (List (List ℕ))) (row : List (List ℕ))
+pub rows-top : (entries : List ReadStatement) (levels : ℕ) (rows : List (List (List ℕ))) (row : List (List ℕ))
     → rows_text entries levels 0 (rows ++ row ∷ [])
     ≡ flat_map (tree_text entries (levels - length rows) (length rows)) row ++ rows_text entries levels 0 rows
 rows-top entries levels rows row =
@@ -47,17 +47,17 @@ rows-top entries levels rows row =
     rows-last entries levels 0 rows row ∙ ap (λ k. flat_map (tree_text entries (levels - k) k) row ++ rows_text entries levels 0 rows) same
 
 -- an empty row says nothing
-pub rows-empty : (entries : List Entry) (levels : ℕ) (rows : List (List (List ℕ))) → rows_text entries levels 0 (rows ++ [] ∷ []) ≡ rows_text entries levels 0 rows
+pub rows-empty : (entries : List ReadStatement) (levels : ℕ) (rows : List (List (List ℕ))) → rows_text entries levels 0 (rows ++ [] ∷ []) ≡ rows_text entries levels 0 rows
 rows-empty entries levels rows = rows-top entries levels rows []
 
 -- no level of any tree
-no-levels : (entries : List Entry) (depth : ℕ) (paths : List (List ℕ)) → flat_map (tree_text entries 0 depth) paths ≡ []
+no-levels : (entries : List ReadStatement) (depth : ℕ) (paths : List (List ℕ)) → flat_map (tree_text entries 0 depth) paths ≡ []
 unfolding tree_text
 no-levels entries depth [] = refl
 no-levels entries depth (path ∷ paths) = no-levels entries depth paths
 
 -- a file, what it is made of, what is left of its row, and the rows above
-pub turn : (entries : List Entry) (levels : ℕ) (rows : List (List (List ℕ))) (path : List ℕ) (paths : List (List ℕ)) → length rows < levels
+pub turn : (entries : List ReadStatement) (levels : ℕ) (rows : List (List (List ℕ))) (path : List ℕ) (paths : List (List ℕ)) → length rows < levels
     → rows_text entries levels 0 (rows ++ (path ∷ paths) ∷ [])
     ≡ line_at entries (length rows) path
     ++ (flat_map (tree_text entries (levels - (length rows + 1)) (length rows + 1)) (made_of entries path) ++ rows_text entries levels 0 (rows ++ paths ∷ []))
@@ -76,7 +76,7 @@ turn entries levels rows path paths below =
     ∙ ap (λ t. head ++ (under ++ t)) (sym (rows-top entries levels rows paths))
 
 -- the rows after it
-pub turn-after : (entries : List Entry) (edges : List EdgePaths) (levels : ℕ) (rows : List (List (List ℕ))) (path : List ℕ) (paths : List (List ℕ))
+pub turn-after : (entries : List ReadStatement) (edges : List EdgePaths) (levels : ℕ) (rows : List (List (List ℕ))) (path : List ℕ) (paths : List (List ℕ))
     → edges ≡ paths_of_edges (edges_read entries) → length rows < levels
     → rows_text entries levels 0 (rows ++ (path ∷ paths) ∷ [])
     ≡ indent (length rows) ++ file_line entries (maker_of edges path) path ++ rows_text entries levels 0 (rows_after edges levels rows path paths)
@@ -117,7 +117,7 @@ indent-next text depth =
     append_assoc text (indent depth) (codes "  ") ∙ ap (λ t. text ++ t) (sym (indent-more depth)) ∙ ap (λ n. text ++ indent n) (sym next)
 
 -- that of a file that an edge makes
-pub made-line : (entries : List Entry) (edges : List EdgePaths) (files : List (List ℕ)) (file : FileNo) (edge : ℕ) (path rule : List ℕ)
+pub made-line : (entries : List ReadStatement) (edges : List EdgePaths) (files : List (List ℕ)) (file : FileNo) (edge : ℕ) (path rule : List ℕ)
     → Some edge ≡ maker_of edges (path_at files file) → slice_get files file.0 ≡ Some path → rule ≡ rule_name_at entries edge
     → line (path ++ codes ": " ++ rule) ≡ file_line entries (maker_of edges (path_at files file)) (path_at files file)
 unfolding file_line
@@ -127,7 +127,7 @@ made-line entries edges files file edge path rule maker found named =
     ∙ ap (λ m. file_line entries m (path_at files file)) maker
 
 -- that of a source
-pub source-line : (entries : List Entry) (edges : List EdgePaths) (files : List (List ℕ)) (file : FileNo) (path : List ℕ)
+pub source-line : (entries : List ReadStatement) (edges : List EdgePaths) (files : List (List ℕ)) (file : FileNo) (path : List ℕ)
     → None ≡ maker_of edges (path_at files file) → slice_get files file.0 ≡ Some path
     → line (path ++ [] ++ []) ≡ file_line entries (maker_of edges (path_at files file)) (path_at files file)
 unfolding file_line
@@ -259,7 +259,7 @@ empty-is [] none = refl
 empty-is (x ∷ row) none = absurd (omega (arith, none))
 
 -- the roots alone
-pub first-rows : (entries : List Entry) (edges : List EdgePaths) (files : List (List ℕ)) (levels depth : ℕ) (items : List (Bor (List FileNo))) (roots : Bor (List FileNo))
+pub first-rows : (entries : List ReadStatement) (edges : List EdgePaths) (files : List (List ℕ)) (levels depth : ℕ) (items : List (Bor (List FileNo))) (roots : Bor (List FileNo))
     → edges ≡ paths_of_edges (edges_read entries) → levels ≡ levels_of edges depth → items ≡ roots ∷ [] → AreFiles files roots.now (roots_of edges)
     → trees_text entries depth ≡ rows_text entries levels 0 (rows_of files items)
 unfolding trees_text rows_text
@@ -271,7 +271,7 @@ first-rows entries edges files levels depth items roots stated asked is are =
     ∙ ap (λ rows. rows_text entries levels 0 (rows_of files rows)) (sym is)
 
 -- a turn, in what is still to be written
-pub written-turn : (entries : List Entry) (edges : List EdgePaths) (files : List (List ℕ)) (levels depth : ℕ) (items rest : List (Bor (List FileNo))) (row : Bor (List FileNo)) (file : FileNo) (others : List FileNo) (whole done : List ℕ)
+pub written-turn : (entries : List ReadStatement) (edges : List EdgePaths) (files : List (List ℕ)) (levels depth : ℕ) (items rest : List (Bor (List FileNo))) (row : Bor (List FileNo)) (file : FileNo) (others : List FileNo) (whole done : List ℕ)
     → edges ≡ paths_of_edges (edges_read entries) → depth ≡ length rest → length rest < levels → items ≡ rest ++ row ∷ [] → row.now ≡ file ∷ others
     → whole ≡ done ++ rows_text entries levels 0 (rows_of files items)
     → whole ≡ (done ++ (indent depth ++ file_line entries (maker_of edges (path_at files file)) (path_at files file)))
@@ -317,7 +317,7 @@ smaller-after edges files levels items rest after row file others below is row_i
     omega (arith, held, before, fewer, after_lines, after_count, lines, rows)
 
 -- an empty row, in what is still to be written
-pub written-empty : (entries : List Entry) (files : List (List ℕ)) (levels : ℕ) (items rest : List (Bor (List FileNo))) (row : Bor (List FileNo)) (whole done : List ℕ)
+pub written-empty : (entries : List ReadStatement) (files : List (List ℕ)) (levels : ℕ) (items rest : List (Bor (List FileNo))) (row : Bor (List FileNo)) (whole done : List ℕ)
     → items ≡ rest ++ row ∷ [] → row.now ≡ [] → whole ≡ done ++ rows_text entries levels 0 (rows_of files items)
     → whole ≡ done ++ rows_text entries levels 0 (rows_of files rest)
 written-empty entries files levels items rest row whole done is row_is whole_is =
@@ -338,7 +338,7 @@ smaller-empty edges files levels items rest row is row_is =
     omega (arith, held, before, fewer, lines, rows)
 
 -- nothing is left
-pub written-all : (entries : List Entry) (files : List (List ℕ)) (levels : ℕ) (items : List (Bor (List FileNo))) (whole done : List ℕ)
+pub written-all : (entries : List ReadStatement) (files : List (List ℕ)) (levels : ℕ) (items : List (Bor (List FileNo))) (whole done : List ℕ)
     → items ≡ [] → whole ≡ done ++ rows_text entries levels 0 (rows_of files items) → done ≡ whole
 unfolding rows_text
 written-all entries files levels items whole done is whole_is =

@@ -4,7 +4,7 @@ use Rattle.std.specs.Prelude.{codes}
 use Rattle.nj_text.specs.Words.{Text, WordText}
 use Rattle.nj_text.specs.Paths.{clean_path_of, without_leftmost_pair}
 use Rattle.nj_manifest.specs.Statements.{StatementText, BuildText}
-use Rattle.nj_scope.specs.ReadingList.{Entry, bounds}
+use Rattle.nj_scope.specs.ReadingList.{ReadStatement, bounds}
 use Rattle.nj_statements.specs.EdgeList.{edges_read, paths_of_edges}
 use Rattle.nj_tools.specs.Listings.{file_line, indent, levels_of, tree_text}
 
@@ -12,7 +12,7 @@ abbrev word : (text : List ℕ) → WordText
 word text = record { spot = record { line = 1; column = 7 }; parts = Text text ∷ [] }
 
 -- a statement on a line of its own
-abbrev on : (line : ℕ) → StatementText → Entry
+abbrev on : (line : ℕ) → StatementText → ReadStatement
 on line item = record { file = codes "build.ninja"; spot = record { line = line; column = 1 }; depth = 0; number = 0; around = []; item = item; discovered = None }
 
 abbrev build : (output : List ℕ) → (inputs : List WordText) → StatementText
@@ -21,7 +21,7 @@ build output inputs =
     (record { explicit = inputs; implicit = []; order_only = []; validations = [] }) []
 
 -- the last statement stands first
-abbrev two : List Entry
+abbrev two : List ReadStatement
 two = on 2 (build (codes "b") (word (codes "a") ∷ word (codes "c") ∷ [])) ∷ on 1 (build (codes "a") []) ∷ []
 
 pub row-indent : indent 2 ≡ codes "    "

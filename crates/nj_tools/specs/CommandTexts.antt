@@ -1,7 +1,7 @@
 -- What `commands` writes: for each edge its command, as a line.
 use Rattle.std.specs.Prelude.{◌≡◌, ◌≢◌, ℕ, not, Option, Some, None, List, [], ◌∷◌, ◌++◌, map, take, drop, filter, codes}
 use Rattle.std.specs.List.{flat_map}
-use Rattle.nj_scope.specs.ReadingList.{Entry}
+use Rattle.nj_scope.specs.ReadingList.{ReadStatement}
 use Rattle.nj_edges.specs.declared.files.FileNo.{FileNo}
 use Rattle.nj_edges.specs.EdgeGraphs.{EdgeGraph}
 use Rattle.nj_edges.specs.Edges.{EdgePaths}
@@ -14,11 +14,11 @@ use Rattle.nj_needs.specs.Walks.{WalkState}
 use Rattle.nj_graph.specs.Graph.{late_text_of}
 
 -- the command of the edge of a number, and a line end
-abbrev pub command_line : List Entry → (number : ℕ) → List ℕ
+abbrev pub command_line : List ReadStatement → (number : ℕ) → List ℕ
 command_line entries number = late_text_of entries number (codes "command") ++ 10 ∷ []
 
 -- the lines of edges, in their order; edges whose commands are the same have a line each
-abbrev pub command_lines : List Entry → (numbers : List ℕ) → List ℕ
+abbrev pub command_lines : List ReadStatement → (numbers : List ℕ) → List ℕ
 command_lines entries numbers = flat_map (command_line entries) numbers
 
 -- ---- the needed edges

@@ -4,7 +4,7 @@ use Rattle.std.specs.Prelude.{map, find, take_while, flat_map, slice_get, codes,
 use Rattle.std.specs.Str.{is_utf8}
 use Rattle.serde_json.specs.Data.{string}
 use Rattle.serde_json.specs.Written.{compact_text}
-use Rattle.nj_scope.specs.ReadingList.{Entry}
+use Rattle.nj_scope.specs.ReadingList.{ReadStatement}
 use Rattle.nj_edges.specs.Edges.{edge_at, inputs_of, outputs_of, is_among, edges_from}
 use Rattle.nj_statements.specs.EdgeList.{EdgeText, edges_read, paths_of_edges}
 use Rattle.nj_graph.specs.Graph.{late_text_of, rule_name_of}
@@ -26,11 +26,11 @@ abbrev pub is_chosen : (rules : List (List ℕ)) → (rule : List ℕ) → Bool
 is_chosen rules rule = not (has_any rules) || is_among rules rule
 
 -- an edge has an object if it has a command and an input, and its rule is chosen
-abbrev pub has_object : List Entry → (rules : List (List ℕ)) → EdgeText → Bool
+abbrev pub has_object : List ReadStatement → (rules : List (List ℕ)) → EdgeText → Bool
 has_object entries rules e = not e.paths.is_phony && has_any (inputs_of e.paths) && is_chosen rules (rule_name_of entries e)
 
 -- the edges that have one, by number
-unfoldable pub listed_edges : List Entry → (rules : List (List ℕ)) → List ℕ
+unfoldable pub listed_edges : List ReadStatement → (rules : List (List ℕ)) → List ℕ
 listed_edges entries rules = edges_from 0 (has_object entries rules) (edges_read entries)
 
 -- ---- what is written of an edge
@@ -42,13 +42,13 @@ pub record Compilation : Type 0 where
   pub output : List ℕ
 
 -- the command, or what it is without its response file
-abbrev pub command_text : List Entry → (expand : Bool) → (edge : ℕ) → List ℕ
+abbrev pub command_text : List ReadStatement → (expand : Bool) → (edge : ℕ) → List ℕ
 command_text entries expand edge = if expand then command_with_rsp_of entries edge else late_text_of entries edge (codes "command")
 
 abbrev pub first_path : List (List ℕ) → List ℕ
 first_path paths = unwrap_or (slice_get paths 0) []
 
-abbrev pub compilation_of : List Entry → (expand : Bool) → (edge : ℕ) → Compilation
+abbrev pub compilation_of : List ReadStatement → (expand : Bool) → (edge : ℕ) → Compilation
 compilation_of entries expand edge =
     let e = edge_at (paths_of_edges (edges_read entries)) edge in
     record {
@@ -84,11 +84,11 @@ objects_text directory (c ∷ others) =
     10 ∷ (object_text directory c ++ flat_map (λ other. 44 ∷ 10 ∷ object_text directory other) others)
 
 -- what is written of the edges before the first one that JSON cannot hold
-abbrev pub held_before : List Entry → (rules : List (List ℕ)) → (expand : Bool) → List Compilation
+abbrev pub held_before : List ReadStatement → (rules : List (List ℕ)) → (expand : Bool) → List Compilation
 held_before entries rules expand = take_while is_text (map (compilation_of entries expand) (listed_edges entries rules))
 
 -- the first edge that JSON cannot hold
-abbrev pub unheld_edge : List Entry → (rules : List (List ℕ)) → (expand : Bool) → Option ℕ
+abbrev pub unheld_edge : List ReadStatement → (rules : List (List ℕ)) → (expand : Bool) → Option ℕ
 unheld_edge entries rules expand = find (λ edge. not (is_text (compilation_of entries expand edge))) (listed_edges entries rules)
 
 -- the end of the list, which is not written if there is such an edge
@@ -96,7 +96,7 @@ abbrev pub end_text : (unheld : Option ℕ) → List ℕ
 end_text None = 10 ∷ line (codes "]")
 end_text (Some edge) = []
 
-unfoldable pub compdb_text : List Entry → (directory : List ℕ) → (rules : List (List ℕ)) → (expand : Bool) → List ℕ
+unfoldable pub compdb_text : List ReadStatement → (directory : List ℕ) → (rules : List (List ℕ)) → (expand : Bool) → List ℕ
 compdb_text entries directory rules expand =
     codes "[" ++ objects_text (json_string directory) (held_before entries rules expand) ++ end_text (unheld_edge entries rules expand)
 

@@ -1,7 +1,7 @@
 -- What a compilation database is, by the grammar of JSON.
 use Rattle.std.specs.Prelude.{◌≡◌, ℕ, Bool, Some, None, List, [], ◌∷◌, map, codes}
 use Rattle.json.specs.Json.{Json, string, array, object, Items, no_items, item, no_members, member, document}
-use Rattle.nj_scope.specs.ReadingList.{Entry}
+use Rattle.nj_scope.specs.ReadingList.{ReadStatement}
 use Rattle.nj_tools.specs.Compdb.{Compilation, listed_edges, compilation_of, unheld_edge, compdb_text}
 
 -- the object of an edge: these keys, in this order, and no others
@@ -18,6 +18,6 @@ objects_of directory (c ∷ others) = item (object_of directory c) (objects_of d
 
 -- Where JSON can hold the texts of all listed edges, what is written reads as one array: the objects of these edges, in their order.
 abbrev pub CompdbIsJson : Type 0
-CompdbIsJson = (entries : List Entry) (directory : List ℕ) (rules : List (List ℕ)) (expand : Bool) → unheld_edge entries rules expand ≡ None
+CompdbIsJson = (entries : List ReadStatement) (directory : List ℕ) (rules : List (List ℕ)) (expand : Bool) → unheld_edge entries rules expand ≡ None
     → document (compdb_text entries directory rules expand)
     ≡ Some (array (objects_of directory (map (compilation_of entries expand) (listed_edges entries rules))))

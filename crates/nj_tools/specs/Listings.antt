@@ -6,7 +6,7 @@ use Rattle.std.specs.List.{Contains, IsDistinct}
 use Rattle.std.specs.List.Sorted.{IsStrictlySortedBy}
 use Rattle.std.specs.Cmp.Lexicographic.{slice_cmp}
 use Rattle.std.specs.Ordering.{nat_cmp}
-use Rattle.nj_scope.specs.ReadingList.{Entry}
+use Rattle.nj_scope.specs.ReadingList.{ReadStatement}
 use Rattle.nj_text.specs.Quotes.{quoted}
 use Rattle.nj_edges.specs.Edges.{EdgePaths, edge_at, inputs_of, outputs_of, maker_of, roots_of}
 use Rattle.nj_needs.specs.Graphs.{row_of_paths, makers_in, is_phony_in}
@@ -64,7 +64,7 @@ inputs_text style edges targets = flat_map (terminated style) (printed_texts sty
 -- ---- `targets`: lists
 
 -- the outputs of the edges whose rule has this name
-abbrev pub outputs_of_rule : List Entry → (rule : List ℕ) → List (List ℕ)
+abbrev pub outputs_of_rule : List ReadStatement → (rule : List ℕ) → List (List ℕ)
 outputs_of_rule entries rule =
     flat_map (λ e. outputs_of e.paths) (filter (λ e. bytes_eq (rule_name_of entries e) rule) (edges_read entries))
 
@@ -81,13 +81,13 @@ abbrev pub made_line : (path rule : List ℕ) → List ℕ
 made_line path rule = line (path ++ codes ": " ++ rule)
 
 -- all outputs, by edge and then by output
-unfoldable pub outputs_text : List Entry → List ℕ
+unfoldable pub outputs_text : List ReadStatement → List ℕ
 outputs_text entries = flat_map (λ e. flat_map (λ path. made_line path (rule_name_of entries e)) (outputs_of e.paths)) (edges_read entries)
 
 -- ---- `targets`: trees
 
 -- a file by the edge that makes it: `PATH: RULE`, or `PATH` for a source
-unfoldable pub file_line : List Entry → (maker : Option ℕ) → (path : List ℕ) → List ℕ
+unfoldable pub file_line : List ReadStatement → (maker : Option ℕ) → (path : List ℕ) → List ℕ
 file_line entries (Some edge) path = made_line path (rule_name_at entries edge)
 file_line entries None path = line path
 
@@ -102,7 +102,7 @@ indent zero = []
 indent (suc depth) = codes "  " ++ indent depth
 
 -- A file at a depth, then what it is made of, one level deeper, and so on, for this many levels.
-unfoldable pub tree_text : List Entry → (levels depth : ℕ) → (path : List ℕ) → List ℕ
+unfoldable pub tree_text : List ReadStatement → (levels depth : ℕ) → (path : List ℕ) → List ℕ
 tree_text entries zero depth path = []
 tree_text entries (suc levels) depth path =
     let edges = paths_of_edges (edges_read entries) in
@@ -115,14 +115,14 @@ abbrev pub levels_of : List EdgePaths → (depth : ℕ) → ℕ
 levels_of edges depth = if depth == 0 then length edges + 1 else depth
 
 -- the trees of the roots
-unfoldable pub trees_text : List Entry → (depth : ℕ) → List ℕ
+unfoldable pub trees_text : List ReadStatement → (depth : ℕ) → List ℕ
 trees_text entries depth =
     let edges = paths_of_edges (edges_read entries) in
     flat_map (tree_text entries (levels_of edges depth) 0) (roots_of edges)
 
 -- ---- `targets`
 
-abbrev pub targets_text : List Entry → TargetsView → List ℕ
+abbrev pub targets_text : List ReadStatement → TargetsView → List ℕ
 targets_text entries (OfRule rule) = sorted_lines (outputs_of_rule entries rule)
 targets_text entries Sources = sorted_lines (sources_in (paths_of_edges (edges_read entries)))
 targets_text entries (Depth depth) = trees_text entries depth

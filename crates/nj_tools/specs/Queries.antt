@@ -1,6 +1,6 @@
 -- What `query` writes of a file: what it is made of, and what is made of it.
 use Rattle.std.specs.Prelude.{ℕ, Option, Some, None, List, [], ◌∷◌, ◌++◌, flat_map, codes}
-use Rattle.nj_scope.specs.ReadingList.{Entry}
+use Rattle.nj_scope.specs.ReadingList.{ReadStatement}
 use Rattle.nj_edges.specs.Edges.{EdgePaths, edge_at, outputs_of, maker_of, users_of, validation_users_of}
 use Rattle.nj_statements.specs.EdgeList.{edges_read, paths_of_edges}
 use Rattle.nj_graph.specs.Graph.{rule_name_at}
@@ -23,7 +23,7 @@ validations_section [] = []
 validations_section (path ∷ paths) = section (codes "  validations:") (path ∷ paths)
 
 -- the edge that makes the file; a source has no such lines
-unfoldable pub maker_text : List Entry → List EdgePaths → (maker : Option ℕ) → List ℕ
+unfoldable pub maker_text : List ReadStatement → List EdgePaths → (maker : Option ℕ) → List ℕ
 maker_text entries edges None = []
 maker_text entries edges (Some edge) =
     line (codes "  input: " ++ rule_name_at entries edge)
@@ -38,7 +38,7 @@ unfoldable pub validated_section : List EdgePaths → (users : List ℕ) → Lis
 validated_section edges [] = []
 validated_section edges (user ∷ users) = section (codes "  validation for:") (outputs_of_all edges (user ∷ users))
 
-unfoldable pub query_in : List Entry → List EdgePaths → (path : List ℕ) → List ℕ
+unfoldable pub query_in : List ReadStatement → List EdgePaths → (path : List ℕ) → List ℕ
 query_in entries edges path =
     line (path ++ codes ":")
     ++ maker_text entries edges (maker_of edges path)
@@ -46,9 +46,9 @@ query_in entries edges path =
     ++ validated_section edges (validation_users_of edges path)
 
 -- of one file
-abbrev pub file_query : List Entry → (path : List ℕ) → List ℕ
+abbrev pub file_query : List ReadStatement → (path : List ℕ) → List ℕ
 file_query entries path = query_in entries (paths_of_edges (edges_read entries)) path
 
 -- of the files in their order; a file that is named twice is listed twice
-abbrev pub query_text : List Entry → (paths : List (List ℕ)) → List ℕ
+abbrev pub query_text : List ReadStatement → (paths : List (List ℕ)) → List ℕ
 query_text entries paths = flat_map (file_query entries) paths

@@ -1,7 +1,7 @@
 //! The commands of edges, a line each.
 
 ghost use Rattle.std.specs.Prelude.{◌≡◌, ℕ, ◌<◌, ◌-◌, ◌++◌, List, [], ◌∷◌, length, All, IfOk, IfSome, OnOk, option_map};
-ghost use Rattle.nj_scope.specs.ReadingList.{Entry};
+ghost use Rattle.nj_scope.specs.ReadingList.{ReadStatement};
 ghost use Rattle.nj_graph.specs.Graph.{edges_of, files_of, IsGraphOf};
 ghost use Rattle.nj_tools.specs.Inside.Blocks.{PutsText};
 ghost use Rattle.nj_needs.specs.Order.{made_by};
@@ -36,7 +36,7 @@ pub fn write_commands<S: Sink>(
     out: &mut S,
 ) -> Result<Option<Mark>, ToolFault>
     requires { needs.old.graph ≡ graph.now.built.graph }
-    ensures writes { (entries : List Entry) → IsGraphOf graph.now entries
+    ensures writes { (entries : List ReadStatement) → IsGraphOf graph.now entries
         → WritesText (S.state out.old) (S.state out.new)
         (command_lines entries (written take needs.old.left)) result }
     ensures mark { IfOk result (λ mark. StopsAt needs.old take mark) }
@@ -69,7 +69,7 @@ pub fn write_single_commands<S: Sink>(
     out: &mut S,
 ) -> Result<(), ToolFault>
     requires { All (λ file. file.0 < length (files_of graph.now)) targets.now }
-    ensures { (entries : List Entry) → IsGraphOf graph.now entries
+    ensures { (entries : List ReadStatement) → IsGraphOf graph.now entries
         → WritesText (S.state out.old) (S.state out.new)
         (command_lines entries (own_commands graph.now.built.graph targets.now)) result }
 {
@@ -125,7 +125,7 @@ fn write_command<S: Sink>(
     out: &mut S,
 ) -> Result<(), ToolFault>
     requires { edge.0 < length (edges_of graph.now) }
-    ensures { (entries : List Entry) → IsGraphOf graph.now entries
+    ensures { (entries : List ReadStatement) → IsGraphOf graph.now entries
         → PutsText (S.state out.old) (S.state out.new) text.old.items text.new.items
         (command_line entries edge.0) result }
 {
@@ -137,7 +137,7 @@ fn write_command<S: Sink>(
 // Appends the command of an edge and a line end.
 fn append_command(graph: &Graph, edge: EdgeNo, text: &mut Vec<u8>) -> Result<(), AllocError>
     requires { edge.0 < length (edges_of graph.now) }
-    ensures { (entries : List Entry) → IsGraphOf graph.now entries
+    ensures { (entries : List ReadStatement) → IsGraphOf graph.now entries
         → OnOk result (text.new.items ≡ text.old.items ++ command_line entries edge.0) }
 {
     graph.append_variable(text, edge, b"command")?;

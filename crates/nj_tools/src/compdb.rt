@@ -1,7 +1,7 @@
 //! Compilation databases.
 
 ghost use Rattle.std.specs.Prelude.{◌≡◌, ◌<◌, ◌++◌, ℕ, List, All, Some, length, map, option_map, slice_get, string_bytes, IfErr, IfOk, IfSome, OnOk};
-ghost use Rattle.nj_scope.specs.ReadingList.{Entry};
+ghost use Rattle.nj_scope.specs.ReadingList.{ReadStatement};
 ghost use Rattle.nj_edges.specs.Files.{AreFiles};
 ghost use Rattle.nj_statements.specs.EdgeList.{edges_read};
 ghost use Rattle.nj_graph.specs.Graph.{edges_of, files_of, IsGraphOf};
@@ -48,7 +48,7 @@ pub fn write_compdb<S: Sink>(
     expand: bool,
     out: &mut S,
 ) -> Result<(), ToolFault>
-    ensures writes { (entries : List Entry) → IsGraphOf graph.now entries
+    ensures writes { (entries : List ReadStatement) → IsGraphOf graph.now entries
         → WritesCompdb (S.state out.old) (S.state out.new)
         (compdb_text entries directory.now (map string_bytes rules.now) expand)
         (unheld_edge entries (map string_bytes rules.now) expand) result }
@@ -81,10 +81,10 @@ fn write_objects<S: Sink>(
     text: &mut Vec<u8>,
     out: &mut S,
 ) -> Result<Option<EdgeNo>, ToolFault>
-    ensures text { (entries : List Entry) → IsGraphOf graph.now entries
+    ensures text { (entries : List ReadStatement) → IsGraphOf graph.now entries
         → PutsText (S.state out.old) (S.state out.new) text.old.items text.new.items
         (objects_text directory.now (held_before entries chosen.now expand)) result }
-    ensures unheld { (entries : List Entry) → IsGraphOf graph.now entries
+    ensures unheld { (entries : List ReadStatement) → IsGraphOf graph.now entries
         → IfOk result (λ edge. option_map (λ edge. edge.0) edge
         ≡ unheld_edge entries chosen.now expand) }
     ensures known { IfOk result (λ edge.
@@ -108,7 +108,7 @@ fn write_objects<S: Sink>(
 // Whether an edge has an object: it has a command and an input, and its rule is chosen.
 fn has_object(graph: &Graph, edge: EdgeNo, chosen: &ChosenRules<'_>) -> bool
     requires { edge.0 < length (edges_of graph.now) }
-    ensures { (entries : List Entry) → IsGraphOf graph.now entries
+    ensures { (entries : List ReadStatement) → IsGraphOf graph.now entries
         → Some result ≡ option_map (has_object entries chosen.now)
         (slice_get (edges_read entries) edge.0) }
 {
@@ -145,7 +145,7 @@ fn strings_of(
     expand: bool,
 ) -> Result<Option<Strings>, AllocError>
     requires { edge.0 < length (edges_of graph.now) }
-    ensures { (entries : List Entry) → IsGraphOf graph.now entries → IfOk result (λ strings.
+    ensures { (entries : List ReadStatement) → IsGraphOf graph.now entries → IfOk result (λ strings.
         strings ≡ held_compilation (compilation_of entries expand edge.0)) }
 {
     let command = command_text(alloc, graph, edge, expand)?;
@@ -173,7 +173,7 @@ fn command_text(
     expand: bool,
 ) -> Result<Vec<u8>, AllocError>
     requires { edge.0 < length (edges_of graph.now) }
-    ensures { (entries : List Entry) → IsGraphOf graph.now entries
+    ensures { (entries : List ReadStatement) → IsGraphOf graph.now entries
         → IfOk result (λ text. text.items ≡ command_text entries expand edge.0) }
 {
     if expand {

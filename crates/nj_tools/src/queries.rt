@@ -1,7 +1,7 @@
 //! What files are made of, and what is made of them.
 
 ghost use Rattle.std.specs.Prelude.{◌≡◌, ◌<◌, List, All, IfSome, length, map, option_map, codes};
-ghost use Rattle.nj_scope.specs.ReadingList.{Entry};
+ghost use Rattle.nj_scope.specs.ReadingList.{ReadStatement};
 ghost use Rattle.nj_edges.specs.Edges.{edge_at};
 ghost use Rattle.nj_edges.specs.Files.{path_at};
 ghost use Rattle.nj_edges.specs.declared.edges.InputKind.{InputKind};
@@ -41,7 +41,7 @@ pub fn write_query<S: Sink>(
     out: &mut S,
 ) -> Result<(), ToolFault>
     requires { All (λ file. file.0 < length (files_of graph.now)) files.now }
-    ensures { (entries : List Entry) → IsGraphOf graph.now entries
+    ensures { (entries : List ReadStatement) → IsGraphOf graph.now entries
         → WritesText (S.state out.old) (S.state out.new)
         (query_text entries (map (path_at (files_of graph.now)) files.now)) result }
 {
@@ -61,7 +61,7 @@ fn write_file<S: Sink>(
     out: &mut S,
 ) -> Result<(), ToolFault>
     requires { file.0 < length (files_of graph.now) }
-    ensures { (entries : List Entry) → IsGraphOf graph.now entries
+    ensures { (entries : List ReadStatement) → IsGraphOf graph.now entries
         → PutsText (S.state out.old) (S.state out.new) text.old.items text.new.items
         (query_in entries (edges_of graph.now) (path_at (files_of graph.now) file)) result }
 {
@@ -80,7 +80,7 @@ fn write_maker<S: Sink>(
     out: &mut S,
 ) -> Result<(), ToolFault>
     requires { IfSome maker (λ edge. edge.0 < length (edges_of graph.now)) }
-    ensures { (entries : List Entry) → IsGraphOf graph.now entries
+    ensures { (entries : List ReadStatement) → IsGraphOf graph.now entries
         → PutsText (S.state out.old) (S.state out.new) text.old.items text.new.items
         (maker_text entries (edges_of graph.now) (option_map (λ edge. edge.0) maker)) result }
 {

@@ -1,7 +1,7 @@
 //! The rules of the main file.
 
 ghost use Rattle.std.specs.Prelude.{◌≡◌, ◌<◌, ◌++◌, List, length, OnOk};
-ghost use Rattle.nj_scope.specs.ReadingList.{Entry};
+ghost use Rattle.nj_scope.specs.ReadingList.{ReadStatement};
 ghost use Rattle.nj_graph.specs.Graph.{IsGraphOf, main_rules, main_rule_at};
 ghost use Rattle.nj_tools.specs.Inside.Blocks.{PutsText};
 ghost use Rattle.nj_tools.specs.RuleLists.{rule_line, rules_text};
@@ -28,7 +28,7 @@ pub fn write_rules<S: Sink>(
     descriptions: bool,
     out: &mut S,
 ) -> Result<(), ToolFault>
-    ensures { (entries : List Entry) → IsGraphOf graph.now entries
+    ensures { (entries : List ReadStatement) → IsGraphOf graph.now entries
         → WritesText (S.state out.old) (S.state out.new) (rules_text entries descriptions) result }
 {
     let mut text = Vec::new(alloc);

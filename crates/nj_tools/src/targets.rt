@@ -2,7 +2,7 @@
 
 ghost use Rattle.std.specs.Prelude.{◌≡◌, ◌<◌, List, All, length, map, filter, flat_map, is_none};
 ghost use Rattle.std.specs.Prelude.{IfOk, OnOk};
-ghost use Rattle.nj_scope.specs.ReadingList.{Entry};
+ghost use Rattle.nj_scope.specs.ReadingList.{ReadStatement};
 ghost use Rattle.nj_edges.specs.Edges.{maker_of};
 ghost use Rattle.nj_edges.specs.Files.{path_at};
 ghost use Rattle.nj_graph.specs.Graph.{edges_of, files_of, IsGraphOf};
@@ -42,7 +42,7 @@ pub fn write_targets<S: Sink>(
     view: &TargetsView,
     out: &mut S,
 ) -> Result<(), ToolFault>
-    ensures { (entries : List Entry) → IsGraphOf graph.now entries
+    ensures { (entries : List ReadStatement) → IsGraphOf graph.now entries
         → WritesText (S.state out.old) (S.state out.new) (targets_text entries view.now) result }
 {
     let mut text = Vec::new(alloc);
@@ -59,7 +59,7 @@ fn write_view<S: Sink>(
     text: &mut Vec<u8>,
     out: &mut S,
 ) -> Result<(), ToolFault>
-    ensures { (entries : List Entry) → IsGraphOf graph.now entries
+    ensures { (entries : List ReadStatement) → IsGraphOf graph.now entries
         → PutsText (S.state out.old) (S.state out.new) text.old.items text.new.items
         (targets_text entries view.now) result }
 {
@@ -81,7 +81,8 @@ fn write_view<S: Sink>(
 fn outputs_of_rule(alloc: Global, graph: &Graph, rule: &[u8]) -> Result<Vec<FileNo>, AllocError>
     ensures known { IfOk result (λ files.
         All (λ file. file.0 < length (files_of graph.now)) files.items) }
-    ensures files { (entries : List Entry) → IsGraphOf graph.now entries → IfOk result (λ files.
+    ensures files { (entries : List ReadStatement) → IsGraphOf graph.now entries
+        → IfOk result (λ files.
         AreOf (files_of graph.now) files.items (outputs_of_rule entries rule.now)) }
 {
     let mut outputs = Collected::new(alloc, graph.file_count())?;
@@ -162,7 +163,7 @@ fn write_paths<S: Sink>(paths: &[&[u8]], text: &mut Vec<u8>, out: &mut S) -> Res
 
 // Writes all outputs with the rules that make them.
 fn write_all<S: Sink>(graph: &Graph, text: &mut Vec<u8>, out: &mut S) -> Result<(), ToolFault>
-    ensures { (entries : List Entry) → IsGraphOf graph.now entries
+    ensures { (entries : List ReadStatement) → IsGraphOf graph.now entries
         → PutsText (S.state out.old) (S.state out.new) text.old.items text.new.items
         (outputs_text entries) result }
 {

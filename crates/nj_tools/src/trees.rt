@@ -1,7 +1,7 @@
 //! Trees of what targets are made of.
 
 ghost use Rattle.std.specs.Prelude.{◌≡◌, ◌<◌, ◌+◌, ◌++◌, List, [], ◌∷◌, All, length, map, OnOk};
-ghost use Rattle.nj_scope.specs.ReadingList.{Entry};
+ghost use Rattle.nj_scope.specs.ReadingList.{ReadStatement};
 ghost use Rattle.nj_edges.specs.Edges.{maker_of};
 ghost use Rattle.nj_edges.specs.Files.{path_at};
 ghost use Rattle.nj_graph.specs.Graph.{edges_of, files_of, IsGraphOf};
@@ -30,7 +30,7 @@ pub(crate) fn write_trees<S: Sink>(
     text: &mut Vec<u8>,
     out: &mut S,
 ) -> Result<(), ToolFault>
-    ensures { (entries : List Entry) → IsGraphOf graph.now entries
+    ensures { (entries : List ReadStatement) → IsGraphOf graph.now entries
         → PutsText (S.state out.old) (S.state out.new) text.old.items text.new.items
         (trees_text entries depth) result }
 {
@@ -105,7 +105,7 @@ fn write_at_depth<S: Sink>(
     out: &mut S,
 ) -> Result<(), ToolFault>
     requires { file.0 < length (files_of graph.now) }
-    ensures { (entries : List Entry) → IsGraphOf graph.now entries
+    ensures { (entries : List ReadStatement) → IsGraphOf graph.now entries
         → PutsText (S.state out.old) (S.state out.new) text.old.items text.new.items
         (indent depth ++ file_line entries
         (maker_of (edges_of graph.now) (path_at (files_of graph.now) file))

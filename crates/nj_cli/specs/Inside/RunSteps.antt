@@ -2,7 +2,7 @@
 use Rattle.std.specs.Prelude.{◌≡◌, ◌⊎◌, ℕ, Bool, Option, Some, None, Result, Ok, Err, List, []}
 use Rattle.nj_scope.specs.Readings.{Reading}
 use Rattle.nj_scope.specs.Sources.{SourceState}
-use Rattle.nj_scope.specs.ReadingList.{Entry}
+use Rattle.nj_scope.specs.ReadingList.{ReadStatement}
 use Rattle.nj_faults.specs.declared.fault.GraphFault.{GraphFault}
 use Rattle.nj_faults.specs.FaultLines.{fault_line}
 use Rattle.nj_faults.specs.declared.fault.Cause.TheVariants.{TextNotUtf8}
@@ -39,7 +39,7 @@ PicksTargets files expected (Err fault) = (fault ≡ no_memory) ⊎ (expected �
 -- the graph of the statements of the files, or what is wrong with these
 abbrev pub GraphOr : RequestText → (before after : SourceState) → List Reading → Result LoadedText GraphFault → Type 0
 GraphOr request before after files (Ok loaded) =
-    (entries : List Entry) × AreStatements request.file request.dyndep before after files entries × IsGraphOf loaded.graph entries
+    (entries : List ReadStatement) × AreStatements request.file request.dyndep before after files entries × IsGraphOf loaded.graph entries
 GraphOr request before after files (Err fault) = HaveFault request.file request.dyndep before after files fault
 
 -- these files were read, each path once
@@ -57,7 +57,7 @@ fault_of_tool tool.Write = fault.Write
 fault_of_tool tool.OutOfMemory = fault.OutOfMemory
 
 -- what was output, and how the run ends accordingly
-abbrev pub AnswersTo : List Entry → ActionText → (old new : SinkState) → Result (Option (List ℕ)) RunFault → Type 0
+abbrev pub AnswersTo : List ReadStatement → ActionText → (old new : SinkState) → Result (Option (List ℕ)) RunFault → Type 0
 AnswersTo entries action old new (Ok None) = EndsWith entries action finished × Takes old new (output_of entries action)
 AnswersTo entries action old new (Ok (Some mark)) = EndsWith entries action (stopped mark) × Takes old new (output_of entries action)
 AnswersTo entries action old new (Err (fault.Graph f)) =

@@ -2,7 +2,7 @@
 use Rattle.std.specs.Prelude.{◌≡◌, ◌≤◌, ℕ, zero, suc, ◌+◌, max, Bool, true, nat_le, if◌then◌else◌, Option, Some, None, is_some, IfSome}
 use Rattle.std.specs.Prelude.{List, ◌∷◌, ◌++◌, length, slice_get, slice_set, slice_range}
 use Rattle.nj_scope.specs.Declarations.{DeclaredBy}
-use Rattle.nj_scope.specs.ReadingList.{Entry, value_after}
+use Rattle.nj_scope.specs.ReadingList.{ReadStatement, value_after}
 use Rattle.nj_scope.specs.Readings.{IsPrefix}
 use Rattle.nj_scope.specs.Rules.{RuleLineText}
 use Rattle.nj_scope.specs.RulesHeld.{key_at, IsNumber}
@@ -21,7 +21,7 @@ Settles block lines (suc depth) name = (other : List ℕ) → RefersTo block lin
 
 -- whatever the statements are of which the declarations are held
 abbrev pub ForEdge : LateEdge → (LateNames → Type 0) → Type 0
-ForEdge e P = (entries : List Entry) (around : List ℕ) → DeclaredBy e.declarations.now entries
+ForEdge e P = (entries : List ReadStatement) (around : List ℕ) → DeclaredBy e.declarations.now entries
     → IsScope (parent_at e.declarations.now.scopes) e.scope (e.scope ∷ around) → P (late_names e (value_after entries (e.scope ∷ around)))
 
 -- the same by the block and the rule of an edge

@@ -10,7 +10,7 @@ use Rattle.nj_manifest.specs.DyndepParsers.{entry_text}
 use Rattle.nj_manifest.specs.Inside.ParserContracts.{left_by}
 use Rattle.nj_scope.specs.Readings.{Reading, paths_of, IsPrefix}
 use Rattle.nj_scope.specs.Sources.{SourceState}
-use Rattle.nj_scope.specs.ReadingList.{Entry}
+use Rattle.nj_scope.specs.ReadingList.{ReadStatement}
 use Rattle.nj_faults.specs.declared.fault.Place.{Place}
 use Rattle.nj_faults.specs.declared.fault.GraphFault.{GraphFault}
 use Rattle.nj_faults.specs.declared.fault.Cause.TheVariants.{PathNotText}
@@ -49,17 +49,17 @@ NextEntryIs file before after result = NextEntryOf file (entry_of before) after 
 -- ---- a text
 
 -- All entries are joined. It remains to check whether an edge waits for the file.
-pub record TextJoined (file : List ℕ) (stated : List Entry) (text : List ℕ) (joined : List Entry) (held : JoiningText) : Type 0 where
-  pub now : List Entry
+pub record TextJoined (file : List ℕ) (stated : List ReadStatement) (text : List ℕ) (joined : List ReadStatement) (held : JoiningText) : Type 0 where
+  pub now : List ReadStatement
   pub holds : HoldsJoined held stated now
   pub joins : text_joined file stated text joined ≡ record { entries = now; end = end_by (lacking_fault file now) }
 
 -- an entry is refused, or the text is
-pub record TextRefused (file : List ℕ) (stated : List Entry) (text : List ℕ) (joined : List Entry) (fault : GraphFault) : Type 0 where
-  pub now : List Entry
+pub record TextRefused (file : List ℕ) (stated : List ReadStatement) (text : List ℕ) (joined : List ReadStatement) (fault : GraphFault) : Type 0 where
+  pub now : List ReadStatement
   pub joins : text_joined file stated text joined ≡ record { entries = now; end = Refused fault }
 
-abbrev pub JoinsText : (file : List ℕ) → (stated : List Entry) → (text : List ℕ) → (joined : List Entry) → JoiningText
+abbrev pub JoinsText : (file : List ℕ) → (stated : List ReadStatement) → (text : List ℕ) → (joined : List ReadStatement) → JoiningText
     → Result (Unit {0}) GraphFault → Type 0
 JoinsText file stated text joined held (Ok done) = TextJoined file stated text joined held
 JoinsText file stated text joined held (Err fault) = (fault ≡ no_memory) ⊎ TextRefused file stated text joined fault
@@ -67,12 +67,12 @@ JoinsText file stated text joined held (Err fault) = (fault ≡ no_memory) ⊎ T
 -- ---- a file
 
 -- the whole file is joined
-pub record FileJoined (stated joined : List Entry) (p : Pending) (before after : SourceState) (old table : List Reading)
+pub record FileJoined (stated joined : List ReadStatement) (p : Pending) (before after : SourceState) (old table : List Reading)
     (held : JoiningText) : Type 0 where
   pub files : List Reading
   pub reads : ReadsAll before after old files table
   pub came_to : with_all_new (paths_of old) (path_asked p) ≡ paths_of files
-  pub now : List Entry
+  pub now : List ReadStatement
   pub holds : HoldsJoined held stated now
   pub joins : (all : List Reading) → IsPrefix files all → file_joined all stated p joined ≡ record { entries = now; end = Whole }
 
@@ -81,9 +81,9 @@ pub record FileLacksMemory (p : Pending) (before after : SourceState) (old files
   pub failures : after.failures ≡ before.failures
   pub came_to : IsPrefix (paths_of files) (with_all_new (paths_of old) (path_asked p))
 
-pub record FileEnds (stated joined : List Entry) (p : Pending) (before after : SourceState) (old files : List Reading)
+pub record FileEnds (stated joined : List ReadStatement) (p : Pending) (before after : SourceState) (old files : List Reading)
     (fault : GraphFault) : Type 0 where
-  pub now : List Entry
+  pub now : List ReadStatement
   pub end : End
   pub answered : IsEnd before after end fault
   pub joins : (all : List Reading) → IsPrefix files all → IsLacking end all
@@ -91,36 +91,36 @@ pub record FileEnds (stated joined : List Entry) (p : Pending) (before after : S
   pub came_to : with_all_new (paths_of old) (path_asked p) ≡ paths_with end files
 
 -- the joining stops at the file
-pub record FileStops (stated joined : List Entry) (p : Pending) (before after : SourceState) (old : List Reading)
+pub record FileStops (stated joined : List ReadStatement) (p : Pending) (before after : SourceState) (old : List Reading)
     (fault : GraphFault) : Type 0 where
   pub files : List Reading
   pub reads : IsRead before after old files
   pub stops : FileLacksMemory p before after old files fault ⊎ FileEnds stated joined p before after old files fault
 
-abbrev pub JoinsFile : (stated joined : List Entry) → Pending → (before after : SourceState) → (old table : List Reading)
+abbrev pub JoinsFile : (stated joined : List ReadStatement) → Pending → (before after : SourceState) → (old table : List Reading)
     → JoiningText → Result (Unit {0}) GraphFault → Type 0
 JoinsFile stated joined p before after old table held (Ok done) = FileJoined stated joined p before after old table held
 JoinsFile stated joined p before after old table held (Err fault) = FileStops stated joined p before after old fault
 
 -- ---- all files
 
-pub record FilesJoined (stated : List Entry) (before after : SourceState) (old table : List Reading) (held : JoiningText)
+pub record FilesJoined (stated : List ReadStatement) (before after : SourceState) (old table : List Reading) (held : JoiningText)
     : Type 0 where
   pub files : List Reading
   pub reads : ReadsAll before after old files table
-  pub now : List Entry
+  pub now : List ReadStatement
   pub holds : HoldsJoined held stated now
   pub paths : List (List ℕ)
   pub came_to : with_all_new (paths_of old) paths ≡ paths_of files
   pub joins : (all : List Reading) → IsPrefix files all
       → all_joined all stated ≡ record { read = record { entries = now; end = Whole }; paths = paths }
 
-pub record FilesStop (stated : List Entry) (before after : SourceState) (old : List Reading) (fault : GraphFault) : Type 0 where
+pub record FilesStop (stated : List ReadStatement) (before after : SourceState) (old : List Reading) (fault : GraphFault) : Type 0 where
   pub files : List Reading
   pub reads : IsRead before after old files
   pub stops : Stops before after files (joined_after old stated) fault
 
-abbrev pub JoinsFiles : (stated : List Entry) → (before after : SourceState) → (old table : List Reading) → JoiningText
+abbrev pub JoinsFiles : (stated : List ReadStatement) → (before after : SourceState) → (old table : List Reading) → JoiningText
     → Result (Unit {0}) GraphFault → Type 0
 JoinsFiles stated before after old table held (Ok done) = FilesJoined stated before after old table held
 JoinsFiles stated before after old table held (Err fault) = FilesStop stated before after old fault

@@ -18,7 +18,7 @@ use Rattle.nj_scope.specs.Sources.{SourceState}
 use Rattle.nj_scope.specs.Opening as table
 use Rattle.nj_scope.specs.Scopes.{ScopeText, parent_at}
 use Rattle.nj_scope.specs.Declarations.{DeclaredBy}
-use Rattle.nj_scope.specs.ReadingList.{Entry, files_opened}
+use Rattle.nj_scope.specs.ReadingList.{ReadStatement, files_opened}
 use Rattle.nj_faults.specs.declared.fault.Place.{Place}
 use Rattle.nj_faults.specs.declared.fault.GraphFault.{GraphFault}
 use Rattle.nj_faults.specs.declared.fault.Cause.TheVariants.{Missing, Io}
@@ -50,7 +50,7 @@ pub record IsNew (held : Reader) : Type 0 where
   pub opened : held.opened ≡ 1
 
 -- It holds what these statements say, of which the last read stands first.
-pub record Holds (main : List ℕ) (held : Reader) (entries : List Entry) : Type 0 where
+pub record Holds (main : List ℕ) (held : Reader) (entries : List ReadStatement) : Type 0 where
   pub declares : DeclaredBy held.declarations entries
   pub edges : HoldsEdges held.building entries
   pub scopes : AllByRecursion (λ e. IsOpenScope held.declarations.scopes e.number e.around) entries
@@ -74,15 +74,15 @@ abbrev pub IsOpenIn : Reader → OpenFile → (around : List ℕ) → Type 0
 IsOpenIn held file around = IsOpenScope held.declarations.scopes file.scope around
 
 -- The property holds of the main file, of the site at which the file is open, and of the statements that were read, whichever they are.
-abbrev pub InFile : Reader → OpenFile → ((main : List ℕ) → Site → List Entry → Type 0) → Type 0
+abbrev pub InFile : Reader → OpenFile → ((main : List ℕ) → Site → List ReadStatement → Type 0) → Type 0
 InFile held file P =
-    (main : List ℕ) (entries : List Entry) (around : List ℕ) (depth : ℕ) → Holds main held entries → IsOpenIn held file around
+    (main : List ℕ) (entries : List ReadStatement) (around : List ℕ) (depth : ℕ) → Holds main held entries → IsOpenIn held file around
     → P main (site_of file around depth) entries
 
 -- ---- a statement that names no file
 
 -- the statement has no fault and is held, or its fault is answered
-abbrev pub Declares : (main : List ℕ) → (after : Reader) → Entry → (before : List Entry) → Result (Unit {0}) GraphFault → Type 0
+abbrev pub Declares : (main : List ℕ) → (after : Reader) → ReadStatement → (before : List ReadStatement) → Result (Unit {0}) GraphFault → Type 0
 Declares main after e before (Ok done) = (own_fault e before ≡ None) × Holds main after (e ∷ before)
 Declares main after e before (Err fault) = IsFault (own_fault e before) fault
 
@@ -121,22 +121,22 @@ SaysPath expected says (Err fault) = IsFault expected fault
 
 -- A file is open: what is read of it from here on is its text.
 pub record OpensText (main : List ℕ) (before after : SourceState) (old held : Reader) (left : ℕ) (place : Place) (path : List ℕ)
-    (entries : List Entry) (text : List ℕ) : Type 0 where
+    (entries : List ReadStatement) (text : List ℕ) : Type 0 where
   pub files : List Reading
   pub reads : ReadsAll before after old.files files held.files
   pub came_to : paths_of files ≡ with_new (paths_of old.files) path
   pub within : ℕ
   pub left_is : left ≡ suc within
-  pub read : (inner : Site) (e : Entry) (all : List Reading) → inner.file ≡ path → IsPrefix files all
+  pub read : (inner : Site) (e : ReadStatement) (all : List Reading) → inner.file ≡ path → IsPrefix files all
       → opened_in all left inner place e entries ≡ text_read (opened_in all within) inner text (e ∷ entries)
 
 -- a path names a file that is opened, or one at which the run stops
 abbrev pub OpensPath : (main : List ℕ) → (before after : SourceState) → (old held : Reader) → (left : ℕ) → Place
-    → (path : List ℕ) → (entries : List Entry) → Result (RcSlice ℕ Global) GraphFault → Type 0
+    → (path : List ℕ) → (entries : List ReadStatement) → Result (RcSlice ℕ Global) GraphFault → Type 0
 OpensPath main before after old held left place path entries (Ok text) =
     OpensText main before after old held left place path entries (rc_slice_items text)
 OpensPath main before after old held left place path entries (Err fault) =
-    (inner : Site) (e : Entry) → inner.file ≡ path → path_named e entries e.item ≡ path ∷ []
+    (inner : Site) (e : ReadStatement) → inner.file ≡ path → path_named e entries e.item ≡ path ∷ []
     → StopsAt main before after old.files (λ all. opened_in all left inner place e entries) fault
 
 -- ---- a statement
@@ -146,18 +146,18 @@ named_item naming.Include word = IncludeText word
 named_item naming.Subninja word = SubninjaText word
 
 -- the site of the statements of the file that a statement names
-abbrev pub named_site : Naming → Entry → (before : List Entry) → WordText → Site
+abbrev pub named_site : Naming → ReadStatement → (before : List ReadStatement) → WordText → Site
 named_site naming.Include e before word = included_site e before word
 named_site naming.Subninja e before word = subninja_site e before word
 
 -- The statement that names a file is held, and the scope of that file is open.
-pub record EntersScope (held : Reader) (number : ℕ) (inner : Site) (e : Entry) (entries : List Entry) : Type 0 where
+pub record EntersScope (held : Reader) (number : ℕ) (inner : Site) (e : ReadStatement) (entries : List ReadStatement) : Type 0 where
   pub number_is : inner.number ≡ number
   pub scope : IsOpenScope held.declarations.scopes number inner.around
   pub declares : DeclaredBy held.declarations (e ∷ entries)
 
 -- a statement was read that names no file
-pub record ReadsOne (main : List ℕ) (before after : SourceState) (old held : Reader) (e : Entry) (entries : List Entry)
+pub record ReadsOne (main : List ℕ) (before after : SourceState) (old held : Reader) (e : ReadStatement) (entries : List ReadStatement)
     : Type 0 where
   pub reads : ReadsAll before after old.files old.files held.files
   pub holds : Holds main held (e ∷ entries)
@@ -165,7 +165,7 @@ pub record ReadsOne (main : List ℕ) (before after : SourceState) (old held : R
 
 -- What a statement names is open: what is read from here on is the text of the file, and what was read before that is held.
 pub record OpensNamed (main : List ℕ) (before after : SourceState) (old held : Reader) (left : ℕ) (inner : Site) (text : List ℕ)
-    (e : Entry) (entries : List Entry) : Type 0 where
+    (e : ReadStatement) (entries : List ReadStatement) : Type 0 where
   pub files : List Reading
   pub reads : ReadsAll before after old.files files held.files
   pub holds : Holds main held (e ∷ entries)
@@ -181,7 +181,7 @@ pub record IsOpened (held : Reader) (opened : Opened) (inner : Site) : Type 0 wh
   pub scope : IsOpenScope held.declarations.scopes opened.scope inner.around
 
 -- a file is opened that the statement names, or the run stops there
-abbrev pub OpensOrStops : (main : List ℕ) → (before after : SourceState) → (old held : Reader) → (left : ℕ) → Entry → List Entry
+abbrev pub OpensOrStops : (main : List ℕ) → (before after : SourceState) → (old held : Reader) → (left : ℕ) → ReadStatement → List ReadStatement
     → Result Opened GraphFault → Type 0
 OpensOrStops main before after old held left e entries (Ok opened) =
     (inner : Site) × IsOpened held opened inner
@@ -190,7 +190,7 @@ OpensOrStops main before after old held left e entries (Err fault) =
     StopsAt main before after old.files (λ all. statement_read (opened_in all left) e entries) fault
 
 -- a statement is read, or the file is opened that it names, or the run stops there
-abbrev pub ReadsItem : (main : List ℕ) → (before after : SourceState) → (old held : Reader) → (left : ℕ) → Entry → List Entry
+abbrev pub ReadsItem : (main : List ℕ) → (before after : SourceState) → (old held : Reader) → (left : ℕ) → ReadStatement → List ReadStatement
     → Result (Option Opened) GraphFault → Type 0
 ReadsItem main before after old held left e entries (Ok None) = ReadsOne main before after old held e entries
 ReadsItem main before after old held left e entries (Ok (Some opened)) =
@@ -205,7 +205,7 @@ pub record ReadsText (main : List ℕ) (before after : SourceState) (old held : 
     : Type 0 where
   pub files : List Reading
   pub reads : ReadsAll before after old.files files held.files
-  pub entries : List Entry
+  pub entries : List ReadStatement
   pub holds : Holds main held entries
   pub read : (all : List Reading) → IsPrefix files all → reading all ≡ record { entries = entries; end = Whole }
 

@@ -6,7 +6,7 @@ use Rattle.nj_scope.specs.Rules.{RuleText, phony}
 use Rattle.nj_scope.specs.Readings.{IsPrefix}
 use Rattle.nj_scope.specs.Scopes.{IsScope, parent_at}
 use Rattle.nj_scope.specs.Declarations.{DeclarationsText, DeclaredBy}
-use Rattle.nj_scope.specs.ReadingList.{Entry, value_after}
+use Rattle.nj_scope.specs.ReadingList.{ReadStatement, value_after}
 use Rattle.nj_edge_env.specs.Blocks.{bound_in}
 use Rattle.nj_edges.specs.declared.files.FileNo.{FileNo}
 use Rattle.nj_edges.specs.Edges.{EdgePaths, is_among}
@@ -25,7 +25,7 @@ use Rattle.nj_statements.specs.Answers.{DetailText}
 
 -- Names have these values in a scope, by what the earlier statements declare and the block binds.
 pub record Sees (held : DeclarationsText) (scope : ℕ) (block : Block) (values : Values) : Type 0 where
-  pub entries : List Entry
+  pub entries : List ReadStatement
   pub around : List ℕ
   pub declared : DeclaredBy held entries
   pub within : IsScope (parent_at held.scopes) scope (scope ∷ around)
@@ -99,7 +99,7 @@ names_read paths block rule file = record {
 }
 
 -- The names of an edge depend on these, by what the earlier statements declare.
-pub record SeesLate (edge : LateEdge) (entries : List Entry) (n : LateNames) : Type 0 where
+pub record SeesLate (edge : LateEdge) (entries : List ReadStatement) (n : LateNames) : Type 0 where
   pub around : List ℕ
   pub declared : DeclaredBy edge.declarations.now entries
   pub within : IsScope (parent_at edge.declarations.now.scopes) edge.scope (edge.scope ∷ around)

@@ -1,14 +1,14 @@
 -- How trees are written, row by row.
 use Rattle.std.specs.Prelude.{ℕ, zero, suc, ◌+◌, ◌-◌, List, [], ◌∷◌, ◌++◌, map, flat_map, length, sum_by, All, ◌<◌, nat_lt, if◌then◌else◌}
 use Rattle.std.specs.Borrow.{Bor}
-use Rattle.nj_scope.specs.ReadingList.{Entry}
+use Rattle.nj_scope.specs.ReadingList.{ReadStatement}
 use Rattle.nj_edges.specs.Edges.{EdgePaths, maker_of}
 use Rattle.nj_edges.specs.Files.{path_at}
 use Rattle.nj_edges.specs.declared.files.FileNo.{FileNo}
 use Rattle.nj_tools.specs.Listings.{inputs_of_maker, tree_text}
 
 -- what is left of rows of files, the deepest row last, where this many levels are written
-unfoldable pub rows_text : List Entry → (levels depth : ℕ) → (rows : List (List (List ℕ))) → List ℕ
+unfoldable pub rows_text : List ReadStatement → (levels depth : ℕ) → (rows : List (List (List ℕ))) → List ℕ
 rows_text entries levels depth [] = []
 rows_text entries levels depth (row ∷ deeper) =
     rows_text entries levels (depth + 1) deeper ++ flat_map (tree_text entries (levels - depth) depth) row

@@ -1,5 +1,5 @@
 use Rattle.std.proofs.Common.{◌≡◌, ℕ, List, ◌++◌, length}
-use Rattle.nj_scope.specs.ReadingList.{Entry}
+use Rattle.nj_scope.specs.ReadingList.{ReadStatement}
 use Rattle.nj_graph.specs.Graph.{IsGraphOf}
 use Rattle.nj_needs.specs.Graphs.{row_of, makers_of, count_of}
 use Rattle.nj_needs.specs.Pages.{IsMarkAfter}
@@ -15,7 +15,7 @@ invariant-commands g l = record {
   mark : IsMarkAfter (makers_of l.fn.needs.graph) (count_of l.fn.needs.graph) (row_of l.fn.needs.graph l.fn.needs.targets) l.fn.needs.mark edges l.needs.mark;
   graph : l.needs.graph ≡ l.fn.needs.graph;
   targets : l.needs.targets ≡ l.fn.needs.targets;
-  underway : (entries : List Entry) → IsGraphOf l.graph entries
+  underway : (entries : List ReadStatement) → IsGraphOf l.graph entries
       → IsUnderway (g.S.Sink.state l.fn.out) (g.S.Sink.state l.out) (command_lines entries edges) l.text.items;
 }
 

@@ -1,6 +1,6 @@
 use Rattle.std.proofs.Common.{◌≡◌, Bool, List, [], ap, refl, arith}
 use Rattle.std.specs.List.{flat_map}
-use Rattle.nj_scope.specs.ReadingList.{Entry}
+use Rattle.nj_scope.specs.ReadingList.{ReadStatement}
 use Rattle.nj_scope.specs.Rules.{phony_rule}
 use Rattle.nj_graph.specs.Graph.{GraphText, IsGraphOf, main_rules, main_rules_of}
 use Rattle.nj_graph.proofs.Stated.{graph-rules}
@@ -10,7 +10,7 @@ use Rattle.nj_tools.proofs.BlockLemmas.{stops-with, FailsWithin-waiting, Takes-w
 use Rattle.nj_tools.proofs.SequenceLemmas.{puts-item, stops-item, puts-items}
 use Rattle.nj_tools.proofs.rules.write_rules.Goals as goal
 
-rule_lines-are : (entries : List Entry) (g : GraphText) (descriptions : Bool) → IsGraphOf g entries → flat_map (rule_line descriptions) (main_rules g) ≡ rules_text entries descriptions
+rule_lines-are : (entries : List ReadStatement) (g : GraphText) (descriptions : Bool) → IsGraphOf g entries → flat_map (rule_line descriptions) (main_rules g) ≡ rules_text entries descriptions
 rule_lines-are entries g descriptions is = ap (λ rules. flat_map (rule_line descriptions) (main_rules_of rules)) (graph-rules is)
 
 pub returns-in_err-write_rule : goal.returns-in_err-write_rule

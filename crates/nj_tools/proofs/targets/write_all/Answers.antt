@@ -1,6 +1,6 @@
 use Rattle.std.proofs.Common.{ℕ, ◌<◌, List, length, arith}
 use Rattle.std.specs.List.{flat_map}
-use Rattle.nj_scope.specs.ReadingList.{Entry}
+use Rattle.nj_scope.specs.ReadingList.{ReadStatement}
 use Rattle.nj_edges.specs.Edges.{outputs_of}
 use Rattle.nj_statements.specs.EdgeList.{EdgeText, edges_read}
 use Rattle.nj_graph.specs.Graph.{edges_of, rule_name_of}
@@ -9,7 +9,7 @@ use Rattle.nj_tools.proofs.ItemLemmas.{item-puts, item-stops, items-put}
 use Rattle.nj_tools.proofs.ListingLemmas.{edge-count, stated, stated-below, made-stated, outputs-are}
 use Rattle.nj_tools.proofs.targets.write_all.Goals as goal
 
-abbrev made_of : List Entry → EdgeText → List ℕ
+abbrev made_of : List ReadStatement → EdgeText → List ℕ
 made_of entries e = flat_map (λ path. made_line path (rule_name_of entries e)) (outputs_of e.paths)
 
 pub returns-in_err-write_made : goal.returns-in_err-write_made

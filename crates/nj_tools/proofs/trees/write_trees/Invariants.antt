@@ -1,5 +1,5 @@
 use Rattle.std.proofs.Common.{◌≡◌, ◌≤◌, ◌+◌, ◌*◌, ◌++◌, ℕ, List, length}
-use Rattle.nj_scope.specs.ReadingList.{Entry}
+use Rattle.nj_scope.specs.ReadingList.{ReadStatement}
 use Rattle.nj_graph.specs.Graph.{edges_of, files_of, IsGraphOf}
 use Rattle.nj_tools.specs.Inside.Blocks.{IsUnderway}
 use Rattle.nj_tools.specs.Listings.{trees_text}
@@ -8,7 +8,7 @@ use Rattle.nj_tools.proofs.trees.write_trees.Given as goal
 
 abbrev pub invariant-files : goal.invariant-files
 invariant-files g l = record {
-  written : (entries : List Entry) → IsGraphOf l.graph entries → (done : List ℕ)
+  written : (entries : List ReadStatement) → IsGraphOf l.graph entries → (done : List ℕ)
       × IsUnderway (g.S.Sink.state l.fn.out) (g.S.Sink.state l.out) (l.fn.text.items ++ done) l.text.items
       × (trees_text entries l.depth ≡ done ++ rows_text entries (l.below + 1) 0 (rows_of (files_of l.graph) l.rows.items));
   known : AreKnown (files_of l.graph) l.rows.items;

@@ -1,7 +1,7 @@
 use Rattle.std.proofs.Common.{refl}
 use Rattle.nj_manifest.specs.Contents.{words_text}
 use Rattle.nj_manifest.specs.Statements.{DefaultText}
-use Rattle.nj_scope.specs.ReadingList.{Entry}
+use Rattle.nj_scope.specs.ReadingList.{ReadStatement}
 use Rattle.nj_scope.proofs.DeclarationLemmas.{takes-default}
 use Rattle.nj_graph.specs.declared.reader.Reader.{Reader}
 use Rattle.nj_graph.specs.Reading.{entry_at}
@@ -13,7 +13,7 @@ use Rattle.nj_graph.proofs.reader.Reader.add_defaults.Goals as goal
 pub returns-clause-declares : goal.returns-clause-declares
 returns-clause-declares c = λ main entries around depth holds inside.
     let words = words_text c.args.words.now in
-    let e : Entry = entry_at (site_of c.args.file around depth) (record { spot = c.args.spot; item = DefaultText words }) in
+    let e : ReadStatement = entry_at (site_of c.args.file around depth) (record { spot = c.args.spot; item = DefaultText words }) in
     let held : Reader = record { declarations = c.args.self.now.declarations; building = c.read_default.new.self; files = c.args.self.now.files; opened = c.args.self.now.opened } in
     let takes = takes-default c.args.self.now.declarations c.args.file.scope around words entries c.args.file.name.now c.args.spot depth holds.declares in
     built-declares main c.args.self.now held entries e c.read_default.result holds takes refl refl refl refl (grows-self c.args.self.now.declarations.scopes) inside

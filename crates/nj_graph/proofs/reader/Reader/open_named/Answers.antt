@@ -1,7 +1,7 @@
 use Rattle.std.proofs.Common.{◌≡◌, [], ◌∷◌, refl, sym, ap, subst, ◌∙◌}
 use Rattle.nj_text.specs.Words.{word_text}
 use Rattle.nj_scope.specs.Declarations.{DeclaredBy}
-use Rattle.nj_scope.specs.ReadingList.{Entry}
+use Rattle.nj_scope.specs.ReadingList.{ReadStatement}
 use Rattle.nj_faults.specs.Faults.{no_memory}
 use Rattle.nj_graph.specs.Reading.{Site, entry_at, expanded_in, opened_in, statement_read}
 use Rattle.nj_graph.specs.Inside.ReaderContracts.{site_scope}
@@ -15,7 +15,7 @@ pub returns-in_err-path-clause-opens : goal.returns-in_err-path-clause-opens
 returns-in_err-path-clause-opens g c = λ start main entries around depth holds inside.
     let site = site_of c.args.file around depth in
     let word = word_text c.args.word.now in
-    let e : Entry = entry_at site (record { spot = start; item = named_item c.args.naming word }) in
+    let e : ReadStatement = entry_at site (record { spot = start; item = named_item c.args.naming word }) in
     let fault = c.in_err-path.field-0.0 in
     let source = g.S.FileSource.state c.args.source.now in
     rw (handed fault c.from_residual.result c.from_residual.ensures)
@@ -26,7 +26,7 @@ pub returns-in_err-text-clause-opens : goal.returns-in_err-text-clause-opens
 returns-in_err-text-clause-opens g c = λ start main entries around depth holds inside.
     let site = site_of c.args.file around depth in
     let word = word_text c.args.word.now in
-    let e : Entry = entry_at site (record { spot = start; item = named_item c.args.naming word }) in
+    let e : ReadStatement = entry_at site (record { spot = start; item = named_item c.args.naming word }) in
     let inner : Site = named_site c.args.naming e entries word in
     let path = c.in_ok-path.ensures main entries around depth holds inside in
     let is : expanded_in (site_scope site) entries word ≡ c.deref.result.now = sym (c.deref.ensures ∙ path.1) in
@@ -43,7 +43,7 @@ pub returns-in_err-scope-clause-opens : goal.returns-in_err-scope-clause-opens
 returns-in_err-scope-clause-opens g c = λ start main entries around depth holds inside.
     let site = site_of c.args.file around depth in
     let word = word_text c.args.word.now in
-    let e : Entry = entry_at site (record { spot = start; item = named_item c.args.naming word }) in
+    let e : ReadStatement = entry_at site (record { spot = start; item = named_item c.args.naming word }) in
     let inner : Site = named_site c.args.naming e entries word in
     let path = c.in_ok-path.ensures main entries around depth holds inside in
     let is : expanded_in (site_scope site) entries word ≡ c.deref.result.now = sym (c.deref.ensures ∙ path.1) in
@@ -59,7 +59,7 @@ pub returns-clause-opens : goal.returns-clause-opens
 returns-clause-opens g c = λ start main entries around depth holds inside.
     let site = site_of c.args.file around depth in
     let word = word_text c.args.word.now in
-    let e : Entry = entry_at site (record { spot = start; item = named_item c.args.naming word }) in
+    let e : ReadStatement = entry_at site (record { spot = start; item = named_item c.args.naming word }) in
     let inner : Site = named_site c.args.naming e entries word in
     let path = c.in_ok-path.ensures main entries around depth holds inside in
     let is : expanded_in (site_scope site) entries word ≡ c.deref.result.now = sym (c.deref.ensures ∙ path.1) in

@@ -4,7 +4,7 @@ use Rattle.nj_text.specs.Words.{word_text}
 use Rattle.nj_manifest.specs.LineSteps.{NameText}
 use Rattle.nj_manifest.specs.Statements.{BindingText, RuleText, PoolText, DefaultText}
 use Rattle.nj_manifest.specs.Contents.{name_text, words_text, lines_text, build_text, statement_text}
-use Rattle.nj_scope.specs.ReadingList.{Entry}
+use Rattle.nj_scope.specs.ReadingList.{ReadStatement}
 use Rattle.nj_graph.specs.Reading.{entry_at, own_fault}
 use Rattle.nj_graph.specs.Inside.ReaderContracts.{Holds, IsFault, Declares, site_of}
 use Rattle.nj_manifest.proofs.Handed.{handed}
@@ -14,7 +14,7 @@ use Rattle.nj_graph.proofs.reader.Reader.read_item.Goals as goal
 pub returns-in_err-bind-in-Binding-clause-reads : goal.returns-in_err-bind-in-Binding-clause-reads
 returns-in_err-bind-in-Binding-clause-reads g c = λ main entries around depth holds inside.
     let item = BindingText c.in-Binding.name.now (word_text c.in-Binding.value) in
-    let e : Entry = entry_at (site_of c.args.file around depth) (record { spot = c.args.statement.now.spot; item = item }) in
+    let e : ReadStatement = entry_at (site_of c.args.file around depth) (record { spot = c.args.statement.now.spot; item = item }) in
     let source = g.S.FileSource.state c.args.source.now in
     let fault = c.in_err-bind-in-Binding.field-0.0 in
     rw (handed fault c.from_residual.result c.from_residual.ensures, ap statement_text c.in-Binding.is)
@@ -24,7 +24,7 @@ pub returns-in_err-declare_rule-in-Rule-clause-reads : goal.returns-in_err-decla
 returns-in_err-declare_rule-in-Rule-clause-reads g c = λ main entries around depth holds inside.
     let name : NameText = name_text c.in-Rule.name in
     let start = c.args.statement.now.spot in
-    let e : Entry = entry_at (site_of c.args.file around depth) (record { spot = start; item = RuleText name (lines_text c.in-Rule.lines.items) }) in
+    let e : ReadStatement = entry_at (site_of c.args.file around depth) (record { spot = start; item = RuleText name (lines_text c.in-Rule.lines.items) }) in
     let source = g.S.FileSource.state c.args.source.now in
     let fault = c.in_err-declare_rule-in-Rule.field-0.0 in
     rw (handed fault c.from_residual-in_err-declare_rule-in-Rule.result c.from_residual-in_err-declare_rule-in-Rule.ensures, ap statement_text c.in-Rule.is)
@@ -34,7 +34,7 @@ pub returns-in_err-declare_pool-in-Pool-clause-reads : goal.returns-in_err-decla
 returns-in_err-declare_pool-in-Pool-clause-reads g c = λ main entries around depth holds inside.
     let name : NameText = name_text c.in-Pool.name in
     let start = c.args.statement.now.spot in
-    let e : Entry = entry_at (site_of c.args.file around depth) (record { spot = start; item = PoolText name (lines_text c.in-Pool.lines.items) }) in
+    let e : ReadStatement = entry_at (site_of c.args.file around depth) (record { spot = start; item = PoolText name (lines_text c.in-Pool.lines.items) }) in
     let source = g.S.FileSource.state c.args.source.now in
     let fault = c.in_err-declare_pool-in-Pool.field-0.0 in
     rw (handed fault c.from_residual-in_err-declare_pool-in-Pool.result c.from_residual-in_err-declare_pool-in-Pool.ensures, ap statement_text c.in-Pool.is)
@@ -46,7 +46,7 @@ pub returns-in_ok-declare_rule-in-Rule-clause-reads : goal.returns-in_ok-declare
 returns-in_ok-declare_rule-in-Rule-clause-reads g c = λ main entries around depth holds inside.
     let name : NameText = name_text c.in-Rule.name in
     let start = c.args.statement.now.spot in
-    let e : Entry = entry_at (site_of c.args.file around depth) (record { spot = start; item = RuleText name (lines_text c.in-Rule.lines.items) }) in
+    let e : ReadStatement = entry_at (site_of c.args.file around depth) (record { spot = start; item = RuleText name (lines_text c.in-Rule.lines.items) }) in
     let source = g.S.FileSource.state c.args.source.now in
     let declares = c.in_ok-declare_rule-in-Rule.ensures.declares start main entries around depth holds inside in
     rw (ap statement_text c.in-Rule.is)
@@ -57,7 +57,7 @@ returns-in_ok-declare_rule-in-Rule-clause-reads g c = λ main entries around dep
 pub returns-in_err-build-in-Build-clause-reads : goal.returns-in_err-build-in-Build-clause-reads
 returns-in_err-build-in-Build-clause-reads g c = λ main entries around depth holds inside.
     let source = g.S.FileSource.state c.args.source.now in
-    let e : Entry = entry_at (site_of c.args.file around depth) (record { spot = c.args.statement.now.spot; item = build_text c.in-Build.build }) in
+    let e : ReadStatement = entry_at (site_of c.args.file around depth) (record { spot = c.args.statement.now.spot; item = build_text c.in-Build.build }) in
     let fault = c.in_err-build-in-Build.field-0.0 in
     rw (handed fault c.from_residual-in_err-build-in-Build.result c.from_residual-in_err-build-in-Build.ensures, ap statement_text c.in-Build.is)
     (stops-own main source source c.args.self.now entries holds refl c.args.file.left e fault (c.in_err-build-in-Build.ensures.declares main entries around depth holds inside))
@@ -65,7 +65,7 @@ returns-in_err-build-in-Build-clause-reads g c = λ main entries around depth ho
 pub returns-in_ok-build-in-Build-clause-reads : goal.returns-in_ok-build-in-Build-clause-reads
 returns-in_ok-build-in-Build-clause-reads g c = λ main entries around depth holds inside.
     let source = g.S.FileSource.state c.args.source.now in
-    let e : Entry = entry_at (site_of c.args.file around depth) (record { spot = c.args.statement.now.spot; item = build_text c.in-Build.build }) in
+    let e : ReadStatement = entry_at (site_of c.args.file around depth) (record { spot = c.args.statement.now.spot; item = build_text c.in-Build.build }) in
     let declares = c.in_ok-build-in-Build.ensures.declares main entries around depth holds inside in
     rw (ap statement_text c.in-Build.is)
     (reads-one main source c.args.self.now c.build.new.self e entries holds declares.1 declares.0 c.in_ok-build-in-Build.ensures.files (λ opens. refl))
@@ -74,7 +74,7 @@ pub returns-in_err-add_defaults-in-Default-clause-reads :
     goal.returns-in_err-add_defaults-in-Default-clause-reads
 returns-in_err-add_defaults-in-Default-clause-reads g c = λ main entries around depth holds inside.
     let source = g.S.FileSource.state c.args.source.now in
-    let at : List Word → Entry = λ words. entry_at (site_of c.args.file around depth) (record { spot = c.args.statement.now.spot; item = DefaultText (words_text words) }) in
+    let at : List Word → ReadStatement = λ words. entry_at (site_of c.args.file around depth) (record { spot = c.args.statement.now.spot; item = DefaultText (words_text words) }) in
     let fault = c.in_err-add_defaults-in-Default.field-0.0 in
     rw (handed fault c.from_residual-in_err-add_defaults-in-Default.result c.from_residual-in_err-add_defaults-in-Default.ensures, ap statement_text c.in-Default.is)
     (stops-own main source source c.args.self.now entries holds refl c.args.file.left (at c.in-Default.words.items) fault
@@ -84,7 +84,7 @@ pub returns-in_ok-add_defaults-in-Default-clause-reads :
     goal.returns-in_ok-add_defaults-in-Default-clause-reads
 returns-in_ok-add_defaults-in-Default-clause-reads g c = λ main entries around depth holds inside.
     let source = g.S.FileSource.state c.args.source.now in
-    let at : List Word → Entry = λ words. entry_at (site_of c.args.file around depth) (record { spot = c.args.statement.now.spot; item = DefaultText (words_text words) }) in
+    let at : List Word → ReadStatement = λ words. entry_at (site_of c.args.file around depth) (record { spot = c.args.statement.now.spot; item = DefaultText (words_text words) }) in
     let declares = subst (λ words. Declares main c.add_defaults.new.self (at words) entries (Ok tt)) c.as_slice.ensures.value (c.in_ok-add_defaults-in-Default.ensures.declares main entries around depth holds inside) in
     rw (ap statement_text c.in-Default.is)
     (reads-one main source c.args.self.now c.add_defaults.new.self (at c.in-Default.words.items) entries holds declares.1 declares.0 c.in_ok-add_defaults-in-Default.ensures.files (λ opens. refl))
@@ -100,7 +100,7 @@ returns-in_ok-named-in-Subninja-clause-reads g c = λ main entries around depth 
 pub returns-in_ok-bind-in-Binding-clause-reads : goal.returns-in_ok-bind-in-Binding-clause-reads
 returns-in_ok-bind-in-Binding-clause-reads g c = λ main entries around depth holds inside.
     let item = BindingText c.in-Binding.name.now (word_text c.in-Binding.value) in
-    let e : Entry = entry_at (site_of c.args.file around depth) (record { spot = c.args.statement.now.spot; item = item }) in
+    let e : ReadStatement = entry_at (site_of c.args.file around depth) (record { spot = c.args.statement.now.spot; item = item }) in
     let declares = c.in_ok-bind-in-Binding.ensures.declares main entries around depth holds inside in
     rw (ap statement_text c.in-Binding.is)
     (reads-one main (g.S.FileSource.state c.args.source.now) c.args.self.now c.bind.new.self e entries holds declares.1 declares.0 c.in_ok-bind-in-Binding.ensures.files (λ opens. refl))
@@ -109,7 +109,7 @@ pub returns-in_ok-declare_pool-in-Pool-clause-reads : goal.returns-in_ok-declare
 returns-in_ok-declare_pool-in-Pool-clause-reads g c = λ main entries around depth holds inside.
     let name : NameText = name_text c.in-Pool.name in
     let start = c.args.statement.now.spot in
-    let e : Entry = entry_at (site_of c.args.file around depth) (record { spot = start; item = PoolText name (lines_text c.in-Pool.lines.items) }) in
+    let e : ReadStatement = entry_at (site_of c.args.file around depth) (record { spot = start; item = PoolText name (lines_text c.in-Pool.lines.items) }) in
     let declares = subst (λ ls. Declares main c.declare_pool.new.self (entry_at (site_of c.args.file around depth) (record { spot = start; item = PoolText name (lines_text ls) })) entries (Ok tt)) c.deref-in-Pool.ensures.value
     (c.in_ok-declare_pool-in-Pool.ensures.declares start main entries around depth holds inside) in
     rw (ap statement_text c.in-Pool.is)
