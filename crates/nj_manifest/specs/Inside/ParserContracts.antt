@@ -18,11 +18,6 @@ use Rattle.nj_manifest.specs.Statements.{SubninjaText}
 use Rattle.nj_manifest.specs.Contents.{name_text, words_text, outputs_text, inputs_text}
 use Rattle.nj_manifest.specs.Dyndeps.{version_next, DyndepLeft, WholeFile, Entries, Refusing}
 
--- It reads the version of the lines, and leaves the lexer before the lines after it.
-abbrev pub ReadsVersion : (before after : State) → Result (Unit {0}) ParseFault → Type 0
-ReadsVersion before after (Ok done) = (version_next (lines_from before) ≡ Ok (lines_from after)) × IsBetweenStatements after
-ReadsVersion before after (Err f) = Fails f (version_next (lines_from before))
-
 abbrev pub left_by : (version_read : Bool) → List lines.Line → DyndepLeft
 left_by true ls = Entries ls
 left_by false ls = WholeFile ls
@@ -59,6 +54,11 @@ abbrev pub IsBetweenStatements : State → Type 0
 IsBetweenStatements (Between ls) = Unit {0}
 IsBetweenStatements (Inside l ls) = lines.kind_of l ≡ lines.PlainLine
 IsBetweenStatements (Failed f) = ⊥
+
+-- It reads the version of the lines, and leaves the lexer before the lines after it.
+abbrev pub ReadsVersion : (before after : State) → Result (Unit {0}) ParseFault → Type 0
+ReadsVersion before after (Ok done) = (version_next (lines_from before) ≡ Ok (lines_from after)) × IsBetweenStatements after
+ReadsVersion before after (Err f) = Fails f (version_next (lines_from before))
 
 -- what is read of the lines before which the lexer stands, with the lexer before the lines after it
 abbrev pub ParsesFrom : {X Y : Type 0} → (X → Y) → (before after : State) → (List lines.Line → Parse Y) → Result X ParseFault → Type 0
