@@ -1,6 +1,8 @@
 # The toolchain is the command `rt`; `rt version` names it.
 PROGRAM := crates/ninja_explain
 BUILT := $(PROGRAM)/out/ninja_explain
+# The same with sinks in memory, which `make sweep` refuses room.
+SINKS := crates/memory_sinks
 PROJECT := examples/project
 FILES := $(shell cd $(PROJECT) && find * -type f)
 # How many crates are proved side by side, each on one processor and in at most 3 GB, and how many
@@ -56,9 +58,11 @@ smoke: $(BUILT)
 
 # Makes everything fail once that can fail, changes each byte of small projects, runs every tool over
 # 100,000 edges, and last the program over 100,000 hostile manifests.
-sweep: $(BUILT)
+sweep: $(BUILT) $(SINKS)/out/memory_sinks
 	@status=0; \
-	for sweep in $(SWEEPS); do \
+	python3 scripts/sweep_memory.py --sinks $(SINKS)/out/memory_sinks --jobs $(JOBS) $(BUILT) \
+	|| status=1; \
+	for sweep in $(filter-out memory,$(SWEEPS)); do \
 	python3 scripts/sweep_$$sweep.py --jobs $(JOBS) $(BUILT) || status=1; \
 	done; \
 	python3 scripts/sweep_strangers.py --cases 100000 --jobs $(JOBS) $(BUILT) || status=1; \
@@ -67,6 +71,10 @@ sweep: $(BUILT)
 # `make` and `make test` leave it.
 $(BUILT): $(wildcard crates/*/src/*.rt)
 	$(MAKE) all
+
+# `make test` leaves it.
+$(SINKS)/out/memory_sinks: $(wildcard crates/*/src/*.rt)
+	cd $(SINKS) && rt run > /dev/null
 
 # Installs the program that `make` left, its man page, and completions for three shells.
 install:

@@ -1,11 +1,15 @@
 #!/usr/bin/env python3
-"""Refuses the program memory: sweep_memory.py PROGRAM
+"""Refuses the program memory: sweep_memory.py [--sinks PROGRAM] PROGRAM
 
 In runs of every tool each allocation is refused in turn: that one alone, and in another run that
 one and all after it (fail_alloc.c, which is compiled with `cc`). Then runs are given less and less
 room of addresses, as by `ulimit -v`, from what they need to the least in which the program starts.
 The answer has to be that of ample memory, or a beginning of its output with the line
 `ninja-explain: out of memory` and status 1.
+
+With --sinks the allocations of crates/memory_sinks are refused too, which writes to sinks in memory.
+Where such a sink is refused room, it fails as any other sink: a failed output is status 4 with
+nothing on the error output, a lost fault line leaves the status, a lost mark line is status 4.
 
 Prints how often memory was refused, and each run that ends otherwise. The status is 1 if there is
 one.
@@ -14,11 +18,12 @@ one.
 import shutil
 import sys
 import tempfile
+from collections import Counter
 from functools import partial
 from pathlib import Path
 
 import sweeps
-from sweeps import FAULT, LACKS_MEMORY, MAIN, PROJECTS, RUNS, USAGE
+from sweeps import FAULT, LACKS_MEMORY, MAIN, OUTPUT_FAILED, PROJECTS, RUNS, STOPPED, USAGE
 
 # In KB: the steps, and the most that a run of one of the small projects can need.
 STEP, LARGE_STEP = 4, 64
@@ -40,14 +45,30 @@ def is_wrong(ran, ample):
     return ran != ample and not (lacks and ample.output.startswith(ran.output))
 
 
+# ---- sinks in memory
+
+
+def failed_sink(ran, ample, after):
+    """Which sink in memory failed in a run whose sinks may be refused room; `None` if none did."""
+    if (ran.status, ran.error) == (OUTPUT_FAILED, b""):
+        if ran.output == ample.output and ample.status == STOPPED:
+            return "mark lines lost"
+        return "outputs failed" if ample.output.startswith(ran.output) else None
+    # The line that says so may be lost as well.
+    lacks = after and ran.status == FAULT and ample.output.startswith(ran.output)
+    lost = ran.status == ample.status in (FAULT, USAGE) and ran.output == ample.output
+    return "fault lines lost" if not ran.error and (lacks or lost) else None
+
+
 # ---- allocations
 
 
-def try_allocations(program, library, task):
+def try_allocations(program, library, has_sinks, task):
     """Refuses each allocation of a run. Gives the counts, and what is wrong."""
     name, words, after = task
     what = "with all after it" if after else "alone"
-    refused, wrong = 0, []
+    what += ", by sinks in memory" if has_sinks else ""
+    refused, wrong, sinks = 0, [], Counter()
     with tempfile.TemporaryDirectory() as folder:
         PROJECTS[name].write_to(folder)
         text, told = PROJECTS[name].input_for(words), Path(folder) / "told"
@@ -60,10 +81,21 @@ def try_allocations(program, library, task):
             told.unlink()
             ran = program.run(words, folder, text, FAIL_ALLOC=str(refused + 1), **fails)
             refused += told.exists()
-            if is_wrong(ran, ample):
+            if has_sinks and (sink := failed_sink(ran, ample, after)):
+                sinks[sink] += 1
+            elif is_wrong(ran, ample):
                 case = f"{name}, {words}, allocation {refused} {what}"
                 wrong.append(f"{case}: it answers {sweeps.shown(ran)}")
-    return {f"allocations refused {what}": refused}, wrong
+    return {f"allocations refused {what}": refused, **sinks}, wrong
+
+
+def allocation_tasks(has_sinks):
+    """Each run, for refusals alone and with all after them. Sinks in memory come without a standard
+    input."""
+    for name, words in sweeps.runs_of(RUNS):
+        if words and "--stdin" not in words or not has_sinks:
+            yield name, words, False
+            yield name, words, True
 
 
 # ---- room of addresses
@@ -119,14 +151,21 @@ def room_tasks(program):
 
 
 def main():
-    words = sweeps.parser_of(__doc__.split("\n")[0]).parse_args()
+    parser = sweeps.parser_of(__doc__.split("\n")[0])
+    parser.add_argument("--sinks", help="the built program with sinks in memory")
+    words = parser.parse_args()
     program, sweep = sweeps.Program(words.program), sweeps.Sweep("sweep_memory")
     if shutil.which("cc"):
         with tempfile.TemporaryDirectory() as room:
             library = sweeps.compiled("fail_alloc", room)
-            tasks = [(*run, after) for run in sweeps.runs_of(RUNS) for after in (False, True)]
-            task = partial(try_allocations, program, library)
-            sweeps.in_parallel(sweep, words.jobs, task, tasks)
+            programs = {False: program}
+            if words.sinks:
+                programs[True] = sweeps.Program(words.sinks)
+            for has_sinks, each in programs.items():
+                task = partial(try_allocations, each, library, has_sinks)
+                sweeps.in_parallel(sweep, words.jobs, task, allocation_tasks(has_sinks))
+        if words.sinks:
+            sweep.wants("outputs failed", "mark lines lost", "fault lines lost")
     else:
         print("sweep_memory: no allocation is refused, as there is no cc")
     sweeps.in_parallel(sweep, words.jobs, partial(try_rooms, program), room_tasks(program))

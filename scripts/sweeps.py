@@ -474,6 +474,10 @@ class Sweep:
         self.counts.update(counts)
         self.wrong += wrong
 
+    def wants(self, *kinds):
+        """Finds it wrong if one of these was never counted."""
+        self.wrong += [f"no {kind}" for kind in kinds if not self.counts[kind]]
+
     def end(self):
         """Prints what is wrong and then the counts; returns the status of the sweep."""
         for case in self.wrong:
