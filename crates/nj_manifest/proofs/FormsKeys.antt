@@ -1,5 +1,5 @@
 -- What a block has to give: the keys of its lines, and the forms of the grammar.
-use Rattle.std.proofs.Common.{◌≡◌, ℕ, Bool, true, false, cond, ◌&&◌, not, Result, Ok, List, [], ◌∷◌, ◌++◌, refl, ap, ◌∙◌, codes}
+use Rattle.std.proofs.Common.{◌≡◌, ℕ, Bool, true, false, cond, ◌&&◌, not, Result, Ok, List, [], ◌∷◌, ◌++◌, refl, sym, ap, ◌∙◌, codes}
 use Rattle.std.specs.Prelude.{◌↔◌}
 use Rattle.std.specs.List.{list_any}
 use Rattle.std.specs.Str.{bytes_eq}
@@ -11,6 +11,7 @@ use Rattle.nj_manifest.specs.Faults.{Fault}
 use Rattle.nj_manifest.specs.Statements.{LineText, gives, names, unless_missing, agree, whole_rule, whole_pool}
 use Rattle.nj_manifest.specs.Grammar.{Gives}
 use Rattle.nj_manifest.proofs.FormsLines.{same_bytes}
+use Rattle.nj_manifest.proofs.GivenKeys.{gives-cons}
 
 key_is_here : (name key : List ℕ) → name ≡ key → bytes_eq name key ≡ true
 key_is_here name key e = (bytes_eq-Decides name key).1 e
@@ -30,7 +31,7 @@ gives_first key l lines e n p = record { before = []; line = l; after = lines; c
 
 pub gives-form : (key : List ℕ) (lines : List LineText) → gives key lines ≡ true → Gives key lines
 gives-form key [] h = absurd cc
-gives-form key (l ∷ lines) h = by_tests (bytes_eq l.name key) (any_of key lines) refl refl h (gives-form key lines)
+gives-form key (l ∷ lines) h = by_tests (bytes_eq l.name key) (any_of key lines) refl refl (sym (gives-cons key l lines) ∙ h) (gives-form key lines)
   where
     by_tests : (t a : Bool) → bytes_eq l.name key ≡ t → any_of key lines ≡ a → cond (t && not a) (not (is_empty l.value.parts)) (gives key lines) ≡ true → (gives key lines ≡ true → Gives key lines) → Gives key (l ∷ lines)
     by_tests true false e n g others = gives_first key l lines e n g
@@ -42,8 +43,8 @@ has_key key [] after l e = or_left (bytes_eq l.name key) (any_of key after) e
 has_key key (m ∷ before) after l e = or_right (bytes_eq m.name key) (any_of key (before ++ (l ∷ after))) (has_key key before after l e)
 
 gives_at : (key : List ℕ) (before after : List LineText) (l : LineText) → bytes_eq l.name key ≡ true → any_of key after ≡ false → is_empty l.value.parts ≡ false → gives key (before ++ (l ∷ after)) ≡ true
-gives_at key [] after l e n p = rw (e, n, p) refl
-gives_at key (m ∷ before) after l e n p = rw (has_key key before after l e) (by_test (bytes_eq m.name key) (gives_at key before after l e n p))
+gives_at key [] after l e n p = gives-cons key l after ∙ rw (e, n, p) refl
+gives_at key (m ∷ before) after l e n p = gives-cons key m (before ++ (l ∷ after)) ∙ rw (has_key key before after l e) (by_test (bytes_eq m.name key) (gives_at key before after l e n p))
   where
     by_test : (t : Bool) → gives key (before ++ (l ∷ after)) ≡ true → cond (t && false) (not (is_empty m.value.parts)) (gives key (before ++ (l ∷ after))) ≡ true
     by_test true h = h

@@ -1,35 +1,79 @@
 -- The keys that the lines of a block give.
-use Rattle.std.proofs.Common.{◌≡◌, ℕ, ◌+◌, ◌<◌, Bool, true, false, cond, ◌&&◌, ◌||◌, not, ◌==◌, List, [], ◌∷◌, ◌++◌, length, take, get_or, map, refl, sym, ap, ◌∙◌, arith}
+use Rattle.std.proofs.Common.{◌≡◌, ℕ, ◌+◌, ◌<◌, Bool, true, false, true≢false, cond, if◌then◌else◌, ◌&&◌, ◌||◌, not, ◌==◌, Option, Some, None, is_some, option_map, unwrap_or, List, [], ◌∷◌, ◌++◌, length, take, get_or, map, refl, sym, ap, ◌∙◌, arith}
+use Rattle.std.specs.Prelude.{find, reverse}
+use Rattle.std.specs.Option.{option_or}
 use Rattle.std.specs.List.{list_any}
 use Rattle.std.specs.Str.{bytes_eq}
-use Rattle.std.proofs.lemmas.List.{map-append, take_more}
-use Rattle.std.proofs.lemmas.List.Folds.{list_any-append}
+use Rattle.std.proofs.lemmas.List.{map-append, reverse-append, take_more}
+use Rattle.std.proofs.lemmas.List.Folds.{find-append}
+use Rattle.std.proofs.lemmas.Slice.Eq.{bytes_eq-Decides}
 use Rattle.std.proofs.lemmas.Grind.{common_steps}
 use Rattle.nj_text.specs.declared.word.Part.{Part}
 use Rattle.nj_text.specs.Words.{part_text}
 use Rattle.nj_text.specs.Calls.{is_empty}
 use Rattle.nj_manifest.specs.declared.statement.Line.{Line}
-use Rattle.nj_manifest.specs.Statements.{LineText, gives, names}
+use Rattle.nj_manifest.specs.Statements.{LineText, last_line, gives, names}
 use Rattle.nj_manifest.specs.Contents.{line_text, lines_text}
+
+-- ---- the last line of a key
+
+bytes_eq-swap : (a b : List ℕ) → bytes_eq a b ≡ bytes_eq b a
+bytes_eq-swap a b = by_tests (bytes_eq a b) (bytes_eq b a) refl refl
+  where
+    by_tests : (t u : Bool) → bytes_eq a b ≡ t → bytes_eq b a ≡ u → t ≡ u
+    by_tests true true e f = refl
+    by_tests false false e f = refl
+    by_tests true false e f = absurd (true≢false (sym ((bytes_eq-Decides b a).1 (sym ((bytes_eq-Decides a b).0 e))) ∙ f))
+    by_tests false true e f = absurd (true≢false (sym ((bytes_eq-Decides a b).1 (sym ((bytes_eq-Decides b a).0 f))) ∙ e))
+
+abbrev last : (key : List ℕ) → List LineText → Option LineText
+last key lines = last_line (λ l. l.name) lines key
+
+-- whether there is such a line, and it has a value with a part
+abbrev has_part : Option LineText → Bool
+has_part line = unwrap_or (option_map (λ (l : LineText). not (is_empty l.value.parts)) line) false
+
+last-cons : (key : List ℕ) (l : LineText) (ls : List LineText) → last key (l ∷ ls) ≡ option_or (last key ls) (if bytes_eq key l.name then Some l else None)
+last-cons key l ls = ap (find (λ (m : LineText). bytes_eq key m.name)) (reverse-append (l ∷ []) ls) ∙ find-append (λ (m : LineText). bytes_eq key m.name) (reverse ls) (l ∷ [])
+
+last-named : (key : List ℕ) (ls : List LineText) → is_some (last key ls) ≡ list_any (λ (m : LineText). bytes_eq m.name key) ls
+last-named key [] = refl
+last-named key (l ∷ ls) = ap is_some (last-cons key l ls) ∙ by_test (last key ls) (bytes_eq key l.name) (bytes_eq l.name key) (list_any (λ (m : LineText). bytes_eq m.name key) ls) (bytes_eq-swap key l.name) (last-named key ls)
+  where
+    by_test : (found : Option LineText) (t u a : Bool) → t ≡ u → is_some found ≡ a → is_some (option_or found (if t then Some l else None)) ≡ (u || a)
+    by_test (Some m) true true true e h = refl
+    by_test (Some m) false false true e h = refl
+    by_test (Some m) t u false e h = absurd (true≢false h)
+    by_test None true true a e h = refl
+    by_test None false false a e h = h
+    by_test found true false a e h = absurd (true≢false e)
+    by_test found false true a e h = absurd (true≢false (sym e))
+
+-- the first line counts only where none after it has the key
+pub gives-cons : (key : List ℕ) (l : LineText) (ls : List LineText)
+    → gives key (l ∷ ls) ≡ cond (bytes_eq l.name key && not (list_any (λ (m : LineText). bytes_eq m.name key) ls)) (not (is_empty l.value.parts)) (gives key ls)
+gives-cons key l ls = ap has_part (last-cons key l ls) ∙ by_tests (last key ls) (bytes_eq key l.name) (bytes_eq l.name key) (list_any (λ (m : LineText). bytes_eq m.name key) ls) (bytes_eq-swap key l.name) (last-named key ls)
+  where
+    by_tests : (found : Option LineText) (t u a : Bool) → t ≡ u → is_some found ≡ a
+        → has_part (option_or found (if t then Some l else None)) ≡ cond (u && not a) (not (is_empty l.value.parts)) (has_part found)
+    by_tests (Some m) true true true e h = refl
+    by_tests (Some m) false false true e h = refl
+    by_tests (Some m) t u false e h = absurd (true≢false h)
+    by_tests None t u true e h = absurd (true≢false (sym h))
+    by_tests None true true false e h = refl
+    by_tests None false false false e h = refl
+    by_tests found true false a e h = absurd (true≢false e)
+    by_tests found false true a e h = absurd (true≢false (sym e))
 
 -- the last line of the key decides
 gives-more : (key : List ℕ) (ls : List LineText) (l : LineText) → gives key (ls ++ l ∷ []) ≡ cond (bytes_eq l.name key) (not (is_empty l.value.parts)) (gives key ls)
-gives-more key [] l = by_test (bytes_eq l.name key) (not (is_empty l.value.parts))
+gives-more key ls l = ap (λ found. has_part (find (λ (m : LineText). bytes_eq key m.name) found)) (reverse-append ls (l ∷ [])) ∙ by_test (bytes_eq key l.name) (bytes_eq l.name key) (bytes_eq-swap key l.name)
   where
-    by_test : (p v : Bool) → cond (p && true) v false ≡ cond p v false
-    by_test true v = refl
-    by_test false v = refl
-gives-more key (m ∷ ls) l =
-    rw (list_any-append (λ (m : LineText). bytes_eq m.name key) ls (l ∷ []), gives-more key ls l)
-    (by_tests (bytes_eq m.name key) (list_any (λ (m : LineText). bytes_eq m.name key) ls) (bytes_eq l.name key) (not (is_empty m.value.parts)) (not (is_empty l.value.parts)) (gives key ls))
-  where
-    by_tests : (p a q v w g : Bool) → cond (p && not (a || (q || false))) v (cond q w g) ≡ cond q w (cond (p && not a) v g)
-    by_tests true true true v w g = refl
-    by_tests true true false v w g = refl
-    by_tests true false true v w g = refl
-    by_tests true false false v w g = refl
-    by_tests false a true v w g = refl
-    by_tests false a false v w g = refl
+    by_test : (t u : Bool) → t ≡ u → has_part (if t then Some l else last key ls) ≡ cond u (not (is_empty l.value.parts)) (gives key ls)
+    by_test true true e = refl
+    by_test false false e = refl
+    by_test true false e = absurd (true≢false e)
+    by_test false true e = absurd (true≢false (sym e))
 
 -- ---- a turn of the loop
 

@@ -14,6 +14,7 @@ use Rattle.nj_manifest.specs.LineSteps.{◌>>=◌, NameText, name_next, expect_s
 use Rattle.nj_manifest.specs.Statements.{LineText, equals_value, line_next, Parse, block, OutputsText, InputsText, StatementText, RuleText, PoolText, BuildText, HeadText, Alone, RuleHead, PoolHead, BuildHead, gives, names, unless_missing, agree, whole_rule, whole_pool, with_block}
 use Rattle.nj_manifest.specs.Leftmost.{written, are_plain}
 use Rattle.nj_manifest.proofs.BlockLines.{in_front}
+use Rattle.nj_manifest.proofs.GivenKeys.{gives-cons}
 
 -- the keys that a block of this statement takes
 abbrev pub keys_of : HeadText → Keys
@@ -63,7 +64,7 @@ any_after p (l ∷ front) tail h = by_test (p l) (any_after p front tail h)
 
 gives_after : (key : List ℕ) (front tail : List LineText) → names key tail ≡ true → gives key (front ++ tail) ≡ gives key tail
 gives_after key [] tail h = refl
-gives_after key (l ∷ front) tail h = by_test (list_any (λ (m : LineText). bytes_eq m.name key) (front ++ tail)) (bytes_eq l.name key) (any_after (λ (m : LineText). bytes_eq m.name key) front tail h) (gives_after key front tail h)
+gives_after key (l ∷ front) tail h = gives-cons key l (front ++ tail) ∙ by_test (list_any (λ (m : LineText). bytes_eq m.name key) (front ++ tail)) (bytes_eq l.name key) (any_after (λ (m : LineText). bytes_eq m.name key) front tail h) (gives_after key front tail h)
   where
     by_test : (a p : Bool) → a ≡ true → gives key (front ++ tail) ≡ gives key tail → cond (p && not a) (not (is_empty l.value.parts)) (gives key (front ++ tail)) ≡ gives key tail
     by_test false p e rest = absurd cc

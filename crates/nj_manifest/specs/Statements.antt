@@ -1,5 +1,5 @@
 -- The statements of a text, read from its lines.
-use Rattle.std.specs.Prelude.{ℕ, Bool, true, false, ◌&&◌, not, if◌then◌else◌, Option, Some, None, Result, Ok, Err, List, [], ◌∷◌, codes}
+use Rattle.std.specs.Prelude.{ℕ, Bool, true, false, ◌&&◌, not, if◌then◌else◌, Option, Some, None, option_map, unwrap_or, Result, Ok, Err, List, [], ◌∷◌, find, reverse, codes}
 use Rattle.std.specs.List.{list_any}
 use Rattle.std.specs.Str.{bytes_eq}
 use Rattle.nj_text.specs.declared.fault.UnitFault.TheVariants as lex
@@ -204,11 +204,13 @@ head_next s = do
 
 -- ---- what a block has to give
 
--- whether the last line of this key has a value with a part at least
+-- the line that counts of those of a name: the last one
+abbrev pub last_line : {X : Type 0} → (name_of : X → List ℕ) → List X → (name : List ℕ) → Option X
+last_line name_of lines name = find (λ l. bytes_eq name (name_of l)) (reverse lines)
+
+-- whether the line of this key that counts has a value with a part at least
 abbrev pub gives : (key : List ℕ) → List LineText → Bool
-gives key [] = false
-gives key (l ∷ ls) =
-    if bytes_eq l.name key && not (list_any (λ m. bytes_eq m.name key) ls) then not (is_empty l.value.parts) else gives key ls
+gives key lines = unwrap_or (option_map (λ l. not (is_empty l.value.parts)) (last_line (λ l. l.name) lines key)) false
 
 -- whether a line has this key
 abbrev pub names : (key : List ℕ) → List LineText → Bool

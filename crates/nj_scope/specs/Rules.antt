@@ -1,8 +1,8 @@
 -- Rules as they were declared.
-use Rattle.std.specs.Prelude.{ℕ, ◌==◌, Option, List, [], map, find, reverse, option_map, codes, bytes_eq}
+use Rattle.std.specs.Prelude.{ℕ, ◌==◌, Option, List, [], map, option_map, codes, bytes_eq}
 use Rattle.std.specs.List.{filter}
 use Rattle.nj_text.specs.Words.{PartText}
-use Rattle.nj_manifest.specs.Statements.{LineText}
+use Rattle.nj_manifest.specs.Statements.{LineText, last_line}
 
 -- a line of a rule's block, without its place
 pub record RuleLineText : Type 0 where
@@ -36,4 +36,4 @@ rule_names rules scope = map (λ r. r.name) (rules_in rules scope)
 
 -- the value of the last line of this key
 abbrev pub given : List RuleLineText → (key : List ℕ) → Option (List PartText)
-given lines key = option_map (λ l. l.value) (find (λ l. bytes_eq key l.key) (reverse lines))
+given lines key = option_map (λ l. l.value) (last_line (λ l. l.key) lines key)

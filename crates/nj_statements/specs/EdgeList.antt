@@ -1,13 +1,13 @@
 -- The edges of a run: one for each build statement, in reading order.
 use Rattle.std.specs.Prelude.{ℕ, ◌==◌, Bool, ◌&&◌, not, if◌then◌else◌, Option, option_map, unwrap_or, Some, None, List}
-use Rattle.std.specs.Prelude.{[], ◌∷◌, ◌++◌, map, find, reverse, length, slice_get, bytes_eq, codes}
+use Rattle.std.specs.Prelude.{[], ◌∷◌, ◌++◌, map, length, slice_get, bytes_eq, codes}
 use Rattle.std.specs.List.{filter}
 use Rattle.nj_text.specs.declared.spot.Spot.{Spot}
 use Rattle.nj_text.specs.Words.{WordText}
 use Rattle.nj_text.specs.Paths.{clean_path_of}
 use Rattle.nj_text.specs.Calls.{is_empty}
 use Rattle.nj_manifest.specs.LineSteps.{NameText}
-use Rattle.nj_manifest.specs.Statements.{LineText, OutputsText, InputsText, StatementText, BuildText, DefaultText}
+use Rattle.nj_manifest.specs.Statements.{LineText, last_line, OutputsText, InputsText, StatementText, BuildText, DefaultText}
 use Rattle.nj_scope.specs.Rules.{RuleText, RuleLineText}
 use Rattle.nj_scope.specs.Scopes.{expanded}
 use Rattle.nj_scope.specs.ReadingList.{Discovered, ReadStatement, scope_of, value_after, rule_in_force, rule_texts}
@@ -30,7 +30,7 @@ no_block name = None
 
 -- The last line of a name counts. Its value sees the scope of the file, and no line of the block itself.
 abbrev pub block_of : Values → List LineText → Block
-block_of values lines name = option_map (λ l. expanded values l.value.parts) (find (λ l. bytes_eq name l.name) (reverse lines))
+block_of values lines name = option_map (λ l. expanded values l.value.parts) (last_line (λ l. l.name) lines name)
 
 -- A name on a build line is the block's, else the scope's.
 abbrev pub on_line : Values → Block → Values
