@@ -8,9 +8,9 @@ abbrev pub Needs : (ℕ → List ℕ) → ℕ → ℕ → Type 0
 Needs makers e f = Contains (makers e) f
 
 -- from e to f in one step or more
-pub data Chain (step : ℕ → ℕ → Type 0) : ℕ → ℕ → Type 0 where
-  one : {e f : ℕ} → step e f → Chain step e f
-  more : {e g f : ℕ} → step e g → Chain step g f → Chain step e f
+pub data Chain {A : Type 0} (step : A → A → Type 0) : A → A → Type 0 where
+  one : {e f : A} → step e f → Chain step e f
+  more : {e g f : A} → step e g → Chain step g f → Chain step e f
 
 -- edge e lies on a cycle: it needs itself by a chain. An edge that only leads into a cycle does not lie on it
 abbrev pub IsOnCycle : (ℕ → List ℕ) → ℕ → Type 0

@@ -11,7 +11,7 @@ use Rattle.nj_scope.specs.Rules.{RuleLineText}
 use Rattle.nj_scope.specs.RulesHeld.{has_key}
 use Rattle.nj_edge_env.specs.LateTexts.{is_one_of, rule_value, refers}
 use Rattle.nj_edge_env.specs.VariableCycles.{RefersTo, Reaches, IsOnCycle, IsCycleFound, keys_of, referring, reaching, keys_on_cycles, variable_cycle_of}
-use Rattle.nj_edge_env.specs.VariableCycles.Reaches.{one, more}
+use Rattle.nj_cycles.specs.Cycles.Chain.{one, more}
 use Rattle.nj_edge_env.proofs.SaidLemmas.{same_name, own_name, counts_in_line}
 
 -- ---- names in lists

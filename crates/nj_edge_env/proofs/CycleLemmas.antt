@@ -10,7 +10,7 @@ use Rattle.nj_scope.specs.RulesHeld.{key_count, key_at}
 use Rattle.nj_scope.proofs.KeyLemmas.{keys_are_numbered}
 use Rattle.nj_edge_env.specs.LateTexts.{rule_value, refers}
 use Rattle.nj_edge_env.specs.VariableCycles.{RefersTo, Reaches, IsOnCycle, IsCycleFound, variable_cycle_of}
-use Rattle.nj_edge_env.specs.VariableCycles.Reaches.{one as one_step, more as step_and}
+use Rattle.nj_cycles.specs.Cycles.Chain.{one as one_step, more as step_and}
 use Rattle.nj_edge_env.specs.ReferencesHeld.{ReferringKeyText, AreReferences, TellsCycles, name_at, row_at, unbound}
 use Rattle.nj_edge_env.specs.Inside.CyclesHeld.{IsMarked, AreCounted, Refers, LeadsTo, IsOnLoop, IsLeastLoop}
 use Rattle.nj_edge_env.specs.Inside.CyclesHeld.LeadsTo.{one, more}

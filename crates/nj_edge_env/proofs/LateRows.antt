@@ -6,7 +6,7 @@ use Rattle.nj_text.specs.Words.{PartText, Text, Name}
 use Rattle.nj_scope.specs.Rules.{RuleLineText}
 use Rattle.nj_edge_env.specs.LateTexts.{LateNames, asked_text}
 use Rattle.nj_edge_env.specs.VariableCycles.{IsOnCycle, variable_cycle_of}
-use Rattle.nj_edge_env.specs.VariableCycles.Reaches.{one, more}
+use Rattle.nj_cycles.specs.Cycles.Chain.{one, more}
 
 abbrev nothing : List ℕ → Option (List ℕ)
 nothing name = None

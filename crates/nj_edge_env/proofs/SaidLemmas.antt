@@ -12,7 +12,7 @@ use Rattle.nj_scope.specs.Scopes.{or_else, expanded}
 use Rattle.nj_edge_env.specs.LateTexts.{LateNames, text_of_paths, paths_text, names_paths, is_one_of, value_given, unless_empty, is_of_command, rule_value, file_value, refers, Says, late_in, late_text}
 use Rattle.nj_edge_env.specs.LateTexts.Says.{by_paths, by_block, by_rule, by_file}
 use Rattle.nj_edge_env.specs.VariableCycles.{RefersTo, Reaches, IsOnCycle, HasNoCycle}
-use Rattle.nj_edge_env.specs.VariableCycles.Reaches.{one, more}
+use Rattle.nj_cycles.specs.Cycles.Chain.{one, more}
 use Rattle.nj_edge_env.specs.Inside.TextsHeld.{Settles}
 use Rattle.nj_edge_env.specs.Laws.{LateTextIsSaid, OneTextIsSaid, CycleSaysNothing, RuleWins}
 

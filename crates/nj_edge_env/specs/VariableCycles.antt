@@ -5,6 +5,7 @@ use Rattle.std.specs.Ordering.{nat_cmp, min_by_ordering}
 use Rattle.std.specs.declared.cmp.Ordering.TheVariants.{Less}
 use Rattle.std.specs.Cmp.Lexicographic.{slice_cmp}
 use Rattle.nj_text.specs.Words.{PartText}
+use Rattle.nj_cycles.specs.Cycles.{Chain}
 use Rattle.nj_scope.specs.Rules.{RuleLineText}
 use Rattle.nj_edge_env.specs.LateTexts.{rule_value, refers, is_one_of}
 
@@ -13,9 +14,8 @@ abbrev pub RefersTo : (block : List ℕ → Option (List ℕ)) → List RuleLine
 RefersTo block lines key other = (parts : List PartText) × (rule_value block lines key ≡ Some parts) × (refers parts other ≡ true)
 
 -- by one or more references
-pub data Reaches (block : List ℕ → Option (List ℕ)) (lines : List RuleLineText) : List ℕ → List ℕ → Type 0 where
-  one : {key other : List ℕ} → RefersTo block lines key other → Reaches block lines key other
-  more : {key next other : List ℕ} → RefersTo block lines key next → Reaches block lines next other → Reaches block lines key other
+abbrev pub Reaches : (block : List ℕ → Option (List ℕ)) → List RuleLineText → (key other : List ℕ) → Type 0
+Reaches block lines = Chain (RefersTo block lines)
 
 abbrev pub IsOnCycle : (block : List ℕ → Option (List ℕ)) → List RuleLineText → (key : List ℕ) → Type 0
 IsOnCycle block lines key = Reaches block lines key key
