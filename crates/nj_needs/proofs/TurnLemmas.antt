@@ -7,7 +7,7 @@ use Rattle.std.proofs.lemmas.Option.{slice_get_within, same_Some}
 use Rattle.nj_edges.specs.declared.files.FileNo.{FileNo}
 use Rattle.nj_edges.specs.EdgeGraphs.{EdgeGraph}
 use Rattle.nj_needs.specs.Counts.{saturated}
-use Rattle.nj_needs.specs.Inside.Standing.{counted}
+use Rattle.nj_needs.specs.Inside.Tops.{counted}
 use Rattle.nj_needs.specs.Graphs.{row_of, makers_of, count_of, is_phony}
 use Rattle.nj_needs.specs.Inside.Tops.{row_in}
 use Rattle.nj_needs.specs.Marks.{done, without, edge_at}

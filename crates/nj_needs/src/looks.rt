@@ -6,7 +6,7 @@ ghost use Rattle.std.specs.Option.{ForSome};
 ghost use Rattle.nj_needs.specs.Graphs.{makers_of, count_of, is_phony, row_of};
 ghost use Rattle.nj_needs.specs.Inside.Tops.{row_in};
 ghost use Rattle.nj_needs.specs.Needs.{IsAcyclic, AreWithin};
-ghost use Rattle.nj_needs.specs.Inside.Standing.{counted};
+ghost use Rattle.nj_needs.specs.Inside.Tops.{counted};
 
 use nj_edges::{EdgeGraph, EdgeNo, FileNo};
 

@@ -11,13 +11,10 @@ use Rattle.nj_needs.specs.Needs.{IsAcyclic, AreWithin}
 use Rattle.nj_needs.specs.Inside.Paths.{top_row, done_at, places, left_at, turns_left, IsStanding}
 use Rattle.nj_needs.specs.Walks.{rest_of, bound_of, IsFirstPlaceOf}
 use Rattle.nj_needs.specs.declared.frame.Frame.{Frame}
+use Rattle.nj_needs.specs.Inside.Tops.{counted}
 use Rattle.nj_needs.specs.declared.walk.Walk.{Walk}
 use Rattle.nj_needs.specs.declared.walk.Turn.{Turn}
 use Rattle.nj_needs.specs.declared.walk.Turn.TheVariants.{Looked, Closed, Ended}
-
--- the count after one more turn
-abbrev pub counted : ℕ → ℕ
-counted n = saturated (n + 1)
 
 -- where a walk stands: the path of open edges and the next place
 abbrev pub left_of : EdgeGraph → List FileNo → List Frame → ℕ → List ℕ

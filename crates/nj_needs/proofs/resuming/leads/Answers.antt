@@ -4,7 +4,7 @@ use Rattle.std.proofs.lemmas.List.{get_or_default}
 use Rattle.nj_edges.specs.declared.files.FileNo.{FileNo}
 use Rattle.nj_edges.specs.EdgeGraphs.{EdgeGraph}
 use Rattle.nj_needs.specs.Counts.{saturated}
-use Rattle.nj_needs.specs.Inside.Standing.{counted}
+use Rattle.nj_needs.specs.Inside.Tops.{counted}
 use Rattle.nj_needs.specs.Graphs.{makers_of, count_of, row_of}
 use Rattle.nj_needs.specs.Inside.Tops.{row_in}
 use Rattle.nj_needs.specs.Marks.{is_valid}

@@ -1,7 +1,7 @@
 use Rattle.std.proofs.Common.{◌≡◌, ℕ, ◌+◌, Bool, true, List, [], ◌++◌, length, set, take, drop, sym, ap, ◌∙◌, arith}
 use Rattle.std.specs.Global.{Vec}
 use Rattle.std.proofs.lemmas.List.{append-nil, length-set, nil_from_length, with_items_is}
-use Rattle.nj_needs.specs.Inside.Standing.{counted}
+use Rattle.nj_needs.specs.Inside.Tops.{counted}
 use Rattle.nj_needs.specs.Inside.Standing.{IsWalkAt}
 use Rattle.nj_needs.proofs.TurnLemmas.{walk-close, turn-close, turn-end, close-within}
 use Rattle.nj_needs.proofs.walk.Walk.close.Goals as goal

@@ -3,7 +3,7 @@ use Rattle.std.specs.Prelude.{slice_get}
 use Rattle.std.proofs.lemmas.List.{get_or_read}
 use Rattle.std.proofs.lemmas.Option.{same_Some}
 use Rattle.nj_needs.specs.Inside.Tops.{row_in}
-use Rattle.nj_needs.specs.Inside.Standing.{counted}
+use Rattle.nj_needs.specs.Inside.Tops.{counted}
 use Rattle.nj_needs.specs.Inside.Standing.{IsWalkAt, top_of, done_of}
 use Rattle.nj_needs.specs.Inside.Tops.{IsTop}
 use Rattle.nj_needs.specs.declared.frame.Frame.{Frame}
