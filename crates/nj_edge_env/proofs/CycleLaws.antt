@@ -194,7 +194,7 @@ module _ (block : List ℕ → Option (List ℕ)) (lines : List RuleLineText) wh
   found : (key name : List ℕ) → Reaches block lines key name → is_one_of (reaching (length lines) block lines name) key ≡ true
   found key name (one r) =
       full name key (refers_among (name ∷ reaching (length lines) block lines name) key name r (first (bytes_eq name name) (is_one_of (reaching (length lines) block lines name) name) (own_name name)))
-  found key name (more {next = next} r c) =
+  found key name (more {g = next} r c) =
       full name key (refers_among (name ∷ reaching (length lines) block lines name) key next r (second (bytes_eq next name) (is_one_of (reaching (length lines) block lines name) next) (found next name c)))
 
   refers_to : (key other : List ℕ) → refers (unwrap_or (rule_value block lines key) []) other ≡ true → RefersTo block lines key other

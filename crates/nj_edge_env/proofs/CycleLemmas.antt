@@ -10,10 +10,9 @@ use Rattle.nj_scope.specs.RulesHeld.{key_count, key_at}
 use Rattle.nj_scope.proofs.KeyLemmas.{keys_are_numbered}
 use Rattle.nj_edge_env.specs.LateTexts.{rule_value, refers}
 use Rattle.nj_edge_env.specs.VariableCycles.{RefersTo, Reaches, IsOnCycle, IsCycleFound, variable_cycle_of}
-use Rattle.nj_cycles.specs.Cycles.Chain.{one as one_step, more as step_and}
 use Rattle.nj_edge_env.specs.ReferencesHeld.{ReferringKeyText, AreReferences, TellsCycles, name_at, row_at, unbound}
 use Rattle.nj_edge_env.specs.Inside.CyclesHeld.{IsMarked, AreCounted, Refers, LeadsTo, IsOnLoop, IsLeastLoop}
-use Rattle.nj_edge_env.specs.Inside.CyclesHeld.LeadsTo.{one, more}
+use Rattle.nj_cycles.specs.Cycles.Chain.{one, more}
 use Rattle.nj_edge_env.proofs.SaidLemmas.{rule_value_is, rule_value_of, given_at}
 use Rattle.nj_edge_env.proofs.LoopLemmas.{marked_within}
 use Rattle.nj_edge_env.proofs.CycleLaws.{is_computed}
@@ -93,18 +92,18 @@ module _ (block : List ℕ → Option (List ℕ)) (lines : List RuleLineText) (k
       )
 
   reaches : (a b : ℕ) → LeadsTo keys counts a b → Reaches block lines (key_at lines a) (key_at lines b)
-  reaches a b (one r) = one_step (refers_to a b r)
-  reaches a b (more {next = n} r c) = step_and (refers_to a n r) (reaches n b c)
+  reaches a b (one r) = one (refers_to a b r)
+  reaches a b (more {g = n} r c) = more (refers_to a n r) (reaches n b c)
 
   -- a key that reaches another has a number
   numbered : (x y : List ℕ) → Reaches block lines x y → (n : ℕ) × (n < key_count lines) × (key_at lines n ≡ x)
-  numbered x y (one_step s) = keys_are_numbered lines x s.0 (given_at lines x s.0 (rule_value_is block lines x s.0 s.1).given)
-  numbered x y (step_and s d) = keys_are_numbered lines x s.0 (given_at lines x s.0 (rule_value_is block lines x s.0 s.1).given)
+  numbered x y (one s) = keys_are_numbered lines x s.0 (given_at lines x s.0 (rule_value_is block lines x s.0 s.1).given)
+  numbered x y (more s d) = keys_are_numbered lines x s.0 (given_at lines x s.0 (rule_value_is block lines x s.0 s.1).given)
 
   leads : (x y : List ℕ) → Reaches block lines x y → (a b : ℕ) → a < key_count lines → b < key_count lines → key_at lines a ≡ x → key_at lines b ≡ y → LeadsTo keys counts a b
-  leads x y (one_step r) a b below inside p q =
+  leads x y (one r) a b below inside p q =
       one (refers_back a b below inside (subst (λ k. RefersTo block lines k (key_at lines b)) (sym p) (subst (RefersTo block lines x) (sym q) r)))
-  leads x y (step_and {next = z} r c) a b below inside p q =
+  leads x y (more {g = z} r c) a b below inside p q =
       let k = numbered z y c in
       more (refers_back a k.0 below k.1 (subst (λ n. RefersTo block lines n (key_at lines k.0)) (sym p) (subst (RefersTo block lines x) (sym k.2) r)))
       (leads z y c k.0 b k.1 inside k.2 q)
@@ -130,8 +129,8 @@ unbound_refers : (block : List ℕ → Option (List ℕ)) (lines : List RuleLine
 unbound_refers block lines a b r = let is = rule_value_is block lines a r.0 r.1 in (r.0, rule_value_of unbound lines a is.no_paths refl ∙ is.given, r.2)
 
 unbound_reaches : (block : List ℕ → Option (List ℕ)) (lines : List RuleLineText) (a b : List ℕ) → Reaches block lines a b → Reaches unbound lines a b
-unbound_reaches block lines a b (one_step r) = one_step (unbound_refers block lines a b r)
-unbound_reaches block lines a b (step_and {next = c} r d) = step_and (unbound_refers block lines a c r) (unbound_reaches block lines c b d)
+unbound_reaches block lines a b (one r) = one (unbound_refers block lines a b r)
+unbound_reaches block lines a b (more {g = c} r d) = more (unbound_refers block lines a c r) (unbound_reaches block lines c b d)
 
 pub never_cycle : (lines : List RuleLineText) (keys : List ReferringKeyText) (counts : List Bool) (least : Option ℕ) → AreReferences lines keys → AreCounted unbound keys counts → IsLeastLoop keys counts least
     → is_some least ≡ false → (block : List ℕ → Option (List ℕ)) → variable_cycle_of block lines ≡ None

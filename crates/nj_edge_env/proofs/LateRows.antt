@@ -51,7 +51,7 @@ abbrev circle : List RuleLineText
 circle = line (codes "command") (Name (codes "description") ∷ []) ∷ line (codes "description") (Name (codes "command") ∷ []) ∷ []
 
 on_cycle : IsOnCycle nothing circle (codes "command")
-on_cycle = more {next = codes "description"} (Name (codes "description") ∷ [], refl, refl) (one (Name (codes "command") ∷ [], refl, refl))
+on_cycle = more {g = codes "description"} (Name (codes "description") ∷ [], refl, refl) (one (Name (codes "command") ∷ [], refl, refl))
 
 broken : asked_text (edge (only (codes "description") (codes "x")) circle) (codes "command") ≡ codes "x"
 broken = refl

@@ -9,7 +9,7 @@ use Rattle.std.proofs.lemmas.List.{get_or_past, get_or-set_other}
 use Rattle.std.proofs.lemmas.List.Elements.{All-get_or}
 use Rattle.nj_edge_env.specs.ReferencesHeld.{ReferringKeyText, name_at, row_at}
 use Rattle.nj_edge_env.specs.Inside.CyclesHeld.{IsMarked, marked, unmarked, LeadsTo, IsOnLoop, SameLoops, RefersToMarked, Points, IsLeft, MarksLead, IsClosed, IsLesser, IsLeastBelow}
-use Rattle.nj_edge_env.specs.Inside.CyclesHeld.LeadsTo.{one, more}
+use Rattle.nj_cycles.specs.Cycles.Chain.{one, more}
 
 -- ---- marks
 
@@ -65,11 +65,11 @@ module _ (keys : List ReferringKeyText) (counts : List Bool) (key : ℕ) (none :
 
   kept : (a b : ℕ) → LeadsTo keys counts a b → IsMarked counts b → LeadsTo keys (set counts key false) a b
   kept a b (one r) m = one (other_stays a b r.0 r.1 m, r.1)
-  kept a b (more {next = n} r c) m = more (other_stays a n r.0 r.1 (leads_counted keys counts n b c), r.1) (kept n b c m)
+  kept a b (more {g = n} r c) m = more (other_stays a n r.0 r.1 (leads_counted keys counts n b c), r.1) (kept n b c m)
 
   before : (a b : ℕ) → LeadsTo keys (set counts key false) a b → LeadsTo keys counts a b
   before a b (one r) = one (still_marked counts key a r.0, r.1)
-  before a b (more {next = n} r c) = more (still_marked counts key a r.0, r.1) (before n b c)
+  before a b (more {g = n} r c) = more (still_marked counts key a r.0, r.1) (before n b c)
 
   -- so it lies on no loop
   pub same_without : SameLoops keys counts (set counts key false)
@@ -119,7 +119,7 @@ module _ (keys : List ReferringKeyText) (counts marks : List Bool) (target : ℕ
   -- closed marks miss no key that leads to the target
   pub all_marked : IsClosed keys counts marks target → (key : ℕ) → LeadsTo keys counts key target → IsMarked marks key
   all_marked closed key (one r) = closed key r.0 (inl r.1)
-  all_marked closed key (more {next = n} r c) = closed key r.0 (inr (n, r.1, all_marked closed n c))
+  all_marked closed key (more {g = n} r c) = closed key r.0 (inr (n, r.1, all_marked closed n c))
 
 pub record RoundSoFar (keys : List ReferringKeyText) (counts : List Bool) (target : ℕ) (start : List Bool) (key : ℕ) (marks : List Bool) (is_new : Bool) : Type 0 where
   pub len : length marks ≡ length counts

@@ -208,7 +208,7 @@ has_reversed (l ∷ lines) key =
 
 reached_push : (block : List ℕ → Option (List ℕ)) (lines : List RuleLineText) (key next other : List ℕ) → Reaches block lines key next → RefersTo block lines next other → Reaches block lines key other
 reached_push block lines key next other (one r) s = more r (one s)
-reached_push block lines key next other (more {next = middle} r c) s = more r (reached_push block lines middle next other c s)
+reached_push block lines key next other (more {g = middle} r c) s = more r (reached_push block lines middle next other c s)
 
 -- a value of the rule that counts stands in a line
 pub counts_in_line : (block : List ℕ → Option (List ℕ)) (lines : List RuleLineText) (name : List ℕ) (parts : List PartText) → rule_value block lines name ≡ Some parts → has_key lines name ≡ true
@@ -298,7 +298,7 @@ has_paths quoting n name text h = by (names_paths name) refl
 first_step : (block : List ℕ → Option (List ℕ)) (lines : List RuleLineText) (key other : List ℕ) → Reaches block lines key other
     → (next : List ℕ) × RefersTo block lines key next × ((next ≡ other) ⊎ Reaches block lines next other)
 first_step block lines key other (one r) = (other, r, inl refl)
-first_step block lines key other (more {next = next} r d) = (next, r, inr d)
+first_step block lines key other (more {g = next} r d) = (next, r, inr d)
 
 -- the next on a cycle is on it too
 turned : (block : List ℕ → Option (List ℕ)) (lines : List RuleLineText) (key : List ℕ) → IsOnCycle block lines key → (next : List ℕ) × RefersTo block lines key next × IsOnCycle block lines next

@@ -3,6 +3,7 @@ use Rattle.std.specs.Prelude.{◌≡◌, ◌≢◌, ◌⊎◌, ℕ, zero, suc, �
 use Rattle.std.specs.Ordering.{nat_cmp}
 use Rattle.std.specs.declared.cmp.Ordering.TheVariants.{Less}
 use Rattle.std.specs.Cmp.Lexicographic.{slice_cmp}
+use Rattle.nj_cycles.specs.Cycles.{Chain}
 use Rattle.nj_edge_env.specs.ReferencesHeld.{ReferringKeyText, name_at, row_at}
 use Rattle.std.specs.Prelude.{◌==◌}
 use Rattle.nj_text.specs.Words.{PartText}
@@ -44,9 +45,8 @@ abbrev pub Refers : List ReferringKeyText → (counts : List Bool) → (key othe
 Refers keys counts key other = IsMarked counts key × IsMarked (row_at keys key) other
 
 -- by one or more references
-pub data LeadsTo (keys : List ReferringKeyText) (counts : List Bool) : ℕ → ℕ → Type 0 where
-  one : {key other : ℕ} → Refers keys counts key other → LeadsTo keys counts key other
-  more : {key next other : ℕ} → Refers keys counts key next → LeadsTo keys counts next other → LeadsTo keys counts key other
+abbrev pub LeadsTo : List ReferringKeyText → (counts : List Bool) → (key other : ℕ) → Type 0
+LeadsTo keys counts = Chain (Refers keys counts)
 
 abbrev pub IsOnLoop : List ReferringKeyText → (counts : List Bool) → (key : ℕ) → Type 0
 IsOnLoop keys counts key = LeadsTo keys counts key key
