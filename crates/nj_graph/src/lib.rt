@@ -25,5 +25,5 @@ pub use nj_statements::PlaceRef;
 pub use nj_edges::{EdgeGraph, EdgeNo, FileNo, InputKind};
 pub use nj_faults::{Cause, GraphFault, Name, Place};
 pub use nj_manifest::{Spot, Wanted};
-pub use nj_scope::{FileSource, FileTable, MemoryFiles, SourceFault};
+pub use nj_scope::{FileSource, FileTable, HashKeys, MemoryFiles, SourceFault};
 pub use targets::pick_target;

@@ -29,6 +29,7 @@ pub use fault::ToolFault;
 pub use inputs::write_inputs;
 pub use laws::{compdb_law, depth_law, input_lines_law, list_law};
 pub use memory::MemorySink;
+pub use nj_needs::{Mark, MarkFault, Needs, grow_targets};
 pub use queries::write_query;
 pub use rules::write_rules;
 pub use sinks::{Sink, SinkFault};
