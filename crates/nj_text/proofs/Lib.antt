@@ -16,10 +16,10 @@ pub mod SignsTaken
 pub mod UnitLaws
 pub mod PartLaws
 pub mod Pairs
-pub mod KeptParts
-pub mod SlashPieces
+pub mod KeptComponents
+pub mod SlashComponents
 pub mod NamesDropped
-pub mod WrittenParts
+pub mod WrittenComponents
 pub mod CleanTexts
 pub mod CleanPaths
 pub mod PathRows

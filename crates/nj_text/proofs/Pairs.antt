@@ -1,10 +1,10 @@
--- Pairs taken out of a list of parts.
+-- Pairs taken out of a list of components.
 use Rattle.std.proofs.Common.{◌≡◌, ℕ, zero, suc, ◌+◌, ◌≤◌, Bool, true, false, not, List, [], ◌∷◌, ◌++◌, length, replicate, refl, sym, ap, ◌∙◌, ◌⊎◌, inl, inr, arith, length-append}
 use Rattle.std.specs.Prelude.{◌&&◌}
 use Rattle.std.specs.Fn.{iterate}
 use Rattle.nj_text.specs.Paths.{is_up, is_pair, without_leftmost_pair, without_pairs}
 
--- no part but `..` stands directly before a `..`
+-- no component but `..` stands directly before a `..`
 abbrev pub HasNoPair : List (List ℕ) → Type 0
 HasNoPair [] = Unit {0}
 HasNoPair (a ∷ []) = Unit {0}
@@ -26,7 +26,7 @@ leftmost-one : (a : List ℕ) → without_leftmost_pair (a ∷ []) ≡ a ∷ []
 unfolding without_leftmost_pair
 leftmost-one a = refl
 
--- where there is no pair, all parts stay
+-- where there is no pair, all components stay
 pub leftmost-none : (ps : List (List ℕ)) → HasNoPair ps → without_leftmost_pair ps ≡ ps
 leftmost-none [] h = leftmost-nil
 leftmost-none (a ∷ []) h = leftmost-one a
@@ -38,7 +38,7 @@ leftmost-at [] a b ps h e = leftmost-cons_pair a b ps e
 leftmost-at (x ∷ []) a b ps h e = leftmost-cons x a (b ∷ ps) h.0 ∙ ap (λ qs. x ∷ qs) (leftmost-cons_pair a b ps e)
 leftmost-at (x ∷ y ∷ front) a b ps h e = leftmost-cons x y (front ++ a ∷ b ∷ ps) h.0 ∙ ap (λ qs. x ∷ qs) (leftmost-at (y ∷ front) a b ps h.1 e)
 
--- a turn changes nothing, or takes out two parts
+-- a turn changes nothing, or takes out two components
 leftmost-or : (ps : List (List ℕ)) → (without_leftmost_pair ps ≡ ps) ⊎ (length (without_leftmost_pair ps) + 2 ≡ length ps)
 leftmost-or [] = inl leftmost-nil
 leftmost-or (a ∷ []) = inl (leftmost-one a)
@@ -58,7 +58,7 @@ iterate-same : (n : ℕ) (ps : List (List ℕ)) → without_leftmost_pair ps ≡
 iterate-same zero ps e = refl
 iterate-same (suc n) ps e = ap (iterate without_leftmost_pair n) e ∙ iterate-same n ps e
 
--- as many turns as there are parts are enough, and more change nothing
+-- as many turns as there are components are enough, and more change nothing
 enough : (n m : ℕ) (ps : List (List ℕ)) → length ps ≤ n → length ps ≤ m → iterate without_leftmost_pair n ps ≡ iterate without_leftmost_pair m ps
 enough zero m [] h k = sym (iterate-same m [] leftmost-nil)
 enough zero m (p ∷ ps) h k = absurd (omega arith)
@@ -82,7 +82,7 @@ pairs-at front a b ps h e =
     ap (λ n. iterate without_leftmost_pair n (front ++ a ∷ b ∷ ps)) long ∙ ap (iterate without_leftmost_pair (suc (length (front ++ ps)))) (leftmost-at front a b ps h e)
     ∙ enough (suc (length (front ++ ps))) (length (front ++ ps)) (front ++ ps) (omega arith) (omega arith)
 
--- one part more, other than `..`
+-- one component more, other than `..`
 pub no_pair-push : (ps : List (List ℕ)) (b : List ℕ) → HasNoPair ps → is_up b ≡ false → HasNoPair (ps ++ b ∷ [])
 no_pair-push [] b h e = tt
 no_pair-push (a ∷ []) b h e = (no_pair (is_up a) (is_up b) e, tt)

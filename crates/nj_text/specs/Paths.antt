@@ -10,53 +10,54 @@ is_slash b = b == 47
 -- `..`, the folder above
 abbrev pub is_up : List ℕ → Bool
 is_up (a ∷ b ∷ []) = a == 46 && b == 46
-is_up part = false
+is_up component = false
 
--- an empty part or `.`: it leads to where one is
+-- an empty component or `.`: it leads to where one is
 abbrev pub leads_nowhere : List ℕ → Bool
 leads_nowhere [] = true
 leads_nowhere (b ∷ []) = b == 46
-leads_nowhere part = false
+leads_nowhere component = false
 
--- a part that leads into a folder or to a file: neither empty nor `.` nor `..`, and without a slash
-pub record IsName (part : List ℕ) : Type 0 where
-  pub leads_somewhere : leads_nowhere part ≡ false
-  pub leads_down : is_up part ≡ false
-  pub has_no_slash : list_any is_slash part ≡ false
+-- a component that leads into a folder or to a file: neither empty nor `.` nor `..`, and without a slash
+pub record IsName (component : List ℕ) : Type 0 where
+  pub leads_somewhere : leads_nowhere component ≡ false
+  pub leads_down : is_up component ≡ false
+  pub has_no_slash : list_any is_slash component ≡ false
 
--- what stands between the slashes of a path, without empty and `.` parts
-abbrev pub parts_of_path : List ℕ → List (List ℕ)
-parts_of_path path = filter (λ part. not (leads_nowhere part)) (slice_split is_slash path)
+-- what stands between the slashes of a path, without empty and `.` components
+abbrev pub components_of_path : List ℕ → List (List ℕ)
+components_of_path path = filter (λ component. not (leads_nowhere component)) (slice_split is_slash path)
 
--- the first is a part other than `..`, the second is `..`
+-- the first is a component other than `..`, the second is `..`
 abbrev pub is_pair : List ℕ → List ℕ → Bool
-is_pair part next = not (is_up part) && is_up next
+is_pair component next = not (is_up component) && is_up next
 
--- the parts without their leftmost pair: a part other than `..` that stands directly before a `..`
+-- the components without their leftmost pair: one other than `..` that stands directly before a `..`
 unfoldable pub without_leftmost_pair : List (List ℕ) → List (List ℕ)
 without_leftmost_pair [] = []
-without_leftmost_pair (part ∷ []) = part ∷ []
-without_leftmost_pair (part ∷ next ∷ parts) = if is_pair part next then parts else part ∷ without_leftmost_pair (next ∷ parts)
+without_leftmost_pair (component ∷ []) = component ∷ []
+without_leftmost_pair (component ∷ next ∷ components) =
+    if is_pair component next then components else component ∷ without_leftmost_pair (next ∷ components)
 
--- the parts with the leftmost pair taken out while there is one, which is at most as often as there are parts
+-- the components with the leftmost pair taken out while there is one, which is at most as often as there are components
 abbrev pub without_pairs : List (List ℕ) → List (List ℕ)
-without_pairs parts = iterate without_leftmost_pair (length parts) parts
+without_pairs components = iterate without_leftmost_pair (length components) components
 
 abbrev pub is_absolute : List ℕ → Bool
 is_absolute [] = false
 is_absolute (b ∷ bs) = is_slash b
 
--- the text of a relative path: its parts, joined by slashes, or `.` where there are none
+-- the text of a relative path: its components, joined by slashes, or `.` where there are none
 abbrev pub relative_text : List (List ℕ) → List ℕ
 relative_text [] = 46 ∷ []
-relative_text (part ∷ parts) = join_with_byte 47 (part ∷ parts)
+relative_text (component ∷ components) = join_with_byte 47 (component ∷ components)
 
--- the text of an absolute path: a slash, and its parts, joined by slashes
+-- the text of an absolute path: a slash, and its components, joined by slashes
 abbrev pub absolute_text : List (List ℕ) → List ℕ
-absolute_text parts = 47 ∷ join_with_byte 47 parts
+absolute_text components = 47 ∷ join_with_byte 47 components
 
 -- the clean path of a path that is not empty; an absolute one loses all leading `..`
 unfoldable pub clean_path_of : List ℕ → List ℕ
 clean_path_of path =
-    if is_absolute path then absolute_text (drop_while is_up (without_pairs (parts_of_path path)))
-    else relative_text (without_pairs (parts_of_path path))
+    if is_absolute path then absolute_text (drop_while is_up (without_pairs (components_of_path path)))
+    else relative_text (without_pairs (components_of_path path))

@@ -1,22 +1,23 @@
-//! The clean path of a path, piece by piece.
+//! The clean path of a path, one component after another.
 
 ghost use Rattle.std.specs.Prelude.{◌≡◌, ◌++◌, ◌≤◌, List, ℕ, false, length, IfOk, OnOk, OnErr};
 ghost use Rattle.std.specs.List.{list_any, slice_split};
 ghost use Rattle.nj_text.specs.Paths.{is_slash, is_absolute, clean_path_of};
-ghost use Rattle.nj_text.specs.Inside.Cleaning.{Kept, piece_of, with_piece, with_part, nothing_kept, kept_after, text_kept, IsWritten, BeginsWith, DropsName};
+ghost use Rattle.nj_text.specs.Inside.Cleaning.{Kept, component_of, with_component, text_with_component, nothing_kept, kept_after, text_kept, IsWritten, BeginsWith, DropsName};
 
-use crate::pieces::{Piece, first_piece, piece_of};
+use crate::components::{Component, component_of, first_component};
 use std::alloc::AllocError;
 
-/// Appends a part, after a slash unless it is the first from `front` on.
-fn push_part(out: &mut Vec<u8>, front: usize, part: &[u8]) -> Result<(), AllocError>
-    ensures ok { OnOk result (out.new.items ≡ with_part front out.old.items part.now) }
+/// Appends a component, after a slash unless it is the first from `front` on.
+fn push_component(out: &mut Vec<u8>, front: usize, component: &[u8]) -> Result<(), AllocError>
+    ensures ok { OnOk result (out.new.items
+        ≡ text_with_component front out.old.items component.now) }
     ensures err { OnErr result (BeginsWith out.old.items out.new.items) }
 {
     if front < out.len() {
         out.push(b'/')?;
     }
-    out.extend_from_slice(part)
+    out.extend_from_slice(component)
 }
 
 /// Removes the last name, and the slash before it.
@@ -31,44 +32,45 @@ fn drop_name(out: &mut Vec<u8>, floor: usize)
     }
 }
 
-/// Adds a piece to the parts from `front` on, of which the names are from `floor` on; returns the
+/// Adds a component to those from `front` on, of which the names are from `floor` on; returns the
 /// new floor.
-fn add_piece(
+fn add_component(
     out: &mut Vec<u8>,
     absolute: bool,
     front: usize,
     floor: usize,
-    piece: &[u8],
+    component: &[u8],
 ) -> Result<usize, AllocError>
-    requires { list_any is_slash piece.now ≡ false }
+    requires { list_any is_slash component.now ≡ false }
     ensures ok { (base : List ℕ) (kept : Kept)
         → IsWritten absolute base kept front floor out.old.items
         → IfOk result (λ floor. IsWritten absolute base
-        (with_piece (piece_of piece.now) piece.now kept) front floor out.new.items) }
+        (with_component (component_of component.now) component.now kept)
+        front floor out.new.items) }
     ensures err { OnErr result (BeginsWith out.old.items out.new.items) }
 {
-    match piece_of(piece) {
-        Piece::Nowhere => Ok(floor),
-        Piece::Name => {
-            push_part(out, front, piece)?;
+    match component_of(component) {
+        Component::Nowhere => Ok(floor),
+        Component::Name => {
+            push_component(out, front, component)?;
             Ok(floor)
         }
-        Piece::Up => {
+        Component::Up => {
             if floor < out.len() {
                 drop_name(out, floor);
                 Ok(floor)
             } else if absolute {
                 Ok(floor)
             } else {
-                push_part(out, front, piece)?;
+                push_component(out, front, component)?;
                 Ok(out.len())
             }
         }
     }
 }
 
-/// Appends the parts of the clean path, joined by slashes.
-pub fn push_parts(out: &mut Vec<u8>, absolute: bool, path: &[u8]) -> Result<(), AllocError>
+/// Appends the components of the clean path, joined by slashes.
+pub fn push_components(out: &mut Vec<u8>, absolute: bool, path: &[u8]) -> Result<(), AllocError>
     ensures ok { OnOk result (out.new.items ≡ out.old.items
         ++ text_kept absolute (kept_after nothing_kept (slice_split is_slash path.now))) }
     ensures err { OnErr result (BeginsWith out.old.items out.new.items) }
@@ -76,9 +78,9 @@ pub fn push_parts(out: &mut Vec<u8>, absolute: bool, path: &[u8]) -> Result<(), 
     let front = out.len();
     let mut floor = front;
     let mut rest = Some(path);
-    'pieces: while let Some(text) = rest {
-        let (piece, after) = first_piece(text);
-        floor = add_piece(out, absolute, front, floor, piece)?;
+    'components: while let Some(text) = rest {
+        let (component, after) = first_component(text);
+        floor = add_component(out, absolute, front, floor, component)?;
         rest = after;
     }
     Ok(())
@@ -98,11 +100,11 @@ pub fn push_clean(out: &mut Vec<u8>, path: &[u8]) -> Result<(), AllocError>
 {
     if is_absolute(path) {
         out.push(b'/')?;
-        push_parts(out, true, path)?;
+        push_components(out, true, path)?;
         return Ok(());
     }
     let front = out.len();
-    push_parts(out, false, path)?;
+    push_components(out, false, path)?;
     if out.len() == front {
         out.push(b'.')?;
     }

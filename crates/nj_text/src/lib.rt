@@ -6,6 +6,7 @@
 
 mod blanks;
 mod cleaning;
+mod components;
 mod cursor;
 mod dollar;
 mod fault;
@@ -17,7 +18,6 @@ mod numbers;
 mod parts;
 mod path_laws;
 mod paths;
-mod pieces;
 mod quote_laws;
 mod quotes;
 mod runs;

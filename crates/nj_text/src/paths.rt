@@ -6,7 +6,7 @@ ghost use Rattle.nj_text.specs.Paths.{clean_path_of};
 ghost use Rattle.nj_text.specs.Inside.Cleaning.{stays_clean};
 
 use crate::cleaning::{is_absolute, push_clean};
-use crate::pieces::{all_stay, is_here};
+use crate::components::{all_stay, is_here};
 use std::alloc::{AllocError, AllocFailed, Global};
 
 /// Why a path has no clean form.
@@ -41,21 +41,21 @@ pub fn is_clean(path: &[u8]) -> bool
     stays_clean(path)
 }
 
-/// Whether each piece of the path stands in its clean path as it is.
+/// Whether each component of the path stands in its clean path as it is.
 fn stays_clean(path: &[u8]) -> bool
     ensures { result ≡ stays_clean path.now }
 {
     if is_absolute(path) {
-        let parts = &path[1..];
-        parts.is_empty() || all_stay(parts, true)
+        let components = &path[1..];
+        components.is_empty() || all_stay(components, true)
     } else {
         is_here(path) || all_stay(path, false)
     }
 }
 
-/// Appends the clean path of a path: its parts without empty and `.` ones, without each part that a
-/// `..` after it takes back, and without `..` at the front of an absolute path; `.` or `/` if no
-/// part is left.
+/// Appends the clean path of a path: its components without empty and `.` ones, without each one
+/// that a `..` after it takes back, and without `..` at the front of an absolute path; `.` or `/`
+/// if no component is left.
 ///
 /// # Errors
 ///

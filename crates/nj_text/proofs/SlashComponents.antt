@@ -1,4 +1,4 @@
--- The pieces between the slashes of a text.
+-- The components between the slashes of a text.
 use Rattle.std.proofs.Common.{◌≡◌, ℕ, suc, ◌+◌, ◌<◌, ◌≤◌, Bool, true, false, List, [], ◌∷◌, ◌++◌, length, take, drop, get_or, refl, sym, ap, ◌∙◌, arith, add-one}
 use Rattle.std.specs.Prelude.{◌||◌}
 use Rattle.std.specs.List.{slice_split, onto_first, list_any}
@@ -18,19 +18,19 @@ or_false false t e = (refl, e)
 pub or_of : (s t : Bool) → s ≡ false → t ≡ false → s || t ≡ false
 or_of s t a b = rw (a, b) refl
 
--- a piece ends at the first slash
-pub pieces-at : (xs ys : List ℕ) → list_any is_slash xs ≡ false → slice_split is_slash (xs ++ 47 ∷ ys) ≡ xs ∷ slice_split is_slash ys
-pieces-at [] ys h = slice_split-cons_yes is_slash 47 ys refl
-pieces-at (x ∷ xs) ys h =
+-- a component ends at the first slash
+pub components-at : (xs ys : List ℕ) → list_any is_slash xs ≡ false → slice_split is_slash (xs ++ 47 ∷ ys) ≡ xs ∷ slice_split is_slash ys
+components-at [] ys h = slice_split-cons_yes is_slash 47 ys refl
+components-at (x ∷ xs) ys h =
     let no = or_false (is_slash x) (list_any is_slash xs) h in
-    slice_split-cons_no is_slash x (xs ++ 47 ∷ ys) no.0 ∙ ap (onto_first x) (pieces-at xs ys no.1)
+    slice_split-cons_no is_slash x (xs ++ 47 ∷ ys) no.0 ∙ ap (onto_first x) (components-at xs ys no.1)
 
--- a text without a slash is one piece
-pub pieces-none : (xs : List ℕ) → list_any is_slash xs ≡ false → slice_split is_slash xs ≡ xs ∷ []
-pieces-none [] h = refl
-pieces-none (x ∷ xs) h =
+-- a text without a slash is one component
+pub components-none : (xs : List ℕ) → list_any is_slash xs ≡ false → slice_split is_slash xs ≡ xs ∷ []
+components-none [] h = refl
+components-none (x ∷ xs) h =
     let no = or_false (is_slash x) (list_any is_slash xs) h in
-    slice_split-cons_no is_slash x xs no.0 ∙ ap (onto_first x) (pieces-none xs no.1)
+    slice_split-cons_no is_slash x xs no.0 ∙ ap (onto_first x) (components-none xs no.1)
 
 pub any-append : (xs ys : List ℕ) → list_any is_slash xs ≡ false → list_any is_slash ys ≡ false → list_any is_slash (xs ++ ys) ≡ false
 any-append [] ys h k = k
@@ -46,10 +46,10 @@ scan-more text i h front e = rw (take_more text i 0 h) (any-append (take i text)
 pub scan-slash : (text : List ℕ) (i : ℕ) → i < length text → list_any is_slash (take i text) ≡ false → get_or text i 0 ≡ 47 → slice_split is_slash text ≡ take i text ∷ slice_split is_slash (drop (i + 1) text)
 scan-slash text i h front e =
     let cut : text ≡ take i text ++ get_or text i 0 ∷ drop (suc i) text = sym (take-append-drop i text) ∙ ap (λ ys. take i text ++ ys) (drop-cons text i 0 h) in
-    ap (slice_split is_slash) (cut ∙ ap (λ b. take i text ++ b ∷ drop (suc i) text) e) ∙ pieces-at (take i text) (drop (suc i) text) front ∙ rw add-one refl
+    ap (slice_split is_slash) (cut ∙ ap (λ b. take i text ++ b ∷ drop (suc i) text) e) ∙ components-at (take i text) (drop (suc i) text) front ∙ rw add-one refl
 
 pub scan-all : (text : List ℕ) (i : ℕ) → length text ≤ i → list_any is_slash (take i text) ≡ false → (slice_split is_slash text ≡ text ∷ []) × (list_any is_slash text ≡ false)
 scan-all text i h front =
     let whole : take i text ≡ text = take_all i text h in
     let no : list_any is_slash text ≡ false = ap (list_any is_slash) (sym whole) ∙ front in
-    (pieces-none text no, no)
+    (components-none text no, no)

@@ -1,0 +1,72 @@
+//! The components between the slashes of a path.
+
+ghost use Rattle.std.specs.Prelude.{◌≡◌, ◌∷◌, false};
+ghost use Rattle.std.specs.Option.{option_copied};
+ghost use Rattle.std.specs.List.{list_any, slice_split};
+ghost use Rattle.nj_text.specs.Paths.{is_slash};
+ghost use Rattle.nj_text.specs.Inside.Cleaning.{component_of, components_left, all_stay, is_here};
+
+/// What a component between two slashes says.
+#[derive(Clone, Copy)]
+pub enum Component {
+    /// Nothing, or `.`: stay where you are.
+    Nowhere,
+    /// `..`: the folder above.
+    Up,
+    /// The name of a folder or a file.
+    Name,
+}
+
+pub fn component_of(component: &[u8]) -> Component
+    ensures { result ≡ component_of component.now }
+{
+    match component {
+        [] | [b'.'] => Component::Nowhere,
+        [b'.', b'.'] => Component::Up,
+        _ => Component::Name,
+    }
+}
+
+/// The component before the first slash, and what is after that slash; the whole text and `None` if
+/// it has no slash.
+pub fn first_component(text: &[u8]) -> (&[u8], Option<&[u8]>)
+    ensures components { slice_split is_slash text.now
+        ≡ result.0.now ∷ components_left (option_copied result.1) }
+    ensures whole { list_any is_slash result.0.now ≡ false }
+{
+    for (end, byte) in text.iter().enumerate() {
+        if *byte == b'/' {
+            return (&text[..end], Some(&text[end + 1..]));
+        }
+    }
+    (text, None)
+}
+
+/// Whether each component of the text stands in its clean path as it is; `named` tells whether a
+/// name came before.
+pub fn all_stay(text: &[u8], mut named: bool) -> bool
+    ensures { result ≡ all_stay named (slice_split is_slash text.now) }
+{
+    let mut rest = Some(text);
+    'components: while let Some(left) = rest {
+        let (component, after) = first_component(left);
+        match component_of(component) {
+            Component::Nowhere => return false,
+            Component::Up => {
+                if named {
+                    return false;
+                }
+            }
+            Component::Name => named = true,
+        }
+        rest = after;
+    }
+    true
+}
+
+/// Whether the path is `.`.
+pub fn is_here(path: &[u8]) -> bool
+    ensures { result ≡ is_here path.now }
+{
+    matches!(path, [b'.'])
+}
