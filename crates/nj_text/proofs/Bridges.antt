@@ -14,7 +14,7 @@ use Rattle.nj_text.specs.Words.{is_blank, is_blank_meaning, in_identifier, in_wo
 use Rattle.nj_text.specs.Calls.{Inside, begins_word}
 use Rattle.nj_text.specs.declared.parts.TextKind.TheVariants as kind
 use Rattle.nj_text.specs.Inside.Gathering.{in_value_meaning, in_text}
-use Rattle.nj_text.specs.Inside.Standing.{first_line, other_lines, inside, lines_from, lines_within, ends_next}
+use Rattle.nj_text.specs.Inside.States.{first_line, other_lines, inside, lines_from, lines_within, ends_next}
 use Rattle.nj_text.proofs.LineStarts.{cut_has_line}
 use Rattle.nj_text.proofs.Lists.{drop_while-cons_yes, drop_while-cons_no, take_while-cons_yes, take_while-cons_no}
 

@@ -11,7 +11,7 @@ pub mod Gathered
 pub mod LineStarts
 pub mod Bridges
 pub mod Steps
-pub mod Stands
+pub mod States
 pub mod SignsTaken
 pub mod UnitLaws
 pub mod PartLaws

@@ -15,7 +15,7 @@ use Rattle.nj_text.specs.Inside.Scans.{along, on_next_line, units_within, Begins
 use Rattle.nj_text.specs.Calls.{Between, Inside, reply, failing, begun, begun_by, is_comment, without_comments}
 use Rattle.nj_text.specs.declared.cursor.Cursor.{Cursor}
 use Rattle.nj_text.specs.declared.starts.Begun.{Begun}
-use Rattle.nj_text.specs.Inside.Standing.{BegunIs, BegunAfterSpaces, first_line, other_lines, inside, lines_from, lines_within, space_units}
+use Rattle.nj_text.specs.Inside.States.{BegunIs, BegunAfterSpaces, first_line, other_lines, inside, lines_from, lines_within, space_units}
 use Rattle.nj_text.proofs.Lists.{AllIn, AllIn-take_while, drop_while-cons_no, drop_while-cons_yes, drop_while-append, take_while-cons_yes, length-take_while, drop-prefix_len}
 use Rattle.nj_text.proofs.Cuts.{cut-skip, spots_along, along-along, along-zero, unit-ordinary}
 use Rattle.std.proofs.lemmas.List.{nil_from_length}

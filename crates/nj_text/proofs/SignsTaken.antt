@@ -12,7 +12,7 @@ use Rattle.nj_text.specs.Lines.{Line, ending_of, lines_of, lines_before, before_
 use Rattle.nj_text.specs.Words.{begins_with_byte, next_fault}
 use Rattle.nj_text.specs.Inside.Scans.{along, units_within, has_sign, sign_size, sign_length}
 use Rattle.nj_text.specs.Calls.{State, Between, Inside, Reply, reply, failing, is_empty, is_sign, state_after_sign, sign_at}
-use Rattle.nj_text.specs.Inside.Standing.{first_line, other_lines, inside, lines_within, ends_next}
+use Rattle.nj_text.specs.Inside.States.{first_line, other_lines, inside, lines_within, ends_next}
 use Rattle.nj_text.proofs.Cuts.{unit-ordinary, cut-ordinary, along-along}
 use Rattle.nj_text.proofs.Gathered.{not_ordinary}
 use Rattle.nj_text.proofs.LineStarts.{cut_has_line, fails_if_no_byte}

@@ -15,7 +15,7 @@ use Rattle.nj_text.specs.Inside.Scans.{along, units_within, BeginsBadly}
 use Rattle.nj_text.specs.Words.{is_blank, in_identifier, in_word, opens_word_meaning, next_fault, parts_of, PartText, WordText}
 use Rattle.nj_text.specs.Calls.{State, Inside, Reply, reply, failing, unless_fault, after_blanks, bytes_of, some_bytes, ident_at, begins_word, word_here, word_at, value_at}
 use Rattle.nj_text.specs.Inside.Gathering.{gathered, after_text, FailsText}
-use Rattle.nj_text.specs.Inside.Standing.{first_line, other_lines, inside, lines_within, FailsStep}
+use Rattle.nj_text.specs.Inside.States.{first_line, other_lines, inside, lines_within, FailsStep}
 use Rattle.nj_text.proofs.Lists.{AllIn, AllIn-weaker, AllIn-take_while, take_while-append, take_while-cons_no, drop_while-append, drop_while-cons_no}
 use Rattle.nj_text.proofs.Cuts.{plain_units, cut-run, unit-ordinary}
 use Rattle.nj_text.proofs.Gathered.{not_ordinary, none_after}

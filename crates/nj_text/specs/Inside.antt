@@ -4,4 +4,4 @@ pub mod Gathering
 pub mod Quoting
 pub mod Runs
 pub mod Scans
-pub mod Standing
+pub mod States

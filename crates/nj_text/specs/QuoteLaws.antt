@@ -3,22 +3,22 @@ use Rattle.std.specs.Prelude.{◌≡◌, ◌≢◌, ℕ, ◌==◌, if◌then◌e
 use Rattle.nj_text.specs.Quotes.{is_plain_byte, is_quote, quoted}
 
 -- where the shell stands in a word
-pub data ShellStand : Type 0 where
-  Unquoted : ShellStand
-  InQuotes : ShellStand
-  AfterBackslash : ShellStand
+pub data ShellState : Type 0 where
+  Unquoted : ShellState
+  InQuotes : ShellState
+  AfterBackslash : ShellState
 
 -- what a byte adds to the word, where it has a meaning here: outside quotes plain bytes, `'` and `\`; after a `\` a `'`;
 -- in quotes every byte
-abbrev pub added : ShellStand → ℕ → Option (List ℕ)
+abbrev pub added : ShellState → ℕ → Option (List ℕ)
 added Unquoted b = if is_quote b then Some [] else if b == 92 then Some [] else if is_plain_byte b then Some (b ∷ []) else None
 added InQuotes b = if is_quote b then Some [] else Some (b ∷ [])
 added AfterBackslash b = if is_quote b then Some (b ∷ []) else None
 
-abbrev pub stand_after : ShellStand → ℕ → ShellStand
-stand_after Unquoted b = if is_quote b then InQuotes else if b == 92 then AfterBackslash else Unquoted
-stand_after InQuotes b = if is_quote b then Unquoted else InQuotes
-stand_after AfterBackslash b = Unquoted
+abbrev pub state_after : ShellState → ℕ → ShellState
+state_after Unquoted b = if is_quote b then InQuotes else if b == 92 then AfterBackslash else Unquoted
+state_after InQuotes b = if is_quote b then Unquoted else InQuotes
+state_after AfterBackslash b = Unquoted
 
 abbrev pub joined_words : Option (List ℕ) → Option (List ℕ) → Option (List ℕ)
 joined_words None rest = None
@@ -26,14 +26,14 @@ joined_words (Some bytes) None = None
 joined_words (Some bytes) (Some more) = Some (bytes ++ more)
 
 -- a word ends outside quotes
-abbrev pub ends : ShellStand → Option (List ℕ)
+abbrev pub ends : ShellState → Option (List ℕ)
 ends Unquoted = Some []
 ends InQuotes = None
 ends AfterBackslash = None
 
-abbrev pub word_from : ShellStand → List ℕ → Option (List ℕ)
-word_from stand [] = ends stand
-word_from stand (b ∷ bs) = joined_words (added stand b) (word_from (stand_after stand b) bs)
+abbrev pub word_from : ShellState → List ℕ → Option (List ℕ)
+word_from state [] = ends state
+word_from state (b ∷ bs) = joined_words (added state b) (word_from (state_after state b) bs)
 
 -- the word that a shell makes of a text; `None` for the empty text
 abbrev pub shell_word : List ℕ → Option (List ℕ)

@@ -4,7 +4,7 @@ ghost use Rattle.std.specs.Prelude.{◌≡◌, List, ℕ, Some};
 ghost use Rattle.std.specs.Option.{option_map};
 ghost use Rattle.nj_text.specs.Words.{word_text};
 ghost use Rattle.nj_text.specs.Calls.{Answers, AnswersOrLacksMemory, at_front, start_line_of, ident_of, sign_of, path_word_of, value_of, spot_of, skip_blanks_of, Failed, unit_of};
-ghost use Rattle.nj_text.specs.Inside.Standing.{Settles};
+ghost use Rattle.nj_text.specs.Inside.States.{Settles};
 
 use crate::blanks::skip_blanks;
 use crate::cursor::Cursor;
@@ -12,8 +12,8 @@ use crate::fault::{LexFault, UnitFault, WordFault};
 use crate::sign::{LineStart, Sign};
 use crate::signs::{SignTaken, take_sign};
 use crate::spot::Spot;
-use crate::stand::Stand;
 use crate::starts::{Begun, begin_line};
+use crate::state::State;
 use crate::word::Word;
 use crate::words::{identifier, value, word};
 use smallvec::SmallVec;
@@ -29,7 +29,7 @@ use std::marker::Model;
 #[derive(Drop)]
 pub struct Lexer<'a> {
     cursor: Cursor<'a>,
-    stand: Stand<'a>,
+    state: State<'a>,
 }
 
 impl<'a> Model for Lexer<'a> {
@@ -37,9 +37,9 @@ impl<'a> Model for Lexer<'a> {
 
     ghost Value = { State };
 
-    ghost use Rattle.nj_text.specs.Inside.Standing.{state_at};
+    ghost use Rattle.nj_text.specs.Inside.States.{state_at};
 
-    ghost view = { λ s. state_at s.stand s.cursor.spot s.cursor.rest.now };
+    ghost view = { λ s. state_at s.state s.cursor.spot s.cursor.rest.now };
 }
 
 impl<'a> Lexer<'a> {
@@ -49,7 +49,7 @@ impl<'a> Lexer<'a> {
     {
         Lexer {
             cursor: Cursor::at_front(text),
-            stand: Stand::Between,
+            state: State::Between,
         }
     }
 
@@ -62,14 +62,14 @@ impl<'a> Lexer<'a> {
     pub fn start_line(&mut self) -> Result<LineStart, LexFault>
         ensures { Answers (λ start. start) result self.new (start_line_of self.old) }
     {
-        match self.stand {
-            Stand::Failed(fault) => Err(fault.reported()),
-            Stand::Opening(_, _) => Ok(LineStart::Middle),
-            Stand::Inside => Ok(LineStart::Middle),
-            Stand::Between => match begin_line(self.cursor) {
-                Begun::As(start, stand, cursor) => {
+        match self.state {
+            State::Failed(fault) => Err(fault.reported()),
+            State::OpeningJoin(_, _) => Ok(LineStart::Middle),
+            State::Inside => Ok(LineStart::Middle),
+            State::Between => match begin_line(self.cursor) {
+                Begun::As(start, state, cursor) => {
                     self.cursor = cursor;
-                    self.stand = stand;
+                    self.state = state;
                     Ok(start)
                 }
                 Begun::Fault(fault) => Err(self.fail(fault)),
@@ -82,7 +82,7 @@ impl<'a> Lexer<'a> {
         ensures fault { unit_of result ≡ Some fault }
         ensures failed { self.new ≡ Failed fault }
     {
-        self.stand = Stand::Failed(fault);
+        self.state = State::Failed(fault);
         fault.reported()
     }
 
@@ -92,11 +92,11 @@ impl<'a> Lexer<'a> {
     pub fn skip_blanks(&mut self)
         ensures { self.new ≡ skip_blanks_of self.old }
     {
-        match self.stand {
-            Stand::Failed(_) => {}
-            Stand::Between => {}
-            Stand::Opening(_, _) => {}
-            Stand::Inside => self.cursor = skip_blanks(self.cursor),
+        match self.state {
+            State::Failed(_) => {}
+            State::Between => {}
+            State::OpeningJoin(_, _) => {}
+            State::Inside => self.cursor = skip_blanks(self.cursor),
         }
     }
 
@@ -109,11 +109,11 @@ impl<'a> Lexer<'a> {
     pub fn ident(&mut self) -> Result<Option<&'a [u8]>, LexFault>
         ensures { Answers (option_map (λ bytes. bytes.now)) result self.new (ident_of self.old) }
     {
-        match self.stand {
-            Stand::Failed(fault) => Err(fault.reported()),
-            Stand::Between => Ok(None),
-            Stand::Opening(_, _) => Ok(None),
-            Stand::Inside => match identifier(self.cursor) {
+        match self.state {
+            State::Failed(fault) => Err(fault.reported()),
+            State::Between => Ok(None),
+            State::OpeningJoin(_, _) => Ok(None),
+            State::Inside => match identifier(self.cursor) {
                 Ok((name, after)) => {
                     self.cursor = after;
                     Ok(name)
@@ -132,11 +132,11 @@ impl<'a> Lexer<'a> {
     pub fn sign(&mut self, want: Sign) -> Result<bool, LexFault>
         ensures { Answers (λ there. there) result self.new (sign_of want self.old) }
     {
-        match self.stand {
-            Stand::Failed(fault) => Err(fault.reported()),
-            Stand::Between => Ok(false),
-            Stand::Opening(_, _) => Ok(false),
-            Stand::Inside => match take_sign(want, self.cursor) {
+        match self.state {
+            State::Failed(fault) => Err(fault.reported()),
+            State::Between => Ok(false),
+            State::OpeningJoin(_, _) => Ok(false),
+            State::Inside => match take_sign(want, self.cursor) {
                 SignTaken::No(after) => {
                     self.cursor = after;
                     Ok(false)
@@ -147,7 +147,7 @@ impl<'a> Lexer<'a> {
                 }
                 SignTaken::LineEnd(after) => {
                     self.cursor = after;
-                    self.stand = Stand::Between;
+                    self.state = State::Between;
                     Ok(true)
                 }
                 SignTaken::Fault(fault) => Err(self.fail(fault)),
@@ -165,11 +165,11 @@ impl<'a> Lexer<'a> {
             (path_word_of self.old) }
     {
         let start = self.cursor;
-        match self.stand {
-            Stand::Failed(fault) => Err(fault.reported()),
-            Stand::Between => Ok(None),
-            Stand::Opening(_, _) => Ok(None),
-            Stand::Inside => match word(alloc, start) {
+        match self.state {
+            State::Failed(fault) => Err(fault.reported()),
+            State::Between => Ok(None),
+            State::OpeningJoin(_, _) => Ok(None),
+            State::Inside => match word(alloc, start) {
                 Ok((found, after)) => {
                     self.cursor = after;
                     Ok(found)
@@ -191,15 +191,15 @@ impl<'a> Lexer<'a> {
         ensures { AnswersOrLacksMemory word_text result self.old self.new (value_of self.old) }
     {
         let cursor = self.cursor;
-        match self.stand {
-            Stand::Failed(fault) => Err(fault.reported()),
-            Stand::Between => {
+        match self.state {
+            State::Failed(fault) => Err(fault.reported()),
+            State::Between => {
                 let spot = cursor.spot;
                 let parts = SmallVec::new(alloc);
                 Ok(Word { spot, parts })
             }
-            Stand::Opening(_, _) => self.settle(value(alloc, cursor)),
-            Stand::Inside => self.settle(value(alloc, cursor)),
+            State::OpeningJoin(_, _) => self.settle(value(alloc, cursor)),
+            State::Inside => self.settle(value(alloc, cursor)),
         }
     }
 
@@ -215,7 +215,7 @@ impl<'a> Lexer<'a> {
         match step {
             Ok((found, after)) => {
                 self.cursor = after;
-                self.stand = Stand::Inside;
+                self.state = State::Inside;
                 Ok(found)
             }
             Err(WordFault::OutOfMemory) => Err(LexFault::OutOfMemory),
@@ -227,11 +227,11 @@ impl<'a> Lexer<'a> {
     pub fn spot(&self) -> Spot
         ensures { result ≡ spot_of self.now }
     {
-        match self.stand {
-            Stand::Between => self.cursor.spot,
-            Stand::Opening(spot, _) => spot,
-            Stand::Inside => self.cursor.spot,
-            Stand::Failed(fault) => fault.spot(),
+        match self.state {
+            State::Between => self.cursor.spot,
+            State::OpeningJoin(spot, _) => spot,
+            State::Inside => self.cursor.spot,
+            State::Failed(fault) => fault.spot(),
         }
     }
 }

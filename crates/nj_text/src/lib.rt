@@ -24,8 +24,8 @@ mod runs;
 mod sign;
 mod signs;
 mod spot;
-mod stand;
 mod starts;
+mod state;
 mod word;
 mod words;
 

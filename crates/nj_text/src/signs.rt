@@ -6,7 +6,7 @@ ghost use Rattle.nj_text.specs.Words.{next_fault};
 ghost use Rattle.nj_text.specs.Bytes.{begins_with};
 ghost use Rattle.nj_text.specs.Inside.Scans.{sign_length};
 ghost use Rattle.nj_text.specs.Calls.{after_blanks, sign_at};
-ghost use Rattle.nj_text.specs.Inside.Standing.{EndsLine, SignIs, line_at, other_lines_at};
+ghost use Rattle.nj_text.specs.Inside.States.{EndsLine, SignIs, line_at, other_lines_at};
 
 use crate::blanks::skip_blanks;
 use crate::cursor::Cursor;

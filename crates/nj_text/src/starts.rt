@@ -4,20 +4,20 @@ ghost use Rattle.std.specs.Prelude.{◌≡◌, ◌<◌, false, length, MatchOpti
 ghost use Rattle.nj_text.specs.Units.{opens_comment};
 ghost use Rattle.nj_text.specs.Inside.Scans.{begins_with_space_byte};
 ghost use Rattle.nj_text.specs.Calls.{without_comments};
-ghost use Rattle.nj_text.specs.Inside.Standing.{lines_at, BegunIs, BegunAfterSpaces};
+ghost use Rattle.nj_text.specs.Inside.States.{lines_at, BegunIs, BegunAfterSpaces};
 
 use crate::cursor::Cursor;
 use crate::fault::UnitFault;
 use crate::next::{Next, next_unit};
 use crate::runs::{Run, first_byte};
 use crate::sign::LineStart;
-use crate::stand::Stand;
+use crate::state::State;
 
 /// How a line begins.
 #[derive(Clone, Copy)]
 pub enum Begun<'a> {
     /// In this way, with the state and the cursor after that.
-    As(LineStart, Stand<'a>, Cursor<'a>),
+    As(LineStart, State<'a>, Cursor<'a>),
     /// With a fault.
     Fault(UnitFault),
 }
@@ -47,26 +47,26 @@ fn begin_at_once(cursor: Cursor<'_>) -> Begun<'_>
     ensures { BegunIs (lines_at cursor.entry) result }
 {
     match next_unit(cursor.rest) {
-        Next::End => Begun::As(LineStart::End, Stand::Between, cursor),
+        Next::End => Begun::As(LineStart::End, State::Between, cursor),
         Next::LineEnd(length) => {
             let after = cursor.on_next_line(length, 0);
-            Begun::As(LineStart::Blank, Stand::Between, after)
+            Begun::As(LineStart::Blank, State::Between, after)
         }
         Next::Join(length, spaces) => {
-            let stand = Stand::Opening(cursor.spot, &cursor.rest[..length]);
+            let state = State::OpeningJoin(cursor.spot, &cursor.rest[..length]);
             let after = cursor.on_next_line(length - spaces, spaces);
-            Begun::As(LineStart::Plain, stand, after)
+            Begun::As(LineStart::Plain, state, after)
         }
         Next::Ordinary(byte) => {
             if byte == b'\t' {
                 return Begun::Fault(UnitFault::Tab(cursor.spot));
             }
-            Begun::As(LineStart::Plain, Stand::Inside, cursor)
+            Begun::As(LineStart::Plain, State::Inside, cursor)
         }
-        Next::Escape(_) => Begun::As(LineStart::Plain, Stand::Inside, cursor),
-        Next::Reference(_, _) => Begun::As(LineStart::Plain, Stand::Inside, cursor),
-        Next::BadByte => Begun::As(LineStart::Plain, Stand::Inside, cursor),
-        Next::BadEscape => Begun::As(LineStart::Plain, Stand::Inside, cursor),
+        Next::Escape(_) => Begun::As(LineStart::Plain, State::Inside, cursor),
+        Next::Reference(_, _) => Begun::As(LineStart::Plain, State::Inside, cursor),
+        Next::BadByte => Begun::As(LineStart::Plain, State::Inside, cursor),
+        Next::BadEscape => Begun::As(LineStart::Plain, State::Inside, cursor),
     }
 }
 
@@ -76,22 +76,22 @@ fn begin_after_spaces(cursor: Cursor<'_>) -> Begun<'_>
     ensures { BegunAfterSpaces cursor.entry result }
 {
     match next_unit(cursor.rest) {
-        Next::End => Begun::As(LineStart::Blank, Stand::Between, cursor),
+        Next::End => Begun::As(LineStart::Blank, State::Between, cursor),
         Next::LineEnd(length) => {
             let after = cursor.on_next_line(length, 0);
-            Begun::As(LineStart::Blank, Stand::Between, after)
+            Begun::As(LineStart::Blank, State::Between, after)
         }
         Next::Ordinary(byte) => {
             if byte == b'\t' {
                 return Begun::Fault(UnitFault::Tab(cursor.spot));
             }
-            Begun::As(LineStart::Indented, Stand::Inside, cursor)
+            Begun::As(LineStart::Indented, State::Inside, cursor)
         }
-        Next::Join(_, _) => Begun::As(LineStart::Indented, Stand::Inside, cursor),
-        Next::Escape(_) => Begun::As(LineStart::Indented, Stand::Inside, cursor),
-        Next::Reference(_, _) => Begun::As(LineStart::Indented, Stand::Inside, cursor),
-        Next::BadByte => Begun::As(LineStart::Indented, Stand::Inside, cursor),
-        Next::BadEscape => Begun::As(LineStart::Indented, Stand::Inside, cursor),
+        Next::Join(_, _) => Begun::As(LineStart::Indented, State::Inside, cursor),
+        Next::Escape(_) => Begun::As(LineStart::Indented, State::Inside, cursor),
+        Next::Reference(_, _) => Begun::As(LineStart::Indented, State::Inside, cursor),
+        Next::BadByte => Begun::As(LineStart::Indented, State::Inside, cursor),
+        Next::BadEscape => Begun::As(LineStart::Indented, State::Inside, cursor),
     }
 }
 

@@ -4,7 +4,7 @@ ghost use Rattle.std.specs.Prelude.{◌≡◌};
 ghost use Rattle.std.specs.Option.{option_map};
 ghost use Rattle.nj_text.specs.Words.{word_text};
 ghost use Rattle.nj_text.specs.Calls.{after_blanks, ident_at, word_at, value_at};
-ghost use Rattle.nj_text.specs.Inside.Standing.{Steps, StepsOrLacksMemory, line_at, other_lines_at};
+ghost use Rattle.nj_text.specs.Inside.States.{Steps, StepsOrLacksMemory, line_at, other_lines_at};
 
 use crate::blanks::skip_blanks;
 use crate::cursor::Cursor;

@@ -1,5 +1,5 @@
 use Rattle.std.proofs.Common.{subst, sym, ◌∙◌}
-use Rattle.nj_text.specs.Inside.Standing.{BegunIs}
+use Rattle.nj_text.specs.Inside.States.{BegunIs}
 use Rattle.nj_text.proofs.LineStarts.{is_no_comment}
 use Rattle.nj_text.proofs.starts.begin_line.Goals as goal
 

@@ -1,6 +1,6 @@
 use Rattle.std.proofs.Common.{◌≡◌, length}
 use Rattle.nj_text.specs.Calls.{without_comments}
-use Rattle.nj_text.specs.Inside.Standing.{lines_at}
+use Rattle.nj_text.specs.Inside.States.{lines_at}
 use Rattle.nj_text.proofs.starts.begin_line.Given as goal
 
 abbrev pub invariant-comments : goal.invariant-comments

@@ -1,6 +1,6 @@
 use Rattle.std.proofs.Common.{sym, ap, ◌∙◌}
 use Rattle.nj_text.specs.Calls.{ident_at, reply}
-use Rattle.nj_text.specs.Inside.Standing.{inside, lines_within}
+use Rattle.nj_text.specs.Inside.States.{inside, lines_within}
 use Rattle.nj_text.proofs.Steps.{at_cursor, identifier_fails, identifier_here, some_if_any, none_if_empty}
 use Rattle.nj_text.proofs.words.identifier.Goals as goal
 

@@ -1,6 +1,6 @@
 use Rattle.std.proofs.Common.{sym, subst, ◌∙◌, map}
 use Rattle.nj_text.specs.Calls.{value_at}
-use Rattle.nj_text.specs.Inside.Standing.{FailsStep}
+use Rattle.nj_text.specs.Inside.States.{FailsStep}
 use Rattle.nj_text.specs.Words.{part_text}
 use Rattle.nj_text.proofs.Steps.{at_cursor, value_is_here, value_fails_or_lacks}
 use Rattle.nj_text.proofs.words.value.Goals as goal

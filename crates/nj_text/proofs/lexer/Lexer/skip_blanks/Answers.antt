@@ -1,7 +1,7 @@
 use Rattle.std.proofs.Common.{sym, ap, ◌∙◌}
 use Rattle.nj_text.specs.Calls.{skip_blanks_of}
-use Rattle.nj_text.specs.Inside.Standing.{state_at}
-use Rattle.nj_text.proofs.Stands.{blanks_skipped}
+use Rattle.nj_text.specs.Inside.States.{state_at}
+use Rattle.nj_text.proofs.States.{blanks_skipped}
 use Rattle.nj_text.proofs.lexer.Lexer.skip_blanks.Goals as goal
 
 pub returns-in-Inside : goal.returns-in-Inside

@@ -1,7 +1,7 @@
 use Rattle.std.proofs.Common.{sym, ap, ◌∙◌}
 use Rattle.nj_text.specs.Calls.{value_of, after_blanks, value_at, is_inside}
-use Rattle.nj_text.specs.Inside.Standing.{state_at, line_at, other_lines_at}
-use Rattle.nj_text.proofs.Stands.{value_between, value_opening, value_inside, settled}
+use Rattle.nj_text.specs.Inside.States.{state_at, line_at, other_lines_at}
+use Rattle.nj_text.proofs.States.{value_between, value_opening, value_inside, settled}
 use Rattle.nj_text.proofs.lexer.Lexer.value.Goals as goal
 
 pub returns-in-Between : goal.returns-in-Between
@@ -11,11 +11,11 @@ returns-in-Between c =
     let found = ap value_of state ∙ value_between cursor.spot cursor.rest.now c.new-parts.result.items c.new-parts.ensures.items in
     (ap (λ r. r.answer) found, state ∙ ap (λ r. r.after) (sym found))
 
-pub returns-in-Opening : goal.returns-in-Opening
-returns-in-Opening c =
+pub returns-in-OpeningJoin : goal.returns-in-OpeningJoin
+returns-in-OpeningJoin c =
     let cursor = c.self.inside.cursor in
-    let state = sym c.self.view_is ∙ ap (λ st. state_at st cursor.spot cursor.rest.now) c.in-Opening.is in
-    let found = ap value_of state ∙ value_opening c.in-Opening.field-0 c.in-Opening.field-1.now cursor.spot cursor.rest.now in
+    let state = sym c.self.view_is ∙ ap (λ st. state_at st cursor.spot cursor.rest.now) c.in-OpeningJoin.is in
+    let found = ap value_of state ∙ value_opening c.in-OpeningJoin.field-0 c.in-OpeningJoin.field-1.now cursor.spot cursor.rest.now in
     settled c.args.self.now c.settle.new.self (value_at (after_blanks (line_at cursor)) (other_lines_at cursor)) c.value.result c.settle.result (ap is_inside state) found c.value.ensures c.settle.ensures
 
 pub returns-in-Inside : goal.returns-in-Inside

@@ -10,8 +10,8 @@ use Rattle.nj_text.specs.declared.fault.WordFault.TheVariants as word_fault
 use Rattle.nj_text.specs.declared.signs.SignTaken.{SignTaken}
 use Rattle.nj_text.specs.declared.signs.SignTaken.TheVariants as taken
 use Rattle.nj_text.specs.declared.word.Word.{Word}
-use Rattle.nj_text.specs.declared.stand.Stand.{Stand}
-use Rattle.nj_text.specs.declared.stand.Stand.TheVariants as stand
+use Rattle.nj_text.specs.declared.state.State.{State as HeldState}
+use Rattle.nj_text.specs.declared.state.State.TheVariants as held
 use Rattle.nj_text.specs.declared.starts.Begun.{Begun}
 use Rattle.nj_text.specs.declared.starts.Begun.TheVariants as starts
 use Rattle.nj_text.specs.Units.{TextUnit, Ordinary, OpeningJoin, AtStart, AfterSpaces, Within, first_spot, cut}
@@ -41,16 +41,16 @@ lines_within spot bytes = lines_of (cut Within 0 spot bytes)
 abbrev pub lines_at : Cursor → List Line
 lines_at c = lines_from c.spot c.rest.now
 
-abbrev pub state_at : Stand → Spot → List ℕ → State
-state_at stand.Between spot bytes = Between (lines_from spot bytes)
-state_at (stand.Opening place joined) spot bytes =
+abbrev pub state_at : HeldState → Spot → List ℕ → State
+state_at held.Between spot bytes = Between (lines_from spot bytes)
+state_at (held.OpeningJoin place joined) spot bytes =
     inside (before_first_line (record { spot = place; bytes = joined.now; means = OpeningJoin }) (lines_within spot bytes))
-state_at stand.Inside spot bytes = inside (lines_within spot bytes)
-state_at (stand.Failed f) spot bytes = Failed f
+state_at held.Inside spot bytes = inside (lines_within spot bytes)
+state_at (held.Failed f) spot bytes = Failed f
 
 -- how the first of the lines begins
 abbrev pub BegunIs : List Line → Begun → Type 0
-BegunIs ls (starts.As start stand cursor) = begun ls ≡ reply start (state_at stand cursor.spot cursor.rest.now)
+BegunIs ls (starts.As start state cursor) = begun ls ≡ reply start (state_at state cursor.spot cursor.rest.now)
 BegunIs ls (starts.Fault f) = begun ls ≡ failing f
 
 -- some spaces at a place

@@ -15,7 +15,7 @@ use Rattle.nj_text.specs.Words.{is_blank, WordText, word_text, part_text, is_ope
 use Rattle.nj_text.specs.Calls.{State, Between, Inside, Reply, reply, after_blanks, value_at, value_of, sign_of, first_line_spot, AnswersOrLacksMemory, no_word, skip_blanks_of, is_inside}
 use Rattle.nj_text.specs.Bytes.{drop_while}
 use Rattle.nj_text.specs.Inside.Scans.{units_within}
-use Rattle.nj_text.specs.Inside.Standing.{first_line, other_lines, inside, lines_from, lines_within, StepsOrLacksMemory, FailsStep, Settles, SettlesFault}
+use Rattle.nj_text.specs.Inside.States.{first_line, other_lines, inside, lines_from, lines_within, StepsOrLacksMemory, FailsStep, Settles, SettlesFault}
 use Rattle.nj_text.proofs.LineStarts.{cut_has_line, IsUnsaid, unit_is_unsaid}
 use Rattle.nj_text.proofs.Bridges.{spot_of_line, of_first, first_of_line, passed_by, blanks_end}
 use Rattle.nj_text.proofs.Steps.{line, others}
