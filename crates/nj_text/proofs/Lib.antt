@@ -5,7 +5,7 @@ pub mod LaneRuns
 pub mod ByteSearches
 pub mod Digits
 pub mod Cuts
-pub mod Nexts
+pub mod NextUnits
 pub mod Passed
 pub mod Gathered
 pub mod LineStarts

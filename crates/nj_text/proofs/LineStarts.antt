@@ -5,7 +5,7 @@ use Rattle.std.specs.List.{prefix_len, take_while, AllByRecursion}
 use Rattle.std.proofs.lemmas.List.Sums.{prefix_len-le-length}
 use Rattle.std.proofs.lemmas.Bool.{eqb-true, false≢true, true≢false}
 use Rattle.nj_text.specs.declared.spot.Spot.{Spot}
-use Rattle.nj_text.specs.declared.sign.LineStart.TheVariants as start
+use Rattle.nj_text.specs.declared.line_start.LineStart.TheVariants as start
 use Rattle.nj_text.specs.declared.fault.UnitFault.TheVariants as fault
 use Rattle.nj_text.specs.Bytes.{is_space, is_line_feed, is_ordinary_byte, is_name_byte, is_identifier_byte, begins_with, drop_while}
 use Rattle.nj_text.specs.Units.{Meaning, Ordinary, Escape, Reference, Join, OpeningJoin, Comment, LeadingTab, LineEnd, TextEnd, BadByte, BadEscape, TextUnit, is_ordinary_in, Position, AtStart, AfterSpaces, Within, Follows, Feed, Return, Brace, Itself, NameByte, Nothing, follows_of, after_dollar_by, after_dollar, named, Found, Class, Dollar, LineFeed, CarriageReturn, Nul, Plain, class_of, unit_by, unit_at, found_at, opening, opens_comment, position_after, spot_after, cut}
@@ -14,7 +14,7 @@ use Rattle.nj_text.specs.Lines.{Line, ending_of, before_first_line, lines_before
 use Rattle.nj_text.specs.Inside.Scans.{along, on_next_line, units_within, Begins, BeginsBadly, begins_with_space_byte}
 use Rattle.nj_text.specs.Calls.{Between, Inside, reply, failing, begun, begun_by, is_comment, without_comments}
 use Rattle.nj_text.specs.declared.cursor.Cursor.{Cursor}
-use Rattle.nj_text.specs.declared.starts.Begun.{Begun}
+use Rattle.nj_text.specs.declared.line_start.Begun.{Begun}
 use Rattle.nj_text.specs.Inside.States.{BegunIs, BegunAfterSpaces, first_line, other_lines, inside, lines_from, lines_within, space_units}
 use Rattle.nj_text.proofs.Lists.{AllIn, AllIn-take_while, drop_while-cons_no, drop_while-cons_yes, drop_while-append, take_while-cons_yes, length-take_while, drop-prefix_len}
 use Rattle.nj_text.proofs.Cuts.{cut-skip, spots_along, along-along, along-zero, unit-ordinary}

@@ -5,8 +5,8 @@ use Rattle.nj_text.specs.declared.fault.UnitFault.{UnitFault}
 use Rattle.nj_text.specs.declared.fault.UnitFault.TheVariants.{BadByte as bad_byte, BadEscape as bad_escape, Tab}
 use Rattle.nj_text.specs.declared.sign.Sign.{Sign}
 use Rattle.nj_text.specs.declared.sign.Sign.TheVariants.{Colon, Equals, Pipe, Pipe2, PipeAt, LineEnd as line_end}
-use Rattle.nj_text.specs.declared.sign.LineStart.{LineStart}
-use Rattle.nj_text.specs.declared.sign.LineStart.TheVariants.{End, Blank, Indented, Plain, Middle}
+use Rattle.nj_text.specs.declared.line_start.LineStart.{LineStart}
+use Rattle.nj_text.specs.declared.line_start.LineStart.TheVariants.{End, Blank, Indented, Plain, Middle}
 use Rattle.nj_text.specs.declared.spot.Spot.{Spot}
 use Rattle.nj_text.specs.Units.{units, cut, Meaning, Comment, LineEnd, TextEnd, Ordinary, Join, OpeningJoin, Escape, Reference, BadByte, BadEscape, LeadingTab}
 use Rattle.nj_text.specs.Lines.{text_lines, kind_of, CommentLine, TabLine, PlainLine, BlankLine, IndentedLine, line_spot}

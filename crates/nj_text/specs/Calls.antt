@@ -7,8 +7,8 @@ use Rattle.nj_text.specs.declared.fault.LexFault.{LexFault}
 use Rattle.nj_text.specs.declared.fault.LexFault.TheVariants as lex
 use Rattle.nj_text.specs.declared.sign.Sign.{Sign}
 use Rattle.nj_text.specs.declared.sign.Sign.TheVariants as sign
-use Rattle.nj_text.specs.declared.sign.LineStart.{LineStart}
-use Rattle.nj_text.specs.declared.sign.LineStart.TheVariants as start
+use Rattle.nj_text.specs.declared.line_start.LineStart.{LineStart}
+use Rattle.nj_text.specs.declared.line_start.LineStart.TheVariants as start
 use Rattle.nj_text.specs.declared.spot.Spot.{Spot}
 use Rattle.nj_text.specs.Bytes.{drop_while}
 use Rattle.nj_text.specs.Units.{TextUnit, first_spot}

@@ -6,8 +6,8 @@ ghost use Rattle.nj_text.specs.Inside.Scans.{units_within, begins_with_space_byt
 ghost use Rattle.nj_text.specs.Words.{is_blank};
 
 use crate::cursor::Cursor;
-use crate::next::{Next, next_unit};
 use crate::runs::Run;
+use crate::unit::{NextUnit, next_unit};
 
 /// The cursor after the join that comes next; `None` if there is none.
 #[inline(always)]
@@ -22,14 +22,14 @@ fn past_join(cursor: Cursor<'_>) -> Option<Cursor<'_>>
         (λ after. length after.rest.now < length cursor.entry.rest.now) }
 {
     match next_unit(cursor.rest) {
-        Next::Join(length, spaces) => Some(cursor.on_next_line(length - spaces, spaces)),
-        Next::End => None,
-        Next::Ordinary(_) => None,
-        Next::Escape(_) => None,
-        Next::Reference(_, _) => None,
-        Next::LineEnd(_) => None,
-        Next::BadByte => None,
-        Next::BadEscape => None,
+        NextUnit::Join(length, spaces) => Some(cursor.on_next_line(length - spaces, spaces)),
+        NextUnit::End => None,
+        NextUnit::Ordinary(_) => None,
+        NextUnit::Escape(_) => None,
+        NextUnit::Reference(_, _) => None,
+        NextUnit::LineEnd(_) => None,
+        NextUnit::BadByte => None,
+        NextUnit::BadEscape => None,
     }
 }
 

@@ -9,10 +9,9 @@ ghost use Rattle.nj_text.specs.Inside.States.{Settles};
 use crate::blanks::skip_blanks;
 use crate::cursor::Cursor;
 use crate::fault::{LexFault, UnitFault, WordFault};
-use crate::sign::{LineStart, Sign};
-use crate::signs::{SignTaken, take_sign};
+use crate::line_start::{Begun, LineStart, begin_line};
+use crate::sign::{Sign, SignTaken, take_sign};
 use crate::spot::Spot;
-use crate::starts::{Begun, begin_line};
 use crate::state::State;
 use crate::word::Word;
 use crate::words::{identifier, value, word};
@@ -67,7 +66,7 @@ impl<'a> Lexer<'a> {
             State::OpeningJoin(_, _) => Ok(LineStart::Middle),
             State::Inside => Ok(LineStart::Middle),
             State::Between => match begin_line(self.cursor) {
-                Begun::As(start, state, cursor) => {
+                Begun::Start(start, state, cursor) => {
                     self.cursor = cursor;
                     self.state = state;
                     Ok(start)

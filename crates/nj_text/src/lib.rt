@@ -13,7 +13,7 @@ mod fault;
 mod lanes;
 mod laws;
 mod lexer;
-mod next;
+mod line_start;
 mod numbers;
 mod parts;
 mod path_laws;
@@ -22,10 +22,9 @@ mod quote_laws;
 mod quotes;
 mod runs;
 mod sign;
-mod signs;
 mod spot;
-mod starts;
 mod state;
+mod unit;
 mod word;
 mod words;
 
@@ -34,11 +33,12 @@ pub use laws::{
     lines_are_the_units, parts_stand_in_order, units_are_the_text, units_stand_in_place,
 };
 pub use lexer::Lexer;
+pub use line_start::LineStart;
 pub use numbers::{leading_number, version_of};
 pub use path_laws::{clean_paths_stay, cleaned_paths_are_clean, cleaning_is_idempotent};
 pub use paths::{TextFault, clean_into, clean_path, is_clean};
 pub use quote_laws::shells_take_the_path;
 pub use quotes::quote_into;
-pub use sign::{LineStart, Sign};
+pub use sign::Sign;
 pub use spot::Spot;
 pub use word::{Part, Word};

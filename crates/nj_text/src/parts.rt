@@ -9,8 +9,8 @@ ghost use Rattle.nj_text.specs.Inside.Gathering.{run_of, Gathers, PieceIs, Takes
 
 use crate::cursor::Cursor;
 use crate::fault::{UnitFault, WordFault};
-use crate::next::{Next, next_unit};
 use crate::runs::{Run, is_in};
+use crate::unit::{NextUnit, next_unit};
 use crate::word::Part;
 use smallvec::SmallVec;
 use std::alloc::Global;
@@ -59,14 +59,14 @@ fn special_piece(kind: TextKind, cursor: Cursor<'_>) -> Piece<'_>
     ensures shorter { IsShorter (length cursor.entry.rest.now) result }
 {
     match next_unit(cursor.rest) {
-        Next::Join(length, spaces) => Piece::Join(cursor.on_next_line(length - spaces, spaces)),
-        Next::Escape(byte) => Piece::Part(Part::Bytes(byte), cursor.along(2)),
-        Next::Reference(name, length) => Piece::Part(Part::Name(name), cursor.along(length)),
-        Next::BadByte => Piece::Bad(UnitFault::BadByte(cursor.spot)),
-        Next::BadEscape => Piece::Bad(UnitFault::BadEscape(cursor.spot)),
-        Next::End => Piece::End,
-        Next::Ordinary(_) => Piece::End,
-        Next::LineEnd(_) => Piece::End,
+        NextUnit::Join(length, spaces) => Piece::Join(cursor.on_next_line(length - spaces, spaces)),
+        NextUnit::Escape(byte) => Piece::Part(Part::Bytes(byte), cursor.along(2)),
+        NextUnit::Reference(name, length) => Piece::Part(Part::Name(name), cursor.along(length)),
+        NextUnit::BadByte => Piece::Bad(UnitFault::BadByte(cursor.spot)),
+        NextUnit::BadEscape => Piece::Bad(UnitFault::BadEscape(cursor.spot)),
+        NextUnit::End => Piece::End,
+        NextUnit::Ordinary(_) => Piece::End,
+        NextUnit::LineEnd(_) => Piece::End,
     }
 }
 
@@ -135,13 +135,13 @@ pub fn begins_word(cursor: Cursor<'_>) -> bool
     ensures { result ≡ begins_word (units_within cursor.entry.spot cursor.entry.rest.now) }
 {
     match next_unit(cursor.rest) {
-        Next::Ordinary(byte) => is_in(Run::Word, byte),
-        Next::Escape(_) => true,
-        Next::Reference(_, _) => true,
-        Next::Join(_, _) => false,
-        Next::BadByte => false,
-        Next::BadEscape => false,
-        Next::End => false,
-        Next::LineEnd(_) => false,
+        NextUnit::Ordinary(byte) => is_in(Run::Word, byte),
+        NextUnit::Escape(_) => true,
+        NextUnit::Reference(_, _) => true,
+        NextUnit::Join(_, _) => false,
+        NextUnit::BadByte => false,
+        NextUnit::BadEscape => false,
+        NextUnit::End => false,
+        NextUnit::LineEnd(_) => false,
     }
 }

@@ -1,19 +1,18 @@
-//! What stands at a line's start, and the signs of a line.
+//! The signs of a line.
 
-/// What stands where a line begins ("Lexical syntax" in the Ninja manual).
-#[derive(Clone, Copy, Debug, PartialEq, Eq)]
-pub enum LineStart {
-    /// The end of the text.
-    End,
-    /// A line with nothing but spaces, which was skipped.
-    Blank,
-    /// A line that begins with spaces, which were skipped: a line of the block above it.
-    Indented,
-    /// A line that begins with something else.
-    Plain,
-    /// No line begins here: the last one was begun and not ended.
-    Middle,
-}
+ghost use Rattle.std.specs.Prelude.{◌≡◌, None};
+ghost use Rattle.nj_text.specs.Inside.Scans.{units_within};
+ghost use Rattle.nj_text.specs.Words.{next_fault};
+ghost use Rattle.nj_text.specs.Bytes.{begins_with};
+ghost use Rattle.nj_text.specs.Inside.Scans.{sign_length};
+ghost use Rattle.nj_text.specs.Calls.{after_blanks, sign_at};
+ghost use Rattle.nj_text.specs.Inside.States.{EndsLine, SignIs, line_at, other_lines_at};
+
+use crate::blanks::skip_blanks;
+use crate::cursor::Cursor;
+use crate::fault::UnitFault;
+use crate::runs::first_byte;
+use crate::unit::{NextUnit, bad_unit, next_unit};
 
 /// A sign between the parts of a line. Of `|`, `||` and `|@` the longest that stands there counts.
 #[derive(Clone, Copy, Debug, PartialEq, Eq)]
@@ -30,4 +29,99 @@ pub enum Sign {
     PipeAt,
     /// A line end, or the end of the text.
     LineEnd,
+}
+
+/// The cursor after the line end that comes next; `None` if there is none. The end of the text ends
+/// its line, and stays.
+#[inline(always)]
+pub fn past_line_end(cursor: Cursor<'_>) -> Option<Cursor<'_>>
+    ensures { EndsLine cursor.entry result }
+{
+    match next_unit(cursor.rest) {
+        NextUnit::LineEnd(length) => Some(cursor.on_next_line(length, 0)),
+        NextUnit::End => Some(cursor),
+        NextUnit::Ordinary(_) => None,
+        NextUnit::Join(_, _) => None,
+        NextUnit::Escape(_) => None,
+        NextUnit::Reference(_, _) => None,
+        NextUnit::BadByte => None,
+        NextUnit::BadEscape => None,
+    }
+}
+
+#[inline(always)]
+fn begins_with(byte: u8, bytes: &[u8]) -> bool
+    ensures { result ≡ begins_with byte bytes.now }
+{
+    match first_byte(bytes) {
+        Some((first, _)) => first == byte,
+        None => false,
+    }
+}
+
+/// The length of the sign, which is no line end, if it comes next; else 0.
+#[inline(always)]
+pub fn sign_length(want: Sign, bytes: &[u8]) -> usize
+    ensures { result ≡ sign_length want bytes.now }
+{
+    let Some((first, remainder)) = first_byte(bytes) else {
+        return 0;
+    };
+    let is_pipe = first == b'|';
+    match want {
+        Sign::Colon => usize::from(first == b':'),
+        Sign::Equals => usize::from(first == b'='),
+        Sign::Pipe => usize::from(
+            is_pipe && !begins_with(b'|', remainder) && !begins_with(b'@', remainder),
+        ),
+        Sign::Pipe2 => 2 * usize::from(is_pipe && begins_with(b'|', remainder)),
+        Sign::PipeAt => 2 * usize::from(is_pipe && begins_with(b'@', remainder)),
+        Sign::LineEnd => 0,
+    }
+}
+
+/// Whether a wanted sign was there.
+#[derive(Clone, Copy)]
+pub enum SignTaken<'a> {
+    /// It does not follow the blanks, which end here.
+    No(Cursor<'a>),
+    /// It was there, and the line goes on here.
+    InLine(Cursor<'a>),
+    /// It ended the line, and the next one begins here.
+    LineEnd(Cursor<'a>),
+    /// A bad unit follows the blanks.
+    Fault(UnitFault),
+}
+
+/// Takes the line end that comes next, if there is one.
+#[inline(always)]
+fn take_line_end(cursor: Cursor<'_>) -> SignTaken<'_>
+    requires { next_fault (units_within cursor.spot cursor.rest.now) ≡ None }
+    ensures { SignIs
+        (sign_at Sign.LineEnd (line_at cursor.entry) (other_lines_at cursor.entry)) result }
+{
+    let Some(after) = past_line_end(cursor) else {
+        return SignTaken::No(cursor);
+    };
+    SignTaken::LineEnd(after)
+}
+
+/// Takes the wanted sign after the blanks, if it is there.
+#[inline(always)]
+pub fn take_sign(want: Sign, start: Cursor<'_>) -> SignTaken<'_>
+    ensures { SignIs
+        (sign_at want (after_blanks (line_at start.entry)) (other_lines_at start.entry)) result }
+{
+    let cursor = skip_blanks(start);
+    if let Some(fault) = bad_unit(cursor) {
+        return SignTaken::Fault(fault);
+    }
+    if let Sign::LineEnd = want {
+        return take_line_end(cursor);
+    }
+    let length = sign_length(want, cursor.rest);
+    if length == 0 {
+        return SignTaken::No(cursor);
+    }
+    SignTaken::InLine(cursor.along(length))
 }

@@ -11,7 +11,7 @@ use crate::cursor::Cursor;
 use crate::fault::{UnitFault, WordFault};
 use crate::parts::{TextKind, begins_word, gather};
 use crate::runs::Run;
-use crate::signs::bad_unit;
+use crate::unit::bad_unit;
 use crate::word::Word;
 use std::alloc::Global;
 

@@ -3,8 +3,8 @@ use Rattle.std.specs.Prelude.{◌≡◌, ℕ, ◌+◌, ◌<◌, Bool, true, fals
 use Rattle.nj_text.specs.declared.spot.Spot.{Spot}
 use Rattle.nj_text.specs.declared.dollar.Dollar.{Dollar}
 use Rattle.nj_text.specs.declared.dollar.Dollar.TheVariants as dollar
-use Rattle.nj_text.specs.declared.next.Next.{Next}
-use Rattle.nj_text.specs.declared.next.Next.TheVariants as next
+use Rattle.nj_text.specs.declared.unit.NextUnit.{NextUnit}
+use Rattle.nj_text.specs.declared.unit.NextUnit.TheVariants as unit
 use Rattle.nj_text.specs.declared.sign.Sign.{Sign}
 use Rattle.nj_text.specs.declared.sign.Sign.TheVariants as sign
 use Rattle.nj_text.specs.Bytes.{begins_with, is_space, is_ordinary_byte}
@@ -55,34 +55,34 @@ abbrev pub BeginsBadly : Spot → List ℕ → Meaning → Type 0
 BeginsBadly spot bytes m = (n : ℕ) × (after : List TextUnit) × Begins spot bytes m n after
 
 -- what is at the front of the bytes, within a line, at any place
-abbrev pub NextIs : Next → List ℕ → Type 0
-NextIs next.End bytes = bytes ≡ []
-NextIs (next.Ordinary b) bytes =
+abbrev pub NextUnitIs : NextUnit → List ℕ → Type 0
+NextUnitIs unit.End bytes = bytes ≡ []
+NextUnitIs (unit.Ordinary b) bytes =
     (is_ordinary_byte b ≡ true)
     × (begins_with b bytes ≡ true)
     × ((spot : Spot) → Begins spot bytes (Ordinary b) 1 (units_within (along 1 spot) (drop 1 bytes)))
-NextIs (next.Join n spaces) bytes = (spot : Spot) → Begins spot bytes Join n (units_within (on_next_line spaces spot) (drop n bytes))
-NextIs (next.Escape byte) bytes =
+NextUnitIs (unit.Join n spaces) bytes = (spot : Spot) → Begins spot bytes Join n (units_within (on_next_line spaces spot) (drop n bytes))
+NextUnitIs (unit.Escape byte) bytes =
     (b : ℕ) × (byte.now ≡ b ∷ []) × ((spot : Spot) → Begins spot bytes (Escape b) 2 (units_within (along 2 spot) (drop 2 bytes)))
-NextIs (next.Reference name n) bytes = (spot : Spot) → Begins spot bytes (Reference name.now) n (units_within (along n spot) (drop n bytes))
-NextIs (next.LineEnd n) bytes = (spot : Spot) → Begins spot bytes LineEnd n (cut AtStart 0 (on_next_line 0 spot) (drop n bytes))
-NextIs next.BadByte bytes = (spot : Spot) → BeginsBadly spot bytes BadByte
-NextIs next.BadEscape bytes = (spot : Spot) → BeginsBadly spot bytes BadEscape
+NextUnitIs (unit.Reference name n) bytes = (spot : Spot) → Begins spot bytes (Reference name.now) n (units_within (along n spot) (drop n bytes))
+NextUnitIs (unit.LineEnd n) bytes = (spot : Spot) → Begins spot bytes LineEnd n (cut AtStart 0 (on_next_line 0 spot) (drop n bytes))
+NextUnitIs unit.BadByte bytes = (spot : Spot) → BeginsBadly spot bytes BadByte
+NextUnitIs unit.BadEscape bytes = (spot : Spot) → BeginsBadly spot bytes BadEscape
 
 -- how many bytes it takes, if it is skipped
-abbrev pub next_length : Next → ℕ
-next_length (next.Ordinary b) = 1
-next_length (next.Join n spaces) = n
-next_length (next.Escape byte) = 2
-next_length (next.Reference name n) = n
-next_length (next.LineEnd n) = n
-next_length other = 0
+abbrev pub unit_length : NextUnit → ℕ
+unit_length (unit.Ordinary b) = 1
+unit_length (unit.Join n spaces) = n
+unit_length (unit.Escape byte) = 2
+unit_length (unit.Reference name n) = n
+unit_length (unit.LineEnd n) = n
+unit_length other = 0
 
 -- a join is longer than its spaces, and a line end has bytes
-abbrev pub HasLength : Next → Type 0
-HasLength (next.Join n spaces) = spaces < n
-HasLength (next.LineEnd n) = 0 < n
-HasLength (next.Reference name n) = 0 < n
+abbrev pub HasLength : NextUnit → Type 0
+HasLength (unit.Join n spaces) = spaces < n
+HasLength (unit.LineEnd n) = 0 < n
+HasLength (unit.Reference name n) = 0 < n
 HasLength other = Unit {0}
 
 abbrev pub begins_with_space_byte : List ℕ → Bool

@@ -7,13 +7,13 @@ use Rattle.nj_text.specs.declared.fault.UnitFault.{UnitFault}
 use Rattle.nj_text.specs.declared.fault.LexFault.{LexFault}
 use Rattle.nj_text.specs.declared.fault.WordFault.{WordFault}
 use Rattle.nj_text.specs.declared.fault.WordFault.TheVariants as word_fault
-use Rattle.nj_text.specs.declared.signs.SignTaken.{SignTaken}
-use Rattle.nj_text.specs.declared.signs.SignTaken.TheVariants as taken
+use Rattle.nj_text.specs.declared.sign.SignTaken.{SignTaken}
+use Rattle.nj_text.specs.declared.sign.SignTaken.TheVariants as taken
 use Rattle.nj_text.specs.declared.word.Word.{Word}
 use Rattle.nj_text.specs.declared.state.State.{State as HeldState}
 use Rattle.nj_text.specs.declared.state.State.TheVariants as held
-use Rattle.nj_text.specs.declared.starts.Begun.{Begun}
-use Rattle.nj_text.specs.declared.starts.Begun.TheVariants as starts
+use Rattle.nj_text.specs.declared.line_start.Begun.{Begun}
+use Rattle.nj_text.specs.declared.line_start.Begun.TheVariants as line_start
 use Rattle.nj_text.specs.Units.{TextUnit, Ordinary, OpeningJoin, AtStart, AfterSpaces, Within, first_spot, cut}
 use Rattle.nj_text.specs.Inside.Scans.{along, units_within}
 use Rattle.nj_text.specs.Lines.{Line, lines_of, before_first_line, lines_after, ending_of}
@@ -50,8 +50,8 @@ state_at (held.Failed f) spot bytes = Failed f
 
 -- how the first of the lines begins
 abbrev pub BegunIs : List Line → Begun → Type 0
-BegunIs ls (starts.As start state cursor) = begun ls ≡ reply start (state_at state cursor.spot cursor.rest.now)
-BegunIs ls (starts.Fault f) = begun ls ≡ failing f
+BegunIs ls (line_start.Start start state cursor) = begun ls ≡ reply start (state_at state cursor.spot cursor.rest.now)
+BegunIs ls (line_start.Fault f) = begun ls ≡ failing f
 
 -- some spaces at a place
 abbrev pub space_units : Spot → List ℕ → List TextUnit

@@ -1,6 +1,6 @@
 use Rattle.std.proofs.Common.{◌∷◌, [], ap, ◌∙◌}
 use Rattle.std.proofs.lemmas.List.{map-append}
-use Rattle.nj_text.specs.declared.sign.LineStart.TheVariants as start
+use Rattle.nj_text.specs.declared.line_start.LineStart.TheVariants as start
 use Rattle.nj_manifest.specs.Statements.{block}
 use Rattle.nj_manifest.specs.Contents.{line_text, lines_text}
 use Rattle.nj_manifest.proofs.BlockLines.{Started, block-turn, block-end, lines_left-line, fails-from, block-start-fails, block-line-fails}

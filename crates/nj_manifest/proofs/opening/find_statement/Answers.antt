@@ -1,5 +1,5 @@
 use Rattle.std.proofs.Common.{sym, ap, subst, ◌∙◌, Err}
-use Rattle.nj_text.specs.declared.sign.LineStart.TheVariants as start
+use Rattle.nj_text.specs.declared.line_start.LineStart.TheVariants as start
 use Rattle.nj_manifest.specs.declared.fault.ParseFault.TheVariants as fault
 use Rattle.nj_manifest.specs.Faults.{UnexpectedIndent}
 use Rattle.nj_manifest.specs.Parsers.{Fails}

@@ -1,7 +1,7 @@
 use Rattle.std.proofs.Common.{subst, sym, ◌∙◌}
 use Rattle.nj_text.specs.Inside.States.{BegunIs}
 use Rattle.nj_text.proofs.LineStarts.{is_no_comment}
-use Rattle.nj_text.proofs.starts.begin_line.Goals as goal
+use Rattle.nj_text.proofs.line_start.begin_line.Goals as goal
 
 pub returns-in_default : goal.returns-in_default
 returns-in_default c =

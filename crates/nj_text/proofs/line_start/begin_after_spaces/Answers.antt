@@ -1,10 +1,10 @@
 use Rattle.std.proofs.Common.{refl, sym, ap, ◌∙◌, drop}
-use Rattle.nj_text.specs.declared.sign.LineStart.TheVariants as start
+use Rattle.nj_text.specs.declared.line_start.LineStart.TheVariants as start
 use Rattle.nj_text.specs.Units.{Ordinary, Escape, Reference, Join, BadByte, BadEscape}
 use Rattle.nj_text.specs.Inside.Scans.{units_within, along, on_next_line}
 use Rattle.nj_text.specs.Calls.{Between, reply}
 use Rattle.nj_text.proofs.LineStarts.{after_end, after_line_end, after_tab, after_plain, after_badly, not_nine, lines_moved, plain_ordinary}
-use Rattle.nj_text.proofs.starts.begin_after_spaces.Goals as goal
+use Rattle.nj_text.proofs.line_start.begin_after_spaces.Goals as goal
 
 pub returns-in-End : goal.returns-in-End
 returns-in-End c = λ spot b bs h. after_end spot b bs c.args.cursor.spot c.args.cursor.rest.now h c.in-End.ensures.unit

@@ -1,6 +1,6 @@
 use Rattle.std.proofs.Common.{sym, ◌∙◌}
 use Rattle.nj_text.proofs.LineStarts.{comment_opens, over_last_comment, over_comment_read, nil_if_empty, comment_spot}
-use Rattle.nj_text.proofs.starts.past_comment.Goals as goal
+use Rattle.nj_text.proofs.line_start.past_comment.Goals as goal
 
 pub returns-then-is_empty-clause-comment : goal.returns-then-is_empty-clause-comment
 returns-then-is_empty-clause-comment c =

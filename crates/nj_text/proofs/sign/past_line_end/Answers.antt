@@ -1,7 +1,7 @@
 use Rattle.std.proofs.Common.{refl}
 use Rattle.nj_text.specs.Units.{BadByte, BadEscape}
 use Rattle.nj_text.proofs.Bridges.{no_line_end_badly, line_ends_at_end}
-use Rattle.nj_text.proofs.signs.past_line_end.Goals as goal
+use Rattle.nj_text.proofs.sign.past_line_end.Goals as goal
 
 pub returns-in-BadByte : goal.returns-in-BadByte
 returns-in-BadByte c = no_line_end_badly c.args.cursor.spot c.args.cursor.rest.now BadByte (c.in-BadByte.ensures.unit c.args.cursor.spot) refl

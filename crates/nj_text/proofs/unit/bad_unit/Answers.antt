@@ -2,7 +2,7 @@ use Rattle.std.proofs.Common.{refl}
 use Rattle.nj_text.specs.declared.fault.UnitFault.TheVariants as fault
 use Rattle.nj_text.specs.Units.{BadByte, BadEscape}
 use Rattle.nj_text.proofs.Bridges.{fault_badly, fault_at_end}
-use Rattle.nj_text.proofs.signs.bad_unit.Goals as goal
+use Rattle.nj_text.proofs.unit.bad_unit.Goals as goal
 
 pub returns-in-BadByte : goal.returns-in-BadByte
 returns-in-BadByte c = fault_badly c.args.cursor.spot c.args.cursor.rest.now BadByte (fault.BadByte c.args.cursor.spot) (c.in-BadByte.ensures.unit c.args.cursor.spot) refl

@@ -2,7 +2,7 @@ use Rattle.std.proofs.Common.{sym, ap, ◌∙◌}
 use Rattle.nj_text.specs.Inside.Scans.{begins_with_space_byte}
 use Rattle.nj_text.proofs.Passed.{no_space_after}
 use Rattle.nj_text.proofs.LineStarts.{begun_after_spaces}
-use Rattle.nj_text.proofs.starts.begin_text_line.Goals as goal
+use Rattle.nj_text.proofs.line_start.begin_text_line.Goals as goal
 
 pub begin_after_spaces-requires : goal.begin_after_spaces-requires
 begin_after_spaces-requires c = ap begins_with_space_byte c.run.ensures.after ∙ no_space_after c.args.cursor.rest.now

@@ -14,35 +14,35 @@ pub cut-dollar : (spot : Spot) (bs : List ℕ) (m : Meaning) (n : ℕ) → ◌�
 unfolding cut
 cut-dollar spot bs m n e h = rw (← e) (ap (λ us. record { spot = spot; bytes = 36 ∷ take n bs; means = m } ∷ us) (cut-skip (position_after Within m) n (along 1 spot) bs h))
 
-pub join_next : (end spaces : ℕ) (bs : List ℕ) → ◌≡◌ {A = Found} (Join, end + spaces) (after_dollar bs) → ((spot : Spot) → spots_after (take (end + spaces) bs) spot ≡ on_next_line spaces spot) → end + spaces ≤ length bs
+pub join_unit : (end spaces : ℕ) (bs : List ℕ) → ◌≡◌ {A = Found} (Join, end + spaces) (after_dollar bs) → ((spot : Spot) → spots_after (take (end + spaces) bs) spot ≡ on_next_line spaces spot) → end + spaces ≤ length bs
     → (spot : Spot) → Begins spot (36 ∷ bs) Join (1 + end + spaces) (units_within (on_next_line spaces spot) (drop (1 + end + spaces) (36 ∷ bs)))
-join_next end spaces bs e lands h spot =
+join_unit end spaces bs e lands h spot =
     let n : 1 + end + spaces ≡ suc (end + spaces) = omega arith in
     rw n (cut-dollar spot bs Join (end + spaces) e h ∙ ap (λ p. record { spot = spot; bytes = 36 ∷ take (end + spaces) bs; means = Join } ∷ cut Within 0 p (drop (end + spaces) bs)) (lands (along 1 spot)))
 
 along-two : (n : ℕ) (spot : Spot) → along n (along 1 spot) ≡ along (suc n) spot
 along-two n spot = ap (λ c. record { line = spot.line; column = c }) (omega arith)
 
-pub reference_next : (name : List ℕ) (n : ℕ) (bs : List ℕ) → ◌≡◌ {A = Found} (Reference name, n) (after_dollar bs) → ((spot : Spot) → spots_after (take n bs) spot ≡ along n spot) → n ≤ length bs
+pub reference_unit : (name : List ℕ) (n : ℕ) (bs : List ℕ) → ◌≡◌ {A = Found} (Reference name, n) (after_dollar bs) → ((spot : Spot) → spots_after (take n bs) spot ≡ along n spot) → n ≤ length bs
     → (spot : Spot) → Begins spot (36 ∷ bs) (Reference name) (1 + n) (units_within (along (1 + n) spot) (drop (1 + n) (36 ∷ bs)))
-reference_next name n bs e lands h spot =
+reference_unit name n bs e lands h spot =
     rw (one-add n) (cut-dollar spot bs (Reference name) n e h ∙ ap (λ p. record { spot = spot; bytes = 36 ∷ take n bs; means = Reference name } ∷ cut Within 0 p (drop n bs)) (lands (along 1 spot) ∙ along-two n spot))
 
-pub escape_next : (b : ℕ) (bs : List ℕ) → ◌≡◌ {A = Found} (Escape b, 1) (after_dollar bs) → ((spot : Spot) → spots_after (take 1 bs) spot ≡ along 1 spot) → 1 ≤ length bs
+pub escape_unit : (b : ℕ) (bs : List ℕ) → ◌≡◌ {A = Found} (Escape b, 1) (after_dollar bs) → ((spot : Spot) → spots_after (take 1 bs) spot ≡ along 1 spot) → 1 ≤ length bs
     → (spot : Spot) → Begins spot (36 ∷ bs) (Escape b) 2 (units_within (along 2 spot) (drop 2 (36 ∷ bs)))
-escape_next b bs e lands h spot =
+escape_unit b bs e lands h spot =
     cut-dollar spot bs (Escape b) 1 e h ∙ ap (λ p. record { spot = spot; bytes = 36 ∷ take 1 bs; means = Escape b } ∷ cut Within 0 p (drop 1 bs)) (lands (along 1 spot) ∙ along-two 1 spot)
 
-pub bad_escape_next : (bs : List ℕ) → ◌≡◌ {A = Found} (BadEscape, 0) (after_dollar bs) → (spot : Spot) → BeginsBadly spot (36 ∷ bs) BadEscape
-bad_escape_next bs e spot = (1, cut Within 0 (along 1 spot) bs, cut-dollar spot bs BadEscape 0 e (omega arith))
+pub bad_escape_unit : (bs : List ℕ) → ◌≡◌ {A = Found} (BadEscape, 0) (after_dollar bs) → (spot : Spot) → BeginsBadly spot (36 ∷ bs) BadEscape
+bad_escape_unit bs e spot = (1, cut Within 0 (along 1 spot) bs, cut-dollar spot bs BadEscape 0 e (omega arith))
 
-feed_next : (bs : List ℕ) (spot : Spot) → Begins spot (10 ∷ bs) LineEnd 1 (cut AtStart 0 (on_next_line 0 spot) (drop 1 (10 ∷ bs)))
+feed_unit : (bs : List ℕ) (spot : Spot) → Begins spot (10 ∷ bs) LineEnd 1 (cut AtStart 0 (on_next_line 0 spot) (drop 1 (10 ∷ bs)))
 unfolding cut
-feed_next bs spot = refl
+feed_unit bs spot = refl
 
-return_next : (bs : List ℕ) (spot : Spot) → Begins spot (13 ∷ 10 ∷ bs) LineEnd 2 (cut AtStart 0 (on_next_line 0 spot) (drop 2 (13 ∷ 10 ∷ bs)))
+return_unit : (bs : List ℕ) (spot : Spot) → Begins spot (13 ∷ 10 ∷ bs) LineEnd 2 (cut AtStart 0 (on_next_line 0 spot) (drop 2 (13 ∷ 10 ∷ bs)))
 unfolding cut
-return_next bs spot = refl
+return_unit bs spot = refl
 
 -- the end of a line
 abbrev EndsHere : List ℕ → ℕ → Type 0
@@ -50,11 +50,11 @@ EndsHere bytes n = (spot : Spot) → Begins spot bytes LineEnd n (cut AtStart 0 
 
 return_ends : (bs : List ℕ) (t : Bool) → begins_with 10 bs ≡ t → t ≡ true → EndsHere (13 ∷ bs) 2
 return_ends [] t e h = absurd (false≢true (e ∙ h))
-return_ends (b ∷ bs) t e h = subst (λ x. EndsHere (13 ∷ x ∷ bs) 2) (sym (eqb-true b 10 (e ∙ h))) (return_next bs)
+return_ends (b ∷ bs) t e h = subst (λ x. EndsHere (13 ∷ x ∷ bs) 2) (sym (eqb-true b 10 (e ∙ h))) (return_unit bs)
 
-pub line_end_next : (bytes : List ℕ) (n : ℕ) → n ≡ line_end_length bytes → eqb n 0 ≡ false → EndsHere bytes n
-line_end_next [] n e h = absurd (false≢true (sym h ∙ ap (λ k. eqb k 0) e))
-line_end_next (b ∷ bs) n e h = by_feed (eqb b 10) refl
+pub line_end_unit : (bytes : List ℕ) (n : ℕ) → n ≡ line_end_length bytes → eqb n 0 ≡ false → EndsHere bytes n
+line_end_unit [] n e h = absurd (false≢true (sym h ∙ ap (λ k. eqb k 0) e))
+line_end_unit (b ∷ bs) n e h = by_feed (eqb b 10) refl
   where
     by_follower : (t : Bool) → begins_with 10 bs ≡ t → b ≡ 13 → n ≡ cond t 2 0 → EndsHere (b ∷ bs) n
     by_follower true f r k = rw (r, k) (return_ends bs true f refl)
@@ -65,7 +65,7 @@ line_end_next (b ∷ bs) n e h = by_feed (eqb b 10) refl
     by_return false f k = absurd (false≢true (sym h ∙ ap (λ x. eqb x 0) k))
 
     by_feed : (t : Bool) → eqb b 10 ≡ t → EndsHere (b ∷ bs) n
-    by_feed true f = rw (eqb-true b 10 f, e ∙ ap (λ t. cond t 1 (cond (eqb b 13 && begins_with 10 bs) 2 0)) f) (feed_next bs)
+    by_feed true f = rw (eqb-true b 10 f, e ∙ ap (λ t. cond t 1 (cond (eqb b 13 && begins_with 10 bs) 2 0)) f) (feed_unit bs)
     by_feed false f = by_return (eqb b 13) refl (e ∙ ap (λ t. cond t 1 (cond (eqb b 13 && begins_with 10 bs) 2 0)) f)
 
 suc_not_zero : {n : ℕ} → suc n ≡ 0 → ⊥
@@ -75,8 +75,8 @@ bad_byte : (b : ℕ) (bs : List ℕ) → unit_at b bs ≡ (BadByte, 0) → (spot
 unfolding cut
 bad_byte b bs e spot = (1, cut Within 0 (spot_after b spot) bs, rw e refl)
 
-pub bad_byte_next : (b : ℕ) (bs : List ℕ) → is_ordinary_byte b ≡ false → eqb b 36 ≡ false → line_end_length (b ∷ bs) ≡ 0 → (spot : Spot) → BeginsBadly spot (b ∷ bs) BadByte
-bad_byte_next b bs o d l = bad_byte b bs (by_tests (eqb b 36) (eqb b 10) (eqb b 13) (eqb b 0) (begins_with 10 bs) refl o d l)
+pub bad_byte_unit : (b : ℕ) (bs : List ℕ) → is_ordinary_byte b ≡ false → eqb b 36 ≡ false → line_end_length (b ∷ bs) ≡ 0 → (spot : Spot) → BeginsBadly spot (b ∷ bs) BadByte
+bad_byte_unit b bs o d l = bad_byte b bs (by_tests (eqb b 36) (eqb b 10) (eqb b 13) (eqb b 0) (begins_with 10 bs) refl o d l)
   where
     Is : Found → Found → Type 0
     Is x y = x ≡ y
@@ -93,8 +93,8 @@ bad_byte_next b bs o d l = bad_byte b bs (by_tests (eqb b 36) (eqb b 10) (eqb b 
     by_tests false false false true g e o h l = refl
     by_tests false false false false g e o h l = absurd cc
 
-pub ordinary_next : (b : ℕ) (bs : List ℕ) → is_ordinary_byte b ≡ true → (spot : Spot) → Begins spot (b ∷ bs) (Ordinary b) 1 (units_within (along 1 spot) (drop 1 (b ∷ bs)))
-ordinary_next b bs h spot = cut-ordinary spot b bs h
+pub ordinary_unit : (b : ℕ) (bs : List ℕ) → is_ordinary_byte b ≡ true → (spot : Spot) → Begins spot (b ∷ bs) (Ordinary b) 1 (units_within (along 1 spot) (drop 1 (b ∷ bs)))
+ordinary_unit b bs h spot = cut-ordinary spot b bs h
 
 pub eqb_self : (b : ℕ) → eqb b b ≡ true
 eqb_self b = eq-eqb b b refl

@@ -1,12 +1,12 @@
 use Rattle.std.proofs.Common.{refl, sym, ap, ◌∙◌, take, drop}
-use Rattle.nj_text.specs.declared.sign.LineStart.TheVariants as start
+use Rattle.nj_text.specs.declared.line_start.LineStart.TheVariants as start
 use Rattle.nj_text.specs.Units.{Ordinary, Escape, Reference, OpeningJoin, BadByte, BadEscape}
 use Rattle.nj_text.specs.Lines.{before_first_line}
 use Rattle.nj_text.specs.Inside.Scans.{units_within, along, on_next_line}
 use Rattle.nj_text.specs.Calls.{Between, reply}
 use Rattle.nj_text.specs.Inside.States.{inside}
 use Rattle.nj_text.proofs.LineStarts.{at_once_end, at_once_line_end, at_once_join, at_once_tab, at_once_plain, at_once_badly, not_nine, lines_moved, within_moved, plain_ordinary}
-use Rattle.nj_text.proofs.starts.begin_at_once.Goals as goal
+use Rattle.nj_text.proofs.line_start.begin_at_once.Goals as goal
 
 pub returns-in-End : goal.returns-in-End
 returns-in-End c = at_once_end c.args.cursor.spot c.args.cursor.rest.now c.in-End.ensures.unit

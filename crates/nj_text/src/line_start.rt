@@ -1,4 +1,4 @@
-//! How lines begin.
+//! What stands at a line's start, and how lines begin.
 
 ghost use Rattle.std.specs.Prelude.{◌≡◌, ◌<◌, false, length, MatchOption, IfSome};
 ghost use Rattle.nj_text.specs.Units.{opens_comment};
@@ -8,16 +8,30 @@ ghost use Rattle.nj_text.specs.Inside.States.{lines_at, BegunIs, BegunAfterSpace
 
 use crate::cursor::Cursor;
 use crate::fault::UnitFault;
-use crate::next::{Next, next_unit};
 use crate::runs::{Run, first_byte};
-use crate::sign::LineStart;
 use crate::state::State;
+use crate::unit::{NextUnit, next_unit};
+
+/// What stands where a line begins ("Lexical syntax" in the Ninja manual).
+#[derive(Clone, Copy, Debug, PartialEq, Eq)]
+pub enum LineStart {
+    /// The end of the text.
+    End,
+    /// A line with nothing but spaces, which was skipped.
+    Blank,
+    /// A line that begins with spaces, which were skipped: a line of the block above it.
+    Indented,
+    /// A line that begins with something else.
+    Plain,
+    /// No line begins here: the last one was begun and not ended.
+    Middle,
+}
 
 /// How a line begins.
 #[derive(Clone, Copy)]
 pub enum Begun<'a> {
     /// In this way, with the state and the cursor after that.
-    As(LineStart, State<'a>, Cursor<'a>),
+    Start(LineStart, State<'a>, Cursor<'a>),
     /// With a fault.
     Fault(UnitFault),
 }
@@ -47,26 +61,26 @@ fn begin_at_once(cursor: Cursor<'_>) -> Begun<'_>
     ensures { BegunIs (lines_at cursor.entry) result }
 {
     match next_unit(cursor.rest) {
-        Next::End => Begun::As(LineStart::End, State::Between, cursor),
-        Next::LineEnd(length) => {
+        NextUnit::End => Begun::Start(LineStart::End, State::Between, cursor),
+        NextUnit::LineEnd(length) => {
             let after = cursor.on_next_line(length, 0);
-            Begun::As(LineStart::Blank, State::Between, after)
+            Begun::Start(LineStart::Blank, State::Between, after)
         }
-        Next::Join(length, spaces) => {
+        NextUnit::Join(length, spaces) => {
             let state = State::OpeningJoin(cursor.spot, &cursor.rest[..length]);
             let after = cursor.on_next_line(length - spaces, spaces);
-            Begun::As(LineStart::Plain, state, after)
+            Begun::Start(LineStart::Plain, state, after)
         }
-        Next::Ordinary(byte) => {
+        NextUnit::Ordinary(byte) => {
             if byte == b'\t' {
                 return Begun::Fault(UnitFault::Tab(cursor.spot));
             }
-            Begun::As(LineStart::Plain, State::Inside, cursor)
+            Begun::Start(LineStart::Plain, State::Inside, cursor)
         }
-        Next::Escape(_) => Begun::As(LineStart::Plain, State::Inside, cursor),
-        Next::Reference(_, _) => Begun::As(LineStart::Plain, State::Inside, cursor),
-        Next::BadByte => Begun::As(LineStart::Plain, State::Inside, cursor),
-        Next::BadEscape => Begun::As(LineStart::Plain, State::Inside, cursor),
+        NextUnit::Escape(_) => Begun::Start(LineStart::Plain, State::Inside, cursor),
+        NextUnit::Reference(_, _) => Begun::Start(LineStart::Plain, State::Inside, cursor),
+        NextUnit::BadByte => Begun::Start(LineStart::Plain, State::Inside, cursor),
+        NextUnit::BadEscape => Begun::Start(LineStart::Plain, State::Inside, cursor),
     }
 }
 
@@ -76,22 +90,22 @@ fn begin_after_spaces(cursor: Cursor<'_>) -> Begun<'_>
     ensures { BegunAfterSpaces cursor.entry result }
 {
     match next_unit(cursor.rest) {
-        Next::End => Begun::As(LineStart::Blank, State::Between, cursor),
-        Next::LineEnd(length) => {
+        NextUnit::End => Begun::Start(LineStart::Blank, State::Between, cursor),
+        NextUnit::LineEnd(length) => {
             let after = cursor.on_next_line(length, 0);
-            Begun::As(LineStart::Blank, State::Between, after)
+            Begun::Start(LineStart::Blank, State::Between, after)
         }
-        Next::Ordinary(byte) => {
+        NextUnit::Ordinary(byte) => {
             if byte == b'\t' {
                 return Begun::Fault(UnitFault::Tab(cursor.spot));
             }
-            Begun::As(LineStart::Indented, State::Inside, cursor)
+            Begun::Start(LineStart::Indented, State::Inside, cursor)
         }
-        Next::Join(_, _) => Begun::As(LineStart::Indented, State::Inside, cursor),
-        Next::Escape(_) => Begun::As(LineStart::Indented, State::Inside, cursor),
-        Next::Reference(_, _) => Begun::As(LineStart::Indented, State::Inside, cursor),
-        Next::BadByte => Begun::As(LineStart::Indented, State::Inside, cursor),
-        Next::BadEscape => Begun::As(LineStart::Indented, State::Inside, cursor),
+        NextUnit::Join(_, _) => Begun::Start(LineStart::Indented, State::Inside, cursor),
+        NextUnit::Escape(_) => Begun::Start(LineStart::Indented, State::Inside, cursor),
+        NextUnit::Reference(_, _) => Begun::Start(LineStart::Indented, State::Inside, cursor),
+        NextUnit::BadByte => Begun::Start(LineStart::Indented, State::Inside, cursor),
+        NextUnit::BadEscape => Begun::Start(LineStart::Indented, State::Inside, cursor),
     }
 }
 

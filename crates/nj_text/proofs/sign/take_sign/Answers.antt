@@ -3,7 +3,7 @@ use Rattle.nj_text.specs.Calls.{sign_at}
 use Rattle.nj_text.specs.Inside.States.{SignIs, line_at, other_lines_at}
 use Rattle.nj_text.proofs.Steps.{at_cursor}
 use Rattle.nj_text.proofs.SignsTaken.{sign_fails, no_sign, sign_taken}
-use Rattle.nj_text.proofs.signs.take_sign.Goals as goal
+use Rattle.nj_text.proofs.sign.take_sign.Goals as goal
 
 pub returns-in-Some : goal.returns-in-Some
 returns-in-Some c =
