@@ -8,7 +8,7 @@ use Rattle.nj_text.specs.declared.spot.Spot.{Spot}
 use Rattle.nj_text.specs.Bytes.{is_space, is_line_feed, is_ordinary_byte, is_name_byte, is_identifier_byte}
 use Rattle.nj_text.specs.Units.{Ordinary, Reference, TextUnit, Position, Within, Dollar, LineFeed, CarriageReturn, Nul, Plain, class_of, unit_by, unit_at, position_after, spot_after, cut, Found, NameByte, follows_of, after_dollar}
 use Rattle.nj_text.specs.Inside.Scans.{spots_after}
-use Rattle.nj_text.specs.Inside.Scans.{along, on_next_line}
+use Rattle.nj_text.specs.Inside.Scans.{advance, on_next_line}
 use Rattle.nj_text.proofs.Lists.{take_while-cons_yes, take_while-cons_no, AllIn, AllIn-take_while, AllIn-weaker, length-take_while}
 
 -- bytes that belong to the unit before are passed
@@ -18,27 +18,27 @@ cut-skip position zero spot bs h = refl
 cut-skip position (suc n) spot [] h = absurd (omega arith)
 cut-skip position (suc n) spot (b ∷ bs) h = cut-skip position n (spot_after b spot) bs (omega arith)
 
-pub along-along : (m n : ℕ) (spot : Spot) → along n (along m spot) ≡ along (m + n) spot
-along-along m n spot = ap (λ c. record { line = spot.line; column = c }) (omega arith)
+pub advance-advance : (m n : ℕ) (spot : Spot) → advance n (advance m spot) ≡ advance (m + n) spot
+advance-advance m n spot = ap (λ c. record { line = spot.line; column = c }) (omega arith)
 
-pub along-zero : (spot : Spot) → along 0 spot ≡ spot
-along-zero spot = ap (λ c. record { line = spot.line; column = c }) (omega arith)
+pub advance-zero : (spot : Spot) → advance 0 spot ≡ spot
+advance-zero spot = ap (λ c. record { line = spot.line; column = c }) (omega arith)
 
 -- bytes without a line feed lead along the line
-pub spots_along : (bs : List ℕ) (spot : Spot) → AllIn (λ b. not (is_line_feed b)) bs → spots_after bs spot ≡ along (length bs) spot
-spots_along [] spot h = sym (along-zero spot)
-spots_along (b ∷ bs) spot h =
-    let step : spot_after b spot ≡ along 1 spot = by_test (is_line_feed b) refl h.0 in
-    ap (spots_after bs) step ∙ spots_along bs (along 1 spot) h.1 ∙ along-along 1 (length bs) spot ∙ ap (λ n. along n spot) (one-add (length bs))
+pub spots_advance : (bs : List ℕ) (spot : Spot) → AllIn (λ b. not (is_line_feed b)) bs → spots_after bs spot ≡ advance (length bs) spot
+spots_advance [] spot h = sym (advance-zero spot)
+spots_advance (b ∷ bs) spot h =
+    let step : spot_after b spot ≡ advance 1 spot = by_test (is_line_feed b) refl h.0 in
+    ap (spots_after bs) step ∙ spots_advance bs (advance 1 spot) h.1 ∙ advance-advance 1 (length bs) spot ∙ ap (λ n. advance n spot) (one-add (length bs))
   where
-    by_test : (t : Bool) → is_line_feed b ≡ t → not t ≡ true → cond t (record { line = spot.line + 1; column = 1 }) (along 1 spot) ≡ along 1 spot
+    by_test : (t : Bool) → is_line_feed b ≡ t → not t ≡ true → cond t (record { line = spot.line + 1; column = 1 }) (advance 1 spot) ≡ advance 1 spot
     by_test true e n = absurd cc
     by_test false e n = refl
 
 -- the units of ordinary bytes that stand at a place
 abbrev pub plain_units : Spot → List ℕ → List TextUnit
 plain_units spot [] = []
-plain_units spot (b ∷ bs) = record { spot = spot; bytes = b ∷ []; means = Ordinary b } ∷ plain_units (along 1 spot) bs
+plain_units spot (b ∷ bs) = record { spot = spot; bytes = b ∷ []; means = Ordinary b } ∷ plain_units (advance 1 spot) bs
 
 pub class-ordinary : (b : ℕ) → is_ordinary_byte b ≡ true → class_of b ≡ Plain
 class-ordinary b h = by_tests (eqb b 36) (eqb b 10) (eqb b 13) (eqb b 0) h
@@ -64,7 +64,7 @@ ordinary-no_feed b h = by_tests (eqb b 36) (eqb b 10) (eqb b 13) (eqb b 0) h
 pub not_feed : (b : ℕ) → is_ordinary_byte b ≡ true → not (is_line_feed b) ≡ true
 not_feed b h = rw (ordinary-no_feed b h) refl
 
-pub spot-ordinary : (b : ℕ) (spot : Spot) → is_ordinary_byte b ≡ true → spot_after b spot ≡ along 1 spot
+pub spot-ordinary : (b : ℕ) (spot : Spot) → is_ordinary_byte b ≡ true → spot_after b spot ≡ advance 1 spot
 spot-ordinary b spot h = rw (ordinary-no_feed b h) refl
 
 pub within-ordinary : (b : ℕ) → position_after Within (Ordinary b) ≡ Within
@@ -74,22 +74,22 @@ within-ordinary b = by_test (is_space b)
     by_test true = refl
     by_test false = refl
 
-pub cut-ordinary : (spot : Spot) (b : ℕ) (bs : List ℕ) → is_ordinary_byte b ≡ true → cut Within 0 spot (b ∷ bs) ≡ record { spot = spot; bytes = b ∷ []; means = Ordinary b } ∷ cut Within 0 (along 1 spot) bs
+pub cut-ordinary : (spot : Spot) (b : ℕ) (bs : List ℕ) → is_ordinary_byte b ≡ true → cut Within 0 spot (b ∷ bs) ≡ record { spot = spot; bytes = b ∷ []; means = Ordinary b } ∷ cut Within 0 (advance 1 spot) bs
 unfolding cut
 cut-ordinary spot b bs h = rw (unit-ordinary b bs h, within-ordinary b, spot-ordinary b spot h) refl
 
 -- a run of ordinary bytes within a line
-pub cut-run : (spot : Spot) (xs bs : List ℕ) → AllIn is_ordinary_byte xs → cut Within 0 spot (xs ++ bs) ≡ plain_units spot xs ++ cut Within 0 (along (length xs) spot) bs
-cut-run spot [] bs h = ap (λ p. cut Within 0 p bs) (sym (along-zero spot))
+pub cut-run : (spot : Spot) (xs bs : List ℕ) → AllIn is_ordinary_byte xs → cut Within 0 spot (xs ++ bs) ≡ plain_units spot xs ++ cut Within 0 (advance (length xs) spot) bs
+cut-run spot [] bs h = ap (λ p. cut Within 0 p bs) (sym (advance-zero spot))
 cut-run spot (x ∷ xs) bs h =
-    let there : along (length xs) (along 1 spot) ≡ along (suc (length xs)) spot = along-along 1 (length xs) spot ∙ ap (λ n. along n spot) (one-add (length xs)) in
-    cut-ordinary spot x (xs ++ bs) h.0 ∙ ap (λ us. record { spot = spot; bytes = x ∷ []; means = Ordinary x } ∷ us) (cut-run (along 1 spot) xs bs h.1 ∙ ap (λ p. plain_units (along 1 spot) xs ++ cut Within 0 p bs) there)
+    let there : advance (length xs) (advance 1 spot) ≡ advance (suc (length xs)) spot = advance-advance 1 (length xs) spot ∙ ap (λ n. advance n spot) (one-add (length xs)) in
+    cut-ordinary spot x (xs ++ bs) h.0 ∙ ap (λ us. record { spot = spot; bytes = x ∷ []; means = Ordinary x } ∷ us) (cut-run (advance 1 spot) xs bs h.1 ∙ ap (λ p. plain_units (advance 1 spot) xs ++ cut Within 0 p bs) there)
 
 -- ---- where the bytes of a unit lead
 
 -- n bytes without a line feed at the front lead along the line
-pub lands : (xs ys : List ℕ) (n : ℕ) (spot : Spot) → AllIn (λ b. not (is_line_feed b)) xs → length xs ≡ n → spots_after (take n (xs ++ ys)) spot ≡ along n spot
-lands xs ys n spot h e = ap (λ zs. spots_after zs spot) (take_at xs ys n e) ∙ spots_along xs spot h ∙ ap (λ k. along k spot) e
+pub lands : (xs ys : List ℕ) (n : ℕ) (spot : Spot) → AllIn (λ b. not (is_line_feed b)) xs → length xs ≡ n → spots_after (take n (xs ++ ys)) spot ≡ advance n spot
+lands xs ys n spot h e = ap (λ zs. spots_after zs spot) (take_at xs ys n e) ∙ spots_advance xs spot h ∙ ap (λ k. advance k spot) e
 
 AllIn-append : (p : ℕ → Bool) (xs ys : List ℕ) → AllIn p xs → AllIn p ys → AllIn p (xs ++ ys)
 AllIn-append p [] ys h k = k
@@ -97,7 +97,7 @@ AllIn-append p (x ∷ xs) ys h k = (h.0, AllIn-append p xs ys h.1 k)
 
 -- a name in braces after one more byte
 pub braces_land : (b : ℕ) (name rest bytes : List ℕ) (spot : Spot) → is_line_feed b ≡ false → AllIn (λ c. not (is_line_feed c)) name → bytes ≡ name ++ 125 ∷ rest
-    → spots_after (take (length name + 2) (b ∷ bytes)) spot ≡ along (length name + 2) spot
+    → spots_after (take (length name + 2) (b ∷ bytes)) spot ≡ advance (length name + 2) spot
 braces_land b name rest bytes spot no_feed h e =
     let all : AllIn (λ c. not (is_line_feed c)) (b ∷ name ++ 125 ∷ []) = (rw no_feed refl, AllIn-append (λ c. not (is_line_feed c)) name (125 ∷ []) h (refl, tt)) in
     let long : length (b ∷ name ++ 125 ∷ []) ≡ length name + 2 = omega (arith, length-append name (125 ∷ [])) in
@@ -111,7 +111,7 @@ spaces-no_feed b h = rw (eqb-true b 32 h) refl
 spaces_land : (bs : List ℕ) (spot : Spot) → spots_after (take_while is_space bs) (record { line = spot.line + 1; column = 1 }) ≡ on_next_line (prefix_len is_space bs) spot
 spaces_land bs spot =
     let start : Spot = record { line = spot.line + 1; column = 1 } in
-    let here = spots_along (take_while is_space bs) start (AllIn-weaker is_space (λ b. not (is_line_feed b)) (take_while is_space bs) spaces-no_feed (AllIn-take_while is_space bs)) in
+    let here = spots_advance (take_while is_space bs) start (AllIn-weaker is_space (λ b. not (is_line_feed b)) (take_while is_space bs) spaces-no_feed (AllIn-take_while is_space bs)) in
     here ∙ ap (λ c. record { line = spot.line + 1; column = c }) (omega (arith, length-take_while is_space bs))
 
 pub feed_lands : (bs : List ℕ) (spot : Spot) → spots_after (take (1 + prefix_len is_space bs) (10 ∷ bs)) spot ≡ on_next_line (prefix_len is_space bs) spot

@@ -12,7 +12,7 @@ use Rattle.nj_text.specs.Bytes.{is_ordinary_byte, is_identifier_byte, begins_wit
 use Rattle.nj_text.specs.Units.{Meaning, Ordinary, LineEnd, BadByte, BadEscape, TextUnit, is_ordinary_in, Within, position_after, spot_after, Class, Dollar, LineFeed, CarriageReturn, Nul, Plain, unit_by, class_of, unit_at, after_dollar, named, Follows, Feed, Return, Brace, Itself, NameByte, Nothing, after_dollar_by, Found, follows_of, cut}
 use Rattle.nj_text.specs.declared.runs.Run.{Run}
 use Rattle.nj_text.specs.Inside.Runs.{in_run}
-use Rattle.nj_text.specs.Inside.Scans.{along, units_within, Begins, BeginsBadly}
+use Rattle.nj_text.specs.Inside.Scans.{advance, units_within, Begins, BeginsBadly}
 use Rattle.nj_text.specs.Words.{fault_of_meaning, next_fault, parts_of, PartText, Text, begins_with_ordinary, longer_run}
 use Rattle.nj_text.specs.Inside.Gathering.{run_of, in_text, gathered, after_text, NoneInRun}
 use Rattle.nj_text.proofs.Lists.{AllIn, AllIn-weaker, AllIn-take_while, drop_while-append, take_while-append, take_while-cons_yes, take_while-cons_no, drop_while-cons_no}
@@ -44,11 +44,11 @@ line_end_is_no_text : (k : TextKind) (spot : Spot) (bytes : List ℕ) → in_tex
 line_end_is_no_text kind.Word spot bytes = refl
 line_end_is_no_text kind.Value spot bytes = refl
 
-pub bad_byte_piece : (k : TextKind) (spot : Spot) (bytes : List ℕ) → BeginsBadly spot bytes BadByte → next_fault (after_text k (units_within spot bytes)) ≡ Some (fault.BadByte spot)
-bad_byte_piece k spot bytes b = bad_at k spot bytes BadByte b.0 b.1 (fault.BadByte spot) b.2 (bad_byte_is_no_text k spot (take b.0 bytes)) refl
+pub bad_byte_part : (k : TextKind) (spot : Spot) (bytes : List ℕ) → BeginsBadly spot bytes BadByte → next_fault (after_text k (units_within spot bytes)) ≡ Some (fault.BadByte spot)
+bad_byte_part k spot bytes b = bad_at k spot bytes BadByte b.0 b.1 (fault.BadByte spot) b.2 (bad_byte_is_no_text k spot (take b.0 bytes)) refl
 
-pub bad_escape_piece : (k : TextKind) (spot : Spot) (bytes : List ℕ) → BeginsBadly spot bytes BadEscape → next_fault (after_text k (units_within spot bytes)) ≡ Some (fault.BadEscape spot)
-bad_escape_piece k spot bytes b = bad_at k spot bytes BadEscape b.0 b.1 (fault.BadEscape spot) b.2 (bad_escape_is_no_text k spot (take b.0 bytes)) refl
+pub bad_escape_part : (k : TextKind) (spot : Spot) (bytes : List ℕ) → BeginsBadly spot bytes BadEscape → next_fault (after_text k (units_within spot bytes)) ≡ Some (fault.BadEscape spot)
+bad_escape_part k spot bytes b = bad_at k spot bytes BadEscape b.0 b.1 (fault.BadEscape spot) b.2 (bad_escape_is_no_text k spot (take b.0 bytes)) refl
 
 abbrev EndsText : TextKind → List TextUnit → Type 0
 EndsText k us = (gathered k us ≡ []) × (after_text k us ≡ us) × (next_fault us ≡ None)
@@ -58,8 +58,8 @@ unfolding cut
 end_at kind.Word spot = (refl, refl, refl)
 end_at kind.Value spot = (refl, refl, refl)
 
-pub end_piece : (k : TextKind) (spot : Spot) (bytes : List ℕ) → bytes ≡ [] → EndsText k (units_within spot bytes)
-end_piece k spot bytes e = rw e (end_at k spot)
+pub end_part : (k : TextKind) (spot : Spot) (bytes : List ℕ) → bytes ≡ [] → EndsText k (units_within spot bytes)
+end_part k spot bytes e = rw e (end_at k spot)
 
 -- ---- a run of ordinary bytes
 
@@ -77,7 +77,7 @@ run_is_text kind.Value b spot h = refl
 
 units_are_text : (k : TextKind) (spot : Spot) (xs : List ℕ) → AllIn (in_run (run_of k)) xs → AllIn (in_text k) (plain_units spot xs)
 units_are_text k spot [] h = tt
-units_are_text k spot (x ∷ xs) h = (run_is_text k x spot h.0, units_are_text k (along 1 spot) xs h.1)
+units_are_text k spot (x ∷ xs) h = (run_is_text k x spot h.0, units_are_text k (advance 1 spot) xs h.1)
 
 -- whether a meaning is that of an ordinary byte
 abbrev is_byte : Found → Bool
@@ -148,17 +148,17 @@ run_ends k spot (b ∷ bs) h =
 -- the parts of a run, and of what follows it
 run_parts : (spot : Spot) (x : ℕ) (xs : List ℕ) (us : List TextUnit) → begins_with_ordinary us ≡ false → parts_of (plain_units spot (x ∷ xs) ++ us) ≡ Text (x ∷ xs) ∷ parts_of us
 run_parts spot x [] us h = rw h refl
-run_parts spot x (y ∷ ys) us h = ap (λ ps. longer_run x ps) (run_parts (along 1 spot) y ys us h)
+run_parts spot x (y ∷ ys) us h = ap (λ ps. longer_run x ps) (run_parts (advance 1 spot) y ys us h)
 
 pub run_piece : (k : TextKind) (spot : Spot) (bytes xs ys : List ℕ) → bytes ≡ xs ++ ys → AllIn (in_run (run_of k)) xs → NoneInRun (in_run (run_of k)) ys → (xs ≡ [] → ⊥)
-    → (gathered k (units_within spot bytes) ≡ Text xs ∷ gathered k (units_within (along (length xs) spot) ys)) × (after_text k (units_within spot bytes) ≡ after_text k (units_within (along (length xs) spot) ys))
+    → (gathered k (units_within spot bytes) ≡ Text xs ∷ gathered k (units_within (advance (length xs) spot) ys)) × (after_text k (units_within spot bytes) ≡ after_text k (units_within (advance (length xs) spot) ys))
 run_piece k spot bytes [] ys e h n f = absurd (f refl)
 run_piece k spot bytes (x ∷ xs) ys e h n f =
-    let there = units_within (along (length (x ∷ xs)) spot) ys in
+    let there = units_within (advance (length (x ∷ xs)) spot) ys in
     let front = plain_units spot (x ∷ xs) in
     let all = units_are_text k spot (x ∷ xs) h in
     let cut_is : units_within spot bytes ≡ front ++ there = ap (units_within spot) e ∙ cut-run spot (x ∷ xs) ys (AllIn-weaker (in_run (run_of k)) is_ordinary_byte (x ∷ xs) (ordinary_in_run k) h) in (
-      ap (λ us. parts_of (take_while (in_text k) us)) cut_is ∙ ap parts_of (take_while-append (in_text k) front there all) ∙ run_parts spot x xs (take_while (in_text k) there) (run_ends k (along (length (x ∷ xs)) spot) ys n),
+      ap (λ us. parts_of (take_while (in_text k) us)) cut_is ∙ ap parts_of (take_while-append (in_text k) front there all) ∙ run_parts spot x xs (take_while (in_text k) there) (run_ends k (advance (length (x ∷ xs)) spot) ys n),
       ap (λ us. drop_while (in_text k) us) cut_is ∙ drop_while-append (in_text k) front there all,
     )
 
@@ -171,7 +171,7 @@ none_after p (b ∷ bs) = by_test (p b) refl (none_after p bs)
     by_test false e h = e
 
 -- the run that stands at a place, read off
-pub run_read : (k : TextKind) (r : Run) (spot there : Spot) (bytes xs ys : List ℕ) → r ≡ run_of k → xs ≡ take_while (in_run r) bytes → ys ≡ drop_while (in_run r) bytes → bytes ≡ xs ++ ys → there ≡ along (length xs) spot → eqb (length xs) 0 ≡ false
+pub run_read : (k : TextKind) (r : Run) (spot there : Spot) (bytes xs ys : List ℕ) → r ≡ run_of k → xs ≡ take_while (in_run r) bytes → ys ≡ drop_while (in_run r) bytes → bytes ≡ xs ++ ys → there ≡ advance (length xs) spot → eqb (length xs) 0 ≡ false
     → (gathered k (units_within spot bytes) ≡ Text xs ∷ gathered k (units_within there ys)) × (after_text k (units_within spot bytes) ≡ after_text k (units_within there ys))
 run_read k r spot there bytes xs ys is_r run remainder whole e nonempty =
     let all : AllIn (in_run (run_of k)) xs = rw (← is_r, run) (AllIn-take_while (in_run r) bytes) in

@@ -11,13 +11,13 @@ use Rattle.nj_text.specs.Bytes.{is_space, is_line_feed, is_ordinary_byte, is_nam
 use Rattle.nj_text.specs.Units.{Meaning, Ordinary, Escape, Reference, Join, OpeningJoin, Comment, LeadingTab, LineEnd, TextEnd, BadByte, BadEscape, TextUnit, is_ordinary_in, Position, AtStart, AfterSpaces, Within, Follows, Feed, Return, Brace, Itself, NameByte, Nothing, follows_of, after_dollar_by, after_dollar, named, Found, Class, Dollar, LineFeed, CarriageReturn, Nul, Plain, class_of, unit_by, unit_at, found_at, opening, opens_comment, position_after, spot_after, cut}
 use Rattle.nj_text.specs.Inside.Scans.{spots_after}
 use Rattle.nj_text.specs.Lines.{Line, ending_of, before_first_line, lines_before, lines_of, with_units, Kind, IndentedLine, PlainLine, is_space_unit, text_kind, kind_with, kind_after_spaces, begins_with_space, kind_of}
-use Rattle.nj_text.specs.Inside.Scans.{along, on_next_line, units_within, Begins, BeginsBadly, begins_with_space_byte}
+use Rattle.nj_text.specs.Inside.Scans.{advance, on_next_line, units_within, Begins, BeginsBadly, begins_with_space_byte}
 use Rattle.nj_text.specs.Calls.{Between, Inside, reply, failing, begun, begun_by, is_comment, without_comments}
 use Rattle.nj_text.specs.declared.cursor.Cursor.{Cursor}
 use Rattle.nj_text.specs.declared.line_start.Begun.{Begun}
 use Rattle.nj_text.specs.Inside.States.{BegunIs, BegunAfterSpaces, first_line, other_lines, inside, lines_from, lines_within, space_units}
 use Rattle.nj_text.proofs.Lists.{AllIn, AllIn-take_while, drop_while-cons_no, drop_while-cons_yes, drop_while-append, take_while-cons_yes, length-take_while, drop-prefix_len}
-use Rattle.nj_text.proofs.Cuts.{cut-skip, spots_along, along-along, along-zero, unit-ordinary}
+use Rattle.nj_text.proofs.Cuts.{cut-skip, spots_advance, advance-advance, advance-zero, unit-ordinary}
 use Rattle.std.proofs.lemmas.List.{nil_from_length}
 use Rattle.nj_text.proofs.Gathered.{not_ordinary, none_after}
 use Rattle.nj_text.proofs.Passed.{first_is_no_space}
@@ -227,17 +227,17 @@ AreSpaces bs = AllByRecursion (λ x. x ≡ 32) bs
 
 spaces_line : (spot : Spot) (bs : List ℕ) (us : List TextUnit) (l : Line) (ls : List Line) → lines_of us ≡ l ∷ ls → lines_of (space_units spot bs ++ us) ≡ with_units (space_units spot bs ++ l.units) l ∷ ls
 spaces_line spot [] us l ls e = e
-spaces_line spot (b ∷ bs) us l ls e = ap (before_first_line (record { spot = spot; bytes = b ∷ []; means = Ordinary b })) (spaces_line (along 1 spot) bs us l ls e)
+spaces_line spot (b ∷ bs) us l ls e = ap (before_first_line (record { spot = spot; bytes = b ∷ []; means = Ordinary b })) (spaces_line (advance 1 spot) bs us l ls e)
 
 spaces_are_units : (spot : Spot) (bs : List ℕ) → AreSpaces bs → AllIn is_space_unit (space_units spot bs)
 spaces_are_units spot [] h = tt
-spaces_are_units spot (b ∷ bs) h = (rw h.0 refl, spaces_are_units (along 1 spot) bs h.1)
+spaces_are_units spot (b ∷ bs) h = (rw h.0 refl, spaces_are_units (advance 1 spot) bs h.1)
 
 -- the kind of a line with leading spaces
 kind_after : (spot : Spot) (b : ℕ) (bs : List ℕ) (us : List TextUnit) (l : Line) → AreSpaces (b ∷ bs) → kind_of (with_units (space_units spot (b ∷ bs) ++ us) l) ≡ kind_after_spaces (drop_while is_space_unit us) true
 kind_after spot b bs us l h =
     let front : is_space b ≡ true = rw h.0 refl in
-    rw front (ap (λ vs. kind_after_spaces vs true) (drop_while-append is_space_unit (space_units (along 1 spot) bs) us (spaces_are_units (along 1 spot) bs h.1)))
+    rw front (ap (λ vs. kind_after_spaces vs true) (drop_while-append is_space_unit (space_units (advance 1 spot) bs) us (spaces_are_units (advance 1 spot) bs h.1)))
 
 begun_after : (spot : Spot) (b : ℕ) (bs : List ℕ) (us : List TextUnit) (l : Line) (ls : List Line) → AreSpaces (b ∷ bs) → lines_of us ≡ l ∷ ls
     → begun (lines_of (space_units spot (b ∷ bs) ++ us)) ≡ begun_by (kind_after_spaces (drop_while is_space_unit l.units) true) (with_units (space_units spot (b ∷ bs) ++ l.units) l) ls
@@ -309,7 +309,7 @@ comment_begins b bs h = by_test (is_line_feed b) refl
     by_test true e = absurd (false≢true (sym (rw (eqb-true b 10 e) refl) ∙ h))
     by_test false e = refl
 
-pub comment_cut : (spot : Spot) (bs : List ℕ) → opens_comment bs ≡ true → (zs : List ℕ) × (cut AtStart 0 spot bs ≡ record { spot = spot; bytes = zs; means = Comment } ∷ cut Within 0 (along (length (take_while no_feed bs)) spot) (drop_while no_feed bs))
+pub comment_cut : (spot : Spot) (bs : List ℕ) → opens_comment bs ≡ true → (zs : List ℕ) × (cut AtStart 0 spot bs ≡ record { spot = spot; bytes = zs; means = Comment } ∷ cut Within 0 (advance (length (take_while no_feed bs)) spot) (drop_while no_feed bs))
 unfolding cut
 comment_cut spot [] h = absurd cc
 comment_cut spot (b ∷ bs) h =
@@ -317,15 +317,15 @@ comment_cut spot (b ∷ bs) h =
     let n = length (take_while no_feed bs) in
     let long : n ≤ length bs = omega (arith, length-take_while no_feed bs, prefix_len-le-length no_feed bs) in
     let n-is : n ≡ prefix_len no_feed bs = length-take_while no_feed bs in
-    let step : spot_after b spot ≡ along 1 spot = rw (not_true (is_line_feed b) first) refl in
-    let there : spots_after (take n bs) (spot_after b spot) ≡ along (suc n) spot =
-    ap (λ k. spots_after (take k bs) (spot_after b spot)) n-is ∙ ap (spots_after (take_while no_feed bs)) step ∙ spots_along (take_while no_feed bs) (along 1 spot) (AllIn-take_while no_feed bs)
+    let step : spot_after b spot ≡ advance 1 spot = rw (not_true (is_line_feed b) first) refl in
+    let there : spots_after (take n bs) (spot_after b spot) ≡ advance (suc n) spot =
+    ap (λ k. spots_after (take k bs) (spot_after b spot)) n-is ∙ ap (spots_after (take_while no_feed bs)) step ∙ spots_advance (take_while no_feed bs) (advance 1 spot) (AllIn-take_while no_feed bs)
     ∙ ap (λ c. record { line = spot.line; column = c }) (omega arith) in
     let rest : drop n bs ≡ drop_while no_feed bs = ap (λ k. drop k bs) n-is ∙ drop-prefix_len no_feed bs in
-    (b ∷ take n bs, rw (h, take_while-cons_yes no_feed b bs first, first) (ap (λ us. record { spot = spot; bytes = b ∷ take n bs; means = Comment } ∷ us) (cut-skip Within n (spot_after b spot) bs long ∙ ap (λ p. cut Within 0 p (drop n bs)) there ∙ ap (cut Within 0 (along (suc n) spot)) rest)))
+    (b ∷ take n bs, rw (h, take_while-cons_yes no_feed b bs first, first) (ap (λ us. record { spot = spot; bytes = b ∷ take n bs; means = Comment } ∷ us) (cut-skip Within n (spot_after b spot) bs long ∙ ap (λ p. cut Within 0 p (drop n bs)) there ∙ ap (cut Within 0 (advance (suc n) spot)) rest)))
 
 -- passing a comment that ends the text
-pub over_last_comment : (spot there : Spot) (bs rest : List ℕ) → opens_comment bs ≡ true → there ≡ along (length (take_while no_feed bs)) spot → rest ≡ drop_while no_feed bs → rest ≡ [] → without_comments (lines_from spot bs) ≡ without_comments (lines_from there rest)
+pub over_last_comment : (spot there : Spot) (bs rest : List ℕ) → opens_comment bs ≡ true → there ≡ advance (length (take_while no_feed bs)) spot → rest ≡ drop_while no_feed bs → rest ≡ [] → without_comments (lines_from spot bs) ≡ without_comments (lines_from there rest)
 unfolding cut
 over_last_comment spot there bs rest h t r e =
     let c = comment_cut spot bs h in
@@ -333,7 +333,7 @@ over_last_comment spot there bs rest h t r e =
     ap (λ us. without_comments (lines_of us)) found ∙ rw (t, e) refl
   where
     cut_from : List ℕ → List ℕ → List TextUnit
-    cut_from zs ys = record { spot = spot; bytes = zs; means = Comment } ∷ cut Within 0 (along (length (take_while no_feed bs)) spot) ys
+    cut_from zs ys = record { spot = spot; bytes = zs; means = Comment } ∷ cut Within 0 (advance (length (take_while no_feed bs)) spot) ys
 
 feed_first : (bs : List ℕ) → NoneInRun no_feed bs → eqb (length bs) 0 ≡ false → bs ≡ 10 ∷ drop 1 bs
 feed_first [] h e = absurd cc
@@ -344,7 +344,7 @@ feed_first (b ∷ bs) h e = ap (λ x. x ∷ bs) (eqb-true b 10 (by_test (eqb b 1
     by_test false h = absurd cc
 
 -- passing a comment and its line end
-pub over_comment : (spot there : Spot) (bs rest : List ℕ) → opens_comment bs ≡ true → there ≡ along (length (take_while no_feed bs)) spot → rest ≡ drop_while no_feed bs → eqb (length rest) 0 ≡ false → without_comments (lines_from spot bs) ≡ without_comments (lines_from (on_next_line 0 there) (drop 1 rest))
+pub over_comment : (spot there : Spot) (bs rest : List ℕ) → opens_comment bs ≡ true → there ≡ advance (length (take_while no_feed bs)) spot → rest ≡ drop_while no_feed bs → eqb (length rest) 0 ≡ false → without_comments (lines_from spot bs) ≡ without_comments (lines_from (on_next_line 0 there) (drop 1 rest))
 unfolding cut
 over_comment spot there bs rest h t r e =
     let c = comment_cut spot bs h in
@@ -353,30 +353,30 @@ over_comment spot there bs rest h t r e =
     ap (λ us. without_comments (lines_of us)) found ∙ rw t refl
   where
     cut_from : List ℕ → List ℕ → List TextUnit
-    cut_from zs ys = record { spot = spot; bytes = zs; means = Comment } ∷ cut Within 0 (along (length (take_while no_feed bs)) spot) ys
+    cut_from zs ys = record { spot = spot; bytes = zs; means = Comment } ∷ cut Within 0 (advance (length (take_while no_feed bs)) spot) ys
 
 -- ---- leading spaces
 
-spaces_after : (spot : Spot) (xs ys : List ℕ) → AllIn is_space xs → cut AfterSpaces 0 spot (xs ++ ys) ≡ space_units spot xs ++ cut AfterSpaces 0 (along (length xs) spot) ys
+spaces_after : (spot : Spot) (xs ys : List ℕ) → AllIn is_space xs → cut AfterSpaces 0 spot (xs ++ ys) ≡ space_units spot xs ++ cut AfterSpaces 0 (advance (length xs) spot) ys
 unfolding cut
-spaces_after spot [] ys h = ap (λ p. cut AfterSpaces 0 p ys) (sym (along-zero spot))
+spaces_after spot [] ys h = ap (λ p. cut AfterSpaces 0 p ys) (sym (advance-zero spot))
 spaces_after spot (x ∷ xs) ys h =
     let is : x ≡ 32 = eqb-true x 32 h.0 in
-    let there : along (length xs) (along 1 spot) ≡ along (suc (length xs)) spot = along-along 1 (length xs) spot ∙ ap (λ n. along n spot) (one-add (length xs)) in
-    rw is (ap (λ us. record { spot = spot; bytes = 32 ∷ []; means = Ordinary 32 } ∷ us) (spaces_after (along 1 spot) xs ys h.1 ∙ ap (λ p. space_units (along 1 spot) xs ++ cut AfterSpaces 0 p ys) there))
+    let there : advance (length xs) (advance 1 spot) ≡ advance (suc (length xs)) spot = advance-advance 1 (length xs) spot ∙ ap (λ n. advance n spot) (one-add (length xs)) in
+    rw is (ap (λ us. record { spot = spot; bytes = 32 ∷ []; means = Ordinary 32 } ∷ us) (spaces_after (advance 1 spot) xs ys h.1 ∙ ap (λ p. space_units (advance 1 spot) xs ++ cut AfterSpaces 0 p ys) there))
 
-spaces_first : (spot : Spot) (x : ℕ) (xs ys : List ℕ) → AllIn is_space (x ∷ xs) → opens_comment ((x ∷ xs) ++ ys) ≡ false → cut AtStart 0 spot ((x ∷ xs) ++ ys) ≡ space_units spot (x ∷ xs) ++ cut AfterSpaces 0 (along (length (x ∷ xs)) spot) ys
+spaces_first : (spot : Spot) (x : ℕ) (xs ys : List ℕ) → AllIn is_space (x ∷ xs) → opens_comment ((x ∷ xs) ++ ys) ≡ false → cut AtStart 0 spot ((x ∷ xs) ++ ys) ≡ space_units spot (x ∷ xs) ++ cut AfterSpaces 0 (advance (length (x ∷ xs)) spot) ys
 unfolding cut
 spaces_first spot x xs ys h c =
     let is : x ≡ 32 = eqb-true x 32 h.0 in
     let no_comment : opens_comment (32 ∷ xs ++ ys) ≡ false = rw is at c in
-    let there : along (length xs) (along 1 spot) ≡ along (suc (length xs)) spot = along-along 1 (length xs) spot ∙ ap (λ n. along n spot) (one-add (length xs)) in
-    rw (is, no_comment) (ap (λ us. record { spot = spot; bytes = 32 ∷ []; means = Ordinary 32 } ∷ us) (spaces_after (along 1 spot) xs ys h.1 ∙ ap (λ p. space_units (along 1 spot) xs ++ cut AfterSpaces 0 p ys) there))
+    let there : advance (length xs) (advance 1 spot) ≡ advance (suc (length xs)) spot = advance-advance 1 (length xs) spot ∙ ap (λ n. advance n spot) (one-add (length xs)) in
+    rw (is, no_comment) (ap (λ us. record { spot = spot; bytes = 32 ∷ []; means = Ordinary 32 } ∷ us) (spaces_after (advance 1 spot) xs ys h.1 ∙ ap (λ p. space_units (advance 1 spot) xs ++ cut AfterSpaces 0 p ys) there))
 
 -- ---- the answers' facts
 
 -- after a run of spaces
-pub spaces_cut : (spot : Spot) (bytes xs ys : List ℕ) (there : Spot) → bytes ≡ xs ++ ys → xs ≡ take_while is_space bytes → there ≡ along (length xs) spot → opens_comment bytes ≡ false → eqb (length xs) 0 ≡ false
+pub spaces_cut : (spot : Spot) (bytes xs ys : List ℕ) (there : Spot) → bytes ≡ xs ++ ys → xs ≡ take_while is_space bytes → there ≡ advance (length xs) spot → opens_comment bytes ≡ false → eqb (length xs) 0 ≡ false
     → (b : ℕ) × (bs : List ℕ) × AreSpaces (b ∷ bs) × (cut AtStart 0 spot bytes ≡ space_units spot (b ∷ bs) ++ cut AfterSpaces 0 there ys)
 spaces_cut spot bytes [] ys there whole run t c e = absurd (true≢false e)
 spaces_cut spot bytes (x ∷ xs) ys there whole run t c e =
@@ -401,7 +401,7 @@ pub plain_ordinary : (b : ℕ) (bs : List ℕ) → begins_with b bs ≡ true →
 plain_ordinary b bs e s = rw (first_is_no_space b bs e s) refl
 
 -- how a line begins, of which the leading spaces were read
-pub begun_after_spaces : (spot : Spot) (bytes xs : List ℕ) (c : Cursor) (found : Begun) → bytes ≡ xs ++ c.rest.now → xs ≡ take_while is_space bytes → c.spot ≡ along (length xs) spot → opens_comment bytes ≡ false → eqb (length xs) 0 ≡ false
+pub begun_after_spaces : (spot : Spot) (bytes xs : List ℕ) (c : Cursor) (found : Begun) → bytes ≡ xs ++ c.rest.now → xs ≡ take_while is_space bytes → c.spot ≡ advance (length xs) spot → opens_comment bytes ≡ false → eqb (length xs) 0 ≡ false
     → BegunAfterSpaces c found → BegunIs (lines_from spot bytes) found
 begun_after_spaces spot bytes xs c found whole run there no_comment some h =
     let s = spaces_cut spot bytes xs c.rest.now c.spot whole run there no_comment some in
@@ -410,7 +410,7 @@ begun_after_spaces spot bytes xs c found whole run there no_comment some h =
 pub comment_opens : (bytes remainder rest : List ℕ) (b : ℕ) → remainder ≡ drop_while is_space bytes → remainder ≡ b ∷ rest → b ≡ 35 → opens_comment bytes ≡ true
 comment_opens bytes remainder rest b d e h = ap (begins_with 35) (sym d ∙ e) ∙ rw h refl
 
-pub over_comment_read : (spot there end : Spot) (bs rest after : List ℕ) → opens_comment bs ≡ true → there ≡ along (length (take_while no_feed bs)) spot → rest ≡ drop_while no_feed bs → eqb (length rest) 0 ≡ false → end ≡ on_next_line 0 there → after ≡ drop 1 rest
+pub over_comment_read : (spot there end : Spot) (bs rest after : List ℕ) → opens_comment bs ≡ true → there ≡ advance (length (take_while no_feed bs)) spot → rest ≡ drop_while no_feed bs → eqb (length rest) 0 ≡ false → end ≡ on_next_line 0 there → after ≡ drop 1 rest
     → without_comments (lines_from spot bs) ≡ without_comments (lines_from end after)
 over_comment_read spot there end bs rest after h t r e s a = over_comment spot there bs rest h t r e ∙ ap (λ p. without_comments (lines_from p (drop 1 rest))) (sym s) ∙ ap (λ xs. without_comments (lines_from end xs)) (sym a)
 
@@ -516,7 +516,7 @@ after_spaces_is_none spot (b ∷ bs) t = by_test (is_space b) refl (λ p. after_
   where
     by_test : (v : Bool) → is_space b ≡ v → ((p : Spot) → is_comment (first_kind (cut AfterSpaces 0 p bs) t) ≡ false) → is_comment (first_kind (cut AfterSpaces 0 spot (b ∷ bs)) t) ≡ false
     by_test true e rest =
-        rw (eqb-true b 32 e) (ap is_comment (first_is_space (record { spot = spot; bytes = 32 ∷ []; means = Ordinary 32 }) (cut AfterSpaces 0 (along 1 spot) bs) t (cut_has_line AfterSpaces 0 (along 1 spot) bs) refl refl) ∙ rest (along 1 spot))
+        rw (eqb-true b 32 e) (ap is_comment (first_is_space (record { spot = spot; bytes = 32 ∷ []; means = Ordinary 32 }) (cut AfterSpaces 0 (advance 1 spot) bs) t (cut_has_line AfterSpaces 0 (advance 1 spot) bs) refl refl) ∙ rest (advance 1 spot))
     by_test false e rest =
         first_is_none (record { spot = spot; bytes = b ∷ take (cond (eqb b 9) (LeadingTab, 0) (unit_at b bs)).1 bs; means = (cond (eqb b 9) (LeadingTab, 0) (unit_at b bs)).0 })
         (cut (position_after AfterSpaces (cond (eqb b 9) (LeadingTab, 0) (unit_at b bs)).0) (cond (eqb b 9) (LeadingTab, 0) (unit_at b bs)).1 (spot_after b spot) bs) t
@@ -558,7 +558,7 @@ start_is_none spot b bs t h = by_test (is_space b) refl
     by_test true e =
         let is : b ≡ 32 = eqb-true b 32 e in
         let none : opens_comment (32 ∷ bs) ≡ false = rw is at h in
-        rw (is, none) (ap is_comment (first_is_space (record { spot = spot; bytes = 32 ∷ []; means = Ordinary 32 }) (cut AfterSpaces 0 (along 1 spot) bs) t (cut_has_line AfterSpaces 0 (along 1 spot) bs) refl refl) ∙ after_spaces_is_none (along 1 spot) bs t)
+        rw (is, none) (ap is_comment (first_is_space (record { spot = spot; bytes = 32 ∷ []; means = Ordinary 32 }) (cut AfterSpaces 0 (advance 1 spot) bs) t (cut_has_line AfterSpaces 0 (advance 1 spot) bs) refl refl) ∙ after_spaces_is_none (advance 1 spot) bs t)
     by_test false e =
         let found : Found = cond (eqb b 9) (LeadingTab, 0) (opening (unit_at b bs).0, (unit_at b bs).1) in
         rw h (first_is_none (record { spot = spot; bytes = b ∷ take found.1 bs; means = found.0 }) (cut (position_after AtStart found.0) found.1 (spot_after b spot) bs) t
@@ -577,5 +577,5 @@ is_no_comment spot (b ∷ bs) h =
 pub nil_if_empty : (bs : List ℕ) → eqb (length bs) 0 ≡ true → bs ≡ []
 nil_if_empty bs h = nil_from_length bs (eqb-true (length bs) 0 h)
 
-pub comment_spot : (spot there : Spot) (bs xs : List ℕ) → there ≡ along (length xs) spot → xs ≡ take_while no_feed bs → there ≡ along (length (take_while no_feed bs)) spot
-comment_spot spot there bs xs t e = t ∙ ap (λ ys. along (length ys) spot) e
+pub comment_spot : (spot there : Spot) (bs xs : List ℕ) → there ≡ advance (length xs) spot → xs ≡ take_while no_feed bs → there ≡ advance (length (take_while no_feed bs)) spot
+comment_spot spot there bs xs t e = t ∙ ap (λ ys. advance (length ys) spot) e

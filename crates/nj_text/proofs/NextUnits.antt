@@ -6,35 +6,35 @@ use Rattle.nj_text.specs.declared.spot.Spot.{Spot}
 use Rattle.nj_text.specs.Bytes.{is_ordinary_byte, begins_with}
 use Rattle.nj_text.specs.Units.{Meaning, Ordinary, Escape, Reference, Join, LineEnd, BadByte, BadEscape, Found, AtStart, Within, position_after, spot_after, after_dollar, Dollar, LineFeed, CarriageReturn, Nul, Plain, unit_by, unit_at, cut}
 use Rattle.nj_text.specs.Inside.Scans.{spots_after}
-use Rattle.nj_text.specs.Inside.Scans.{along, on_next_line, line_end_length, units_within, Begins, BeginsBadly}
+use Rattle.nj_text.specs.Inside.Scans.{advance, on_next_line, line_end_length, units_within, Begins, BeginsBadly}
 use Rattle.nj_text.proofs.Cuts.{cut-skip, cut-ordinary}
 
 pub cut-dollar : (spot : Spot) (bs : List ℕ) (m : Meaning) (n : ℕ) → ◌≡◌ {A = Found} (m, n) (after_dollar bs) → n ≤ length bs
-    → cut Within 0 spot (36 ∷ bs) ≡ record { spot = spot; bytes = 36 ∷ take n bs; means = m } ∷ cut (position_after Within m) 0 (spots_after (take n bs) (along 1 spot)) (drop n bs)
+    → cut Within 0 spot (36 ∷ bs) ≡ record { spot = spot; bytes = 36 ∷ take n bs; means = m } ∷ cut (position_after Within m) 0 (spots_after (take n bs) (advance 1 spot)) (drop n bs)
 unfolding cut
-cut-dollar spot bs m n e h = rw (← e) (ap (λ us. record { spot = spot; bytes = 36 ∷ take n bs; means = m } ∷ us) (cut-skip (position_after Within m) n (along 1 spot) bs h))
+cut-dollar spot bs m n e h = rw (← e) (ap (λ us. record { spot = spot; bytes = 36 ∷ take n bs; means = m } ∷ us) (cut-skip (position_after Within m) n (advance 1 spot) bs h))
 
 pub join_unit : (end spaces : ℕ) (bs : List ℕ) → ◌≡◌ {A = Found} (Join, end + spaces) (after_dollar bs) → ((spot : Spot) → spots_after (take (end + spaces) bs) spot ≡ on_next_line spaces spot) → end + spaces ≤ length bs
     → (spot : Spot) → Begins spot (36 ∷ bs) Join (1 + end + spaces) (units_within (on_next_line spaces spot) (drop (1 + end + spaces) (36 ∷ bs)))
 join_unit end spaces bs e lands h spot =
     let n : 1 + end + spaces ≡ suc (end + spaces) = omega arith in
-    rw n (cut-dollar spot bs Join (end + spaces) e h ∙ ap (λ p. record { spot = spot; bytes = 36 ∷ take (end + spaces) bs; means = Join } ∷ cut Within 0 p (drop (end + spaces) bs)) (lands (along 1 spot)))
+    rw n (cut-dollar spot bs Join (end + spaces) e h ∙ ap (λ p. record { spot = spot; bytes = 36 ∷ take (end + spaces) bs; means = Join } ∷ cut Within 0 p (drop (end + spaces) bs)) (lands (advance 1 spot)))
 
-along-two : (n : ℕ) (spot : Spot) → along n (along 1 spot) ≡ along (suc n) spot
-along-two n spot = ap (λ c. record { line = spot.line; column = c }) (omega arith)
+advance-two : (n : ℕ) (spot : Spot) → advance n (advance 1 spot) ≡ advance (suc n) spot
+advance-two n spot = ap (λ c. record { line = spot.line; column = c }) (omega arith)
 
-pub reference_unit : (name : List ℕ) (n : ℕ) (bs : List ℕ) → ◌≡◌ {A = Found} (Reference name, n) (after_dollar bs) → ((spot : Spot) → spots_after (take n bs) spot ≡ along n spot) → n ≤ length bs
-    → (spot : Spot) → Begins spot (36 ∷ bs) (Reference name) (1 + n) (units_within (along (1 + n) spot) (drop (1 + n) (36 ∷ bs)))
+pub reference_unit : (name : List ℕ) (n : ℕ) (bs : List ℕ) → ◌≡◌ {A = Found} (Reference name, n) (after_dollar bs) → ((spot : Spot) → spots_after (take n bs) spot ≡ advance n spot) → n ≤ length bs
+    → (spot : Spot) → Begins spot (36 ∷ bs) (Reference name) (1 + n) (units_within (advance (1 + n) spot) (drop (1 + n) (36 ∷ bs)))
 reference_unit name n bs e lands h spot =
-    rw (one-add n) (cut-dollar spot bs (Reference name) n e h ∙ ap (λ p. record { spot = spot; bytes = 36 ∷ take n bs; means = Reference name } ∷ cut Within 0 p (drop n bs)) (lands (along 1 spot) ∙ along-two n spot))
+    rw (one-add n) (cut-dollar spot bs (Reference name) n e h ∙ ap (λ p. record { spot = spot; bytes = 36 ∷ take n bs; means = Reference name } ∷ cut Within 0 p (drop n bs)) (lands (advance 1 spot) ∙ advance-two n spot))
 
-pub escape_unit : (b : ℕ) (bs : List ℕ) → ◌≡◌ {A = Found} (Escape b, 1) (after_dollar bs) → ((spot : Spot) → spots_after (take 1 bs) spot ≡ along 1 spot) → 1 ≤ length bs
-    → (spot : Spot) → Begins spot (36 ∷ bs) (Escape b) 2 (units_within (along 2 spot) (drop 2 (36 ∷ bs)))
+pub escape_unit : (b : ℕ) (bs : List ℕ) → ◌≡◌ {A = Found} (Escape b, 1) (after_dollar bs) → ((spot : Spot) → spots_after (take 1 bs) spot ≡ advance 1 spot) → 1 ≤ length bs
+    → (spot : Spot) → Begins spot (36 ∷ bs) (Escape b) 2 (units_within (advance 2 spot) (drop 2 (36 ∷ bs)))
 escape_unit b bs e lands h spot =
-    cut-dollar spot bs (Escape b) 1 e h ∙ ap (λ p. record { spot = spot; bytes = 36 ∷ take 1 bs; means = Escape b } ∷ cut Within 0 p (drop 1 bs)) (lands (along 1 spot) ∙ along-two 1 spot)
+    cut-dollar spot bs (Escape b) 1 e h ∙ ap (λ p. record { spot = spot; bytes = 36 ∷ take 1 bs; means = Escape b } ∷ cut Within 0 p (drop 1 bs)) (lands (advance 1 spot) ∙ advance-two 1 spot)
 
 pub bad_escape_unit : (bs : List ℕ) → ◌≡◌ {A = Found} (BadEscape, 0) (after_dollar bs) → (spot : Spot) → BeginsBadly spot (36 ∷ bs) BadEscape
-bad_escape_unit bs e spot = (1, cut Within 0 (along 1 spot) bs, cut-dollar spot bs BadEscape 0 e (omega arith))
+bad_escape_unit bs e spot = (1, cut Within 0 (advance 1 spot) bs, cut-dollar spot bs BadEscape 0 e (omega arith))
 
 feed_unit : (bs : List ℕ) (spot : Spot) → Begins spot (10 ∷ bs) LineEnd 1 (cut AtStart 0 (on_next_line 0 spot) (drop 1 (10 ∷ bs)))
 unfolding cut
@@ -93,7 +93,7 @@ bad_byte_unit b bs o d l = bad_byte b bs (by_tests (eqb b 36) (eqb b 10) (eqb b 
     by_tests false false false true g e o h l = refl
     by_tests false false false false g e o h l = absurd cc
 
-pub ordinary_unit : (b : ℕ) (bs : List ℕ) → is_ordinary_byte b ≡ true → (spot : Spot) → Begins spot (b ∷ bs) (Ordinary b) 1 (units_within (along 1 spot) (drop 1 (b ∷ bs)))
+pub ordinary_unit : (b : ℕ) (bs : List ℕ) → is_ordinary_byte b ≡ true → (spot : Spot) → Begins spot (b ∷ bs) (Ordinary b) 1 (units_within (advance 1 spot) (drop 1 (b ∷ bs)))
 ordinary_unit b bs h spot = cut-ordinary spot b bs h
 
 pub eqb_self : (b : ℕ) → eqb b b ≡ true

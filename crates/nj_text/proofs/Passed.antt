@@ -5,7 +5,7 @@ use Rattle.std.proofs.lemmas.Bool.{eqb-true}
 use Rattle.nj_text.specs.declared.spot.Spot.{Spot}
 use Rattle.nj_text.specs.Bytes.{is_space, is_ordinary_byte, begins_with, drop_while}
 use Rattle.nj_text.specs.Units.{Meaning, Join, TextUnit, cut}
-use Rattle.nj_text.specs.Inside.Scans.{along, units_within, Begins, BeginsBadly, begins_with_space_byte}
+use Rattle.nj_text.specs.Inside.Scans.{advance, units_within, Begins, BeginsBadly, begins_with_space_byte}
 use Rattle.nj_text.specs.Words.{is_blank, is_blank_meaning}
 use Rattle.nj_text.proofs.Lists.{AllIn, AllIn-weaker, AllIn-take_while, drop_while-append}
 use Rattle.nj_text.proofs.Cuts.{plain_units, cut-run}
@@ -34,14 +34,14 @@ space_is_ordinary b h = rw (eqb-true b 32 h) refl
 
 spaces_are_blanks : (spot : Spot) (xs : List ℕ) → AllIn is_space xs → AllIn is_blank (plain_units spot xs)
 spaces_are_blanks spot [] h = tt
-spaces_are_blanks spot (x ∷ xs) h = (h.0, spaces_are_blanks (along 1 spot) xs h.1)
+spaces_are_blanks spot (x ∷ xs) h = (h.0, spaces_are_blanks (advance 1 spot) xs h.1)
 
 -- and so are spaces
-pub blanks_over_spaces : (spot : Spot) (bytes xs ys : List ℕ) → bytes ≡ xs ++ ys → AllIn is_space xs → drop_while is_blank (units_within spot bytes) ≡ drop_while is_blank (units_within (along (length xs) spot) ys)
+pub blanks_over_spaces : (spot : Spot) (bytes xs ys : List ℕ) → bytes ≡ xs ++ ys → AllIn is_space xs → drop_while is_blank (units_within spot bytes) ≡ drop_while is_blank (units_within (advance (length xs) spot) ys)
 blanks_over_spaces spot bytes xs ys e h =
     ap (λ bs. drop_while is_blank (units_within spot bs)) e
     ∙ ap (drop_while is_blank) (cut-run spot xs ys (AllIn-weaker is_space is_ordinary_byte xs space_is_ordinary h))
-    ∙ drop_while-append is_blank (plain_units spot xs) (units_within (along (length xs) spot) ys) (spaces_are_blanks spot xs h)
+    ∙ drop_while-append is_blank (plain_units spot xs) (units_within (advance (length xs) spot) ys) (spaces_are_blanks spot xs h)
 
 pub no_space_after : (bytes : List ℕ) → begins_with_space_byte (drop_while is_space bytes) ≡ false
 no_space_after [] = refl
@@ -51,7 +51,7 @@ no_space_after (b ∷ bs) = by_test (is_space b) refl (no_space_after bs)
     by_test true e h = h
     by_test false e h = e
 
-pub blanks_over_run : (spot : Spot) (bytes xs ys : List ℕ) (there : Spot) → bytes ≡ xs ++ ys → xs ≡ take_while is_space bytes → there ≡ along (length xs) spot
+pub blanks_over_run : (spot : Spot) (bytes xs ys : List ℕ) (there : Spot) → bytes ≡ xs ++ ys → xs ≡ take_while is_space bytes → there ≡ advance (length xs) spot
     → drop_while is_blank (units_within spot bytes) ≡ drop_while is_blank (units_within there ys)
 blanks_over_run spot bytes xs ys there whole run e =
     blanks_over_spaces spot bytes xs ys whole (rw run (AllIn-take_while is_space bytes)) ∙ ap (λ p. drop_while is_blank (units_within p ys)) (sym e)

@@ -10,10 +10,10 @@ use Rattle.nj_text.specs.Bytes.{is_ordinary_byte, begins_with}
 use Rattle.nj_text.specs.Units.{Ordinary, TextUnit, Within, unit_at, is_ordinary_in, cut}
 use Rattle.nj_text.specs.Lines.{Line, ending_of, lines_of, lines_before, before_first_line, with_units, lines_after}
 use Rattle.nj_text.specs.Words.{begins_with_byte, next_fault}
-use Rattle.nj_text.specs.Inside.Scans.{along, units_within, has_sign, sign_size, sign_length}
+use Rattle.nj_text.specs.Inside.Scans.{advance, units_within, has_sign, sign_size, sign_length}
 use Rattle.nj_text.specs.Calls.{State, Between, Inside, Reply, reply, failing, is_empty, is_sign, state_after_sign, sign_at}
 use Rattle.nj_text.specs.Inside.States.{first_line, other_lines, inside, lines_within, ends_next}
-use Rattle.nj_text.proofs.Cuts.{unit-ordinary, cut-ordinary, along-along}
+use Rattle.nj_text.proofs.Cuts.{unit-ordinary, cut-ordinary, advance-advance}
 use Rattle.nj_text.proofs.Gathered.{not_ordinary}
 use Rattle.nj_text.proofs.LineStarts.{cut_has_line, fails_if_no_byte}
 use Rattle.nj_text.proofs.Bridges.{begins_with_byte_of_line, line_after}
@@ -73,8 +73,8 @@ plain_unit spot b = record { spot = spot; bytes = b ∷ []; means = Ordinary b }
 
 -- the line after an ordinary byte
 line_after_byte : (spot : Spot) (x : ℕ) (xs : List ℕ) → is_ordinary_byte x ≡ true
-    → inside (lines_within spot (x ∷ xs)) ≡ Inside (with_units (plain_unit spot x ∷ (line (along 1 spot) xs).units) (line (along 1 spot) xs)) (others (along 1 spot) xs)
-line_after_byte spot x xs o = ap (λ us. inside (lines_of us)) (cut-ordinary spot x xs o) ∙ by_line (lines_within (along 1 spot) xs) (cut_has_line Within 0 (along 1 spot) xs)
+    → inside (lines_within spot (x ∷ xs)) ≡ Inside (with_units (plain_unit spot x ∷ (line (advance 1 spot) xs).units) (line (advance 1 spot) xs)) (others (advance 1 spot) xs)
+line_after_byte spot x xs o = ap (λ us. inside (lines_of us)) (cut-ordinary spot x xs o) ∙ by_line (lines_within (advance 1 spot) xs) (cut_has_line Within 0 (advance 1 spot) xs)
   where
     by_line : (ls : List Line) → ((l : Line) × (more : List Line) × (ls ≡ l ∷ more)) → inside (before_first_line (plain_unit spot x) ls) ≡ Inside (with_units (plain_unit spot x ∷ (first_line ls).units) (first_line ls)) (other_lines ls)
     by_line ls h = rw h.2 refl
@@ -88,18 +88,18 @@ lines_in (Inside l ls) = ls
 lines_in other = []
 
 -- after one ordinary byte, and after two
-after_one : (spot : Spot) (x : ℕ) (xs : List ℕ) → is_ordinary_byte x ≡ true → Inside (with_units (drop 1 (line spot (x ∷ xs)).units) (line spot (x ∷ xs))) (others spot (x ∷ xs)) ≡ inside (lines_within (along 1 spot) xs)
+after_one : (spot : Spot) (x : ℕ) (xs : List ℕ) → is_ordinary_byte x ≡ true → Inside (with_units (drop 1 (line spot (x ∷ xs)).units) (line spot (x ∷ xs))) (others spot (x ∷ xs)) ≡ inside (lines_within (advance 1 spot) xs)
 after_one spot x xs o = ap (λ s. Inside (with_units (drop 1 (line_in s).units) (line_in s)) (lines_in s)) (line_after_byte spot x xs o)
 
 after_two : (spot : Spot) (x y : ℕ) (ys : List ℕ) → is_ordinary_byte x ≡ true → is_ordinary_byte y ≡ true
-    → Inside (with_units (drop 2 (line spot (x ∷ y ∷ ys)).units) (line spot (x ∷ y ∷ ys))) (others spot (x ∷ y ∷ ys)) ≡ inside (lines_within (along 2 spot) ys)
+    → Inside (with_units (drop 2 (line spot (x ∷ y ∷ ys)).units) (line spot (x ∷ y ∷ ys))) (others spot (x ∷ y ∷ ys)) ≡ inside (lines_within (advance 2 spot) ys)
 after_two spot x y ys o p =
     ap (λ s. Inside (with_units (drop 2 (line_in s).units) (line_in s)) (lines_in s)) (line_after_byte spot x (y ∷ ys) o)
-    ∙ after_one (along 1 spot) y ys p ∙ ap (λ q. inside (lines_within q ys)) (along-along 1 1 spot)
+    ∙ after_one (advance 1 spot) y ys p ∙ ap (λ q. inside (lines_within q ys)) (advance-advance 1 1 spot)
 
 -- the second byte, after an ordinary one
 second_byte : (b : ℕ) → is_ordinary_byte b ≡ true → (spot : Spot) (x : ℕ) (xs : List ℕ) → is_ordinary_byte x ≡ true → begins_with_byte b (drop 1 (line spot (x ∷ xs)).units) ≡ begins_with b xs
-second_byte b o spot x xs p = ap (λ s. begins_with_byte b (drop 1 (line_in s).units)) (line_after_byte spot x xs p) ∙ byte_of_line b o (along 1 spot) xs
+second_byte b o spot x xs p = ap (λ s. begins_with_byte b (drop 1 (line_in s).units)) (line_after_byte spot x xs p) ∙ byte_of_line b o (advance 1 spot) xs
 
 -- ---- signs of one byte and of two
 
@@ -155,12 +155,12 @@ first_true s t h = (both_true s t h).0
 
 -- one byte of a sign
 one_taken : (b : ℕ) → is_ordinary_byte b ≡ true → (spot : Spot) (bytes : List ℕ) → begins_with b bytes ≡ true
-    → Inside (with_units (drop 1 (line spot bytes).units) (line spot bytes)) (others spot bytes) ≡ inside (lines_within (along 1 spot) (drop 1 bytes))
+    → Inside (with_units (drop 1 (line spot bytes).units) (line spot bytes)) (others spot bytes) ≡ inside (lines_within (advance 1 spot) (drop 1 bytes))
 one_taken b o spot [] e = absurd cc
 one_taken b o spot (x ∷ xs) e = after_one spot x xs (ap is_ordinary_byte (eqb-true x b e) ∙ o)
 
 two_taken : (b c : ℕ) → is_ordinary_byte b ≡ true → is_ordinary_byte c ≡ true → (spot : Spot) (bytes : List ℕ) → (begins_with b bytes && begins_with c (drop 1 bytes)) ≡ true
-    → Inside (with_units (drop 2 (line spot bytes).units) (line spot bytes)) (others spot bytes) ≡ inside (lines_within (along 2 spot) (drop 2 bytes))
+    → Inside (with_units (drop 2 (line spot bytes).units) (line spot bytes)) (others spot bytes) ≡ inside (lines_within (advance 2 spot) (drop 2 bytes))
 two_taken b c o p spot [] e = absurd cc
 two_taken b c o p spot (x ∷ []) e = absurd (no_second (eqb x b) e)
   where
@@ -171,7 +171,7 @@ two_taken b c o p spot (x ∷ y ∷ ys) e =
     let both = both_true (eqb x b) (eqb y c) e in
     after_two spot x y ys (ap is_ordinary_byte (eqb-true x b both.0) ∙ o) (ap is_ordinary_byte (eqb-true y c both.1) ∙ p)
 
-taken_by : (want : Sign) (spot : Spot) (bytes : List ℕ) → has_sign want bytes ≡ true → state_after_sign want (line spot bytes) (others spot bytes) ≡ inside (lines_within (along (sign_size want) spot) (drop (sign_size want) bytes))
+taken_by : (want : Sign) (spot : Spot) (bytes : List ℕ) → has_sign want bytes ≡ true → state_after_sign want (line spot bytes) (others spot bytes) ≡ inside (lines_within (advance (sign_size want) spot) (drop (sign_size want) bytes))
 taken_by sign.Colon spot bytes e = one_taken 58 refl spot bytes e
 taken_by sign.Equals spot bytes e = one_taken 61 refl spot bytes e
 taken_by sign.Pipe spot bytes e = one_taken 124 refl spot bytes (first_true (begins_with 124 bytes) _ (first_true (begins_with 124 bytes && not (begins_with 124 (drop 1 bytes))) _ e))
@@ -180,12 +180,12 @@ taken_by sign.PipeAt spot bytes e = two_taken 124 64 refl refl spot bytes e
 taken_by sign.LineEnd spot bytes e = absurd cc
 
 pub sign_taken : (want : Sign) (spot : Spot) (bytes : List ℕ) (n : ℕ) (there : Spot) (rest : List ℕ) → (want ≡ sign.LineEnd → ⊥) → None ≡ next_fault (units_within spot bytes) → n ≡ sign_length want bytes → (n ≡ 0 → ⊥)
-    → there ≡ along n spot → rest ≡ drop n bytes → sign_at want (line spot bytes) (others spot bytes) ≡ reply true (inside (lines_within there rest))
+    → there ≡ advance n spot → rest ≡ drop n bytes → sign_at want (line spot bytes) (others spot bytes) ≡ reply true (inside (lines_within there rest))
 sign_taken want spot bytes n there rest w f l z t r =
     let has : has_sign want bytes ≡ true = by_test (has_sign want bytes) refl l in
     let size : n ≡ sign_size want = l ∙ ap (λ b. cond b (sign_size want) 0) has in
     sign_by want spot bytes true f (same_sign want spot bytes w ∙ has)
-    ∙ ap (λ s. reply true s) (taken_by want spot bytes has ∙ ap (λ k. inside (lines_within (along k spot) (drop k bytes))) (sym size) ∙ ap (λ p. inside (lines_within p (drop n bytes))) (sym t) ∙ ap (λ xs. inside (lines_within there xs)) (sym r))
+    ∙ ap (λ s. reply true s) (taken_by want spot bytes has ∙ ap (λ k. inside (lines_within (advance k spot) (drop k bytes))) (sym size) ∙ ap (λ p. inside (lines_within p (drop n bytes))) (sym t) ∙ ap (λ xs. inside (lines_within there xs)) (sym r))
   where
     by_test : (b : Bool) → has_sign want bytes ≡ b → n ≡ cond b (sign_size want) 0 → b ≡ true
     by_test true e k = refl

@@ -15,7 +15,7 @@ use Rattle.nj_text.specs.Words.{is_blank, WordText, word_text, part_text, is_ope
 use Rattle.nj_text.specs.Calls.{State, Between, Inside, Reply, reply, after_blanks, value_at, value_of, sign_of, first_line_spot, AnswersOrLacksMemory, no_word, skip_blanks_of, is_inside}
 use Rattle.nj_text.specs.Bytes.{drop_while}
 use Rattle.nj_text.specs.Inside.Scans.{units_within}
-use Rattle.nj_text.specs.Inside.States.{first_line, other_lines, inside, lines_from, lines_within, StepsOrLacksMemory, FailsStep, Settles, SettlesFault}
+use Rattle.nj_text.specs.Inside.States.{first_line, other_lines, inside, lines_from, lines_within, StepsOrLacksMemory, FailsStep, FinishesValue, FinishesAtFault}
 use Rattle.nj_text.proofs.LineStarts.{cut_has_line, IsUnsaid, unit_is_unsaid}
 use Rattle.nj_text.proofs.Bridges.{spot_of_line, of_first, first_of_line, passed_by, blanks_end}
 use Rattle.nj_text.proofs.Steps.{line, others}
@@ -100,16 +100,16 @@ value_inside spot bytes = ap (λ us. value_at (after_blanks (with_units us (line
 
 -- ---- a value that was read
 
-settled_fault : (old new : State) (expected : Reply WordText) (f : WordFault) (result : Result Word LexFault) → is_inside old ≡ true → FailsStep expected f → SettlesFault f old new result → AnswersOrLacksMemory word_text result old new expected
-settled_fault old new expected (word_fault.Unit f) (Ok w) i e h = absurd h.0
-settled_fault old new expected (word_fault.Unit f) (Err g) i e h = rw (h.0, e) (refl, h.1)
-settled_fault old new expected word_fault.OutOfMemory (Ok w) i e h = absurd h.0
-settled_fault old new expected word_fault.OutOfMemory (Err g) i e h = rw h.0 (i, h.1)
+finished_at_fault : (old new : State) (expected : Reply WordText) (f : WordFault) (result : Result Word LexFault) → is_inside old ≡ true → FailsStep expected f → FinishesAtFault f old new result → AnswersOrLacksMemory word_text result old new expected
+finished_at_fault old new expected (word_fault.Unit f) (Ok w) i e h = absurd h.0
+finished_at_fault old new expected (word_fault.Unit f) (Err g) i e h = rw (h.0, e) (refl, h.1)
+finished_at_fault old new expected word_fault.OutOfMemory (Ok w) i e h = absurd h.0
+finished_at_fault old new expected word_fault.OutOfMemory (Err g) i e h = rw h.0 (i, h.1)
 
-pub settled : (old new : State) (expected : Reply WordText) (step : Result (Word × Cursor) WordFault) (result : Result Word LexFault) → is_inside old ≡ true → value_of old ≡ expected → StepsOrLacksMemory word_text expected step → Settles step old new result
+pub finished_value : (old new : State) (expected : Reply WordText) (step : Result (Word × Cursor) WordFault) (result : Result Word LexFault) → is_inside old ≡ true → value_of old ≡ expected → StepsOrLacksMemory word_text expected step → FinishesValue step old new result
     → AnswersOrLacksMemory word_text result old new (value_of old)
-settled old new expected (Ok step) result i v e h = rw (h.0, v, e) (refl, h.1)
-settled old new expected (Err f) result i v e h = rw v (settled_fault old new expected f result i e h)
+finished_value old new expected (Ok step) result i v e h = rw (h.0, v, e) (refl, h.1)
+finished_value old new expected (Err f) result i v e h = rw v (finished_at_fault old new expected f result i e h)
 
 pub value_between : (spot : Spot) (bytes : List ℕ) (parts : List Part) → parts ≡ [] → value_of (Between (lines_from spot bytes)) ≡ reply (record { spot = spot; parts = map part_text parts }) (Between (lines_from spot bytes))
 value_between spot bytes parts e = ap (λ p. reply (no_word p) (Between (lines_from spot bytes))) (spot_between spot bytes) ∙ ap (λ ps. reply (record { spot = spot; parts = map part_text ps }) (Between (lines_from spot bytes))) (sym e)

@@ -11,7 +11,7 @@ use Rattle.nj_text.specs.declared.parts.TextKind.TheVariants as kind
 use Rattle.nj_text.specs.Bytes.{is_ordinary_byte, is_identifier_byte, drop_while}
 use Rattle.nj_text.specs.Units.{Meaning, Within, unit_at, position_after, spot_after, is_ordinary_in, cut}
 use Rattle.nj_text.specs.Lines.{Line, lines_of, with_units, line_spot}
-use Rattle.nj_text.specs.Inside.Scans.{along, units_within, BeginsBadly}
+use Rattle.nj_text.specs.Inside.Scans.{advance, units_within, BeginsBadly}
 use Rattle.nj_text.specs.Words.{is_blank, in_identifier, in_word, opens_word_meaning, next_fault, parts_of, PartText, WordText}
 use Rattle.nj_text.specs.Calls.{State, Inside, Reply, reply, failing, unless_fault, after_blanks, bytes_of, some_bytes, ident_at, begins_word, word_here, word_at, value_at}
 use Rattle.nj_text.specs.Inside.Gathering.{gathered, after_text, FailsText}
@@ -73,11 +73,11 @@ identifier_is_ordinary b h = by_tests (eqb b 36) (eqb b 10) (eqb b 13) (eqb b 0)
 
 units_are_identifier : (spot : Spot) (xs : List ℕ) → AllIn is_identifier_byte xs → AllIn in_identifier (plain_units spot xs)
 units_are_identifier spot [] h = tt
-units_are_identifier spot (x ∷ xs) h = (h.0, units_are_identifier (along 1 spot) xs h.1)
+units_are_identifier spot (x ∷ xs) h = (h.0, units_are_identifier (advance 1 spot) xs h.1)
 
 bytes_of_plain : (spot : Spot) (xs : List ℕ) → bytes_of (plain_units spot xs) ≡ xs
 bytes_of_plain spot [] = refl
-bytes_of_plain spot (x ∷ xs) = ap (λ ys. x ∷ ys) (bytes_of_plain (along 1 spot) xs)
+bytes_of_plain spot (x ∷ xs) = ap (λ ys. x ∷ ys) (bytes_of_plain (advance 1 spot) xs)
 
 -- after an identifier stands no unit of one
 identifier_stops : (spot : Spot) (ys : List ℕ) → NoneInRun is_identifier_byte ys → (take_while in_identifier (units_within spot ys) ≡ []) × (drop_while in_identifier (units_within spot ys) ≡ units_within spot ys)
@@ -95,18 +95,18 @@ identifier_stops spot (b ∷ bs) h =
 
 -- the identifier that the units begin with
 identifier_units : (spot : Spot) (bytes xs ys : List ℕ) → bytes ≡ xs ++ ys → AllIn is_identifier_byte xs → NoneInRun is_identifier_byte ys
-    → (take_while in_identifier (units_within spot bytes) ≡ plain_units spot xs) × (drop_while in_identifier (units_within spot bytes) ≡ units_within (along (length xs) spot) ys)
+    → (take_while in_identifier (units_within spot bytes) ≡ plain_units spot xs) × (drop_while in_identifier (units_within spot bytes) ≡ units_within (advance (length xs) spot) ys)
 identifier_units spot bytes xs ys e h n =
-    let there = units_within (along (length xs) spot) ys in
+    let there = units_within (advance (length xs) spot) ys in
     let front = plain_units spot xs in
     let all = units_are_identifier spot xs h in
-    let stops = identifier_stops (along (length xs) spot) ys n in
+    let stops = identifier_stops (advance (length xs) spot) ys n in
     let cut_is : units_within spot bytes ≡ front ++ there = ap (units_within spot) e ∙ cut-run spot xs ys (AllIn-weaker is_identifier_byte is_ordinary_byte xs identifier_is_ordinary h) in (
       ap (take_while in_identifier) cut_is ∙ take_while-append in_identifier front there all ∙ ap (λ us. front ++ us) stops.0 ∙ append-nil front,
       ap (drop_while in_identifier) cut_is ∙ drop_while-append in_identifier front there all ∙ stops.1,
     )
 
-pub identifier_here : (spot there : Spot) (bytes xs ys : List ℕ) → bytes ≡ xs ++ ys → xs ≡ take_while is_identifier_byte bytes → ys ≡ drop_while is_identifier_byte bytes → there ≡ along (length xs) spot → None ≡ next_fault (units_within spot bytes)
+pub identifier_here : (spot there : Spot) (bytes xs ys : List ℕ) → bytes ≡ xs ++ ys → xs ≡ take_while is_identifier_byte bytes → ys ≡ drop_while is_identifier_byte bytes → there ≡ advance (length xs) spot → None ≡ next_fault (units_within spot bytes)
     → ident_at (line spot bytes) (others spot bytes) ≡ reply (some_bytes xs) (inside (lines_within there ys))
 identifier_here spot there bytes xs ys whole run remainder t f =
     let us = units_within spot bytes in

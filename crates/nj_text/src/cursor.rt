@@ -20,7 +20,7 @@ impl<'a> Cursor<'a> {
     ghost use Rattle.nj_text.specs.Bytes.{drop_while};
     ghost use Rattle.nj_text.specs.Inside.Runs.{in_run};
     ghost use Rattle.nj_text.specs.Units.{first_spot};
-    ghost use Rattle.nj_text.specs.Inside.Scans.{along, on_next_line};
+    ghost use Rattle.nj_text.specs.Inside.Scans.{advance, on_next_line};
 
     /// Before the first byte of a text.
     pub fn at_front(text: &'a [u8]) -> Cursor<'a>
@@ -34,10 +34,10 @@ impl<'a> Cursor<'a> {
     }
 
     /// The cursor after `count` bytes, none of which is a line feed.
-    pub fn along(self, count: usize) -> Cursor<'a>
+    pub fn advance(self, count: usize) -> Cursor<'a>
         requires { count ≤ length self.rest.now }
         ensures rest { result.rest.now ≡ drop count self.entry.rest.now }
-        ensures spot { result.spot ≡ along count self.entry.spot }
+        ensures spot { result.spot ≡ advance count self.entry.spot }
     {
         Cursor {
             rest: &self.rest[count..],
@@ -70,7 +70,7 @@ impl<'a> Cursor<'a> {
         ensures run { result.0.now ≡ take_while (in_run run) self.entry.rest.now }
         ensures after { result.1.rest.now ≡ drop_while (in_run run) self.entry.rest.now }
         ensures whole { self.entry.rest.now ≡ result.0.now ++ result.1.rest.now }
-        ensures spot { result.1.spot ≡ along (length result.0.now) self.entry.spot }
+        ensures spot { result.1.spot ≡ advance (length result.0.now) self.entry.spot }
     {
         let (text, remainder) = split_run(run, self.rest);
         let after = Cursor {

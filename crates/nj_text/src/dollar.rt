@@ -33,7 +33,7 @@ pub fn line_end_length(bytes: &[u8]) -> usize
     }
 }
 
-fn braced(bytes: &[u8]) -> Dollar<'_>
+fn in_braces(bytes: &[u8]) -> Dollar<'_>
     ensures found { dollar_found result ≡ in_braces bytes.now }
     ensures lands { (b : ℕ) → is_line_feed b ≡ false → LandsIn result (b ∷ bytes.now) }
     ensures within { (dollar_found result).1 ≤ length bytes.now + 1 }
@@ -60,7 +60,7 @@ pub fn after_dollar(bytes: &[u8]) -> Dollar<'_>
             Some((b'\n', spaces)) => Dollar::Join(2, run_length(Run::Spaces, spaces)),
             Some(_) | None => Dollar::Bad,
         },
-        b'{' => braced(remainder),
+        b'{' => in_braces(remainder),
         b' ' | b':' | b'$' => Dollar::Escape(byte),
         _ => {
             let (name, _) = split_run(Run::Name, bytes);

@@ -4,7 +4,7 @@ ghost use Rattle.std.specs.Prelude.{◌≡◌, List, ℕ, Some};
 ghost use Rattle.std.specs.Option.{option_map};
 ghost use Rattle.nj_text.specs.Words.{word_text};
 ghost use Rattle.nj_text.specs.Calls.{Answers, AnswersOrLacksMemory, at_front, start_line_of, ident_of, sign_of, path_word_of, value_of, spot_of, skip_blanks_of, Failed, unit_of};
-ghost use Rattle.nj_text.specs.Inside.States.{Settles};
+ghost use Rattle.nj_text.specs.Inside.States.{FinishesValue};
 
 use crate::blanks::skip_blanks;
 use crate::cursor::Cursor;
@@ -169,9 +169,9 @@ impl<'a> Lexer<'a> {
             State::Between => Ok(None),
             State::OpeningJoin(_, _) => Ok(None),
             State::Inside => match word(alloc, start) {
-                Ok((found, after)) => {
+                Ok((word, after)) => {
                     self.cursor = after;
-                    Ok(found)
+                    Ok(word)
                 }
                 Err(WordFault::OutOfMemory) => Err(LexFault::OutOfMemory),
                 Err(WordFault::Unit(fault)) => Err(self.fail(fault)),
@@ -197,25 +197,25 @@ impl<'a> Lexer<'a> {
                 let parts = SmallVec::new(alloc);
                 Ok(Word { spot, parts })
             }
-            State::OpeningJoin(_, _) => self.settle(value(alloc, cursor)),
-            State::Inside => self.settle(value(alloc, cursor)),
+            State::OpeningJoin(_, _) => self.finish_value(value(alloc, cursor)),
+            State::Inside => self.finish_value(value(alloc, cursor)),
         }
     }
 
     /// Moves to the end of a value that was read, or to its fault; out of memory leaves the lexer
     /// as it was.
     #[inline(always)]
-    fn settle(
+    fn finish_value(
         &mut self,
         step: Result<(Word<'a>, Cursor<'a>), WordFault>,
     ) -> Result<Word<'a>, LexFault>
-        ensures { Settles step.entry self.old self.new result }
+        ensures { FinishesValue step.entry self.old self.new result }
     {
         match step {
-            Ok((found, after)) => {
+            Ok((value, after)) => {
                 self.cursor = after;
                 self.state = State::Inside;
-                Ok(found)
+                Ok(value)
             }
             Err(WordFault::OutOfMemory) => Err(LexFault::OutOfMemory),
             Err(WordFault::Unit(fault)) => Err(self.fail(fault)),

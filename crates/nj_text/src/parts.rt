@@ -5,18 +5,18 @@ ghost use Rattle.nj_text.specs.declared.fault.WordFault.TheVariants.{OutOfMemory
 ghost use Rattle.nj_text.specs.Inside.Scans.{units_within};
 ghost use Rattle.nj_text.specs.Inside.Runs.{in_run};
 ghost use Rattle.nj_text.specs.Calls.{begins_word};
-ghost use Rattle.nj_text.specs.Inside.Gathering.{run_of, Gathers, PieceIs, TakesRun, NoneInRun, IsShorter};
+ghost use Rattle.nj_text.specs.Inside.Gathering.{run_of, Gathers, NextPartIs, TakesRun, NoneInRun, IsShorter};
 
 use crate::cursor::Cursor;
 use crate::fault::{UnitFault, WordFault};
-use crate::runs::{Run, is_in};
+use crate::runs::{Run, in_run};
 use crate::unit::{NextUnit, next_unit};
 use crate::word::Part;
 use smallvec::SmallVec;
 use std::alloc::Global;
 
 /// How many parts get room at once, after the first.
-const MORE_PARTS: usize = 7;
+const RESERVED_PARTS: usize = 7;
 
 /// A text with references.
 #[derive(Clone, Copy)]
@@ -29,7 +29,7 @@ pub enum TextKind {
 
 /// What comes next in a text.
 #[derive(Clone, Copy)]
-pub enum Piece<'a> {
+pub enum NextPart<'a> {
     /// A part of it, and where that ends.
     Part(Part<'a>, Cursor<'a>),
     /// A join, and where that ends.
@@ -53,20 +53,26 @@ impl TextKind {
 
 /// What comes next in a text, where that is not an ordinary byte of it.
 #[inline(always)]
-fn special_piece(kind: TextKind, cursor: Cursor<'_>) -> Piece<'_>
+fn next_part(kind: TextKind, cursor: Cursor<'_>) -> NextPart<'_>
     requires { NoneInRun (in_run (run_of kind)) cursor.rest.now }
-    ensures piece { PieceIs kind (units_within cursor.entry.spot cursor.entry.rest.now) result }
+    ensures part { NextPartIs kind (units_within cursor.entry.spot cursor.entry.rest.now) result }
     ensures shorter { IsShorter (length cursor.entry.rest.now) result }
 {
     match next_unit(cursor.rest) {
-        NextUnit::Join(length, spaces) => Piece::Join(cursor.on_next_line(length - spaces, spaces)),
-        NextUnit::Escape(byte) => Piece::Part(Part::Bytes(byte), cursor.along(2)),
-        NextUnit::Reference(name, length) => Piece::Part(Part::Name(name), cursor.along(length)),
-        NextUnit::BadByte => Piece::Bad(UnitFault::BadByte(cursor.spot)),
-        NextUnit::BadEscape => Piece::Bad(UnitFault::BadEscape(cursor.spot)),
-        NextUnit::End => Piece::End,
-        NextUnit::Ordinary(_) => Piece::End,
-        NextUnit::LineEnd(_) => Piece::End,
+        NextUnit::Join(length, spaces) => {
+            let after = cursor.on_next_line(length - spaces, spaces);
+            NextPart::Join(after)
+        }
+        NextUnit::Escape(byte) => NextPart::Part(Part::Bytes(byte), cursor.advance(2)),
+        NextUnit::Reference(name, length) => {
+            let after = cursor.advance(length);
+            NextPart::Part(Part::Name(name), after)
+        }
+        NextUnit::BadByte => NextPart::Bad(UnitFault::BadByte(cursor.spot)),
+        NextUnit::BadEscape => NextPart::Bad(UnitFault::BadEscape(cursor.spot)),
+        NextUnit::End => NextPart::End,
+        NextUnit::Ordinary(_) => NextPart::End,
+        NextUnit::LineEnd(_) => NextPart::End,
     }
 }
 
@@ -77,7 +83,7 @@ fn append<'a>(parts: &mut SmallVec<Part<'a>, 1>, part: Part<'a>) -> Result<(), W
     ensures refused { IfErr result (λ f. f ≡ OutOfMemory) }
 {
     if parts.len() == 1 {
-        parts.reserve(MORE_PARTS)?;
+        parts.reserve(RESERVED_PARTS)?;
     }
     parts.push(part)?;
     Ok(())
@@ -112,19 +118,19 @@ pub fn gather<'a>(
 {
     let mut parts = SmallVec::new(alloc);
     let mut cursor = start;
-    'pieces: loop {
+    'text: loop {
         let remainder = match take_run(&mut parts, kind, cursor) {
             Ok(remainder) => remainder,
             Err(fault) => return Err(fault),
         };
-        match special_piece(kind, remainder) {
-            Piece::Part(part, after) => {
+        match next_part(kind, remainder) {
+            NextPart::Part(part, after) => {
                 append(&mut parts, part)?;
                 cursor = after;
             }
-            Piece::Join(after) => cursor = after,
-            Piece::End => return Ok((parts, remainder)),
-            Piece::Bad(fault) => return Err(WordFault::Unit(fault)),
+            NextPart::Join(after) => cursor = after,
+            NextPart::End => return Ok((parts, remainder)),
+            NextPart::Bad(fault) => return Err(WordFault::Unit(fault)),
         }
     }
 }
@@ -135,7 +141,7 @@ pub fn begins_word(cursor: Cursor<'_>) -> bool
     ensures { result ≡ begins_word (units_within cursor.entry.spot cursor.entry.rest.now) }
 {
     match next_unit(cursor.rest) {
-        NextUnit::Ordinary(byte) => is_in(Run::Word, byte),
+        NextUnit::Ordinary(byte) => in_run(Run::Word, byte),
         NextUnit::Escape(_) => true,
         NextUnit::Reference(_, _) => true,
         NextUnit::Join(_, _) => false,

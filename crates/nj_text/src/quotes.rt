@@ -35,7 +35,7 @@ pub fn quote_into(out: &mut Vec<u8>, path: &[u8]) -> Result<(), AllocError>
 }
 
 /// Whether a shell takes the byte as it is.
-fn is_plain(byte: u8) -> bool
+fn is_plain_byte(byte: u8) -> bool
     ensures { result ≡ is_plain_byte byte }
 {
     matches!(byte, b'a'..=b'z' | b'A'..=b'Z' | b'0'..=b'9' | b'_' | b'+' | b'-' | b'.' | b'/')
@@ -48,7 +48,7 @@ fn plain_front(path: &[u8]) -> usize
     ensures rest { result < length path.now → list_all is_plain_byte path.now ≡ false }
 {
     for (end, byte) in path.iter().enumerate() {
-        if !is_plain(*byte) {
+        if !is_plain_byte(*byte) {
             return end;
         }
     }

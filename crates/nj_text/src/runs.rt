@@ -27,7 +27,7 @@ pub enum Run {
 }
 
 #[inline(always)]
-fn is_name(byte: u8) -> bool
+fn is_name_byte(byte: u8) -> bool
     ensures { result ≡ in_run Run.Name byte }
 {
     matches!(byte, b'a'..=b'z' | b'A'..=b'Z' | b'0'..=b'9' | b'_' | b'-')
@@ -35,7 +35,7 @@ fn is_name(byte: u8) -> bool
 
 /// Whether a byte stands for itself.
 #[inline(always)]
-pub fn is_ordinary(byte: u8) -> bool
+pub fn is_ordinary_byte(byte: u8) -> bool
     ensures { result ≡ in_run Run.Value byte }
 {
     !matches!(byte, b'$' | b'\n' | b'\r' | 0)
@@ -43,15 +43,15 @@ pub fn is_ordinary(byte: u8) -> bool
 
 /// Whether a byte belongs to a run.
 #[inline(always)]
-pub fn is_in(run: Run, byte: u8) -> bool
+pub fn in_run(run: Run, byte: u8) -> bool
     ensures { result ≡ in_run run byte }
 {
     match run {
         Run::Spaces => byte == b' ',
-        Run::Name => is_name(byte),
-        Run::Identifier => is_name(byte) || byte == b'.',
-        Run::Word => is_ordinary(byte) && !matches!(byte, b' ' | b':' | b'|'),
-        Run::Value => is_ordinary(byte),
+        Run::Name => is_name_byte(byte),
+        Run::Identifier => is_name_byte(byte) || byte == b'.',
+        Run::Word => is_ordinary_byte(byte) && !matches!(byte, b' ' | b':' | b'|'),
+        Run::Value => is_ordinary_byte(byte),
         Run::Comment => byte != b'\n',
     }
 }
@@ -64,7 +64,7 @@ fn length_by_bytes(run: Run, bytes: &[u8]) -> usize
 {
     let mut length = 0;
     for byte in bytes {
-        if !is_in(run, *byte) {
+        if !in_run(run, *byte) {
             return length;
         }
         length += 1;

@@ -123,5 +123,5 @@ pub fn take_sign(want: Sign, start: Cursor<'_>) -> SignTaken<'_>
     if length == 0 {
         return SignTaken::No(cursor);
     }
-    SignTaken::InLine(cursor.along(length))
+    SignTaken::InLine(cursor.advance(length))
 }

@@ -7,7 +7,7 @@ ghost use Rattle.nj_text.specs.Inside.Scans.{NextUnitIs, unit_length, HasLength,
 use crate::cursor::Cursor;
 use crate::dollar::{Dollar, after_dollar, line_end_length};
 use crate::fault::UnitFault;
-use crate::runs::{first_byte, is_ordinary};
+use crate::runs::{first_byte, is_ordinary_byte};
 
 /// The next unit of a line, and how many bytes it takes where that is not evident.
 #[derive(Clone, Copy)]
@@ -54,7 +54,7 @@ pub fn next_unit(bytes: &[u8]) -> NextUnit<'_>
     let Some((byte, remainder)) = first_byte(bytes) else {
         return NextUnit::End;
     };
-    if is_ordinary(byte) {
+    if is_ordinary_byte(byte) {
         return NextUnit::Ordinary(byte);
     }
     if byte == b'$' {

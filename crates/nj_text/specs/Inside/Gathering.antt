@@ -9,8 +9,8 @@ use Rattle.nj_text.specs.declared.cursor.Cursor.{Cursor}
 use Rattle.nj_text.specs.declared.word.Part.{Part}
 use Rattle.nj_text.specs.declared.parts.TextKind.{TextKind}
 use Rattle.nj_text.specs.declared.parts.TextKind.TheVariants as kind
-use Rattle.nj_text.specs.declared.parts.Piece.{Piece}
-use Rattle.nj_text.specs.declared.parts.Piece.TheVariants as piece
+use Rattle.nj_text.specs.declared.parts.NextPart.{NextPart}
+use Rattle.nj_text.specs.declared.parts.NextPart.TheVariants as next
 use Rattle.nj_text.specs.declared.runs.Run.{Run}
 use Rattle.nj_text.specs.declared.runs.Run.TheVariants as run
 use Rattle.nj_text.specs.Bytes.{drop_while}
@@ -47,18 +47,18 @@ abbrev pub after_text : TextKind → List TextUnit → List TextUnit
 after_text kind us = drop_while (in_text kind) us
 
 -- what comes next in a text
-abbrev pub PieceIs : TextKind → List TextUnit → Piece → Type 0
-PieceIs kind us (piece.Part p after) =
+abbrev pub NextPartIs : TextKind → List TextUnit → NextPart → Type 0
+NextPartIs kind us (next.Part p after) =
     (gathered kind us ≡ part_text p ∷ gathered kind (units_at after)) × (after_text kind us ≡ after_text kind (units_at after))
-PieceIs kind us (piece.Join after) =
+NextPartIs kind us (next.Join after) =
     (gathered kind us ≡ gathered kind (units_at after)) × (after_text kind us ≡ after_text kind (units_at after))
-PieceIs kind us piece.End = (gathered kind us ≡ []) × (after_text kind us ≡ us) × (next_fault us ≡ None)
-PieceIs kind us (piece.Bad f) = next_fault (after_text kind us) ≡ Some f
+NextPartIs kind us next.End = (gathered kind us ≡ []) × (after_text kind us ≡ us) × (next_fault us ≡ None)
+NextPartIs kind us (next.Bad f) = next_fault (after_text kind us) ≡ Some f
 
 -- what was skipped had bytes
-abbrev pub IsShorter : ℕ → Piece → Type 0
-IsShorter n (piece.Part p after) = length after.rest.now < n
-IsShorter n (piece.Join after) = length after.rest.now < n
+abbrev pub IsShorter : ℕ → NextPart → Type 0
+IsShorter n (next.Part p after) = length after.rest.now < n
+IsShorter n (next.Join after) = length after.rest.now < n
 IsShorter n other = Unit {0}
 
 -- the first byte, if there is one, fails the test

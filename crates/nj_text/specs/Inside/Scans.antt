@@ -17,8 +17,8 @@ spots_after [] spot = spot
 spots_after (b ∷ bs) spot = spots_after bs (spot_after b spot)
 
 -- n columns farther on
-abbrev pub along : ℕ → Spot → Spot
-along n spot = record { line = spot.line; column = spot.column + n }
+abbrev pub advance : ℕ → Spot → Spot
+advance n spot = record { line = spot.line; column = spot.column + n }
 
 -- after a line end and some spaces
 abbrev pub on_next_line : ℕ → Spot → Spot
@@ -38,8 +38,8 @@ dollar_found dollar.Bad = (BadEscape, 0)
 -- A join's bytes lead to the next line, after its spaces. No other unit has more bytes than there are.
 abbrev pub LandsIn : Dollar → List ℕ → Type 0
 LandsIn (dollar.Join end spaces) bytes = (spot : Spot) → spots_after (take (end + spaces) bytes) spot ≡ on_next_line spaces spot
-LandsIn (dollar.Escape byte) bytes = (take 1 bytes ≡ byte ∷ []) × ((spot : Spot) → spots_after (take 1 bytes) spot ≡ along 1 spot)
-LandsIn (dollar.Reference name len) bytes = (spot : Spot) → spots_after (take len bytes) spot ≡ along len spot
+LandsIn (dollar.Escape byte) bytes = (take 1 bytes ≡ byte ∷ []) × ((spot : Spot) → spots_after (take 1 bytes) spot ≡ advance 1 spot)
+LandsIn (dollar.Reference name len) bytes = (spot : Spot) → spots_after (take len bytes) spot ≡ advance len spot
 LandsIn dollar.Bad bytes = Unit {0}
 
 -- the units that stand within a line at a place
@@ -60,11 +60,11 @@ NextUnitIs unit.End bytes = bytes ≡ []
 NextUnitIs (unit.Ordinary b) bytes =
     (is_ordinary_byte b ≡ true)
     × (begins_with b bytes ≡ true)
-    × ((spot : Spot) → Begins spot bytes (Ordinary b) 1 (units_within (along 1 spot) (drop 1 bytes)))
+    × ((spot : Spot) → Begins spot bytes (Ordinary b) 1 (units_within (advance 1 spot) (drop 1 bytes)))
 NextUnitIs (unit.Join n spaces) bytes = (spot : Spot) → Begins spot bytes Join n (units_within (on_next_line spaces spot) (drop n bytes))
 NextUnitIs (unit.Escape byte) bytes =
-    (b : ℕ) × (byte.now ≡ b ∷ []) × ((spot : Spot) → Begins spot bytes (Escape b) 2 (units_within (along 2 spot) (drop 2 bytes)))
-NextUnitIs (unit.Reference name n) bytes = (spot : Spot) → Begins spot bytes (Reference name.now) n (units_within (along n spot) (drop n bytes))
+    (b : ℕ) × (byte.now ≡ b ∷ []) × ((spot : Spot) → Begins spot bytes (Escape b) 2 (units_within (advance 2 spot) (drop 2 bytes)))
+NextUnitIs (unit.Reference name n) bytes = (spot : Spot) → Begins spot bytes (Reference name.now) n (units_within (advance n spot) (drop n bytes))
 NextUnitIs (unit.LineEnd n) bytes = (spot : Spot) → Begins spot bytes LineEnd n (cut AtStart 0 (on_next_line 0 spot) (drop n bytes))
 NextUnitIs unit.BadByte bytes = (spot : Spot) → BeginsBadly spot bytes BadByte
 NextUnitIs unit.BadEscape bytes = (spot : Spot) → BeginsBadly spot bytes BadEscape

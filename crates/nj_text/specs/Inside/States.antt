@@ -15,7 +15,7 @@ use Rattle.nj_text.specs.declared.state.State.TheVariants as held
 use Rattle.nj_text.specs.declared.line_start.Begun.{Begun}
 use Rattle.nj_text.specs.declared.line_start.Begun.TheVariants as line_start
 use Rattle.nj_text.specs.Units.{TextUnit, Ordinary, OpeningJoin, AtStart, AfterSpaces, Within, first_spot, cut}
-use Rattle.nj_text.specs.Inside.Scans.{along, units_within}
+use Rattle.nj_text.specs.Inside.Scans.{advance, units_within}
 use Rattle.nj_text.specs.Lines.{Line, lines_of, before_first_line, lines_after, ending_of}
 use Rattle.nj_text.specs.Calls.{State, Between, Inside, Failed, Reply, reply, failing, begun, unit_of}
 
@@ -56,7 +56,7 @@ BegunIs ls (line_start.Fault f) = begun ls ≡ failing f
 -- some spaces at a place
 abbrev pub space_units : Spot → List ℕ → List TextUnit
 space_units spot [] = []
-space_units spot (b ∷ bs) = record { spot = spot; bytes = b ∷ []; means = Ordinary b } ∷ space_units (along 1 spot) bs
+space_units spot (b ∷ bs) = record { spot = spot; bytes = b ∷ []; means = Ordinary b } ∷ space_units (advance 1 spot) bs
 
 -- how the first line begins, of which the leading spaces were skipped
 abbrev pub BegunAfterSpaces : Cursor → Begun → Type 0
@@ -112,10 +112,10 @@ Reports (Ok found) unit = ⊥
 Reports (Err f) unit = unit_of f ≡ unit
 
 -- what a value that was read in a line makes of the lexer
-abbrev pub SettlesFault : WordFault → (old new : State) → Result Word LexFault → Type 0
-SettlesFault word_fault.OutOfMemory old new result = Reports result None × (new ≡ old)
-SettlesFault (word_fault.Unit f) old new result = Reports result (Some f) × (new ≡ Failed f)
+abbrev pub FinishesAtFault : WordFault → (old new : State) → Result Word LexFault → Type 0
+FinishesAtFault word_fault.OutOfMemory old new result = Reports result None × (new ≡ old)
+FinishesAtFault (word_fault.Unit f) old new result = Reports result (Some f) × (new ≡ Failed f)
 
-abbrev pub Settles : Result (Word × Cursor) WordFault → (old new : State) → Result Word LexFault → Type 0
-Settles (Ok step) old new result = (result ≡ Ok step.0) × (new ≡ inside (lines_within step.1.spot step.1.rest.now))
-Settles (Err f) old new result = SettlesFault f old new result
+abbrev pub FinishesValue : Result (Word × Cursor) WordFault → (old new : State) → Result Word LexFault → Type 0
+FinishesValue (Ok step) old new result = (result ≡ Ok step.0) × (new ≡ inside (lines_within step.1.spot step.1.rest.now))
+FinishesValue (Err f) old new result = FinishesAtFault f old new result

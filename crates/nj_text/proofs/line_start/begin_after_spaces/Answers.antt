@@ -1,7 +1,7 @@
 use Rattle.std.proofs.Common.{refl, sym, ap, ◌∙◌, drop}
 use Rattle.nj_text.specs.declared.line_start.LineStart.TheVariants as start
 use Rattle.nj_text.specs.Units.{Ordinary, Escape, Reference, Join, BadByte, BadEscape}
-use Rattle.nj_text.specs.Inside.Scans.{units_within, along, on_next_line}
+use Rattle.nj_text.specs.Inside.Scans.{units_within, advance, on_next_line}
 use Rattle.nj_text.specs.Calls.{Between, reply}
 use Rattle.nj_text.proofs.LineStarts.{after_end, after_line_end, after_tab, after_plain, after_badly, not_nine, lines_moved, plain_ordinary}
 use Rattle.nj_text.proofs.line_start.begin_after_spaces.Goals as goal
@@ -26,7 +26,7 @@ returns-else-byte-eq9 c = λ spot b bs h.
     let here = c.args.cursor.spot in
     let bytes = c.args.cursor.rest.now in
     let byte = c.in-Ordinary.byte in
-    after_plain spot b bs here bytes (Ordinary byte) 1 (units_within (along 1 here) (drop 1 bytes)) h c.requires (not_nine byte c.if-byte-eq9.false)
+    after_plain spot b bs here bytes (Ordinary byte) 1 (units_within (advance 1 here) (drop 1 bytes)) h c.requires (not_nine byte c.if-byte-eq9.false)
     (plain_ordinary byte bytes c.in-Ordinary.ensures.unit.1 c.requires) (c.in-Ordinary.ensures.unit.2 here)
 
 pub returns-in-Join : goal.returns-in-Join
@@ -42,14 +42,14 @@ returns-in-Escape c = λ spot b bs h.
     let here = c.args.cursor.spot in
     let bytes = c.args.cursor.rest.now in
     let unit = c.in-Escape.ensures.unit in
-    after_plain spot b bs here bytes (Escape unit.0) 2 (units_within (along 2 here) (drop 2 bytes)) h c.requires (λ e. absurd cc) refl (unit.2 here)
+    after_plain spot b bs here bytes (Escape unit.0) 2 (units_within (advance 2 here) (drop 2 bytes)) h c.requires (λ e. absurd cc) refl (unit.2 here)
 
 pub returns-in-Reference : goal.returns-in-Reference
 returns-in-Reference c = λ spot b bs h.
     let here = c.args.cursor.spot in
     let bytes = c.args.cursor.rest.now in
     let n = c.in-Reference.field-1 in
-    after_plain spot b bs here bytes (Reference c.in-Reference.field-0.now) n (units_within (along n here) (drop n bytes)) h c.requires (λ e. absurd cc) refl (c.in-Reference.ensures.unit here)
+    after_plain spot b bs here bytes (Reference c.in-Reference.field-0.now) n (units_within (advance n here) (drop n bytes)) h c.requires (λ e. absurd cc) refl (c.in-Reference.ensures.unit here)
 
 pub returns-in-BadByte : goal.returns-in-BadByte
 returns-in-BadByte c = λ spot b bs h. after_badly spot b bs c.args.cursor.spot c.args.cursor.rest.now BadByte h c.requires (λ e. absurd cc) refl (c.in-BadByte.ensures.unit c.args.cursor.spot)

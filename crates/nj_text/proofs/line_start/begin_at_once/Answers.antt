@@ -2,7 +2,7 @@ use Rattle.std.proofs.Common.{refl, sym, ap, ◌∙◌, take, drop}
 use Rattle.nj_text.specs.declared.line_start.LineStart.TheVariants as start
 use Rattle.nj_text.specs.Units.{Ordinary, Escape, Reference, OpeningJoin, BadByte, BadEscape}
 use Rattle.nj_text.specs.Lines.{before_first_line}
-use Rattle.nj_text.specs.Inside.Scans.{units_within, along, on_next_line}
+use Rattle.nj_text.specs.Inside.Scans.{units_within, advance, on_next_line}
 use Rattle.nj_text.specs.Calls.{Between, reply}
 use Rattle.nj_text.specs.Inside.States.{inside}
 use Rattle.nj_text.proofs.LineStarts.{at_once_end, at_once_line_end, at_once_join, at_once_tab, at_once_plain, at_once_badly, not_nine, lines_moved, within_moved, plain_ordinary}
@@ -39,7 +39,7 @@ returns-else-byte-eq9 c =
     let spot = c.args.cursor.spot in
     let bytes = c.args.cursor.rest.now in
     let b = c.in-Ordinary.byte in
-    at_once_plain spot bytes (Ordinary b) 1 (units_within (along 1 spot) (drop 1 bytes)) c.requires.no_comment c.requires.no_space (not_nine b c.if-byte-eq9.false) refl
+    at_once_plain spot bytes (Ordinary b) 1 (units_within (advance 1 spot) (drop 1 bytes)) c.requires.no_comment c.requires.no_space (not_nine b c.if-byte-eq9.false) refl
     (plain_ordinary b bytes c.in-Ordinary.ensures.unit.1 c.requires.no_space) (c.in-Ordinary.ensures.unit.2 spot)
 
 pub returns-in-Escape : goal.returns-in-Escape
@@ -47,14 +47,14 @@ returns-in-Escape c =
     let spot = c.args.cursor.spot in
     let bytes = c.args.cursor.rest.now in
     let unit = c.in-Escape.ensures.unit in
-    at_once_plain spot bytes (Escape unit.0) 2 (units_within (along 2 spot) (drop 2 bytes)) c.requires.no_comment c.requires.no_space (λ e. absurd cc) refl refl (unit.2 spot)
+    at_once_plain spot bytes (Escape unit.0) 2 (units_within (advance 2 spot) (drop 2 bytes)) c.requires.no_comment c.requires.no_space (λ e. absurd cc) refl refl (unit.2 spot)
 
 pub returns-in-Reference : goal.returns-in-Reference
 returns-in-Reference c =
     let spot = c.args.cursor.spot in
     let bytes = c.args.cursor.rest.now in
     let n = c.in-Reference.field-1 in
-    at_once_plain spot bytes (Reference c.in-Reference.field-0.now) n (units_within (along n spot) (drop n bytes)) c.requires.no_comment c.requires.no_space (λ e. absurd cc) refl refl (c.in-Reference.ensures.unit spot)
+    at_once_plain spot bytes (Reference c.in-Reference.field-0.now) n (units_within (advance n spot) (drop n bytes)) c.requires.no_comment c.requires.no_space (λ e. absurd cc) refl refl (c.in-Reference.ensures.unit spot)
 
 pub returns-in-BadByte : goal.returns-in-BadByte
 returns-in-BadByte c = at_once_badly c.args.cursor.spot c.args.cursor.rest.now BadByte c.requires.no_comment c.requires.no_space (λ e. absurd cc) refl refl (c.in-BadByte.ensures.unit c.args.cursor.spot)

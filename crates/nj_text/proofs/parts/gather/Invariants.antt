@@ -3,10 +3,10 @@ use Rattle.nj_text.specs.Inside.Gathering.{gathered, after_text, units_at}
 use Rattle.nj_text.specs.Words.{part_text}
 use Rattle.nj_text.proofs.parts.gather.Given as goal
 
-abbrev pub invariant-pieces : goal.invariant-pieces
-invariant-pieces l =
+abbrev pub invariant-text : goal.invariant-text
+invariant-text l =
     (map part_text l.parts.items ++ gathered l.kind (units_at l.cursor) ≡ gathered l.kind (units_at l.fn.start))
     × (after_text l.kind (units_at l.cursor) ≡ after_text l.kind (units_at l.fn.start))
 
-abbrev pub decreases-pieces : goal.decreases-pieces
-decreases-pieces l = length l.cursor.rest.now
+abbrev pub decreases-text : goal.decreases-text
+decreases-text l = length l.cursor.rest.now

@@ -29,6 +29,6 @@ pub returns : goal.returns
 returns c =
     let start = c.args.start in
     let here = c.skip_blanks-cursor.result in
-    let after = c.along in
+    let after = c.advance in
     at_cursor (sign_at c.args.want) start.spot here.spot start.rest.now here.rest.now c.skip_blanks-cursor.ensures
     ∙ sign_taken c.args.want here.spot here.rest.now c.sign_length-length.result after.result.spot after.result.rest.now c.in_default-want.not-LineEnd c.in_default.ensures c.sign_length-length.ensures c.if-length-eq0.false after.ensures.spot after.ensures.rest

@@ -1,6 +1,6 @@
 use Rattle.std.proofs.Common.{◌∷◌, ◌++◌, ap, ◌∙◌}
 use Rattle.nj_text.proofs.Cuts.{braces_land, identifiers_no_feed}
-use Rattle.nj_text.proofs.dollar.braced.Goals as goal
+use Rattle.nj_text.proofs.dollar.in_braces.Goals as goal
 
 pub returns-in-Some-eq125-default-clause-lands : goal.returns-in-Some-eq125-default-clause-lands
 returns-in-Some-eq125-default-clause-lands c = λ b no_feed spot.
