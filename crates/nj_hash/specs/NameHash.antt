@@ -20,19 +20,19 @@ abbrev pub with_byte : ℕ → (byte : ℕ) → ℕ
 with_byte number byte = bit_or (number * 2 ^ 8 % 2 ^ 64) byte
 
 -- the state after a whole block
-abbrev pub with_block : HasherState → (block : ℕ) → HasherState
-with_block hasher block = record hasher { state = folded_product (bit_xor hasher.state block) hasher.factor }
+abbrev pub take_block : HasherState → (block : ℕ) → HasherState
+take_block hasher block = record hasher { state = folded_product (bit_xor hasher.state block) hasher.factor }
 
 -- the state after one byte; the eighth of a block ends it
-abbrev pub step : HasherState → (byte : ℕ) → HasherState
-step hasher byte =
+abbrev pub take_byte : HasherState → (byte : ℕ) → HasherState
+take_byte hasher byte =
     let block = with_byte hasher.pending byte in
-    let ended = with_block hasher block in
+    let ended = take_block hasher block in
     if nat_lt hasher.pending (2 ^ 56) then record hasher { pending = block } else record ended { pending = 1 }
 
 -- the state after bytes; eight that come at once are a block of their own
 abbrev pub write : HasherState → List ℕ → HasherState
-write hasher bytes = if nat_eq (length bytes) 8 then with_block hasher (from_le_bytes w64 bytes) else fold step hasher bytes
+write hasher bytes = if nat_eq (length bytes) 8 then take_block hasher (from_le_bytes w64 bytes) else fold take_byte hasher bytes
 
 -- the hash of what was taken in
 abbrev pub finish : HasherState → ℕ

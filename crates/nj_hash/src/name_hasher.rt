@@ -1,5 +1,5 @@
 //! The hasher of names.
-ghost use Rattle.nj_hash.specs.NameHash.{folded_product, with_block, step, write, finish};
+ghost use Rattle.nj_hash.specs.NameHash.{folded_product, take_block, take_byte, write, finish};
 ghost use Rattle.std.specs.Prelude.{◌≡◌};
 
 use std::hash::Hasher;
@@ -57,8 +57,8 @@ impl NameHasher {
 
     /// Takes in one byte. It is small, so that a name is hashed in registers.
     #[inline(always)]
-    fn step(&mut self, byte: u8)
-        ensures { self.new ≡ step self.old byte }
+    fn take_byte(&mut self, byte: u8)
+        ensures { self.new ≡ take_byte self.old byte }
     {
         let block = self.pending << 8 | byte as u64;
         if self.pending < 1 << 56 {
@@ -71,7 +71,7 @@ impl NameHasher {
 
     #[inline(always)]
     fn take_block(&mut self, block: u64)
-        ensures { self.new ≡ with_block self.old block }
+        ensures { self.new ≡ take_block self.old block }
     {
         self.state = folded_product(self.state ^ block, self.factor);
     }
@@ -104,7 +104,7 @@ impl Hasher for NameHasher {
             Ok(block) => self.take_block(u64::from_le_bytes(block)),
             Err(_) => {
                 for byte in bytes {
-                    self.step(*byte);
+                    self.take_byte(*byte);
                 }
             }
         }
