@@ -11,7 +11,7 @@ use crate::fault::MarkFault;
 use std::alloc::Global;
 
 /// The number that a part writes, without leading zeros.
-pub fn number_in(part: &str) -> Result<u64, MarkFault>
+pub fn number_of(part: &str) -> Result<u64, MarkFault>
     ensures ok { IfOk result (λ number. number_of part.now ≡ Some number) }
     ensures err { IfErr result (λ fault. IsReadFault (number_of part.now) fault) }
 {
@@ -58,7 +58,7 @@ pub fn numbers_in(alloc: Global, text: &str) -> Result<Vec<u64>, MarkFault>
     let mut rest = text;
     'parts: loop {
         let (part, after) = first_part(rest);
-        numbers.push(number_in(part)?)?;
+        numbers.push(number_of(part)?)?;
         match after {
             Some(left) => rest = left,
             None => return Ok(numbers),

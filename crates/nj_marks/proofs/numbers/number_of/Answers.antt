@@ -1,7 +1,7 @@
 use Rattle.std.proofs.Common.{◌≡◌, true, sym, ap, ◌∙◌}
 use Rattle.nj_marks.specs.Inside.Scanning.{has_plain_front}
 use Rattle.nj_marks.proofs.Numerals.{number-parsed, number-not_parsed}
-use Rattle.nj_marks.proofs.numbers.number_in.Goals as goal
+use Rattle.nj_marks.proofs.numbers.number_of.Goals as goal
 
 pub returns-in-Ok-clause-ok : goal.returns-in-Ok-clause-ok
 returns-in-Ok-clause-ok c =
