@@ -31,8 +31,8 @@ pub struct Declarations {
     scopes: Scopes,
     rules: Vec<Rule>,
     pools: Pools,
-    // Room in which a value is expanded, before it is kept in as much memory as it needs.
-    room: Vec<u8>,
+    // The buffer in which a value is expanded, before it is kept in as much memory as it needs.
+    buffer: Vec<u8>,
 }
 
 impl Model for Declarations {
@@ -58,7 +58,7 @@ impl Declarations {
             scopes,
             rules,
             pools: Pools::new(alloc, keys),
-            room: Vec::new(alloc),
+            buffer: Vec::new(alloc),
         })
     }
 
@@ -79,9 +79,9 @@ impl Declarations {
         ensures refused { OnErr result (Keeps self.old self.new) }
         ensures scopes { SameScopes self.old self.new }
     {
-        self.room.clear();
-        self.scopes.append_expanded(scope, value, &mut self.room)?;
-        let value = Vec::from_slice(alloc, &self.room)?;
+        self.buffer.clear();
+        self.scopes.append_expanded(scope, value, &mut self.buffer)?;
+        let value = Vec::from_slice(alloc, &self.buffer)?;
         self.scopes.bind(scope, name, value)
     }
 

@@ -10,7 +10,7 @@ use std::alloc::{AllocError, Global};
 use std::marker::Model;
 
 /// The number of bytes of `${` and `}`.
-const NAME_SIGNS: usize = 3;
+const REFERENCE_SIGNS: usize = 3;
 
 // A part of a late value: the bytes of its text from `start` to `end`, as they are or as a name.
 #[derive(Clone, Copy)]
@@ -81,7 +81,7 @@ impl LateValue {
     pub fn written(&self, alloc: Global) -> Result<Vec<u8>, AllocError>
         ensures { IfOk result (λ text. text.items ≡ parts_written self.now) }
     {
-        let signs = self.parts.len().saturating_mul(NAME_SIGNS);
+        let signs = self.parts.len().saturating_mul(REFERENCE_SIGNS);
         let mut text = Vec::with_capacity(alloc, self.text.len().saturating_add(signs))?;
         'parts: for index in 0..self.len() {
             append_written(&mut text, self.part(index))?;

@@ -25,7 +25,7 @@ struct MemoryReading {
 #[derive(Drop)]
 pub struct MemoryFiles {
     alloc: Global,
-    entries: Vec<MemoryFile>,
+    files: Vec<MemoryFile>,
     readings: Vec<MemoryReading>,
     failures: u64,
     due: u64,
@@ -40,7 +40,7 @@ impl Model for MemoryFiles {
     ghost Value = { Memory };
 
     ghost view = { λ m. record {
-      added = map {B = Added} file_held m.entries.items;
+      added = map {B = Added} file_held m.files.items;
       readings = map {B = Reading} reading_held m.readings.items;
       failures = m.failures;
       due = m.due;
@@ -54,7 +54,7 @@ impl MemoryFiles {
     {
         MemoryFiles {
             alloc,
-            entries: Vec::new(alloc),
+            files: Vec::new(alloc),
             readings: Vec::new(alloc),
             failures: 0,
             due: 0,
@@ -73,7 +73,7 @@ impl MemoryFiles {
     {
         let name = String::from_str(self.alloc, name)?;
         let bytes = Vec::from_slice(self.alloc, bytes)?;
-        self.entries.push(MemoryFile { name, bytes })?;
+        self.files.push(MemoryFile { name, bytes })?;
         Ok(())
     }
 
@@ -88,8 +88,8 @@ impl MemoryFiles {
     fn bytes_of(&self, name: &str) -> Option<&[u8]>
         ensures { option_copied result ≡ bytes_added self.now.added name.now }
     {
-        let entry = last_entry(&self.entries, name)?;
-        Some(entry.bytes.as_slice())
+        let file = last_file(&self.files, name)?;
+        Some(file.bytes.as_slice())
     }
 }
 
@@ -126,24 +126,21 @@ impl FileSource for MemoryFiles {
             self.failures = self.failures.saturating_add(1);
             return Err(SourceFault::Io);
         }
-        let found = self.bytes_of(path);
-        let answer = copy_of(alloc, found)?;
-        let bytes = copy_of(self.alloc, found)?;
+        let held = self.bytes_of(path);
+        let answer = copy_of(alloc, held)?;
+        let bytes = copy_of(self.alloc, held)?;
         let path = String::from_str(self.alloc, path)?;
         self.readings.push(MemoryReading { path, bytes })?;
         Ok(answer)
     }
 }
 
-// The last entry with the name.
-fn last_entry<'a>(entries: &'a [MemoryFile], name: &str) -> Option<&'a MemoryFile>
+// The last file with the name.
+fn last_file<'a>(files: &'a [MemoryFile], name: &str) -> Option<&'a MemoryFile>
     ensures { option_copied result
-        ≡ find (λ e. bytes_eq name.now (string_bytes e.name)) (reverse entries.now) }
+        ≡ find (λ e. bytes_eq name.now (string_bytes e.name)) (reverse files.now) }
 {
-    entries
-        .iter()
-        .rev()
-        .find(|entry| name == entry.name.as_str())
+    files.iter().rev().find(|file| name == file.name.as_str())
 }
 
 fn copy_of(alloc: Global, bytes: Option<&[u8]>) -> Result<Option<Vec<u8>>, AllocError>

@@ -143,7 +143,7 @@ impl Scopes {
     {
         let mut next = Some(scope);
         'scopes: while let Some(number) = next {
-            if let Some(value) = self.own(number, name) {
+            if let Some(value) = self.own_value(number, name) {
                 return value;
             }
             next = self.parent(number);
@@ -152,7 +152,7 @@ impl Scopes {
     }
 
     // The value that this scope itself binds to the name.
-    fn own(&self, scope: usize, name: &[u8]) -> Option<&[u8]>
+    fn own_value(&self, scope: usize, name: &[u8]) -> Option<&[u8]>
         requires { scope < length self.now }
         ensures { option_copied result ≡ bound_at self.now scope name.now }
     {

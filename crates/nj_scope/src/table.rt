@@ -60,7 +60,7 @@ impl FileTable {
     pub fn get(&self, path: &str) -> Option<&[u8]>
         ensures { option_copied result ≡ bytes_in self.now path.now }
     {
-        match self.kept(path) {
+        match self.reading_of(path) {
             Some(Some(bytes)) => Some(bytes.as_slice()),
             _ => None,
         }
@@ -84,14 +84,14 @@ impl FileTable {
         ensures known_is_not_asked { is_read self.old path.now ≡ true → source.new ≡ source.old }
         ensures each_path_once { EachPathOnce self.new }
     {
-        if let Some(bytes) = self.kept(path) {
-            return Ok(another_handle(bytes)?);
+        if let Some(bytes) = self.reading_of(path) {
+            return Ok(share(bytes)?);
         }
-        self.read_in(alloc, source, path)
+        self.read_new(alloc, source, path)
     }
 
     // Reads a path that was not read, and keeps what was found.
-    fn read_in<S: FileSource>(
+    fn read_new<S: FileSource>(
         &mut self,
         alloc: Global,
         source: &mut S,
@@ -105,8 +105,8 @@ impl FileTable {
     {
         let key = Vec::from_slice(alloc, path.as_bytes())?;
         let answer = source.read(alloc, path)?;
-        let bytes = shared_answer(answer)?;
-        let shared = another_handle(&bytes)?;
+        let bytes = share_answer(answer)?;
+        let shared = share(&bytes)?;
         self.keep(key, bytes)?;
         Ok(shared)
     }
@@ -124,7 +124,7 @@ impl FileTable {
     }
 
     // What was found at the path, if it was read.
-    fn kept(&self, path: &str) -> Option<&Option<RcSlice<u8>>>
+    fn reading_of(&self, path: &str) -> Option<&Option<RcSlice<u8>>>
         ensures found { option_map shared_bytes (option_copied result)
             ≡ option_map (λ r. r.bytes) (reading_of self.now path.now) }
         ensures each_path_once { EachPathOnce self.now }
@@ -133,7 +133,7 @@ impl FileTable {
     }
 }
 
-fn shared_answer(answer: Option<Vec<u8>>) -> Result<Option<RcSlice<u8>>, AllocError>
+fn share_answer(answer: Option<Vec<u8>>) -> Result<Option<RcSlice<u8>>, AllocError>
     ensures { IfOk result (λ shared. shared_bytes shared ≡ answer_bytes answer) }
 {
     match answer {
@@ -145,7 +145,7 @@ fn shared_answer(answer: Option<Vec<u8>>) -> Result<Option<RcSlice<u8>>, AllocEr
     }
 }
 
-fn another_handle(bytes: &Option<RcSlice<u8>>) -> Result<Option<RcSlice<u8>>, AllocError>
+fn share(bytes: &Option<RcSlice<u8>>) -> Result<Option<RcSlice<u8>>, AllocError>
     ensures { IfOk result (λ handle. shared_bytes handle ≡ shared_bytes bytes.now) }
 {
     match bytes {

@@ -2,7 +2,7 @@ use Rattle.std.proofs.Common.{◌<◌, Some, option_map, length, ap, ◌∙◌, 
 use Rattle.std.specs.Map.{lookup}
 use Rattle.nj_scope.specs.Scopes.{bound_at}
 use Rattle.nj_scope.proofs.ScopeLemmas.{at_scope-text, lookup-text}
-use Rattle.nj_scope.proofs.scopes.Scopes.own.Goals as goal
+use Rattle.nj_scope.proofs.scopes.Scopes.own_value.Goals as goal
 
 pub returns-in-Some : goal.returns-in-Some
 returns-in-Some c =

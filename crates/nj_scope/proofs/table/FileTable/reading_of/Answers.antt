@@ -3,7 +3,7 @@ use Rattle.nj_scope.specs.Opening.{shared_bytes}
 use Rattle.nj_scope.specs.Readings.{reading_of}
 use Rattle.nj_scope.specs.Inside.TableHeld.{kept_reading}
 use Rattle.nj_scope.proofs.TableLemmas.{reading_of-kept}
-use Rattle.nj_scope.proofs.table.FileTable.kept.Goals as goal
+use Rattle.nj_scope.proofs.table.FileTable.reading_of.Goals as goal
 
 pub returns-clause-found : goal.returns-clause-found
 returns-clause-found c =
