@@ -7,9 +7,9 @@ ghost use Rattle.nj_graph.specs.Reading.{entry_at};
 ghost use Rattle.nj_graph.specs.Inside.ReaderContracts.{InFile, ScopesGrow, Declares};
 
 use crate::reader::{OpenFile, Reader};
-use nj_statements::StatementPlace;
 use nj_faults::GraphFault;
 use nj_manifest::{Build, Spot, Word};
+use nj_statements::StatementPlace;
 use std::alloc::Global;
 
 impl Reader {

@@ -3,15 +3,15 @@
 ghost use Rattle.std.specs.Prelude.{◌≡◌, ◌<◌, length, OnOk};
 ghost use Rattle.nj_text.specs.declared.spot.Spot.{Spot};
 ghost use Rattle.nj_text.specs.Words.{word_text};
-ghost use Rattle.nj_manifest.specs.Statements.{BindingText, RuleText, PoolText};
-ghost use Rattle.nj_manifest.specs.Contents.{name_text, lines_text};
+ghost use Rattle.nj_manifest.specs.Statements.{BindingText};
+ghost use Rattle.nj_manifest.specs.Contents.{rule_text, pool_text, lines_text};
 ghost use Rattle.nj_graph.specs.Reading.{entry_at, depth_fault};
 ghost use Rattle.nj_graph.specs.Inside.ReaderContracts.{site_scope};
 ghost use Rattle.nj_graph.specs.Inside.ReaderContracts.{InFile, ScopesGrow, Checks, Declares};
 
 use crate::reader::{OpenFile, Reader};
 use nj_faults::{Cause, GraphFault, Name, is_newer};
-use nj_manifest::{Line, PlacedName, Spot, Word};
+use nj_manifest::{Line, Pool, Rule, Spot, Word};
 use nj_scope::is_depth;
 use std::alloc::Global;
 
@@ -49,25 +49,23 @@ impl Reader {
         &mut self,
         alloc: Global,
         file: OpenFile<'_>,
-        rule: PlacedName<'_>,
-        lines: &[Line<'_>],
+        rule: &Rule<'_>,
     ) -> Result<(), GraphFault>
         requires { file.scope < length self.old.declarations.scopes }
         ensures declares { (start : Spot) → InFile self.old file.entry (λ main site entries.
-            let item = RuleText (name_text rule.entry) (lines_text lines.now) in
-            let e = entry_at site (record { spot = start; item = item }) in
+            let e = entry_at site (record { spot = start; item = rule_text rule.now }) in
             Declares main self.new e entries result) }
         ensures files { self.new.files ≡ self.old.files }
         ensures grows { OnOk result (ScopesGrow self.old self.new) }
     {
         if self
             .declarations
-            .declare_rule(alloc, file.scope, rule.name, lines)?
+            .declare_rule(alloc, file.scope, rule.name, &rule.lines)?
         {
             return Ok(());
         }
         let cause = Cause::DuplicateRule(Name::new(alloc, rule.name)?);
-        Err(file.fault(alloc, rule.spot, cause))
+        Err(file.fault(alloc, rule.name_spot, cause))
     }
 
     /// Reads a pool.
@@ -75,22 +73,20 @@ impl Reader {
         &mut self,
         alloc: Global,
         file: OpenFile<'_>,
-        pool: PlacedName<'_>,
-        lines: &[Line<'_>],
+        pool: &Pool<'_>,
     ) -> Result<(), GraphFault>
         requires { file.scope < length self.old.declarations.scopes }
         ensures declares { (start : Spot) → InFile self.old file.entry (λ main site entries.
-            let item = PoolText (name_text pool.entry) (lines_text lines.now) in
-            let e = entry_at site (record { spot = start; item = item }) in
+            let e = entry_at site (record { spot = start; item = pool_text pool.now }) in
             Declares main self.new e entries result) }
         ensures files { self.new.files ≡ self.old.files }
         ensures grows { OnOk result (ScopesGrow self.old self.new) }
     {
         if !self.declarations.declare_pool(pool.name)? {
             let cause = Cause::DuplicatePool(Name::new(alloc, pool.name)?);
-            return Err(file.fault(alloc, pool.spot, cause));
+            return Err(file.fault(alloc, pool.name_spot, cause));
         }
-        self.check_depths(alloc, file, lines)
+        self.check_depths(alloc, file, &pool.lines)
     }
 
     // Checks each depth of a pool's block.

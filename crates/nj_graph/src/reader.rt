@@ -8,10 +8,10 @@ ghost use Rattle.nj_graph.specs.Reading.{entry_at, opened_in, text_read, stateme
 ghost use Rattle.nj_graph.specs.Inside.ReaderContracts.{IsNew, InFile, ScopesGrow, IsFault, ReadsItem, ReadsOrStops, NextIs};
 
 use crate::opening::{Naming, text_at};
-use nj_statements::Building;
 use nj_faults::{Cause, GraphFault};
 use nj_manifest::{Parser, Placed, Spot, Statement};
 use nj_scope::{Declarations, FileSource, FileTable, HashKeys};
+use nj_statements::Building;
 use std::alloc::{AllocError, Global};
 use std::rc::RcSlice;
 use std::str;
@@ -167,12 +167,12 @@ impl Reader {
                 self.bind(alloc, file, statement.spot, name, value)?;
                 Ok(None)
             }
-            Statement::Rule { name, lines } => {
-                self.declare_rule(alloc, file, *name, lines)?;
+            Statement::Rule(rule) => {
+                self.declare_rule(alloc, file, rule)?;
                 Ok(None)
             }
-            Statement::Pool { name, lines } => {
-                self.declare_pool(alloc, file, *name, lines)?;
+            Statement::Pool(pool) => {
+                self.declare_pool(alloc, file, pool)?;
                 Ok(None)
             }
             Statement::Build(build) => {

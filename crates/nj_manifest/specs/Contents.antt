@@ -2,23 +2,17 @@
 use Rattle.std.specs.Prelude.{List, map}
 use Rattle.nj_text.specs.declared.word.Word.{Word}
 use Rattle.nj_text.specs.Words.{WordText, word_text}
-use Rattle.nj_manifest.specs.declared.steps.PlacedName.{PlacedName}
 use Rattle.nj_manifest.specs.declared.statement.Line.{Line}
+use Rattle.nj_manifest.specs.declared.statement.Rule.{Rule}
+use Rattle.nj_manifest.specs.declared.statement.Pool.{Pool}
 use Rattle.nj_manifest.specs.declared.statement.Build.{Build}
-use Rattle.nj_manifest.specs.declared.heads.Outputs.{Outputs}
-use Rattle.nj_manifest.specs.declared.heads.Inputs.{Inputs}
-use Rattle.nj_manifest.specs.declared.heads.Head.{Head}
-use Rattle.nj_manifest.specs.declared.heads.Head.TheVariants as head
 use Rattle.nj_manifest.specs.declared.statement.Placed.{Placed}
 use Rattle.nj_manifest.specs.declared.statement.Statement.{Statement}
 use Rattle.nj_manifest.specs.declared.statement.Statement.TheVariants as statement
 use Rattle.nj_manifest.specs.LineSteps.{NameText}
-use Rattle.nj_manifest.specs.Statements.{LineText, OutputsText, InputsText, HeadText, Alone, RuleHead, PoolHead, BuildHead}
+use Rattle.nj_manifest.specs.Statements.{LineText, OutputsText, InputsText}
 use Rattle.nj_manifest.specs.Statements.{StatementText, BindingText, RuleText, PoolText, BuildText, DefaultText, IncludeText}
 use Rattle.nj_manifest.specs.Statements.{SubninjaText, PlacedText}
-
-abbrev pub name_text : PlacedName → NameText
-name_text n = record { spot = n.spot; name = n.name.now }
 
 abbrev pub line_text : Line → LineText
 line_text l = record { spot = l.spot; name = l.name.now; value = word_text l.value }
@@ -29,29 +23,39 @@ lines_text ls = map line_text ls
 abbrev pub words_text : List Word → List WordText
 words_text ws = map word_text ws
 
--- ---- first lines
+abbrev pub rule_text : Rule → StatementText
+rule_text r = RuleText (record { spot = r.name_spot; name = r.name.now }) (lines_text r.lines.items)
 
-abbrev pub outputs_text : Outputs → OutputsText
-outputs_text o = record { explicit = words_text o.explicit.items; implicit = words_text o.implicit.items }
+abbrev pub pool_text : Pool → StatementText
+pool_text p = PoolText (record { spot = p.name_spot; name = p.name.now }) (lines_text p.lines.items)
 
-abbrev pub inputs_text : Inputs → InputsText
-inputs_text i =
+-- ---- build statements
+
+abbrev pub outputs_text : Build → OutputsText
+outputs_text b = record { explicit = words_text b.explicit_outs.items; implicit = words_text b.implicit_outs.items }
+
+-- the name of its rule
+abbrev pub used_rule : Build → NameText
+used_rule b = record { spot = b.rule_spot; name = b.rule.now }
+
+abbrev pub inputs_text : Build → InputsText
+inputs_text b =
     record {
-      explicit = words_text i.explicit.items;
-      implicit = words_text i.implicit.items;
-      order_only = words_text i.order_only.items;
-      validations = words_text i.validations.items;
+      explicit = words_text b.explicit.items;
+      implicit = words_text b.implicit.items;
+      order_only = words_text b.order_only.items;
+      validations = words_text b.validations.items;
     }
+
+abbrev pub build_text : Build → StatementText
+build_text b = BuildText (outputs_text b) (used_rule b) (inputs_text b) (lines_text b.lines.items)
 
 -- ---- statements
 
-abbrev pub build_text : Build → StatementText
-build_text b = BuildText (outputs_text b.outputs) (name_text b.rule) (inputs_text b.inputs) (lines_text b.lines.items)
-
 abbrev pub statement_text : Statement → StatementText
 statement_text (statement.Binding name value) = BindingText name.now (word_text value)
-statement_text (statement.Rule name lines) = RuleText (name_text name) (lines_text lines.items)
-statement_text (statement.Pool name lines) = PoolText (name_text name) (lines_text lines.items)
+statement_text (statement.Rule r) = rule_text r
+statement_text (statement.Pool p) = pool_text p
 statement_text (statement.Build b) = build_text b
 statement_text (statement.Default words) = DefaultText (words_text words.items)
 statement_text (statement.Include word) = IncludeText (word_text word)

@@ -1,16 +1,14 @@
 -- What a parser of dyndep files answers.
-use Rattle.std.specs.Prelude.{◌≡◌, Bool, true, false, Option, Some, None, option_map, Result, Ok, Err, List}
+use Rattle.std.specs.Prelude.{◌≡◌, Option, option_map, Result, Ok, Err, List}
 use Rattle.nj_text.specs.Lines as lines
 use Rattle.nj_text.specs.Words.{word_text}
-use Rattle.nj_text.specs.Calls.{State}
 use Rattle.nj_manifest.specs.declared.fault.ParseFault.{ParseFault}
 use Rattle.nj_manifest.specs.declared.entries.Entry.{Entry}
 use Rattle.nj_manifest.specs.Faults.{Fault, fault_text}
-use Rattle.nj_manifest.specs.Statements.{Parse, lines_from}
+use Rattle.nj_manifest.specs.Statements.{Parse}
 use Rattle.nj_manifest.specs.Parsers.{Fails}
-use Rattle.nj_manifest.specs.Inside.ParserContracts.{IsBetweenStatements}
 use Rattle.nj_manifest.specs.Contents.{words_text}
-use Rattle.nj_manifest.specs.Dyndeps.{EntryText, version_next, DyndepLeft, WholeFile, Entries, Refusing, entry_of}
+use Rattle.nj_manifest.specs.Dyndeps.{EntryText, DyndepLeft, Entries, Refusing, entry_of}
 
 abbrev pub entry_text : Entry → EntryText
 entry_text e = record { out = word_text e.out; outs = words_text e.outs.items; ins = words_text e.ins.items }

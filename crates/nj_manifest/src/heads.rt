@@ -2,52 +2,16 @@
 
 ghost use Rattle.std.specs.Prelude.{◌≡◌, map};
 ghost use Rattle.nj_text.specs.Words.{word_text};
-ghost use Rattle.nj_manifest.specs.Inside.ParserContracts.{TakesStep};
-ghost use Rattle.nj_manifest.specs.Contents.{name_text};
-ghost use Rattle.nj_manifest.specs.Statements.{name_alone, outputs_next, inputs_next, build_next, targets_next, file_next, head_after, head_next};
-ghost use Rattle.nj_manifest.specs.Contents.{words_text, outputs_text, inputs_text};
-ghost use Rattle.nj_manifest.specs.Inside.ParserContracts.{head_text};
+ghost use Rattle.nj_manifest.specs.Contents.{words_text};
+ghost use Rattle.nj_manifest.specs.Statements.{RuleHead, PoolHead, as_head, name_alone, outputs_next, build_next, targets_next, file_next, head_after, head_next};
+ghost use Rattle.nj_manifest.specs.Inside.ParserContracts.{TakesStep, name_text, outs_text, head_text};
 
 use crate::block::equals_value;
 use crate::fault::{ParseFault, Wanted};
+use crate::statement::{Build, Pool, Rule, Statement};
 use crate::steps::{PlacedName, expect_sign, name_next, section_next, words_next};
 use nj_text::{Lexer, Sign, Word};
 use std::alloc::Global;
-
-/// The outputs of a build statement.
-#[derive(Debug, Drop)]
-pub struct Outputs<'a> {
-    pub explicit: Vec<Word<'a>>,
-    pub implicit: Vec<Word<'a>>,
-}
-
-/// The inputs of a build statement.
-#[derive(Debug, Drop)]
-pub struct Inputs<'a> {
-    pub explicit: Vec<Word<'a>>,
-    pub implicit: Vec<Word<'a>>,
-    pub order_only: Vec<Word<'a>>,
-    pub validations: Vec<Word<'a>>,
-}
-
-/// The first line of a statement.
-#[derive(Drop)]
-pub enum Head<'a> {
-    /// `NAME = VALUE`
-    Binding(&'a [u8], Word<'a>),
-    /// `rule NAME`
-    Rule(PlacedName<'a>),
-    /// `pool NAME`
-    Pool(PlacedName<'a>),
-    /// `build OUTPUTS : RULE INPUTS`
-    Build(Outputs<'a>, PlacedName<'a>, Inputs<'a>),
-    /// `default TARGETS`
-    Default(Vec<Word<'a>>),
-    /// `include FILE`
-    Include(Word<'a>),
-    /// `subninja FILE`
-    Subninja(Word<'a>),
-}
 
 /// After `rule` or `pool`: a name and the end of the line.
 #[tactic(auto, unfolding(crate::specs::Statements::name_alone))]
@@ -59,47 +23,73 @@ fn name_alone<'a>(lexer: &mut Lexer<'a>, wanted: Wanted) -> Result<PlacedName<'a
     Ok(name)
 }
 
+/// After `rule`: its name.
+fn rule_next<'a>(alloc: Global, lexer: &mut Lexer<'a>) -> Result<Statement<'a>, ParseFault<'a>>
+    ensures { TakesStep head_text result lexer.new
+        (as_head RuleHead (name_alone Wanted.RuleName lexer.old)) }
+{
+    let PlacedName { spot, name } = name_alone(lexer, Wanted::RuleName)?;
+    Ok(Statement::Rule(Rule {
+        name,
+        name_spot: spot,
+        lines: Vec::new(alloc),
+    }))
+}
+
+/// After `pool`: its name.
+fn pool_next<'a>(alloc: Global, lexer: &mut Lexer<'a>) -> Result<Statement<'a>, ParseFault<'a>>
+    ensures { TakesStep head_text result lexer.new
+        (as_head PoolHead (name_alone Wanted.PoolName lexer.old)) }
+{
+    let PlacedName { spot, name } = name_alone(lexer, Wanted::PoolName)?;
+    Ok(Statement::Pool(Pool {
+        name,
+        name_spot: spot,
+        lines: Vec::new(alloc),
+    }))
+}
+
 /// After `build`: `OUTPUTS | IMPLICIT-OUTPUTS`.
 #[tactic(auto, unfolding(crate::specs::Statements::outputs_next))]
-fn outputs_next<'a>(alloc: Global, lexer: &mut Lexer<'a>) -> Result<Outputs<'a>, ParseFault<'a>>
-    ensures { TakesStep outputs_text result lexer.new (outputs_next lexer.old) }
+fn outputs_next<'a>(
+    alloc: Global,
+    lexer: &mut Lexer<'a>,
+) -> Result<(Vec<Word<'a>>, Vec<Word<'a>>), ParseFault<'a>>
+    ensures { TakesStep (λ outs. outs_text outs.0.items outs.1.items) result lexer.new
+        (outputs_next lexer.old) }
 {
     let explicit = words_next(alloc, lexer)?;
     let implicit = section_next(alloc, lexer, Sign::Pipe)?;
     if explicit.is_empty() && implicit.is_empty() {
         return Err(ParseFault::Expected(lexer.spot(), Wanted::Path));
     }
-    Ok(Outputs { explicit, implicit })
+    Ok((explicit, implicit))
 }
 
-/// `INPUTS | IMPLICIT || ORDER-ONLY |@ VALIDATIONS`.
-#[tactic(auto, unfolding(crate::specs::Statements::inputs_next))]
-fn inputs_next<'a>(alloc: Global, lexer: &mut Lexer<'a>) -> Result<Inputs<'a>, ParseFault<'a>>
-    ensures { TakesStep inputs_text result lexer.new (inputs_next lexer.old) }
+/// `OUTPUTS : RULE INPUTS | IMPLICIT || ORDER-ONLY |@ VALIDATIONS`.
+#[tactic(auto, unfolding(crate::specs::Statements::build_next, crate::specs::Statements::inputs_next))]
+fn build_next<'a>(alloc: Global, lexer: &mut Lexer<'a>) -> Result<Statement<'a>, ParseFault<'a>>
+    ensures { TakesStep head_text result lexer.new (build_next lexer.old) }
 {
+    let (explicit_outs, implicit_outs) = outputs_next(alloc, lexer)?;
+    expect_sign(lexer, Sign::Colon, Wanted::Colon)?;
+    let rule = name_next(lexer, Wanted::CommandName)?;
     let explicit = words_next(alloc, lexer)?;
     let implicit = section_next(alloc, lexer, Sign::Pipe)?;
     let order_only = section_next(alloc, lexer, Sign::Pipe2)?;
     let validations = section_next(alloc, lexer, Sign::PipeAt)?;
-    Ok(Inputs {
+    expect_sign(lexer, Sign::LineEnd, Wanted::Newline)?;
+    Ok(Statement::Build(Build {
+        explicit_outs,
+        implicit_outs,
+        rule: rule.name,
+        rule_spot: rule.spot,
         explicit,
         implicit,
         order_only,
         validations,
-    })
-}
-
-/// `OUTPUTS : RULE INPUTS`.
-#[tactic(auto, unfolding(crate::specs::Statements::build_next))]
-fn build_next<'a>(alloc: Global, lexer: &mut Lexer<'a>) -> Result<Head<'a>, ParseFault<'a>>
-    ensures { TakesStep head_text result lexer.new (build_next lexer.old) }
-{
-    let outputs = outputs_next(alloc, lexer)?;
-    expect_sign(lexer, Sign::Colon, Wanted::Colon)?;
-    let rule = name_next(lexer, Wanted::CommandName)?;
-    let inputs = inputs_next(alloc, lexer)?;
-    expect_sign(lexer, Sign::LineEnd, Wanted::Newline)?;
-    Ok(Head::Build(outputs, rule, inputs))
+        lines: Vec::new(alloc),
+    }))
 }
 
 /// After `default`: the targets.
@@ -130,35 +120,39 @@ fn file_next<'a>(alloc: Global, lexer: &mut Lexer<'a>) -> Result<Word<'a>, Parse
     }
 }
 
-/// What follows the identifier with which a statement begins.
+/// What follows the identifier with which a statement begins, on its first line.
 #[tactic(auto, unfolding(crate::specs::Statements::head_after))]
 fn head_after<'a>(
     alloc: Global,
     lexer: &mut Lexer<'a>,
     word: &'a [u8],
-) -> Result<Head<'a>, ParseFault<'a>>
+) -> Result<Statement<'a>, ParseFault<'a>>
     ensures { TakesStep head_text result lexer.new (head_after word.now lexer.old) }
 {
     if word == b"build".as_slice() {
         build_next(alloc, lexer)
     } else if word == b"rule".as_slice() {
-        Ok(Head::Rule(name_alone(lexer, Wanted::RuleName)?))
+        rule_next(alloc, lexer)
     } else if word == b"pool".as_slice() {
-        Ok(Head::Pool(name_alone(lexer, Wanted::PoolName)?))
+        pool_next(alloc, lexer)
     } else if word == b"default".as_slice() {
-        Ok(Head::Default(targets_next(alloc, lexer)?))
+        let words = targets_next(alloc, lexer)?;
+        Ok(Statement::Default { words })
     } else if word == b"include".as_slice() {
-        Ok(Head::Include(file_next(alloc, lexer)?))
+        let word = file_next(alloc, lexer)?;
+        Ok(Statement::Include { word })
     } else if word == b"subninja".as_slice() {
-        Ok(Head::Subninja(file_next(alloc, lexer)?))
+        let word = file_next(alloc, lexer)?;
+        Ok(Statement::Subninja { word })
     } else {
-        Ok(Head::Binding(word, equals_value(alloc, lexer)?))
+        let value = equals_value(alloc, lexer)?;
+        Ok(Statement::Binding { name: word, value })
     }
 }
 
-/// The first line of a statement.
+/// The first line of a statement: the statement without its block.
 #[tactic(auto, unfolding(crate::specs::Statements::head_next))]
-pub fn head_next<'a>(alloc: Global, lexer: &mut Lexer<'a>) -> Result<Head<'a>, ParseFault<'a>>
+pub fn head_next<'a>(alloc: Global, lexer: &mut Lexer<'a>) -> Result<Statement<'a>, ParseFault<'a>>
     ensures { TakesStep head_text result lexer.new (head_next lexer.old) }
 {
     let word = name_next(lexer, Wanted::Statement)?;

@@ -21,7 +21,6 @@ pub use dyndep::DyndepParser;
 pub use entries::Entry;
 pub use fault::{ParseFault, Wanted};
 pub use fault_text::FaultText;
-pub use heads::{Inputs, Outputs};
 pub use laws::{
     dyndep_entries_are_the_forms, dyndep_faults_are_leftmost, dyndep_versions_are_the_forms,
     faults_are_leftmost, missing_lines_are_lacking, next_entries_are_the_forms,
@@ -29,5 +28,4 @@ pub use laws::{
 };
 pub use nj_text::{LexFault, Part, Spot, Word};
 pub use parser::Parser;
-pub use statement::{Build, Line, Placed, Statement};
-pub use steps::PlacedName;
+pub use statement::{Build, Line, Placed, Pool, Rule, Statement};

@@ -1,97 +1,45 @@
 //! The next statement of a text.
 
 ghost use Rattle.std.specs.Prelude.{◌≡◌, map, Some, option_map};
-ghost use Rattle.nj_text.specs.Words.{word_text};
-ghost use Rattle.nj_manifest.specs.Inside.ParserContracts.{TakesStep};
-ghost use Rattle.nj_manifest.specs.Contents.{name_text};
 ghost use Rattle.nj_manifest.specs.Statements.{with_block, statement_at, next_statement};
 ghost use Rattle.nj_manifest.specs.Contents.{statement_text, placed_text};
-ghost use Rattle.nj_manifest.specs.Inside.ParserContracts.{head_text};
-ghost use Rattle.nj_manifest.specs.Inside.ParserContracts.{ParsesFrom, ParsesAt, ParsesNext, IsBetweenStatements};
+ghost use Rattle.nj_manifest.specs.Inside.ParserContracts.{head_text, ParsesFrom, ParsesAt, ParsesNext, IsBetweenStatements};
 
 use crate::block::{Keys, block, whole_pool, whole_rule};
 use crate::fault::ParseFault;
-use crate::heads::{Head, Inputs, Outputs, head_next};
+use crate::heads::head_next;
 use crate::opening::find_statement;
-use crate::statement::{Build, Placed, Statement};
-use crate::steps::PlacedName;
+use crate::statement::{Build, Placed, Pool, Rule, Statement};
 use nj_text::{Lexer, Spot};
 use std::alloc::Global;
 
-/// A rule with its block.
-#[tactic(auto, unfolding(crate::specs::Statements::with_block))]
-fn rule_with_block<'a>(
-    alloc: Global,
-    lexer: &mut Lexer<'a>,
-    spot: Spot,
-    name: PlacedName<'a>,
-) -> Result<Statement<'a>, ParseFault<'a>>
-    ensures { ParsesFrom statement_text lexer.old lexer.new
-        (with_block spot (head_text (Head.Rule name.entry))) result }
-{
-    let lines = block(alloc, lexer, Keys::OfRule)?;
-    whole_rule(spot, &lines)?;
-    Ok(Statement::Rule { name, lines })
-}
-
-/// A pool with its block.
-#[tactic(auto, unfolding(crate::specs::Statements::with_block))]
-fn pool_with_block<'a>(
-    alloc: Global,
-    lexer: &mut Lexer<'a>,
-    spot: Spot,
-    name: PlacedName<'a>,
-) -> Result<Statement<'a>, ParseFault<'a>>
-    ensures { ParsesFrom statement_text lexer.old lexer.new
-        (with_block spot (head_text (Head.Pool name.entry))) result }
-{
-    let lines = block(alloc, lexer, Keys::OfPool)?;
-    whole_pool(spot, &lines)?;
-    Ok(Statement::Pool { name, lines })
-}
-
-/// A build statement with its block.
-#[tactic(auto, unfolding(crate::specs::Statements::with_block))]
-fn build_with_block<'a>(
-    alloc: Global,
-    lexer: &mut Lexer<'a>,
-    outputs: Outputs<'a>,
-    rule: PlacedName<'a>,
-    inputs: Inputs<'a>,
-) -> Result<Statement<'a>, ParseFault<'a>>
-    ensures { (spot : Spot) → ParsesFrom statement_text lexer.old lexer.new
-        (with_block spot (head_text (Head.Build outputs.entry rule.entry inputs.entry))) result }
-{
-    let lines = block(alloc, lexer, Keys::All)?;
-    Ok(Statement::Build(Build {
-        outputs,
-        rule,
-        inputs,
-        lines,
-    }))
-}
-
-/// A statement with its block.
+/// A statement with its block, of which the first line was read.
 #[tactic(auto, unfolding(crate::specs::Statements::with_block))]
 fn with_block<'a>(
     alloc: Global,
     lexer: &mut Lexer<'a>,
     spot: Spot,
-    head: Head<'a>,
+    head: Statement<'a>,
 ) -> Result<Statement<'a>, ParseFault<'a>>
     ensures { ParsesFrom statement_text lexer.old lexer.new
         (with_block spot (head_text head.entry)) result }
 {
     match head {
-        Head::Binding(name, value) => Ok(Statement::Binding { name, value }),
-        Head::Rule(name) => rule_with_block(alloc, lexer, spot, name),
-        Head::Pool(name) => pool_with_block(alloc, lexer, spot, name),
-        Head::Build(outputs, rule, inputs) => {
-            build_with_block(alloc, lexer, outputs, rule, inputs)
+        Statement::Rule(rule) => {
+            let lines = block(alloc, lexer, Keys::OfRule)?;
+            whole_rule(spot, &lines)?;
+            Ok(Statement::Rule(Rule { lines, ..rule }))
         }
-        Head::Default(words) => Ok(Statement::Default { words }),
-        Head::Include(word) => Ok(Statement::Include { word }),
-        Head::Subninja(word) => Ok(Statement::Subninja { word }),
+        Statement::Pool(pool) => {
+            let lines = block(alloc, lexer, Keys::OfPool)?;
+            whole_pool(spot, &lines)?;
+            Ok(Statement::Pool(Pool { lines, ..pool }))
+        }
+        Statement::Build(build) => {
+            let lines = block(alloc, lexer, Keys::All)?;
+            Ok(Statement::Build(Build { lines, ..build }))
+        }
+        alone => Ok(alone),
     }
 }
 

@@ -1,7 +1,5 @@
 //! Statements ("Ninja file reference" in the Ninja manual).
 
-use crate::heads::{Inputs, Outputs};
-use crate::steps::PlacedName;
 use nj_text::{Spot, Word};
 
 /// Something and the place of its first byte.
@@ -20,12 +18,36 @@ pub struct Line<'a> {
     pub value: Word<'a>,
 }
 
-/// A `build` statement ("Build statements" in the Ninja manual).
+/// `rule name` ("Rules" in the Ninja manual).
+#[derive(Debug, Drop)]
+pub struct Rule<'a> {
+    pub name: &'a [u8],
+    pub name_spot: Spot,
+    /// The lines of its block.
+    pub lines: Vec<Line<'a>>,
+}
+
+/// `pool name` ("Pools" in the Ninja manual).
+#[derive(Debug, Drop)]
+pub struct Pool<'a> {
+    pub name: &'a [u8],
+    pub name_spot: Spot,
+    /// The lines of its block.
+    pub lines: Vec<Line<'a>>,
+}
+
+/// `build explicit_outs | implicit_outs : rule explicit | implicit || order_only |@ validations`
+/// ("Build statements" in the Ninja manual).
 #[derive(Debug, Drop)]
 pub struct Build<'a> {
-    pub outputs: Outputs<'a>,
-    pub rule: PlacedName<'a>,
-    pub inputs: Inputs<'a>,
+    pub explicit_outs: Vec<Word<'a>>,
+    pub implicit_outs: Vec<Word<'a>>,
+    pub rule: &'a [u8],
+    pub rule_spot: Spot,
+    pub explicit: Vec<Word<'a>>,
+    pub implicit: Vec<Word<'a>>,
+    pub order_only: Vec<Word<'a>>,
+    pub validations: Vec<Word<'a>>,
     /// The lines of its block.
     pub lines: Vec<Line<'a>>,
 }
@@ -34,33 +56,14 @@ pub struct Build<'a> {
 #[derive(Debug, Drop)]
 pub enum Statement<'a> {
     /// `name = value`
-    Binding {
-        name: &'a [u8],
-        value: Word<'a>,
-    },
-    /// `rule name`, and the lines of its block
-    Rule {
-        name: PlacedName<'a>,
-        lines: Vec<Line<'a>>,
-    },
-    /// `pool name`, and the lines of its block
-    Pool {
-        name: PlacedName<'a>,
-        lines: Vec<Line<'a>>,
-    },
-    /// `build outs | implicit outs : rule ins | implicit || order-only |@ validations`, and the
-    /// lines of its block
+    Binding { name: &'a [u8], value: Word<'a> },
+    Rule(Rule<'a>),
+    Pool(Pool<'a>),
     Build(Build<'a>),
     /// `default targets`
-    Default {
-        words: Vec<Word<'a>>,
-    },
+    Default { words: Vec<Word<'a>> },
     /// `include path`
-    Include {
-        word: Word<'a>,
-    },
+    Include { word: Word<'a> },
     /// `subninja path`
-    Subninja {
-        word: Word<'a>,
-    },
+    Subninja { word: Word<'a> },
 }

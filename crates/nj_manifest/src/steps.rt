@@ -2,8 +2,7 @@
 
 ghost use Rattle.std.specs.Prelude.{◌≡◌, map};
 ghost use Rattle.nj_text.specs.Words.{word_text};
-ghost use Rattle.nj_manifest.specs.Inside.ParserContracts.{TakesStep, LeadsTo};
-ghost use Rattle.nj_manifest.specs.Contents.{name_text};
+ghost use Rattle.nj_manifest.specs.Inside.ParserContracts.{TakesStep, LeadsTo, name_text};
 ghost use Rattle.nj_manifest.specs.LineSteps.{name_next, expect_sign, words_next, section_next};
 
 use crate::fault::{ParseFault, Wanted};

@@ -1,7 +1,7 @@
 //! The edges that were read so far, and the defaults.
 
 ghost use Rattle.std.specs.Prelude.{◌≡◌, ℕ, ◌<◌, List, [], ◌∷◌, Some, option_map, length, slice_get, vec_len, vec_capacity, OnOk, OnErr, IfSome};
-ghost use Rattle.nj_manifest.specs.Contents.{name_text, words_text, outputs_text, inputs_text, lines_text, build_text};
+ghost use Rattle.nj_manifest.specs.Contents.{words_text, outputs_text, used_rule, inputs_text, lines_text, build_text};
 ghost use Rattle.nj_manifest.specs.Statements.{DefaultText};
 ghost use Rattle.nj_scope.specs.Readings.{IsPrefix};
 ghost use Rattle.nj_scope.specs.Scopes.{IsScope, parent_at};
@@ -18,9 +18,9 @@ use crate::edge::{EdgeRule, NamedLine, add_edge};
 use crate::names::{EdgeBlock, Names, Room};
 use crate::place::StatementPlace;
 use crate::references::{NumberedRule, keep_references, rule_references};
+use nj_edge_env::{Blocks, KeyReferences};
 use nj_edges::{Edges, FileNo, Files};
 use nj_faults::{Cause, GraphFault, Name};
-use nj_edge_env::{Blocks, KeyReferences};
 use nj_manifest::Build;
 use nj_scope::{Declarations, HashKeys};
 use nj_text::{Spot, Word};
@@ -123,16 +123,16 @@ impl Building {
             (place.entry.scope ∷ around)
             → HoldsEdges self.old entries
             → let e = entry_at_place place.entry around depth (build_text build.now) in
-            ReadsStatement self.new (build_fault e entries (outputs_text build.now.outputs)
-            (name_text build.now.rule) (inputs_text build.now.inputs)
+            ReadsStatement self.new (build_fault e entries (outputs_text build.now)
+            (used_rule build.now) (inputs_text build.now)
             (lines_text build.now.lines.items)) e entries result }
         ensures refused { OnErr result (AddsNothing self.old self.new) }
     {
-        let rule = match rule_named(declarations, place.scope, build.rule.name) {
+        let rule = match rule_named(declarations, place.scope, build.rule) {
             Some(rule) => rule,
             None => {
-                let cause = Cause::UnknownRule(Name::new(alloc, build.rule.name)?);
-                return Err(place.fault(alloc, build.rule.spot, cause));
+                let cause = Cause::UnknownRule(Name::new(alloc, build.rule)?);
+                return Err(place.fault(alloc, build.rule_spot, cause));
             }
         };
         self.read_edge(alloc, declarations, place, build, rule)
@@ -152,17 +152,17 @@ impl Building {
             → DeclaredBy declarations.now entries
             → IsScope (parent_at declarations.now.scopes) place.entry.scope
             (place.entry.scope ∷ around)
-            → rule_in_force entries (place.entry.scope ∷ around) build.now.rule.name.now
+            → rule_in_force entries (place.entry.scope ∷ around) build.now.rule.now
             ≡ Some rule.entry.number
             → slice_get (rule_texts entries) rule.entry.number ≡ Some rule.entry.rule.now
             → HoldsEdges self.old entries
             → let e = entry_at_place place.entry around depth (build_text build.now) in
-            let outputs = outputs_text build.now.outputs in
-            let inputs = inputs_text build.now.inputs in
+            let outputs = outputs_text build.now in
+            let inputs = inputs_text build.now in
             let lines = lines_text build.now.lines.items in
             ReadsStatement self.new (or_then (paths_fault e.file (line_values e entries lines)
             (paths_of_edges (edges_read entries)) outputs inputs) (late_fault entries
-            (edge_of_build e entries outputs (name_text build.now.rule) inputs lines)))
+            (edge_of_build e entries outputs (used_rule build.now) inputs lines)))
             e entries result }
         ensures refused { OnErr result (AddsNothing self.old self.new) }
     {

@@ -17,10 +17,10 @@ ghost use Rattle.nj_statements.specs.Inside.EdgeSteps.{SeesNames, IsFileSaid, bo
 use crate::late::LateLine;
 use crate::names::{EdgeBlock, Names, Room};
 use crate::place::StatementPlace;
+use nj_edge_env::{KeyReferences, LateEdge};
 use nj_edges::{Edges, FileNo, KindEnds};
 use nj_faults::{Cause, GraphFault, Name};
-use nj_edge_env::{KeyReferences, LateEdge};
-use nj_manifest::{Build, Inputs, Outputs, Word};
+use nj_manifest::{Build, Word};
 use nj_scope::{Declarations, Rule};
 use nj_text::{Spot, TextFault};
 use std::alloc::{AllocError, Global};
@@ -180,23 +180,23 @@ fn add_all_outputs(
     line: NamedLine<'_, '_, '_>,
     room: &mut Room,
     edges: &mut Edges,
-    outputs: &Outputs<'_>,
+    build: &Build<'_>,
 ) -> Result<(), GraphFault>
     requires { line.names.scope < length line.names.declarations.now.scopes }
     ensures fault { (values : Values) → SeesNames line.entry.names values
         → Checks (outputs_fault line.entry.place.file.now values edges.old.edges
-        edges.old.«open».outputs ((outputs_text outputs.now).explicit
-        ++ (outputs_text outputs.now).implicit)) result }
+        edges.old.«open».outputs ((outputs_text build.now).explicit
+        ++ (outputs_text build.now).implicit)) result }
     ensures added { (values : Values) → SeesNames line.entry.names values
         → OnOk result (edges.new ≡ with_outputs (with_outputs edges.old
-        (paths_said values (outputs_text outputs.now).explicit))
-        (paths_said values (outputs_text outputs.now).implicit)) }
-    ensures grows { OnOk result (Grows (length outputs.now.explicit.items
-        + length outputs.now.implicit.items) edges.old edges.new) }
+        (paths_said values (outputs_text build.now).explicit))
+        (paths_said values (outputs_text build.now).implicit)) }
+    ensures grows { OnOk result (Grows (length build.now.explicit_outs.items
+        + length build.now.implicit_outs.items) edges.old edges.new) }
     ensures keeps { KeepsRead edges.old edges.new }
 {
-    line.add_outputs(room, edges, outputs.explicit.as_slice())?;
-    line.add_outputs(room, edges, outputs.implicit.as_slice())
+    line.add_outputs(room, edges, build.explicit_outs.as_slice())?;
+    line.add_outputs(room, edges, build.implicit_outs.as_slice())
 }
 
 // Appends all inputs and validations of a build statement to the edge that is being read. Returns
@@ -206,26 +206,26 @@ fn add_all_inputs(
     line: NamedLine<'_, '_, '_>,
     room: &mut Room,
     edges: &mut Edges,
-    inputs: &Inputs<'_>,
+    build: &Build<'_>,
     loses_own: bool,
 ) -> Result<(usize, usize), GraphFault>
     requires { line.names.scope < length line.names.declarations.now.scopes }
     ensures fault { (values : Values) → SeesNames line.entry.names values
-        → Checks (inputs_fault line.entry.place.file.now values (inputs_text inputs.now)) result }
+        → Checks (inputs_fault line.entry.place.file.now values (inputs_text build.now)) result }
     ensures added { (values : Values) → SeesNames line.entry.names values
-        → IfOk result (λ ends. AddsInputs loses_own values (inputs_text inputs.now)
+        → IfOk result (λ ends. AddsInputs loses_own values (inputs_text build.now)
         edges.old edges.new ends) }
     ensures within { IfOk result (λ ends. (ends.0 ≤ ends.1)
         × (ends.1 ≤ length edges.new.«open».inputs)) }
     ensures grows { OnOk result (Grows 0 edges.old edges.new) }
     ensures keeps { KeepsRead edges.old edges.new }
 {
-    line.add_inputs(room, edges, inputs.explicit.as_slice(), loses_own)?;
+    line.add_inputs(room, edges, build.explicit.as_slice(), loses_own)?;
     let explicit = edges.open_inputs();
-    line.add_inputs(room, edges, inputs.implicit.as_slice(), loses_own)?;
+    line.add_inputs(room, edges, build.implicit.as_slice(), loses_own)?;
     let implicit = edges.open_inputs();
-    line.add_inputs(room, edges, inputs.order_only.as_slice(), loses_own)?;
-    line.add_validations(room, edges, inputs.validations.as_slice())?;
+    line.add_inputs(room, edges, build.order_only.as_slice(), loses_own)?;
+    line.add_validations(room, edges, build.validations.as_slice())?;
     Ok((explicit, implicit))
 }
 
@@ -253,27 +253,21 @@ fn add_files(
     ensures fault { (values : Values) → SeesNames line.entry.names values
         → edges.old.«open» ≡ no_files
         → Checks (paths_fault line.entry.place.file.now values edges.old.edges
-        (outputs_text build.now.outputs) (inputs_text build.now.inputs)) result }
+        (outputs_text build.now) (inputs_text build.now)) result }
     ensures named { (values : Values) → SeesNames line.entry.names values
         → edges.old.«open» ≡ no_files
         → IfOk result (λ kinds. edge_read edges.new.«open» kinds is_phony ≡ edge_paths
-        (stated_paths values (outputs_text build.now.outputs) (inputs_text build.now.inputs)
+        (stated_paths values (outputs_text build.now) (inputs_text build.now)
         is_phony)) }
     ensures within { IfOk result (λ kinds. EndWithin kinds (length edges.new.«open».outputs)
         (length edges.new.«open».inputs)) }
     ensures keeps { KeepsRead edges.old edges.new }
 {
-    add_all_outputs(line, room, edges, &build.outputs)?;
+    add_all_outputs(line, room, edges, build)?;
     let loses_own = loses_own(build, is_phony);
-    let (explicit_inputs, implicit_inputs) = add_all_inputs(
-        line,
-        room,
-        edges,
-        &build.inputs,
-        loses_own,
-    )?;
+    let (explicit_inputs, implicit_inputs) = add_all_inputs(line, room, edges, build, loses_own)?;
     Ok(KindEnds {
-        explicit_outputs: build.outputs.explicit.as_slice().len(),
+        explicit_outputs: build.explicit_outs.as_slice().len(),
         explicit_inputs,
         implicit_inputs,
     })
@@ -322,21 +316,21 @@ pub(crate) fn add_edge(
     ensures fault { (values : Values) (sees : SeesNames line.entry.names values)
         → edges.old.«open» ≡ no_files
         → TellsCycles rule.entry.rule.now.lines rule.entry.references.now
-        → let paths = edge_paths (stated_paths values (outputs_text build.now.outputs)
-        (inputs_text build.now.inputs) rule.entry.is_phony) in
+        → let paths = edge_paths (stated_paths values (outputs_text build.now)
+        (inputs_text build.now) rule.entry.is_phony) in
         Checks (or_then (paths_fault line.entry.place.file.now values edges.old.edges
-        (outputs_text build.now.outputs) (inputs_text build.now.inputs))
+        (outputs_text build.now) (inputs_text build.now))
         (names_fault line.entry.place.file.now line.entry.place.spot (pools sees.entries)
         (inputs_of paths) (names_read paths (bound_by rule.entry.block) rule.entry.rule.now
         (value_after sees.entries (line.entry.names.scope ∷ sees.around))))) result }
     ensures added { (values : Values) → SeesNames line.entry.names values
         → edges.old.«open» ≡ no_files
         → OnOk result (AddsEdge edges.old edges.new (edge_paths (stated_paths values
-        (outputs_text build.now.outputs) (inputs_text build.now.inputs) rule.entry.is_phony))) }
+        (outputs_text build.now) (inputs_text build.now) rule.entry.is_phony))) }
     ensures dyndep { (values : Values) (sees : SeesNames line.entry.names values)
         → edges.old.«open» ≡ no_files
-        → let paths = edge_paths (stated_paths values (outputs_text build.now.outputs)
-        (inputs_text build.now.inputs) rule.entry.is_phony) in
+        → let paths = edge_paths (stated_paths values (outputs_text build.now)
+        (inputs_text build.now) rule.entry.is_phony) in
         IfOk result (λ file. IsFileSaid edges.new.files file (file_said (asked_text
         (names_read paths (bound_by rule.entry.block) rule.entry.rule.now
         (value_after sees.entries (line.entry.names.scope ∷ sees.around))) (codes "dyndep")))) }
@@ -362,10 +356,10 @@ pub(crate) fn add_edge(
 // Whether the edge of a build statement loses the inputs that are its own output.
 fn loses_own(build: &Build<'_>, is_phony: bool) -> bool
     ensures { (values : Values) → result ≡ loses_own (stated_paths values
-        (outputs_text build.now.outputs) (inputs_text build.now.inputs) is_phony) }
+        (outputs_text build.now) (inputs_text build.now) is_phony) }
 {
     is_phony
-        && build.outputs.explicit.len() == 1
-        && build.outputs.implicit.is_empty()
-        && build.inputs.implicit.is_empty()
+        && build.explicit_outs.len() == 1
+        && build.implicit_outs.is_empty()
+        && build.implicit.is_empty()
 }

@@ -11,9 +11,9 @@ ghost use Rattle.nj_statements.specs.Inside.EdgeSteps.{SeesLate, IsFileSaid};
 
 use crate::names::Room;
 use crate::place::StatementPlace;
+use nj_edge_env::{KeyReferences, LateEdge};
 use nj_edges::{Edges, FileNo};
 use nj_faults::{Cause, GraphFault, Name};
-use nj_edge_env::{KeyReferences, LateEdge};
 use nj_text::TextFault;
 use std::alloc::{AllocError, Global};
 

@@ -5,7 +5,7 @@
 
 use crate::words::{ascii, put_spot, put_word};
 use nj_manifest::{
-    Build, DyndepParser, Entry, Line, ParseFault, Parser, Placed, PlacedName, Statement, Wanted,
+    Build, DyndepParser, Entry, Line, ParseFault, Parser, Placed, Statement, Wanted,
 };
 use nj_text::{Spot, Word};
 use std::alloc::{AllocError, Global};
@@ -32,11 +32,11 @@ fn put_binding(text: &mut String, name: &[u8], value: &Word<'_>) -> Result<(), A
 }
 
 /// A keyword, and a name at its place.
-fn put_named(text: &mut String, keyword: &str, name: PlacedName<'_>) -> Result<(), AllocError> {
+fn put_named(text: &mut String, keyword: &str, spot: Spot, name: &[u8]) -> Result<(), AllocError> {
     text.push_str(keyword)?;
-    put_spot(text, name.spot)?;
+    put_spot(text, spot)?;
     text.push(' ')?;
-    text.push_str(ascii(name.name))
+    text.push_str(ascii(name))
 }
 
 /// The lines of a block: `; place name = value`.
@@ -53,25 +53,14 @@ fn put_block(text: &mut String, lines: &[Line<'_>]) -> Result<(), AllocError> {
 /// A build statement.
 fn put_build(text: &mut String, build: &Build<'_>) -> Result<(), AllocError> {
     text.push_str("build")?;
-    put_words(text, "", build.outputs.explicit.as_slice())?;
-    put_words(text, " |", build.outputs.implicit.as_slice())?;
-    put_named(text, " : ", build.rule)?;
-    put_words(text, "", build.inputs.explicit.as_slice())?;
-    put_words(text, " |", build.inputs.implicit.as_slice())?;
-    put_words(text, " ||", build.inputs.order_only.as_slice())?;
-    put_words(text, " |@", build.inputs.validations.as_slice())?;
+    put_words(text, "", build.explicit_outs.as_slice())?;
+    put_words(text, " |", build.implicit_outs.as_slice())?;
+    put_named(text, " : ", build.rule_spot, build.rule)?;
+    put_words(text, "", build.explicit.as_slice())?;
+    put_words(text, " |", build.implicit.as_slice())?;
+    put_words(text, " ||", build.order_only.as_slice())?;
+    put_words(text, " |@", build.validations.as_slice())?;
     put_block(text, build.lines.as_slice())
-}
-
-/// A rule or a pool.
-fn put_declaration(
-    text: &mut String,
-    keyword: &str,
-    name: PlacedName<'_>,
-    lines: &[Line<'_>],
-) -> Result<(), AllocError> {
-    put_named(text, keyword, name)?;
-    put_block(text, lines)
 }
 
 /// A keyword, and a word.
@@ -84,11 +73,13 @@ fn put_file(text: &mut String, keyword: &str, word: &Word<'_>) -> Result<(), All
 fn put_item(text: &mut String, item: &Statement<'_>) -> Result<(), AllocError> {
     match item {
         Statement::Binding { name, value } => put_binding(text, name, value),
-        Statement::Rule { name, lines } => {
-            put_declaration(text, "rule ", *name, lines.as_slice())
+        Statement::Rule(rule) => {
+            put_named(text, "rule ", rule.name_spot, rule.name)?;
+            put_block(text, rule.lines.as_slice())
         }
-        Statement::Pool { name, lines } => {
-            put_declaration(text, "pool ", *name, lines.as_slice())
+        Statement::Pool(pool) => {
+            put_named(text, "pool ", pool.name_spot, pool.name)?;
+            put_block(text, pool.lines.as_slice())
         }
         Statement::Build(build) => put_build(text, build),
         Statement::Default { words } => put_words(text, "default", words.as_slice()),

@@ -44,8 +44,8 @@ impl Counts {
     {
         match statement {
             Statement::Binding { .. } => self.bindings += 1,
-            Statement::Rule { .. } => self.rules += 1,
-            Statement::Pool { .. } => self.pools += 1,
+            Statement::Rule(_) => self.rules += 1,
+            Statement::Pool(_) => self.pools += 1,
             Statement::Build(_) => self.builds += 1,
             Statement::Default { .. } => self.defaults += 1,
             Statement::Include { .. } => self.includes += 1,

@@ -8,14 +8,13 @@ use Rattle.nj_manifest.specs.LineSteps.{Step}
 use Rattle.nj_manifest.specs.Statements.{LineText, Parse, lines_from, Left, Lines, Refused}
 use Rattle.nj_manifest.specs.Openings.{Opening, Begun, Ended, opening}
 use Rattle.nj_manifest.specs.Parsers.{Fails}
-use Rattle.nj_text.specs.Words.{word_text}
-use Rattle.nj_manifest.specs.declared.statement.Build.{Build}
-use Rattle.nj_manifest.specs.declared.heads.Head.{Head}
-use Rattle.nj_manifest.specs.declared.heads.Head.TheVariants as head
-use Rattle.nj_manifest.specs.Statements.{HeadText, Alone, RuleHead, PoolHead, BuildHead}
-use Rattle.nj_manifest.specs.Statements.{BindingText, DefaultText, IncludeText}
-use Rattle.nj_manifest.specs.Statements.{SubninjaText}
-use Rattle.nj_manifest.specs.Contents.{name_text, words_text, outputs_text, inputs_text}
+use Rattle.nj_text.specs.declared.word.Word.{Word}
+use Rattle.nj_manifest.specs.declared.steps.PlacedName.{PlacedName}
+use Rattle.nj_manifest.specs.declared.statement.Statement.{Statement}
+use Rattle.nj_manifest.specs.declared.statement.Statement.TheVariants as statement
+use Rattle.nj_manifest.specs.LineSteps.{NameText}
+use Rattle.nj_manifest.specs.Statements.{OutputsText, HeadText, Alone, RuleHead, PoolHead, BuildHead}
+use Rattle.nj_manifest.specs.Contents.{words_text, outputs_text, used_rule, inputs_text, statement_text}
 use Rattle.nj_manifest.specs.Dyndeps.{version_next, DyndepLeft, WholeFile, Entries, Refusing}
 
 abbrev pub left_by : (version_read : Bool) → List lines.Line → DyndepLeft
@@ -26,14 +25,20 @@ abbrev pub dyndep_left : Option ParseFault → (version_read : Bool) → State �
 dyndep_left None version_read s = left_by version_read (lines_from s)
 dyndep_left (Some f) version_read s = Refusing (fault_text f)
 
-abbrev pub head_text : Head → HeadText
-head_text (head.Binding name value) = Alone (BindingText name.now (word_text value))
-head_text (head.Rule name) = RuleHead (name_text name)
-head_text (head.Pool name) = PoolHead (name_text name)
-head_text (head.Build outputs rule inputs) = BuildHead (outputs_text outputs) (name_text rule) (inputs_text inputs)
-head_text (head.Default words) = Alone (DefaultText (words_text words.items))
-head_text (head.Include word) = Alone (IncludeText (word_text word))
-head_text (head.Subninja word) = Alone (SubninjaText (word_text word))
+-- ---- first lines
+
+abbrev pub name_text : PlacedName → NameText
+name_text n = record { spot = n.spot; name = n.name.now }
+
+abbrev pub outs_text : (explicit implicit : List Word) → OutputsText
+outs_text explicit implicit = record { explicit = words_text explicit; implicit = words_text implicit }
+
+-- what a statement says on its first line
+abbrev pub head_text : Statement → HeadText
+head_text (statement.Rule r) = RuleHead (record { spot = r.name_spot; name = r.name.now })
+head_text (statement.Pool p) = PoolHead (record { spot = p.name_spot; name = p.name.now })
+head_text (statement.Build b) = BuildHead (outputs_text b) (used_rule b) (inputs_text b)
+head_text alone = Alone (statement_text alone)
 
 -- ---- along a line
 

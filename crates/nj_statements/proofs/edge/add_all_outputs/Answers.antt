@@ -12,8 +12,8 @@ pub returns-in_err-add_outputs-clause-fault : goal.returns-in_err-add_outputs-cl
 returns-in_err-add_outputs-clause-fault c = λ values sees.
     let file = c.args.line.place.file.now in
     let old = c.args.edges.now in
-    let explicit = words_text c.args.outputs.now.explicit.items in
-    let implicit = words_text c.args.outputs.now.implicit.items in
+    let explicit = words_text c.args.build.now.explicit_outs.items in
+    let implicit = words_text c.args.build.now.implicit_outs.items in
     let split = outputs-append file values old.edges old.«open».outputs explicit implicit in
     err-checks c.from_residual.result c.in_err-add_outputs.field-0.0 (outputs_fault file values old.edges old.«open».outputs (explicit ++ implicit)) c.from_residual.ensures.1
     (subst (λ o. IsFault o c.in_err-add_outputs.field-0.0) (sym split) (fault-first (outputs_fault file values old.edges old.«open».outputs explicit) (outputs_fault file values old.edges (old.«open».outputs ++ paths_said values explicit) implicit) _
@@ -23,13 +23,13 @@ pub returns-clause-fault : goal.returns-clause-fault
 returns-clause-fault c = λ values sees.
     let file = c.args.line.place.file.now in
     let old = c.args.edges.now in
-    let implicit = words_text c.args.outputs.now.implicit.items in
-    let paths = paths_said values (words_text c.args.outputs.now.explicit.items) in
-    let split = outputs-append file values old.edges old.«open».outputs (words_text c.args.outputs.now.explicit.items) implicit in
+    let implicit = words_text c.args.build.now.implicit_outs.items in
+    let paths = paths_said values (words_text c.args.build.now.explicit_outs.items) in
+    let split = outputs-append file values old.edges old.«open».outputs (words_text c.args.build.now.explicit_outs.items) implicit in
     let after = subst (λ ws. c.add_outputs.new.edges ≡ with_outputs old (paths_said values (words_text ws))) c.as_slice.ensures.value (c.in_ok-add_outputs.ensures.added values sees) in
     let edges = c.in_ok-add_outputs.ensures.keeps.edges in
     let outputs = ap (λ t. t.«open».outputs) after ∙ ap (λ o. o.outputs) (outputs-open old paths) in
     subst (λ o. Checks o c.add_outputs-2.result) (sym split)
-    (checks-second (outputs_fault file values old.edges old.«open».outputs (words_text c.args.outputs.now.explicit.items)) (outputs_fault file values old.edges (old.«open».outputs ++ paths) implicit) c.add_outputs-2.result (subst (λ ws. outputs_fault file values old.edges old.«open».outputs (words_text ws) ≡ None) c.as_slice.ensures.value (c.in_ok-add_outputs.ensures.fault values sees))
+    (checks-second (outputs_fault file values old.edges old.«open».outputs (words_text c.args.build.now.explicit_outs.items)) (outputs_fault file values old.edges (old.«open».outputs ++ paths) implicit) c.add_outputs-2.result (subst (λ ws. outputs_fault file values old.edges old.«open».outputs (words_text ws) ≡ None) c.as_slice.ensures.value (c.in_ok-add_outputs.ensures.fault values sees))
     (subst (λ o. Checks o c.add_outputs-2.result) (ap (λ es. outputs_fault file values es c.add_outputs.new.edges.«open».outputs implicit) edges ∙ ap (λ os. outputs_fault file values old.edges os implicit) outputs)
     (subst (λ ws. Checks (outputs_fault file values c.add_outputs.new.edges.edges c.add_outputs.new.edges.«open».outputs (words_text ws)) c.add_outputs-2.result) c.as_slice-2.ensures.value (c.add_outputs-2.ensures.fault values sees))))

@@ -17,8 +17,8 @@ pub returns-in_err-dyndep-clause-fault : goal.returns-in_err-dyndep-clause-fault
 returns-in_err-dyndep-clause-fault c = λ values sees none tells.
     let file = c.args.line.place.file.now in
     let spot = c.args.line.place.spot in
-    let outputs = outputs_text c.args.build.now.outputs in
-    let inputs = inputs_text c.args.build.now.inputs in
+    let outputs = outputs_text c.args.build.now in
+    let inputs = inputs_text c.args.build.now in
     let block = bound_by c.args.rule.block in
     let open_edge = c.add_files.new.edges.«open» in
     let paths : EdgePaths = edge_paths (stated_paths values outputs inputs c.args.rule.is_phony) in
@@ -38,8 +38,8 @@ pub returns-clause-fault : goal.returns-clause-fault
 returns-clause-fault c = λ values sees none tells.
     let file = c.args.line.place.file.now in
     let spot = c.args.line.place.spot in
-    let outputs = outputs_text c.args.build.now.outputs in
-    let inputs = inputs_text c.args.build.now.inputs in
+    let outputs = outputs_text c.args.build.now in
+    let inputs = inputs_text c.args.build.now in
     let block = bound_by c.args.rule.block in
     let open_edge = c.add_files.new.edges.«open» in
     let paths : EdgePaths = edge_paths (stated_paths values outputs inputs c.args.rule.is_phony) in
@@ -53,13 +53,13 @@ returns-clause-fault c = λ values sees none tells.
 
 pub returns-clause-added : goal.returns-clause-added
 returns-clause-added c = λ values sees none.
-    adds-edge c.args.edges.now c.add_files.new.edges c.end_edge.new.self c.in_ok-kinds.kinds c.args.rule.is_phony (edge_paths (stated_paths values (outputs_text c.args.build.now.outputs) (inputs_text c.args.build.now.inputs) c.args.rule.is_phony))
+    adds-edge c.args.edges.now c.add_files.new.edges c.end_edge.new.self c.in_ok-kinds.kinds c.args.rule.is_phony (edge_paths (stated_paths values (outputs_text c.args.build.now) (inputs_text c.args.build.now) c.args.rule.is_phony))
     c.in_ok-kinds.ensures.keeps (c.in_ok-kinds.ensures.named values sees none) c.in_ok-end_edge.ensures.ended
 
 pub returns-clause-dyndep : goal.returns-clause-dyndep
 returns-clause-dyndep c = λ values sees none.
-    let outputs = outputs_text c.args.build.now.outputs in
-    let inputs = inputs_text c.args.build.now.inputs in
+    let outputs = outputs_text c.args.build.now in
+    let inputs = inputs_text c.args.build.now in
     let block = bound_by c.args.rule.block in
     let open_edge = c.add_files.new.edges.«open» in
     let paths : EdgePaths = edge_paths (stated_paths values outputs inputs c.args.rule.is_phony) in

@@ -12,8 +12,8 @@ use Rattle.nj_statements.proofs.edge.add_files.Goals as goal
 pub returns-in_err-add_all_outputs-clause-fault : goal.returns-in_err-add_all_outputs-clause-fault
 returns-in_err-add_all_outputs-clause-fault c = λ values sees none.
     let file = c.args.line.place.file.now in
-    let outputs = outputs_text c.args.build.now.outputs in
-    let inputs = inputs_text c.args.build.now.inputs in
+    let outputs = outputs_text c.args.build.now in
+    let inputs = inputs_text c.args.build.now in
     let edges = c.args.edges.now.edges in
     let f = c.in_err-add_all_outputs.field-0.0 in
     err-checks c.from_residual.result f (paths_fault file values edges outputs inputs) c.from_residual.ensures.1
@@ -22,6 +22,6 @@ returns-in_err-add_all_outputs-clause-fault c = λ values sees none.
 
 pub returns-clause-named : goal.returns-clause-named
 returns-clause-named c = λ values sees none.
-    edge-named values (outputs_text c.args.build.now.outputs) (inputs_text c.args.build.now.inputs) c.args.is_phony c.loses_own-loses_own.result c.args.edges.now c.add_all_outputs.new.edges c.add_all_inputs.new.edges (c.in_ok-explicit_inputs.explicit_inputs, c.in_ok-explicit_inputs.implicit_inputs)
+    edge-named values (outputs_text c.args.build.now) (inputs_text c.args.build.now) c.args.is_phony c.loses_own-loses_own.result c.args.edges.now c.add_all_outputs.new.edges c.add_all_inputs.new.edges (c.in_ok-explicit_inputs.explicit_inputs, c.in_ok-explicit_inputs.implicit_inputs)
     none (c.loses_own-loses_own.ensures values) (c.in_ok-add_all_outputs.ensures.added values sees) (c.in_ok-explicit_inputs.ensures.added values sees)
-    (length c.as_slice.result.now) (ap length c.as_slice.ensures.value ∙ sym (length-map (words_text c.args.build.now.outputs.explicit.items) (path_said values) ∙ length-map c.args.build.now.outputs.explicit.items word_text))
+    (length c.as_slice.result.now) (ap length c.as_slice.ensures.value ∙ sym (length-map (words_text c.args.build.now.explicit_outs.items) (path_said values) ∙ length-map c.args.build.now.explicit_outs.items word_text))

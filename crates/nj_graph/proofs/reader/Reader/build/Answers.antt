@@ -1,5 +1,5 @@
 use Rattle.std.proofs.Common.{refl}
-use Rattle.nj_manifest.specs.Contents.{name_text, outputs_text, inputs_text, lines_text, build_text}
+use Rattle.nj_manifest.specs.Contents.{outputs_text, used_rule, inputs_text, lines_text, build_text}
 use Rattle.nj_scope.specs.ReadingList.{ReadStatement}
 use Rattle.nj_scope.proofs.DeclarationLemmas.{takes-build}
 use Rattle.nj_graph.specs.declared.reader.Reader.{Reader}
@@ -14,6 +14,6 @@ returns-clause-declares c = λ main entries around depth holds inside.
     let b = c.args.build.now in
     let e : ReadStatement = entry_at (site_of c.args.file around depth) (record { spot = c.args.spot; item = build_text b }) in
     let held : Reader = record { declarations = c.args.self.now.declarations; building = c.read_build.new.self; files = c.args.self.now.files; opened = c.args.self.now.opened } in
-    let takes = takes-build c.args.self.now.declarations c.args.file.scope around (outputs_text b.outputs) (name_text b.rule) (inputs_text b.inputs) (lines_text b.lines.items) entries c.args.file.name.now c.args.spot depth holds.declares in
+    let takes = takes-build c.args.self.now.declarations c.args.file.scope around (outputs_text b) (used_rule b) (inputs_text b) (lines_text b.lines.items) entries c.args.file.name.now c.args.spot depth holds.declares in
     built-declares main c.args.self.now held entries e c.read_build.result holds takes refl refl refl refl (grows-self c.args.self.now.declarations.scopes) inside
     (c.read_build.ensures.reads entries around depth holds.declares inside.within holds.edges)

@@ -1,9 +1,8 @@
 use Rattle.std.proofs.Common.{List, ◌∷◌, Ok, refl, ap, subst}
 use Rattle.nj_text.specs.declared.word.Word.{Word}
 use Rattle.nj_text.specs.Words.{word_text}
-use Rattle.nj_manifest.specs.LineSteps.{NameText}
-use Rattle.nj_manifest.specs.Statements.{BindingText, RuleText, PoolText, DefaultText}
-use Rattle.nj_manifest.specs.Contents.{name_text, words_text, lines_text, build_text, statement_text}
+use Rattle.nj_manifest.specs.Statements.{BindingText, DefaultText}
+use Rattle.nj_manifest.specs.Contents.{words_text, rule_text, pool_text, build_text, statement_text}
 use Rattle.nj_scope.specs.ReadingList.{ReadStatement}
 use Rattle.nj_graph.specs.Reading.{entry_at, own_fault}
 use Rattle.nj_graph.specs.Inside.ReaderContracts.{Holds, IsFault, Declares, site_of}
@@ -22,9 +21,8 @@ returns-in_err-bind-in-Binding-clause-reads g c = λ main entries around depth h
 
 pub returns-in_err-declare_rule-in-Rule-clause-reads : goal.returns-in_err-declare_rule-in-Rule-clause-reads
 returns-in_err-declare_rule-in-Rule-clause-reads g c = λ main entries around depth holds inside.
-    let name : NameText = name_text c.in-Rule.name in
     let start = c.args.statement.now.spot in
-    let e : ReadStatement = entry_at (site_of c.args.file around depth) (record { spot = start; item = RuleText name (lines_text c.in-Rule.lines.items) }) in
+    let e : ReadStatement = entry_at (site_of c.args.file around depth) (record { spot = start; item = rule_text c.in-Rule.rule }) in
     let source = g.S.FileSource.state c.args.source.now in
     let fault = c.in_err-declare_rule-in-Rule.field-0.0 in
     rw (handed fault c.from_residual-in_err-declare_rule-in-Rule.result c.from_residual-in_err-declare_rule-in-Rule.ensures, ap statement_text c.in-Rule.is)
@@ -32,27 +30,23 @@ returns-in_err-declare_rule-in-Rule-clause-reads g c = λ main entries around de
 
 pub returns-in_err-declare_pool-in-Pool-clause-reads : goal.returns-in_err-declare_pool-in-Pool-clause-reads
 returns-in_err-declare_pool-in-Pool-clause-reads g c = λ main entries around depth holds inside.
-    let name : NameText = name_text c.in-Pool.name in
     let start = c.args.statement.now.spot in
-    let e : ReadStatement = entry_at (site_of c.args.file around depth) (record { spot = start; item = PoolText name (lines_text c.in-Pool.lines.items) }) in
+    let e : ReadStatement = entry_at (site_of c.args.file around depth) (record { spot = start; item = pool_text c.in-Pool.pool }) in
     let source = g.S.FileSource.state c.args.source.now in
     let fault = c.in_err-declare_pool-in-Pool.field-0.0 in
     rw (handed fault c.from_residual-in_err-declare_pool-in-Pool.result c.from_residual-in_err-declare_pool-in-Pool.ensures, ap statement_text c.in-Pool.is)
     (stops-own main source source c.args.self.now entries holds refl c.args.file.left e fault
-    (subst (λ ls. IsFault (own_fault (entry_at (site_of c.args.file around depth) (record { spot = start; item = PoolText name (lines_text ls) })) entries) fault) c.deref-in-Pool.ensures.value
-    (c.in_err-declare_pool-in-Pool.ensures.declares start main entries around depth holds inside)))
+    (c.in_err-declare_pool-in-Pool.ensures.declares start main entries around depth holds inside))
 
 pub returns-in_ok-declare_rule-in-Rule-clause-reads : goal.returns-in_ok-declare_rule-in-Rule-clause-reads
 returns-in_ok-declare_rule-in-Rule-clause-reads g c = λ main entries around depth holds inside.
-    let name : NameText = name_text c.in-Rule.name in
     let start = c.args.statement.now.spot in
-    let e : ReadStatement = entry_at (site_of c.args.file around depth) (record { spot = start; item = RuleText name (lines_text c.in-Rule.lines.items) }) in
+    let e : ReadStatement = entry_at (site_of c.args.file around depth) (record { spot = start; item = rule_text c.in-Rule.rule }) in
     let source = g.S.FileSource.state c.args.source.now in
     let declares = c.in_ok-declare_rule-in-Rule.ensures.declares start main entries around depth holds inside in
     rw (ap statement_text c.in-Rule.is)
     (reads-one main source c.args.self.now c.declare_rule.new.self e entries
-    holds (subst (λ ls. Holds main c.declare_rule.new.self (entry_at (site_of c.args.file around depth) (record { spot = start; item = RuleText name (lines_text ls) }) ∷ entries)) c.deref.ensures.value declares.1)
-    declares.0 c.in_ok-declare_rule-in-Rule.ensures.files (λ opens. refl))
+    holds declares.1 declares.0 c.in_ok-declare_rule-in-Rule.ensures.files (λ opens. refl))
 
 pub returns-in_err-build-in-Build-clause-reads : goal.returns-in_err-build-in-Build-clause-reads
 returns-in_err-build-in-Build-clause-reads g c = λ main entries around depth holds inside.
@@ -107,10 +101,8 @@ returns-in_ok-bind-in-Binding-clause-reads g c = λ main entries around depth ho
 
 pub returns-in_ok-declare_pool-in-Pool-clause-reads : goal.returns-in_ok-declare_pool-in-Pool-clause-reads
 returns-in_ok-declare_pool-in-Pool-clause-reads g c = λ main entries around depth holds inside.
-    let name : NameText = name_text c.in-Pool.name in
     let start = c.args.statement.now.spot in
-    let e : ReadStatement = entry_at (site_of c.args.file around depth) (record { spot = start; item = PoolText name (lines_text c.in-Pool.lines.items) }) in
-    let declares = subst (λ ls. Declares main c.declare_pool.new.self (entry_at (site_of c.args.file around depth) (record { spot = start; item = PoolText name (lines_text ls) })) entries (Ok tt)) c.deref-in-Pool.ensures.value
-    (c.in_ok-declare_pool-in-Pool.ensures.declares start main entries around depth holds inside) in
+    let e : ReadStatement = entry_at (site_of c.args.file around depth) (record { spot = start; item = pool_text c.in-Pool.pool }) in
+    let declares = c.in_ok-declare_pool-in-Pool.ensures.declares start main entries around depth holds inside in
     rw (ap statement_text c.in-Pool.is)
     (reads-one main (g.S.FileSource.state c.args.source.now) c.args.self.now c.declare_pool.new.self e entries holds declares.1 declares.0 c.in_ok-declare_pool-in-Pool.ensures.files (λ opens. refl))

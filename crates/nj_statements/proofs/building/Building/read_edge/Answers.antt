@@ -2,7 +2,7 @@ use Rattle.std.proofs.Common.{◌≡◌, ◌<◌, ◌==◌, if◌then◌else◌,
 use Rattle.std.specs.Prelude.{slice_index_or}
 use Rattle.std.proofs.lemmas.List.{length-map, map-append}
 use Rattle.nj_manifest.specs.LineSteps.{NameText}
-use Rattle.nj_manifest.specs.Contents.{name_text, outputs_text, inputs_text, lines_text, build_text}
+use Rattle.nj_manifest.specs.Contents.{outputs_text, used_rule, inputs_text, lines_text, build_text}
 use Rattle.nj_scope.specs.Readings.{IsPrefix}
 use Rattle.nj_scope.specs.Rules.{RuleText}
 use Rattle.nj_scope.specs.Scopes.{or_else}
@@ -26,9 +26,9 @@ use Rattle.nj_statements.proofs.building.Building.read_edge.Goals as goal
 pub returns-in_err-dyndep-clause-reads : goal.returns-in_err-dyndep-clause-reads
 returns-in_err-dyndep-clause-reads c = λ entries around depth by within rule_is there holds.
     let lines = lines_text c.args.build.now.lines.items in
-    let outputs = outputs_text c.args.build.now.outputs in
-    let inputs = inputs_text c.args.build.now.inputs in
-    let rule_text : NameText = name_text c.args.build.now.rule in
+    let outputs = outputs_text c.args.build.now in
+    let inputs = inputs_text c.args.build.now in
+    let rule_text : NameText = used_rule c.args.build.now in
     let e = entry_at_place c.args.place around depth (build_text c.args.build.now) in
     let scope_values : Values = value_after entries (c.args.place.scope ∷ around) in
     let block : Block = block_of scope_values lines in
@@ -56,9 +56,9 @@ returns-in_err-dyndep-clause-reads c = λ entries around depth by within rule_is
 pub returns-clause-reads : goal.returns-clause-reads
 returns-clause-reads c = λ entries around depth by within rule_is there holds.
     let lines = lines_text c.args.build.now.lines.items in
-    let outputs = outputs_text c.args.build.now.outputs in
-    let inputs = inputs_text c.args.build.now.inputs in
-    let rule_text : NameText = name_text c.args.build.now.rule in
+    let outputs = outputs_text c.args.build.now in
+    let inputs = inputs_text c.args.build.now in
+    let rule_text : NameText = used_rule c.args.build.now in
     let e = entry_at_place c.args.place around depth (build_text c.args.build.now) in
     let scope_values : Values = value_after entries (c.args.place.scope ∷ around) in
     let block : Block = block_of scope_values lines in
