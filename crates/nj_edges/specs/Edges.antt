@@ -2,8 +2,8 @@
 use Rattle.std.specs.Prelude.{ℕ, ◌+◌, Bool, false, ◌||◌, not, if◌then◌else◌, Option, Some, None, option_map, List, [], ◌∷◌, ◌++◌, length}
 use Rattle.std.specs.Prelude.{slice_get, slice_index_or, nat_lt, bytes_eq}
 use Rattle.std.specs.List.{list_any, filter, flat_map}
-use Rattle.nj_edges.specs.declared.edges.InputKind.{InputKind}
-use Rattle.nj_edges.specs.declared.edges.InputKind.TheVariants.{Explicit, Implicit, OrderOnly}
+use Rattle.nj_edges.specs.declared.edges.Kind.{Kind}
+use Rattle.nj_edges.specs.declared.edges.Kind.TheVariants.{Explicit, Implicit, OrderOnly}
 
 -- The paths of an edge by kind, and whether its rule is `phony`, so that it has no command. Validations are no inputs.
 pub record EdgePaths : Type 0 where
@@ -78,7 +78,7 @@ abbrev pub is_named : List EdgePaths → (path : List ℕ) → Bool
 is_named edges path = list_any (λ e. names e path) edges
 
 -- the kind of the input at an index
-abbrev pub kind_at : EdgePaths → (index : ℕ) → InputKind
+abbrev pub kind_at : EdgePaths → (index : ℕ) → Kind
 kind_at e index =
     if nat_lt index (length e.explicit_inputs) then Explicit
     else (if nat_lt index (length e.explicit_inputs + length e.implicit_inputs) then Implicit else OrderOnly)

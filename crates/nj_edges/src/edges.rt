@@ -19,7 +19,7 @@ pub struct EdgeNo(pub usize);
 
 /// The kinds of inputs ("Build statements" in the Ninja manual).
 #[derive(Clone, Copy, Debug, PartialEq, Eq)]
-pub enum InputKind {
+pub enum Kind {
     /// An input that `$in` names.
     Explicit,
     /// An input after `|`.

@@ -11,7 +11,7 @@ ghost use Rattle.nj_edges.specs.Inside.FlatInputs.{makers_in_row};
 ghost use Rattle.nj_edges.specs.Graph.{FinishesAs};
 ghost use Rattle.nj_edges.specs.Needs.{makers_of_inputs};
 
-use crate::edges::{EdgeNo, EdgeRow, Edges, InputKind, KindEnds, Span};
+use crate::edges::{EdgeNo, EdgeRow, Edges, Kind, KindEnds, Span};
 use crate::files::{FileNo, Files};
 use crate::flat::flat_inputs;
 use crate::lists::{first, part};
@@ -219,7 +219,7 @@ impl EdgeGraph {
     }
 
     /// The kind of the input at an index.
-    pub fn input_kind(&self, edge: EdgeNo, index: usize) -> InputKind
+    pub fn input_kind(&self, edge: EdgeNo, index: usize) -> Kind
         requires { edge.0 < length self.now.edges }
         ensures { result ≡ kind_at (edge_at self.now.edges edge.0) index }
     {
@@ -244,17 +244,17 @@ pub(crate) fn row_at(rows: &[EdgeRow], edge: usize) -> EdgeRow
 }
 
 // The kind of the input at an index, by where the kinds end.
-fn kind_before(ends: KindEnds, index: usize) -> InputKind
-    ensures { result ≡ (if nat_lt index ends.explicit_inputs then InputKind.Explicit
-        else (if nat_lt index ends.implicit_inputs then InputKind.Implicit
-        else InputKind.OrderOnly)) }
+fn kind_before(ends: KindEnds, index: usize) -> Kind
+    ensures { result ≡ (if nat_lt index ends.explicit_inputs then Kind.Explicit
+        else (if nat_lt index ends.implicit_inputs then Kind.Implicit
+        else Kind.OrderOnly)) }
 {
     if index < ends.explicit_inputs {
-        InputKind::Explicit
+        Kind::Explicit
     } else if index < ends.implicit_inputs {
-        InputKind::Implicit
+        Kind::Implicit
     } else {
-        InputKind::OrderOnly
+        Kind::OrderOnly
     }
 }
 

@@ -10,7 +10,7 @@ mod lists;
 mod roots;
 mod users;
 
-pub use edges::{EdgeNo, Edges, InputKind, KindEnds};
+pub use edges::{EdgeNo, Edges, Kind, KindEnds};
 pub use files::{FileNo, Files};
 pub use graph::{CycleEdge, EdgeGraph, Finished};
 pub use joining::JoiningEdges;

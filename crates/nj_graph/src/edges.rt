@@ -12,7 +12,7 @@ ghost use Rattle.nj_graph.specs.Graph.{edges_of, files_of, IsGraphOf, rule_name,
 
 use crate::graph::{Graph, rule_name};
 use nj_statements::PlaceRef;
-use nj_edges::{EdgeGraph, EdgeNo, FileNo, InputKind};
+use nj_edges::{EdgeGraph, EdgeNo, FileNo, Kind};
 
 impl Graph {
     /// The edges and their files alone, without what statements bind: a walk goes over these.
@@ -103,7 +103,7 @@ impl Graph {
     }
 
     /// The kind of the input at an index.
-    pub fn input_kind(&self, edge: EdgeNo, index: usize) -> InputKind
+    pub fn input_kind(&self, edge: EdgeNo, index: usize) -> Kind
         requires { edge.0 < length (edges_of self.now) }
         ensures { result ≡ kind_at (edge_at (edges_of self.now) edge.0) index }
     {

@@ -1,7 +1,7 @@
 ghost use Rattle.std.specs.Prelude.{◌<◌, length, All};
 ghost use Rattle.nj_graph.specs.Graph.{edges_of, files_of};
 
-use nj_graph::{EdgeNo, FileNo, Graph, InputKind, Loaded, MemoryFiles, load, pick_target};
+use nj_graph::{EdgeNo, FileNo, Graph, Kind, Loaded, MemoryFiles, load, pick_target};
 use std::process::Abort;
 use std::test::*;
 
@@ -52,9 +52,9 @@ fn append_inputs(text: &mut Vec<u8>, graph: &Graph, edge: EdgeNo) -> Result<(), 
 {
     'inputs: for (index, file) in graph.inputs(edge).iter().enumerate() {
         let sign = match graph.input_kind(edge, index) {
-            InputKind::Explicit => b"".as_slice(),
-            InputKind::Implicit => b"|",
-            InputKind::OrderOnly => b"||",
+            Kind::Explicit => b"".as_slice(),
+            Kind::Implicit => b"|",
+            Kind::OrderOnly => b"||",
         };
         append_file(text, sign, graph, *file)?;
     }

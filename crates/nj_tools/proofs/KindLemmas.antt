@@ -6,8 +6,8 @@ use Rattle.std.proofs.lemmas.List.{take_more, length-take, get_or-map}
 use Rattle.nj_edges.specs.declared.files.FileNo.{FileNo}
 use Rattle.nj_edges.specs.Files.{path_at, AreFiles}
 use Rattle.nj_statements.proofs.LateLemmas.{paths-are}
-use Rattle.nj_edges.specs.declared.edges.InputKind.{InputKind}
-use Rattle.nj_edges.specs.declared.edges.InputKind.TheVariants.{Explicit, Implicit, OrderOnly}
+use Rattle.nj_edges.specs.declared.edges.Kind.{Kind}
+use Rattle.nj_edges.specs.declared.edges.Kind.TheVariants.{Explicit, Implicit, OrderOnly}
 use Rattle.nj_edges.specs.Edges.{EdgePaths, inputs_of, kind_at}
 use Rattle.nj_tools.specs.Lines.{line, lines_after}
 use Rattle.nj_tools.specs.Queries.{inputs_by_kind}
@@ -23,7 +23,7 @@ input_lines-append e index (path ∷ paths) more =
     ∙ sym (append_assoc (input_line e index path) (input_lines e (index + 1) paths) (input_lines e (index + length (path ∷ paths)) more))
 
 -- those of one kind, from its first index on
-input_lines-kind : (e : EdgePaths) (kind : InputKind) (index : ℕ) (paths : List (List ℕ))
+input_lines-kind : (e : EdgePaths) (kind : Kind) (index : ℕ) (paths : List (List ℕ))
     → ((i : ℕ) → index ≤ i → i < index + length paths → kind_at e i ≡ kind) → input_lines e index paths ≡ lines_after (sign_of kind) paths
 input_lines-kind e kind index [] are = refl
 input_lines-kind e kind index (path ∷ paths) are =

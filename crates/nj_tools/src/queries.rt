@@ -4,7 +4,7 @@ ghost use Rattle.std.specs.Prelude.{◌≡◌, ◌<◌, List, All, IfSome, lengt
 ghost use Rattle.nj_scope.specs.ReadingList.{ReadStatement};
 ghost use Rattle.nj_edges.specs.Edges.{edge_at};
 ghost use Rattle.nj_edges.specs.Files.{path_at};
-ghost use Rattle.nj_edges.specs.declared.edges.InputKind.{InputKind};
+ghost use Rattle.nj_edges.specs.declared.edges.Kind.{Kind};
 ghost use Rattle.nj_graph.specs.Graph.{edges_of, files_of, IsGraphOf};
 ghost use Rattle.nj_tools.specs.Inside.Blocks.{PutsText};
 ghost use Rattle.nj_tools.specs.Lines.{lines_after};
@@ -24,7 +24,7 @@ use crate::fault::ToolFault;
 use crate::lines::write_line;
 use crate::sinks::Sink;
 use crate::whole::write_whole;
-use nj_graph::{EdgeNo, FileNo, Graph, InputKind};
+use nj_graph::{EdgeNo, FileNo, Graph, Kind};
 use std::alloc::Global;
 
 /// Writes what each of these files is made of, by the edge that makes it, and what is made of it
@@ -111,13 +111,13 @@ fn write_by_kind<S: Sink>(
 }
 
 // What stands before an input of a kind.
-fn sign_of(kind: InputKind) -> &'static [u8]
+fn sign_of(kind: Kind) -> &'static [u8]
     ensures { result.now ≡ sign_of kind }
 {
     match kind {
-        InputKind::Explicit => b"    ",
-        InputKind::Implicit => b"    | ",
-        InputKind::OrderOnly => b"    || ",
+        Kind::Explicit => b"    ",
+        Kind::Implicit => b"    | ",
+        Kind::OrderOnly => b"    || ",
     }
 }
 

@@ -1,12 +1,12 @@
 -- How inputs are written one after another.
 use Rattle.std.specs.Prelude.{ℕ, ◌+◌, List, [], ◌∷◌, ◌++◌, codes}
-use Rattle.nj_edges.specs.declared.edges.InputKind.{InputKind}
-use Rattle.nj_edges.specs.declared.edges.InputKind.TheVariants.{Explicit, Implicit, OrderOnly}
+use Rattle.nj_edges.specs.declared.edges.Kind.{Kind}
+use Rattle.nj_edges.specs.declared.edges.Kind.TheVariants.{Explicit, Implicit, OrderOnly}
 use Rattle.nj_edges.specs.Edges.{EdgePaths, kind_at}
 use Rattle.nj_tools.specs.Lines.{line}
 
 -- what stands before an input of a kind
-abbrev pub sign_of : InputKind → List ℕ
+abbrev pub sign_of : Kind → List ℕ
 sign_of Explicit = codes "    "
 sign_of Implicit = codes "    | "
 sign_of OrderOnly = codes "    || "
