@@ -7,12 +7,9 @@ ghost use Rattle.std.specs.List.{AllByRecursion};
 ghost use Rattle.nj_graph.specs.Inside.GraphHeld.{HoldsMainRules, IsKnown};
 
 use nj_statements::Built;
-use nj_scope::{Declarations, LateValue, Rule};
+use nj_scope::{Declarations, LateValue, MAIN_SCOPE, Rule};
 use std::alloc::{AllocError, Global};
 use std::marker::Model;
-
-// The number of the main file's scope.
-const MAIN_SCOPE: usize = 0;
 
 /// The graph of a run: what its files declare ("Rules" and "Variables" in the Ninja manual), its
 /// edges and its defaults.

@@ -19,11 +19,11 @@ use nj_text::Word;
 use std::alloc::{AllocError, Global};
 use std::marker::Model;
 
-// The number of the main file's scope.
-const MAIN_SCOPE: usize = 0;
+/// The number of the main file's scope.
+pub const MAIN_SCOPE: usize = 0;
 
-// The number of the rule `phony`.
-const PHONY: usize = 0;
+/// The number of the rule `phony`.
+pub const PHONY: usize = 0;
 
 /// The scopes, rules and pools of a run, as the statements that were read so far declare them.
 #[derive(Drop)]

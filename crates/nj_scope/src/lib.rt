@@ -12,7 +12,7 @@ mod scopes;
 mod source;
 mod table;
 
-pub use declarations::Declarations;
+pub use declarations::{Declarations, MAIN_SCOPE, PHONY};
 pub use late::LateValue;
 pub use laws::{rules_in_force, values_by_reading_order};
 pub use limits::is_depth;

@@ -22,13 +22,10 @@ use nj_edge_env::{Blocks, KeyReferences};
 use nj_edges::{Edges, FileNo, Files};
 use nj_faults::{Cause, GraphFault, Name};
 use nj_manifest::Build;
-use nj_scope::{Declarations, HashKeys};
+use nj_scope::{Declarations, HashKeys, PHONY};
 use nj_text::{Spot, Word};
 use std::alloc::Global;
 use std::marker::Model;
-
-// The number of the rule `phony`.
-const PHONY: usize = 0;
 
 // An edge without its paths and its block: the file in which its statement stands, its place there,
 // the numbers of its scope and of its rule.
