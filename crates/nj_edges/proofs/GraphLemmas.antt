@@ -1,9 +1,10 @@
 -- Lemmas on a graph of edges that is held by the numbers of files.
 use Rattle.std.proofs.Common.{◌≡◌, ◌<◌, ◌≤◌, ◌+◌, ◌-◌, ℕ, zero, suc, Bool, true, false, cond, List, [], ◌∷◌, ◌++◌, map, length, take, drop, slice_get, slice_range, get_or, Option, Some, None, is_some, option_map, unwrap_or, refl, sym, ap, subst, ◌∙◌, true≢false, arith, append_assoc}
-use Rattle.std.specs.List.{AllByRecursion, filter_map}
+use Rattle.std.specs.List.{All, AllByRecursion, filter_map}
 use Rattle.std.proofs.lemmas.List.{take-append-drop, take-map, length-map, get_or_default}
+use Rattle.std.proofs.lemmas.List.Elements.{All-from_recursion}
 use Rattle.std.proofs.lemmas.List.Folds.{drop_split}
-use Rattle.std.proofs.lemmas.Option.{get_or_from_slice_get}
+use Rattle.std.proofs.lemmas.Option.{slice_get_within, get_or_from_slice_get}
 use Rattle.std.proofs.Math.Seq.{drop-length}
 use Rattle.nj_cycles.specs.Cycles.{IsFirstOnCycle, IsLeastOnCycle, Needs, Chain}
 use Rattle.nj_cycles.specs.Cycles.Chain.{one, more}
@@ -133,6 +134,23 @@ get-map f (y ∷ xs) (suc i) x d h = get-map f xs i x d h
 pub files-at : (files : List (List ℕ)) (ns : List FileNo) → AreNumbers (length files) ns → AreFiles files ns (paths_at files ns)
 files-at files [] are = refl
 files-at files (f ∷ ns) are = let first = get-path files f are.0 in let rest = files-at files ns are.1 in cc
+
+-- and numbers that have paths are those of files
+pub files-numbers : (files : List (List ℕ)) (ns : List FileNo) (paths : List (List ℕ)) → AreFiles files ns paths → AreNumbers (length files) ns
+files-numbers files [] paths are = tt
+files-numbers files (n ∷ ns) [] are = absurd (omega (arith, ap length are))
+files-numbers files (n ∷ ns) (p ∷ paths) are = (slice_get_within files n.0 p (ap first are), files-numbers files ns paths (ap rest are))
+  where
+    first : List (Option (List ℕ)) → Option (List ℕ)
+    first [] = None
+    first (o ∷ os) = o
+
+    rest : List (Option (List ℕ)) → List (Option (List ℕ))
+    rest [] = []
+    rest (o ∷ os) = os
+
+pub files-known : (files : List (List ℕ)) (ns : List FileNo) (paths : List (List ℕ)) → AreFiles files ns paths → All (λ file. file.0 < length files) ns
+files-known files ns paths are = All-from_recursion (λ (f : FileNo). f.0 < length files) ns (files-numbers files ns paths are)
 
 module _ (files : List (List ℕ)) (makers : List (Option ℕ)) (outputs inputs validations : List FileNo) (rows : List EdgeRow) (held : EdgesAreHeld files makers outputs inputs validations rows (ends_of outputs inputs validations)) (g : EdgeGraph) (is : record { files = files; edges = edges_of files outputs inputs validations rows } ≡ g) where
   pub row-within : (edge : ℕ) (row : EdgeRow) → slice_get rows edge ≡ Some row → RowIsWithin (length outputs) (length inputs) (length validations) row

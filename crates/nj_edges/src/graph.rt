@@ -69,7 +69,8 @@ pub enum Finished {
 }
 
 impl EdgeGraph {
-    /// How many edges there are.
+    /// How many edges there are: one for each build statement, numbered in reading order. No edge
+    /// needs itself by a chain of inputs.
     pub fn edge_count(&self) -> usize
         ensures count { result ≡ length self.now.edges }
         ensures acyclic { IsAcyclic (makers_of_inputs self.now.edges) (length self.now.edges) }
@@ -77,7 +78,8 @@ impl EdgeGraph {
         self.rows.as_slice().len()
     }
 
-    /// How many files there are.
+    /// How many files there are: the paths that edges name as outputs, inputs or validations, each
+    /// once.
     pub fn file_count(&self) -> usize
         ensures count { result ≡ length self.now.files }
         ensures each_path_once { IsDistinct bytes_eq self.now.files }
@@ -121,7 +123,9 @@ impl EdgeGraph {
     /// The outputs of an edge, the explicit ones first.
     pub fn outputs(&self, edge: EdgeNo) -> &[FileNo]
         requires { edge.0 < length self.now.edges }
-        ensures { AreFiles self.now.files result.now (outputs_of (edge_at self.now.edges edge.0)) }
+        ensures files { AreFiles self.now.files result.now
+            (outputs_of (edge_at self.now.edges edge.0)) }
+        ensures known { All (λ file. file.0 < length self.now.files) result.now }
     {
         let row = row_at(&self.rows, edge.0);
         part(&self.outputs, row.outputs.start, row.outputs.end)
@@ -130,7 +134,9 @@ impl EdgeGraph {
     /// The inputs of an edge: the explicit, the implicit and then the order-only ones.
     pub fn inputs(&self, edge: EdgeNo) -> &[FileNo]
         requires { edge.0 < length self.now.edges }
-        ensures { AreFiles self.now.files result.now (inputs_of (edge_at self.now.edges edge.0)) }
+        ensures files { AreFiles self.now.files result.now
+            (inputs_of (edge_at self.now.edges edge.0)) }
+        ensures known { All (λ file. file.0 < length self.now.files) result.now }
     {
         let row = row_at(&self.rows, edge.0);
         part(&self.inputs, row.inputs.start, row.inputs.end)
@@ -139,7 +145,9 @@ impl EdgeGraph {
     /// The validations of an edge.
     pub fn validations(&self, edge: EdgeNo) -> &[FileNo]
         requires { edge.0 < length self.now.edges }
-        ensures { AreFiles self.now.files result.now (edge_at self.now.edges edge.0).validations }
+        ensures files { AreFiles self.now.files result.now
+            (edge_at self.now.edges edge.0).validations }
+        ensures known { All (λ file. file.0 < length self.now.files) result.now }
     {
         let row = row_at(&self.rows, edge.0);
         part(
@@ -151,7 +159,8 @@ impl EdgeGraph {
 
     /// The roots: the outputs that no edge has as an input, by edge and then by output.
     pub fn roots(&self) -> &[FileNo]
-        ensures { AreFiles self.now.files result.now (roots_of self.now.edges) }
+        ensures files { AreFiles self.now.files result.now (roots_of self.now.edges) }
+        ensures known { All (λ file. file.0 < length self.now.files) result.now }
     {
         self.roots.as_slice()
     }
@@ -181,29 +190,33 @@ impl EdgeGraph {
         )
     }
 
-    /// The files that the edges name.
+    /// The table of the files that the edges name; for this library's own crates.
     pub fn files(&self) -> &Files
         ensures { result.now ≡ self.now.files }
     {
         &self.files
     }
 
-    /// The explicit inputs of an edge, which are the first of its inputs.
+    /// The explicit inputs of an edge, which are the first of its inputs; for this library's own
+    /// crates.
     pub fn explicit_input_files(&self, edge: EdgeNo) -> &[FileNo]
         requires { edge.0 < length self.now.edges }
-        ensures { AreFiles self.now.files result.now
+        ensures files { AreFiles self.now.files result.now
             (edge_at self.now.edges edge.0).explicit_inputs }
+        ensures known { All (λ file. file.0 < length self.now.files) result.now }
     {
         let row = row_at(&self.rows, edge.0);
         let inputs = part(&self.inputs, row.inputs.start, row.inputs.end);
         first(inputs, row.kinds.explicit_inputs)
     }
 
-    /// The explicit outputs of an edge, which are the first of its outputs.
+    /// The explicit outputs of an edge, which are the first of its outputs; for this library's own
+    /// crates.
     pub fn explicit_output_files(&self, edge: EdgeNo) -> &[FileNo]
         requires { edge.0 < length self.now.edges }
-        ensures { AreFiles self.now.files result.now
+        ensures files { AreFiles self.now.files result.now
             (edge_at self.now.edges edge.0).explicit_outputs }
+        ensures known { All (λ file. file.0 < length self.now.files) result.now }
     {
         let row = row_at(&self.rows, edge.0);
         let outputs = part(&self.outputs, row.outputs.start, row.outputs.end);

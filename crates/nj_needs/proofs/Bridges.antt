@@ -99,10 +99,3 @@ pub row-at : (g : EdgeGraph) (ns : List FileNo) (p : ℕ) (n : FileNo) → p < l
 row-at g [] p n lt is = absurd (omega (arith, lt))
 row-at g (m ∷ ns) zero n lt is = ap (λ (k : FileNo). Some (maker_of g.edges (path_at g.files k))) (sym is)
 row-at g (m ∷ ns) (suc p) n lt is = row-at g ns p n (omega (arith, lt)) is
-
--- and they are files of the graph
-pub files-within : (files : List (List ℕ)) (ns : List FileNo) (paths : List (List ℕ)) → AreFiles files ns paths → All (λ f. f.0 < length files) ns
-files-within files [] paths are k d lt = absurd (omega (arith, lt))
-files-within files (n ∷ ns) [] are k d lt = absurd cc
-files-within files (n ∷ ns) (p ∷ ps) are zero d lt = slice_get_within files n.0 p (first-file files n ns p ps are)
-files-within files (n ∷ ns) (p ∷ ps) are (suc k) d lt = files-within files ns ps (later-files files n ns p ps are) k d (omega (arith, lt))

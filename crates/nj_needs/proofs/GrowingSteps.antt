@@ -16,7 +16,8 @@ use Rattle.nj_needs.specs.Inside.Paths.{turns_left, IsLinked}
 use Rattle.nj_needs.specs.Inside.Standing.{top_of}
 use Rattle.nj_needs.specs.Inside.Tops.{IsTop}
 use Rattle.nj_needs.specs.declared.frame.Frame.{Frame}
-use Rattle.nj_needs.proofs.Bridges.{AreWithin-paths, paths-at, files-within}
+use Rattle.nj_edges.proofs.GraphLemmas.{files-known}
+use Rattle.nj_needs.proofs.Bridges.{AreWithin-paths, paths-at}
 use Rattle.nj_needs.proofs.GrowingLaws.{grown-fixed, grown-least}
 use Rattle.nj_needs.proofs.GrowingWalk.{IsGrowing, found-below, growing-pass, turns-pass, growing-open, turns-open, growing-end, closed-below, growing-close, turns-close, growing-start}
 use Rattle.nj_needs.proofs.Members.{Among, Contains-from_Among}
@@ -132,7 +133,7 @@ module _ (g : EdgeGraph) (targets : List FileNo) (acyclic : IsAcyclic (makers_of
           record {
             growing = subst (λ (ps : List (List ℕ)). IsGrowing (List ℕ) (makers_in g.edges) (length g.edges) (maker_of g.edges) checks (paths_of g targets) (all_paths g targets) ps after (f.at + 1) (set flags f.edge true)) (sym is)
                 (growing-close (List ℕ) (makers_in g.edges) (length g.edges) acyclic.0 acyclic.1 (maker_of g.edges) checks (paths_of g targets) (all_paths g targets) inside (grown-fixed g.edges (paths_of g targets)) (paths_of g files) after f place flags stood past-top);
-            known = All-append (λ (n : FileNo). n.0 < length g.files) files more h.known (files-within g.files more (checks f.edge) are);
+            known = All-append (λ (n : FileNo). n.0 < length g.files) files more h.known (files-known g.files more (checks f.edge) are);
           }
 
       pub close-less : left after (f.at + 1) < left path place

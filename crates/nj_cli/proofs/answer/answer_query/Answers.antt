@@ -1,7 +1,7 @@
 use Rattle.std.proofs.Common.{map, string_bytes, All, length, subst, sym, ◌<◌}
 use Rattle.nj_edges.specs.Files.{AreFiles}
 use Rattle.nj_graph.specs.Graph.{files_of}
-use Rattle.nj_needs.proofs.Bridges.{files-within}
+use Rattle.nj_edges.proofs.GraphLemmas.{files-known}
 use Rattle.nj_args.specs.Requests as ask
 use Rattle.nj_cli.specs.Inside.RunSteps.{fault_of_tool}
 use Rattle.nj_cli.proofs.AnswerLemmas.{AnswersTo-err, query-failed, query-answered}
@@ -11,7 +11,7 @@ pub write_query-requires : goal.write_query-requires
 write_query-requires g c =
     let files = files_of c.args.graph.now in
     let picked = c.in_ok-files.ensures in
-    subst (λ ns. All (λ f. f.0 < length files) ns) (sym c.deref.ensures.value) (files-within files c.in_ok-files.files.items picked.0 picked.2)
+    subst (λ ns. All (λ f. f.0 < length files) ns) (sym c.deref.ensures.value) (files-known files c.in_ok-files.files.items picked.0 picked.2)
 
 pub returns-in_err-write_query : goal.returns-in_err-write_query
 returns-in_err-write_query g c = λ entries is.

@@ -4,7 +4,7 @@ use Rattle.nj_edges.specs.Files.{AreFiles, path_at}
 use Rattle.nj_edges.specs.declared.files.FileNo.{FileNo}
 use Rattle.nj_graph.specs.Graph.{edges_of, files_of}
 use Rattle.nj_needs.specs.Growing.{grown_targets}
-use Rattle.nj_needs.proofs.Bridges.{files-within}
+use Rattle.nj_edges.proofs.GraphLemmas.{files-known}
 use Rattle.nj_cli.specs.Targets.{edges_by_path, or_defaults, with_validations}
 use Rattle.nj_cli.proofs.AnswerLemmas.{grown-are, targets-picked}
 use Rattle.nj_cli.proofs.targets.targets_of.Goals as goal
@@ -12,7 +12,7 @@ use Rattle.nj_cli.proofs.targets.targets_of.Goals as goal
 pub or_defaults-requires : goal.or_defaults-requires
 or_defaults-requires c =
     let picked = c.in_ok-picked.ensures in
-    files-within (files_of c.args.graph.now) c.in_ok-picked.picked.items picked.0 picked.2
+    files-known (files_of c.args.graph.now) c.in_ok-picked.picked.items picked.0 picked.2
 
 pub returns-then-validations-clause-picks : goal.returns-then-validations-clause-picks
 returns-then-validations-clause-picks c = λ entries is.
