@@ -11,7 +11,7 @@ ghost use Rattle.nj_cli.specs.Inside.RunSteps.{AnswersTo};
 
 use crate::fault::RunFault;
 use crate::targets::{pick_targets, targets_of};
-use nj_graph::{Cause, EdgeNo, Graph, GraphFault, Name, Place, PlaceRef};
+use nj_graph::{Cause, EdgeNo, Graph, GraphFault};
 use nj_needs::{Mark, Needs};
 use nj_args::Action;
 use nj_tools::{
@@ -192,10 +192,5 @@ fn text_fault(alloc: Global, graph: &Graph, edge: EdgeNo) -> Result<GraphFault, 
     ensures { (entries : List ReadStatement) → IsGraphOf graph.now entries
         → IfOk result (λ fault. fault ≡ text_fault (slice_get (edges_read entries) edge.0)) }
 {
-    let PlaceRef { file, spot } = graph.edge_place(edge);
-    let file = Name::new(alloc, file)?;
-    Ok(GraphFault {
-        place: Some(Place { file, spot }),
-        cause: Cause::TextNotUtf8,
-    })
+    graph.edge_place(edge).fault(alloc, Cause::TextNotUtf8)
 }

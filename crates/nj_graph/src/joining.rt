@@ -14,7 +14,7 @@ use crate::loading::Loaded;
 use crate::opening::text_at;
 use nj_statements::{DyndepFile, Joining, PlaceRef};
 use nj_edges::FileNo;
-use nj_faults::{Cause, GraphFault, Name, Place};
+use nj_faults::{Cause, GraphFault};
 use nj_manifest::{DyndepParser, Entry};
 use nj_scope::{FileSource, FileTable};
 use std::alloc::Global;
@@ -123,13 +123,7 @@ fn file_name(alloc: Global, place: PlaceRef<'_>, path: &[u8]) -> Result<String, 
     let bytes = Vec::from_slice(alloc, path)?;
     match String::from_utf8(bytes) {
         Ok(path) => Ok(path),
-        Err(_) => Err(GraphFault {
-            place: Some(Place {
-                file: Name::new(alloc, place.file)?,
-                spot: place.spot,
-            }),
-            cause: Cause::PathNotText,
-        }),
+        Err(_) => Err(place.fault(alloc, Cause::PathNotText)?),
     }
 }
 

@@ -33,15 +33,16 @@ impl Graph {
             ≡ out.old.items ++ late_text_of entries edge.0 name.now) }
         ensures refused { OnErr result (out.new.items ≡ out.old.items) }
     {
+        let edges = self.edge_graph();
         let late = LateEdge {
-            files: self.built.files(),
-            inputs: self.built.explicit_input_files(edge),
-            outputs: self.built.explicit_output_files(edge),
+            files: edges.files(),
+            inputs: edges.explicit_input_files(edge),
+            outputs: edges.explicit_output_files(edge),
             blocks: self.built.blocks(),
             edge: edge.0,
             rule: self.rule(edge),
             declarations: &self.declarations,
-            scope: self.built.scope(edge),
+            scope: self.built.detail(edge).scope,
         };
         late.append_late_text(out, name)
     }
@@ -52,7 +53,7 @@ impl Graph {
         ensures { slice_get self.now.declarations.rules
             (detail_at self.now.built.details edge.0).rule ≡ Some result.now }
     {
-        &self.declarations.rules()[self.built.rule_number(edge)]
+        &self.declarations.rules()[self.built.detail(edge).rule]
     }
 
     /// The command of an edge, as it is passed to a shell. That of a phony edge is its block's,

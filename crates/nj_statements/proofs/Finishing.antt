@@ -1,9 +1,7 @@
 -- What the statements come to is what was held of them.
 use Rattle.std.proofs.Common.{◌≡◌, ◌<◌, ◌+◌, ◌==◌, ℕ, false, List, [], ◌∷◌, ◌++◌, map, length, slice_get, get_or, Option, Some, None, Ok, unwrap_or, is_some, refl, sym, ap, subst, ◌∙◌, true≢false, suc, zero, arith}
-use Rattle.std.specs.Prelude.{All}
 use Rattle.std.specs.List.{AllByRecursion}
 use Rattle.std.proofs.lemmas.List.{length-append, length-map}
-use Rattle.std.proofs.lemmas.List.Elements.{All-from_recursion}
 use Rattle.std.proofs.lemmas.Option.{slice_get_within, slice_get-get_or}
 use Rattle.nj_edges.specs.declared.files.FileNo.{FileNo}
 use Rattle.nj_cycles.specs.Cycles.{IsAcyclic, IsLeastOnCycle}
@@ -15,7 +13,7 @@ use Rattle.nj_faults.specs.declared.fault.Cause.TheVariants.{Cycle}
 use Rattle.nj_faults.specs.Faults.{fault_at}
 use Rattle.nj_edges.specs.Inside.EdgesHeld.{AreNumbers, paths_at}
 use Rattle.nj_edges.specs.Files.{path_at, AreFiles}
-use Rattle.nj_edges.proofs.GraphLemmas.{files-at}
+use Rattle.nj_edges.proofs.GraphLemmas.{files-at, files-numbers}
 use Rattle.nj_manifest.specs.Statements.{StatementText, BindingText, RuleText, PoolText, BuildText, DefaultText, IncludeText, SubninjaText}
 use Rattle.nj_scope.specs.ReadingList.{Discovered, ReadStatement}
 use Rattle.nj_statements.specs.declared.building.Detail.{Detail}
@@ -27,21 +25,7 @@ use Rattle.nj_statements.specs.Built.{BuiltText, ComesTo, defaults_in_force, IsC
 use Rattle.nj_statements.specs.Inside.BuiltHeld.{detail_named, pending_named, built_of, BuiltIsHeld}
 use Rattle.nj_statements.proofs.Holding.{details-count}
 
--- the numbers of files with some paths
-pub files-numbers : (files : List (List ℕ)) (ns : List FileNo) (paths : List (List ℕ)) → AreFiles files ns paths → AreNumbers (length files) ns
-files-numbers files [] paths are = tt
-files-numbers files (n ∷ ns) [] are = absurd (omega (arith, ap length are))
-files-numbers files (n ∷ ns) (p ∷ paths) are = (slice_get_within files n.0 p (ap first are), files-numbers files ns paths (ap rest are))
-  where
-    first : List (Option (List ℕ)) → Option (List ℕ)
-    first [] = None
-    first (o ∷ os) = o
-
-    rest : List (Option (List ℕ)) → List (Option (List ℕ))
-    rest [] = []
-    rest (o ∷ os) = os
-
--- and they have these paths
+-- files have the paths of their numbers
 pub files-paths : (files : List (List ℕ)) (ns : List FileNo) (paths : List (List ℕ)) → AreFiles files ns paths → paths_at files ns ≡ paths
 files-paths files [] [] are = refl
 files-paths files [] (p ∷ paths) are = absurd (omega (arith, ap length are))
@@ -55,10 +39,6 @@ files-paths files (n ∷ ns) (p ∷ paths) are = ap (λ o. unwrap_or o [] ∷ pa
     rest : List (Option (List ℕ)) → List (Option (List ℕ))
     rest [] = []
     rest (o ∷ os) = os
-
-pub files-known : (held built : BuiltText) (ns : List FileNo) (paths : List (List ℕ)) → held ≡ built → AreFiles held.graph.files ns paths → All (λ file. file.0 < length built.graph.files) ns
-files-known held built ns paths is are =
-    subst (λ (b : BuiltText). All (λ (file : FileNo). file.0 < length b.graph.files) ns) is (All-from_recursion (λ (f : FileNo). f.0 < length held.graph.files) ns (files-numbers held.graph.files ns paths are))
 
 -- files of `default` lines are in force
 pub in-force : (held built : BuiltText) (ns defaults : List FileNo) → held ≡ built → ns ≡ defaults → held.defaults ≡ paths_at held.graph.files defaults → AreNumbers (length held.graph.files) defaults → false ≡ (length ns == 0)

@@ -1,9 +1,7 @@
 //! The edges and defaults of a run, after its last statement.
 
-ghost use Rattle.std.specs.Prelude.{◌≡◌, List, ◌<◌, length, None, Some, All, IfOk, option_copied};
+ghost use Rattle.std.specs.Prelude.{◌≡◌, List, ◌<◌, length, All, IfOk};
 ghost use Rattle.nj_scope.specs.ReadingList.{ReadStatement};
-ghost use Rattle.nj_edge_env.specs.Blocks.{bound_in};
-ghost use Rattle.nj_edges.specs.Edges.{edge_at, outputs_of, inputs_of, roots_of};
 ghost use Rattle.nj_edges.specs.Files.{path_at, AreFiles};
 ghost use Rattle.nj_faults.specs.Faults.{fault_at};
 ghost use Rattle.nj_statements.specs.Answers.{HoldsEdges};
@@ -23,6 +21,32 @@ pub struct PlaceRef<'a> {
     /// The name under which the file was opened.
     pub file: &'a [u8],
     pub spot: Spot,
+}
+
+impl PlaceRef<'_> {
+    /// The fault of this cause at the place.
+    pub fn fault(self, alloc: Global, cause: Cause) -> Result<GraphFault, AllocError>
+        ensures { IfOk result (λ fault. fault
+            ≡ fault_at self.entry.file.now self.entry.spot cause) }
+    {
+        let file = Name::new(alloc, self.file)?;
+        Ok(GraphFault {
+            place: Some(Place {
+                file,
+                spot: self.spot,
+            }),
+            cause,
+        })
+    }
+}
+
+/// An edge without its files and its block: the place of its build statement, the numbers of its
+/// scope and of its rule.
+#[derive(Clone, Copy)]
+pub struct EdgeDetail<'a> {
+    pub place: PlaceRef<'a>,
+    pub scope: usize,
+    pub rule: usize,
 }
 
 /// The edges of a run, without a dependency cycle, and its defaults.
@@ -102,14 +126,19 @@ pub(crate) fn cycle_fault(
     ensures { IfOk result (λ fault. fault
         ≡ fault_at (path_at names.now detail.file) detail.spot (Cause.Cycle output)) }
 {
-    let file = Name::new(alloc, names.path(detail.file))?;
-    Ok(GraphFault {
-        place: Some(Place {
-            file,
-            spot: detail.spot,
-        }),
-        cause: Cause::Cycle(output),
-    })
+    place_of(names, detail).fault(alloc, Cause::Cycle(output))
+}
+
+// The place of the build statement of this edge.
+pub(crate) fn place_of(names: &Files, detail: Detail) -> PlaceRef<'_>
+    requires { detail.file.0 < length names.now }
+    ensures file { result.file.now ≡ path_at names.now detail.file }
+    ensures spot { result.spot ≡ detail.spot }
+{
+    PlaceRef {
+        file: names.path(detail.file),
+        spot: detail.spot,
+    }
 }
 
 impl Built {
@@ -120,13 +149,6 @@ impl Built {
         &self.graph
     }
 
-    /// The files that the edges name.
-    pub fn files(&self) -> &Files
-        ensures { result.now ≡ self.now.graph.files }
-    {
-        self.graph.files()
-    }
-
     /// The values that the blocks of edges bind, by the numbers of edges.
     pub fn blocks(&self) -> &Blocks
         ensures { result.now ≡ self.now.blocks }
@@ -134,100 +156,20 @@ impl Built {
         &self.blocks
     }
 
-    /// The inputs of an edge: the explicit, the implicit and then the order-only ones.
-    pub fn inputs(&self, edge: EdgeNo) -> &[FileNo]
+    /// What the build statement of an edge says beside its files and its block.
+    pub fn detail(&self, edge: EdgeNo) -> EdgeDetail<'_>
         requires { edge.0 < length self.now.graph.edges }
-        ensures files { AreFiles self.now.graph.files result.now
-            (inputs_of (edge_at self.now.graph.edges edge.0)) }
-        ensures known { All (λ file. file.0 < length self.now.graph.files) result.now }
-    {
-        self.graph.inputs(edge)
-    }
-
-    /// The explicit inputs of an edge, which are the first of its inputs.
-    pub fn explicit_input_files(&self, edge: EdgeNo) -> &[FileNo]
-        requires { edge.0 < length self.now.graph.edges }
-        ensures files { AreFiles self.now.graph.files result.now
-            (edge_at self.now.graph.edges edge.0).explicit_inputs }
-        ensures known { All (λ file. file.0 < length self.now.graph.files) result.now }
-    {
-        self.graph.explicit_input_files(edge)
-    }
-
-    /// The outputs of an edge, the explicit ones first.
-    pub fn outputs(&self, edge: EdgeNo) -> &[FileNo]
-        requires { edge.0 < length self.now.graph.edges }
-        ensures files { AreFiles self.now.graph.files result.now
-            (outputs_of (edge_at self.now.graph.edges edge.0)) }
-        ensures known { All (λ file. file.0 < length self.now.graph.files) result.now }
-    {
-        self.graph.outputs(edge)
-    }
-
-    /// The explicit outputs of an edge, which are the first of its outputs.
-    pub fn explicit_output_files(&self, edge: EdgeNo) -> &[FileNo]
-        requires { edge.0 < length self.now.graph.edges }
-        ensures files { AreFiles self.now.graph.files result.now
-            (edge_at self.now.graph.edges edge.0).explicit_outputs }
-        ensures known { All (λ file. file.0 < length self.now.graph.files) result.now }
-    {
-        self.graph.explicit_output_files(edge)
-    }
-
-    /// The validations of an edge.
-    pub fn validations(&self, edge: EdgeNo) -> &[FileNo]
-        requires { edge.0 < length self.now.graph.edges }
-        ensures files { AreFiles self.now.graph.files result.now
-            (edge_at self.now.graph.edges edge.0).validations }
-        ensures known { All (λ file. file.0 < length self.now.graph.files) result.now }
-    {
-        self.graph.validations(edge)
-    }
-
-    /// The number of the rule of an edge.
-    pub fn rule_number(&self, edge: EdgeNo) -> usize
-        requires { edge.0 < length self.now.graph.edges }
-        ensures { result ≡ (detail_at self.now.details edge.0).rule }
-    {
-        self.details[edge.0].rule
-    }
-
-    /// The number of the scope in which the build statement of an edge stands.
-    pub fn scope(&self, edge: EdgeNo) -> usize
-        requires { edge.0 < length self.now.graph.edges }
-        ensures { result ≡ (detail_at self.now.details edge.0).scope }
-    {
-        self.details[edge.0].scope
-    }
-
-    /// The place of the build statement of an edge.
-    pub fn edge_place(&self, edge: EdgeNo) -> PlaceRef<'_>
-        requires { edge.0 < length self.now.graph.edges }
-        ensures file { result.file.now ≡ (detail_at self.now.details edge.0).file }
-        ensures spot { result.spot ≡ (detail_at self.now.details edge.0).spot }
+        ensures file { result.place.file.now ≡ (detail_at self.now.details edge.0).file }
+        ensures spot { result.place.spot ≡ (detail_at self.now.details edge.0).spot }
+        ensures scope { result.scope ≡ (detail_at self.now.details edge.0).scope }
+        ensures rule { result.rule ≡ (detail_at self.now.details edge.0).rule }
     {
         let detail = self.details[edge.0];
-        PlaceRef {
-            file: self.names.path(detail.file),
-            spot: detail.spot,
+        EdgeDetail {
+            place: place_of(&self.names, detail),
+            scope: detail.scope,
+            rule: detail.rule,
         }
-    }
-
-    /// The value that the block of an edge binds to a name ("Build statements" in the Ninja
-    /// manual); `None` if it binds none.
-    pub fn value(&self, edge: EdgeNo, name: &[u8]) -> Option<&[u8]>
-        ensures { option_copied result ≡ bound_in self.now.blocks edge.0 name.now }
-    {
-        self.blocks.value(edge.0, name)
-    }
-
-    /// The roots: the outputs that no edge has as an input, by edge and then by output.
-    pub fn roots(&self) -> &[FileNo]
-        ensures files { AreFiles self.now.graph.files result.now
-            (roots_of self.now.graph.edges) }
-        ensures known { All (λ file. file.0 < length self.now.graph.files) result.now }
-    {
-        self.graph.roots()
     }
 
     /// The defaults in force: the files of the `default` lines in their order, or the roots where

@@ -20,11 +20,11 @@ ghost use Rattle.nj_statements.specs.JoiningHeld.{HoldsJoined, JoinsEntry, Joins
 ghost use Rattle.nj_statements.specs.Inside.JoiningSteps.{IsMeant, fault_of_waiting, bind_all, first_edges, count_bound, is_bound_to, if_bound, maker_fault, edge_bound, with_added_outputs, with_added_inputs};
 
 use crate::building::{Detail, DyndepEdge};
-use crate::built::{Built, PlaceRef, cycle_fault};
+use crate::built::{Built, PlaceRef, cycle_fault, place_of};
 use crate::names::Room;
 use nj_edge_env::Blocks;
 use nj_edges::{EdgeNo, FileNo, Files, Finished, JoiningEdges};
-use nj_faults::{Cause, GraphFault, Name, Place};
+use nj_faults::{Cause, GraphFault, Name};
 use nj_manifest::{Entry, Word};
 use nj_text::{Spot, TextFault};
 use std::alloc::{AllocError, Global};
@@ -192,11 +192,7 @@ impl Joining {
         ensures file { result.file.now ≡ (detail_at self.now.details edge.0).file }
         ensures spot { result.spot ≡ (detail_at self.now.details edge.0).spot }
     {
-        let detail = self.details[edge.0];
-        PlaceRef {
-            file: self.names.path(detail.file),
-            spot: detail.spot,
-        }
+        place_of(&self.names, self.details[edge.0])
     }
 
     /// Joins an entry of this dyndep file, which was opened under this name.
@@ -266,12 +262,8 @@ impl Joining {
     {
         let output = Name::new(alloc, first_output(&self.edges, edge))?;
         let path = Name::new(alloc, self.edges.files().path(file))?;
-        let PlaceRef { file: name, spot } = self.edge_place(edge);
-        let name = Name::new(alloc, name)?;
-        Ok(GraphFault {
-            place: Some(Place { file: name, spot }),
-            cause: Cause::DyndepNoStatement(output, path),
-        })
+        let place = self.edge_place(edge);
+        place.fault(alloc, Cause::DyndepNoStatement(output, path))
     }
 
     /// What the edges yield with what was joined to them, once no edge waits. Takes time in

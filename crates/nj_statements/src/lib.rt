@@ -13,7 +13,7 @@ mod place;
 mod references;
 
 pub use building::Building;
-pub use built::{Built, PlaceRef};
+pub use built::{Built, EdgeDetail, PlaceRef};
 pub use joining::{DyndepFile, Joining};
 pub use laws::{
     discovered_files_are_added, dyndep_files_stand_once, entries_add_to_their_edges,

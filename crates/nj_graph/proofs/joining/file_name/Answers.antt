@@ -10,4 +10,4 @@ returns-in-Ok c =
 
 pub returns : goal.returns
 returns c =
-    inr (name-bad c.args.path.now (λ good. true≢false (sym (c.in-Err.ensures.succeeds (subst IsUtf8 (sym c.in_ok-bytes.ensures.items) good)))), ap (λ file. record { place = Some (record { file = file; spot = c.args.place.spot }); cause = PathNotText }) c.in_ok-new-in-Err.ensures)
+    inr (name-bad c.args.path.now (λ good. true≢false (sym (c.in-Err.ensures.succeeds (subst IsUtf8 (sym c.in_ok-bytes.ensures.items) good)))), c.in_ok-fault-in-Err.ensures)

@@ -9,5 +9,7 @@ use Rattle.nj_graph.proofs.targets.named_target.Goals as goal
 pub returns-in-Some : goal.returns-in-Some
 returns-in-Some c =
     let path = c.args.path.now in
-    let is : target (edges_of c.args.graph.now) path ≡ Ok path = ap (λ b. if b then Ok path else Err (unplaced (UnknownTarget path))) (sym c.in-Some.ensures.named) in
-    (path, is, found-at path (files_of c.args.graph.now) c.in-Some.file.0 (sym c.in-Some.ensures.index))
+    let named = rw c.deref.ensures at c.in-Some.ensures.named in
+    let index = rw c.deref.ensures at c.in-Some.ensures.index in
+    let is : target (edges_of c.args.graph.now) path ≡ Ok path = ap (λ b. if b then Ok path else Err (unplaced (UnknownTarget path))) (sym named) in
+    (path, is, found-at path (files_of c.args.graph.now) c.in-Some.file.0 (sym index))

@@ -2,6 +2,7 @@ use Rattle.std.proofs.Common.{◌≡◌, ◌++◌, ◌∷◌, sym, ap, subst, �
 use Rattle.std.proofs.lemmas.Option.{get_or_from_slice_get}
 use Rattle.nj_scope.specs.Scopes.{IsScope, parent_at}
 use Rattle.nj_statements.proofs.Holding.{on-ok}
+use Rattle.nj_edges.specs.EdgeGraphs.{EdgeGraph}
 use Rattle.nj_edges.specs.Edges.{edge_at}
 use Rattle.nj_edges.specs.Files.{AreFiles}
 use Rattle.nj_scope.specs.Declarations.{DeclarationsText, DeclaredBy}
@@ -18,16 +19,18 @@ returns-clause-appended c = λ entries is.
     let built : c.self.inside.built ≡ g.built = ap (λ (x : GraphText). x.built) c.self.view_is in
     let rule = c.rule.result.now in
     let e = edge g entries is n c.requires in
-    let scope = c.scope.ensures ∙ ap (λ (b : BuiltText). (detail_at b.details n).scope) built in
-    let same = names-same g entries is n c.requires c.files.result.now c.explicit_input_files.result.now c.explicit_output_files.result.now c.blocks-2.result.now rule c.scope.result
-    (c.files.ensures ∙ ap (λ (b : BuiltText). b.graph.files) built)
-    (subst (λ (b : BuiltText). AreFiles b.graph.files c.explicit_input_files.result.now (edge_at b.graph.edges n).explicit_inputs) built c.explicit_input_files.ensures.files)
-    (subst (λ (b : BuiltText). AreFiles b.graph.files c.explicit_output_files.result.now (edge_at b.graph.edges n).explicit_outputs) built c.explicit_output_files.ensures.files)
+    let edges : c.edge_graph-edges.result.now ≡ g.built.graph = c.edge_graph-edges.ensures in
+    let number = c.detail.result.scope in
+    let scope = c.detail.ensures.scope ∙ ap (λ (b : BuiltText). (detail_at b.details n).scope) built in
+    let same = names-same g entries is n c.requires c.files.result.now c.explicit_input_files.result.now c.explicit_output_files.result.now c.blocks-2.result.now rule number
+    (c.files.ensures ∙ ap (λ (v : EdgeGraph). v.files) edges)
+    (subst (λ (v : EdgeGraph). AreFiles v.files c.explicit_input_files.result.now (edge_at v.edges n).explicit_inputs) edges c.explicit_input_files.ensures.files)
+    (subst (λ (v : EdgeGraph). AreFiles v.files c.explicit_output_files.result.now (edge_at v.edges n).explicit_outputs) edges c.explicit_output_files.ensures.files)
     (c.blocks-2.ensures ∙ ap (λ (b : BuiltText). b.blocks) built)
     (sym (get_or_from_slice_get g.declarations.rules (detail_at g.built.details n).rule rule rule c.rule.ensures))
     scope
     in
     on-ok c.append_late_text.result
     (c.append_late_text.ensures.appended entries e.around (subst (λ (d : DeclarationsText). DeclaredBy d entries) (sym inside) is.declares)
-    (subst (λ (d : DeclarationsText). IsScope (parent_at d.scopes) c.scope.result (c.scope.result ∷ e.around)) (sym inside) (subst (λ s. IsScope (parent_at g.declarations.scopes) s (s ∷ e.around)) (sym (scope ∙ ap (λ d. d.scope) (detail-is g entries is n c.requires))) (edge-open g entries is n c.requires).within)))
+    (subst (λ (d : DeclarationsText). IsScope (parent_at d.scopes) number (number ∷ e.around)) (sym inside) (subst (λ s. IsScope (parent_at g.declarations.scopes) s (s ∷ e.around)) (sym (scope ∙ ap (λ d. d.scope) (detail-is g entries is n c.requires))) (edge-open g entries is n c.requires).within)))
     (λ appended. appended ∙ ap (λ t. c.args.out.now.items ++ t) (text-same g entries is n c.requires c.args.name.now _ same))

@@ -1,10 +1,6 @@
 use Rattle.std.proofs.Common.{refl}
-use Rattle.nj_edges.specs.Edges.{roots_of}
-use Rattle.nj_statements.proofs.Finishing.{files-known, in-force}
+use Rattle.nj_statements.proofs.Finishing.{in-force}
 use Rattle.nj_statements.proofs.built.Built.defaults.Goals as goal
-
-pub returns-then-is_empty-clause-known : goal.returns-then-is_empty-clause-known
-returns-then-is_empty-clause-known c = files-known _ c.args.self.now c.roots.result.now (roots_of c.self.inside.graph.edges) c.self.view_is c.roots.ensures
 
 pub returns-else-is_empty-clause-files : goal.returns-else-is_empty-clause-files
 returns-else-is_empty-clause-files c =
