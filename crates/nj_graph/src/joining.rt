@@ -44,7 +44,6 @@ pub fn join_dyndeps<S: FileSource>(
         built,
         main_rules,
     } = graph;
-    each_path_once(&files);
     if !built.has_pending() {
         let graph = Graph {
             declarations,
@@ -62,13 +61,6 @@ pub fn join_dyndeps<S: FileSource>(
         main_rules,
     };
     Ok(Loaded { files, graph })
-}
-
-// A table has each path once.
-fn each_path_once(files: &FileTable)
-    ensures { EachPathOnce files.now }
-{
-    let _count = files.count();
 }
 
 // Joins all dyndep files.

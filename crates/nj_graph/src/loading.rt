@@ -25,11 +25,13 @@ impl Model for Loaded {
     ghost view = { λ l. record { files = l.files; graph = l.graph } };
 
     ghost use Rattle.std.specs.Prelude.{List};
+    ghost use Rattle.nj_scope.specs.Readings.{EachPathOnce};
     ghost use Rattle.nj_scope.specs.ReadingList.{ReadStatement};
     ghost use Rattle.nj_graph.specs.Graph.{IsGraphOf};
 
-    // it is the graph of some statements
-    ghost invariant = { λ l. (entries : List ReadStatement) × IsGraphOf l.graph entries };
+    // each path was read once, and it is the graph of some statements
+    ghost invariant = { λ l. EachPathOnce l.files
+        × ((entries : List ReadStatement) × IsGraphOf l.graph entries) };
 }
 
 impl Loaded {

@@ -1,5 +1,6 @@
 use Rattle.std.proofs.Common.{◌≡◌, Ok, Err, refl, sym, ap, subst, ◌∙◌}
 use Rattle.nj_faults.specs.Faults.{no_memory}
+use Rattle.nj_scope.specs.Readings.{EachPathOnce}
 use Rattle.nj_graph.specs.Graph.{GraphText, IsGraphOf}
 use Rattle.nj_graph.specs.Joining.{Joins}
 use Rattle.nj_manifest.proofs.Handed.{handed, handed-as}
@@ -13,7 +14,7 @@ returns-then-not-has_pending g c = λ stated is.
     let at : c.args.loaded.graph ≡ graph = ap (λ l. l.graph) (sym c.loaded.view_is) ∙ sym c.graph.view_is in
     let files : c.loaded.inside.files ≡ c.args.loaded.files = ap (λ l. l.files) c.loaded.view_is in
     subst (λ fs. Joins stated fs told told (Ok (record { files = c.loaded.inside.files; graph = graph }))) files
-    (joins-nothing stated told c.loaded.inside.files c.each_path_once.ensures (record { files = c.loaded.inside.files; graph = graph }) graph refl (subst (λ x. IsGraphOf x stated) at is)
+    (joins-nothing stated told c.loaded.inside.files c.loaded.invariant.0 (record { files = c.loaded.inside.files; graph = graph }) graph refl (subst (λ x. IsGraphOf x stated) at is)
     (sym c.has_pending.ensures ∙ c.if-not-has_pending.true))
 
 pub returns-in_err-joining : goal.returns-in_err-joining
@@ -21,7 +22,7 @@ returns-in_err-joining g c = λ stated is.
     let told = g.S.FileSource.state c.args.source.now in
     let files : c.loaded.inside.files ≡ c.args.loaded.files = ap (λ l. l.files) c.loaded.view_is in
     let fault = handed-as (λ e. e ≡ no_memory) c.from_residual.result c.from_residual.ensures in
-    rw fault.1 (subst (λ fs. Joins stated fs told told (Err fault.0)) files (joins-memory stated told c.loaded.inside.files c.each_path_once.ensures fault.0 fault.2))
+    rw fault.1 (subst (λ fs. Joins stated fs told told (Err fault.0)) files (joins-memory stated told c.loaded.inside.files c.loaded.invariant.0 fault.0 fault.2))
 
 pub returns-in_err-join_files : goal.returns-in_err-join_files
 returns-in_err-join_files g c = λ stated is.
@@ -37,8 +38,8 @@ returns-in_err-join_files g c = λ stated is.
 
 pub finish-requires : goal.finish-requires
 finish-requires g c =
-    let entries = c.loaded.invariant.0 in
-    let is = subst (λ x. IsGraphOf x entries) (sym c.graph.view_is) c.loaded.invariant.1 in
+    let entries = c.loaded.invariant.1.0 in
+    let is = subst (λ x. IsGraphOf x entries) (sym c.graph.view_is) c.loaded.invariant.1.1 in
     (c.in_ok-join_files.ensures.joins entries (c.in_ok-joining.ensures entries is.built)).holds.none_open
 
 pub returns-in_err-built : goal.returns-in_err-built
@@ -62,8 +63,8 @@ invariant_of-graph-2 g c =
     let before = g.S.FileSource.state c.args.source.now in
     let after = g.S.FileSource.state c.join_files.new.source in
     let graph : GraphText = record { declarations = c.graph.inside.declarations; built = c.graph.inside.built } in
-    let stated = c.loaded.invariant.0 in
-    let is = subst (λ x. IsGraphOf x stated) (sym c.graph.view_is) c.loaded.invariant.1 in
+    let stated = c.loaded.invariant.1.0 in
+    let is = subst (λ x. IsGraphOf x stated) (sym c.graph.view_is) c.loaded.invariant.1.1 in
     let f = c.in_ok-join_files.ensures.joins stated (c.in_ok-joining.ensures stated is.built) in
     let old = c.loaded.inside.files in
     let table = c.join_files.new.files in
@@ -75,13 +76,13 @@ invariant_of-result-2 g c =
     let before = g.S.FileSource.state c.args.source.now in
     let after = g.S.FileSource.state c.join_files.new.source in
     let graph : GraphText = record { declarations = c.graph.inside.declarations; built = c.graph.inside.built } in
-    let stated = c.loaded.invariant.0 in
-    let is = subst (λ x. IsGraphOf x stated) (sym c.graph.view_is) c.loaded.invariant.1 in
+    let stated = c.loaded.invariant.1.0 in
+    let is = subst (λ x. IsGraphOf x stated) (sym c.graph.view_is) c.loaded.invariant.1.1 in
     let f = c.in_ok-join_files.ensures.joins stated (c.in_ok-joining.ensures stated is.built) in
     let old = c.loaded.inside.files in
     let table = c.join_files.new.files in
     let held = c.join_files.new.joining in
-    (f.now, joined-graph stated before after old table held f graph is c.in_ok-built.built (c.in_ok-built.ensures stated f.now f.holds (none-pending-then stated before after old table held f)))
+    (subst EachPathOnce (sym f.reads.held_is) f.reads.reads.once, (f.now, joined-graph stated before after old table held f graph is c.in_ok-built.built (c.in_ok-built.ensures stated f.now f.holds (none-pending-then stated before after old table held f))))
 
 pub returns : goal.returns
 returns g c = λ stated is.

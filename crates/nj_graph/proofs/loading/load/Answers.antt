@@ -56,4 +56,4 @@ invariant_of-result g c =
     let reads = c.in_ok-read_main.ensures.reads in
     let loaded = is-loaded c.args.main.now (g.S.FileSource.state c.args.source.now) (g.S.FileSource.state c.read_main.new.source) c.in_ok-reader.reader c.read_main.new.self reads
     (record { files = c.read_main.new.self.files; graph = c.in_ok-graph.graph }) c.in_ok-built.built c.in_ok-reader.ensures.files refl c.in_ok-graph.ensures (c.in_ok-built.ensures reads.entries reads.holds.edges) in
-    (loaded.2.entries, loaded.2.graph_is)
+    (reads.holds.once, (loaded.2.entries, loaded.2.graph_is))
