@@ -175,7 +175,8 @@ def type_at(of, name, text, found):
     if model := re.search(rf"^impl\b.* Model for {name}\b", text, re.M):
         whole = members(block_at(text, model.start()), MODEL)
     elif found[1] == "trait":
-        whole = members(whole, r"ghost \w+: |fn (?=[^;{]*ensures)")
+        clauses = r"(?:requires|ensures)\b"
+        whole = members(whole, rf"ghost \w+: |fn (?=[^;{{]*{clauses})|{clauses}")
     else:
         return Definition(of, name, whole, is_type=True)
     return Definition(of, name, whole)
