@@ -2,8 +2,7 @@
 """Looks whether each public struct with a private field has an `impl Model`, so that contracts, and
 the proofs of other crates, speak of its value and not of its fields.
 
-Prints each that has none, unless it is named below; docs/ARCHITECTURE.md says why for those. The
-status is 1 if anything is printed.
+Prints each that has none. The status is 1 if anything is printed.
 """
 
 import re
@@ -11,7 +10,6 @@ import sys
 from pathlib import Path
 
 ROOT = Path(__file__).resolve().parent.parent
-WITHOUT = {"nj_cycles": {"EdgeInputs"}}
 
 STRUCT = re.compile(r"^pub struct (\w+).*?(?:\{(.*?)^\}|\(([^;]*)\);|;$)", re.M | re.S)
 NAMED_FIELD = re.compile(r"^    (?!pub |ghost )\w[\w()]* ?\w*:", re.M)
@@ -31,9 +29,7 @@ def main():
     for crate in sorted((ROOT / "crates").iterdir()):
         texts = (file.read_text() for file in sorted(crate.glob("src/**/*.rt")))
         found = {name for text in texts for name in without_model(text)}
-        named = WITHOUT.get(crate.name, set())
-        faults += [f"{crate.name}: {name} has no model" for name in sorted(found - named)]
-        faults += [f"{crate.name}: {name} needs no exception" for name in sorted(named - found)]
+        faults += [f"{crate.name}: {name} has no model" for name in sorted(found)]
     for fault in faults:
         print(fault)
     return 1 if faults else 0

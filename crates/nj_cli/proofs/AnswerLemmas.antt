@@ -13,8 +13,9 @@ use Rattle.nj_faults.specs.declared.fault.GraphFault.{GraphFault}
 use Rattle.nj_faults.specs.FaultLines.{fault_line}
 use Rattle.nj_faults.specs.Faults.{no_memory}
 use Rattle.nj_graph.specs.Graph.{GraphText, edges_of, files_of, IsGraphOf}
+use Rattle.nj_edges.specs.Needs.{makers_of_inputs}
 use Rattle.nj_needs.specs.Growing.{grown_targets}
-use Rattle.nj_needs.specs.Graphs.{row_of_paths, makers_in, is_phony_in, row_of, makers_of, count_of}
+use Rattle.nj_needs.specs.Graphs.{row_of_paths, is_phony_in, row_of, makers_of, count_of}
 use Rattle.nj_needs.specs.Marks.{is_valid, rest}
 use Rattle.nj_needs.specs.Order.{made_by, first_occurrences}
 use Rattle.nj_needs.specs.Pages.{IsMarkAfter}
@@ -224,18 +225,18 @@ module _ (entries : List ReadStatement) (g : GraphText) (is : IsGraphOf g entrie
       module _ (take : Option ℕ) (start : List ℕ) where
         leads-is : is_valid (makers_of g.built.graph) (row_of g.built.graph numbers) start ≡ leads entries targets start
         leads-is =
-            ap (λ (row : List (Option ℕ)). is_valid (makers_in (edges_of g)) row start) row-is
-            ∙ ap (λ (es : List EdgePaths). is_valid (makers_in es) (row_of_paths (edges_by_path entries) targets) start) edges-are
+            ap (λ (row : List (Option ℕ)). is_valid (makers_of_inputs (edges_of g)) row start) row-is
+            ∙ ap (λ (es : List EdgePaths). is_valid (makers_of_inputs es) (row_of_paths (edges_by_path entries) targets) start) edges-are
 
         left-is : rest_of g.built.graph numbers start ≡ commands_left entries targets start
         left-is =
-            ap (λ (row : List (Option ℕ)). rest (makers_in (edges_of g)) (length (edges_of g)) (is_phony_in (edges_of g)) row start) row-is
-            ∙ ap (λ (es : List EdgePaths). rest (makers_in es) (length es) (is_phony_in es) (row_of_paths (edges_by_path entries) targets) start) edges-are
+            ap (λ (row : List (Option ℕ)). rest (makers_of_inputs (edges_of g)) (length (edges_of g)) (is_phony_in (edges_of g)) row start) row-is
+            ∙ ap (λ (es : List EdgePaths). rest (makers_of_inputs es) (length es) (is_phony_in es) (row_of_paths (edges_by_path entries) targets) start) edges-are
 
         mark-is : (edges mark : List ℕ) → IsMarkAfter (makers_of g.built.graph) (count_of g.built.graph) (row_of g.built.graph numbers) start edges mark → IsMarkOf entries targets start edges mark
         mark-is edges mark after =
-            subst (λ (es : List EdgePaths). IsMarkAfter (makers_in es) (length es) (row_of_paths (edges_by_path entries) targets) start edges mark) edges-are
-            (subst (λ (row : List (Option ℕ)). IsMarkAfter (makers_in (edges_of g)) (length (edges_of g)) row start edges mark) row-is after)
+            subst (λ (es : List EdgePaths). IsMarkAfter (makers_of_inputs es) (length es) (row_of_paths (edges_by_path entries) targets) start edges mark) edges-are
+            (subst (λ (row : List (Option ℕ)). IsMarkAfter (makers_of_inputs (edges_of g)) (length (edges_of g)) row start edges mark) row-is after)
 
         ends-so : (ending : Ending) → EndsFrom (leads entries targets start) entries take start targets ending → EndsWith entries (commands words validations take start) ending
         ends-so ending ends = subst (λ (ts : Result (List (List ℕ)) GraphFault). CommandsEnd entries take start ts ending) (sym named) ends

@@ -5,15 +5,17 @@ use Rattle.std.specs.List.{concat, last_or}
 use Rattle.std.proofs.lemmas.List.{append-nil}
 use Rattle.std.proofs.lemmas.List.Concat.{flat_map-append}
 use Rattle.nj_scope.specs.ReadingList.{ReadStatement}
+use Rattle.nj_cycles.specs.Cycles.{IsAcyclic}
 use Rattle.nj_edges.specs.Edges.{EdgePaths}
 use Rattle.nj_faults.specs.declared.fault.GraphFault.{GraphFault}
 use Rattle.nj_faults.specs.FaultLines.{fault_line}
 use Rattle.nj_marks.specs.Marks.{ReadsBack}
-use Rattle.nj_needs.specs.Graphs.{row_of_paths, makers_in, is_phony_in}
+use Rattle.nj_edges.specs.Needs.{makers_of_inputs}
+use Rattle.nj_needs.specs.Graphs.{row_of_paths, is_phony_in}
 use Rattle.nj_needs.specs.Marks.{rest, IsFirstPlace}
-use Rattle.nj_needs.specs.Needs.{IsAcyclic, AreWithin}
+use Rattle.nj_needs.specs.Needs.{AreWithin}
 use Rattle.nj_needs.specs.Order.{needed_commands}
-use Rattle.nj_needs.proofs.Bridges.{IsAcyclic-edges, AreWithin-paths}
+use Rattle.nj_needs.proofs.Bridges.{AreWithin-paths}
 use Rattle.nj_needs.proofs.OrderLaws.{commands-reached, commands-once, commands-after_needs}
 use Rattle.nj_needs.proofs.PageLaws.{mark-keeps_the_rest}
 use Rattle.nj_needs.proofs.PlaceLaws.{first-places_are_one}
@@ -79,17 +81,17 @@ finishes-unlimited entries start words validations targets named leads_so =
 -- ---- the needed commands
 
 module _ (edges : List EdgePaths) (targets : List (List ℕ)) (none : NoEdgeNeedsItself edges) where
-  acyclic : IsAcyclic (makers_in edges) (length edges)
-  acyclic = IsAcyclic-edges edges none
+  acyclic : IsAcyclic (makers_of_inputs edges) (length edges)
+  acyclic = none
 
   within : AreWithin (row_of_paths edges targets) (length edges)
   within = AreWithin-paths edges targets
 
-  needed : AreNeeded edges targets (needed_commands (makers_in edges) (length edges) (is_phony_in edges) (row_of_paths edges targets))
+  needed : AreNeeded edges targets (needed_commands (makers_of_inputs edges) (length edges) (is_phony_in edges) (row_of_paths edges targets))
   needed = record {
-    reached = commands-reached (makers_in edges) (length edges) (is_phony_in edges) (row_of_paths edges targets) acyclic within;
-    once = commands-once (makers_in edges) (length edges) (is_phony_in edges) (row_of_paths edges targets);
-    after = commands-after_needs (makers_in edges) (length edges) (is_phony_in edges) (row_of_paths edges targets) acyclic within;
+    reached = commands-reached (makers_of_inputs edges) (length edges) (is_phony_in edges) (row_of_paths edges targets) acyclic within;
+    once = commands-once (makers_of_inputs edges) (length edges) (is_phony_in edges) (row_of_paths edges targets);
+    after = commands-after_needs (makers_of_inputs edges) (length edges) (is_phony_in edges) (row_of_paths edges targets) acyclic within;
     order = refl;
   }
 
@@ -97,7 +99,7 @@ pub writes-the_needed : WritesTheNeeded
 writes-the_needed entries words validations none ends_so =
     let p = page entries None [] words validations finished tt ends_so in
     let edges = edges_by_path entries in
-    let numbers = needed_commands (makers_in edges) (length edges) (is_phony_in edges) (row_of_paths edges p.targets) in (
+    let numbers = needed_commands (makers_of_inputs edges) (length edges) (is_phony_in edges) (row_of_paths edges p.targets) in (
       p.targets,
       p.named,
       numbers,
@@ -130,7 +132,7 @@ module _ (entries : List ReadStatement) (words : List (List ℕ)) (validations :
       → (leads entries targets mark ≡ true) × (commands_left entries targets mark ≡ drop take (commands_left entries targets start))
   after-page start count mark leads_so is =
       let edges = edges_by_path entries in
-      mark-keeps_the_rest (makers_in edges) (length edges) (is_phony_in edges) (row_of_paths edges targets) (acyclic edges targets none) (within edges targets none)
+      mark-keeps_the_rest (makers_of_inputs edges) (length edges) (is_phony_in edges) (row_of_paths edges targets) (acyclic edges targets none) (within edges targets none)
       start (take count (commands_left entries targets start)) (drop count (commands_left entries targets start)) mark leads_so
       (sym (take-append-drop count (commands_left entries targets start))) is
 
@@ -184,13 +186,13 @@ stopped-go_on entries words validations none (Some count) start mark ends_so =
 module _ (entries : List ReadStatement) (take : Option ℕ) (start : List ℕ) (targets : List (List ℕ)) (none : NoEdgeNeedsItself (edges_by_path entries)) where
   -- an edge has one first place
   one-mark : (last : Option ℕ) (mark other : List ℕ)
-      → MatchOption last (mark ≡ start) (λ e. IsFirstPlace (makers_in (edges_by_path entries)) (length (edges_by_path entries)) (row_of_paths (edges_by_path entries) targets) mark e)
-      → MatchOption last (other ≡ start) (λ e. IsFirstPlace (makers_in (edges_by_path entries)) (length (edges_by_path entries)) (row_of_paths (edges_by_path entries) targets) other e)
+      → MatchOption last (mark ≡ start) (λ e. IsFirstPlace (makers_of_inputs (edges_by_path entries)) (length (edges_by_path entries)) (row_of_paths (edges_by_path entries) targets) mark e)
+      → MatchOption last (other ≡ start) (λ e. IsFirstPlace (makers_of_inputs (edges_by_path entries)) (length (edges_by_path entries)) (row_of_paths (edges_by_path entries) targets) other e)
       → mark ≡ other
   one-mark None mark other is so = is ∙ sym so
   one-mark (Some e) mark other is so =
       let edges = edges_by_path entries in
-      first-places_are_one (makers_in edges) (length edges) (row_of_paths edges targets) (acyclic edges targets none) (within edges targets none) mark other e is so
+      first-places_are_one (makers_of_inputs edges) (length edges) (row_of_paths edges targets) (acyclic edges targets none) (within edges targets none) mark other e is so
 
   one-page : (ending other : Ending) → PageEnds entries take start targets ending → PageEnds entries take start targets other → ending ≡ other
   one-page finished finished is so = refl

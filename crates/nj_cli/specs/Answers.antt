@@ -7,7 +7,8 @@ use Rattle.nj_faults.specs.declared.fault.GraphFault.{GraphFault}
 use Rattle.nj_faults.specs.Faults.{fault_at, unplaced}
 use Rattle.nj_faults.specs.FaultLines.{fault_line}
 use Rattle.nj_marks.specs.Marks.{ReadsBack}
-use Rattle.nj_needs.specs.Graphs.{row_of_paths, makers_in, is_phony_in}
+use Rattle.nj_edges.specs.Needs.{makers_of_inputs}
+use Rattle.nj_needs.specs.Graphs.{row_of_paths, is_phony_in}
 use Rattle.nj_needs.specs.Marks.{is_valid, rest}
 use Rattle.nj_needs.specs.Pages.{IsMarkAfter}
 use Rattle.nj_tools.specs.CommandTexts.{command_lines, written, left_after, own_commands_in}
@@ -26,18 +27,18 @@ use Rattle.nj_cli.specs.declared.status.Status.TheVariants.{Done, Fault, Stopped
 
 -- each step of a mark leads to an edge, starting from these targets; the mark of the start has no steps
 abbrev pub leads : List ReadStatement → (targets : List (List ℕ)) → (mark : List ℕ) → Bool
-leads entries targets mark = is_valid (makers_in (edges_by_path entries)) (row_of_paths (edges_by_path entries) targets) mark
+leads entries targets mark = is_valid (makers_of_inputs (edges_by_path entries)) (row_of_paths (edges_by_path entries) targets) mark
 
 -- the edges whose commands are left at a mark
 abbrev pub commands_left : List ReadStatement → (targets : List (List ℕ)) → (mark : List ℕ) → List ℕ
 commands_left entries targets mark =
-    rest (makers_in (edges_by_path entries)) (length (edges_by_path entries)) (is_phony_in (edges_by_path entries))
+    rest (makers_of_inputs (edges_by_path entries)) (length (edges_by_path entries)) (is_phony_in (edges_by_path entries))
     (row_of_paths (edges_by_path entries) targets) mark
 
 -- the mark after these edges, in a run that began at the mark `begun`
 abbrev pub IsMarkOf : List ReadStatement → (targets : List (List ℕ)) → (begun : List ℕ) → (edges : List ℕ) → (mark : List ℕ) → Type 0
 IsMarkOf entries targets begun edges mark =
-    IsMarkAfter (makers_in (edges_by_path entries)) (length (edges_by_path entries)) (row_of_paths (edges_by_path entries) targets)
+    IsMarkAfter (makers_of_inputs (edges_by_path entries)) (length (edges_by_path entries)) (row_of_paths (edges_by_path entries) targets)
     begun edges mark
 
 -- ---- the output

@@ -2,10 +2,12 @@
 use Rattle.std.specs.Prelude.{◌≡◌, ◌↔◌, ℕ, Bool, false, Option, None, Some, Ok, List, [], ◌∷◌, ◌++◌, length, Contains, nat_eq}
 use Rattle.std.specs.List.{concat, IsDistinct}
 use Rattle.nj_scope.specs.ReadingList.{ReadStatement}
+use Rattle.nj_cycles.specs.Cycles.{NeedsByChain}
 use Rattle.nj_edges.specs.Edges.{EdgePaths}
-use Rattle.nj_needs.specs.Graphs.{row_of_paths, makers_in, is_phony_in}
+use Rattle.nj_edges.specs.Needs.{makers_of_inputs}
+use Rattle.nj_needs.specs.Graphs.{row_of_paths, is_phony_in}
 use Rattle.nj_needs.specs.Laws.{StandsBefore}
-use Rattle.nj_needs.specs.Needs.{NeedsByChain, Reached}
+use Rattle.nj_needs.specs.Needs.{Reached}
 use Rattle.nj_needs.specs.Order.{needed_commands}
 use Rattle.nj_args.specs.Requests.{ActionText, commands, start_of}
 use Rattle.nj_args.specs.RunMarks.{run_mark_text}
@@ -17,10 +19,10 @@ use Rattle.nj_cli.specs.Targets.{edges_by_path, NoEdgeNeedsItself, targets_of}
 -- any chain of inputs; each once; each after all others that it needs through any chain; in the order in which they are first completed
 -- from left to right, as `needed_commands` defines it.
 pub record AreNeeded (edges : List EdgePaths) (targets : List (List ℕ)) (numbers : List ℕ) : Type 0 where
-  pub reached : (e : ℕ) → Contains numbers e ↔ (Reached (makers_in edges) (row_of_paths edges targets) e × (is_phony_in edges e ≡ false))
+  pub reached : (e : ℕ) → Contains numbers e ↔ (Reached (makers_of_inputs edges) (row_of_paths edges targets) e × (is_phony_in edges e ≡ false))
   pub once : IsDistinct nat_eq numbers
-  pub after : (e f : ℕ) → Contains numbers e → NeedsByChain (makers_in edges) e f → is_phony_in edges f ≡ false → StandsBefore numbers f e
-  pub order : numbers ≡ needed_commands (makers_in edges) (length edges) (is_phony_in edges) (row_of_paths edges targets)
+  pub after : (e f : ℕ) → Contains numbers e → NeedsByChain (makers_of_inputs edges) e f → is_phony_in edges f ≡ false → StandsBefore numbers f e
+  pub order : numbers ≡ needed_commands (makers_of_inputs edges) (length edges) (is_phony_in edges) (row_of_paths edges targets)
 
 -- A run from the start that finishes writes a line for each of the needed edges: its command. If it follows validations, the targets are
 -- those of its words and what is to be validated when they are built.

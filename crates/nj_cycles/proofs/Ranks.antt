@@ -7,17 +7,12 @@ use Rattle.std.proofs.lemmas.Bool.{cases_lt, eqb-true, eq-eqb, both_ways}
 use Rattle.std.proofs.lemmas.List.{length-drop, get_or-drop, drop_more}
 use Rattle.std.proofs.lemmas.List.Sums.{fails_before_first, passes_at_first}
 use Rattle.std.proofs.lemmas.List.Elements.{Contains-append_left, Contains-append_cases}
-use Rattle.nj_cycles.specs.declared.inputs.EdgeInputs.{EdgeInputs}
-use Rattle.nj_cycles.specs.Cycles.{Needs, Chain, IsRank, IsAcyclic, IsFirstOnCycle, AcyclicHasNoCycle}
+use Rattle.nj_cycles.specs.Cycles.{Needs, NeedsByChain, IsOnCycle, FallsAlongNeeds, IsAcyclic, IsFirstOnCycle, FallingRanksLeaveNoCycle}
 use Rattle.nj_cycles.specs.Cycles.Chain.{one, more}
-use Rattle.nj_cycles.specs.Inputs.{edge_count, makers_of}
 use Rattle.nj_cycles.specs.Inside.Walks.{Reaches, IsFalling, Walked}
-use Rattle.nj_cycles.specs.Inside.Places.{NeedsAt}
-use Rattle.nj_cycles.specs.Inside.Marks.{IsMarked, AreMarks, IsOnCycleAt, IsLeastOf}
+use Rattle.nj_cycles.specs.Inside.Marks.{IsMarked, AreMarks, IsLeastOf}
 use Rattle.nj_cycles.proofs.Chains.{comes_then, then_comes}
 use Rattle.nj_cycles.proofs.Places.{index_of, contains_at, index_before}
-use Rattle.nj_cycles.proofs.InputPlaces.{owner_in}
-use Rattle.nj_cycles.proofs.Bridge.{at_from_needs, chain_from_at, at_from_chain}
 
 -- ---- a rank
 
@@ -34,46 +29,46 @@ rank_le order e i is = elim (cases_lt i (rank order e)) [
 rank_at : (order : List ℕ) (e : ℕ) → rank order e < length order → slice_index order (rank order e) ≡ e
 rank_at order e lt = sym (eqb-true e (slice_index order (rank order e)) (passes_at_first (nat_eq e) order 0 lt))
 
-module _ (g : EdgeInputs) (order : List ℕ) (w : Walked g order) where
-  rank_in : (e : ℕ) → e < edge_count g → rank order e < length order
+module _ (makers : ℕ → List (Option ℕ)) (count : ℕ) (order : List ℕ) (w : Walked makers count order) where
+  rank_in : (e : ℕ) → e < count → rank order e < length order
   rank_in e lt = let k = index_of order e (w.all e lt) in omega (arith, rank_le order e k.0 k.2, k.1)
 
-  pub ranked : IsFalling g order → IsAcyclic (makers_of g) (edge_count g)
+  pub ranked : IsFalling makers order → IsAcyclic makers count
   ranked falling = (
     rank order,
     record {
       falls = λ e f needs.
-          let n = at_from_needs g e f needs in
-          let lt = rank_in e (owner_in g n.0 e n.1 n.2) in
-          let k = index_before order (rank order e) f (omega (arith, lt)) (falling (rank order e) f lt (subst (λ x. NeedsAt g x f) (sym (rank_at order e lt)) n)) in
+          let lt = rank_in e (w.known e f needs).0 in
+          let k = index_before order (rank order e) f (omega (arith, lt)) (falling (rank order e) f lt (subst (λ x. Needs makers x f) (sym (rank_at order e lt)) needs)) in
           omega (arith, rank_le order f k.0 k.2, k.1);
       bounded = λ e lt. omega (arith, rank_in e lt, w.len);
+      within = λ e f needs. (w.known e f needs).1;
     },
   )
 
   -- where no edge lies on a cycle, each stands after what it needs
-  pub falls : ((e : ℕ) → Contains order e → ¬ IsOnCycleAt g e) → IsFalling g order
+  pub falls : ((e : ℕ) → Contains order e → ¬ IsOnCycle makers e) → IsFalling makers order
   falls none a f lt needs = elim (w.settled a a f (omega arith) lt needs) [
     | inl c ↦ c
-    | inr r ↦ absurd (none (slice_index order a) (contains_at order a (slice_index order a) lt refl) (then_comes (NeedsAt g) (slice_index order a) f (slice_index order a) (one needs) r))
+    | inr r ↦ absurd (none (slice_index order a) (contains_at order a (slice_index order a) lt refl) (then_comes (Needs makers) (slice_index order a) f (slice_index order a) (one needs) r))
   ]
 
   -- ---- an edge that needs one at its place or after it
 
-  back : (i : ℕ) → i < length order → (a u v : ℕ) → a ≤ i → slice_index order a ≡ u → Reaches g (slice_index order i) u → Chain (NeedsAt g) u v → ¬ Contains (take i order) v
-      → IsOnCycleAt g (slice_index order i)
-  back i lt a u v le at comes (one needs) fresh = elim (w.settled a i v le lt (subst (λ x. NeedsAt g x v) (sym at) needs)) [
+  back : (i : ℕ) → i < length order → (a u v : ℕ) → a ≤ i → slice_index order a ≡ u → Reaches makers (slice_index order i) u → NeedsByChain makers u v → ¬ Contains (take i order) v
+      → IsOnCycle makers (slice_index order i)
+  back i lt a u v le at comes (one needs) fresh = elim (w.settled a i v le lt (subst (λ x. Needs makers x v) (sym at) needs)) [
     | inl c ↦ absurd (fresh c)
-    | inr r ↦ comes_then (NeedsAt g) (slice_index order i) u (slice_index order i) comes (then_comes (NeedsAt g) u v (slice_index order i) (one needs) r)
+    | inr r ↦ comes_then (Needs makers) (slice_index order i) u (slice_index order i) comes (then_comes (Needs makers) u v (slice_index order i) (one needs) r)
   ]
-  back i lt a u v le at comes (more {g = h} needs chain) fresh = elim (w.settled a i h le lt (subst (λ x. NeedsAt g x h) (sym at) needs)) [
+  back i lt a u v le at comes (more {g = h} needs chain) fresh = elim (w.settled a i h le lt (subst (λ x. Needs makers x h) (sym at) needs)) [
     | inl c ↦
         let k = index_before order i h (omega (arith, lt)) c in
-        back i lt k.0 h v (omega (arith, k.1)) k.2 (inr (comes_then (NeedsAt g) (slice_index order i) u h comes (one needs))) chain fresh
-    | inr r ↦ comes_then (NeedsAt g) (slice_index order i) u (slice_index order i) comes (then_comes (NeedsAt g) u h (slice_index order i) (one needs) r)
+        back i lt k.0 h v (omega (arith, k.1)) k.2 (inr (comes_then (Needs makers) (slice_index order i) u h comes (one needs))) chain fresh
+    | inr r ↦ comes_then (Needs makers) (slice_index order i) u (slice_index order i) comes (then_comes (Needs makers) u h (slice_index order i) (one needs) r)
   ]
 
-  on_cycle_from_later : (i j : ℕ) → i ≤ j → j < length order → Chain (NeedsAt g) (slice_index order i) (slice_index order j) → IsOnCycleAt g (slice_index order i)
+  on_cycle_from_later : (i j : ℕ) → i ≤ j → j < length order → NeedsByChain makers (slice_index order i) (slice_index order j) → IsOnCycle makers (slice_index order i)
   on_cycle_from_later i j le lt chain =
       back i (omega (arith, le, lt)) i (slice_index order i) (slice_index order j) (omega arith) refl (inl refl) chain
       (λ c. let k = index_before order i (slice_index order j) (omega (arith, le, lt)) c in w.once k.0 j (omega (arith, k.1, le)) lt k.2)
@@ -81,35 +76,29 @@ module _ (g : EdgeInputs) (order : List ℕ) (w : Walked g order) where
   -- ---- marks
 
   -- after an edge's own turn it is marked exactly if it lies on a cycle
-  pub marked-on_cycle : (i : ℕ) (flags : List Bool) → i < length order → AreMarks g (drop i order) flags → IsMarked flags (slice_index order i) → IsOnCycleAt g (slice_index order i)
+  pub marked-on_cycle : (i : ℕ) (flags : List Bool) → i < length order → AreMarks makers (drop i order) flags → IsMarked flags (slice_index order i) → IsOnCycle makers (slice_index order i)
   marked-on_cycle i flags lt marks h =
       let l = marks.sound (slice_index order i) h in
       let k = index_of (drop i order) l.0 l.1 in
       let inside : i + k.0 < length order = omega (arith, k.1, length-drop i order) in
-      on_cycle_from_later i (i + k.0) (omega arith) inside (subst (Chain (NeedsAt g) (slice_index order i)) (sym k.2 ∙ get_or-drop i order k.0 0) l.2)
+      on_cycle_from_later i (i + k.0) (omega arith) inside (subst (NeedsByChain makers (slice_index order i)) (sym k.2 ∙ get_or-drop i order k.0 0) l.2)
 
-  closed_chain : (edges : List ℕ) (flags : List Bool) → AreMarks g edges flags → (e f : ℕ) → Chain (NeedsAt g) e f → Contains edges f → IsMarked flags e
+  closed_chain : (edges : List ℕ) (flags : List Bool) → AreMarks makers edges flags → (e f : ℕ) → NeedsByChain makers e f → Contains edges f → IsMarked flags e
   closed_chain edges flags marks e f (one needs) c = marks.closed e f needs (inl c)
   closed_chain edges flags marks e f (more {g = h} needs chain) c = marks.closed e h needs (inr (closed_chain edges flags marks h f chain c))
 
-  pub on_cycle-marked : (e : ℕ) (edges : List ℕ) (flags : List Bool) → AreMarks g (e ∷ edges) flags → IsOnCycleAt g e → IsMarked flags e
+  pub on_cycle-marked : (e : ℕ) (edges : List ℕ) (flags : List Bool) → AreMarks makers (e ∷ edges) flags → IsOnCycle makers e → IsMarked flags e
   on_cycle-marked e edges flags marks h = closed_chain (e ∷ edges) flags marks e e h (Contains-append_left (e ∷ []) edges e (0, omega arith, refl))
 
   -- ---- the answer
 
-  pub answered : (least : Option ℕ) → IsLeastOf g order least → IsFirstOnCycle (makers_of g) (edge_count g) least
+  pub answered : (least : Option ℕ) → IsLeastOf makers order least → IsFirstOnCycle makers count least
   answered None none = ranked (falls none)
-  answered (Some l) h = (
-    chain_from_at g l l h.0,
-    (λ f lt on.
-        let chain = at_from_chain g f f on in
-        let least = h.1 f (w.all f (starts_in f f chain)) chain in
-        omega (arith, lt, least)),
-  )
+  answered (Some l) h = (h.0, λ f lt on. let least = h.1 f (w.all f (starts_in f f on)) on in omega (arith, lt, least))
     where
-      starts_in : (e f : ℕ) → Chain (NeedsAt g) e f → e < edge_count g
-      starts_in e f (one n) = owner_in g n.0 e n.1 n.2
-      starts_in e f (more n c) = owner_in g n.0 e n.1 n.2
+      starts_in : (e f : ℕ) → NeedsByChain makers e f → e < count
+      starts_in e f (one n) = (w.known e f n).0
+      starts_in e f (more {g = h} n c) = (w.known e h n).0
 
 -- ---- the least edge so far
 
@@ -122,27 +111,27 @@ head_or_tail e edges x c = elim (Contains-append_cases (e ∷ []) edges x c) [
   | inr there ↦ inr there
 ]
 
-pub least_none : (g : EdgeInputs) → IsLeastOf g [] None
-least_none g e c = absurd (omega (arith, c.1))
+pub least_none : (makers : ℕ → List (Option ℕ)) → IsLeastOf makers [] None
+least_none makers e c = absurd (omega (arith, c.1))
 
 -- an edge that lies on no cycle
-pub least_past : (g : EdgeInputs) (edges : List ℕ) (e : ℕ) (least : Option ℕ) → ¬ IsOnCycleAt g e → IsLeastOf g edges least → IsLeastOf g (e ∷ edges) least
-least_past g edges e None not_on h = λ x c. elim (head_or_tail e edges x c) [ inl is ↦ subst (λ y. ¬ IsOnCycleAt g y) is not_on | inr t ↦ h x t ]
-least_past g edges e (Some l) not_on h = (
+pub least_past : (makers : ℕ → List (Option ℕ)) (edges : List ℕ) (e : ℕ) (least : Option ℕ) → ¬ IsOnCycle makers e → IsLeastOf makers edges least → IsLeastOf makers (e ∷ edges) least
+least_past makers edges e None not_on h = λ x c. elim (head_or_tail e edges x c) [ inl is ↦ subst (λ y. ¬ IsOnCycle makers y) is not_on | inr t ↦ h x t ]
+least_past makers edges e (Some l) not_on h = (
   h.0,
-  (λ x c on. elim (head_or_tail e edges x c) [ inl is ↦ absurd (not_on (subst (IsOnCycleAt g) (sym is) on)) | inr t ↦ h.1 x t on ]),
+  (λ x c on. elim (head_or_tail e edges x c) [ inl is ↦ absurd (not_on (subst (IsOnCycle makers) (sym is) on)) | inr t ↦ h.1 x t on ]),
 )
 
 -- one that lies on a cycle
-pub least_more : (g : EdgeInputs) (edges : List ℕ) (e l : ℕ) (least : Option ℕ) → IsOnCycleAt g e → MatchOption least (l ≡ e) (λ other. l ≡ min other e) → IsLeastOf g edges least → IsLeastOf g (e ∷ edges) (Some l)
-least_more g edges e l None on is h = (
-  subst (IsOnCycleAt g) (sym is) on,
+pub least_more : (makers : ℕ → List (Option ℕ)) (edges : List ℕ) (e l : ℕ) (least : Option ℕ) → IsOnCycle makers e → MatchOption least (l ≡ e) (λ other. l ≡ min other e) → IsLeastOf makers edges least → IsLeastOf makers (e ∷ edges) (Some l)
+least_more makers edges e l None on is h = (
+  subst (IsOnCycle makers) (sym is) on,
   (λ x c on_x. elim (head_or_tail e edges x c) [ inl same ↦ omega (arith, is, same) | inr t ↦ absurd (h x t on_x) ]),
 )
-least_more g edges e l (Some other) on is h = (
+least_more makers edges e l (Some other) on is h = (
   elim (cases_lt e other) [
-    | inl lt ↦ let l_is : l ≡ e = omega (arith, is, lt) in subst (IsOnCycleAt g) (sym l_is) on
-    | inr le ↦ let l_is : l ≡ other = omega (arith, is, le) in subst (IsOnCycleAt g) (sym l_is) h.0
+    | inl lt ↦ let l_is : l ≡ e = omega (arith, is, lt) in subst (IsOnCycle makers) (sym l_is) on
+    | inr le ↦ let l_is : l ≡ other = omega (arith, is, le) in subst (IsOnCycle makers) (sym l_is) h.0
   ],
   (λ x c on_x. elim (head_or_tail e edges x c) [ inl same ↦ omega (arith, is, same) | inr t ↦ omega (arith, is, h.1 x t on_x) ]),
 )
@@ -156,9 +145,9 @@ stepped order index low high =
 
 -- ---- the law
 
-rank_falls : (makers : ℕ → List ℕ) (edges : ℕ) (rank : ℕ → ℕ) → IsRank makers edges rank → (e f : ℕ) → Chain (Needs makers) e f → rank f < rank e
-rank_falls makers edges rank r e f (one needs) = r.falls e f needs
-rank_falls makers edges rank r e f (more {g = h} needs chain) = omega (arith, r.falls e h needs, rank_falls makers edges rank r h f chain)
+rank_falls : (makers : ℕ → List (Option ℕ)) (rank : ℕ → ℕ) → FallsAlongNeeds makers rank → (e f : ℕ) → NeedsByChain makers e f → rank f < rank e
+rank_falls makers rank falls e f (one needs) = falls e f needs
+rank_falls makers rank falls e f (more {g = h} needs chain) = omega (arith, falls e h needs, rank_falls makers rank falls h f chain)
 
-pub acyclic-has_no_cycle : AcyclicHasNoCycle
-acyclic-has_no_cycle makers edges r e on = let less : r.0 e < r.0 e = rank_falls makers edges r.0 r.1 e e on in omega arith
+pub falling_ranks_leave_no_cycle : FallingRanksLeaveNoCycle
+falling_ranks_leave_no_cycle makers rank falls e on = let less : rank e < rank e = rank_falls makers rank falls e e on in omega arith

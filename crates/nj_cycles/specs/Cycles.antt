@@ -1,39 +1,52 @@
--- Dependency cycles. The edges of a build graph (its build statements) are numbered from 0, and `makers` has
--- for each edge, in the order of its inputs, the edges that make them. An input that no edge makes has no
--- number there.
+-- Dependency cycles. The edges of a build graph (its build statements) are numbered from 0, and `makers` has for
+-- each edge the makers of its inputs, in their order: the edge that makes an input, or None for a source.
 use Rattle.std.specs.Prelude.{ℕ, ◌<◌, List, Option, None, Some, Contains}
 
 -- edge e needs edge f directly: f makes an input of e
-abbrev pub Needs : (ℕ → List ℕ) → ℕ → ℕ → Type 0
-Needs makers e f = Contains (makers e) f
+abbrev pub Needs : (makers : ℕ → List (Option ℕ)) → ℕ → ℕ → Type 0
+Needs makers e f = Contains (makers e) (Some f)
 
 -- from e to f in one step or more
 pub data Chain {A : Type 0} (step : A → A → Type 0) : A → A → Type 0 where
   one : {e f : A} → step e f → Chain step e f
   more : {e g f : A} → step e g → Chain step g f → Chain step e f
 
--- edge e lies on a cycle: it needs itself by a chain. An edge that only leads into a cycle does not lie on it
-abbrev pub IsOnCycle : (ℕ → List ℕ) → ℕ → Type 0
-IsOnCycle makers e = Chain (Needs makers) e e
+-- edge e needs edge f in one step or more
+abbrev pub NeedsByChain : (makers : ℕ → List (Option ℕ)) → ℕ → ℕ → Type 0
+NeedsByChain makers = Chain (Needs makers)
 
--- a rank falls along every need, and is below the number of edges: no chain is longer than that
-pub record IsRank (makers : ℕ → List ℕ) (edge_count : ℕ) (rank : ℕ → ℕ) : Type 0 where
-  pub falls : (e f : ℕ) → Needs makers e f → rank f < rank e
+-- edge e lies on a cycle: it needs itself by a chain. An edge that only leads into a cycle does not lie on it
+abbrev pub IsOnCycle : (makers : ℕ → List (Option ℕ)) → ℕ → Type 0
+IsOnCycle makers e = NeedsByChain makers e e
+
+-- only edges below this number have inputs, and only these make any
+abbrev pub AreEdges : (makers : ℕ → List (Option ℕ)) → (edge_count : ℕ) → Type 0
+AreEdges makers edge_count = (e f : ℕ) → Needs makers e f → (e < edge_count) × (f < edge_count)
+
+-- a rank falls along every need
+abbrev pub FallsAlongNeeds : (makers : ℕ → List (Option ℕ)) → (rank : ℕ → ℕ) → Type 0
+FallsAlongNeeds makers rank = (e f : ℕ) → Needs makers e f → rank f < rank e
+
+-- it is below the number of edges: no chain is longer than that. What edges need are edges
+pub record IsRank (makers : ℕ → List (Option ℕ)) (edge_count : ℕ) (rank : ℕ → ℕ) : Type 0 where
+  pub falls : FallsAlongNeeds makers rank
   pub bounded : (e : ℕ) → e < edge_count → rank e < edge_count
+  pub within : (e f : ℕ) → Needs makers e f → f < edge_count
 
 -- the graph has no cycle
-abbrev pub IsAcyclic : (ℕ → List ℕ) → ℕ → Type 0
+abbrev pub IsAcyclic : (makers : ℕ → List (Option ℕ)) → (edge_count : ℕ) → Type 0
 IsAcyclic makers edge_count = (rank : ℕ → ℕ) × IsRank makers edge_count rank
 
 -- e is the edge of the smallest number that lies on a cycle
-abbrev pub IsLeastOnCycle : (ℕ → List ℕ) → ℕ → Type 0
+abbrev pub IsLeastOnCycle : (makers : ℕ → List (Option ℕ)) → ℕ → Type 0
 IsLeastOnCycle makers e = IsOnCycle makers e × ((f : ℕ) → f < e → ¬ IsOnCycle makers f)
 
 -- the answer of the cycle check
-abbrev pub IsFirstOnCycle : (ℕ → List ℕ) → ℕ → Option ℕ → Type 0
+abbrev pub IsFirstOnCycle : (makers : ℕ → List (Option ℕ)) → (edge_count : ℕ) → Option ℕ → Type 0
 IsFirstOnCycle makers edge_count None = IsAcyclic makers edge_count
 IsFirstOnCycle makers edge_count (Some e) = IsLeastOnCycle makers e
 
--- a graph with a rank has no edge that needs itself by a chain
-abbrev pub AcyclicHasNoCycle : Type 0
-AcyclicHasNoCycle = (makers : ℕ → List ℕ) (edge_count : ℕ) → IsAcyclic makers edge_count → (e : ℕ) → ¬ IsOnCycle makers e
+-- where a rank falls along every need, no edge needs itself by a chain
+abbrev pub FallingRanksLeaveNoCycle : Type 0
+FallingRanksLeaveNoCycle =
+    (makers : ℕ → List (Option ℕ)) (rank : ℕ → ℕ) → FallsAlongNeeds makers rank → (e : ℕ) → ¬ IsOnCycle makers e

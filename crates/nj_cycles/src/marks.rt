@@ -1,12 +1,13 @@
 //! The edges that lie on a cycle, from the order in which the walk finished the edges.
-ghost use Rattle.std.specs.Prelude.{◌≡◌, ℕ, ◌<◌, Bool, true, false, List, [], ◌∷◌, min, length, vec_len, All, MatchOption, IfOk, OnOk};
-ghost use Rattle.nj_cycles.specs.Inputs.{edge_count};
+ghost use Rattle.std.specs.Prelude.{◌≡◌, ℕ, ◌<◌, Bool, true, false, List, Option, [], ◌∷◌, min, length, vec_len, All, Contains, MatchOption, IfOk, OnOk};
+ghost use Rattle.std.specs.Global.{Vec};
+ghost use Rattle.nj_cycles.specs.Cycles.{Needs};
 ghost use Rattle.nj_cycles.specs.Inside.Walks.{Walked};
-ghost use Rattle.nj_cycles.specs.Inside.Places.{NeedsAt};
-ghost use Rattle.nj_cycles.specs.Inside.Users.{AreUsers};
+ghost use Rattle.nj_cycles.specs.Inside.Users.{HoldUsers, users_of};
 ghost use Rattle.nj_cycles.specs.Inside.Marks.{IsMarked, AreMarks, MarksMore, IsLeastOf};
 
-use crate::users::Users;
+use crate::inputs::EdgeInputs;
+use crate::users::users_of;
 use std::alloc::{AllocError, Global};
 
 /// For each edge whether it is marked, and the marked edges whose users are still to be marked.
@@ -44,40 +45,36 @@ impl Marks {
         Ok(())
     }
 
-    /// Marks each edge that needs this one directly.
-    fn mark_users(&mut self, users: &Users<'_>, edge: usize) -> Result<(), AllocError>
-        requires users { AreUsers users.now }
-        requires len { vec_len self.old.flags ≡ edge_count users.now.inputs }
-        requires edge_in { edge < edge_count users.now.inputs }
-        ensures more { OnOk result (MarksMore (λ e. NeedsAt users.now.inputs e edge)
-            self.old self.new) }
-        ensures marked { OnOk result ((e : ℕ) → NeedsAt users.now.inputs e edge
+    /// Marks each of these edges.
+    fn mark_all(&mut self, edges: &[usize]) -> Result<(), AllocError>
+        requires { All (λ e. e < vec_len self.old.flags) edges.now }
+        ensures more { OnOk result (MarksMore (Contains edges.now) self.old self.new) }
+        ensures marked { OnOk result ((e : ℕ) → Contains edges.now e
             → IsMarked self.new.flags.items e) }
     {
-        let mut place = users.last[edge];
-        'places: while let Some(at) = place {
-            self.mark(users.edges[at])?;
-            place = users.before[at];
+        'edges: for edge in edges {
+            self.mark(*edge)?;
         }
         Ok(())
     }
 
     /// Marks each edge that needs this one by a chain. The edges that need a marked one are marked
     /// already, so that each edge's users are looked at once.
-    fn mark_needing(&mut self, users: &Users<'_>, edge: usize) -> Result<(), AllocError>
-        requires users { AreUsers users.now }
-        requires len { vec_len self.old.flags ≡ edge_count users.now.inputs }
-        requires edge_in { edge < edge_count users.now.inputs }
+    fn mark_needing(&mut self, users: &[Vec<usize>], edge: usize) -> Result<(), AllocError>
+        requires len { vec_len self.old.flags ≡ length users.now }
+        requires known { (m e : ℕ) → Contains (users_of users.now m) e → e < length users.now }
+        requires edge_in { edge < length users.now }
         requires pending { self.old.pending.items ≡ [] }
-        ensures len_after { OnOk result (vec_len self.new.flags ≡ edge_count users.now.inputs) }
+        ensures len_after { OnOk result (vec_len self.new.flags ≡ length users.now) }
         ensures pending_after { OnOk result (self.new.pending.items ≡ []) }
-        ensures marks { OnOk result ((edges : List ℕ)
-            → AreMarks users.now.inputs edges self.old.flags.items
-            → AreMarks users.now.inputs (edge ∷ edges) self.new.flags.items) }
+        ensures marks { OnOk result ((makers : ℕ → List (Option ℕ)) (edges : List ℕ)
+            → HoldUsers (length users.now) (Needs makers) users.now
+            → AreMarks makers edges self.old.flags.items
+            → AreMarks makers (edge ∷ edges) self.new.flags.items) }
     {
         self.pending.push(edge)?;
         'pending: while let Some(next) = self.pending.pop() {
-            self.mark_users(users, next)?;
+            self.mark_all(users_of(users, next))?;
         }
         Ok(())
     }
@@ -96,16 +93,17 @@ fn lesser(least: Option<usize>, edge: usize) -> usize
 /// The edge of the smallest number that lies on a cycle, if one does, from the order in which the
 /// walk finished the edges. From the end of that order on, all that need an edge are marked, and
 /// the edge lies on a cycle exactly if it then is marked itself.
-pub(crate) fn least_on_cycle(
+pub(crate) fn least_on_cycle<I: EdgeInputs>(
     alloc: Global,
-    users: &Users<'_>,
+    inputs: &I,
+    users: &[Vec<usize>],
     order: &[usize],
 ) -> Result<Option<usize>, AllocError>
-    requires users { AreUsers users.now }
-    requires walked { Walked users.now.inputs order.now }
-    ensures { IfOk result (λ least. IsLeastOf users.now.inputs order.now least) }
+    requires users { HoldUsers (I.count inputs.now) (Needs (I.makers inputs.now)) users.now }
+    requires walked { Walked (I.makers inputs.now) (I.count inputs.now) order.now }
+    ensures { IfOk result (λ least. IsLeastOf (I.makers inputs.now) order.now least) }
 {
-    let mut marks = Marks::none(alloc, users.inputs.edge_count())?;
+    let mut marks = Marks::none(alloc, inputs.edge_count())?;
     let mut least = None;
     'edges: for index in (0..order.len()).rev() {
         let edge = order[index];

@@ -1,79 +1,78 @@
 //! The users of edges: which edges need an edge directly.
-ghost use Rattle.std.specs.Prelude.{◌≡◌, ℕ, ◌+◌, ◌<◌, ◌≤◌, length, vec_len, IfOk, OnOk};
-ghost use Rattle.nj_cycles.specs.Inputs.{edge_count};
-ghost use Rattle.nj_cycles.specs.Inside.Places.{first_place, past_place};
-ghost use Rattle.nj_cycles.specs.Inside.Users.{IsInputOf, AreTied, AreUsers, TakesLast};
+ghost use Rattle.std.specs.Prelude.{◌≡◌, ◌+◌, ◌<◌, length, IfOk, IfSome, OnOk};
+ghost use Rattle.nj_cycles.specs.Cycles.{AreEdges, Needs};
+ghost use Rattle.nj_cycles.specs.Inside.Users.{HoldUsers, NeedsSoFar, lists_of, users_of, with_user};
 
 use crate::inputs::EdgeInputs;
 use std::alloc::{AllocError, Global};
 
-/// For each edge the last place of an input that it makes, and for each place the one before it
-/// with the same maker, and the edge whose input stands there.
-#[derive(Drop)]
-pub(crate) struct Users<'a> {
-    pub(crate) inputs: EdgeInputs<'a>,
-    pub(crate) last: Vec<Option<usize>>,
-    pub(crate) before: Vec<Option<usize>>,
-    pub(crate) edges: Vec<usize>,
+/// For each edge the edges that need it directly, one for each input that it makes.
+pub(crate) fn users_of_edges<I: EdgeInputs>(
+    alloc: Global,
+    inputs: &I,
+) -> Result<Vec<Vec<usize>>, AllocError>
+    ensures { IfOk result (λ users.
+        HoldUsers (I.count inputs.now) (Needs (I.makers inputs.now)) users.items) }
+{
+    let mut users = no_users(alloc, inputs.edge_count())?;
+    'edges: for edge in 0..inputs.edge_count() {
+        add_edge(inputs, edge, &mut users)?;
+    }
+    Ok(users)
 }
 
-impl<'a> Users<'a> {
-    /// The users of all edges.
-    pub(crate) fn new(alloc: Global, inputs: &EdgeInputs<'a>) -> Result<Self, AllocError>
-        ensures inputs { IfOk result (λ users. users.inputs ≡ inputs.now) }
-        ensures users { IfOk result (λ users. AreUsers users) }
-    {
-        let mut users = Users {
-            inputs: *inputs,
-            last: vec![in alloc; None; inputs.edge_count()]?,
-            before: Vec::with_capacity(alloc, inputs.input_count())?,
-            edges: Vec::with_capacity(alloc, inputs.input_count())?,
-        };
-        'edges: for edge in 0..inputs.edge_count() {
-            users.add_edge(edge)?;
-        }
-        Ok(users)
+/// No users for each of `count` edges.
+fn no_users(alloc: Global, count: usize) -> Result<Vec<Vec<usize>>, AllocError>
+    ensures { IfOk result (λ users. HoldUsers count (λ e m. ⊥) users.items) }
+{
+    let mut users = Vec::with_capacity(alloc, count)?;
+    'edges: for _ in 0..count {
+        users.push(Vec::new(alloc))?;
     }
+    Ok(users)
+}
 
-    /// Adds the inputs of the next edge.
-    fn add_edge(&mut self, edge: usize) -> Result<(), AllocError>
-        requires edge_in { edge < edge_count self.old.inputs }
-        requires tied { AreTied (first_place self.old.inputs edge) self.old }
-        ensures inputs { self.new.inputs ≡ self.old.inputs }
-        ensures tied_after { OnOk result (AreTied (past_place self.old.inputs edge) self.new) }
-    {
-        'places: for place in self.inputs.first_place(edge)..self.inputs.past_place(edge) {
-            self.add_place(place, edge)?;
-        }
-        Ok(())
+/// Adds an edge to the users of all that it needs.
+fn add_edge<I: EdgeInputs>(
+    inputs: &I,
+    edge: usize,
+    users: &mut Vec<Vec<usize>>,
+) -> Result<(), AllocError>
+    requires edges { AreEdges (I.makers inputs.now) (I.count inputs.now) }
+    requires edge_in { edge < I.count inputs.now }
+    requires users { HoldUsers (I.count inputs.now)
+        (NeedsSoFar (I.makers inputs.now) edge 0) users.old.items }
+    ensures { OnOk result (HoldUsers (I.count inputs.now)
+        (NeedsSoFar (I.makers inputs.now) (edge + 1) 0) users.new.items) }
+{
+    let mut index = 0;
+    'inputs: while let Some(maker) = inputs.maker_at(edge, index) {
+        add_user(users, maker, edge)?;
+        index += 1;
     }
+    Ok(())
+}
 
-    /// Adds the next input, which is one of this edge.
-    fn add_place(&mut self, place: usize, edge: usize) -> Result<(), AllocError>
-        requires input { IsInputOf self.old.inputs place edge }
-        requires tied { AreTied place self.old }
-        ensures inputs { self.new.inputs ≡ self.old.inputs }
-        ensures tied_after { OnOk result (AreTied (place + 1) self.new) }
-    {
-        let before = self.take_last(place);
-        self.before.push(before)?;
-        self.edges.push(edge)?;
-        Ok(())
+/// Adds a user to what makes an input; a source has none.
+fn add_user(
+    users: &mut Vec<Vec<usize>>,
+    maker: Option<usize>,
+    user: usize,
+) -> Result<(), AllocError>
+    requires { IfSome maker (λ edge. edge < length users.old.items) }
+    ensures { OnOk result (lists_of users.new.items
+        ≡ with_user (lists_of users.old.items) maker user) }
+{
+    if let Some(edge) = maker {
+        users[edge].push(user)?;
     }
+    Ok(())
+}
 
-    /// Makes this place the last one of its maker, and returns what was the last one.
-    fn take_last(&mut self, place: usize) -> Option<usize>
-        requires place_in { place < length self.old.inputs.files.now }
-        requires last_len { vec_len self.old.last ≡ edge_count self.old.inputs }
-        ensures inputs { self.new.inputs ≡ self.old.inputs }
-        ensures before { self.new.before.items ≡ self.old.before.items }
-        ensures edges { self.new.edges.items ≡ self.old.edges.items }
-        ensures last { TakesLast self.old.inputs place self.old.last.items self.new.last.items
-            result }
-    {
-        let maker = self.inputs.maker_at(place)?;
-        let before = self.last[maker];
-        self.last[maker] = Some(place);
-        before
-    }
+/// The users of an edge.
+pub(crate) fn users_of(users: &[Vec<usize>], edge: usize) -> &[usize]
+    requires { edge < length users.now }
+    ensures { result.now ≡ users_of users.now edge }
+{
+    &users[edge]
 }

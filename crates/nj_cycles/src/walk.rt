@@ -1,9 +1,7 @@
 //! The depth-first walk over the edges, in the order of their numbers.
-ghost use Rattle.std.specs.Prelude.{◌≡◌, ℕ, ◌<◌, ◌≤◌, false, [], ◌∷◌, ◌++◌, length, vec_len, slice_index, slice_set, sum_by, Contains, IfOk, OnOk};
-ghost use Rattle.std.specs.Bool.{OnTrue, OnFalse};
-ghost use Rattle.nj_cycles.specs.Inputs.{edge_count};
-ghost use Rattle.nj_cycles.specs.Inside.Places.{first_place, past_place};
-ghost use Rattle.nj_cycles.specs.Inside.Walks.{stage_of, IsSeen, turns_of, Stands, WalkStands, Passes, EndsAt, TakesTurn, IsFalling, Walked};
+ghost use Rattle.std.specs.Prelude.{◌≡◌, ℕ, ◌<◌, false, [], ◌∷◌, ◌++◌, vec_len, length, slice_set, IfOk, OnOk, IfSome};
+ghost use Rattle.nj_cycles.specs.Cycles.{AreEdges};
+ghost use Rattle.nj_cycles.specs.Inside.Walks.{stage_of, stage_of_maker, IsSeen, StandsAt, WalkStands, EndsAt, TakesTurn, IsFalling, Walked};
 
 use crate::inputs::EdgeInputs;
 use std::alloc::{AllocError, Global};
@@ -16,7 +14,7 @@ enum Stage {
     Done,
 }
 
-/// A walk: for each edge its stage and the place of its next input, the path of open edges, the
+/// A walk: for each edge its stage and the index of its next input, the path of open edges, the
 /// edges that are finished, in that order, and whether an open maker was met.
 #[derive(Drop)]
 struct Walk {
@@ -27,15 +25,6 @@ struct Walk {
     meets_open: bool,
 }
 
-/// The inputs that were passed from a place on: where that ended, the unseen maker there, and
-/// whether an open one was passed.
-#[derive(Drop)]
-struct Passed {
-    place: usize,
-    unseen: Option<usize>,
-    meets_open: bool,
-}
-
 /// The edges in the order in which the walk finished them.
 #[derive(Drop)]
 pub(crate) struct Finished {
@@ -43,51 +32,30 @@ pub(crate) struct Finished {
     pub(crate) meets_open: bool,
 }
 
-/// Passes the inputs from this place on up to the first whose maker is unseen.
-fn pass(inputs: &EdgeInputs<'_>, stages: &[Stage], from: usize, past: usize) -> Passed
-    requires stages_in { length stages.now ≡ edge_count inputs.now }
-    requires within { past ≤ length inputs.now.files.now }
-    requires from_in { from ≤ past }
-    ensures passes { Passes inputs.now stages.now from past result }
-    ensures ends { EndsAt inputs.now stages.now past result.place result.unseen }
+/// The stage of what makes an input. There is nothing to do for a source.
+fn stage_of_maker(stages: &[Stage], maker: Option<usize>) -> Stage
+    requires { IfSome maker (λ edge. edge < length stages.now) }
+    ensures { result ≡ stage_of_maker stages.now maker }
 {
-    let mut meets_open = false;
-    'places: for place in from..past {
-        let Some(maker) = inputs.maker_at(place) else {
-            continue;
-        };
-        match stages[maker] {
-            Stage::Unseen => {
-                return Passed {
-                    place,
-                    unseen: Some(maker),
-                    meets_open,
-                };
-            }
-            Stage::Open => meets_open = true,
-            Stage::Done => {}
-        }
-    }
-    Passed {
-        place: past,
-        unseen: None,
-        meets_open,
+    match maker {
+        Some(edge) => stages[edge],
+        None => Stage::Done,
     }
 }
 
 impl Walk {
     /// No edge is seen.
-    fn new(alloc: Global, inputs: &EdgeInputs<'_>) -> Result<Self, AllocError>
-        ensures stands { IfOk result (λ walk. WalkStands inputs.now walk) }
+    fn new<I: EdgeInputs>(alloc: Global, inputs: &I) -> Result<Self, AllocError>
+        ensures stands { IfOk result (λ walk.
+            WalkStands (I.makers inputs.now) (I.count inputs.now) walk) }
         ensures path { IfOk result (λ walk. walk.path.items ≡ []) }
     {
-        let stages = vec![in alloc; Stage::Unseen; inputs.edge_count()]?;
-        let next = inputs.to_starts(alloc)?;
+        let count = inputs.edge_count();
         Ok(Walk {
-            stages,
-            next,
-            path: Vec::with_capacity(alloc, inputs.edge_count())?,
-            order: Vec::with_capacity(alloc, inputs.edge_count())?,
+            stages: vec![in alloc; Stage::Unseen; count]?,
+            next: vec![in alloc; 0; count]?,
+            path: Vec::with_capacity(alloc, count)?,
+            order: Vec::with_capacity(alloc, count)?,
             meets_open: false,
         })
     }
@@ -122,34 +90,35 @@ impl Walk {
         Ok(())
     }
 
-    /// Passes inputs of the edge that was taken from the end of the path, and returns the unseen
-    /// maker of the next one, if there is one.
-    fn pass_inputs(&mut self, inputs: &EdgeInputs<'_>, edge: usize) -> Option<usize>
-        requires { Stands inputs.now self.old.stages.items self.old.next.items
-            (self.old.path.items ++ edge ∷ []) self.old.order.items self.old.meets_open }
-        ensures stands { Stands inputs.now self.new.stages.items self.new.next.items
-            (self.new.path.items ++ edge ∷ []) self.new.order.items self.new.meets_open }
+    /// Passes inputs of the edge that was taken from the end of the path, up to the first whose
+    /// maker is unseen, and returns that maker.
+    fn pass_inputs<I: EdgeInputs>(&mut self, inputs: &I, edge: usize) -> Option<usize>
+        requires edges { AreEdges (I.makers inputs.now) (I.count inputs.now) }
+        requires stands { StandsAt (I.makers inputs.now) (I.count inputs.now) self.old edge }
+        ensures stands_after { StandsAt (I.makers inputs.now) (I.count inputs.now) self.new edge }
         ensures stages { self.new.stages.items ≡ self.old.stages.items }
-        ensures ends { EndsAt inputs.now self.new.stages.items (past_place inputs.now edge)
-            (slice_index self.new.next.items edge) result }
+        ensures ends { EndsAt (I.makers inputs.now) edge self.new result }
     {
-        let passed = pass(
-            inputs,
-            &self.stages,
-            self.next[edge],
-            inputs.past_place(edge),
-        );
-        self.next[edge] = passed.place;
-        self.meets_open = self.meets_open || passed.meets_open;
-        passed.unseen
+        'inputs: while let Some(maker) = inputs.maker_at(edge, self.next[edge]) {
+            let stage = stage_of_maker(&self.stages, maker);
+            if let Stage::Unseen = stage {
+                return maker;
+            }
+            self.next[edge] += 1;
+            if let Stage::Open = stage {
+                self.meets_open = true;
+            }
+        }
+        None
     }
 
     /// Goes on with the edge that was taken from the end of the path: opens its next unseen maker,
     /// or finishes it.
-    fn take_turn(&mut self, inputs: &EdgeInputs<'_>, edge: usize) -> Result<(), AllocError>
-        requires { Stands inputs.now self.old.stages.items self.old.next.items
-            (self.old.path.items ++ edge ∷ []) self.old.order.items self.old.meets_open }
-        ensures { OnOk result (TakesTurn inputs.now self.old self.new) }
+    fn take_turn<I: EdgeInputs>(&mut self, inputs: &I, edge: usize) -> Result<(), AllocError>
+        requires edges { AreEdges (I.makers inputs.now) (I.count inputs.now) }
+        requires stands { StandsAt (I.makers inputs.now) (I.count inputs.now) self.old edge }
+        ensures { OnOk result (TakesTurn (I.makers inputs.now) (I.count inputs.now)
+            self.old self.new) }
     {
         match self.pass_inputs(inputs, edge) {
             Some(maker) => {
@@ -161,12 +130,14 @@ impl Walk {
     }
 
     /// Finishes an unseen edge, and before it all unseen ones that it needs.
-    fn visit(&mut self, inputs: &EdgeInputs<'_>, edge: usize) -> Result<(), AllocError>
-        requires stands { WalkStands inputs.now self.old }
+    fn visit<I: EdgeInputs>(&mut self, inputs: &I, edge: usize) -> Result<(), AllocError>
+        requires edges { AreEdges (I.makers inputs.now) (I.count inputs.now) }
+        requires stands { WalkStands (I.makers inputs.now) (I.count inputs.now) self.old }
         requires path { self.old.path.items ≡ [] }
-        requires edge_in { edge < edge_count inputs.now }
+        requires edge_in { edge < I.count inputs.now }
         requires unseen { stage_of self.old.stages.items edge ≡ Stage.Unseen }
-        ensures stands_after { OnOk result (WalkStands inputs.now self.new) }
+        ensures stands_after { OnOk result
+            (WalkStands (I.makers inputs.now) (I.count inputs.now) self.new) }
         ensures path_after { OnOk result (self.new.path.items ≡ []) }
         ensures seen { OnOk result (IsSeen self.new.stages.items edge) }
         ensures kept { OnOk result ((e : ℕ) → IsSeen self.old.stages.items e
@@ -178,26 +149,18 @@ impl Walk {
         }
         Ok(())
     }
-
-    /// Whether the walk has not come to an edge yet.
-    fn is_unseen(&self, edge: usize) -> bool
-        requires { edge < vec_len self.now.stages }
-        ensures unseen { OnTrue result (stage_of self.now.stages.items edge ≡ Stage.Unseen) }
-        ensures seen { OnFalse result (IsSeen self.now.stages.items edge) }
-    {
-        matches!(self.stages[edge], Stage::Unseen)
-    }
 }
 
 /// Walks over all edges, which takes each edge's inputs once.
-pub(crate) fn finish_all(alloc: Global, inputs: &EdgeInputs<'_>) -> Result<Finished, AllocError>
-    ensures walked { IfOk result (λ finished. Walked inputs.now finished.order.items) }
+pub(crate) fn finish_all<I: EdgeInputs>(alloc: Global, inputs: &I) -> Result<Finished, AllocError>
+    ensures walked { IfOk result (λ finished.
+        Walked (I.makers inputs.now) (I.count inputs.now) finished.order.items) }
     ensures falling { IfOk result (λ finished. finished.meets_open ≡ false
-        → IsFalling inputs.now finished.order.items) }
+        → IsFalling (I.makers inputs.now) finished.order.items) }
 {
     let mut walk = Walk::new(alloc, inputs)?;
     'edges: for edge in 0..inputs.edge_count() {
-        if walk.is_unseen(edge) {
+        if let Stage::Unseen = walk.stages[edge] {
             walk.visit(inputs, edge)?;
         }
     }

@@ -1,7 +1,5 @@
 -- Lemmas on an edge that lies on a cycle: it has an output.
-use Rattle.std.proofs.Common.{◌≡◌, ◌<◌, ◌-◌, ◌+◌, ℕ, zero, suc, Bool, true, false, cond, List, [], ◌∷◌, length, get_or, slice_get, slice_range, slice_index_or, unwrap_or, ◌≤◌, Option, Some, None, is_some, option_map, refl, sym, ap, subst, ◌∙◌, true≢false, arith, add-one}
-use Rattle.std.specs.Prelude.{Contains}
-use Rattle.std.specs.List.{filter_map, cons_option}
+use Rattle.std.proofs.Common.{◌≡◌, ◌<◌, ◌-◌, ◌+◌, ℕ, suc, Bool, true, false, cond, List, [], ◌∷◌, length, get_or, slice_get, slice_range, unwrap_or, ◌≤◌, Option, Some, None, is_some, option_map, refl, sym, ap, subst, ◌∙◌, true≢false, arith, add-one}
 use Rattle.std.proofs.lemmas.List.{take-append-drop, length-map}
 use Rattle.std.proofs.lemmas.Option.{get_or_from_slice_get}
 use Rattle.std.proofs.Math.Seq.{drop-cons}
@@ -17,19 +15,8 @@ use Rattle.nj_edges.specs.EdgeTables.{EdgeTable}
 use Rattle.nj_edges.specs.Files.{path_at}
 use Rattle.nj_edges.specs.Inside.GraphHeld.{ends_of}
 use Rattle.nj_edges.specs.Needs.{makers_of_inputs}
-use Rattle.nj_edges.proofs.GraphLemmas.{edge-is, row-within}
+use Rattle.nj_edges.proofs.GraphLemmas.{edge-is, made-of, row-within}
 use Rattle.nj_edges.proofs.ListLemmas.{length-range}
-
--- what is made is made by something
-made-of : {X : Type 0} (maker : X → Option ℕ) (xs : List X) (m : ℕ) → Contains (filter_map maker xs) m → (x : X) × (maker x ≡ Some m)
-made-of maker [] m c = absurd (omega (arith, c.1))
-made-of {X = X} maker (x ∷ xs) m c = by (maker x) refl c.0 c.1 c.2 (λ k below here. made-of maker xs m (k, below, here))
-  where
-    by : (o : Option ℕ) → maker x ≡ o → (k : ℕ) → k < length (cons_option o (filter_map maker xs)) → slice_index_or (cons_option o (filter_map maker xs)) k m ≡ m
-        → ((n : ℕ) → n < length (filter_map maker xs) → slice_index_or (filter_map maker xs) n m ≡ m → (y : X) × (maker y ≡ Some m)) → (y : X) × (maker y ≡ Some m)
-    by None is k below here later = later k below here
-    by (Some n) is zero below here later = (x, is ∙ ap Some here)
-    by (Some n) is (suc k) below here later = later k (omega arith) here
 
 -- the first edge that passes a test passes it
 first-passes : {E : Type 0} (test : E → Bool) (es : List E) (n : ℕ) → first_edge test es ≡ Some n → (e : E) × (slice_get es n ≡ Some e) × (test e ≡ true)

@@ -47,6 +47,10 @@ all-drop P zero xs all = all
 all-drop P (suc n) [] all = tt
 all-drop P (suc n) (x ∷ xs) all = all-drop P n xs all.1
 
+pub all-append : {X : Type 0} (P : X → Type 0) (xs ys : List X) → AllByRecursion P xs → AllByRecursion P ys → AllByRecursion P (xs ++ ys)
+all-append P [] ys these those = those
+all-append P (x ∷ xs) ys these those = (these.0, all-append P xs ys these.1 those)
+
 pub map-same : {X Y : Type 0} (P : X → Type 0) (f g : X → Y) → ((x : X) → P x → f x ≡ g x) → (xs : List X) → AllByRecursion P xs → map f xs ≡ map g xs
 map-same P f g same [] all = refl
 map-same P f g same (x ∷ xs) all = let first = same x all.0 in let more = map-same P f g same xs all.1 in cc

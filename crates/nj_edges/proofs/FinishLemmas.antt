@@ -14,8 +14,7 @@ use Rattle.nj_edges.specs.EdgeTables.{EdgeTable, no_files}
 use Rattle.nj_edges.specs.Inside.GraphHeld.{ends_of}
 use Rattle.nj_edges.specs.Joining.{JoinTable, none_added}
 use Rattle.nj_edges.specs.Inside.JoiningHeld.{AreJoinedMakers, InputsAreWithin, JoinIsHeld, added_input_rows, added_inputs_of, added_output_rows, added_outputs_of, flat, is_in_rows, join_held, joined_inputs, joined_outputs, joined_rows, joined_with, needed_inputs, option_or, order_only_inputs, stated_rows}
-use Rattle.nj_edges.proofs.EdgeLemmas.{all-of, first-more, length-open, no-more, within-numbers}
-use Rattle.nj_edges.proofs.FlatRows.{all-append}
+use Rattle.nj_edges.proofs.EdgeLemmas.{all-append, all-of, first-more, length-open, no-more, within-numbers}
 use Rattle.nj_edges.proofs.JoinedLists.{AreJoinedRows, all-inputs, needed-end, rows-from}
 use Rattle.nj_edges.proofs.JoiningLemmas.{added-at, hold-from, in-rows-last, or-cross, stated-at}
 

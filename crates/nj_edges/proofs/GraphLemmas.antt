@@ -1,23 +1,23 @@
 -- Lemmas on a graph of edges that is held by the numbers of files.
 use Rattle.std.proofs.Common.{◌≡◌, ◌<◌, ◌≤◌, ◌+◌, ◌-◌, ℕ, zero, suc, Bool, true, false, cond, List, [], ◌∷◌, ◌++◌, map, length, take, drop, slice_get, slice_range, get_or, Option, Some, None, is_some, option_map, unwrap_or, refl, sym, ap, subst, ◌∙◌, true≢false, arith, append_assoc}
-use Rattle.std.specs.List.{All, AllByRecursion, filter_map}
+use Rattle.std.specs.Prelude.{All, Contains}
+use Rattle.std.specs.List.{AllByRecursion}
 use Rattle.std.proofs.lemmas.List.{take-append-drop, take-map, length-map, get_or_default}
-use Rattle.std.proofs.lemmas.List.Elements.{All-from_recursion}
+use Rattle.std.proofs.lemmas.List.Elements.{All-from_recursion, All-weaker}
 use Rattle.std.proofs.lemmas.List.Folds.{drop_split}
 use Rattle.std.proofs.lemmas.Option.{slice_get_within, get_or_from_slice_get}
+use Rattle.std.proofs.Math.Path.{fun_ext}
 use Rattle.std.proofs.Math.Seq.{drop-length}
-use Rattle.nj_cycles.specs.Cycles.{IsFirstOnCycle, IsLeastOnCycle, Needs, Chain}
+use Rattle.nj_cycles.specs.Cycles.{AreEdges, IsFirstOnCycle, IsLeastOnCycle, Needs, Chain}
 use Rattle.nj_cycles.specs.Cycles.Chain.{one, more}
-use Rattle.nj_cycles.proofs.Same.{same_makers}
 use Rattle.nj_edges.specs.declared.files.FileNo.{FileNo}
 use Rattle.nj_edges.specs.declared.edges.EdgeRow.{EdgeRow}
 use Rattle.nj_edges.specs.declared.edges.OpenStarts.{OpenStarts}
 use Rattle.nj_edges.specs.EdgeGraphs.{EdgeGraph}
 use Rattle.nj_edges.specs.Edges.{EdgePaths, edge_at, outputs_of, first_edge, maker_of, inputs_of}
-use Rattle.nj_edges.specs.Inside.EdgesHeld.{paths_at, within, edge_of, edges_of, table_of, has_number, AreNumbers, RowIsWithin, output_rows, EdgesAreHeld}
+use Rattle.nj_edges.specs.Inside.EdgesHeld.{paths_at, within, edge_of, edges_of, table_of, has_number, AreNumbers, RowIsWithin, output_rows, makers_in_rows, EdgesAreHeld}
 use Rattle.nj_edges.specs.EdgeTables.{EdgeTable, no_files}
 use Rattle.nj_edges.specs.Files.{path_at, AreFiles}
-use Rattle.nj_edges.specs.Inside.FlatInputs.{plain, makers_in_row}
 use Rattle.nj_edges.specs.Inside.GraphHeld.{ends_of}
 use Rattle.nj_edges.specs.Needs.{makers_of_inputs}
 use Rattle.nj_edges.proofs.EdgeLemmas.{all-get, all-take, first-more, get-path, maker-read, length-open, within-numbers}
@@ -59,6 +59,24 @@ first-below test (e ∷ es) n h = by (test e) (first_edge test es) (first-below 
     by false None rest is = absurd (true≢false (sym (ap is_some is)))
     by false (Some m) rest is = let next : m + 1 ≡ n = ap (λ p. unwrap_or p 0) is in let below : m < length es = rest m refl in omega arith
 
+-- what is made is made by something
+pub made-of : {X : Type 0} (maker : X → Option ℕ) (xs : List X) (m : ℕ) → Contains (map maker xs) (Some m) → (x : X) × (maker x ≡ Some m)
+made-of maker [] m c = absurd (omega (arith, c.1))
+made-of {X = X} maker (x ∷ xs) m c = by c.0 c.1 c.2 (made-of maker xs m)
+  where
+    by : (k : ℕ) → k < length (map maker (x ∷ xs)) → get_or (map maker (x ∷ xs)) k (Some m) ≡ Some m → (Contains (map maker xs) (Some m) → (y : X) × (maker y ≡ Some m)) → (y : X) × (maker y ≡ Some m)
+    by zero lt is later = (x, is)
+    by (suc k) lt is later = later (k, omega (arith, lt), is)
+
+-- only the edges of the rows have inputs, and files have makers among them
+made-in-rows : (inputs : List FileNo) (rows : List EdgeRow) (makers : List (Option ℕ)) (e f : ℕ) → Contains (makers_in_rows inputs rows makers e) (Some f) → (file : ℕ) × (get_or makers file None ≡ Some f) × (e < length rows)
+made-in-rows inputs [] makers e f c = absurd (omega (arith, c.1))
+made-in-rows inputs (row ∷ rows) makers zero f c = let made = made-of (λ (n : FileNo). get_or makers n.0 None) (within inputs row.inputs) f c in (made.0.0, made.1, omega arith)
+made-in-rows inputs (row ∷ rows) makers (suc e) f c = let made = made-in-rows inputs rows makers e f c in (made.0, made.1, omega (arith, made.2))
+
+pub rows-known : (inputs : List FileNo) (rows : List EdgeRow) (makers : List (Option ℕ)) → ((file e : ℕ) → get_or makers file None ≡ Some e → e < length rows) → AreEdges (makers_in_rows inputs rows makers) (length rows)
+rows-known inputs rows makers known e f c = let made = made-in-rows inputs rows makers e f c in (made.2, known made.0 f made.1)
+
 module _ (files : List (List ℕ)) (makers : List (Option ℕ)) (outputs inputs validations : List FileNo) (rows : List EdgeRow) (held : EdgesAreHeld files makers outputs inputs validations rows (ends_of outputs inputs validations)) where
   closed-rows : (n : ℕ) → first_edge (has_number n) (output_rows outputs (length outputs) rows) ≡ first_edge (has_number n) (map (λ (row : EdgeRow). within outputs row.outputs) rows)
   closed-rows n = rw (drop-length outputs) (first-more (has_number n) (map (λ (row : EdgeRow). within outputs row.outputs) rows) [] refl)
@@ -72,31 +90,43 @@ module _ (files : List (List ℕ)) (makers : List (Option ℕ)) (outputs inputs 
       let below : e < length (map (λ (row : EdgeRow). within outputs row.outputs) rows) = first-below (has_number file) (map (λ (row : EdgeRow). within outputs row.outputs) rows) e (sym (made-by-row file some) ∙ h) in
       subst (λ n. e < n) (length-map rows (λ (row : EdgeRow). within outputs row.outputs)) below
 
+  pub rows-rise : All (λ (row : EdgeRow). row.inputs.start ≤ row.inputs.end) rows
+  rows-rise = All-weaker (RowIsWithin (length outputs) (length inputs) (length validations)) (λ row. row.inputs.start ≤ row.inputs.end) (λ row is. is.inputs.rises) rows (All-from_recursion (RowIsWithin (length outputs) (length inputs) (length validations)) rows held.rows_are)
+
+  pub rows-end : All (λ (row : EdgeRow). row.inputs.end ≤ length inputs) rows
+  rows-end = All-weaker (RowIsWithin (length outputs) (length inputs) (length validations)) (λ row. row.inputs.end ≤ length inputs) (λ row is. is.inputs.ends) rows (All-from_recursion (RowIsWithin (length outputs) (length inputs) (length validations)) rows held.rows_are)
+
+  pub inputs-below : All (λ (f : FileNo). f.0 < length makers) inputs
+  inputs-below = subst (λ n. All (λ (f : FileNo). f.0 < n) inputs) (sym held.makers_count) (All-from_recursion (λ f. f.0 < length files) inputs held.inputs_are)
+
   -- the maker of a file, by its path
   pub maker-path : (f : FileNo) → f.0 < length files → get_or makers f.0 None ≡ maker_of (edges_of files outputs inputs validations rows) (path_at files f)
   maker-path f below =
       made-by-row f.0 (subst (λ n. f.0 < n) (sym held.makers_count) below)
       ∙ maker-read files makers outputs inputs validations rows (ends_of outputs inputs validations) held f.0 (path_at files f) (get-path files f below)
 
-  makers-paths : (ns : List FileNo) → AreNumbers (length files) ns → filter_map (λ file. get_or makers file None) (plain ns) ≡ filter_map (maker_of (edges_of files outputs inputs validations rows)) (paths_at files ns)
+  makers-paths : (ns : List FileNo) → AreNumbers (length files) ns → map (λ f. get_or makers f.0 None) ns ≡ map (maker_of (edges_of files outputs inputs validations rows)) (paths_at files ns)
   makers-paths [] are = refl
   makers-paths (f ∷ ns) are = let first = maker-path f are.0 in let rest = makers-paths ns are.1 in cc
 
   makers-at : (rs : List EdgeRow) → AllByRecursion (RowIsWithin (length outputs) (length inputs) (length validations)) rs → (e : ℕ)
-      → filter_map (λ file. get_or makers file None) (plain (unwrap_or (slice_get (map (λ (row : EdgeRow). within inputs row.inputs) rs) e) []))
-      ≡ filter_map (maker_of (edges_of files outputs inputs validations rows)) (inputs_of (edge_at (map (edge_of files outputs inputs validations) rs) e))
+      → makers_in_rows inputs rs makers e ≡ map (maker_of (edges_of files outputs inputs validations rows)) (inputs_of (edge_at (map (edge_of files outputs inputs validations) rs) e))
   makers-at [] all e = refl
   makers-at (row ∷ rs) all zero =
       makers-paths (within inputs row.inputs) (within-numbers (length files) inputs row.inputs held.inputs_are)
-      ∙ ap (filter_map (maker_of (edges_of files outputs inputs validations rows))) (sym (kinds-joined (paths_at files (within inputs row.inputs)) row.kinds.explicit_inputs row.kinds.implicit_inputs all.0.kinds.explicit_inputs))
+      ∙ ap (map (maker_of (edges_of files outputs inputs validations rows))) (sym (kinds-joined (paths_at files (within inputs row.inputs)) row.kinds.explicit_inputs row.kinds.implicit_inputs all.0.kinds.explicit_inputs))
   makers-at (row ∷ rs) all (suc e) = makers-at rs all.1 e
 
-  pub first-paths : (first : Option ℕ) → IsFirstOnCycle (makers_in_row inputs rows makers) (length rows) first → IsFirstOnCycle (makers_of_inputs (edges_of files outputs inputs validations rows)) (length rows) first
-  first-paths first h = same_makers (makers_in_row inputs rows makers) (makers_of_inputs (edges_of files outputs inputs validations rows)) (length rows) (makers-at rows held.rows_are) first h
+  -- the makers of inputs, by the paths of the edges
+  pub makers-by-paths : makers_in_rows inputs rows makers ≡ makers_of_inputs (edges_of files outputs inputs validations rows)
+  makers-by-paths = fun_ext (makers-at rows held.rows_are)
+
+  pub first-paths : (first : Option ℕ) → IsFirstOnCycle (makers_in_rows inputs rows makers) (length rows) first → IsFirstOnCycle (makers_of_inputs (edges_of files outputs inputs validations rows)) (length rows) first
+  first-paths first h = subst (λ ms. IsFirstOnCycle ms (length rows) first) makers-by-paths h
 
 -- ---- an edge on a cycle is one of the edges
 
-some-makers : (makers : List ℕ → Option ℕ) (edges : List EdgePaths) (e k : ℕ) → k < length (filter_map makers (inputs_of (edge_at edges e))) → e < length edges
+some-makers : (makers : List ℕ → Option ℕ) (edges : List EdgePaths) (e k : ℕ) → k < length (map makers (inputs_of (edge_at edges e))) → e < length edges
 some-makers makers [] e k below = absurd (omega arith)
 some-makers makers (edge ∷ edges) zero k below = omega arith
 some-makers makers (edge ∷ edges) (suc e) k below = let rest : e < length edges = some-makers makers edges e k below in omega arith
@@ -110,7 +140,7 @@ chain-below edges e f (more {g = g} s c) = needs-below edges e g s
 
 module _ (files : List (List ℕ)) (makers : List (Option ℕ)) (outputs inputs validations : List FileNo) (rows : List EdgeRow) (held : EdgesAreHeld files makers outputs inputs validations rows (ends_of outputs inputs validations)) (t : EdgeTable) where
   -- the answer of the check, of the edges of the table
-  pub first-table : (starts : OpenStarts) → table_of files outputs inputs validations rows starts ≡ t → (first : Option ℕ) → IsFirstOnCycle (makers_in_row inputs rows makers) (length rows) first → IsFirstOnCycle (makers_of_inputs t.edges) (length t.edges) first
+  pub first-table : (starts : OpenStarts) → table_of files outputs inputs validations rows starts ≡ t → (first : Option ℕ) → IsFirstOnCycle (makers_in_rows inputs rows makers) (length rows) first → IsFirstOnCycle (makers_of_inputs t.edges) (length t.edges) first
   first-table starts is first h =
       let count : length (edges_of files outputs inputs validations rows) ≡ length rows = length-map rows (edge_of files outputs inputs validations) in
       subst (λ es. IsFirstOnCycle (makers_of_inputs es) (length es) first) (ap (λ u. u.edges) is)
@@ -120,7 +150,7 @@ pub on-edge : (edges : List EdgePaths) (e : ℕ) → IsLeastOnCycle (makers_of_i
 on-edge edges e least = (chain-below edges e e least.0, least)
 
 pub same-first : (makers : List (Option ℕ)) (inputs ins : List FileNo) (rows rs : List EdgeRow) (ms : List (Option ℕ)) (found first : Option ℕ) → ins ≡ inputs → rs ≡ rows → ms ≡ makers → found ≡ first
-    → IsFirstOnCycle (makers_in_row ins rs ms) (length rs) found → IsFirstOnCycle (makers_in_row inputs rows makers) (length rows) first
+    → IsFirstOnCycle (makers_in_rows ins rs ms) (length rs) found → IsFirstOnCycle (makers_in_rows inputs rows makers) (length rows) first
 same-first makers inputs ins rows rs ms found first i r m f h = rw (← i, ← r, ← m, ← f) h
 
 -- ---- one edge
@@ -196,6 +226,9 @@ module _ (files : List (List ℕ)) (makers : List (Option ℕ)) (outputs inputs 
 
   pub maker-at : (f : FileNo) → f.0 < length g.files → get_or makers f.0 None ≡ maker_of g.edges (path_at g.files f)
   maker-at f below = subst (λ (v : EdgeGraph). get_or makers f.0 None ≡ maker_of v.edges (path_at v.files f)) is (maker-path files makers outputs inputs validations rows held f (subst (λ (v : EdgeGraph). f.0 < length v.files) (sym is) below))
+
+  pub graph-makers : (ins : List FileNo) (rs : List EdgeRow) (ms : List (Option ℕ)) → ins ≡ inputs → rs ≡ rows → ms ≡ makers → makers_in_rows ins rs ms ≡ makers_of_inputs g.edges
+  graph-makers ins rs ms i r m = rw (i, r, m) (makers-by-paths files makers outputs inputs validations rows held ∙ ap (λ (v : EdgeGraph). makers_of_inputs v.edges) is)
 
   pub maker-edge : (n e : ℕ) → get_or makers n None ≡ Some e → e < length g.edges
   maker-edge n e h = subst (λ (v : EdgeGraph). e < length v.edges) is (subst (λ m. e < m) (sym (length-map rows (edge_of files outputs inputs validations))) (maker-below files makers outputs inputs validations rows held n e h))

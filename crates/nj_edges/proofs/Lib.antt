@@ -4,8 +4,6 @@ pub mod EdgeLemmas
 pub mod EndLemmas
 pub mod FileLemmas
 pub mod FinishLemmas
-pub mod FlatLemmas
-pub mod FlatRows
 pub mod GraphLemmas
 pub mod GraphUsers
 pub mod JoinedLists

@@ -1,7 +1,6 @@
 -- The paths that build statements name.
 use Rattle.std.specs.Prelude.{◌≡◌, ℕ, Some, unwrap_or, List, [], ◌∷◌, ◌++◌, map, slice_get, bytes_eq, if◌then◌else◌}
 use Rattle.std.specs.List.{list_any}
-use Rattle.std.specs.Global.{Vec}
 use Rattle.nj_edges.specs.declared.files.FileNo.{FileNo}
 
 -- the paths with one that is named: at the end, unless it is there

@@ -1,7 +1,6 @@
 -- How the code does what the definitions beside this folder say. No contract of a public call needs these.
 pub mod EdgesHeld
 pub mod FilesHeld
-pub mod FlatInputs
 pub mod GraphHeld
 pub mod JoiningHeld
 pub mod RootsHeld

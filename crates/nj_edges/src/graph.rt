@@ -1,19 +1,18 @@
 //! The graph of all edges of a run.
 
-ghost use Rattle.std.specs.Prelude.{◌≡◌, ℕ, List, ◌<◌, ◌≤◌, None, Some, is_some, length, slice_index_or, slice_get, option_map, position, bytes_eq, map, IfOk, All, IfSome, if◌then◌else◌, nat_lt};
+ghost use Rattle.std.specs.Prelude.{◌≡◌, ℕ, List, ◌+◌, ◌<◌, ◌≤◌, ◌^◌, None, Some, is_some, length, slice_index_or, slice_get, option_map, position, bytes_eq, map, IfOk, All, IfSome, if◌then◌else◌, nat_lt};
 ghost use Rattle.std.specs.List.{AllByRecursion, IsDistinct, list_any};
 ghost use Rattle.nj_cycles.specs.Cycles.{IsFirstOnCycle, IsAcyclic};
 ghost use Rattle.nj_edges.specs.Edges.{edge_at, outputs_of, inputs_of, kind_at, is_named, maker_of, roots_of, users_of, validation_users_of};
-ghost use Rattle.nj_edges.specs.Inside.EdgesHeld.{AreNumbers, IsWithin, paths_at, within};
+ghost use Rattle.nj_edges.specs.Inside.EdgesHeld.{AreNumbers, IsWithin, makers_in_rows, paths_at, within};
 ghost use Rattle.nj_edges.specs.EdgeTables.{no_files};
 ghost use Rattle.nj_edges.specs.Files.{path_at, AreFiles};
-ghost use Rattle.nj_edges.specs.Inside.FlatInputs.{makers_in_row};
 ghost use Rattle.nj_edges.specs.Graph.{FinishesAs};
 ghost use Rattle.nj_edges.specs.Needs.{makers_of_inputs};
 
 use crate::edges::{EdgeNo, EdgeRow, Edges, Kind, KindEnds, Span};
 use crate::files::{FileNo, Files};
-use crate::flat::flat_inputs;
+use crate::inputs::InputMakers;
 use crate::lists::{first, part};
 use crate::roots::roots;
 use crate::users::{RowPart, Users, users_at, users_of_files};
@@ -140,6 +139,25 @@ impl EdgeGraph {
     {
         let row = row_at(&self.rows, edge.0);
         part(&self.inputs, row.inputs.start, row.inputs.end)
+    }
+
+    /// The edge that makes the input at an index of an edge's inputs: `None` past the last input,
+    /// and `Some(None)` at a source.
+    pub fn maker_at(&self, edge: EdgeNo, index: usize) -> Option<Option<EdgeNo>>
+        requires { edge.0 < length self.now.edges }
+        ensures maker { option_map (λ maker. option_map (λ edge. edge.0) maker) result
+            ≡ slice_get (makers_of_inputs self.now.edges edge.0) index }
+        ensures fits { IfSome result (λ _. index + 1 < 2 ^ 64) }
+    {
+        let held = InputMakers {
+            inputs: &self.inputs,
+            rows: &self.rows,
+            makers: &self.makers,
+        };
+        match held.maker_at(edge.0, index)? {
+            Some(maker) => Some(Some(EdgeNo(maker))),
+            None => Some(None),
+        }
     }
 
     /// The validations of an edge.
@@ -287,7 +305,12 @@ impl Edges {
             rows,
             ..
         } = self;
-        if let Some(edge) = least_on_cycle(alloc, &inputs, &rows, &makers)? {
+        let held = InputMakers {
+            inputs: &inputs,
+            rows: &rows,
+            makers: &makers,
+        };
+        if let Some(edge) = first_on_cycle(alloc, &held)? {
             let row = row_at(&rows, edge);
             let cycle = cycle_edge(alloc, &files, &outputs, row, EdgeNo(edge))?;
             return Ok(Finished::Cycle(cycle));
@@ -335,22 +358,4 @@ fn cycle_edge(
     let first = outputs[row.outputs.start];
     let output = Vec::from_slice(alloc, files.path(first))?;
     Ok(CycleEdge { edge, output })
-}
-
-// The lowest-numbered edge on a cycle, of edges with these inputs and files with these makers.
-fn least_on_cycle(
-    alloc: Global,
-    inputs: &[FileNo],
-    rows: &[EdgeRow],
-    makers: &[Option<usize>],
-) -> Result<Option<usize>, AllocError>
-    requires rows { AllByRecursion (λ row. IsWithin row.inputs (length inputs.now)) rows.now }
-    requires files { AllByRecursion (λ file. file.0 < length makers.now) inputs.now }
-    requires makers { (file e : ℕ) → slice_index_or makers.now file None ≡ Some e
-        → e < length rows.now }
-    ensures { IfOk result (λ first.
-        IsFirstOnCycle (makers_in_row inputs.now rows.now makers.now) (length rows.now) first) }
-{
-    let flat = flat_inputs(alloc, inputs, rows)?;
-    first_on_cycle(alloc, &EdgeInputs::new(&flat.starts, &flat.numbers, makers))
 }

@@ -3,8 +3,8 @@
 
 mod edges;
 mod files;
-mod flat;
 mod graph;
+mod inputs;
 mod joining;
 mod lists;
 mod roots;

@@ -1,11 +1,12 @@
 -- An address leads to an edge of the graph.
 use Rattle.std.proofs.Common.{◌≡◌, ℕ, zero, suc, ◌<◌, Option, Some, None, List, [], ◌∷◌, inl, inr, arith}
 use Rattle.std.specs.Prelude.{slice_index_or}
+use Rattle.nj_cycles.specs.Cycles.{IsAcyclic, Needs}
 use Rattle.nj_edges.specs.declared.files.FileNo.{FileNo}
 use Rattle.nj_edges.specs.EdgeGraphs.{EdgeGraph}
 use Rattle.nj_needs.specs.Graphs.{row_of, makers_of, count_of}
 use Rattle.nj_needs.specs.Marks.{inputs_of, edge_at}
-use Rattle.nj_needs.specs.Needs.{IsAcyclic, AreWithin, Needs}
+use Rattle.nj_needs.specs.Needs.{AreWithin}
 use Rattle.nj_needs.specs.Walks.{IsFirstPlaceOf}
 use Rattle.nj_needs.proofs.Members.{Among, Contains-from_Among}
 

@@ -2,11 +2,13 @@
 use Rattle.std.proofs.Common.{◌≡◌, ℕ, zero, suc, ◌+◌, ◌<◌, ◌≤◌, Option, List, [], ◌∷◌, ◌++◌, length, refl, sym, subst, ◌⊎◌, inl, inr}
 use Rattle.std.proofs.lemmas.List.{map-append}
 use Rattle.std.proofs.lemmas.Map.Steps.{length-le_from_distinct_below}
+use Rattle.nj_cycles.specs.Cycles.{IsAcyclic}
 use Rattle.nj_edges.specs.Edges.{EdgePaths, edge_at, inputs_of, maker_of}
-use Rattle.nj_needs.specs.Graphs.{row_of_paths, makers_in}
+use Rattle.nj_edges.specs.Needs.{makers_of_inputs}
+use Rattle.nj_needs.specs.Graphs.{row_of_paths}
 use Rattle.nj_needs.specs.Growing.{validations_of, targets_after, grown_targets, RoundsAppend, GrownTargetsStay, Makes, Followed, GrownTargetsReachTheFollowed}
 use Rattle.nj_needs.specs.Growing.Followed.{target as aim, input, validation}
-use Rattle.nj_needs.specs.Needs.{IsAcyclic, Reached}
+use Rattle.nj_needs.specs.Needs.{Reached}
 use Rattle.nj_needs.specs.Needs.Reached.{target, needed}
 use Rattle.nj_needs.specs.Order.{order, unfolded_row}
 use Rattle.nj_needs.proofs.Bridges.{AreWithin-paths}
@@ -38,20 +40,20 @@ module _ (edges : List EdgePaths) where
   checks e = (edge_at edges e).validations
 
   abbrev edges_of : List (List ℕ) → List ℕ
-  edges_of paths = order (makers_in edges) (length edges) (row_of_paths edges paths)
+  edges_of paths = order (makers_of_inputs edges) (length edges) (row_of_paths edges paths)
 
   -- the edges of an order are edges
-  order-below : (paths : List (List ℕ)) (e : ℕ) → In (edges_of paths) e → Reached (makers_in edges) (row_of_paths edges paths) e
+  order-below : (paths : List (List ℕ)) (e : ℕ) → In (edges_of paths) e → Reached (makers_of_inputs edges) (row_of_paths edges paths) e
   order-below paths e i =
-      Reached-from_row (makers_in edges) (row_of_paths edges paths) (length edges) e (In-first (unfolded_row (makers_in edges) (length edges) (row_of_paths edges paths)) e i)
+      Reached-from_row (makers_of_inputs edges) (row_of_paths edges paths) (length edges) e (In-first (unfolded_row (makers_of_inputs edges) (length edges) (row_of_paths edges paths)) e i)
 
-  reached-below : (paths : List (List ℕ)) (e : ℕ) → Reached (makers_in edges) (row_of_paths edges paths) e → e < length edges
+  reached-below : (paths : List (List ℕ)) (e : ℕ) → Reached (makers_of_inputs edges) (row_of_paths edges paths) e → e < length edges
   reached-below paths e (target c) = AreWithin-paths edges paths e c
   reached-below paths f (needed {e = e} r needs) = AreWithin-paths edges (inputs_of (edge_at edges e)) f needs
 
   order-short : (paths : List (List ℕ)) → length (edges_of paths) ≤ length edges
   order-short paths =
-      length-le_from_distinct_below (edges_of paths) (length edges) (IsDistinct-from (edges_of paths) (Differ-first (unfolded_row (makers_in edges) (length edges) (row_of_paths edges paths))))
+      length-le_from_distinct_below (edges_of paths) (length edges) (IsDistinct-from (edges_of paths) (Differ-first (unfolded_row (makers_of_inputs edges) (length edges) (row_of_paths edges paths))))
       (λ e i. reached-below paths e (order-below paths e i))
 
   module _ (targets : List (List ℕ)) where
@@ -62,19 +64,19 @@ module _ (edges : List EdgePaths) where
     next n = refl
 
     pub grown-same : (n : ℕ) → length edges ≤ n → after n ≡ grown_targets edges targets
-    grown-same n le = same-all (List ℕ) (makers_in edges) (length edges) maker checks targets after refl next (λ k. order-short (after k)) n le
+    grown-same n le = same-all (List ℕ) (makers_of_inputs edges) (length edges) maker checks targets after refl next (λ k. order-short (after k)) n le
 
     -- a further round leaves them as they are
     pub grown-fixed : grown_targets edges targets ≡ targets ++ validations_of edges (edges_of (grown_targets edges targets))
-    grown-fixed = all-fixed (List ℕ) (makers_in edges) (length edges) maker checks targets after refl next (λ k. order-short (after k))
+    grown-fixed = all-fixed (List ℕ) (makers_of_inputs edges) (length edges) maker checks targets after refl next (λ k. order-short (after k))
 
     -- and they begin each list that a round leaves as it is
     pub grown-least : (files : List (List ℕ)) → files ≡ targets ++ validations_of edges (edges_of files) → IsFront (grown_targets edges targets) files
-    grown-least files fixed = front-fixed (List ℕ) (makers_in edges) (length edges) maker checks targets after refl next files fixed (length edges + 1)
+    grown-least files fixed = front-fixed (List ℕ) (makers_of_inputs edges) (length edges) maker checks targets after refl next files fixed (length edges + 1)
 
     -- ---- only what is followed is reached
 
-    followed-reached : (paths : List (List ℕ)) → ((e : ℕ) → Makes edges paths e → Followed edges targets e) → (e : ℕ) → Reached (makers_in edges) (row_of_paths edges paths) e → Followed edges targets e
+    followed-reached : (paths : List (List ℕ)) → ((e : ℕ) → Makes edges paths e → Followed edges targets e) → (e : ℕ) → Reached (makers_of_inputs edges) (row_of_paths edges paths) e → Followed edges targets e
     followed-reached paths all e (target c) = all e c
     followed-reached paths all f (needed {e = e} r needs) = input (followed-reached paths all e r) needs
 
@@ -123,19 +125,19 @@ module _ (edges : List EdgePaths) where
         let d = subst (λ (row : List (Option ℕ)). Among row f) (sym (map-append maker targets (validations_of edges (edges_of all)))) b in
         Contains-from_Among (row_of_paths edges all) f (subst (λ (paths : List (List ℕ)). Among (row_of_paths edges paths) f) (sym grown-fixed) d)
 
-    module _ (acyclic : IsAcyclic (makers_in edges) (length edges)) where
-      reached-order : (e : ℕ) → Reached (makers_in edges) (row_of_paths edges all) e → In (edges_of all) e
+    module _ (acyclic : IsAcyclic (makers_of_inputs edges) (length edges)) where
+      reached-order : (e : ℕ) → Reached (makers_of_inputs edges) (row_of_paths edges all) e → In (edges_of all) e
       reached-order e r =
-          In-first_from (unfolded_row (makers_in edges) (length edges) (row_of_paths edges all)) e
-          (row_has (makers_in edges) (row_of_paths edges all) (length edges) acyclic.0 acyclic.1 (AreWithin-paths edges all) e r)
+          In-first_from (unfolded_row (makers_of_inputs edges) (length edges) (row_of_paths edges all)) e
+          (row_has (makers_of_inputs edges) (row_of_paths edges all) (length edges) acyclic.0 acyclic.1 (AreWithin-paths edges all) e r)
 
-      reached-followed : (e : ℕ) → Followed edges targets e → Reached (makers_in edges) (row_of_paths edges all) e
+      reached-followed : (e : ℕ) → Followed edges targets e → Reached (makers_of_inputs edges) (row_of_paths edges all) e
       reached-followed e (aim c) = target (made-target e c)
       reached-followed f (input {e = e} r c) = needed (reached-followed e r) c
       reached-followed f (validation {e = e} r c) = target (made-validation e f (reached-order e (reached-followed e r)) c)
 
 pub rounds-append : RoundsAppend
-rounds-append edges targets n = front-more (List ℕ) (makers_in edges) (length edges) (maker edges) (checks edges) targets (after edges targets) refl (next edges targets) n
+rounds-append edges targets n = front-more (List ℕ) (makers_of_inputs edges) (length edges) (maker edges) (checks edges) targets (after edges targets) refl (next edges targets) n
 
 pub grown-stay : GrownTargetsStay
 grown-stay edges targets n le = grown-same edges targets n le

@@ -4,14 +4,15 @@ use Rattle.std.specs.Prelude.{slice_get, All}
 use Rattle.std.proofs.lemmas.List.{map-append}
 use Rattle.std.proofs.lemmas.List.Elements.{All-append}
 use Rattle.std.proofs.lemmas.Option.{same_Some}
+use Rattle.nj_cycles.specs.Cycles.{IsAcyclic}
 use Rattle.nj_edges.specs.declared.files.FileNo.{FileNo}
 use Rattle.nj_edges.specs.EdgeGraphs.{EdgeGraph}
 use Rattle.nj_edges.specs.Edges.{edge_at, maker_of}
 use Rattle.nj_edges.specs.Files.{path_at, AreFiles}
-use Rattle.nj_needs.specs.Graphs.{row_of_paths, makers_of, makers_in, count_of}
+use Rattle.nj_edges.specs.Needs.{makers_of_inputs}
+use Rattle.nj_needs.specs.Graphs.{row_of_paths, makers_of, count_of}
 use Rattle.nj_needs.specs.Inside.Tops.{row_in}
 use Rattle.nj_needs.specs.Growing.{grown_targets}
-use Rattle.nj_needs.specs.Needs.{IsAcyclic}
 use Rattle.nj_needs.specs.Inside.Paths.{turns_left, IsLinked}
 use Rattle.nj_needs.specs.Inside.Standing.{top_of}
 use Rattle.nj_needs.specs.Inside.Tops.{IsTop}
@@ -31,7 +32,7 @@ abbrev pub all_paths : EdgeGraph → List FileNo → List (List ℕ)
 all_paths g targets = grown_targets g.edges (paths_of g targets)
 
 pub record IsGrowingOver (g : EdgeGraph) (targets : List FileNo) (files : List FileNo) (path : List Frame) (place : ℕ) (flags : List Bool) : Type 0 where
-  pub growing : IsGrowing (List ℕ) (makers_in g.edges) (length g.edges) (maker_of g.edges) (λ e. (edge_at g.edges e).validations) (paths_of g targets) (all_paths g targets) (paths_of g files) path place flags
+  pub growing : IsGrowing (List ℕ) (makers_of_inputs g.edges) (length g.edges) (maker_of g.edges) (λ e. (edge_at g.edges e).validations) (paths_of g targets) (all_paths g targets) (paths_of g files) path place flags
   pub known : All (λ f. f.0 < length g.files) files
 
 -- the files that are known have their paths
@@ -58,20 +59,20 @@ module _ (g : EdgeGraph) (targets : List FileNo) (acyclic : IsAcyclic (makers_of
   inside m a = AreWithin-paths g.edges (all_paths g targets) m (Contains-from_Among (row_of_paths g.edges (all_paths g targets)) m a)
 
   abbrev left : List Frame → ℕ → ℕ
-  left path place = turns_left (makers_in g.edges) (length g.edges) (row_of_paths g.edges (all_paths g targets)) path place
+  left path place = turns_left (makers_of_inputs g.edges) (length g.edges) (row_of_paths g.edges (all_paths g targets)) path place
 
   abbrev checks : ℕ → List (List ℕ)
   checks e = (edge_at g.edges e).validations
 
   pub start : (flags : List Bool) → All (λ f. f.0 < length g.files) targets → length flags ≡ count_of g → ((e : ℕ) → e < count_of g → get_or flags e false ≡ false) → IsGrowingOver g targets targets [] 0 flags
   start flags known len clear = record {
-    growing = growing-start (List ℕ) (makers_in g.edges) (length g.edges) acyclic.0 acyclic.1 (maker_of g.edges) checks (paths_of g targets) (all_paths g targets) inside (grown-fixed g.edges (paths_of g targets)) flags len clear;
+    growing = growing-start (List ℕ) (makers_of_inputs g.edges) (length g.edges) acyclic.0 acyclic.1 (maker_of g.edges) checks (paths_of g targets) (all_paths g targets) inside (grown-fixed g.edges (paths_of g targets)) flags len clear;
     known = known;
   }
 
   module _ (files : List FileNo) (path : List Frame) (place : ℕ) (flags : List Bool) (h : IsGrowingOver g targets files path place flags) where
     pub below : (m : ℕ) → slice_get (top_of g files path) place ≡ Some (Some m) → m < count_of g
-    below = found-below (List ℕ) (makers_in g.edges) (length g.edges) acyclic.0 acyclic.1 (maker_of g.edges) checks (paths_of g targets) (all_paths g targets) inside (grown-fixed g.edges (paths_of g targets)) (paths_of g files) path place flags h.growing
+    below = found-below (List ℕ) (makers_of_inputs g.edges) (length g.edges) acyclic.0 acyclic.1 (maker_of g.edges) checks (paths_of g targets) (all_paths g targets) inside (grown-fixed g.edges (paths_of g targets)) (paths_of g files) path place flags h.growing
 
     -- the last open edge is an edge
     pub top-edge : (edge : Option ℕ) → IsTop path edge → (e : ℕ) → edge ≡ Some e → e < count_of g
@@ -89,55 +90,55 @@ module _ (g : EdgeGraph) (targets : List FileNo) (acyclic : IsAcyclic (makers_of
     module _ (x : Option ℕ) (at : slice_get (top_of g files path) place ≡ Some x) (flagged : (m : ℕ) → x ≡ Some m → get_or flags m false ≡ true) where
       pub pass : IsGrowingOver g targets files path (place + 1) flags
       pass = record {
-        growing = growing-pass (List ℕ) (makers_in g.edges) (length g.edges) acyclic.0 acyclic.1 (maker_of g.edges) checks (paths_of g targets) (all_paths g targets) inside (grown-fixed g.edges (paths_of g targets)) (paths_of g files) path place flags h.growing x at flagged;
+        growing = growing-pass (List ℕ) (makers_of_inputs g.edges) (length g.edges) acyclic.0 acyclic.1 (maker_of g.edges) checks (paths_of g targets) (all_paths g targets) inside (grown-fixed g.edges (paths_of g targets)) (paths_of g files) path place flags h.growing x at flagged;
         known = h.known;
       }
 
       pub pass-less : left path (place + 1) < left path place
-      pass-less = omega (arith, turns-pass (List ℕ) (makers_in g.edges) (length g.edges) acyclic.0 acyclic.1 (maker_of g.edges) checks (paths_of g targets) (all_paths g targets) inside (grown-fixed g.edges (paths_of g targets)) (paths_of g files) path place flags h.growing x at flagged)
+      pass-less = omega (arith, turns-pass (List ℕ) (makers_of_inputs g.edges) (length g.edges) acyclic.0 acyclic.1 (maker_of g.edges) checks (paths_of g targets) (all_paths g targets) inside (grown-fixed g.edges (paths_of g targets)) (paths_of g files) path place flags h.growing x at flagged)
 
     module _ (f : Frame) (after : List Frame) (grown : after ≡ path ++ f ∷ []) (here : f.at ≡ place) (at : slice_get (top_of g files path) place ≡ Some (Some f.edge)) (fresh : get_or flags f.edge false ≡ false) where
       pub opened : IsGrowingOver g targets files after 0 flags
       opened = subst (λ (fs : List Frame). IsGrowingOver g targets files fs 0 flags) (sym grown) (record {
-        growing = growing-open (List ℕ) (makers_in g.edges) (length g.edges) acyclic.0 acyclic.1 (maker_of g.edges) checks (paths_of g targets) (all_paths g targets) inside (grown-fixed g.edges (paths_of g targets)) (paths_of g files) path place flags h.growing f here at fresh;
+        growing = growing-open (List ℕ) (makers_of_inputs g.edges) (length g.edges) acyclic.0 acyclic.1 (maker_of g.edges) checks (paths_of g targets) (all_paths g targets) inside (grown-fixed g.edges (paths_of g targets)) (paths_of g files) path place flags h.growing f here at fresh;
         known = h.known;
       })
 
       pub open-less : left after 0 < left path place
       open-less =
-          let e = turns-open (List ℕ) (makers_in g.edges) (length g.edges) acyclic.0 acyclic.1 (maker_of g.edges) checks (paths_of g targets) (all_paths g targets) inside (grown-fixed g.edges (paths_of g targets)) (paths_of g files) path place flags h.growing f here at fresh in
+          let e = turns-open (List ℕ) (makers_of_inputs g.edges) (length g.edges) acyclic.0 acyclic.1 (maker_of g.edges) checks (paths_of g targets) (all_paths g targets) inside (grown-fixed g.edges (paths_of g targets)) (paths_of g files) path place flags h.growing f here at fresh in
           let same : left after 0 ≡ left (path ++ f ∷ []) 0 = ap (λ (fs : List Frame). left fs 0) grown in
           omega (arith, e, same)
 
     pub ended : path ≡ [] → slice_get (top_of g files path) place ≡ None → AreFiles g.files files (all_paths g targets)
     ended empty past =
         let is : paths_of g files ≡ all_paths g targets =
-        growing-end (List ℕ) (makers_in g.edges) (length g.edges) acyclic.0 acyclic.1 (maker_of g.edges) checks (paths_of g targets) (all_paths g targets) inside (grown-fixed g.edges (paths_of g targets)) (paths_of g files) path place flags h.growing
+        growing-end (List ℕ) (makers_of_inputs g.edges) (length g.edges) acyclic.0 acyclic.1 (maker_of g.edges) checks (paths_of g targets) (all_paths g targets) inside (grown-fixed g.edges (paths_of g targets)) (paths_of g files) path place flags h.growing
         (grown-least g.edges (paths_of g targets)) empty past in
         subst (λ (paths : List (List ℕ)). AreFiles g.files files paths) is (AreFiles-known g.files files h.known)
 
     -- an edge is closed
     module _ (f : Frame) (after : List Frame) (shrunk : path ≡ after ++ f ∷ []) (past : slice_get (top_of g files path) place ≡ None) where
-      stood : IsGrowing (List ℕ) (makers_in g.edges) (length g.edges) (maker_of g.edges) checks (paths_of g targets) (all_paths g targets) (paths_of g files) (after ++ f ∷ []) place flags
-      stood = subst (λ (fs : List Frame). IsGrowing (List ℕ) (makers_in g.edges) (length g.edges) (maker_of g.edges) checks (paths_of g targets) (all_paths g targets) (paths_of g files) fs place flags) shrunk h.growing
+      stood : IsGrowing (List ℕ) (makers_of_inputs g.edges) (length g.edges) (maker_of g.edges) checks (paths_of g targets) (all_paths g targets) (paths_of g files) (after ++ f ∷ []) place flags
+      stood = subst (λ (fs : List Frame). IsGrowing (List ℕ) (makers_of_inputs g.edges) (length g.edges) (maker_of g.edges) checks (paths_of g targets) (all_paths g targets) (paths_of g files) fs place flags) shrunk h.growing
 
       past-top : slice_get (top_of g files (after ++ f ∷ [])) place ≡ None
       past-top = ap (λ (fs : List Frame). slice_get (top_of g files fs) place) (sym shrunk) ∙ past
 
       pub close-below : f.edge < count_of g
-      close-below = closed-below (List ℕ) (makers_in g.edges) (length g.edges) acyclic.0 acyclic.1 (maker_of g.edges) checks (paths_of g targets) (all_paths g targets) inside (grown-fixed g.edges (paths_of g targets)) (paths_of g files) after f place flags stood past-top
+      close-below = closed-below (List ℕ) (makers_of_inputs g.edges) (length g.edges) acyclic.0 acyclic.1 (maker_of g.edges) checks (paths_of g targets) (all_paths g targets) inside (grown-fixed g.edges (paths_of g targets)) (paths_of g files) after f place flags stood past-top
 
       pub closed : (more : List FileNo) → AreFiles g.files more (checks f.edge) → IsGrowingOver g targets (files ++ more) after (f.at + 1) (set flags f.edge true)
       closed more are =
           let is : paths_of g (files ++ more) ≡ paths_of g files ++ checks f.edge = map-append (path_at g.files) files more ∙ ap (λ (ps : List (List ℕ)). paths_of g files ++ ps) (paths-at g.files more (checks f.edge) are) in
           record {
-            growing = subst (λ (ps : List (List ℕ)). IsGrowing (List ℕ) (makers_in g.edges) (length g.edges) (maker_of g.edges) checks (paths_of g targets) (all_paths g targets) ps after (f.at + 1) (set flags f.edge true)) (sym is)
-                (growing-close (List ℕ) (makers_in g.edges) (length g.edges) acyclic.0 acyclic.1 (maker_of g.edges) checks (paths_of g targets) (all_paths g targets) inside (grown-fixed g.edges (paths_of g targets)) (paths_of g files) after f place flags stood past-top);
+            growing = subst (λ (ps : List (List ℕ)). IsGrowing (List ℕ) (makers_of_inputs g.edges) (length g.edges) (maker_of g.edges) checks (paths_of g targets) (all_paths g targets) ps after (f.at + 1) (set flags f.edge true)) (sym is)
+                (growing-close (List ℕ) (makers_of_inputs g.edges) (length g.edges) acyclic.0 acyclic.1 (maker_of g.edges) checks (paths_of g targets) (all_paths g targets) inside (grown-fixed g.edges (paths_of g targets)) (paths_of g files) after f place flags stood past-top);
             known = All-append (λ (n : FileNo). n.0 < length g.files) files more h.known (files-known g.files more (checks f.edge) are);
           }
 
       pub close-less : left after (f.at + 1) < left path place
       close-less =
-          let e = turns-close (List ℕ) (makers_in g.edges) (length g.edges) acyclic.0 acyclic.1 (maker_of g.edges) checks (paths_of g targets) (all_paths g targets) inside (grown-fixed g.edges (paths_of g targets)) (paths_of g files) after f place flags stood past-top in
+          let e = turns-close (List ℕ) (makers_of_inputs g.edges) (length g.edges) acyclic.0 acyclic.1 (maker_of g.edges) checks (paths_of g targets) (all_paths g targets) inside (grown-fixed g.edges (paths_of g targets)) (paths_of g files) after f place flags stood past-top in
           let same : left path place ≡ left (after ++ f ∷ []) place = ap (λ (fs : List Frame). left fs place) shrunk in
           omega (arith, e, same)

@@ -6,8 +6,8 @@ use Rattle.std.specs.List.{flat_map, list_any}
 use Rattle.std.proofs.lemmas.List.{append-nil, length-map}
 use Rattle.std.proofs.lemmas.List.Concat.{flat_map-append}
 use Rattle.std.proofs.lemmas.Option.{slice_get_within}
+use Rattle.nj_cycles.specs.Cycles.{IsRank}
 use Rattle.nj_needs.specs.Marks.{without}
-use Rattle.nj_needs.specs.Needs.{IsRank}
 use Rattle.nj_needs.specs.Order.{made_by, unfolded, unfolded_row, first_occurrences}
 use Rattle.nj_needs.specs.Inside.Paths.{top_row, done_at, turns_left, IsLinked, IsStanding}
 use Rattle.nj_needs.specs.declared.frame.Frame.{Frame}

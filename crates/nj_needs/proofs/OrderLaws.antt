@@ -4,7 +4,8 @@ use Rattle.std.specs.Prelude.{nat_eq, slice_get}
 use Rattle.std.specs.List.{flat_map, list_any, AllByRecursion, IsDistinct}
 use Rattle.std.proofs.lemmas.Bool.{or_parts, not-true, not-false, eqb-true}
 use Rattle.std.proofs.lemmas.List.{length-take, get_or-take}
-use Rattle.nj_needs.specs.Needs.{NeedsByChain, Reached, IsRank, AreWithin}
+use Rattle.nj_cycles.specs.Cycles.{NeedsByChain, IsRank}
+use Rattle.nj_needs.specs.Needs.{Reached, AreWithin}
 use Rattle.nj_cycles.specs.Cycles.Chain.{one as directly, more as through}
 use Rattle.nj_needs.specs.Needs.Reached.{target, needed}
 use Rattle.nj_needs.specs.Order.{made_by, unfolded, unfolded_row, first_occurrences, order, needed_commands}

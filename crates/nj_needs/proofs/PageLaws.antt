@@ -5,7 +5,8 @@ use Rattle.std.specs.List.{list_any, concat, last_or}
 use Rattle.std.proofs.lemmas.Bool.{false_from_ne_true}
 use Rattle.std.proofs.lemmas.List.{append-nil}
 use Rattle.std.proofs.lemmas.List.Elements.{filter-append}
-use Rattle.nj_needs.specs.Needs.{IsAcyclic, AreWithin}
+use Rattle.nj_cycles.specs.Cycles.{IsAcyclic}
+use Rattle.nj_needs.specs.Needs.{AreWithin}
 use Rattle.nj_needs.specs.Order.{unfolded_row, first_occurrences, needed_commands}
 use Rattle.nj_needs.specs.Marks.{is_valid, done, without, rest, IsFirstPlace}
 use Rattle.nj_needs.specs.Pages.{IsMarkAfter, MarkKeepsTheRest, ArePages, PagesJoin, RestIsSuffix}

@@ -6,7 +6,7 @@ use Rattle.std.proofs.lemmas.Bool.{cases_order}
 use Rattle.std.proofs.lemmas.List.{take-append-drop, take-take, length-append}
 use Rattle.std.proofs.lemmas.Option.{same_Some}
 use Rattle.std.proofs.lemmas.List.Concat.{flat_map-append}
-use Rattle.nj_needs.specs.Needs.{IsRank}
+use Rattle.nj_cycles.specs.Cycles.{IsRank}
 use Rattle.nj_needs.specs.Order.{made_by, unfolded, unfolded_row}
 use Rattle.nj_needs.specs.Marks.{inputs_of, is_valid, edge_at, done}
 use Rattle.nj_needs.specs.Laws.{FirstPlacesAreOne}

@@ -5,7 +5,7 @@ use Rattle.std.specs.List.{list_any}
 use Rattle.std.proofs.lemmas.Bool.{cases_lt}
 use Rattle.std.proofs.lemmas.List.{get_or_past, drop_more, append-nil, length-append, same_from_push}
 use Rattle.std.proofs.lemmas.Option.{slice_get-get_or, get_or_from_slice_get}
-use Rattle.nj_needs.specs.Needs.{IsRank}
+use Rattle.nj_cycles.specs.Cycles.{IsRank}
 use Rattle.nj_needs.specs.Order.{unfolded, unfolded_row}
 use Rattle.nj_needs.specs.Marks.{inputs_of, is_valid, done}
 use Rattle.nj_needs.specs.Inside.Paths.{top_row, IsLinked, done_at, places}

@@ -6,7 +6,7 @@ use Rattle.std.proofs.lemmas.Bool.{ne_eqb, cases_eq, false_from_ne_true}
 use Rattle.std.proofs.lemmas.List.{map_push, length-set, get_or-set_same, get_or-set_other, take_all}
 use Rattle.std.proofs.lemmas.List.Folds.{list_any-append}
 use Rattle.std.proofs.lemmas.Option.{slice_get_within}
-use Rattle.nj_needs.specs.Needs.{IsRank}
+use Rattle.nj_cycles.specs.Cycles.{IsRank}
 use Rattle.nj_needs.specs.Order.{made_by, unfolded, unfolded_row, order, needed_commands, first_occurrences}
 use Rattle.nj_needs.specs.Marks.{without}
 use Rattle.nj_needs.specs.Inside.Paths.{top_row, IsLinked, done_at, opened, turns_left, left_at, IsStanding}

@@ -1,8 +1,8 @@
 -- The unfolded order: that its fuel does not matter, and what it holds.
 use Rattle.std.proofs.Common.{◌≡◌, ℕ, zero, suc, ◌+◌, ◌-◌, ◌<◌, ◌≤◌, Option, Some, None, List, [], ◌∷◌, ◌++◌, refl, sym, ap, ◌∙◌, subst, inl, inr, arith, add-zero}
 use Rattle.std.specs.List.{flat_map}
+use Rattle.nj_cycles.specs.Cycles.{IsRank}
 use Rattle.nj_needs.specs.Laws.{FuelIsEnough, EdgesComeAfterMakers}
-use Rattle.nj_needs.specs.Needs.{IsRank}
 use Rattle.nj_needs.specs.Order.{made_by, unfolded, unfolded_row}
 use Rattle.nj_needs.proofs.Members.{In, In-head, In-append_left, In-append_right, In-append_cases, In-single, In-last, Among, Contains-from_Among}
 
@@ -53,14 +53,14 @@ module _ (makers : ℕ → List (Option ℕ)) (count : ℕ) (rank : ℕ → ℕ)
 
   -- an edge's unfolding is its row's and the edge
   pub unfolded-row : (e : ℕ) → e < count → unfolded makers count e ≡ unfolded_row makers count (makers e) ++ e ∷ []
-  unfolded-row e lt = sym (stable count e (omega (arith, ranked.low e lt)))
+  unfolded-row e lt = sym (stable count e (omega (arith, ranked.bounded e lt)))
 
   -- nor does any more
   enough : (more e : ℕ) → e < count → unfolded makers (count + more) e ≡ unfolded makers count e
   enough zero e lt = ap (λ n. unfolded makers n e) (add-zero count)
   enough (suc more) e lt =
       ap (λ n. unfolded makers n e) (let is : count + suc more ≡ suc (count + more) = omega arith in is)
-      ∙ stable (count + more) e (omega (arith, ranked.low e lt)) ∙ enough more e lt
+      ∙ stable (count + more) e (omega (arith, ranked.bounded e lt)) ∙ enough more e lt
 
   pub enough-row : (fuel : ℕ) (row : List (Option ℕ)) → ((m : ℕ) → Among row m → m < count) → count ≤ fuel → unfolded_row makers fuel row ≡ unfolded_row makers count row
   enough-row fuel row inside le =

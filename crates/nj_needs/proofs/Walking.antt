@@ -5,7 +5,7 @@ use Rattle.std.specs.List.{flat_map}
 use Rattle.std.proofs.lemmas.List.{append-nil, take-append-drop, take_more, drop_more, take_all}
 use Rattle.std.proofs.lemmas.List.Concat.{flat_map-append}
 use Rattle.std.proofs.lemmas.Option.{slice_get_within, get_or_from_slice_get}
-use Rattle.nj_needs.specs.Needs.{IsRank}
+use Rattle.nj_cycles.specs.Cycles.{IsRank}
 use Rattle.nj_needs.specs.Order.{made_by, unfolded, unfolded_row}
 use Rattle.nj_needs.specs.Inside.Paths.{top_row, IsLinked, done_at, opened}
 use Rattle.nj_needs.specs.declared.frame.Frame.{Frame}
@@ -95,7 +95,7 @@ module _ (makers : ℕ → List (Option ℕ)) (count : ℕ) (rank : ℕ → ℕ)
 
   module _ (row₀ : List (Option ℕ)) (inside₀ : (m : ℕ) → Among row₀ m → m < count) where
     pub Below-targets : Below count row₀
-    Below-targets m a = ranked.low m (inside₀ m a)
+    Below-targets m a = ranked.bounded m (inside₀ m a)
 
   -- an edge that stands in the row on top is an edge, and one of the unfolded order
   pub top-within : (row : List (Option ℕ)) → ((m : ℕ) → Among row m → m < count) → (path : List Frame) → (p m : ℕ) → slice_get (top_row makers row path) p ≡ Some (Some m) → m < count

@@ -1,19 +1,16 @@
 -- The makers of inputs and targets in a graph of edges. Here alone the definitions of the walk meet the graph's value.
-use Rattle.std.specs.Prelude.{ℕ, Bool, Option, Some, None, List, map, length}
+use Rattle.std.specs.Prelude.{ℕ, Bool, Option, List, map, length}
 use Rattle.nj_edges.specs.declared.files.FileNo.{FileNo}
 use Rattle.nj_edges.specs.EdgeGraphs.{EdgeGraph}
-use Rattle.nj_edges.specs.Edges.{EdgePaths, edge_at, inputs_of, maker_of}
+use Rattle.nj_edges.specs.Edges.{EdgePaths, edge_at, maker_of}
 use Rattle.nj_edges.specs.Files.{path_at}
+use Rattle.nj_edges.specs.Needs.{makers_of_inputs}
 
 -- ---- files by their paths
 
 -- the maker of each file of a list
 abbrev pub row_of_paths : List EdgePaths → (paths : List (List ℕ)) → List (Option ℕ)
 row_of_paths edges paths = map (maker_of edges) paths
-
--- the maker of each input of an edge
-abbrev pub makers_in : List EdgePaths → ℕ → List (Option ℕ)
-makers_in edges e = row_of_paths edges (inputs_of (edge_at edges e))
 
 abbrev pub is_phony_in : List EdgePaths → ℕ → Bool
 is_phony_in edges e = (edge_at edges e).is_phony
@@ -24,7 +21,7 @@ abbrev pub row_of : EdgeGraph → List FileNo → List (Option ℕ)
 row_of g files = row_of_paths g.edges (map (path_at g.files) files)
 
 abbrev pub makers_of : EdgeGraph → ℕ → List (Option ℕ)
-makers_of g e = makers_in g.edges e
+makers_of g e = makers_of_inputs g.edges e
 
 abbrev pub count_of : EdgeGraph → ℕ
 count_of g = length g.edges

@@ -1,9 +1,11 @@
 -- Targets together with what is to be validated when they are built ("Validations" in the Ninja manual), by the paths of the files.
 use Rattle.std.specs.Prelude.{◌≡◌, ℕ, zero, suc, ◌+◌, ◌≤◌, ◌↔◌, Some, List, ◌++◌, length, Contains}
 use Rattle.std.specs.List.{flat_map}
+use Rattle.nj_cycles.specs.Cycles.{IsAcyclic}
 use Rattle.nj_edges.specs.Edges.{EdgePaths, edge_at, inputs_of}
-use Rattle.nj_needs.specs.Graphs.{row_of_paths, makers_in}
-use Rattle.nj_needs.specs.Needs.{IsAcyclic, Reached}
+use Rattle.nj_edges.specs.Needs.{makers_of_inputs}
+use Rattle.nj_needs.specs.Graphs.{row_of_paths}
+use Rattle.nj_needs.specs.Needs.{Reached}
 use Rattle.nj_needs.specs.Order.{order}
 
 -- the validations of edges, phony or not: edge by edge, as the statements list them
@@ -15,7 +17,7 @@ validations_of edges numbers = flat_map (λ e. (edge_at edges e).validations) nu
 abbrev pub targets_after : List EdgePaths → (targets : List (List ℕ)) → (rounds : ℕ) → List (List ℕ)
 targets_after edges targets zero = targets
 targets_after edges targets (suc rounds) =
-    targets ++ validations_of edges (order (makers_in edges) (length edges) (row_of_paths edges (targets_after edges targets rounds)))
+    targets ++ validations_of edges (order (makers_of_inputs edges) (length edges) (row_of_paths edges (targets_after edges targets rounds)))
 
 -- the targets after all rounds that add something
 abbrev pub grown_targets : List EdgePaths → (targets : List (List ℕ)) → List (List ℕ)
@@ -44,5 +46,5 @@ pub data Followed (edges : List EdgePaths) (targets : List (List ℕ)) : ℕ →
 -- without the edges of that set the grown targets cannot be made, and no others are needed
 abbrev pub GrownTargetsReachTheFollowed : Type 0
 GrownTargetsReachTheFollowed = (edges : List EdgePaths) (targets : List (List ℕ))
-    → IsAcyclic (makers_in edges) (length edges)
-    → (e : ℕ) → Reached (makers_in edges) (row_of_paths edges (grown_targets edges targets)) e ↔ Followed edges targets e
+    → IsAcyclic (makers_of_inputs edges) (length edges)
+    → (e : ℕ) → Reached (makers_of_inputs edges) (row_of_paths edges (grown_targets edges targets)) e ↔ Followed edges targets e

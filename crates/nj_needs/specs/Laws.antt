@@ -1,7 +1,8 @@
 -- What the order of the needed commands is for.
 use Rattle.std.specs.Prelude.{◌≡◌, ℕ, ◌<◌, ◌≤◌, ◌↔◌, Bool, false, Option, List, [], ◌∷◌, ◌++◌, Some, slice_get, Contains, nat_eq}
 use Rattle.std.specs.List.{IsDistinct}
-use Rattle.nj_needs.specs.Needs.{IsAcyclic, AreWithin, NeedsByChain, Reached}
+use Rattle.nj_cycles.specs.Cycles.{IsAcyclic, NeedsByChain}
+use Rattle.nj_needs.specs.Needs.{AreWithin, Reached}
 use Rattle.nj_needs.specs.Order.{unfolded, unfolded_row, needed_commands}
 use Rattle.nj_needs.specs.Marks.{IsFirstPlace}
 

@@ -1,7 +1,8 @@
 -- Pages: what consecutive runs return, each from the mark of the one before.
 use Rattle.std.specs.Prelude.{◌≡◌, ◌≤◌, ℕ, Bool, true, Option, None, MatchOption, List, [], ◌∷◌, ◌++◌, length}
 use Rattle.std.specs.List.{concat, last_or}
-use Rattle.nj_needs.specs.Needs.{IsAcyclic, AreWithin}
+use Rattle.nj_cycles.specs.Cycles.{IsAcyclic}
+use Rattle.nj_needs.specs.Needs.{AreWithin}
 use Rattle.nj_needs.specs.Order.{needed_commands}
 use Rattle.nj_needs.specs.Marks.{is_valid, rest, IsFirstPlace}
 

@@ -1,12 +1,13 @@
 //! The walk's only way to the graph. Each look at a place of a row, and each closing of an edge, is
 //! one turn, and is counted.
 
-ghost use Rattle.std.specs.Prelude.{◌≡◌, ◌+◌, ◌^◌, ◌<◌, length, true, All, IfSome, is_some, slice_get, slice_set, if◌then◌else◌};
+ghost use Rattle.std.specs.Prelude.{◌≡◌, ◌+◌, ◌^◌, ◌<◌, length, true, All, IfSome, is_some, option_map, slice_get, slice_set, if◌then◌else◌};
 ghost use Rattle.std.specs.Option.{ForSome};
+ghost use Rattle.nj_cycles.specs.Cycles.{IsAcyclic};
 ghost use Rattle.nj_needs.specs.Graphs.{makers_of, count_of, is_phony, row_of};
-ghost use Rattle.nj_needs.specs.Inside.Tops.{row_in};
-ghost use Rattle.nj_needs.specs.Needs.{IsAcyclic, AreWithin};
-ghost use Rattle.nj_needs.specs.Inside.Tops.{counted};
+ghost use Rattle.nj_needs.specs.Inside.Tops.{counted, row_in};
+ghost use Rattle.nj_needs.specs.Needs.{AreWithin};
+ghost use Rattle.nj_needs.specs.Walks.{number_of};
 
 use nj_edges::{EdgeGraph, EdgeNo, FileNo};
 
@@ -56,21 +57,24 @@ impl<'g> Looks<'g> {
         ensures turn { self.new.turns
             ≡ (if is_some result then counted self.old.turns else self.old.turns) }
     {
-        let file = *self.files(edge).get(place)?;
+        let maker = self.maker_at(edge, place)?;
         self.turns = self.turns.saturating_add(1);
-        Some(self.graph.maker(file).map(|maker| maker.0))
+        Some(maker.map(|maker| maker.0))
     }
 
-    // The inputs of an edge, or the targets if there is none.
-    fn files(&self, edge: Option<usize>) -> &[FileNo]
+    // What makes the input there, or the target if there is no edge.
+    fn maker_at(&self, edge: Option<usize>, place: usize) -> Option<Option<EdgeNo>>
         requires { ForSome edge (λ e. e < count_of self.now.graph.now) }
-        ensures row { row_of self.now.graph.now result.now
-            ≡ row_in self.now.graph.now self.now.targets.now edge }
-        ensures files { All (λ f. f.0 < length self.now.graph.now.files) result.now }
+        ensures maker { option_map number_of result
+            ≡ slice_get (row_in self.now.graph.now self.now.targets.now edge) place }
+        ensures fits { IfSome result (λ _. place + 1 < 2 ^ 64) }
     {
         match edge {
-            Some(edge) => self.graph.inputs(EdgeNo(edge)),
-            None => self.targets,
+            Some(edge) => self.graph.maker_at(EdgeNo(edge), place),
+            None => {
+                let file = *self.targets.get(place)?;
+                Some(self.graph.maker(file))
+            }
         }
     }
 

@@ -2,11 +2,12 @@
 
 ghost use Rattle.std.specs.Prelude.{◌≡◌, ◌≤◌, [], length, true, take};
 ghost use Rattle.std.specs.Bool.{OnTrue};
+ghost use Rattle.nj_cycles.specs.Cycles.{IsAcyclic};
 ghost use Rattle.nj_needs.specs.Counts.{saturated};
 ghost use Rattle.nj_needs.specs.Graphs.{makers_of, count_of, row_of};
 ghost use Rattle.nj_needs.specs.Inside.Heading.{IsHeading};
 ghost use Rattle.nj_needs.specs.Marks.{is_valid};
-ghost use Rattle.nj_needs.specs.Needs.{IsAcyclic, AreWithin};
+ghost use Rattle.nj_needs.specs.Needs.{AreWithin};
 ghost use Rattle.nj_needs.specs.Inside.Standing.{IsWalk, left_of, top_of};
 ghost use Rattle.nj_needs.specs.Walks.{rest_of};
 

@@ -1,5 +1,5 @@
 -- Worked rows of what statements come to: the defaults in force, and the fault of a cycle.
-use Rattle.std.proofs.Common.{◌≡◌, ◌<◌, ℕ, None, zero, suc, List, [], ◌∷◌, refl, lit<, arith, sym, subst}
+use Rattle.std.proofs.Common.{◌≡◌, ◌<◌, ℕ, Option, None, Some, unwrap_or, ap, zero, suc, List, [], ◌∷◌, refl, lit<, arith, sym, subst}
 use Rattle.std.specs.Prelude.{codes, Contains}
 use Rattle.nj_text.specs.Words.{Text, WordText}
 use Rattle.nj_text.specs.Paths.{clean_path_of, without_leftmost_pair}
@@ -47,18 +47,18 @@ row-default = refl
 abbrev cycle : List ReadStatement
 cycle = on 3 (build (codes "b") (word (codes "a") ∷ [])) ∷ on 2 (build (codes "a") (word (codes "b") ∷ [])) ∷ on 1 (build (codes "c") (word (codes "a") ∷ [])) ∷ []
 
-abbrev makers : ℕ → List ℕ
+abbrev makers : ℕ → List (Option ℕ)
 makers = makers_of_inputs (paths_of_edges (edges_read cycle))
 
-makers-first : makers 0 ≡ 1 ∷ []
+makers-first : makers 0 ≡ Some 1 ∷ []
 unfolding clean_path_of without_leftmost_pair edges_read defaults_read bounds
 makers-first = refl
 
-makers-second : makers 1 ≡ 2 ∷ []
+makers-second : makers 1 ≡ Some 2 ∷ []
 unfolding clean_path_of without_leftmost_pair edges_read defaults_read bounds
 makers-second = refl
 
-makers-third : makers 2 ≡ 1 ∷ []
+makers-third : makers 2 ≡ Some 1 ∷ []
 unfolding clean_path_of without_leftmost_pair edges_read defaults_read bounds
 makers-third = refl
 
@@ -66,8 +66,8 @@ makers-past : (n : ℕ) → makers (suc (suc (suc n))) ≡ []
 unfolding clean_path_of without_leftmost_pair edges_read defaults_read bounds
 makers-past n = refl
 
-only : (n m : ℕ) → Contains (n ∷ []) m → n ≡ m
-only n m (zero, below, here) = here
+only : (n m : ℕ) → Contains (Some n ∷ []) (Some m) → n ≡ m
+only n m (zero, below, here) = ap (λ o. unwrap_or o 0) here
 only n m (suc k, below, here) = absurd (omega arith)
 
 other : (n : ℕ) → 0 < n → n ≡ 0 → ⊥
@@ -75,20 +75,20 @@ other n some none = absurd (omega arith)
 
 -- no edge needs the first one
 not-needed : (e : ℕ) → Needs makers e 0 → ⊥
-not-needed zero needs = other 1 (lit< tt) (only 1 0 (subst (λ row. Contains row 0) makers-first needs))
-not-needed (suc zero) needs = other 2 (lit< tt) (only 2 0 (subst (λ row. Contains row 0) makers-second needs))
-not-needed (suc (suc zero)) needs = other 1 (lit< tt) (only 1 0 (subst (λ row. Contains row 0) makers-third needs))
-not-needed (suc (suc (suc n))) needs = let none : Contains [] 0 = subst (λ row. Contains row 0) (makers-past n) needs in absurd (omega (arith, none.1))
+not-needed zero needs = other 1 (lit< tt) (only 1 0 (subst (λ row. Contains row (Some 0)) makers-first needs))
+not-needed (suc zero) needs = other 2 (lit< tt) (only 2 0 (subst (λ row. Contains row (Some 0)) makers-second needs))
+not-needed (suc (suc zero)) needs = other 1 (lit< tt) (only 1 0 (subst (λ row. Contains row (Some 0)) makers-third needs))
+not-needed (suc (suc (suc n))) needs = let none : Contains [] (Some 0) = subst (λ row. Contains row (Some 0)) (makers-past n) needs in absurd (omega (arith, none.1))
 
 no-chain : (e : ℕ) → Chain (Needs makers) e 0 → ⊥
 no-chain e (one needs) = not-needed e needs
 no-chain e (more {g = g} needs chain) = no-chain g chain
 
 needs-third : Needs makers 1 2
-needs-third = subst (λ row. Contains row 2) (sym makers-second) (0, lit< tt, refl)
+needs-third = subst (λ row. Contains row (Some 2)) (sym makers-second) (0, lit< tt, refl)
 
 needs-second : Needs makers 2 1
-needs-second = subst (λ row. Contains row 1) (sym makers-third) (0, lit< tt, refl)
+needs-second = subst (λ row. Contains row (Some 1)) (sym makers-third) (0, lit< tt, refl)
 
 pub row-cycle : IsCycleFault (edges_read cycle) (fault_at (codes "build.ninja") (record { line = 2; column = 1 }) (Cycle (codes "a")))
 unfolding clean_path_of without_leftmost_pair edges_read defaults_read bounds

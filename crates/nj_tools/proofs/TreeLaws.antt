@@ -4,7 +4,7 @@ use Rattle.std.specs.List.{AllByRecursion, Contains}
 use Rattle.nj_scope.specs.ReadingList.{ReadStatement}
 use Rattle.nj_edges.specs.Edges.{edge_at, inputs_of, maker_of}
 use Rattle.nj_statements.specs.EdgeList.{edges_read, paths_of_edges}
-use Rattle.nj_needs.proofs.Bridges.{IsAcyclic-edges, AreWithin-paths}
+use Rattle.nj_needs.proofs.Bridges.{AreWithin-paths}
 use Rattle.nj_tools.specs.Laws.{DepthZeroShowsAll}
 use Rattle.nj_tools.specs.Listings.{file_line, indent, inputs_of_maker, tree_text}
 
@@ -70,11 +70,11 @@ tree-enough entries rank falls (suc n) (suc m) depth path low_n low_m =
 pub depth-zero_shows_all : DepthZeroShowsAll
 depth-zero_shows_all entries acyclic levels depth path enough =
     let edges = paths_of_edges (edges_read entries) in
-    let (rank, is) = IsAcyclic-edges edges acyclic in
+    let (rank, is) = acyclic in
     let above : length edges + 1 ≤ levels = enough in
     let many : levels ≡ suc (levels - 1) = omega (arith, above) in
     let all : suc (length edges) ≡ length edges + 1 = omega arith in
-    let low : (e : ℕ) → maker_of edges path ≡ Some e → rank e < length edges = λ e made. is.low e (AreWithin-paths edges (path ∷ []) e (0, omega arith, made)) in
+    let low : (e : ℕ) → maker_of edges path ≡ Some e → rank e < length edges = λ e made. is.bounded e (AreWithin-paths edges (path ∷ []) e (0, omega arith, made)) in
     ap (λ k. tree_text entries k depth path) many
     ∙ tree-enough entries rank is.falls (levels - 1) (length edges) depth path (λ e made. let below = low e made in omega (arith, below, above)) low
     ∙ ap (λ k. tree_text entries k depth path) all

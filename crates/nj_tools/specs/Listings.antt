@@ -9,7 +9,8 @@ use Rattle.std.specs.Ordering.{nat_cmp}
 use Rattle.nj_scope.specs.ReadingList.{ReadStatement}
 use Rattle.nj_text.specs.Quotes.{quoted}
 use Rattle.nj_edges.specs.Edges.{EdgePaths, edge_at, inputs_of, outputs_of, maker_of, roots_of}
-use Rattle.nj_needs.specs.Graphs.{row_of_paths, makers_in, is_phony_in}
+use Rattle.nj_edges.specs.Needs.{makers_of_inputs}
+use Rattle.nj_needs.specs.Graphs.{row_of_paths, is_phony_in}
 use Rattle.nj_needs.specs.Order.{needed_commands}
 use Rattle.nj_statements.specs.EdgeList.{edges_read, paths_of_edges}
 use Rattle.nj_graph.specs.Graph.{sorted_by, is_before, rule_name_of, rule_name_at}
@@ -35,7 +36,7 @@ sorted texts = sorted_by is_before texts
 abbrev pub needed_inputs : List EdgePaths → (targets : List (List ℕ)) → List (List ℕ)
 needed_inputs edges targets =
     flat_map (λ e. inputs_of (edge_at edges e))
-    (needed_commands (makers_in edges) (length edges) (is_phony_in edges) (row_of_paths edges targets))
+    (needed_commands (makers_of_inputs edges) (length edges) (is_phony_in edges) (row_of_paths edges targets))
 
 -- the style of a command line without options
 abbrev pub plain_style : InputsStyle

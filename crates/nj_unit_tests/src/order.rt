@@ -1,39 +1,56 @@
 //! Tests of `nj_cycles`.
 
-ghost use Rattle.std.specs.Prelude.{◌≤◌};
+ghost use Rattle.std.specs.Prelude.{◌≡◌, Some, None, [], ◌∷◌, if◌then◌else◌, length, nat_lt, option_map, slice_get, unwrap_or};
+ghost use Rattle.std.specs.Option.{option_and_then};
 
 use nj_cycles::{EdgeInputs, first_on_cycle};
 use std::alloc::{AllocError, Global};
 use std::test::Fail;
 
-/// The file that an edge makes has its number, and the file after those of all edges is a
-/// source.
-fn file_of(maker: Option<usize>, edge_count: usize) -> usize
-    ensures { result ≤ edge_count }
-{
-    match maker {
-        Some(edge) => edge.min(edge_count),
-        None => edge_count,
+/// Edges with two inputs each, by what makes these. What is no number of an edge is a source.
+struct Pairs<'a> {
+    makers: &'a [(Option<usize>, Option<usize>)],
+}
+
+impl<'a> EdgeInputs for Pairs<'a> {
+    ghost makers = { λ p e. unwrap_or (option_map (λ row.
+        option_and_then (λ m. if nat_lt m (length p.makers.now) then Some m else None) row.0
+        ∷ option_and_then (λ m. if nat_lt m (length p.makers.now) then Some m else None) row.1
+        ∷ []) (slice_get p.makers.now e)) [] };
+
+    ghost count = { λ p. length p.makers.now };
+
+    fn edge_count(&self) -> usize {
+        self.makers.len()
     }
+
+    fn maker_at(&self, edge: usize, index: usize) -> Option<Option<usize>> {
+        let (first, second) = self.makers[edge];
+        match index {
+            0 => Some(edge_below(first, self.makers.len())),
+            1 => Some(edge_below(second, self.makers.len())),
+            _ => None,
+        }
+    }
+}
+
+/// An edge, if its number is below this count.
+fn edge_below(edge: Option<usize>, edge_count: usize) -> Option<usize>
+    ensures { result ≡ option_and_then (λ m. if nat_lt m edge_count then Some m else None) edge }
+{
+    let edge = edge?;
+    if edge < edge_count {
+        return Some(edge);
+    }
+    None
 }
 
 /// The answer for edges with two inputs each.
 fn first_of(
     alloc: Global,
-    rows: &[(Option<usize>, Option<usize>)],
+    makers: &[(Option<usize>, Option<usize>)],
 ) -> Result<Option<usize>, AllocError> {
-    let mut starts = Vec::new(alloc);
-    let mut files = Vec::new(alloc);
-    let mut makers = Vec::new(alloc);
-    'rows: for edge in 0..rows.len() {
-        let (first, second) = rows[edge];
-        starts.push(files.len())?;
-        files.push(file_of(first, rows.len()))?;
-        files.push(file_of(second, rows.len()))?;
-        makers.push(Some(edge))?;
-    }
-    makers.push(None)?;
-    first_on_cycle(alloc, &EdgeInputs::new(&starts, &files, &makers))
+    first_on_cycle(alloc, &Pairs { makers })
 }
 
 #[test]

@@ -1,10 +1,8 @@
 -- The marks of edges, inside the check: an edge is marked if it needs one of those that had their turn. No reader
 -- of the public contracts needs this file.
 use Rattle.std.specs.Prelude.{◌≡◌, ◌⊎◌, ℕ, ◌+◌, ◌≤◌, Bool, true, false, List, Option, None, Some, length, slice_index_or, sum_by, Contains}
-use Rattle.nj_cycles.specs.declared.inputs.EdgeInputs.{EdgeInputs}
 use Rattle.nj_cycles.specs.declared.marks.Marks.{Marks}
-use Rattle.nj_cycles.specs.Cycles.{Chain}
-use Rattle.nj_cycles.specs.Inside.Places.{NeedsAt}
+use Rattle.nj_cycles.specs.Cycles.{Needs, NeedsByChain, IsOnCycle}
 
 abbrev pub IsMarked : List Bool → ℕ → Type 0
 IsMarked flags e = slice_index_or flags e false ≡ true
@@ -14,13 +12,13 @@ unmarked true = 0
 unmarked false = 1
 
 -- edge e needs one of these by a chain
-abbrev pub LeadsInto : EdgeInputs → List ℕ → ℕ → Type 0
-LeadsInto g edges e = (f : ℕ) × Contains edges f × Chain (NeedsAt g) e f
+abbrev pub LeadsInto : (makers : ℕ → List (Option ℕ)) → List ℕ → ℕ → Type 0
+LeadsInto makers edges e = (f : ℕ) × Contains edges f × NeedsByChain makers e f
 
 -- the marked edges are those that need one of these by a chain
-pub record AreMarks (g : EdgeInputs) (edges : List ℕ) (flags : List Bool) : Type 0 where
-  pub sound : (e : ℕ) → IsMarked flags e → LeadsInto g edges e
-  pub closed : (e f : ℕ) → NeedsAt g e f → Contains edges f ⊎ IsMarked flags f → IsMarked flags e
+pub record AreMarks (makers : ℕ → List (Option ℕ)) (edges : List ℕ) (flags : List Bool) : Type 0 where
+  pub sound : (e : ℕ) → IsMarked flags e → LeadsInto makers edges e
+  pub closed : (e f : ℕ) → Needs makers e f → Contains edges f ⊎ IsMarked flags f → IsMarked flags e
 
 -- some edges with P were marked, and are pending
 pub record MarksMore (P : ℕ → Type 0) (old new : Marks) : Type 0 where
@@ -32,11 +30,8 @@ pub record MarksMore (P : ℕ → Type 0) (old new : Marks) : Type 0 where
   pub turns : sum_by unmarked new.flags.items + length new.pending.items
       ≡ sum_by unmarked old.flags.items + length old.pending.items
 
--- edge e needs itself by a chain
-abbrev pub IsOnCycleAt : EdgeInputs → ℕ → Type 0
-IsOnCycleAt g e = Chain (NeedsAt g) e e
-
 -- the least of these edges that lies on a cycle
-abbrev pub IsLeastOf : EdgeInputs → List ℕ → Option ℕ → Type 0
-IsLeastOf g edges None = (e : ℕ) → Contains edges e → ¬ IsOnCycleAt g e
-IsLeastOf g edges (Some least) = IsOnCycleAt g least × ((e : ℕ) → Contains edges e → IsOnCycleAt g e → least ≤ e)
+abbrev pub IsLeastOf : (makers : ℕ → List (Option ℕ)) → List ℕ → Option ℕ → Type 0
+IsLeastOf makers edges None = (e : ℕ) → Contains edges e → ¬ IsOnCycle makers e
+IsLeastOf makers edges (Some least) =
+    IsOnCycle makers least × ((e : ℕ) → Contains edges e → IsOnCycle makers e → least ≤ e)

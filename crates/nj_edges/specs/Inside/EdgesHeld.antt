@@ -1,5 +1,5 @@
 -- How the edges of a graph are held: by the numbers of files.
-use Rattle.std.specs.Prelude.{◌≡◌, ℕ, ◌<◌, ◌≤◌, ◌-◌, ◌==◌, ◌||◌, if◌then◌else◌, Bool, true, false, Option, None, Some, is_some, List, []}
+use Rattle.std.specs.Prelude.{◌≡◌, ℕ, ◌<◌, ◌≤◌, ◌-◌, ◌==◌, ◌||◌, if◌then◌else◌, Bool, true, false, Option, None, Some, List, []}
 use Rattle.std.specs.Prelude.{◌∷◌, ◌++◌, map, length, take, drop, slice_get, slice_index_or, slice_range, bytes_eq}
 use Rattle.std.specs.List.{list_any, flat_map, AllByRecursion, IsDistinct}
 use Rattle.nj_edges.specs.declared.files.FileNo.{FileNo}
@@ -7,8 +7,8 @@ use Rattle.nj_edges.specs.declared.edges.Span.{Span}
 use Rattle.nj_edges.specs.declared.edges.EdgeRow.{EdgeRow}
 use Rattle.nj_edges.specs.declared.edges.KindEnds.{KindEnds}
 use Rattle.nj_edges.specs.declared.edges.OpenStarts.{OpenStarts}
-use Rattle.nj_edges.specs.Edges.{EdgePaths, first_edge, maker_of, is_among, is_named}
-use Rattle.nj_edges.specs.Files.{with_path, path_at}
+use Rattle.nj_edges.specs.Edges.{EdgePaths, first_edge}
+use Rattle.nj_edges.specs.Files.{path_at}
 use Rattle.nj_edges.specs.EdgeTables.{EdgeTable, EndWithin, edge_read}
 
 -- ---- the edges, and the one that is being read
@@ -95,6 +95,11 @@ is_edge (Some maker) edge = maker == edge
 -- whether an edge is the maker of a file
 abbrev pub is_made_by : (makers : List (Option ℕ)) → (file edge : ℕ) → Bool
 is_made_by makers file edge = is_edge (slice_index_or makers file None) edge
+
+-- the makers of the inputs of the edge of a number, by its row
+abbrev pub makers_in_rows : (inputs : List FileNo) → List EdgeRow → (makers : List (Option ℕ)) → (edge : ℕ) → List (Option ℕ)
+makers_in_rows inputs rows makers edge =
+    slice_index_or (map (λ (row : EdgeRow). map (λ f. slice_index_or makers f.0 None) (within inputs row.inputs)) rows) edge []
 
 pub record EdgesAreHeld (files : List (List ℕ)) (makers : List (Option ℕ)) (outputs inputs validations : List FileNo)
     (rows : List EdgeRow) (starts : OpenStarts) : Type 0 where

@@ -3,15 +3,15 @@ use Rattle.std.specs.Prelude.{◌≡◌, ◌<◌, ◌≤◌, ◌⊎◌, ℕ, ◌
 use Rattle.std.specs.Prelude.{nat_eq, slice_get, vec_capacity}
 use Rattle.std.specs.List.{list_any}
 use Rattle.std.specs.Global.{Vec}
+use Rattle.nj_cycles.specs.Cycles.{IsAcyclic}
 use Rattle.nj_edges.specs.declared.files.FileNo.{FileNo}
 use Rattle.nj_edges.specs.EdgeGraphs.{EdgeGraph}
 use Rattle.nj_needs.specs.Counts.{saturated}
 use Rattle.nj_needs.specs.Graphs.{row_of, makers_of, count_of, is_phony}
-use Rattle.nj_needs.specs.Needs.{IsAcyclic, AreWithin}
+use Rattle.nj_needs.specs.Needs.{AreWithin}
 use Rattle.nj_needs.specs.Inside.Paths.{top_row, done_at, places, left_at, turns_left, IsStanding}
 use Rattle.nj_needs.specs.Walks.{rest_of, bound_of, IsFirstPlaceOf}
 use Rattle.nj_needs.specs.declared.frame.Frame.{Frame}
-use Rattle.nj_needs.specs.Inside.Tops.{counted}
 use Rattle.nj_needs.specs.declared.walk.Walk.{Walk}
 use Rattle.nj_needs.specs.declared.walk.Turn.{Turn}
 use Rattle.nj_needs.specs.declared.walk.Turn.TheVariants.{Looked, Closed, Ended}

@@ -1,5 +1,5 @@
-use Rattle.nj_cycles.proofs.Ranks.{acyclic-has_no_cycle}
+use Rattle.nj_cycles.proofs.Ranks.{falling_ranks_leave_no_cycle}
 use Rattle.nj_cycles.proofs.check.acyclic_law.Goals as goal
 
 pub returns : goal.returns
-returns c = acyclic-has_no_cycle
+returns c = falling_ranks_leave_no_cycle

@@ -4,8 +4,8 @@ use Rattle.nj_cycles.specs.Inside.Walks.{stage_of, WalkStands}
 use Rattle.nj_cycles.proofs.walk.finish_all.Given as goal
 
 abbrev pub invariant-edges : goal.invariant-edges
-invariant-edges l = record {
-  stands : WalkStands l.inputs l.walk;
+invariant-edges g l = record {
+  stands : WalkStands (g.I.EdgeInputs.makers l.inputs) (g.I.EdgeInputs.count l.inputs) l.walk;
   path : l.walk.path.items ≡ [];
   seen : (e : ℕ) → e < l.edge → stage_of l.walk.stages.items e ≢ Unseen;
 }

@@ -3,7 +3,6 @@ use Rattle.std.specs.Prelude.{slice_get}
 use Rattle.std.proofs.lemmas.List.{append-nil, nil_from_length}
 use Rattle.nj_needs.specs.Inside.Standing.{top_of}
 use Rattle.nj_needs.specs.Inside.Tops.{IsTop}
-use Rattle.nj_needs.proofs.Bridges.{IsAcyclic-from}
 use Rattle.nj_needs.proofs.GrowingSteps.{stands, below, top-edge, len-flags, pass, pass-less, opened, open-less, ended, close-below, closed, close-less}
 use Rattle.nj_needs.proofs.growing.grow_targets.Goals as goal
 
@@ -11,7 +10,7 @@ pub look-found-requires : goal.look-found-requires
 look-found-requires c =
     let g = c.args.graph.now in
     let ts = c.args.targets.now in
-    let acyclic = IsAcyclic-from g c.edge_count.ensures.acyclic in
+    let acyclic = c.edge_count.ensures.acyclic in
     let w = c.turns in
     let top : IsTop w.path.items c.top_edge.result = subst (λ p. IsTop p c.top_edge.result) c.deref-in-turns.ensures.value c.top_edge.ensures in
     rw c.new.ensures.graph (top-edge g ts acyclic w.files.items w.path.items w.place w.flags.items w.invariant c.top_edge.result top)
@@ -20,7 +19,7 @@ pub returns-in_default-pop-clause-grown : goal.returns-in_default-pop-clause-gro
 returns-in_default-pop-clause-grown c =
     let g = c.args.graph.now in
     let ts = c.args.targets.now in
-    let acyclic = IsAcyclic-from g c.edge_count.ensures.acyclic in
+    let acyclic = c.edge_count.ensures.acyclic in
     let w = c.turns in
     let graph : c.new.result.graph.now ≡ g = rw c.new.ensures.graph refl in
     let list : c.new.result.targets.now ≡ w.files.items = rw c.new.ensures.targets c.deref.ensures.value in
@@ -35,7 +34,7 @@ pub index_mut-requires : goal.index_mut-requires
 index_mut-requires c =
     let g = c.args.graph.now in
     let ts = c.args.targets.now in
-    let acyclic = IsAcyclic-from g c.edge_count.ensures.acyclic in
+    let acyclic = c.edge_count.ensures.acyclic in
     let w = c.turns in
     let graph : c.new.result.graph.now ≡ g = rw c.new.ensures.graph refl in
     let list : c.new.result.targets.now ≡ w.files.items = rw c.new.ensures.targets c.deref.ensures.value in
@@ -48,7 +47,7 @@ pub add_validations-requires : goal.add_validations-requires
 add_validations-requires c =
     let g = c.args.graph.now in
     let ts = c.args.targets.now in
-    let acyclic = IsAcyclic-from g c.edge_count.ensures.acyclic in
+    let acyclic = c.edge_count.ensures.acyclic in
     let w = c.turns in
     let graph : c.new.result.graph.now ≡ g = rw c.new.ensures.graph refl in
     let list : c.new.result.targets.now ≡ w.files.items = rw c.new.ensures.targets c.deref.ensures.value in
@@ -61,7 +60,7 @@ pub turns-smaller-in_default : goal.turns-smaller-in_default
 turns-smaller-in_default c =
     let g = c.args.graph.now in
     let ts = c.args.targets.now in
-    let acyclic = IsAcyclic-from g c.edge_count.ensures.acyclic in
+    let acyclic = c.edge_count.ensures.acyclic in
     let w = c.turns in
     let graph : c.new.result.graph.now ≡ g = rw c.new.ensures.graph refl in
     let list : c.new.result.targets.now ≡ w.files.items = rw c.new.ensures.targets c.deref.ensures.value in
@@ -74,7 +73,7 @@ pub turns-preserved-in_default : goal.turns-preserved-in_default
 turns-preserved-in_default c =
     let g = c.args.graph.now in
     let ts = c.args.targets.now in
-    let acyclic = IsAcyclic-from g c.edge_count.ensures.acyclic in
+    let acyclic = c.edge_count.ensures.acyclic in
     let w = c.turns in
     let graph : c.new.result.graph.now ≡ g = rw c.new.ensures.graph refl in
     let list : c.new.result.targets.now ≡ w.files.items = rw c.new.ensures.targets c.deref.ensures.value in
@@ -87,7 +86,7 @@ pub undone-requires : goal.undone-requires
 undone-requires c =
     let g = c.args.graph.now in
     let ts = c.args.targets.now in
-    let acyclic = IsAcyclic-from g c.edge_count.ensures.acyclic in
+    let acyclic = c.edge_count.ensures.acyclic in
     let w = c.turns in
     let graph : c.new.result.graph.now ≡ g = rw c.new.ensures.graph refl in
     let list : c.new.result.targets.now ≡ w.files.items = rw c.new.ensures.targets c.deref.ensures.value in
@@ -102,7 +101,7 @@ pub turns-smaller-in-Some-undone : goal.turns-smaller-in-Some-undone
 turns-smaller-in-Some-undone c =
     let g = c.args.graph.now in
     let ts = c.args.targets.now in
-    let acyclic = IsAcyclic-from g c.edge_count.ensures.acyclic in
+    let acyclic = c.edge_count.ensures.acyclic in
     let w = c.turns in
     let graph : c.new.result.graph.now ≡ g = rw c.new.ensures.graph refl in
     let list : c.new.result.targets.now ≡ w.files.items = rw c.new.ensures.targets c.deref.ensures.value in
@@ -118,7 +117,7 @@ pub turns-preserved-in-Some-undone : goal.turns-preserved-in-Some-undone
 turns-preserved-in-Some-undone c =
     let g = c.args.graph.now in
     let ts = c.args.targets.now in
-    let acyclic = IsAcyclic-from g c.edge_count.ensures.acyclic in
+    let acyclic = c.edge_count.ensures.acyclic in
     let w = c.turns in
     let graph : c.new.result.graph.now ≡ g = rw c.new.ensures.graph refl in
     let list : c.new.result.targets.now ≡ w.files.items = rw c.new.ensures.targets c.deref.ensures.value in
@@ -134,7 +133,7 @@ pub turns-smaller : goal.turns-smaller
 turns-smaller c =
     let g = c.args.graph.now in
     let ts = c.args.targets.now in
-    let acyclic = IsAcyclic-from g c.edge_count.ensures.acyclic in
+    let acyclic = c.edge_count.ensures.acyclic in
     let w = c.turns in
     let graph : c.new.result.graph.now ≡ g = rw c.new.ensures.graph refl in
     let list : c.new.result.targets.now ≡ w.files.items = rw c.new.ensures.targets c.deref.ensures.value in
@@ -149,7 +148,7 @@ pub turns-preserved : goal.turns-preserved
 turns-preserved c =
     let g = c.args.graph.now in
     let ts = c.args.targets.now in
-    let acyclic = IsAcyclic-from g c.edge_count.ensures.acyclic in
+    let acyclic = c.edge_count.ensures.acyclic in
     let w = c.turns in
     let graph : c.new.result.graph.now ≡ g = rw c.new.ensures.graph refl in
     let list : c.new.result.targets.now ≡ w.files.items = rw c.new.ensures.targets c.deref.ensures.value in

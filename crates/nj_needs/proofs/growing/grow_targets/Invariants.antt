@@ -1,6 +1,7 @@
 use Rattle.std.proofs.Common.{length, map}
 use Rattle.nj_edges.specs.Files.{path_at}
-use Rattle.nj_needs.specs.Graphs.{row_of_paths, makers_in}
+use Rattle.nj_edges.specs.Needs.{makers_of_inputs}
+use Rattle.nj_needs.specs.Graphs.{row_of_paths}
 use Rattle.nj_needs.specs.Growing.{grown_targets}
 use Rattle.nj_needs.specs.Inside.Paths.{turns_left}
 use Rattle.nj_needs.proofs.GrowingSteps.{IsGrowingOver}
@@ -11,5 +12,5 @@ invariant-turns l = IsGrowingOver l.graph l.targets l.files.items l.path.items l
 
 abbrev pub decreases-turns : goal.decreases-turns
 decreases-turns l =
-    turns_left (makers_in l.graph.edges) (length l.graph.edges)
+    turns_left (makers_of_inputs l.graph.edges) (length l.graph.edges)
     (row_of_paths l.graph.edges (grown_targets l.graph.edges (map (path_at l.graph.files) l.targets))) l.path.items l.place

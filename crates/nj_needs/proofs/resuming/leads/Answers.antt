@@ -1,6 +1,7 @@
 use Rattle.std.proofs.Common.{◌≡◌, ◌+◌, ◌<◌, ℕ, true, false, Option, Some, None, List, drop, get_or, refl, sym, ap, ◌∙◌, arith}
 use Rattle.std.specs.Prelude.{slice_get, is_some}
 use Rattle.std.proofs.lemmas.List.{get_or_default}
+use Rattle.nj_cycles.specs.Cycles.{IsAcyclic}
 use Rattle.nj_edges.specs.declared.files.FileNo.{FileNo}
 use Rattle.nj_edges.specs.EdgeGraphs.{EdgeGraph}
 use Rattle.nj_needs.specs.Counts.{saturated}
@@ -8,7 +9,7 @@ use Rattle.nj_needs.specs.Inside.Tops.{counted}
 use Rattle.nj_needs.specs.Graphs.{makers_of, count_of, row_of}
 use Rattle.nj_needs.specs.Inside.Tops.{row_in}
 use Rattle.nj_needs.specs.Marks.{is_valid}
-use Rattle.nj_needs.specs.Needs.{IsAcyclic, AreWithin}
+use Rattle.nj_needs.specs.Needs.{AreWithin}
 use Rattle.nj_needs.specs.declared.looks.Looks.{Looks}
 use Rattle.nj_needs.proofs.Members.{Among, Among-get, Contains-from_Among}
 use Rattle.nj_needs.proofs.ResumeLemmas.{valid-none, valid-source, valid-maker}

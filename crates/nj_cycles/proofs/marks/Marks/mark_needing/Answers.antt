@@ -1,44 +1,51 @@
-use Rattle.std.proofs.Common.{◌≡◌, ◌<◌, [], ◌∷◌, ◌++◌, sym, subst, ap, ◌∙◌, inl, inr, arith}
-use Rattle.std.specs.Prelude.{Contains}
-use Rattle.std.proofs.lemmas.List.Elements.{Contains-append_left, Contains-push, Contains-push_cases}
-use Rattle.nj_cycles.specs.Inputs.{edge_count}
-use Rattle.nj_cycles.proofs.InputPlaces.{owner_in}
-use Rattle.nj_cycles.proofs.Marking.{Marking, marking_begins, marking_goes_on, marking_ends, no_member}
+use Rattle.std.proofs.Common.{◌≡◌, ◌<◌, [], ◌∷◌, ◌++◌, length, sym, subst, ap, ◌∙◌, inl, inr, arith}
+use Rattle.std.specs.Prelude.{Contains, slice_index_or}
+use Rattle.std.proofs.lemmas.List.Elements.{Contains-append_left, Contains-get_or, Contains-push, Contains-push_cases}
+use Rattle.nj_cycles.specs.declared.marks.Marks.{Marks}
+use Rattle.nj_cycles.specs.Cycles.{Needs}
+use Rattle.nj_cycles.proofs.Marking.{Marking, more_none, more_then, marking_begins, marking_goes_on, marking_ends, no_member}
 use Rattle.nj_cycles.proofs.marks.Marks.mark_needing.Goals as goal
 
 pub pending-init : goal.pending-init
 pending-init c =
-    let g = c.args.users.now.inputs in
     let e = c.args.edge in
     let begun : c.push.new.self.items ≡ [] ++ e ∷ [] = c.in_ok-push.ensures.items ∙ ap (λ xs. xs ++ e ∷ []) c.requires.pending in
     record {
       len = c.requires.len;
       inside = λ x h. elim (Contains-push_cases [] e x (subst (λ xs. Contains xs x) begun h)) [
         | inl none ↦ absurd (no_member x none)
-        | inr is ↦ subst (λ y. y < edge_count g) is c.requires.edge_in
+        | inr is ↦ subst (λ y. y < length c.args.users.now) is c.requires.edge_in
       ];
-      marking = λ edges h. subst (Marking g (e ∷ edges) c.args.self.now.flags.items) (sym begun) (marking_begins g edges c.args.self.now.flags.items e h);
+      marking = λ makers edges users h. subst (Marking makers (e ∷ edges) c.args.self.now.flags.items) (sym begun) (marking_begins makers edges c.args.self.now.flags.items e h);
     }
 
-pub mark_users-requires-clause-edge_in : goal.mark_users-requires-clause-edge_in
-mark_users-requires-clause-edge_in c =
-    c.pending.invariant.inside c.in-Some.next (subst (λ xs. Contains xs c.in-Some.next) (sym c.in-Some.ensures.items) (Contains-push c.pop.new.self.items c.in-Some.next))
+pub users_of-requires : goal.users_of-requires
+users_of-requires c = c.pending.invariant.inside c.in-Some.next (subst (λ xs. Contains xs c.in-Some.next) (sym c.in-Some.ensures.items) (Contains-push c.pop.new.self.items c.in-Some.next))
+
+pub mark_all-requires : goal.mark_all-requires
+mark_all-requires c = λ k d below. let e = slice_index_or c.users_of.result.now k d in
+    let known : e < length c.args.users.now = c.requires.known c.in-Some.next e (subst (λ us. Contains us e) c.users_of.ensures (Contains-get_or c.users_of.result.now k d below)) in
+    omega (arith, known, c.pending.invariant.len)
 
 pub pending-preserved : goal.pending-preserved
 pending-preserved c =
-    let g = c.args.users.now.inputs in
     let w = c.in-Some.next in
     let popped = c.in-Some.ensures.items in
-    let more = c.in_ok-mark_users.ensures.more in
+    let more = c.in_ok-mark_all.ensures.more in
+    let users = c.users_of.ensures in
     record {
-      len = omega (arith, c.mark_users.new.self.flags.ok.0, c.pending.self.flags.ok.0, more.len, c.pending.invariant.len);
+      len = omega (arith, c.mark_all.new.self.flags.ok.0, c.pending.self.flags.ok.0, more.len, c.pending.invariant.len);
       inside = λ x h. elim (more.pending_fresh x h) [
         | inl old ↦ c.pending.invariant.inside x (subst (λ xs. Contains xs x) (sym popped) (Contains-append_left c.pop.new.self.items (w ∷ []) x old))
-        | inr needs ↦ owner_in g needs.0 x needs.1 needs.2
+        | inr user ↦ c.requires.known w x (subst (λ us. Contains us x) users user)
       ];
-      marking = λ edges h. marking_goes_on g (c.args.edge ∷ edges) (record { flags = c.pending.self.flags; pending = c.pop.new.self }) c.mark_users.new.self c.pending.self.pending.items w popped
-          (c.pending.invariant.marking edges h) more c.in_ok-mark_users.ensures.marked;
+      marking = λ makers edges held h.
+          let old : Marks = record { flags = c.pending.self.flags; pending = c.pop.new.self } in
+          let w_in = c.pending.invariant.inside w (subst (λ xs. Contains xs w) (sym popped) (Contains-push c.pop.new.self.items w)) in
+          marking_goes_on makers (c.args.edge ∷ edges) old c.mark_all.new.self c.pending.self.pending.items w popped (c.pending.invariant.marking makers edges held h)
+          (more_then (λ e. Needs makers e w) (Contains c.users_of.result.now) old old c.mark_all.new.self (λ e user. held.sound w e w_in (subst (λ us. Contains us e) users user)) (more_none (λ e. Needs makers e w) old) more)
+          (λ e needs. c.in_ok-mark_all.ensures.marked e (subst (λ us. Contains us e) (sym users) (held.all w e w_in needs)));
     }
 
 pub returns-clause-marks : goal.returns-clause-marks
-returns-clause-marks c = λ edges h. marking_ends c.args.users.now.inputs (c.args.edge ∷ edges) c.pending.self.flags.items c.pending.self.pending.items (omega (arith, c.pending.self.pending.ok.0, c.in_default.ensures.cases.0)) (c.pending.invariant.marking edges h)
+returns-clause-marks c = λ makers edges users h. marking_ends makers (c.args.edge ∷ edges) c.pending.self.flags.items c.pending.self.pending.items (omega (arith, c.pending.self.pending.ok.0, c.in_default.ensures.cases.0)) (c.pending.invariant.marking makers edges users h)

@@ -4,11 +4,11 @@ use Rattle.nj_cycles.specs.Inside.Walks.{stage_of, turns_of, WalkStands}
 use Rattle.nj_cycles.proofs.walk.Walk.visit.Given as goal
 
 abbrev pub invariant-turns : goal.invariant-turns
-invariant-turns l = record {
-  stands : WalkStands l.inputs l.self;
+invariant-turns g l = record {
+  stands : WalkStands (g.I.EdgeInputs.makers l.inputs) (g.I.EdgeInputs.count l.inputs) l.self;
   seen : stage_of l.self.stages.items l.edge ≢ Unseen;
   kept : (e : ℕ) → stage_of l.fn.self.stages.items e ≢ Unseen → stage_of l.self.stages.items e ≢ Unseen;
 }
 
 abbrev pub decreases-turns : goal.decreases-turns
-decreases-turns l = sum_by turns_of l.self.stages.items
+decreases-turns g l = sum_by turns_of l.self.stages.items

@@ -7,15 +7,23 @@ use Rattle.nj_edges.specs.Edges.{edge_at, outputs_of}
 use Rattle.nj_edges.specs.EdgeTables.{EdgeTable}
 use Rattle.nj_edges.specs.Needs.{makers_of_inputs}
 use Rattle.nj_edges.proofs.CycleLemmas.{row-below, outputs-end, some-output, first-output}
-use Rattle.nj_edges.proofs.GraphLemmas.{held-whole, maker-below, first-paths, first-table, same-first, on-edge}
+use Rattle.nj_edges.proofs.GraphLemmas.{held-whole, inputs-below, maker-below, rows-end, rows-rise, first-paths, first-table, same-first, on-edge}
 use Rattle.nj_edges.proofs.GraphUsers.{held-users}
 use Rattle.nj_edges.proofs.RootLemmas.{roots-held}
 use Rattle.nj_edges.proofs.edges.Edges.finish.Goals as goal
 
-pub least_on_cycle-requires-clause-makers : goal.least_on_cycle-requires-clause-makers
-least_on_cycle-requires-clause-makers c =
+pub invariant_of-held : goal.invariant_of-held
+invariant_of-held c =
     let held = held-whole _ _ _ _ _ _ _ c.self.invariant.edges_are c.args.self c.self.view_is c.requires in
-    rw (c.deref-2.ensures.value, c.deref-3.ensures.value) (maker-below _ _ _ _ _ _ held)
+    let inputs = c.deref.ensures.value in
+    let rows = c.deref-2.ensures.value in
+    let makers = c.deref-3.ensures.value in
+    record {
+      rows_rise = rw rows (rows-rise _ _ _ _ _ _ held);
+      rows_within = rw (inputs, rows) (rows-end _ _ _ _ _ _ held);
+      files_known = rw (inputs, makers) (inputs-below _ _ _ _ _ _ held);
+      makers_known = rw (rows, makers) (maker-below _ _ _ _ _ _ held);
+    }
 
 pub invariant_of-result : goal.invariant_of-result
 invariant_of-result c =

@@ -1,7 +1,8 @@
 use Rattle.std.proofs.Common.{◌≡◌, ◌≤◌, ℕ, true, List, length, sym, ◌∙◌, arith}
+use Rattle.nj_cycles.specs.Cycles.{IsAcyclic}
 use Rattle.nj_needs.specs.Graphs.{makers_of, count_of, row_of}
 use Rattle.nj_needs.specs.Marks.{is_valid}
-use Rattle.nj_needs.specs.Needs.{IsAcyclic, AreWithin}
+use Rattle.nj_needs.specs.Needs.{AreWithin}
 use Rattle.nj_needs.specs.declared.looks.Looks.{Looks}
 use Rattle.nj_needs.proofs.Members.{Contains-from_Among}
 use Rattle.nj_needs.proofs.ResumeLemmas.{valid-short}

@@ -1,0 +1,47 @@
+//! Which edges make the inputs of edges, as the cycle check and walks ask for it.
+
+ghost use Rattle.std.specs.Prelude.{◌≡◌, ℕ, ◌<◌, ◌≤◌, Some, None, All, length, slice_index_or};
+ghost use Rattle.nj_edges.specs.Inside.EdgesHeld.{makers_in_rows};
+
+use crate::edges::EdgeRow;
+use crate::files::FileNo;
+use crate::graph::row_at;
+use crate::lists::part;
+use nj_cycles::EdgeInputs;
+
+/// The inputs of all edges, and the edge that makes each file.
+#[derive(Clone, Copy)]
+pub(crate) struct InputMakers<'a> {
+    pub(crate) inputs: &'a [FileNo],
+    pub(crate) rows: &'a [EdgeRow],
+    pub(crate) makers: &'a [Option<usize>],
+    ghost rows_rise: { All (λ row. row.inputs.start ≤ row.inputs.end) rows.now },
+    ghost rows_within: { All (λ row. row.inputs.end ≤ length inputs.now) rows.now },
+    ghost files_known: { All (λ file. file.0 < length makers.now) inputs.now },
+    ghost makers_known: { (file e : ℕ) → slice_index_or makers.now file None ≡ Some e
+        → e < length rows.now },
+}
+
+impl<'a> EdgeInputs for InputMakers<'a> {
+    ghost makers = { λ i. makers_in_rows i.inputs.now i.rows.now i.makers.now };
+
+    ghost count = { λ i. length i.rows.now };
+
+    fn edge_count(&self) -> usize {
+        self.rows.len()
+    }
+
+    fn maker_at(&self, edge: usize, index: usize) -> Option<Option<usize>> {
+        let row = row_at(self.rows, edge);
+        let file = *part(self.inputs, row.inputs.start, row.inputs.end).get(index)?;
+        Some(maker_of(self.makers, file))
+    }
+}
+
+/// The edge that makes a file.
+fn maker_of(makers: &[Option<usize>], file: FileNo) -> Option<usize>
+    requires { file.0 < length makers.now }
+    ensures { result ≡ slice_index_or makers.now file.0 None }
+{
+    makers[file.0]
+}
