@@ -54,10 +54,10 @@ returns-in_err-write_whole g c entries graph =
     let all = take_all c.targets.target-index c.args.targets.now (omega arith) in
     stops-with _ _ _ Write c.from_residual-in_err-write_whole.result c.from_residual-in_err-write_whole.ensures.1
     (FailsWithin-whole _ _ _ _ (own-front entries c.args.graph.now.built.graph c.args.targets.now c.targets.target-index)
-    (FailsWithin-waiting _ _ _ _ _ _ (c.targets.invariant.underway entries graph) c.in_err-write_whole.ensures c.deref.ensures.value))
+    (FailsWithin-waiting _ _ _ _ _ _ (c.targets.invariant.underway entries graph) c.in_err-write_whole.ensures c.deref-2.ensures.value))
 
 pub returns : goal.returns
 returns g c entries graph =
     let all = take_all c.targets.target-index c.args.targets.now (omega arith) in
     let lines = ap (λ files. command_lines entries (own_commands c.args.graph.now.built.graph files)) all in
-    subst (Takes _ _) lines (Takes-waiting _ _ _ _ _ _ (c.targets.invariant.underway entries graph) c.in_ok-write_whole.ensures c.deref.ensures.value)
+    subst (Takes _ _) lines (Takes-waiting _ _ _ _ _ _ (c.targets.invariant.underway entries graph) c.in_ok-write_whole.ensures c.deref-2.ensures.value)

@@ -1,5 +1,6 @@
 use Rattle.std.proofs.Common.{◌≡◌, ◌<◌, Some, None, length, ap, sym, ◌∙◌, arith, rules}
 use Rattle.nj_statements.specs.EdgeList.{edges_read}
+use Rattle.nj_edges.specs.EdgeGraphs.{EdgeGraph}
 use Rattle.nj_graph.specs.Graph.{edges_of}
 use Rattle.nj_tools.specs.declared.fault.ToolFault.TheVariants.{OutOfMemory}
 use Rattle.nj_tools.specs.Compdb.{compilation_of, objects_text, held_before}
@@ -21,7 +22,8 @@ returns-in_err-strings-clause-text g c entries graph =
 pub returns-in_default-clause-text : goal.returns-in_default-clause-text
 returns-in_default-clause-text g c entries graph =
     let count = count-is c.args.graph.now entries graph in
-    let below : c.edges.number < length (edges_read entries) = omega (arith, count) in
+    let counted : c.edge_count-number-end.result ≡ length (edges_of c.args.graph.now) = c.edge_count-number-end.ensures.count ∙ ap (λ (v : EdgeGraph). length v.edges) c.deref.ensures in
+    let below : c.edges.number < length (edges_read entries) = omega (arith, count, counted) in
     let passes = ap Some (sym c.if-has_object.true) ∙ c.has_object.ensures entries graph in
     let given = c.in_ok-strings.ensures entries graph in
     let none : None ≡ held_compilation (compilation_of entries c.args.expand c.edges.number) = search rules in
@@ -30,7 +32,8 @@ returns-in_default-clause-text g c entries graph =
 pub returns-in_default-clause-unheld : goal.returns-in_default-clause-unheld
 returns-in_default-clause-unheld g c entries graph =
     let count = count-is c.args.graph.now entries graph in
-    let below : c.edges.number < length (edges_read entries) = omega (arith, count) in
+    let counted : c.edge_count-number-end.result ≡ length (edges_of c.args.graph.now) = c.edge_count-number-end.ensures.count ∙ ap (λ (v : EdgeGraph). length v.edges) c.deref.ensures in
+    let below : c.edges.number < length (edges_read entries) = omega (arith, count, counted) in
     let passes = ap Some (sym c.if-has_object.true) ∙ c.has_object.ensures entries graph in
     let given = c.in_ok-strings.ensures entries graph in
     let none : None ≡ held_compilation (compilation_of entries c.args.expand c.edges.number) = search rules in
@@ -39,7 +42,8 @@ returns-in_default-clause-unheld g c entries graph =
 pub returns-in_err-write_object-clause-text : goal.returns-in_err-write_object-clause-text
 returns-in_err-write_object-clause-text g c entries graph =
     let count = count-is c.args.graph.now entries graph in
-    let below : c.edges.number < length (edges_read entries) = omega (arith, count) in
+    let counted : c.edge_count-number-end.result ≡ length (edges_of c.args.graph.now) = c.edge_count-number-end.ensures.count ∙ ap (λ (v : EdgeGraph). length v.edges) c.deref.ensures in
+    let below : c.edges.number < length (edges_read entries) = omega (arith, count, counted) in
     let passes = ap Some (sym c.if-has_object.true) ∙ c.has_object.ensures entries graph in
     let given = sym c.in-Some.is ∙ c.in_ok-strings.ensures entries graph in
     puts-with (g.S.Sink.state c.args.out.now) (g.S.Sink.state c.write_object.new.out) c.args.text.now.items c.write_object.new.text.items (objects_text c.args.directory.now (held_before entries c.args.chosen.now c.args.expand)) c.in_err-write_object.field-0.0 c.from_residual-in_err-write_object.result c.from_residual-in_err-write_object.ensures.1
@@ -48,7 +52,8 @@ returns-in_err-write_object-clause-text g c entries graph =
 pub edges-preserved : goal.edges-preserved
 edges-preserved g c entries graph =
     let count = count-is c.args.graph.now entries graph in
-    let below : c.edges.number < length (edges_read entries) = omega (arith, count) in
+    let counted : c.edge_count-number-end.result ≡ length (edges_of c.args.graph.now) = c.edge_count-number-end.ensures.count ∙ ap (λ (v : EdgeGraph). length v.edges) c.deref.ensures in
+    let below : c.edges.number < length (edges_read entries) = omega (arith, count, counted) in
     elim c.if-has_object.branch [
       | then-has_object+in_ok-strings+in-Some+in_ok-write_object w ↦
           let passes = ap Some (sym w.if-has_object.true) ∙ c.has_object.ensures entries graph in
@@ -64,13 +69,15 @@ edges-preserved g c entries graph =
 pub returns-clause-text : goal.returns-clause-text
 returns-clause-text g c entries graph =
     let count = count-is c.args.graph.now entries graph in
-    let all : c.edges.number ≡ length (edges_read entries) = omega (arith, count) in
+    let counted : c.edge_count-number-end.result ≡ length (edges_of c.args.graph.now) = c.edge_count-number-end.ensures.count ∙ ap (λ (v : EdgeGraph). length v.edges) c.deref.ensures in
+    let all : c.edges.number ≡ length (edges_read entries) = omega (arith, count, counted) in
     all-written entries _ _ c.args.directory.now _ _ _ _ _ _ (c.edges.invariant entries graph) all
 
 pub returns-clause-unheld : goal.returns-clause-unheld
 returns-clause-unheld g c entries graph =
     let count = count-is c.args.graph.now entries graph in
-    let all : c.edges.number ≡ length (edges_read entries) = omega (arith, count) in
+    let counted : c.edge_count-number-end.result ≡ length (edges_of c.args.graph.now) = c.edge_count-number-end.ensures.count ∙ ap (λ (v : EdgeGraph). length v.edges) c.deref.ensures in
+    let all : c.edges.number ≡ length (edges_read entries) = omega (arith, count, counted) in
     none-unheld entries _ _ c.args.directory.now _ _ _ _ _ _ (c.edges.invariant entries graph) all
 
 pub returns-in_err-write_object-clause-faults : goal.returns-in_err-write_object-clause-faults

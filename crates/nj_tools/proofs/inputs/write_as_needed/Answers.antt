@@ -33,8 +33,8 @@ returns-in_err-write_new_files g c =
     let i = c.edges.invariant in
     let edges = edges_of c.args.graph.now in
     let flagged : IsFlagged c.deref_mut.result.now i.files = rw c.deref_mut.ensures.value i.flags in
-    row-stops (print c.args.style) (files_of c.args.graph.now) c.file_count.ensures.each_path_once (λ n. inputs_of (edge_at edges n))
-    i.edges c.in-Some.edge.0 c.inputs.result.now i.files c.inputs.ensures.files c.inputs.ensures.known i.are
+    row-stops (print c.args.style) (files_of c.args.graph.now) (rw c.deref.ensures at c.file_count.ensures.each_path_once) (λ n. inputs_of (edge_at edges n))
+    i.edges c.in-Some.edge.0 c.inputs.result.now i.files (rw c.deref-in-Some.ensures at c.inputs.ensures.files) (rw c.deref-in-Some.ensures at c.inputs.ensures.known) i.are
     (commands_of c.args.graph.now.built.graph c.args.targets.now) c.next.new.self.left (i.all ∙ ap (λ es. i.edges ++ es) c.in-Some.ensures.next.first)
     _ _ _ _ c.edges.text.items _ c.in_err-write_new_files.field-0.0 c.from_residual-in_err-write_new_files.result c.from_residual-in_err-write_new_files.ensures.1
     i.underway (c.in_err-write_new_files.ensures.puts i.files flagged)
@@ -58,8 +58,8 @@ edges-preserved g c =
       count = ap length kept ∙ omega arith;
       files = with_files i.files row;
       flags = rw kept (c.in_ok-write_new_files.ensures.flags i.files flagged);
-      are = AreOf-row paths c.file_count.ensures.each_path_once (λ n. inputs_of (edge_at edges n)) i.edges e row i.files (with_files i.files row)
-          c.inputs.ensures.files c.inputs.ensures.known i.are refl;
+      are = AreOf-row paths (rw c.deref.ensures at c.file_count.ensures.each_path_once) (λ n. inputs_of (edge_at edges n)) i.edges e row i.files (with_files i.files row)
+          (rw c.deref-in-Some.ensures at c.inputs.ensures.files) (rw c.deref-in-Some.ensures at c.inputs.ensures.known) i.are refl;
       underway = row-puts (print c.args.style) paths row i.files _ _ _ _ c.edges.text.items _ i.underway (c.in_ok-write_new_files.ensures.puts i.files flagged);
     }
 

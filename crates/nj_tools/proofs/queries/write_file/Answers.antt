@@ -22,7 +22,7 @@ returns-in_err-write_line g c entries graph =
     let used = users_part edges (users_of edges at) in
     let validated = validated_section edges (validation_users_of edges at) in
     let result = c.from_residual.result in
-    let parts = file-parts entries c.args.graph.now c.args.file path (maker_of edges at) (users_of edges at) (validation_users_of edges at) c.path.ensures refl refl refl in
+    let parts = file-parts entries c.args.graph.now c.args.file path (maker_of edges at) (users_of edges at) (validation_users_of edges at) (rw c.deref.ensures at c.path.ensures) refl refl refl in
     subst (λ t. PutsText old new c.args.text.now.items c.write_line.new.text.items t result) parts
     (stops-first old new c.args.text.now.items c.write_line.new.text.items (line (path ++ codes ":")) (made ++ (used ++ validated))
     c.in_err-write_line.field-0.0 result c.from_residual.ensures.1 c.in_err-write_line.ensures)
@@ -40,7 +40,7 @@ returns-in_err-write_maker g c entries graph =
     let used = users_part edges (users_of edges at) in
     let validated = validated_section edges (validation_users_of edges at) in
     let result = c.from_residual-in_err-write_maker.result in
-    let parts = file-parts entries c.args.graph.now c.args.file path maker (users_of edges at) (validation_users_of edges at) c.path.ensures c.maker.ensures.maker refl refl in
+    let parts = file-parts entries c.args.graph.now c.args.file path maker (users_of edges at) (validation_users_of edges at) (rw c.deref.ensures at c.path.ensures) (rw c.deref-2.ensures at c.maker.ensures.maker) refl refl in
     subst (λ t. PutsText old new c.args.text.now.items c.write_maker.new.text.items t result) parts
     (puts-then old named new c.args.text.now.items c.write_line.new.text.items c.write_maker.new.text.items (line (path ++ codes ":")) (made ++ (used ++ validated)) result c.in_ok-write_line.ensures
     (stops-first named new c.write_line.new.text.items c.write_maker.new.text.items made (used ++ validated)
@@ -62,7 +62,7 @@ returns-in_err-write_line-2 g c entries graph =
     let validated = validated_section edges (validation_users_of edges at) in
     let result = c.from_residual-in_err-write_line-2.result in
     let fault = c.in_err-write_line-2.field-0.0 in
-    let parts = file-parts entries c.args.graph.now c.args.file path maker (users_of edges at) (validation_users_of edges at) c.path.ensures c.maker.ensures.maker refl refl in
+    let parts = file-parts entries c.args.graph.now c.args.file path maker (users_of edges at) (validation_users_of edges at) (rw c.deref.ensures at c.path.ensures) (rw c.deref-2.ensures at c.maker.ensures.maker) refl refl in
     subst (λ t. PutsText old new c.args.text.now.items c.write_line-2.new.text.items t result) parts
     (puts-then old named new c.args.text.now.items c.write_line.new.text.items c.write_line-2.new.text.items (line (path ++ codes ":")) (made ++ (used ++ validated)) result c.in_ok-write_line.ensures
     (puts-then named after_maker new c.write_line.new.text.items c.write_maker.new.text.items c.write_line-2.new.text.items made (used ++ validated) result (c.in_ok-write_maker.ensures entries graph)
@@ -87,7 +87,7 @@ returns-in_err-write_outputs g c entries graph =
     let validated = validated_section edges (validation_users_of edges at) in
     let result = c.from_residual-in_err-write_outputs.result in
     let fault = c.in_err-write_outputs.field-0.0 in
-    let parts = file-parts entries c.args.graph.now c.args.file path maker users (validation_users_of edges at) c.path.ensures c.maker.ensures.maker c.users.ensures.users refl in
+    let parts = file-parts entries c.args.graph.now c.args.file path maker users (validation_users_of edges at) (rw c.deref.ensures at c.path.ensures) (rw c.deref-2.ensures at c.maker.ensures.maker) (rw c.deref-3.ensures at c.users.ensures.users) refl in
     subst (λ t. PutsText old new c.args.text.now.items c.write_outputs.new.text.items t result) parts
     (puts-then old named new c.args.text.now.items c.write_line.new.text.items c.write_outputs.new.text.items (line (path ++ codes ":")) (made ++ (used ++ validated)) result c.in_ok-write_line.ensures
     (puts-then named after_maker new c.write_line.new.text.items c.write_maker.new.text.items c.write_outputs.new.text.items made (used ++ validated) result (c.in_ok-write_maker.ensures entries graph)
@@ -112,7 +112,7 @@ returns g c entries graph =
     let used = users_part edges users in
     let validated = validated_section edges validation_users in
     let result = c.write_validated.result in
-    let parts = file-parts entries c.args.graph.now c.args.file path maker users validation_users c.path.ensures c.maker.ensures.maker c.users.ensures.users c.validation_users.ensures.users in
+    let parts = file-parts entries c.args.graph.now c.args.file path maker users validation_users (rw c.deref.ensures at c.path.ensures) (rw c.deref-2.ensures at c.maker.ensures.maker) (rw c.deref-3.ensures at c.users.ensures.users) (rw c.deref-4.ensures at c.validation_users.ensures.users) in
     subst (λ t. PutsText old new c.args.text.now.items c.write_validated.new.text.items t result) parts
     (puts-then old named new c.args.text.now.items c.write_line.new.text.items c.write_validated.new.text.items (line (path ++ codes ":")) (made ++ (used ++ validated)) result c.in_ok-write_line.ensures
     (puts-then named after_maker new c.write_line.new.text.items c.write_maker.new.text.items c.write_validated.new.text.items made (used ++ validated) result (c.in_ok-write_maker.ensures entries graph)

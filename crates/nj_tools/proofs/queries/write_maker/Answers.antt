@@ -61,7 +61,7 @@ returns g c entries graph =
     let edge = c.in-Some.edge.0 in
     let name = c.rule_name.result.now ++ [] in
     let validations = map (path_at (files_of c.args.graph.now)) c.validations.result.now in
-    let are = paths-are (files_of c.args.graph.now) c.validations.result.now (edge_at edges edge).validations c.validations.ensures.files in
+    let are = paths-are (files_of c.args.graph.now) c.validations.result.now (edge_at edges edge).validations (rw c.deref.ensures at c.validations.ensures.files) in
     let result = c.write_validations.result in
     let parts = maker-parts entries edges edge name validations (append-nil c.rule_name.result.now ∙ c.rule_name.ensures.stated entries graph) are ∙ sym (ap (maker_text entries edges) (ap (option_map number_of) c.in-Some.is)) in
     subst (λ t. PutsText old new c.args.text.now.items c.write_validations.new.text.items t result) parts

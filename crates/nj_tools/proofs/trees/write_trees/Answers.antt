@@ -23,9 +23,9 @@ files-init g c =
         [],
         puts-nothing _ _,
         first-rows entries (edges_of c.args.graph.now) files (c.levels_below-below.result + 1) c.args.depth c.push.new.self.items c.roots.result
-            (graph-edges graph) c.levels_below-below.ensures is c.roots.ensures.files,
+            (graph-edges graph) c.levels_below-below.ensures is (rw c.deref.ensures at c.roots.ensures.files),
       );
-      known = subst (AreKnown files) (sym is) (known-one files c.roots.result c.roots.ensures.known);
+      known = subst (AreKnown files) (sym is) (known-one files c.roots.result (rw c.deref.ensures at c.roots.ensures.known));
       levels = omega (arith, count);
     }
 
