@@ -1,6 +1,6 @@
 //! What the statements of a run declare.
 
-ghost use Rattle.std.specs.Prelude.{◌≡◌, ℕ, ◌+◌, ◌<◌, List, [], ◌∷◌, Some, None, true, false, length, not, IfOk, OnOk, OnErr, IfSome};
+ghost use Rattle.std.specs.Prelude.{◌≡◌, ℕ, ◌+◌, ◌<◌, List, [], ◌∷◌, ◌++◌, Some, None, true, false, length, not, IfOk, OnOk, OnErr, IfSome};
 ghost use Rattle.nj_text.specs.declared.spot.Spot.{Spot};
 ghost use Rattle.nj_text.specs.Words.{WordText, word_text};
 ghost use Rattle.nj_manifest.specs.Contents.{lines_text};
@@ -161,6 +161,22 @@ impl Declarations {
             ≡ expanded (value_after entries (scope ∷ around)) (word_text word.now).parts) }
     {
         self.scopes.expand(alloc, scope, word)
+    }
+
+    /// Appends to the text what the word says in this scope, by what is bound so far.
+    pub fn append_expanded(
+        &self,
+        scope: usize,
+        word: &Word<'_>,
+        text: &mut Vec<u8>,
+    ) -> Result<(), AllocError>
+        requires { scope < length self.now.scopes }
+        ensures { (entries : List ReadStatement) (around : List ℕ) → DeclaredBy self.now entries
+            → IsScope (parent_at self.now.scopes) scope (scope ∷ around)
+            → OnOk result (text.new.items ≡ text.old.items
+            ++ expanded (value_after entries (scope ∷ around)) (word_text word.now).parts) }
+    {
+        self.scopes.append_expanded(scope, word, text)
     }
 
     /// The value of the name in this scope, by what is bound so far. An unknown name is empty.

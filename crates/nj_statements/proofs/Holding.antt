@@ -214,18 +214,22 @@ holds-build old new e before outputs rule inputs lines d dyndep holds adds block
     edge : EdgeText
     edge = edge_of_build (fresh e) before outputs rule inputs lines
 
+-- the edge that would be read next binds nothing
+pub no-block : (held : BuildingText) (before : List ReadStatement) (edge : ℕ) → HoldsEdges held before → edge ≡ length held.details → (name : List ℕ) → bound_in held.blocks edge name ≡ None
+no-block held before edge holds is name = holds.blocks edge name ∙ ap (λ o. bound-by o name) (slice_get_past (edges_read before) edge (omega (arith, is, count)))
+  where
+    count : length held.details ≡ length (edges_read before)
+    count = details-count held.names held.details (edges_read before) holds.details
+
 -- what the block of the edge that is being read binds
 pub open-block : (old : BuildingText) (before : List ReadStatement) (block : Block) (new : BlocksText) (edge : ℕ) → HoldsEdges old before → edge ≡ length old.details
     → ((n : ℕ) (name : List ℕ) → bound_in new n name ≡ (if n == edge then or_else (block name) (bound_in old.blocks n name) else bound_in old.blocks n name))
     → (name : List ℕ) → bound_in new edge name ≡ block name
 open-block old before block new edge holds is bound name =
     bound edge name ∙ by (eqb_tells edge edge)
-    ∙ ap (or_else (block name)) (holds.blocks edge name ∙ ap (λ o. bound-by o name) (slice_get_past (edges_read before) edge (omega (arith, is, count))))
+    ∙ ap (or_else (block name)) (no-block old before edge holds is name)
     ∙ with-none (block name)
   where
-    count : length old.details ≡ length (edges_read before)
-    count = details-count old.names old.details (edges_read before) holds.details
-
     with-none : (o : Option (List ℕ)) → or_else o None ≡ o
     with-none (Some x) = refl
     with-none None = refl

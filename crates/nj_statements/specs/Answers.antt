@@ -1,30 +1,21 @@
 -- What the reading of a statement answers, and how what is read is held.
-use Rattle.std.specs.Prelude.{◌≡◌, ◌⊎◌, ℕ, Bool, true, false, if◌then◌else◌, Option, Some, None, option_map, Result, Ok, Err}
-use Rattle.std.specs.Prelude.{List, [], ◌∷◌, ◌++◌, ◌+◌, ◌<◌, ◌≤◌, map, length, slice_get, slice_index_or, bytes_eq}
+use Rattle.std.specs.Prelude.{◌≡◌, ◌⊎◌, ℕ, Option, Some, None, Result, Ok, Err}
+use Rattle.std.specs.Prelude.{List, [], ◌∷◌, ◌<◌, map, length, slice_get, slice_index_or}
 use Rattle.nj_text.specs.declared.spot.Spot.{Spot}
-use Rattle.nj_manifest.specs.Statements.{InputsText, StatementText}
-use Rattle.nj_scope.specs.Rules.{RuleText, phony}
+use Rattle.nj_manifest.specs.Statements.{StatementText}
+use Rattle.nj_scope.specs.Rules.{RuleText}
 use Rattle.nj_scope.specs.Readings.{IsPrefix}
-use Rattle.nj_scope.specs.Scopes.{IsScope, parent_at}
-use Rattle.nj_scope.specs.Declarations.{DeclarationsText, DeclaredBy}
-use Rattle.nj_scope.specs.ReadingList.{ReadStatement, value_after, rule_texts}
+use Rattle.nj_scope.specs.ReadingList.{ReadStatement, rule_texts}
 use Rattle.nj_edge_env.specs.Blocks.{BlocksText, bound_in}
 use Rattle.nj_edges.specs.declared.files.FileNo.{FileNo}
-use Rattle.nj_edges.specs.Edges.{EdgePaths, is_among}
-use Rattle.nj_edges.specs.EdgeTables.{EdgeTable, no_files, with_output, with_input, with_validation}
+use Rattle.nj_edges.specs.EdgeTables.{EdgeTable, no_files}
 use Rattle.nj_edges.specs.Files.{AreFiles}
 use Rattle.nj_faults.specs.declared.fault.GraphFault.{GraphFault}
 use Rattle.nj_faults.specs.Faults.{no_memory}
-use Rattle.nj_edge_env.specs.declared.edge.LateEdge.{LateEdge}
-use Rattle.nj_edge_env.specs.LateTexts.{LateNames}
-use Rattle.nj_edge_env.specs.LateEdges.{late_names}
 use Rattle.nj_edge_env.specs.ReferencesHeld.{ReferringKeyText, TellsCycles}
-use Rattle.nj_statements.specs.declared.names.Names.{Names}
-use Rattle.nj_statements.specs.declared.names.EdgeBlock.{EdgeBlock}
-use Rattle.nj_statements.specs.declared.building.Detail.{Detail}
 use Rattle.nj_statements.specs.declared.building.DyndepEdge.{DyndepEdge}
 use Rattle.nj_statements.specs.declared.place.StatementPlace.{StatementPlace}
-use Rattle.nj_statements.specs.EdgeList.{Values, Block, EdgeText, Pending, on_line, paths_said, edges_read, paths_of_edges, defaults_read, pending_read, no_block, block_at}
+use Rattle.nj_statements.specs.EdgeList.{EdgeText, Pending, edges_read, paths_of_edges, defaults_read, pending_read, block_at}
 
 -- ---- faults
 

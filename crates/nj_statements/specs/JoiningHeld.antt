@@ -1,26 +1,15 @@
 -- How edges are held to which dyndep files are joined. Nothing here has to be believed.
-use Rattle.std.specs.Prelude.{◌≡◌, ℕ, ◌+◌, ◌<◌, ◌≤◌, ◌==◌, Bool, true, false, not, if◌then◌else◌, Option, Some, None, option_map, unwrap_or, IfSome}
-use Rattle.std.specs.Prelude.{Result, Ok, Err, List, [], ◌∷◌, ◌++◌, map, filter, length, set, slice_get, slice_index_or, bytes_eq}
-use Rattle.std.specs.List.{AllByRecursion, IsDistinct}
-use Rattle.nj_text.specs.Words.{WordText}
+use Rattle.std.specs.Prelude.{◌≡◌, ℕ, ◌+◌, Bool, true, false, Option, Some, None}
+use Rattle.std.specs.Prelude.{Result, Ok, Err, List, [], ◌∷◌, ◌++◌, map, bytes_eq}
+use Rattle.std.specs.List.{IsDistinct}
 use Rattle.nj_scope.specs.Readings.{IsPrefix}
 use Rattle.nj_scope.specs.ReadingList.{ReadStatement}
 use Rattle.nj_edge_env.specs.Blocks.{BlocksText, bound_in}
-use Rattle.nj_edges.specs.declared.files.FileNo.{FileNo}
-use Rattle.nj_edges.specs.Edges.{EdgePaths, first_output, maker_of}
-use Rattle.nj_edges.specs.Inside.EdgesHeld.{AreNumbers, paths_at}
-use Rattle.nj_edges.specs.Files.{path_at}
-use Rattle.nj_edges.specs.Joining.{JoinTable, none_added, with_added_output, with_added_input, is_joined}
+use Rattle.nj_edges.specs.Joining.{JoinTable, none_added}
 use Rattle.nj_faults.specs.declared.fault.GraphFault.{GraphFault}
-use Rattle.nj_faults.specs.declared.fault.Cause.TheVariants.{DyndepExtra, DyndepTwice, DyndepNoStatement}
-use Rattle.nj_faults.specs.Faults.{fault_at}
-use Rattle.nj_statements.specs.declared.building.Detail.{Detail}
-use Rattle.nj_statements.specs.declared.building.DyndepEdge.{DyndepEdge}
-use Rattle.nj_statements.specs.EdgeList.{Pending, path_said, edges_read, paths_of_edges, defaults_read, pending_read, block_at}
-use Rattle.nj_statements.specs.BuildFaults.{fault_if}
+use Rattle.nj_statements.specs.EdgeList.{Pending, edges_read, paths_of_edges, defaults_read, pending_read, block_at}
 use Rattle.nj_statements.specs.Built.{EdgeDetail, detail_of}
-use Rattle.nj_statements.specs.Inside.BuiltHeld.{detail_named, pending_named}
-use Rattle.nj_statements.specs.Joining.{no_values, dyndep_files}
+use Rattle.nj_statements.specs.Joining.{dyndep_files}
 use Rattle.nj_statements.specs.Answers.{IsFault}
 
 -- ---- the edges that wait

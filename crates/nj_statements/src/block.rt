@@ -1,13 +1,13 @@
 //! The blocks of build statements.
 
-ghost use Rattle.std.specs.Prelude.{◌≡◌, ℕ, ◌<◌, ◌≤◌, ◌==◌, if◌then◌else◌, List, length, OnOk};
+ghost use Rattle.std.specs.Prelude.{◌≡◌, ℕ, ◌<◌, ◌≤◌, ◌==◌, if◌then◌else◌, List, ◌∷◌, length, OnOk};
 ghost use Rattle.nj_manifest.specs.Contents.{lines_text};
-ghost use Rattle.nj_scope.specs.Scopes.{or_else};
+ghost use Rattle.nj_scope.specs.Scopes.{or_else, IsScope, parent_at};
+ghost use Rattle.nj_scope.specs.Declarations.{DeclaredBy};
+ghost use Rattle.nj_scope.specs.ReadingList.{ReadStatement, value_after};
 ghost use Rattle.nj_edge_env.specs.Blocks.{bound_in};
-ghost use Rattle.nj_statements.specs.EdgeList.{Values, block_of, no_block};
-ghost use Rattle.nj_statements.specs.Inside.EdgeSteps.{Sees};
+ghost use Rattle.nj_statements.specs.EdgeList.{block_of};
 
-use crate::names::Names;
 use nj_edge_env::Blocks;
 use nj_manifest::Line;
 use nj_scope::Declarations;
@@ -24,21 +24,20 @@ pub(crate) fn bind_block(
 ) -> Result<(), AllocError>
     requires scope { scope < length declarations.now.scopes }
     requires last { blocks.old.last ≤ edge }
-    ensures bound { (values : Values) → Sees declarations.now scope no_block values
+    ensures bound { (entries : List ReadStatement) (around : List ℕ)
+        → DeclaredBy declarations.now entries
+        → IsScope (parent_at declarations.now.scopes) scope (scope ∷ around)
         → OnOk result ((e : ℕ) (name : List ℕ) → bound_in blocks.new e name
-        ≡ (if e == edge then or_else (block_of values (lines_text lines.now) name)
-        (bound_in blocks.old e name) else bound_in blocks.old e name)) }
+        ≡ (if e == edge then or_else (block_of (value_after entries (scope ∷ around))
+        (lines_text lines.now) name) (bound_in blocks.old e name)
+        else bound_in blocks.old e name)) }
     ensures others { (e : ℕ) (name : List ℕ) → e < edge
         → bound_in blocks.new e name ≡ bound_in blocks.old e name }
     ensures last { blocks.new.last ≤ edge }
 {
-    let names = Names {
-        declarations,
-        scope,
-        block: None,
-    };
     'lines: for line in lines {
-        names.expand(text, &line.value)?;
+        text.clear();
+        declarations.append_expanded(scope, &line.value, text)?;
         blocks.bind(edge, line.name, text.as_slice())?;
     }
     Ok(())

@@ -14,10 +14,11 @@ ghost use Rattle.nj_statements.specs.Answers.{Checks, HoldsEdges, AddsNothing, R
 ghost use Rattle.nj_statements.specs.Inside.EdgeSteps.{SeesNames, AddsTargets, with_dyndep};
 
 use crate::block::bind_block;
-use crate::edge::{EdgeRule, NamedLine, add_edge};
-use crate::names::{EdgeBlock, Names, Room};
+use crate::context::Context;
+use crate::edge::add_edge;
 use crate::place::StatementPlace;
-use crate::references::{NumberedRule, keep_references, rule_references};
+use crate::references::{UsedRule, keep_references, rule_references};
+use crate::room::Room;
 use nj_edge_env::{Blocks, KeyReferences};
 use nj_edges::{Edges, FileNo, Files};
 use nj_faults::{Cause, GraphFault, Name};
@@ -142,7 +143,7 @@ impl Building {
         declarations: &Declarations,
         place: StatementPlace<'_>,
         build: &Build<'_>,
-        rule: NumberedRule<'_>,
+        rule: UsedRule<'_>,
     ) -> Result<(), GraphFault>
         requires { place.scope < length declarations.now.scopes }
         ensures reads { (entries : List ReadStatement) (around : List ℕ) (depth : ℕ)
@@ -177,27 +178,22 @@ impl Building {
             edge,
             build.lines.as_slice(),
         )?;
-        let block = EdgeBlock {
+        let context = Context {
+            alloc,
+            place,
+            declarations,
             blocks: &self.block_values,
             edge,
         };
-        let names = Names {
-            declarations,
-            scope: place.scope,
-            block: Some(block),
-        };
-        let line = NamedLine {
-            alloc,
-            place,
-            names,
-        };
-        let used = EdgeRule {
-            rule: rule.rule,
-            is_phony: rule.number == PHONY,
-            references: rule_references(&self.references, rule.number),
-            block,
-        };
-        let dyndep = add_edge(line, &mut self.room, &mut self.edges, build, used)?;
+        let references = rule_references(&self.references, rule.number);
+        let dyndep = add_edge(
+            context,
+            &mut self.room,
+            &mut self.edges,
+            build,
+            rule,
+            references,
+        )?;
         push_dyndep(&mut self.dyndeps, edge, dyndep);
         self.details.push_reserved(Detail {
             file,
@@ -232,18 +228,21 @@ impl Building {
             e entries result }
         ensures refused { OnErr result (self.new ≡ self.old) }
     {
-        let names = Names {
-            declarations,
-            scope: place.scope,
-            block: None,
-        };
-        let line = NamedLine {
+        let context = Context {
             alloc,
             place,
-            names,
+            declarations,
+            blocks: &self.block_values,
+            edge: self.details.as_slice().len(),
         };
         let count = self.defaults.as_slice().len();
-        match add_targets(line, &mut self.room, &self.edges, &mut self.defaults, words) {
+        match add_targets(
+            context,
+            &mut self.room,
+            &self.edges,
+            &mut self.defaults,
+            words,
+        ) {
             Ok(()) => Ok(()),
             Err(fault) => {
                 self.defaults.truncate(count);
@@ -265,35 +264,30 @@ fn push_dyndep(dyndeps: &mut Vec<DyndepEdge>, edge: usize, file: Option<FileNo>)
 
 // Appends the files that words name, each of which an earlier edge has to name.
 fn add_targets(
-    line: NamedLine<'_, '_, '_>,
+    context: Context<'_>,
     room: &mut Room,
     edges: &Edges,
     targets: &mut Vec<FileNo>,
     words: &[Word<'_>],
 ) -> Result<(), GraphFault>
-    requires { line.names.scope < length line.names.declarations.now.scopes }
-    ensures fault { (values : Values) → SeesNames line.entry.names values
+    ensures fault { (values : Values) → SeesNames context.entry values
         → edges.now.«open» ≡ no_files
-        → Checks (first_fault (target_fault line.entry.place.file.now values edges.now.edges)
+        → Checks (first_fault (target_fault context.entry.place.file.now values edges.now.edges)
         (words_text words.now)) result }
-    ensures added { (values : Values) → SeesNames line.entry.names values
+    ensures added { (values : Values) → SeesNames context.entry values
         → OnOk result (AddsTargets edges.now.files targets.old.items targets.new.items
         (paths_said values (words_text words.now))) }
     ensures kept { IsPrefix targets.old.items targets.new.items }
 {
     'words: for word in words {
-        let file = line.named_file(room, edges, word)?;
+        let file = context.named_file(room, edges, word)?;
         targets.push(file)?;
     }
     Ok(())
 }
 
 // The rule that is in force under the name in this scope.
-fn rule_named<'a>(
-    declarations: &'a Declarations,
-    scope: usize,
-    name: &[u8],
-) -> Option<NumberedRule<'a>>
+fn rule_named<'a>(declarations: &'a Declarations, scope: usize, name: &[u8]) -> Option<UsedRule<'a>>
     requires { scope < length declarations.now.scopes }
     ensures number { (entries : List ReadStatement) (around : List ℕ)
         → DeclaredBy declarations.now entries
@@ -304,5 +298,5 @@ fn rule_named<'a>(
 {
     let number = declarations.rule(scope, name)?;
     let rule = declarations.rules().get(number)?;
-    Some(NumberedRule { number, rule })
+    Some(UsedRule { number, rule })
 }

@@ -1,6 +1,6 @@
 //! The files that a build statement names.
 
-ghost use Rattle.std.specs.Prelude.{◌≡◌, ◌<◌, ◌≤◌, ◌+◌, ◌++◌, ◌∷◌, false, Some, length, slice_get, codes, IfOk, OnOk, OnErr};
+ghost use Rattle.std.specs.Prelude.{◌≡◌, ◌==◌, ◌<◌, ◌≤◌, ◌+◌, ◌++◌, ◌∷◌, false, Some, length, slice_get, codes, IfOk, OnOk, OnErr};
 ghost use Rattle.nj_text.specs.Words.{word_text};
 ghost use Rattle.nj_manifest.specs.Contents.{words_text, outputs_text, inputs_text};
 ghost use Rattle.nj_scope.specs.ReadingList.{value_after, pools};
@@ -14,47 +14,16 @@ ghost use Rattle.nj_statements.specs.BuildFaults.{or_then, empty_path, first_fau
 ghost use Rattle.nj_statements.specs.Answers.{Checks, KeepsRead};
 ghost use Rattle.nj_statements.specs.Inside.EdgeSteps.{SeesNames, IsFileSaid, bound_by, Grows, AddsInputs, AddsEdge, names_read, with_outputs, with_input_unless, with_inputs, with_validations};
 
-use crate::late::LateLine;
-use crate::names::{EdgeBlock, Names, Room};
-use crate::place::StatementPlace;
+use crate::context::Context;
+use crate::references::{PHONY, UsedRule};
+use crate::room::Room;
 use nj_edge_env::{KeyReferences, LateEdge};
 use nj_edges::{Edges, FileNo, KindEnds};
 use nj_faults::{Cause, GraphFault, Name};
 use nj_manifest::{Build, Word};
-use nj_scope::{Declarations, Rule};
-use nj_text::{Spot, TextFault};
-use std::alloc::{AllocError, Global};
+use std::alloc::AllocError;
 
-/// A line that is read: where it stands, and the names on it.
-#[derive(Clone, Copy)]
-pub(crate) struct NamedLine<'p, 'd, 'b> {
-    pub(crate) alloc: Global,
-    pub(crate) place: StatementPlace<'p>,
-    pub(crate) names: Names<'d, 'b>,
-}
-
-impl NamedLine<'_, '_, '_> {
-    /// The path that a word says.
-    pub(crate) fn path<'w>(
-        self,
-        room: &'w mut Room,
-        word: &'w Word<'_>,
-    ) -> Result<&'w [u8], GraphFault>
-        requires { self.names.scope < length self.names.declarations.now.scopes }
-        ensures path { (values : Values) → SeesNames self.entry.names values
-            → IfOk result (λ path. path.now ≡ path_said values (word_text word.now)) }
-        ensures fault { (values : Values) → SeesNames self.entry.names values
-            → Checks (empty_path self.entry.place.file.now values (word_text word.now)) result }
-    {
-        match self.names.path(room, word) {
-            Ok(path) => Ok(path),
-            Err(TextFault::EmptyPath) => {
-                Err(self.place.fault(self.alloc, word.spot, Cause::EmptyPath))
-            }
-            Err(TextFault::OutOfMemory) => Err(GraphFault::out_of_memory()),
-        }
-    }
-
+impl Context<'_> {
     /// The file that a word names, which an earlier edge has to name.
     pub(crate) fn named_file(
         self,
@@ -62,12 +31,11 @@ impl NamedLine<'_, '_, '_> {
         edges: &Edges,
         word: &Word<'_>,
     ) -> Result<FileNo, GraphFault>
-        requires { self.names.scope < length self.names.declarations.now.scopes }
-        ensures fault { (values : Values) → SeesNames self.entry.names values
+        ensures fault { (values : Values) → SeesNames self.entry values
             → edges.now.«open» ≡ no_files
             → Checks (target_fault self.entry.place.file.now values edges.now.edges
             (word_text word.now)) result }
-        ensures file { (values : Values) → SeesNames self.entry.names values
+        ensures file { (values : Values) → SeesNames self.entry values
             → IfOk result (λ file. slice_get edges.now.files file.0
             ≡ Some (path_said values (word_text word.now))) }
     {
@@ -89,11 +57,10 @@ impl NamedLine<'_, '_, '_> {
         edges: &mut Edges,
         words: &[Word<'_>],
     ) -> Result<(), GraphFault>
-        requires { self.names.scope < length self.names.declarations.now.scopes }
-        ensures fault { (values : Values) → SeesNames self.entry.names values
+        ensures fault { (values : Values) → SeesNames self.entry values
             → Checks (outputs_fault self.entry.place.file.now values edges.old.edges
             edges.old.«open».outputs (words_text words.now)) result }
-        ensures added { (values : Values) → SeesNames self.entry.names values
+        ensures added { (values : Values) → SeesNames self.entry values
             → OnOk result (edges.new
             ≡ with_outputs edges.old (paths_said values (words_text words.now))) }
         ensures grows { OnOk result (Grows (length words.now) edges.old edges.new) }
@@ -118,11 +85,10 @@ impl NamedLine<'_, '_, '_> {
         words: &[Word<'_>],
         loses_own: bool,
     ) -> Result<(), GraphFault>
-        requires { self.names.scope < length self.names.declarations.now.scopes }
-        ensures fault { (values : Values) → SeesNames self.entry.names values
+        ensures fault { (values : Values) → SeesNames self.entry values
             → Checks (first_fault (empty_path self.entry.place.file.now values)
             (words_text words.now)) result }
-        ensures added { (values : Values) → SeesNames self.entry.names values
+        ensures added { (values : Values) → SeesNames self.entry values
             → OnOk result (edges.new
             ≡ with_inputs loses_own edges.old (paths_said values (words_text words.now))) }
         ensures grows { OnOk result (Grows 0 edges.old edges.new) }
@@ -143,11 +109,10 @@ impl NamedLine<'_, '_, '_> {
         edges: &mut Edges,
         words: &[Word<'_>],
     ) -> Result<(), GraphFault>
-        requires { self.names.scope < length self.names.declarations.now.scopes }
-        ensures fault { (values : Values) → SeesNames self.entry.names values
+        ensures fault { (values : Values) → SeesNames self.entry values
             → Checks (first_fault (empty_path self.entry.place.file.now values)
             (words_text words.now)) result }
-        ensures added { (values : Values) → SeesNames self.entry.names values
+        ensures added { (values : Values) → SeesNames self.entry values
             → OnOk result (edges.new
             ≡ with_validations edges.old (paths_said values (words_text words.now))) }
         ensures grows { OnOk result (Grows 0 edges.old edges.new) }
@@ -177,17 +142,16 @@ fn add_input(edges: &mut Edges, path: &[u8], loses_own: bool) -> Result<(), Allo
 // Appends all outputs of a build statement to the edge that is being read.
 #[tactic(auto, using(crate::proofs::Keeps::keeps_then))]
 fn add_all_outputs(
-    line: NamedLine<'_, '_, '_>,
+    context: Context<'_>,
     room: &mut Room,
     edges: &mut Edges,
     build: &Build<'_>,
 ) -> Result<(), GraphFault>
-    requires { line.names.scope < length line.names.declarations.now.scopes }
-    ensures fault { (values : Values) → SeesNames line.entry.names values
-        → Checks (outputs_fault line.entry.place.file.now values edges.old.edges
+    ensures fault { (values : Values) → SeesNames context.entry values
+        → Checks (outputs_fault context.entry.place.file.now values edges.old.edges
         edges.old.«open».outputs ((outputs_text build.now).explicit
         ++ (outputs_text build.now).implicit)) result }
-    ensures added { (values : Values) → SeesNames line.entry.names values
+    ensures added { (values : Values) → SeesNames context.entry values
         → OnOk result (edges.new ≡ with_outputs (with_outputs edges.old
         (paths_said values (outputs_text build.now).explicit))
         (paths_said values (outputs_text build.now).implicit)) }
@@ -195,24 +159,23 @@ fn add_all_outputs(
         + length build.now.implicit_outs.items) edges.old edges.new) }
     ensures keeps { KeepsRead edges.old edges.new }
 {
-    line.add_outputs(room, edges, build.explicit_outs.as_slice())?;
-    line.add_outputs(room, edges, build.implicit_outs.as_slice())
+    context.add_outputs(room, edges, build.explicit_outs.as_slice())?;
+    context.add_outputs(room, edges, build.implicit_outs.as_slice())
 }
 
 // Appends all inputs and validations of a build statement to the edge that is being read. Returns
 // where its explicit inputs end, and its implicit ones.
 #[tactic(auto, using(crate::proofs::Keeps::keeps_then))]
 fn add_all_inputs(
-    line: NamedLine<'_, '_, '_>,
+    context: Context<'_>,
     room: &mut Room,
     edges: &mut Edges,
     build: &Build<'_>,
     loses_own: bool,
 ) -> Result<(usize, usize), GraphFault>
-    requires { line.names.scope < length line.names.declarations.now.scopes }
-    ensures fault { (values : Values) → SeesNames line.entry.names values
-        → Checks (inputs_fault line.entry.place.file.now values (inputs_text build.now)) result }
-    ensures added { (values : Values) → SeesNames line.entry.names values
+    ensures fault { (values : Values) → SeesNames context.entry values
+        → Checks (inputs_fault context.entry.place.file.now values (inputs_text build.now)) result }
+    ensures added { (values : Values) → SeesNames context.entry values
         → IfOk result (λ ends. AddsInputs loses_own values (inputs_text build.now)
         edges.old edges.new ends) }
     ensures within { IfOk result (λ ends. (ends.0 ≤ ends.1)
@@ -220,41 +183,30 @@ fn add_all_inputs(
     ensures grows { OnOk result (Grows 0 edges.old edges.new) }
     ensures keeps { KeepsRead edges.old edges.new }
 {
-    line.add_inputs(room, edges, build.explicit.as_slice(), loses_own)?;
+    context.add_inputs(room, edges, build.explicit.as_slice(), loses_own)?;
     let explicit = edges.open_inputs();
-    line.add_inputs(room, edges, build.implicit.as_slice(), loses_own)?;
+    context.add_inputs(room, edges, build.implicit.as_slice(), loses_own)?;
     let implicit = edges.open_inputs();
-    line.add_inputs(room, edges, build.order_only.as_slice(), loses_own)?;
-    line.add_validations(room, edges, build.validations.as_slice())?;
+    context.add_inputs(room, edges, build.order_only.as_slice(), loses_own)?;
+    context.add_validations(room, edges, build.validations.as_slice())?;
     Ok((explicit, implicit))
-}
-
-/// The rule of an edge that is read, and its block.
-#[derive(Clone, Copy)]
-pub(crate) struct EdgeRule<'r, 'b> {
-    pub(crate) rule: &'r Rule,
-    pub(crate) is_phony: bool,
-    /// Which of its variables refer to which.
-    pub(crate) references: &'r KeyReferences,
-    pub(crate) block: EdgeBlock<'b>,
 }
 
 // Reads the files of a build statement into the edge that is being read. Returns where its kinds
 // end.
 #[tactic(auto, using(crate::proofs::Keeps::keeps_then))]
 fn add_files(
-    line: NamedLine<'_, '_, '_>,
+    context: Context<'_>,
     room: &mut Room,
     edges: &mut Edges,
     build: &Build<'_>,
     is_phony: bool,
 ) -> Result<KindEnds, GraphFault>
-    requires { line.names.scope < length line.names.declarations.now.scopes }
-    ensures fault { (values : Values) → SeesNames line.entry.names values
+    ensures fault { (values : Values) → SeesNames context.entry values
         → edges.old.«open» ≡ no_files
-        → Checks (paths_fault line.entry.place.file.now values edges.old.edges
+        → Checks (paths_fault context.entry.place.file.now values edges.old.edges
         (outputs_text build.now) (inputs_text build.now)) result }
-    ensures named { (values : Values) → SeesNames line.entry.names values
+    ensures named { (values : Values) → SeesNames context.entry values
         → edges.old.«open» ≡ no_files
         → IfOk result (λ kinds. edge_read edges.new.«open» kinds is_phony ≡ edge_paths
         (stated_paths values (outputs_text build.now) (inputs_text build.now)
@@ -263,9 +215,11 @@ fn add_files(
         (length edges.new.«open».inputs)) }
     ensures keeps { KeepsRead edges.old edges.new }
 {
-    add_all_outputs(line, room, edges, build)?;
+    add_all_outputs(context, room, edges, build)?;
     let loses_own = loses_own(build, is_phony);
-    let (explicit_inputs, implicit_inputs) = add_all_inputs(line, room, edges, build, loses_own)?;
+    let (explicit_inputs, implicit_inputs) = add_all_inputs(
+        context, room, edges, build, loses_own,
+    )?;
     Ok(KindEnds {
         explicit_outputs: build.explicit_outs.as_slice().len(),
         explicit_inputs,
@@ -275,30 +229,28 @@ fn add_files(
 
 // The edge that is being read, with these ends of its kinds, for its late texts.
 fn late_edge<'a>(
-    declarations: &'a Declarations,
-    scope: usize,
+    context: Context<'a>,
     edges: &'a Edges,
     kinds: KindEnds,
-    rule: EdgeRule<'a, 'a>,
+    rule: UsedRule<'a>,
 ) -> LateEdge<'a>
-    requires scope { scope < length declarations.now.scopes }
-    requires kinds { EndWithin kinds (length edges.now.«open».outputs)
+    requires { EndWithin kinds (length edges.now.«open».outputs)
         (length edges.now.«open».inputs) }
-    ensures declarations { result.declarations.now ≡ declarations.now }
-    ensures scope { result.scope ≡ scope }
+    ensures declarations { result.declarations.now ≡ context.entry.declarations.now }
+    ensures scope { result.scope ≡ context.entry.place.scope }
     ensures names { (file : Values) → late_names result file
-        ≡ names_read (edge_read edges.now.«open» kinds rule.entry.is_phony)
-        (bound_by rule.entry.block) rule.entry.rule.now file }
+        ≡ names_read (edge_read edges.now.«open» kinds (rule.entry.number == 0))
+        (bound_by context.entry) rule.entry.rule.now file }
 {
     LateEdge {
         files: edges.files(),
         inputs: &edges.open_input_files()[..kinds.explicit_inputs],
         outputs: &edges.open_output_files()[..kinds.explicit_outputs],
-        blocks: rule.block.blocks,
-        edge: rule.block.edge,
+        blocks: context.blocks,
+        edge: context.edge,
         rule: rule.rule,
-        declarations,
-        scope,
+        declarations: context.declarations,
+        scope: context.place.scope,
     }
 }
 
@@ -306,50 +258,41 @@ fn late_edge<'a>(
 /// is bound to one.
 #[tactic(auto, using(crate::proofs::Keeps::keeps_same))]
 pub(crate) fn add_edge(
-    line: NamedLine<'_, '_, '_>,
+    context: Context<'_>,
     room: &mut Room,
     edges: &mut Edges,
     build: &Build<'_>,
-    rule: EdgeRule<'_, '_>,
+    rule: UsedRule<'_>,
+    references: &KeyReferences,
 ) -> Result<Option<FileNo>, GraphFault>
-    requires { line.names.scope < length line.names.declarations.now.scopes }
-    ensures fault { (values : Values) (sees : SeesNames line.entry.names values)
+    ensures fault { (values : Values) (sees : SeesNames context.entry values)
         → edges.old.«open» ≡ no_files
-        → TellsCycles rule.entry.rule.now.lines rule.entry.references.now
+        → TellsCycles rule.entry.rule.now.lines references.now
         → let paths = edge_paths (stated_paths values (outputs_text build.now)
-        (inputs_text build.now) rule.entry.is_phony) in
-        Checks (or_then (paths_fault line.entry.place.file.now values edges.old.edges
+        (inputs_text build.now) (rule.entry.number == 0)) in
+        Checks (or_then (paths_fault context.entry.place.file.now values edges.old.edges
         (outputs_text build.now) (inputs_text build.now))
-        (names_fault line.entry.place.file.now line.entry.place.spot (pools sees.entries)
-        (inputs_of paths) (names_read paths (bound_by rule.entry.block) rule.entry.rule.now
-        (value_after sees.entries (line.entry.names.scope ∷ sees.around))))) result }
-    ensures added { (values : Values) → SeesNames line.entry.names values
+        (names_fault context.entry.place.file.now context.entry.place.spot (pools sees.entries)
+        (inputs_of paths) (names_read paths (bound_by context.entry) rule.entry.rule.now
+        (value_after sees.entries (context.entry.place.scope ∷ sees.around))))) result }
+    ensures added { (values : Values) → SeesNames context.entry values
         → edges.old.«open» ≡ no_files
         → OnOk result (AddsEdge edges.old edges.new (edge_paths (stated_paths values
-        (outputs_text build.now) (inputs_text build.now) rule.entry.is_phony))) }
-    ensures dyndep { (values : Values) (sees : SeesNames line.entry.names values)
+        (outputs_text build.now) (inputs_text build.now) (rule.entry.number == 0)))) }
+    ensures dyndep { (values : Values) (sees : SeesNames context.entry values)
         → edges.old.«open» ≡ no_files
         → let paths = edge_paths (stated_paths values (outputs_text build.now)
-        (inputs_text build.now) rule.entry.is_phony) in
+        (inputs_text build.now) (rule.entry.number == 0)) in
         IfOk result (λ file. IsFileSaid edges.new.files file (file_said (asked_text
-        (names_read paths (bound_by rule.entry.block) rule.entry.rule.now
-        (value_after sees.entries (line.entry.names.scope ∷ sees.around))) (codes "dyndep")))) }
+        (names_read paths (bound_by context.entry) rule.entry.rule.now
+        (value_after sees.entries (context.entry.place.scope ∷ sees.around))) (codes "dyndep")))) }
     ensures refused { OnErr result (KeepsRead edges.old edges.new) }
 {
-    let kinds = add_files(line, room, edges, build, rule.is_phony)?;
-    let late = LateLine {
-        alloc: line.alloc,
-        place: line.place,
-        edge: late_edge(
-            line.names.declarations,
-            line.names.scope,
-            edges,
-            kinds,
-            rule,
-        ),
-    };
-    let dyndep = late.check(room, edges, rule.references)?;
-    edges.end_edge(kinds, rule.is_phony)?;
+    let is_phony = rule.number == PHONY;
+    let kinds = add_files(context, room, edges, build, is_phony)?;
+    let edge = late_edge(context, edges, kinds, rule);
+    let dyndep = context.check_late(edge, room, edges, references)?;
+    edges.end_edge(kinds, is_phony)?;
     Ok(dyndep)
 }
 

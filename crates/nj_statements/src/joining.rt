@@ -21,7 +21,7 @@ ghost use Rattle.nj_statements.specs.Inside.JoiningSteps.{IsMeant, fault_of_wait
 
 use crate::building::{Detail, DyndepEdge};
 use crate::built::{Built, PlaceRef, cycle_fault, place_of};
-use crate::names::Room;
+use crate::room::Room;
 use nj_edge_env::Blocks;
 use nj_edges::{EdgeNo, FileNo, Files, Finished, JoiningEdges};
 use nj_faults::{Cause, GraphFault, Name};

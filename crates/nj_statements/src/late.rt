@@ -9,66 +9,48 @@ ghost use Rattle.nj_statements.specs.EdgeList.{file_said};
 ghost use Rattle.nj_statements.specs.Answers.{Checks};
 ghost use Rattle.nj_statements.specs.Inside.EdgeSteps.{SeesLate, IsFileSaid};
 
-use crate::names::Room;
-use crate::place::StatementPlace;
+use crate::context::Context;
+use crate::room::Room;
 use nj_edge_env::{KeyReferences, LateEdge};
 use nj_edges::{Edges, FileNo};
 use nj_faults::{Cause, GraphFault, Name};
 use nj_text::TextFault;
-use std::alloc::{AllocError, Global};
+use std::alloc::AllocError;
 
-/// The edge that is being read, for what its names say where its rule is used, and the place of its
-/// statement.
-#[derive(Clone, Copy)]
-pub(crate) struct LateLine<'p, 'e> {
-    pub(crate) alloc: Global,
-    pub(crate) place: StatementPlace<'p>,
-    pub(crate) edge: LateEdge<'e>,
-}
-
-impl LateLine<'_, '_> {
+impl Context<'_> {
     /// Checks the variables of the rule, then the pool, then the dyndep file, which is returned if
     /// the edge is bound to one.
-    pub(crate) fn check(
+    pub(crate) fn check_late(
         self,
+        edge: LateEdge<'_>,
         room: &mut Room,
         edges: &Edges,
         references: &KeyReferences,
     ) -> Result<Option<FileNo>, GraphFault>
         ensures fault { (entries : List ReadStatement) (n : LateNames)
-            → SeesLate self.entry.edge entries n
+            → SeesLate edge.entry entries n
             → TellsCycles n.lines references.now
             → Checks (names_fault self.entry.place.file.now self.entry.place.spot (pools entries)
             edges.now.«open».inputs n) result }
         ensures file { (entries : List ReadStatement) (n : LateNames)
-            → SeesLate self.entry.edge entries n
+            → SeesLate edge.entry entries n
             → IfOk result (λ file. IsFileSaid edges.now.files file
             (file_said (asked_text n (codes "dyndep")))) }
     {
-        self.check_cycle(references)?;
-        self.check_pool(&mut room.text)?;
-        self.check_dyndep(room, edges)
-    }
-
-    // Sets a text to what a name says.
-    fn say(self, text: &mut Vec<u8>, name: &[u8]) -> Result<(), AllocError>
-        ensures { (entries : List ReadStatement) (n : LateNames)
-            → SeesLate self.entry.edge entries n
-            → OnOk result (text.new.items ≡ asked_text n name.now) }
-    {
-        text.clear();
-        self.edge.append_late_text(text, name)
+        self.check_cycle(edge, references)?;
+        self.check_pool(edge, &mut room.text)?;
+        self.check_dyndep(edge, room, edges)
     }
 
     // Refuses a variable of the rule that refers back to itself.
-    fn check_cycle(self, references: &KeyReferences) -> Result<(), GraphFault>
+    fn check_cycle(self, edge: LateEdge<'_>, references: &KeyReferences) -> Result<(), GraphFault>
         ensures { (entries : List ReadStatement) (n : LateNames)
-            → SeesLate self.entry.edge entries n
+            → SeesLate edge.entry entries n
             → TellsCycles n.lines references.now
             → Checks (variable_cycle_fault self.entry.place.file.now
             self.entry.place.spot n) result }
     {
-        match references.variable_cycle(self.alloc, self.edge.blocks, self.edge.edge)? {
+        match references.variable_cycle(self.alloc, edge.blocks, edge.edge)? {
             Some(key) => {
                 let cause = Cause::RuleVariableCycle(Name::new(self.alloc, key)?);
                 Err(self.place.fault(self.alloc, self.place.spot, cause))
@@ -78,15 +60,15 @@ impl LateLine<'_, '_> {
     }
 
     // Refuses a pool that no earlier statement declares; `text` is room for its name.
-    fn check_pool(self, text: &mut Vec<u8>) -> Result<(), GraphFault>
+    fn check_pool(self, edge: LateEdge<'_>, text: &mut Vec<u8>) -> Result<(), GraphFault>
         ensures { (entries : List ReadStatement) (n : LateNames)
-            → SeesLate self.entry.edge entries n
+            → SeesLate edge.entry entries n
             → Checks (unknown_pool self.entry.place.file.now self.entry.place.spot (pools entries)
             (asked_text n (codes "pool"))) result }
     {
-        self.say(text, b"pool")?;
+        say(edge, text, b"pool")?;
         let pool = text.as_slice();
-        if pool.is_empty() || self.edge.declarations.has_pool(pool) {
+        if pool.is_empty() || edge.declarations.has_pool(pool) {
             return Ok(());
         }
         let cause = Cause::UnknownPool(Name::new(self.alloc, pool)?);
@@ -94,17 +76,22 @@ impl LateLine<'_, '_> {
     }
 
     // The dyndep file of the edge, if there is one. Refuses one that is no input of the edge.
-    fn check_dyndep(self, room: &mut Room, edges: &Edges) -> Result<Option<FileNo>, GraphFault>
+    fn check_dyndep(
+        self,
+        edge: LateEdge<'_>,
+        room: &mut Room,
+        edges: &Edges,
+    ) -> Result<Option<FileNo>, GraphFault>
         ensures fault { (entries : List ReadStatement) (n : LateNames)
-            → SeesLate self.entry.edge entries n
+            → SeesLate edge.entry entries n
             → Checks (dyndep_not_input self.entry.place.file.now self.entry.place.spot
             edges.now.«open».inputs (asked_text n (codes "dyndep"))) result }
         ensures file { (entries : List ReadStatement) (n : LateNames)
-            → SeesLate self.entry.edge entries n
+            → SeesLate edge.entry entries n
             → IfOk result (λ file. IsFileSaid edges.now.files file
             (file_said (asked_text n (codes "dyndep")))) }
     {
-        self.say(&mut room.text, b"dyndep")?;
+        say(edge, &mut room.text, b"dyndep")?;
         let path = match room.clean_path() {
             Ok(path) => path,
             Err(TextFault::EmptyPath) => return Ok(None),
@@ -116,4 +103,13 @@ impl LateLine<'_, '_> {
         let cause = Cause::DyndepNotInput(Name::new(self.alloc, path)?);
         Err(self.place.fault(self.alloc, self.place.spot, cause))
     }
+}
+
+// Sets a text to what a name says.
+fn say(edge: LateEdge<'_>, text: &mut Vec<u8>, name: &[u8]) -> Result<(), AllocError>
+    ensures { (entries : List ReadStatement) (n : LateNames) → SeesLate edge.entry entries n
+        → OnOk result (text.new.items ≡ asked_text n name.now) }
+{
+    text.clear();
+    edge.append_late_text(text, name)
 }

@@ -4,6 +4,7 @@
 mod block;
 mod building;
 mod built;
+mod context;
 mod edge;
 mod joining;
 mod late;
@@ -11,6 +12,7 @@ mod laws;
 mod names;
 mod place;
 mod references;
+mod room;
 
 pub use building::Building;
 pub use built::{Built, EdgeDetail, PlaceRef};

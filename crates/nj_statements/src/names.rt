@@ -1,101 +1,32 @@
 //! The names on a line, and the paths that its words say.
 
-ghost use Rattle.std.specs.Prelude.{◌≡◌, ◌<◌, [], ◌∷◌, false, Err, length, IfOk, OnOk, IfSome};
-ghost use Rattle.nj_text.specs.Calls.{is_empty};
-ghost use Rattle.nj_text.specs.Paths.{clean_path_of};
-ghost use Rattle.nj_text.specs.Words.{Text, part_text, word_text};
-ghost use Rattle.nj_text.specs.declared.paths.TextFault.TheVariants.{EmptyPath};
+ghost use Rattle.std.specs.Prelude.{◌≡◌, IfOk, OnOk};
+ghost use Rattle.nj_text.specs.Words.{part_text, word_text};
 ghost use Rattle.nj_scope.specs.Scopes.{part_expanded, expanded};
 ghost use Rattle.nj_statements.specs.EdgeList.{Values, path_said};
-ghost use Rattle.nj_statements.specs.Joining.{no_values};
+ghost use Rattle.nj_statements.specs.BuildFaults.{empty_path};
+ghost use Rattle.nj_statements.specs.Answers.{Checks};
 ghost use Rattle.nj_statements.specs.Inside.EdgeSteps.{SeesNames};
 
-use nj_edge_env::Blocks;
-use nj_scope::Declarations;
-use nj_text::{Part, TextFault, Word, clean_into, is_clean};
-use std::alloc::{AllocError, Global};
+use crate::context::Context;
+use crate::room::{Room, clean_bytes};
+use nj_faults::{Cause, GraphFault};
+use nj_text::{Part, TextFault, Word};
+use std::alloc::AllocError;
 
-/// What an edge binds in its block.
-#[derive(Clone, Copy)]
-pub(crate) struct EdgeBlock<'a> {
-    pub(crate) blocks: &'a Blocks,
-    pub(crate) edge: usize,
-}
-
-/// The names on a line: those of a block, where the line has one, else those of a scope.
-#[derive(Clone, Copy)]
-pub(crate) struct Names<'d, 'b> {
-    pub(crate) declarations: &'d Declarations,
-    pub(crate) scope: usize,
-    pub(crate) block: Option<EdgeBlock<'b>>,
-}
-
-/// Room for the text of a word, and for its clean path.
-#[derive(Drop)]
-pub(crate) struct Room {
-    pub(crate) text: Vec<u8>,
-    pub(crate) path: Vec<u8>,
-}
-
-impl Room {
-    /// No room yet. It allocates nothing.
-    pub(crate) fn new(alloc: Global) -> Room {
-        Room {
-            text: Vec::new(alloc),
-            path: Vec::new(alloc),
-        }
-    }
-
-    /// The clean path of the text.
-    pub(crate) fn clean_path(&mut self) -> Result<&[u8], TextFault>
-        ensures path { IfOk result (λ path. path.now ≡ clean_path_of self.old.text.items) }
-        ensures said { OnOk result (is_empty self.old.text.items ≡ false) }
-        ensures empty { result ≡ Err EmptyPath → self.old.text.items ≡ [] }
-    {
-        self.path.clear();
-        match clean_into(&mut self.path, self.text.as_slice()) {
-            Ok(()) => Ok(self.path.as_slice()),
-            Err(fault) => Err(fault),
-        }
-    }
-
-    /// The path that a word says if each reference is empty: a slice of its file if that is clean.
-    ///
-    /// # Errors
-    ///
-    /// `EmptyPath` if it says nothing, and `OutOfMemory` if an allocation failed.
-    pub(crate) fn plain_path<'w>(&'w mut self, word: &'w Word<'_>) -> Result<&'w [u8], TextFault>
-        ensures path { IfOk result (λ path. path.now ≡ path_said no_values (word_text word.now)) }
-        ensures said { OnOk result (is_empty (expanded no_values (word_text word.now).parts)
-            ≡ false) }
-        ensures empty { result ≡ Err EmptyPath
-            → expanded no_values (word_text word.now).parts ≡ [] }
-    {
-        if let Some(path) = clean_bytes(word) {
-            return Ok(path);
-        }
-        plain_text(&mut self.text, word)?;
-        self.clean_path()
-    }
-}
-
-impl Names<'_, '_> {
+impl Context<'_> {
     /// The value of a name.
     pub(crate) fn value(&self, name: &[u8]) -> &[u8]
-        requires { self.now.scope < length self.now.declarations.now.scopes }
         ensures { (values : Values) → SeesNames self.now values → result.now ≡ values name.now }
     {
-        if let Some(block) = self.block {
-            if let Some(value) = block.blocks.value(block.edge, name) {
-                return value;
-            }
+        match self.blocks.value(self.edge, name) {
+            Some(value) => value,
+            None => self.declarations.value(self.place.scope, name),
         }
-        self.declarations.value(self.scope, name)
     }
 
     // What a part says.
     fn part_said<'w>(&'w self, part: &'w Part<'_>) -> &'w [u8]
-        requires { self.now.scope < length self.now.declarations.now.scopes }
         ensures { (values : Values) → SeesNames self.now values
             → result.now ≡ part_expanded values (part_text part.now) }
     {
@@ -107,7 +38,6 @@ impl Names<'_, '_> {
 
     /// Sets a text to what a word says.
     pub(crate) fn expand(&self, text: &mut Vec<u8>, word: &Word<'_>) -> Result<(), AllocError>
-        requires { self.now.scope < length self.now.declarations.now.scopes }
         ensures { (values : Values) → SeesNames self.now values
             → OnOk result (text.new.items ≡ expanded values (word_text word.now).parts) }
     {
@@ -119,61 +49,26 @@ impl Names<'_, '_> {
     }
 
     /// The path that a word says: a slice of its file if that is clean.
-    ///
-    /// # Errors
-    ///
-    /// `EmptyPath` if it says nothing, and `OutOfMemory` if an allocation failed.
     pub(crate) fn path<'w>(
-        &self,
+        self,
         room: &'w mut Room,
         word: &'w Word<'_>,
-    ) -> Result<&'w [u8], TextFault>
-        requires { self.now.scope < length self.now.declarations.now.scopes }
-        ensures path { (values : Values) → SeesNames self.now values
+    ) -> Result<&'w [u8], GraphFault>
+        ensures path { (values : Values) → SeesNames self.entry values
             → IfOk result (λ path. path.now ≡ path_said values (word_text word.now)) }
-        ensures said { (values : Values) → SeesNames self.now values
-            → OnOk result (is_empty (expanded values (word_text word.now).parts) ≡ false) }
-        ensures empty { (values : Values) → SeesNames self.now values
-            → result ≡ Err EmptyPath → expanded values (word_text word.now).parts ≡ [] }
+        ensures fault { (values : Values) → SeesNames self.entry values
+            → Checks (empty_path self.entry.place.file.now values (word_text word.now)) result }
     {
         if let Some(path) = clean_bytes(word) {
             return Ok(path);
         }
         self.expand(&mut room.text, word)?;
-        room.clean_path()
-    }
-}
-
-// Sets a text to what a word says if each reference is empty.
-fn plain_text(text: &mut Vec<u8>, word: &Word<'_>) -> Result<(), AllocError>
-    ensures { OnOk result (text.new.items ≡ expanded no_values (word_text word.now).parts) }
-{
-    text.clear();
-    'parts: for part in word.parts.as_slice() {
-        if let Part::Bytes(bytes) = part {
-            text.extend_from_slice(bytes)?;
+        match room.clean_path() {
+            Ok(path) => Ok(path),
+            Err(TextFault::EmptyPath) => {
+                Err(self.place.fault(self.alloc, word.spot, Cause::EmptyPath))
+            }
+            Err(TextFault::OutOfMemory) => Err(GraphFault::out_of_memory()),
         }
-    }
-    Ok(())
-}
-
-// The bytes of a word that is a clean path as it stands.
-fn clean_bytes<'b>(word: &'b Word<'_>) -> Option<&'b [u8]>
-    ensures path { (values : Values)
-        → IfSome result (λ path. path.now ≡ path_said values (word_text word.now)) }
-    ensures said { (values : Values)
-        → IfSome result (λ path. is_empty (expanded values (word_text word.now).parts) ≡ false) }
-{
-    let bytes = only_bytes(word)?;
-    if is_clean(bytes) { Some(bytes) } else { None }
-}
-
-// The bytes of a word that has no reference and no escape.
-fn only_bytes<'b>(word: &'b Word<'_>) -> Option<&'b [u8]>
-    ensures { IfSome result (λ bytes. (word_text word.now).parts ≡ Text bytes.now ∷ []) }
-{
-    match word.parts.as_slice() {
-        [Part::Bytes(bytes)] => Some(bytes),
-        _ => None,
     }
 }

@@ -10,9 +10,12 @@ use nj_edge_env::KeyReferences;
 use nj_scope::Rule;
 use std::alloc::{AllocError, Global};
 
-/// A rule with its number.
+// The number of the rule `phony`.
+pub(crate) const PHONY: usize = 0;
+
+/// The rule that a statement uses, and its number.
 #[derive(Clone, Copy)]
-pub(crate) struct NumberedRule<'a> {
+pub(crate) struct UsedRule<'a> {
     pub(crate) number: usize,
     pub(crate) rule: &'a Rule,
     ghost small: { number + 1 < 2 ^ 64 },
@@ -22,7 +25,7 @@ pub(crate) struct NumberedRule<'a> {
 pub(crate) fn keep_references(
     alloc: Global,
     kept: &mut Vec<Option<KeyReferences>>,
-    rule: NumberedRule<'_>,
+    rule: UsedRule<'_>,
 ) -> Result<(), AllocError>
     ensures held { (rules : List RuleText) → HoldsReferences kept.old.items rules
         → slice_get rules rule.entry.number ≡ Some rule.entry.rule.now

@@ -16,11 +16,10 @@ use Rattle.nj_edge_env.specs.declared.edge.LateEdge.{LateEdge}
 use Rattle.nj_edge_env.specs.LateTexts.{LateNames}
 use Rattle.nj_edge_env.specs.LateEdges.{late_names}
 use Rattle.nj_edge_env.specs.ReferencesHeld.{ReferringKeyText}
-use Rattle.nj_statements.specs.declared.names.Names.{Names}
-use Rattle.nj_statements.specs.declared.names.EdgeBlock.{EdgeBlock}
+use Rattle.nj_statements.specs.declared.context.Context.{Context}
 use Rattle.nj_statements.specs.declared.building.Detail.{Detail}
 use Rattle.nj_statements.specs.declared.building.DyndepEdge.{DyndepEdge}
-use Rattle.nj_statements.specs.EdgeList.{Values, Block, on_line, paths_said, no_block}
+use Rattle.nj_statements.specs.EdgeList.{Values, Block, on_line, paths_said}
 use Rattle.nj_statements.specs.Answers.{DetailText}
 
 -- Names have these values in a scope, by what the earlier statements declare and the block binds.
@@ -31,15 +30,11 @@ pub record Sees (held : DeclarationsText) (scope : ℕ) (block : Block) (values 
   pub within : IsScope (parent_at held.scopes) scope (scope ∷ around)
   pub are : (name : List ℕ) → values name ≡ on_line (value_after entries (scope ∷ around)) block name
 
-abbrev pub bound_by : EdgeBlock → Block
-bound_by b = bound_in b.blocks.now b.edge
+abbrev pub bound_by : Context → Block
+bound_by c = bound_in c.blocks.now c.edge
 
-abbrev pub block_seen : Option EdgeBlock → Block
-block_seen None = no_block
-block_seen (Some b) = bound_by b
-
-abbrev pub SeesNames : Names → Values → Type 0
-SeesNames names values = Sees names.declarations.now names.scope (block_seen names.block) values
+abbrev pub SeesNames : Context → Values → Type 0
+SeesNames c values = Sees c.declarations.now c.place.scope (bound_by c) values
 
 abbrev pub with_outputs : EdgeTable → List (List ℕ) → EdgeTable
 with_outputs t [] = t

@@ -1,11 +1,13 @@
-use Rattle.std.proofs.Common.{◌≡◌, ◌+◌, ◌==◌, ◌&&◌, if◌then◌else◌, List, drop, Bool, true, false, Some, bytes_eq, arith, refl, sym, ap, ◌∙◌}
+use Rattle.std.proofs.Common.{◌≡◌, ◌+◌, ◌==◌, ◌&&◌, if◌then◌else◌, List, ◌∷◌, ◌++◌, drop, Bool, true, false, Some, bytes_eq, arith, refl, sym, ap, ◌∙◌}
 use Rattle.std.proofs.lemmas.Bool.{ne_eqb}
 use Rattle.std.proofs.lemmas.List.{at_drop_all}
 use Rattle.nj_manifest.specs.declared.statement.Line.{Line}
 use Rattle.nj_manifest.specs.Contents.{line_text, lines_text}
-use Rattle.nj_scope.specs.Scopes.{or_else}
+use Rattle.nj_scope.specs.Scopes.{or_else, expanded}
+use Rattle.nj_scope.specs.ReadingList.{value_after}
+use Rattle.nj_text.specs.Words.{word_text}
 use Rattle.nj_edge_env.specs.Blocks.{bound_in}
-use Rattle.nj_statements.specs.EdgeList.{block_of}
+use Rattle.nj_statements.specs.EdgeList.{Values, block_of}
 use Rattle.nj_statements.proofs.Lists.{at-next}
 use Rattle.nj_statements.proofs.Blocks.{block-turn}
 use Rattle.nj_statements.proofs.block.bind_block.Goals as goal
@@ -17,22 +19,24 @@ lines-preserved c = record {
       c.in_ok-bind.ensures.bound e name
       ∙ ap (λ b. if b && bytes_eq name c.line-item.result.name.now then Some c.as_slice.result.now else bound_in c.lines.blocks e name) (ne_eqb e c.args.edge (λ is. omega (arith, is, below)))
       ∙ c.lines.invariant.others e name below;
-  bound = λ values sees e name.
-      let says = c.in_ok-expand.ensures values sees in
+  bound = λ entries around declared within e name.
+      let values : Values = value_after entries (c.args.scope ∷ around) in
+      let says = c.in_ok-append_expanded.ensures entries around declared within ∙ ap (λ front. front ++ expanded values (word_text c.line-item.result.value).parts) c.clear.ensures.items in
       let bound = c.in_ok-bind.ensures.bound e name in
       block-turn values c.args.edge e (line_text c.line-item.result) (lines_text (drop (c.lines.line-index + 1) c.args.lines.now)) name (bound_in c.bind.new.self e name) (bound_in c.lines.blocks e name)
       (bound ∙ ap (λ value. if e == c.args.edge && bytes_eq name c.line-item.result.name.now then Some value else bound_in c.lines.blocks e name) (c.as_slice.ensures.value ∙ says))
       ∙ sym (at-next (λ (ls : List Line). if e == c.args.edge then or_else (block_of values (lines_text ls) name) (bound_in c.lines.blocks e name) else bound_in c.lines.blocks e name) c.args.lines.now c.lines.line-index c.line-item.result c.lines-test.true c.line-item.is)
-      ∙ c.lines.invariant.bound values sees e name;
+      ∙ c.lines.invariant.bound entries around declared within e name;
 }
 
 pub returns-in_err-bind-clause-others : goal.returns-in_err-bind-clause-others
 returns-in_err-bind-clause-others c = λ e name below. c.in_err-bind.ensures.refused e name ∙ c.lines.invariant.others e name below
 
 pub returns-clause-bound : goal.returns-clause-bound
-returns-clause-bound c = λ values sees e name.
+returns-clause-bound c = λ entries around declared within e name.
+    let values : Values = value_after entries (c.args.scope ∷ around) in
     sym (at_drop_all (λ (ls : List Line). if e == c.args.edge then or_else (block_of values (lines_text ls) name) (bound_in c.lines.blocks e name) else bound_in c.lines.blocks e name) c.args.lines.now c.lines.line-index c.lines-test.false ∙ by (e == c.args.edge))
-    ∙ c.lines.invariant.bound values sees e name
+    ∙ c.lines.invariant.bound entries around declared within e name
   where
     by : {X : Type 0} {x : X} (b : Bool) → (if b then x else x) ≡ x
     by true = refl

@@ -10,9 +10,9 @@ use Rattle.nj_statements.proofs.building.add_targets.Given as goal
 abbrev pub invariant-words : goal.invariant-words
 invariant-words l = record {
   kept : IsPrefix l.fn.targets.items l.targets.items;
-  added : (values : Values) → SeesNames l.line.names values
+  added : (values : Values) → SeesNames l.context values
       → AddsTargets l.edges.files l.fn.targets.items l.targets.items (paths_said values (words_text (take l.word-index l.words)));
-  fault : (values : Values) → SeesNames l.line.names values → l.edges.«open» ≡ no_files
-      → first_fault (target_fault l.line.place.file.now values l.edges.edges) (words_text (drop l.word-index l.words))
-      ≡ first_fault (target_fault l.line.place.file.now values l.edges.edges) (words_text l.words);
+  fault : (values : Values) → SeesNames l.context values → l.edges.«open» ≡ no_files
+      → first_fault (target_fault l.context.place.file.now values l.edges.edges) (words_text (drop l.word-index l.words))
+      ≡ first_fault (target_fault l.context.place.file.now values l.edges.edges) (words_text l.words);
 }

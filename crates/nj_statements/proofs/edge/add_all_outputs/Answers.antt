@@ -10,7 +10,7 @@ use Rattle.nj_statements.proofs.edge.add_all_outputs.Goals as goal
 
 pub returns-in_err-add_outputs-clause-fault : goal.returns-in_err-add_outputs-clause-fault
 returns-in_err-add_outputs-clause-fault c = λ values sees.
-    let file = c.args.line.place.file.now in
+    let file = c.args.context.place.file.now in
     let old = c.args.edges.now in
     let explicit = words_text c.args.build.now.explicit_outs.items in
     let implicit = words_text c.args.build.now.implicit_outs.items in
@@ -21,7 +21,7 @@ returns-in_err-add_outputs-clause-fault c = λ values sees.
 
 pub returns-clause-fault : goal.returns-clause-fault
 returns-clause-fault c = λ values sees.
-    let file = c.args.line.place.file.now in
+    let file = c.args.context.place.file.now in
     let old = c.args.edges.now in
     let implicit = words_text c.args.build.now.implicit_outs.items in
     let paths = paths_said values (words_text c.args.build.now.explicit_outs.items) in

@@ -1,4 +1,4 @@
-use Rattle.std.proofs.Common.{◌≡◌, ◌∷◌, None, codes, length, sym, ap, subst, ◌∙◌}
+use Rattle.std.proofs.Common.{◌≡◌, ◌==◌, ◌∷◌, None, codes, length, sym, ap, subst, ◌∙◌}
 use Rattle.nj_manifest.specs.Contents.{outputs_text, inputs_text}
 use Rattle.nj_scope.specs.ReadingList.{value_after, pools}
 use Rattle.nj_edges.specs.Edges.{EdgePaths, inputs_of}
@@ -15,18 +15,18 @@ use Rattle.nj_statements.proofs.edge.add_edge.Goals as goal
 
 pub returns-in_err-dyndep-clause-fault : goal.returns-in_err-dyndep-clause-fault
 returns-in_err-dyndep-clause-fault c = λ values sees none tells.
-    let file = c.args.line.place.file.now in
-    let spot = c.args.line.place.spot in
+    let file = c.args.context.place.file.now in
+    let spot = c.args.context.place.spot in
     let outputs = outputs_text c.args.build.now in
     let inputs = inputs_text c.args.build.now in
-    let block = bound_by c.args.rule.block in
+    let block = bound_by c.args.context in
     let open_edge = c.add_files.new.edges.«open» in
-    let paths : EdgePaths = edge_paths (stated_paths values outputs inputs c.args.rule.is_phony) in
-    let n : LateNames = names_read paths block c.args.rule.rule.now (value_after sees.entries (c.args.line.names.scope ∷ sees.around)) in
+    let paths : EdgePaths = edge_paths (stated_paths values outputs inputs (c.args.rule.number == 0)) in
+    let n : LateNames = names_read paths block c.args.rule.rule.now (value_after sees.entries (c.args.context.place.scope ∷ sees.around)) in
     let named = c.in_ok-kinds.ensures.named values sees none in
-    let inputs_are : inputs_of paths ≡ open_edge.inputs = sym (ap inputs_of named) ∙ inputs-read open_edge c.in_ok-kinds.kinds c.args.rule.is_phony (length open_edge.outputs) c.in_ok-kinds.ensures.within in
-    let late : SeesLate c.late_edge.result sees.entries n = sees-late c.late_edge.result c.args.line.names.declarations.now c.args.line.names.scope sees.entries sees.around (edge_read open_edge c.in_ok-kinds.kinds c.args.rule.is_phony) paths block c.args.rule.rule.now
-    c.late_edge.ensures.declarations c.late_edge.ensures.scope c.late_edge.ensures.names named sees.declared sees.within in
+    let inputs_are : inputs_of paths ≡ open_edge.inputs = sym (ap inputs_of named) ∙ inputs-read open_edge c.in_ok-kinds.kinds (c.args.rule.number == 0) (length open_edge.outputs) c.in_ok-kinds.ensures.within in
+    let late : SeesLate c.late_edge-edge.result sees.entries n = sees-late c.late_edge-edge.result c.args.context.declarations.now c.args.context.place.scope sees.entries sees.around (edge_read open_edge c.in_ok-kinds.kinds (c.args.rule.number == 0)) paths block c.args.rule.rule.now
+    c.late_edge-edge.ensures.declarations c.late_edge-edge.ensures.scope c.late_edge-edge.ensures.names named sees.declared sees.within in
     let f = c.in_err-dyndep.field-0.0 in
     let before = paths_fault file values c.args.edges.now.edges outputs inputs in
     let after = names_fault file spot (pools sees.entries) (inputs_of paths) n in
@@ -36,35 +36,35 @@ returns-in_err-dyndep-clause-fault c = λ values sees none tells.
 
 pub returns-clause-fault : goal.returns-clause-fault
 returns-clause-fault c = λ values sees none tells.
-    let file = c.args.line.place.file.now in
-    let spot = c.args.line.place.spot in
+    let file = c.args.context.place.file.now in
+    let spot = c.args.context.place.spot in
     let outputs = outputs_text c.args.build.now in
     let inputs = inputs_text c.args.build.now in
-    let block = bound_by c.args.rule.block in
+    let block = bound_by c.args.context in
     let open_edge = c.add_files.new.edges.«open» in
-    let paths : EdgePaths = edge_paths (stated_paths values outputs inputs c.args.rule.is_phony) in
-    let n : LateNames = names_read paths block c.args.rule.rule.now (value_after sees.entries (c.args.line.names.scope ∷ sees.around)) in
+    let paths : EdgePaths = edge_paths (stated_paths values outputs inputs (c.args.rule.number == 0)) in
+    let n : LateNames = names_read paths block c.args.rule.rule.now (value_after sees.entries (c.args.context.place.scope ∷ sees.around)) in
     let named = c.in_ok-kinds.ensures.named values sees none in
-    let inputs_are : inputs_of paths ≡ open_edge.inputs = sym (ap inputs_of named) ∙ inputs-read open_edge c.in_ok-kinds.kinds c.args.rule.is_phony (length open_edge.outputs) c.in_ok-kinds.ensures.within in
-    let late : SeesLate c.late_edge.result sees.entries n = sees-late c.late_edge.result c.args.line.names.declarations.now c.args.line.names.scope sees.entries sees.around (edge_read open_edge c.in_ok-kinds.kinds c.args.rule.is_phony) paths block c.args.rule.rule.now
-    c.late_edge.ensures.declarations c.late_edge.ensures.scope c.late_edge.ensures.names named sees.declared sees.within in
+    let inputs_are : inputs_of paths ≡ open_edge.inputs = sym (ap inputs_of named) ∙ inputs-read open_edge c.in_ok-kinds.kinds (c.args.rule.number == 0) (length open_edge.outputs) c.in_ok-kinds.ensures.within in
+    let late : SeesLate c.late_edge-edge.result sees.entries n = sees-late c.late_edge-edge.result c.args.context.declarations.now c.args.context.place.scope sees.entries sees.around (edge_read open_edge c.in_ok-kinds.kinds (c.args.rule.number == 0)) paths block c.args.rule.rule.now
+    c.late_edge-edge.ensures.declarations c.late_edge-edge.ensures.scope c.late_edge-edge.ensures.names named sees.declared sees.within in
     both-none (paths_fault file values c.args.edges.now.edges outputs inputs) (names_fault file spot (pools sees.entries) (inputs_of paths) n) (c.in_ok-kinds.ensures.fault values sees none)
     (subst (λ is. names_fault file spot (pools sees.entries) is n ≡ None) (sym inputs_are) (c.in_ok-dyndep.ensures.fault sees.entries n late tells))
 
 pub returns-clause-added : goal.returns-clause-added
 returns-clause-added c = λ values sees none.
-    adds-edge c.args.edges.now c.add_files.new.edges c.end_edge.new.self c.in_ok-kinds.kinds c.args.rule.is_phony (edge_paths (stated_paths values (outputs_text c.args.build.now) (inputs_text c.args.build.now) c.args.rule.is_phony))
+    adds-edge c.args.edges.now c.add_files.new.edges c.end_edge.new.self c.in_ok-kinds.kinds (c.args.rule.number == 0) (edge_paths (stated_paths values (outputs_text c.args.build.now) (inputs_text c.args.build.now) (c.args.rule.number == 0)))
     c.in_ok-kinds.ensures.keeps (c.in_ok-kinds.ensures.named values sees none) c.in_ok-end_edge.ensures.ended
 
 pub returns-clause-dyndep : goal.returns-clause-dyndep
 returns-clause-dyndep c = λ values sees none.
     let outputs = outputs_text c.args.build.now in
     let inputs = inputs_text c.args.build.now in
-    let block = bound_by c.args.rule.block in
+    let block = bound_by c.args.context in
     let open_edge = c.add_files.new.edges.«open» in
-    let paths : EdgePaths = edge_paths (stated_paths values outputs inputs c.args.rule.is_phony) in
-    let n : LateNames = names_read paths block c.args.rule.rule.now (value_after sees.entries (c.args.line.names.scope ∷ sees.around)) in
+    let paths : EdgePaths = edge_paths (stated_paths values outputs inputs (c.args.rule.number == 0)) in
+    let n : LateNames = names_read paths block c.args.rule.rule.now (value_after sees.entries (c.args.context.place.scope ∷ sees.around)) in
     let named = c.in_ok-kinds.ensures.named values sees none in
-    let late : SeesLate c.late_edge.result sees.entries n = sees-late c.late_edge.result c.args.line.names.declarations.now c.args.line.names.scope sees.entries sees.around (edge_read open_edge c.in_ok-kinds.kinds c.args.rule.is_phony) paths block c.args.rule.rule.now
-    c.late_edge.ensures.declarations c.late_edge.ensures.scope c.late_edge.ensures.names named sees.declared sees.within in
+    let late : SeesLate c.late_edge-edge.result sees.entries n = sees-late c.late_edge-edge.result c.args.context.declarations.now c.args.context.place.scope sees.entries sees.around (edge_read open_edge c.in_ok-kinds.kinds (c.args.rule.number == 0)) paths block c.args.rule.rule.now
+    c.late_edge-edge.ensures.declarations c.late_edge-edge.ensures.scope c.late_edge-edge.ensures.names named sees.declared sees.within in
     subst (λ t. IsFileSaid t.files c.in_ok-dyndep.dyndep (file_said (asked_text n (codes "dyndep")))) (sym c.in_ok-end_edge.ensures.ended) (c.in_ok-dyndep.ensures.file sees.entries n late)

@@ -11,7 +11,7 @@ use Rattle.nj_statements.proofs.edge.add_files.Goals as goal
 
 pub returns-in_err-add_all_outputs-clause-fault : goal.returns-in_err-add_all_outputs-clause-fault
 returns-in_err-add_all_outputs-clause-fault c = λ values sees none.
-    let file = c.args.line.place.file.now in
+    let file = c.args.context.place.file.now in
     let outputs = outputs_text c.args.build.now in
     let inputs = inputs_text c.args.build.now in
     let edges = c.args.edges.now.edges in

@@ -3,7 +3,7 @@ use Rattle.nj_manifest.specs.Contents.{outputs_text, used_rule, inputs_text, lin
 use Rattle.nj_scope.specs.ReadingList.{rule_in_force}
 use Rattle.nj_faults.specs.declared.fault.Cause.TheVariants.{UnknownRule}
 use Rattle.nj_faults.specs.Faults.{fault_at}
-use Rattle.nj_statements.specs.declared.references.NumberedRule.{NumberedRule}
+use Rattle.nj_statements.specs.declared.references.UsedRule.{UsedRule}
 use Rattle.nj_statements.specs.EdgeList.{line_values, edge_of_build, edges_read, paths_of_edges}
 use Rattle.nj_statements.specs.BuildFaults.{fault_if, or_then, paths_fault, late_fault}
 use Rattle.nj_statements.specs.Answers.{ReadsStatement, entry_at_place}
@@ -15,7 +15,7 @@ returns-clause-reads c = λ entries around depth by within holds.
     let outputs = outputs_text c.args.build.now in
     let inputs = inputs_text c.args.build.now in
     let e = entry_at_place c.args.place around depth (build_text c.args.build.now) in
-    let rule_is : rule_in_force entries (c.args.place.scope ∷ around) c.args.build.now.rule.now ≡ Some c.in-Some.rule.number = sym (c.rule_named.ensures.number entries around by within) ∙ ap (option_map (λ (r : NumberedRule). r.number)) c.in-Some.is in
+    let rule_is : rule_in_force entries (c.args.place.scope ∷ around) c.args.build.now.rule.now ≡ Some c.in-Some.rule.number = sym (c.rule_named.ensures.number entries around by within) ∙ ap (option_map (λ (r : UsedRule). r.number)) c.in-Some.is in
     let other = or_then (paths_fault c.args.place.file.now (line_values e entries lines) (paths_of_edges (edges_read entries)) outputs inputs)
     (late_fault entries (edge_of_build e entries outputs (used_rule c.args.build.now) inputs lines)) in
     subst (λ o. ReadsStatement c.read_edge.new.self (or_then o other) e entries c.read_edge.result)

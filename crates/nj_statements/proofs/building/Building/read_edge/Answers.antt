@@ -10,7 +10,7 @@ use Rattle.nj_scope.specs.ReadingList.{value_after, rule_texts, pools}
 use Rattle.nj_edge_env.specs.Blocks.{bound_in}
 use Rattle.nj_edges.specs.Edges.{inputs_of}
 use Rattle.nj_statements.specs.declared.building.Detail.{Detail}
-use Rattle.nj_statements.specs.EdgeList.{Values, Block, block_of, on_line, edges_read, edge_of_build, file_said, paths_of_edges, stated_paths, edge_paths, no_block}
+use Rattle.nj_statements.specs.EdgeList.{Values, Block, block_of, on_line, edges_read, edge_of_build, file_said, paths_of_edges, stated_paths, edge_paths}
 use Rattle.nj_statements.specs.BuildFaults.{or_then, paths_fault, names_fault, late_fault}
 use Rattle.nj_statements.specs.Answers.{BuildingText, HoldsEdges, IsFault, AddsNothing, entry_at_place}
 use Rattle.nj_statements.specs.Inside.EdgeSteps.{Sees, AddsEdge, names_read, detail_text, IsFileSaid, with_dyndep}
@@ -37,9 +37,8 @@ returns-in_err-dyndep-clause-reads c = λ entries around depth by within rule_is
     let held : HoldsEdges old entries = subst (λ b. HoldsEdges b entries) (sym c.self.view_is) holds in
     let edge = length c.as_slice-edge.result.now in
     let count : edge ≡ length old.details = ap length c.as_slice-edge.ensures.value ∙ sym (length-map c.self.inside.details.items detail_text) in
-    let sees_scope : Sees c.args.declarations.now c.args.place.scope no_block scope_values = record { entries = entries; around = around; declared = by; within = within; are = λ name. refl } in
     let bound = subst (λ ls. (n : ℕ) (name : List ℕ) → bound_in c.bind_block.new.blocks n name ≡ if n == edge then or_else (block_of scope_values (lines_text ls) name) (bound_in c.self.inside.block_values n name) else bound_in c.self.inside.block_values n name) c.as_slice.ensures.value
-    (c.in_ok-bind_block.ensures.bound scope_values sees_scope) in
+    (c.in_ok-bind_block.ensures.bound entries around by within) in
     let block_is = open-block old entries block c.bind_block.new.blocks edge held count bound in
     let sees : Sees c.args.declarations.now c.args.place.scope (bound_in c.bind_block.new.blocks edge) values = record { entries = entries; around = around; declared = by; within = within; are = λ name. ap (λ o. unwrap_or o (scope_values name)) (sym (block_is name)) } in
     let late = late-fault e entries outputs rule_text inputs lines c.args.rule.number c.args.rule.rule.now (bound_in c.bind_block.new.blocks edge) rule_is there block_is in
@@ -47,8 +46,8 @@ returns-in_err-dyndep-clause-reads c = λ entries around depth by within rule_is
     let paths = edge_paths (stated_paths values outputs inputs (c.args.rule.number == 0)) in
     let said = names_fault c.args.place.file.now c.args.place.spot (pools entries) (inputs_of paths) (names_read paths (bound_in c.bind_block.new.blocks edge) c.args.rule.rule.now scope_values) in
     let kept = c.in_ok-keep_references.ensures.held (rule_texts entries) held.references there in
-    let own = kept c.args.rule.number c.rule_references.result.now (ap (λ kept. slice_index_or kept c.args.rule.number None) (sym c.deref.ensures.value) ∙ c.rule_references.ensures) in
-    let tells : TellsCycles c.args.rule.rule.now.lines c.rule_references.result.now = subst (λ (r : RuleText). TellsCycles r.lines c.rule_references.result.now) (same-rule (rule_texts entries) c.args.rule.number own.0 c.args.rule.rule.now own.1 there) own.2 in
+    let own = kept c.args.rule.number c.rule_references-references.result.now (ap (λ kept. slice_index_or kept c.args.rule.number None) (sym c.deref.ensures.value) ∙ c.rule_references-references.ensures) in
+    let tells : TellsCycles c.args.rule.rule.now.lines c.rule_references-references.result.now = subst (λ (r : RuleText). TellsCycles r.lines c.rule_references-references.result.now) (same-rule (rule_texts entries) c.args.rule.number own.0 c.args.rule.rule.now own.1 there) own.2 in
     reads-err _ (or_then (paths_fault c.args.place.file.now values (paths_of_edges (edges_read entries)) outputs inputs) late_is) e entries c.from_residual-in_err-dyndep.result c.in_err-dyndep.field-0.0 c.from_residual-in_err-dyndep.ensures.1
     (subst (λ o. IsFault (or_then (paths_fault c.args.place.file.now values (paths_of_edges (edges_read entries)) outputs inputs) o) c.in_err-dyndep.field-0.0) late
     (subst (λ es. IsFault (or_then (paths_fault c.args.place.file.now values es outputs inputs) said) c.in_err-dyndep.field-0.0) held.edges (c.in_err-dyndep.ensures.fault values sees held.none_open tells)))
@@ -67,9 +66,8 @@ returns-clause-reads c = λ entries around depth by within rule_is there holds.
     let held : HoldsEdges old entries = subst (λ b. HoldsEdges b entries) (sym c.self.view_is) holds in
     let edge = length c.as_slice-edge.result.now in
     let count : edge ≡ length old.details = ap length c.as_slice-edge.ensures.value ∙ sym (length-map c.self.inside.details.items detail_text) in
-    let sees_scope : Sees c.args.declarations.now c.args.place.scope no_block scope_values = record { entries = entries; around = around; declared = by; within = within; are = λ name. refl } in
     let bound = subst (λ ls. (n : ℕ) (name : List ℕ) → bound_in c.bind_block.new.blocks n name ≡ if n == edge then or_else (block_of scope_values (lines_text ls) name) (bound_in c.self.inside.block_values n name) else bound_in c.self.inside.block_values n name) c.as_slice.ensures.value
-    (c.in_ok-bind_block.ensures.bound scope_values sees_scope) in
+    (c.in_ok-bind_block.ensures.bound entries around by within) in
     let block_is = open-block old entries block c.bind_block.new.blocks edge held count bound in
     let sees : Sees c.args.declarations.now c.args.place.scope (bound_in c.bind_block.new.blocks edge) values = record { entries = entries; around = around; declared = by; within = within; are = λ name. ap (λ o. unwrap_or o (scope_values name)) (sym (block_is name)) } in
     let late = late-fault e entries outputs rule_text inputs lines c.args.rule.number c.args.rule.rule.now (bound_in c.bind_block.new.blocks edge) rule_is there block_is in
@@ -77,8 +75,8 @@ returns-clause-reads c = λ entries around depth by within rule_is there holds.
     let paths = edge_paths (stated_paths values outputs inputs (c.args.rule.number == 0)) in
     let said = names_fault c.args.place.file.now c.args.place.spot (pools entries) (inputs_of paths) (names_read paths (bound_in c.bind_block.new.blocks edge) c.args.rule.rule.now scope_values) in
     let kept = c.in_ok-keep_references.ensures.held (rule_texts entries) held.references there in
-    let own = kept c.args.rule.number c.rule_references.result.now (ap (λ kept. slice_index_or kept c.args.rule.number None) (sym c.deref.ensures.value) ∙ c.rule_references.ensures) in
-    let tells : TellsCycles c.args.rule.rule.now.lines c.rule_references.result.now = subst (λ (r : RuleText). TellsCycles r.lines c.rule_references.result.now) (same-rule (rule_texts entries) c.args.rule.number own.0 c.args.rule.rule.now own.1 there) own.2 in
+    let own = kept c.args.rule.number c.rule_references-references.result.now (ap (λ kept. slice_index_or kept c.args.rule.number None) (sym c.deref.ensures.value) ∙ c.rule_references-references.ensures) in
+    let tells : TellsCycles c.args.rule.rule.now.lines c.rule_references-references.result.now = subst (λ (r : RuleText). TellsCycles r.lines c.rule_references-references.result.now) (same-rule (rule_texts entries) c.args.rule.number own.0 c.args.rule.rule.now own.1 there) own.2 in
     let detail : Detail = record { file = c.in_ok-file.file; spot = c.args.place.spot; scope = c.args.place.scope; rule = c.args.rule.number } in
     let new : BuildingText = record { table = c.add_edge.new.edges; blocks = c.bind_block.new.blocks; names = c.name.new.self; details = map detail_text c.push_reserved.new.self.items; defaults = old.defaults; dyndeps = c.push_dyndep.new.dyndeps.items; references = c.keep_references.new.kept.items } in (
       subst (λ o. or_then (paths_fault c.args.place.file.now values (paths_of_edges (edges_read entries)) outputs inputs) o ≡ None) late
