@@ -8,6 +8,7 @@ use std::alloc::{AllocError, Global};
 use std::test::Fail;
 
 /// Edges with two inputs each, by what makes these. What is no number of an edge is a source.
+#[derive(Clone, Copy)]
 struct Pairs<'a> {
     makers: &'a [(Option<usize>, Option<usize>)],
 }
