@@ -11,9 +11,9 @@ ghost use Rattle.nj_cli.specs.Inside.RunSteps.{AnswersTo};
 
 use crate::fault::RunFault;
 use crate::targets::{pick_targets, targets_of};
+use nj_args::Action;
 use nj_graph::{Cause, EdgeNo, Graph, GraphFault};
 use nj_needs::{Mark, Needs};
-use nj_args::Action;
 use nj_tools::{
     InputsStyle, Sink, TargetsView, ToolFault, write_commands, write_compdb, write_inputs,
     write_query, write_rules, write_single_commands, write_targets,

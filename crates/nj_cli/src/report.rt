@@ -11,9 +11,9 @@ ghost use Rattle.nj_cli.specs.Runs.{out_of_memory};
 
 use crate::fault::RunFault;
 use crate::status::Status;
+use nj_args::UsageFault;
 use nj_graph::GraphFault;
 use nj_needs::Mark;
-use nj_args::UsageFault;
 use nj_tools::{Sink, write_whole};
 use std::alloc::{AllocError, Global};
 

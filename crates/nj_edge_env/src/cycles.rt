@@ -7,8 +7,8 @@ ghost use Rattle.nj_edge_env.specs.VariableCycles.{variable_cycle_of};
 ghost use Rattle.nj_edge_env.specs.ReferencesHeld.{AreReferences, NeverCycles, TellsCycles, name_at, unbound};
 ghost use Rattle.nj_edge_env.specs.Inside.CyclesHeld.{IsMarked, marked, unmarked, IsOnLoop, SameLoops, RefersToMarked, Points, IsLeft, MarksLead, IsClosed, IsLesser, IsLeastLoop};
 
-use crate::references::{KeyReferences, is_marked};
 use crate::blocks::Blocks;
+use crate::references::{KeyReferences, is_marked};
 use std::alloc::{AllocError, Global};
 use std::cmp::Ordering;
 

@@ -7,8 +7,8 @@ ghost use Rattle.nj_scope.specs.ReadingList.{ReadStatement};
 ghost use Rattle.nj_graph.specs.Graph.{edges_of, files_of, IsGraphOf, rule_name, rule_name_at};
 
 use crate::graph::{Graph, rule_name};
-use nj_statements::PlaceRef;
 use nj_edges::{EdgeGraph, EdgeNo, FileNo};
+use nj_statements::PlaceRef;
 use std::ops::Deref;
 
 impl Deref for Graph {

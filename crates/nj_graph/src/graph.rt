@@ -6,8 +6,8 @@ ghost use Rattle.nj_graph.specs.Graph.{main_rules, main_rule_at, rule_name, desc
 ghost use Rattle.std.specs.List.{AllByRecursion};
 ghost use Rattle.nj_graph.specs.Inside.GraphHeld.{HoldsMainRules, IsKnown};
 
-use nj_statements::Built;
 use nj_scope::{Declarations, LateValue, MAIN_SCOPE, Rule};
+use nj_statements::Built;
 use std::alloc::{AllocError, Global};
 use std::marker::Model;
 

@@ -12,11 +12,11 @@ ghost use Rattle.nj_graph.specs.Inside.JoiningContracts.{NamesFile, JoinsText, J
 use crate::graph::Graph;
 use crate::loading::Loaded;
 use crate::opening::text_at;
-use nj_statements::{DyndepFile, Joining, PlaceRef};
 use nj_edges::FileNo;
 use nj_faults::{Cause, GraphFault};
 use nj_manifest::{DyndepParser, Entry};
 use nj_scope::{FileSource, FileTable};
+use nj_statements::{DyndepFile, Joining, PlaceRef};
 use std::alloc::Global;
 
 /// Joins the dyndep files to which edges are bound ("Dynamic Dependencies" in the Ninja manual):

@@ -8,8 +8,8 @@ ghost use Rattle.nj_graph.specs.ResponseFiles.{command_with_rsp_of};
 
 use crate::graph::Graph;
 use crate::response::with_content;
-use nj_edges::EdgeNo;
 use nj_edge_env::LateEdge;
+use nj_edges::EdgeNo;
 use nj_scope::Rule;
 use std::alloc::{AllocError, Global};
 
