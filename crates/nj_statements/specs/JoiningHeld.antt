@@ -1,4 +1,4 @@
--- How edges are held to which dyndep files are joined. Nothing here has to be believed.
+-- What is held while dyndep files are joined: the edges with what was added to them, and which still wait.
 use Rattle.std.specs.Prelude.{◌≡◌, ℕ, ◌+◌, Bool, true, false, Option, Some, None}
 use Rattle.std.specs.Prelude.{Result, Ok, Err, List, [], ◌∷◌, ◌++◌, map, bytes_eq}
 use Rattle.std.specs.List.{IsDistinct}
