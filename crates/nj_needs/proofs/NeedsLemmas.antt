@@ -35,18 +35,18 @@ pub IsSound-from : (w : Walk) (s : Saved) → IsNeeds w s → IsSound (state_of 
 IsSound-from w s h = record { left = h.rest; turns = omega arith }
 
 -- the count is that of the turns that were taken
-pub turns-are : (w : Walk) (s : Saved) → IsNeeds w s → w.looks.turns ≡ saturated (state_of w s).turns
+pub turns-are : (w : Walk) (s : Saved) → IsNeeds w s → w.turns.taken ≡ saturated (state_of w s).turns
 turns-are w s h =
     let t = h.walk.counted in
     let e : t.0 ≡ (state_of w s).turns = omega (arith, t.2) in
     t.1 ∙ ap saturated e
 
 -- a walk that went on
-pub IsSameWalk-from : (w v : Walk) (s r : Saved) → v.looks.graph ≡ w.looks.graph → v.looks.targets ≡ w.looks.targets → v.begun ≡ w.begun
-    → turns_left_of v.looks.graph.now v.looks.targets.now v.path.items v.place ≤ turns_left_of w.looks.graph.now w.looks.targets.now w.path.items w.place
+pub IsSameWalk-from : (w v : Walk) (s r : Saved) → v.turns.graph ≡ w.turns.graph → v.turns.targets ≡ w.turns.targets → v.begun ≡ w.begun
+    → turns_left_of v.turns.graph.now v.turns.targets.now v.path.items v.place ≤ turns_left_of w.turns.graph.now w.turns.targets.now w.path.items w.place
     → IsNeeds v r → IsSameWalk (state_of w s) (state_of v r)
 IsSameWalk-from w v s r graph targets begun fewer h =
-    let bound : bound_of v.looks.graph.now v.looks.targets.now ≡ bound_of w.looks.graph.now w.looks.targets.now = rw (graph, targets) refl in
+    let bound : bound_of v.turns.graph.now v.turns.targets.now ≡ bound_of w.turns.graph.now w.turns.targets.now = rw (graph, targets) refl in
     record {
       graph = rw graph refl;
       targets = rw targets refl;
@@ -88,12 +88,12 @@ closed-places path after f next shrunk is =
 -- ---- the turns
 
 -- w is the walk before a turn, and v after it
-module _ (w v : Walk) (graph : v.looks.graph ≡ w.looks.graph) (targets : v.looks.targets ≡ w.looks.targets) where
-  module _ (t : HasLooked w.looks.graph.now w.looks.targets.now w.path.items w.place v.path.items v.place) where
-    pub looked-left : left_of v.looks.graph.now v.looks.targets.now v.path.items v.place ≡ left_of w.looks.graph.now w.looks.targets.now w.path.items w.place
+module _ (w v : Walk) (graph : v.turns.graph ≡ w.turns.graph) (targets : v.turns.targets ≡ w.turns.targets) where
+  module _ (t : HasLooked w.turns.graph.now w.turns.targets.now w.path.items w.place v.path.items v.place) where
+    pub looked-left : left_of v.turns.graph.now v.turns.targets.now v.path.items v.place ≡ left_of w.turns.graph.now w.turns.targets.now w.path.items w.place
     looked-left = rw (graph, targets) t.left
 
-    pub looked-less : turns_left_of v.looks.graph.now v.looks.targets.now v.path.items v.place < turns_left_of w.looks.graph.now w.looks.targets.now w.path.items w.place
+    pub looked-less : turns_left_of v.turns.graph.now v.turns.targets.now v.path.items v.place < turns_left_of w.turns.graph.now w.turns.targets.now w.path.items w.place
     looked-less = rw (graph, targets) (omega (arith, t.turn))
 
     pub looked-front : (s : Saved) → KeepsFront s w.path.items → KeepsFront s v.path.items
@@ -110,24 +110,24 @@ module _ (w v : Walk) (graph : v.looks.graph ≡ w.looks.graph) (targets : v.loo
       rest = rw (graph, targets) (t.left ∙ h.rest);
     }
 
-  module _ (e : ℕ) (phony : Bool) (t : HasClosed w.looks.graph.now w.looks.targets.now w.path.items w.place v.path.items v.place e phony) where
-    pub closed-less : turns_left_of v.looks.graph.now v.looks.targets.now v.path.items v.place < turns_left_of w.looks.graph.now w.looks.targets.now w.path.items w.place
+  module _ (e : ℕ) (phony : Bool) (t : HasClosed w.turns.graph.now w.turns.targets.now w.path.items w.place v.path.items v.place e phony) where
+    pub closed-less : turns_left_of v.turns.graph.now v.turns.targets.now v.path.items v.place < turns_left_of w.turns.graph.now w.turns.targets.now w.path.items w.place
     closed-less = rw (graph, targets) (omega (arith, t.turn))
 
     pub closed-front : (s r : Saved) → r.numbers ≡ s.numbers → r.kept ≡ min s.kept (length v.path.items) → KeepsFront s w.path.items → KeepsFront r v.path.items
     closed-front s r numbers kept h = front-closed s r w.path.items v.path.items t.popped.0 t.popped.1 numbers kept h
 
     -- a phony edge
-    pub closed-left : phony ≡ true → left_of v.looks.graph.now v.looks.targets.now v.path.items v.place ≡ left_of w.looks.graph.now w.looks.targets.now w.path.items w.place
+    pub closed-left : phony ≡ true → left_of v.turns.graph.now v.turns.targets.now v.path.items v.place ≡ left_of w.turns.graph.now w.turns.targets.now w.path.items w.place
     closed-left is =
-        let N = left_of w.looks.graph.now w.looks.targets.now v.path.items v.place in
-        let same : left_of w.looks.graph.now w.looks.targets.now w.path.items w.place ≡ N = t.left ∙ ap (λ b. cond b N (e ∷ N)) is in
+        let N = left_of w.turns.graph.now w.turns.targets.now v.path.items v.place in
+        let same : left_of w.turns.graph.now w.turns.targets.now w.path.items w.place ≡ N = t.left ∙ ap (λ b. cond b N (e ∷ N)) is in
         rw (graph, targets) (sym same)
 
     pub closed-needs : (s r : Saved) → r.numbers ≡ s.numbers → r.kept ≡ min s.kept (length v.path.items) → phony ≡ true → IsNeeds w s → IsWalk v → IsNeeds v r
     closed-needs s r numbers kept is h walk =
-        let N = left_of w.looks.graph.now w.looks.targets.now v.path.items v.place in
-        let same : left_of w.looks.graph.now w.looks.targets.now w.path.items w.place ≡ N = t.left ∙ ap (λ b. cond b N (e ∷ N)) is in
+        let N = left_of w.turns.graph.now w.turns.targets.now v.path.items v.place in
+        let same : left_of w.turns.graph.now w.turns.targets.now w.path.items w.place ≡ N = t.left ∙ ap (λ b. cond b N (e ∷ N)) is in
         record {
           walk = walk;
           front = closed-front s r numbers kept h.front;
@@ -138,7 +138,7 @@ module _ (w v : Walk) (graph : v.looks.graph ≡ w.looks.graph) (targets : v.loo
     -- an edge that is returned
     pub returned-room : (s r : Saved) → r.numbers ≡ s.numbers → IsNeeds w s → length v.path.items < vec_capacity r.numbers
     returned-room s r numbers h =
-        let wide : count_of w.looks.graph.now ≤ vec_capacity r.numbers = rw numbers h.room in
+        let wide : count_of w.turns.graph.now ≤ vec_capacity r.numbers = rw numbers h.room in
         omega (arith, wide, t.short)
 
     address : (s : Saved) → s.numbers.items ≡ places v.path.items ++ (v.place - 1) ∷ [] → s.numbers.items ≡ places w.path.items
@@ -147,19 +147,19 @@ module _ (w v : Walk) (graph : v.looks.graph ≡ w.looks.graph) (targets : v.loo
     pub returned-needs : (s r q : Saved) → r.numbers ≡ s.numbers → vec_capacity r.numbers ≤ vec_capacity q.numbers → KeepsFront q v.path.items → q.numbers.items ≡ places v.path.items ++ (v.place - 1) ∷ []
         → IsNeeds w s → IsWalk v → IsNeeds v q
     returned-needs s r q numbers wide front is h walk =
-        let room : count_of w.looks.graph.now ≤ vec_capacity r.numbers = rw numbers h.room in
-        let rest : rest_of w.looks.graph.now w.looks.targets.now q.numbers.items ≡ left_of w.looks.graph.now w.looks.targets.now v.path.items v.place = rw (address q is) t.rest in
+        let room : count_of w.turns.graph.now ≤ vec_capacity r.numbers = rw numbers h.room in
+        let rest : rest_of w.turns.graph.now w.turns.targets.now q.numbers.items ≡ left_of w.turns.graph.now w.turns.targets.now v.path.items v.place = rw (address q is) t.rest in
         record { walk = walk; front = front; room = rw graph (omega (arith, room, wide)); rest = rw (graph, targets) (sym rest) }
 
-    pub returned-first : (q : Saved) → q.numbers.items ≡ places v.path.items ++ (v.place - 1) ∷ [] → IsFirstPlaceOf v.looks.graph.now v.looks.targets.now q.numbers.items e
+    pub returned-first : (q : Saved) → q.numbers.items ≡ places v.path.items ++ (v.place - 1) ∷ [] → IsFirstPlaceOf v.turns.graph.now v.turns.targets.now q.numbers.items e
     returned-first q is = rw (graph, targets, address q is) t.first
 
-    pub returned-left : phony ≡ false → left_of w.looks.graph.now w.looks.targets.now w.path.items w.place ≡ e ∷ left_of v.looks.graph.now v.looks.targets.now v.path.items v.place
+    pub returned-left : phony ≡ false → left_of w.turns.graph.now w.turns.targets.now w.path.items w.place ≡ e ∷ left_of v.turns.graph.now v.turns.targets.now v.path.items v.place
     returned-left is =
-        let N = left_of w.looks.graph.now w.looks.targets.now v.path.items v.place in
+        let N = left_of w.turns.graph.now w.turns.targets.now v.path.items v.place in
         rw (graph, targets) (t.left ∙ ap (λ b. cond b N (e ∷ N)) is)
 
-  module _ (t : HasEnded w.looks.graph.now w.looks.targets.now w.path.items w.place v.path.items v.place) where
+  module _ (t : HasEnded w.turns.graph.now w.turns.targets.now w.path.items w.place v.path.items v.place) where
     pub ended-needs : (s : Saved) → IsNeeds w s → IsWalk v → IsNeeds v s
     ended-needs s h walk = record {
       walk = walk;
@@ -168,8 +168,8 @@ module _ (w v : Walk) (graph : v.looks.graph ≡ w.looks.graph) (targets : v.loo
       rest = rw (graph, targets, t.path_stays, t.place_stays) h.rest;
     }
 
-    pub ended-left : left_of v.looks.graph.now v.looks.targets.now v.path.items v.place ≡ []
+    pub ended-left : left_of v.turns.graph.now v.turns.targets.now v.path.items v.place ≡ []
     ended-left = rw (graph, targets, t.path_stays, t.place_stays) t.left
 
-    pub ended-turns : turns_left_of v.looks.graph.now v.looks.targets.now v.path.items v.place ≡ 0
+    pub ended-turns : turns_left_of v.turns.graph.now v.turns.targets.now v.path.items v.place ≡ 0
     ended-turns = rw (graph, targets, t.path_stays, t.place_stays) t.turns

@@ -25,38 +25,38 @@ use Rattle.nj_needs.proofs.ResumeLemmas.{valid-step, same-cut}
 pub record IsOnWay (w : Walk) (numbers : List ℕ) (i : ℕ) : Type 0 where
   pub walk : IsWalk w
   pub path : places w.path.items ≡ take i numbers
-  pub valid : is_valid (makers_of w.looks.graph.now) (top_of w.looks.graph.now w.looks.targets.now w.path.items) (drop i numbers) ≡ true
+  pub valid : is_valid (makers_of w.turns.graph.now) (top_of w.turns.graph.now w.turns.targets.now w.path.items) (drop i numbers) ≡ true
 
 -- the edge there was done: so is all that is done at the mark
 abbrev pub IsCut : Walk → Walk → List ℕ → Type 0
-IsCut w v numbers = (v.path.items ≡ w.path.items) × (left_of v.looks.graph.now v.looks.targets.now v.path.items v.place ≡ rest_of v.looks.graph.now v.looks.targets.now numbers)
+IsCut w v numbers = (v.path.items ≡ w.path.items) × (left_of v.turns.graph.now v.turns.targets.now v.path.items v.place ≡ rest_of v.turns.graph.now v.turns.targets.now numbers)
 
 -- the edge there was opened
 abbrev pub IsOpened : Walk → Walk → List ℕ → ℕ → Type 0
 IsOpened w v numbers i = (length v.path.items ≡ length w.path.items + 1) × (v.place ≡ 0) × IsOnWay v numbers (i + 1)
 
-module _ (w v : Walk) (graph : v.looks.graph ≡ w.looks.graph) (targets : v.looks.targets ≡ w.looks.targets) (numbers : List ℕ) (i p : ℕ) (lt : i < length numbers) (number : p ≡ get_or numbers i p)
+module _ (w v : Walk) (graph : v.turns.graph ≡ w.turns.graph) (targets : v.turns.targets ≡ w.turns.targets) (numbers : List ℕ) (i p : ℕ) (lt : i < length numbers) (number : p ≡ get_or numbers i p)
     (h : IsOnWay w numbers i) (place : w.place ≡ p) (after : IsWalk v) where
   numbers-from : drop i numbers ≡ p ∷ drop (i + 1) numbers
   numbers-from = drop_more numbers i p lt ∙ ap (λ (n : ℕ). n ∷ drop (i + 1) numbers) (sym number)
 
   -- the edge at the place
-  there : (m : ℕ) × (slice_get (top_of w.looks.graph.now w.looks.targets.now w.path.items) p ≡ Some (Some m)) × (is_valid (makers_of w.looks.graph.now) (makers_of w.looks.graph.now m) (drop (i + 1) numbers) ≡ true)
-  there = valid-step (makers_of w.looks.graph.now) (top_of w.looks.graph.now w.looks.targets.now w.path.items) p (drop (i + 1) numbers)
-      (subst (λ (ns : List ℕ). is_valid (makers_of w.looks.graph.now) (top_of w.looks.graph.now w.looks.targets.now w.path.items) ns ≡ true) numbers-from h.valid)
+  there : (m : ℕ) × (slice_get (top_of w.turns.graph.now w.turns.targets.now w.path.items) p ≡ Some (Some m)) × (is_valid (makers_of w.turns.graph.now) (makers_of w.turns.graph.now m) (drop (i + 1) numbers) ≡ true)
+  there = valid-step (makers_of w.turns.graph.now) (top_of w.turns.graph.now w.turns.targets.now w.path.items) p (drop (i + 1) numbers)
+      (subst (λ (ns : List ℕ). is_valid (makers_of w.turns.graph.now) (top_of w.turns.graph.now w.turns.targets.now w.path.items) ns ≡ true) numbers-from h.valid)
 
-  there-now : slice_get (top_of w.looks.graph.now w.looks.targets.now w.path.items) w.place ≡ Some (Some there.0)
-  there-now = ap (slice_get (top_of w.looks.graph.now w.looks.targets.now w.path.items)) place ∙ there.1
+  there-now : slice_get (top_of w.turns.graph.now w.turns.targets.now w.path.items) w.place ≡ Some (Some there.0)
+  there-now = ap (slice_get (top_of w.turns.graph.now w.turns.targets.now w.path.items)) place ∙ there.1
 
   -- the whole mark
   numbers-are : places w.path.items ++ p ∷ drop (i + 1) numbers ≡ numbers
   numbers-are = ap (λ (ns : List ℕ). ns ++ p ∷ drop (i + 1) numbers) h.path ∙ ap (λ (ns : List ℕ). take i numbers ++ ns) (sym numbers-from) ∙ take-append-drop i numbers
 
-  cut : HasLooked w.looks.graph.now w.looks.targets.now w.path.items w.place v.path.items v.place → list_any (nat_eq there.0) (done_at (makers_of w.looks.graph.now) (count_of w.looks.graph.now) (row_of w.looks.graph.now w.looks.targets.now) w.path.items w.place) ≡ true
-      → left_of v.looks.graph.now v.looks.targets.now v.path.items v.place ≡ rest_of v.looks.graph.now v.looks.targets.now numbers
+  cut : HasLooked w.turns.graph.now w.turns.targets.now w.path.items w.place v.path.items v.place → list_any (nat_eq there.0) (done_at (makers_of w.turns.graph.now) (count_of w.turns.graph.now) (row_of w.turns.graph.now w.turns.targets.now) w.path.items w.place) ≡ true
+      → left_of v.turns.graph.now v.turns.targets.now v.path.items v.place ≡ rest_of v.turns.graph.now v.turns.targets.now numbers
   cut t is_done =
-      let g = w.looks.graph.now in
-      let ts = w.looks.targets.now in
+      let g = w.turns.graph.now in
+      let ts = w.turns.targets.now in
       let row = row_of g ts in
       let D = done_at (makers_of g) (count_of g) row in
       let done_p = subst (λ (q : ℕ). list_any (nat_eq there.0) (D w.path.items q) ≡ true) place is_done in
@@ -70,8 +70,8 @@ module _ (w v : Walk) (graph : v.looks.graph ≡ w.looks.graph) (targets : v.loo
 
   opened : (f : Frame) → v.path.items ≡ w.path.items ++ f ∷ [] → f.at ≡ w.place → v.place ≡ 0 → IsOpened w v numbers i
   opened f grown at zero_ =
-      let g = w.looks.graph.now in
-      let ts = w.looks.targets.now in
+      let g = w.turns.graph.now in
+      let ts = w.turns.targets.now in
       let linked : IsLinked (makers_of g) (row_of g ts) (w.path.items ++ f ∷ []) =
       subst (IsLinked (makers_of g) (row_of g ts)) grown (rw (← graph, ← targets) after.standing.linked) in
       let here = (IsLinked-pop (makers_of g) (row_of g ts) w.path.items f linked).1 in
@@ -98,12 +98,12 @@ module _ (w v : Walk) (graph : v.looks.graph ≡ w.looks.graph) (targets : v.loo
   way-step Ended t = absurd (let a = there-now in let b = t.past in cc)
 
 -- the next number stands in the row
-pub way-place_in : (w : Walk) (numbers : List ℕ) (i p : ℕ) → i < length numbers → p ≡ get_or numbers i p → IsOnWay w numbers i → p ≤ length (top_of w.looks.graph.now w.looks.targets.now w.path.items)
+pub way-place_in : (w : Walk) (numbers : List ℕ) (i p : ℕ) → i < length numbers → p ≡ get_or numbers i p → IsOnWay w numbers i → p ≤ length (top_of w.turns.graph.now w.turns.targets.now w.path.items)
 way-place_in w numbers i p lt number h =
     let from : drop i numbers ≡ p ∷ drop (i + 1) numbers = drop_more numbers i p lt ∙ ap (λ (n : ℕ). n ∷ drop (i + 1) numbers) (sym number) in
-    let s = valid-step (makers_of w.looks.graph.now) (top_of w.looks.graph.now w.looks.targets.now w.path.items) p (drop (i + 1) numbers)
-    (subst (λ (ns : List ℕ). is_valid (makers_of w.looks.graph.now) (top_of w.looks.graph.now w.looks.targets.now w.path.items) ns ≡ true) from h.valid) in
-    omega (arith, slice_get_within (top_of w.looks.graph.now w.looks.targets.now w.path.items) p (Some s.0) s.1)
+    let s = valid-step (makers_of w.turns.graph.now) (top_of w.turns.graph.now w.turns.targets.now w.path.items) p (drop (i + 1) numbers)
+    (subst (λ (ns : List ℕ). is_valid (makers_of w.turns.graph.now) (top_of w.turns.graph.now w.turns.targets.now w.path.items) ns ≡ true) from h.valid) in
+    omega (arith, slice_get_within (top_of w.turns.graph.now w.turns.targets.now w.path.items) p (Some s.0) s.1)
 
 -- ---- the last edge of the mark is open
 
@@ -130,22 +130,22 @@ module _ (w : Walk) (numbers : List ℕ) (i : ℕ) (past : length numbers ≤ i)
       let lt = way-long in
       sym (take_all (n + 1) w.path.items (omega (arith, long))) ∙ take_more w.path.items n f lt ∙ ap (λ (k : Frame). take n w.path.items ++ k ∷ []) (sym at)
 
-  linked-last : IsLinked (makers_of w.looks.graph.now) (row_of w.looks.graph.now w.looks.targets.now) (take (length numbers - 1) w.path.items ++ f ∷ [])
-  linked-last = subst (IsLinked (makers_of w.looks.graph.now) (row_of w.looks.graph.now w.looks.targets.now)) way-ends h.walk.standing.linked
+  linked-last : IsLinked (makers_of w.turns.graph.now) (row_of w.turns.graph.now w.turns.targets.now) (take (length numbers - 1) w.path.items ++ f ∷ [])
+  linked-last = subst (IsLinked (makers_of w.turns.graph.now) (row_of w.turns.graph.now w.turns.targets.now)) way-ends h.walk.standing.linked
 
   pub way-heading : IsHeading (take (length numbers - 1) w.path.items) (f.at + 1) w.path.items w.place
   way-heading = record { more = f ∷ []; is = way-ends; ahead = omega arith }
 
-  pub way-last_in : f.at + 1 ≤ length (top_of w.looks.graph.now w.looks.targets.now (take (length numbers - 1) w.path.items))
+  pub way-last_in : f.at + 1 ≤ length (top_of w.turns.graph.now w.turns.targets.now (take (length numbers - 1) w.path.items))
   way-last_in =
-      let r = IsLinked-pop (makers_of w.looks.graph.now) (row_of w.looks.graph.now w.looks.targets.now) (take (length numbers - 1) w.path.items) f linked-last in
-      omega (arith, slice_get_within (top_of w.looks.graph.now w.looks.targets.now (take (length numbers - 1) w.path.items)) f.at (Some f.edge) r.1)
+      let r = IsLinked-pop (makers_of w.turns.graph.now) (row_of w.turns.graph.now w.turns.targets.now) (take (length numbers - 1) w.path.items) f linked-last in
+      omega (arith, slice_get_within (top_of w.turns.graph.now w.turns.targets.now (take (length numbers - 1) w.path.items)) f.at (Some f.edge) r.1)
 
   -- once it is closed, all is done that is done at the mark
-  pub way-rest : left_of w.looks.graph.now w.looks.targets.now (take (length numbers - 1) w.path.items) (f.at + 1) ≡ rest_of w.looks.graph.now w.looks.targets.now numbers
+  pub way-rest : left_of w.turns.graph.now w.turns.targets.now (take (length numbers - 1) w.path.items) (f.at + 1) ≡ rest_of w.turns.graph.now w.turns.targets.now numbers
   way-rest =
-      let g = w.looks.graph.now in
-      let ts = w.looks.targets.now in
+      let g = w.turns.graph.now in
+      let ts = w.turns.targets.now in
       let b = take (length numbers - 1) w.path.items in
       let is : numbers ≡ places (b ++ f ∷ []) = sym whole ∙ ap places way-ends in
       sym (ap (rest_of g ts) is ∙ ap (λ (es : List ℕ). without es (commands_of g ts)) (done-places (makers_of g) (count_of g) (row_of g ts) b f linked-last))

@@ -152,8 +152,8 @@ ahead-empty : (more : List Frame) (goal at : ℕ) → IsAhead more goal at → m
 ahead-empty [] goal at h is = h
 ahead-empty (m ∷ more) goal at h is = absurd cc
 
-module _ (w v : Walk) (graph : v.looks.graph ≡ w.looks.graph) (targets : v.looks.targets ≡ w.looks.targets) (base : List Frame) (goal : ℕ) (h : IsHeading base goal w.path.items w.place)
-    (elsewhere : length w.path.items ≡ length base → w.place ≡ goal → ⊥) (inside : goal ≤ length (top_of w.looks.graph.now w.looks.targets.now base)) where
+module _ (w v : Walk) (graph : v.turns.graph ≡ w.turns.graph) (targets : v.turns.targets ≡ w.turns.targets) (base : List Frame) (goal : ℕ) (h : IsHeading base goal w.path.items w.place)
+    (elsewhere : length w.path.items ≡ length base → w.place ≡ goal → ⊥) (inside : goal ≤ length (top_of w.turns.graph.now w.turns.targets.now base)) where
   -- in the row itself the place is before the goal
   before : h.more ≡ [] → w.place < goal
   before none =
@@ -161,17 +161,17 @@ module _ (w v : Walk) (graph : v.looks.graph ≡ w.looks.graph) (targets : v.loo
       let le : w.place ≤ goal = ahead-empty h.more goal w.place h.ahead none in
       elim (cases_lt w.place goal) [ inl lt ↦ lt | inr ge ↦ absurd (elsewhere (ap length path) (omega (arith, le, ge))) ]
 
-  not-past : h.more ≡ [] → slice_get (top_of w.looks.graph.now w.looks.targets.now w.path.items) w.place ≡ None → ⊥
+  not-past : h.more ≡ [] → slice_get (top_of w.turns.graph.now w.turns.targets.now w.path.items) w.place ≡ None → ⊥
   not-past none past =
       let path : w.path.items ≡ base = h.is ∙ ap (λ (fs : List Frame). base ++ fs) none ∙ append-nil base in
-      let over : length (top_of w.looks.graph.now w.looks.targets.now base) ≤ w.place =
-      past-end (top_of w.looks.graph.now w.looks.targets.now base) w.place (ap (λ (fs : List Frame). slice_get (top_of w.looks.graph.now w.looks.targets.now fs) w.place) (sym path) ∙ past) in
+      let over : length (top_of w.turns.graph.now w.turns.targets.now base) ≤ w.place =
+      past-end (top_of w.turns.graph.now w.turns.targets.now base) w.place (ap (λ (fs : List Frame). slice_get (top_of w.turns.graph.now w.turns.targets.now fs) w.place) (sym path) ∙ past) in
       omega (arith, before none, over, inside)
 
   abbrev Goes : Type 0
-  Goes = IsHeading base goal v.path.items v.place × (turns_left_of v.looks.graph.now v.looks.targets.now v.path.items v.place < turns_left_of w.looks.graph.now w.looks.targets.now w.path.items w.place)
+  Goes = IsHeading base goal v.path.items v.place × (turns_left_of v.turns.graph.now v.turns.targets.now v.path.items v.place < turns_left_of w.turns.graph.now w.turns.targets.now w.path.items w.place)
 
-  looked-goes : HasLooked w.looks.graph.now w.looks.targets.now w.path.items w.place v.path.items v.place → Goes
+  looked-goes : HasLooked w.turns.graph.now w.turns.targets.now w.path.items w.place v.path.items v.place → Goes
   looked-goes t = (
     elim t.moved [
       | inl same ↦ rw (same.0, same.1) (record { more = h.more; is = h.is; ahead = ahead-next h.more goal w.place h.ahead before })
@@ -186,7 +186,7 @@ module _ (w v : Walk) (graph : v.looks.graph ≡ w.looks.graph) (targets : v.loo
     looked-less w v graph targets t,
   )
 
-  closed-goes : (e : ℕ) (phony : Bool) → HasClosed w.looks.graph.now w.looks.targets.now w.path.items w.place v.path.items v.place e phony → Goes
+  closed-goes : (e : ℕ) (phony : Bool) → HasClosed w.turns.graph.now w.turns.targets.now w.path.items w.place v.path.items v.place e phony → Goes
   closed-goes e phony t = (by_more h.more h.is h.ahead (λ none. not-past none t.past), closed-less w v graph targets e phony t)
     where
       by_more : (more : List Frame) → w.path.items ≡ base ++ more → IsAhead more goal w.place → (more ≡ [] → ⊥) → IsHeading base goal v.path.items v.place
@@ -199,7 +199,7 @@ module _ (w v : Walk) (graph : v.looks.graph ≡ w.looks.graph) (targets : v.loo
           let both = same_from_push (base ++ s.0) v.path.items s.1 f same in
           record { more = s.0; is = sym both.0; ahead = s.3 goal v.place ahead (t.popped.3 ∙ ap (λ (g : Frame). g.at + 1) (sym both.1)) }
 
-  ended-goes : HasEnded w.looks.graph.now w.looks.targets.now w.path.items w.place v.path.items v.place → Goes
+  ended-goes : HasEnded w.turns.graph.now w.turns.targets.now w.path.items w.place v.path.items v.place → Goes
   ended-goes t = absurd (by_more h.more h.is (λ none. not-past none t.past))
     where
       by_more : (more : List Frame) → w.path.items ≡ base ++ more → (more ≡ [] → ⊥) → ⊥

@@ -4,7 +4,7 @@
 mod frame;
 mod growing;
 mod laws;
-mod looks;
+mod turns;
 mod needs;
 mod resuming;
 mod returned;

@@ -6,7 +6,7 @@ ghost use Rattle.nj_needs.specs.Counts.{saturated};
 ghost use Rattle.nj_needs.specs.Resuming.{ResumeIs};
 ghost use Rattle.nj_needs.specs.Walks.{BeginsAt, commands_of, IsSound, IsSameWalk, NextIs, number_of};
 
-use crate::looks::Looks;
+use crate::turns::Turns;
 use crate::resuming::{leads, rebuild};
 use crate::returned::next_edge;
 use crate::saved::Saved;
@@ -49,9 +49,9 @@ impl<'g> Needs<'g> {
         ensures commands { IfOk result (λ n. n.left ≡ commands_of graph.now targets.now) }
         ensures turns { IfOk result (λ n. n.turns ≡ 0) }
     {
-        let looks = Looks::new(graph, targets);
-        let room = looks.edge_count();
-        let walk = Walk::new(alloc, looks, 0)?;
+        let turns = Turns::new(graph, targets);
+        let room = turns.edge_count();
+        let walk = Walk::new(alloc, turns, 0)?;
         let saved = Saved::new(alloc, &[], room)?;
         Ok(Needs { walk, saved })
     }
@@ -74,13 +74,13 @@ impl<'g> Needs<'g> {
         requires { All (λ f. f.0 < length graph.now.files) targets.now }
         ensures { ResumeIs graph.now targets.now mark.now result }
     {
-        let mut looks = Looks::new(graph, targets);
-        let room = looks.edge_count();
+        let mut turns = Turns::new(graph, targets);
+        let room = turns.edge_count();
         let numbers = mark.numbers();
-        if !leads(&mut looks, numbers) {
+        if !leads(&mut turns, numbers) {
             return Err(MarkFault::MarkOutOfRange);
         }
-        let mut walk = Walk::new(alloc, looks, numbers.len())?;
+        let mut walk = Walk::new(alloc, turns, numbers.len())?;
         let saved = Saved::new(alloc, numbers, room)?;
         rebuild(&mut walk, numbers);
         Ok(Needs { walk, saved })
@@ -114,6 +114,6 @@ impl<'g> Needs<'g> {
         ensures turns { result ≡ saturated self.now.turns }
         ensures sound { IsSound self.now }
     {
-        self.walk.looks.turns()
+        self.walk.turns.taken()
     }
 }

@@ -11,25 +11,25 @@ ghost use Rattle.nj_needs.specs.Needs.{AreWithin};
 ghost use Rattle.nj_needs.specs.Inside.Standing.{IsWalk, left_of, top_of};
 ghost use Rattle.nj_needs.specs.Walks.{rest_of};
 
-use crate::looks::Looks;
+use crate::turns::Turns;
 use crate::walk::Walk;
 
 /// Whether each step of a mark leads to an edge. Allocates nothing, and takes a look for each
 /// number.
-pub(crate) fn leads(looks: &mut Looks, numbers: &[u64]) -> bool
-    requires turns { looks.old.turns ≡ 0 }
-    requires acyclic { IsAcyclic (makers_of looks.old.graph.now) (count_of looks.old.graph.now) }
-    requires within { AreWithin (row_of looks.old.graph.now looks.old.targets.now)
-        (count_of looks.old.graph.now) }
-    ensures valid { result ≡ is_valid (makers_of looks.old.graph.now)
-        (row_of looks.old.graph.now looks.old.targets.now) numbers.now }
-    ensures turns_after { OnTrue result (looks.new.turns ≡ saturated (length numbers.now)) }
-    ensures graph { looks.new.graph ≡ looks.old.graph }
-    ensures targets { looks.new.targets ≡ looks.old.targets }
+pub(crate) fn leads(turns: &mut Turns, numbers: &[u64]) -> bool
+    requires turns { turns.old.taken ≡ 0 }
+    requires acyclic { IsAcyclic (makers_of turns.old.graph.now) (count_of turns.old.graph.now) }
+    requires within { AreWithin (row_of turns.old.graph.now turns.old.targets.now)
+        (count_of turns.old.graph.now) }
+    ensures valid { result ≡ is_valid (makers_of turns.old.graph.now)
+        (row_of turns.old.graph.now turns.old.targets.now) numbers.now }
+    ensures turns_after { OnTrue result (turns.new.taken ≡ saturated (length numbers.now)) }
+    ensures graph { turns.new.graph ≡ turns.old.graph }
+    ensures targets { turns.new.targets ≡ turns.old.targets }
 {
     let mut edge = None;
     'steps: for number in numbers {
-        let Some(found) = looks.look(edge, *number as usize) else {
+        let Some(found) = turns.look(edge, *number as usize) else {
             return false;
         };
         if found.is_none() {
@@ -46,14 +46,14 @@ pub(crate) fn rebuild(walk: &mut Walk, numbers: &[u64])
     requires walk { IsWalk walk.old }
     requires path { walk.old.path.items ≡ [] }
     requires place { walk.old.place ≡ 0 }
-    requires valid { is_valid (makers_of walk.old.looks.graph.now)
-        (row_of walk.old.looks.graph.now walk.old.looks.targets.now) numbers.now ≡ true }
+    requires valid { is_valid (makers_of walk.old.turns.graph.now)
+        (row_of walk.old.turns.graph.now walk.old.turns.targets.now) numbers.now ≡ true }
     ensures walk_after { IsWalk walk.new }
-    ensures rest { left_of walk.new.looks.graph.now walk.new.looks.targets.now
+    ensures rest { left_of walk.new.turns.graph.now walk.new.turns.targets.now
         walk.new.path.items walk.new.place
-        ≡ rest_of walk.new.looks.graph.now walk.new.looks.targets.now numbers.now }
-    ensures graph { walk.new.looks.graph ≡ walk.old.looks.graph }
-    ensures targets { walk.new.looks.targets ≡ walk.old.looks.targets }
+        ≡ rest_of walk.new.turns.graph.now walk.new.turns.targets.now numbers.now }
+    ensures graph { walk.new.turns.graph ≡ walk.old.turns.graph }
+    ensures targets { walk.new.turns.targets ≡ walk.old.turns.targets }
     ensures begun { walk.new.begun ≡ walk.old.begun }
 {
     'steps: for number in numbers {
@@ -78,13 +78,13 @@ fn reach(walk: &mut Walk, depth: usize, place: usize)
     requires depth { depth ≤ length walk.old.path.items }
     requires heading { IsHeading (take depth walk.old.path.items) place
         walk.old.path.items walk.old.place }
-    requires place_in { place ≤ length (top_of walk.old.looks.graph.now walk.old.looks.targets.now
+    requires place_in { place ≤ length (top_of walk.old.turns.graph.now walk.old.turns.targets.now
         (take depth walk.old.path.items)) }
     ensures walk_after { IsWalk walk.new }
     ensures path { walk.new.path.items ≡ take depth walk.old.path.items }
     ensures place { walk.new.place ≡ place }
-    ensures graph { walk.new.looks.graph ≡ walk.old.looks.graph }
-    ensures targets { walk.new.looks.targets ≡ walk.old.looks.targets }
+    ensures graph { walk.new.turns.graph ≡ walk.old.turns.graph }
+    ensures targets { walk.new.turns.targets ≡ walk.old.turns.targets }
     ensures begun { walk.new.begun ≡ walk.old.begun }
 {
     'turns: loop {

@@ -15,13 +15,13 @@ pub(crate) fn next_edge(walk: &mut Walk, saved: &mut Saved) -> Option<usize>
     requires { IsNeeds walk.old saved.old }
     ensures after { IsNeeds walk.new saved.new }
     ensures next { NextIs (state_of walk.old saved.old) result (state_of walk.new saved.new) }
-    ensures known { IfSome result (λ edge. edge < count_of walk.old.looks.graph.now) }
-    ensures graph { walk.new.looks.graph ≡ walk.old.looks.graph }
-    ensures targets { walk.new.looks.targets ≡ walk.old.looks.targets }
+    ensures known { IfSome result (λ edge. edge < count_of walk.old.turns.graph.now) }
+    ensures graph { walk.new.turns.graph ≡ walk.old.turns.graph }
+    ensures targets { walk.new.turns.targets ≡ walk.old.turns.targets }
     ensures begun { walk.new.begun ≡ walk.old.begun }
-    ensures turns { turns_left_of walk.new.looks.graph.now walk.new.looks.targets.now
+    ensures turns { turns_left_of walk.new.turns.graph.now walk.new.turns.targets.now
         walk.new.path.items walk.new.place
-        ≤ turns_left_of walk.old.looks.graph.now walk.old.looks.targets.now
+        ≤ turns_left_of walk.old.turns.graph.now walk.old.turns.targets.now
         walk.old.path.items walk.old.place }
 {
     'turns: loop {

@@ -7,7 +7,7 @@ ghost use Rattle.nj_needs.specs.Inside.Standing.{IsWalk, TurnIs, top_of};
 ghost use Rattle.nj_needs.specs.Inside.Tops.{IsTop};
 
 use crate::frame::Frame;
-use crate::looks::Looks;
+use crate::turns::Turns;
 use std::alloc::{AllocError, Global};
 
 /// Where a walk stands: the open edges, the first that was opened first; the next place in the
@@ -15,7 +15,7 @@ use std::alloc::{AllocError, Global};
 /// is done.
 #[derive(Drop)]
 pub(crate) struct Walk<'g> {
-    pub looks: Looks<'g>,
+    pub turns: Turns<'g>,
     pub path: Vec<Frame>,
     pub place: usize,
     pub flags: Vec<bool>,
@@ -33,19 +33,19 @@ pub(crate) enum Turn {
 
 impl<'g> Walk<'g> {
     /// A walk from the start, with room for every path. Fails only if an allocation fails.
-    pub fn new(alloc: Global, looks: Looks<'g>, begun: usize) -> Result<Walk<'g>, AllocError>
-        requires { looks.turns ≡ saturated begun }
+    pub fn new(alloc: Global, turns: Turns<'g>, begun: usize) -> Result<Walk<'g>, AllocError>
+        requires { turns.taken ≡ saturated begun }
         ensures walk { IfOk result (λ w. IsWalk w) }
-        ensures looks { IfOk result (λ w. w.looks ≡ looks.entry) }
+        ensures turns { IfOk result (λ w. w.turns ≡ turns.entry) }
         ensures path { IfOk result (λ w. w.path.items ≡ []) }
         ensures place { IfOk result (λ w. w.place ≡ 0) }
         ensures begun { IfOk result (λ w. w.begun ≡ begun) }
     {
-        let count = looks.edge_count();
+        let count = turns.edge_count();
         let path = Vec::with_capacity(alloc, count)?;
         let flags = vec![in alloc; false; count]?;
         Ok(Walk {
-            looks,
+            turns,
             path,
             place: 0,
             flags,
@@ -59,12 +59,12 @@ impl<'g> Walk<'g> {
         requires { IsWalk self.old }
         ensures walk { IsWalk self.new }
         ensures turn { TurnIs self.old result self.new }
-        ensures graph { self.new.looks.graph ≡ self.old.looks.graph }
-        ensures targets { self.new.looks.targets ≡ self.old.looks.targets }
+        ensures graph { self.new.turns.graph ≡ self.old.turns.graph }
+        ensures targets { self.new.turns.targets ≡ self.old.turns.targets }
         ensures begun { self.new.begun ≡ self.old.begun }
     {
         let edge = top_edge(&self.path);
-        let Some(found) = self.looks.look(edge, self.place) else {
+        let Some(found) = self.turns.look(edge, self.place) else {
             return self.close();
         };
         let Some(maker) = found else {
@@ -89,18 +89,18 @@ impl<'g> Walk<'g> {
     // Past the end of a row: closes the last open edge.
     fn close(&mut self) -> Turn
         requires walk { IsWalk self.old }
-        requires past { slice_get (top_of self.old.looks.graph.now self.old.looks.targets.now
+        requires past { slice_get (top_of self.old.turns.graph.now self.old.turns.targets.now
             self.old.path.items) self.old.place ≡ None }
         ensures walk { IsWalk self.new }
         ensures turn { TurnIs self.old result self.new }
-        ensures graph { self.new.looks.graph ≡ self.old.looks.graph }
-        ensures targets { self.new.looks.targets ≡ self.old.looks.targets }
+        ensures graph { self.new.turns.graph ≡ self.old.turns.graph }
+        ensures targets { self.new.turns.targets ≡ self.old.turns.targets }
         ensures begun { self.new.begun ≡ self.old.begun }
     {
         let Some(frame) = self.path.pop() else {
             return Turn::Ended;
         };
-        let phony = self.looks.close(frame.edge, &mut self.flags);
+        let phony = self.turns.close(frame.edge, &mut self.flags);
         self.place = frame.at + 1;
         Turn::Closed(frame.edge, phony)
     }

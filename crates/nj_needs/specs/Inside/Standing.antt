@@ -40,7 +40,7 @@ pub record IsWalkAt (g : EdgeGraph) (targets : List FileNo) (turns : ℕ)
   pub counted : (total : ℕ) × (turns ≡ saturated total) × (total + turns_left_of g targets path.items place ≡ bound_of g targets + begun)
 
 abbrev pub IsWalk : Walk → Type 0
-IsWalk w = IsWalkAt w.looks.graph.now w.looks.targets.now w.looks.turns w.path w.place w.flags.items w.begun
+IsWalk w = IsWalkAt w.turns.graph.now w.turns.targets.now w.turns.taken w.path w.place w.flags.items w.begun
 
 -- a look: the place is passed, and what stands there is done or a source, or an edge is opened
 pub record HasLooked (g : EdgeGraph) (targets : List FileNo) (path : List Frame) (place : ℕ) (after : List Frame) (next : ℕ) : Type 0 where
@@ -71,7 +71,7 @@ pub record HasEnded (g : EdgeGraph) (targets : List FileNo) (path : List Frame) 
   pub past : slice_get (top_of g targets path) place ≡ None
 
 abbrev pub TurnIs : Walk → Turn → Walk → Type 0
-TurnIs old Looked new = HasLooked old.looks.graph.now old.looks.targets.now old.path.items old.place new.path.items new.place
+TurnIs old Looked new = HasLooked old.turns.graph.now old.turns.targets.now old.path.items old.place new.path.items new.place
 TurnIs old (Closed e phony) new =
-    HasClosed old.looks.graph.now old.looks.targets.now old.path.items old.place new.path.items new.place e phony
-TurnIs old Ended new = HasEnded old.looks.graph.now old.looks.targets.now old.path.items old.place new.path.items new.place
+    HasClosed old.turns.graph.now old.turns.targets.now old.path.items old.place new.path.items new.place e phony
+TurnIs old Ended new = HasEnded old.turns.graph.now old.turns.targets.now old.path.items old.place new.path.items new.place

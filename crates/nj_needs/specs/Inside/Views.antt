@@ -9,18 +9,18 @@ use Rattle.nj_needs.specs.declared.saved.Saved.{Saved}
 
 abbrev pub state_of : Walk → Saved → WalkState
 state_of w s = record {
-  graph = w.looks.graph.now;
-  targets = w.looks.targets.now;
+  graph = w.turns.graph.now;
+  targets = w.turns.targets.now;
   begun = w.begun;
   mark = s.numbers.items;
-  left = left_of w.looks.graph.now w.looks.targets.now w.path.items w.place;
-  turns = bound_of w.looks.graph.now w.looks.targets.now + w.begun
-      - turns_left_of w.looks.graph.now w.looks.targets.now w.path.items w.place;
+  left = left_of w.turns.graph.now w.turns.targets.now w.path.items w.place;
+  turns = bound_of w.turns.graph.now w.turns.targets.now + w.begun
+      - turns_left_of w.turns.graph.now w.turns.targets.now w.path.items w.place;
 }
 
 pub record IsNeeds (w : Walk) (s : Saved) : Type 0 where
   pub walk : IsWalk w
   pub front : KeepsFront s w.path.items
-  pub room : count_of w.looks.graph.now ≤ vec_capacity s.numbers
-  pub rest : left_of w.looks.graph.now w.looks.targets.now w.path.items w.place
-      ≡ rest_of w.looks.graph.now w.looks.targets.now s.numbers.items
+  pub room : count_of w.turns.graph.now ≤ vec_capacity s.numbers
+  pub rest : left_of w.turns.graph.now w.turns.targets.now w.path.items w.place
+      ≡ rest_of w.turns.graph.now w.turns.targets.now s.numbers.items

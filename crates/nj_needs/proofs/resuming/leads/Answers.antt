@@ -10,7 +10,7 @@ use Rattle.nj_needs.specs.Graphs.{makers_of, count_of, row_of}
 use Rattle.nj_needs.specs.Inside.Tops.{row_in}
 use Rattle.nj_needs.specs.Marks.{is_valid}
 use Rattle.nj_needs.specs.Needs.{AreWithin}
-use Rattle.nj_needs.specs.declared.looks.Looks.{Looks}
+use Rattle.nj_needs.specs.declared.turns.Turns.{Turns}
 use Rattle.nj_needs.proofs.Members.{Among, Among-get, Contains-from_Among}
 use Rattle.nj_needs.proofs.ResumeLemmas.{valid-none, valid-source, valid-maker}
 use Rattle.nj_needs.proofs.resuming.leads.Goals as goal
@@ -29,26 +29,26 @@ row_within g targets acyclic inside None m a = inside m (Contains-from_Among (ro
 row_within g targets acyclic inside (Some e) m a = acyclic.1.within e m (Contains-from_Among (makers_of g e) m a)
 
 -- what a look found, in the row as it was at first
-found_in : (l m : Looks) (graph : l.graph ≡ m.graph) (targets : l.targets ≡ m.targets) (edge : Option ℕ) (p : ℕ) (o : Option (Option ℕ))
+found_in : (l m : Turns) (graph : l.graph ≡ m.graph) (targets : l.targets ≡ m.targets) (edge : Option ℕ) (p : ℕ) (o : Option (Option ℕ))
     → o ≡ slice_get (row_in l.graph.now l.targets.now edge) p → slice_get (row_in m.graph.now m.targets.now edge) p ≡ o
 found_in l m graph targets edge p o is = rw (← graph, ← targets) (sym is)
 
 pub returns-in_default-clause-valid : goal.returns-in_default-clause-valid
 returns-in_default-clause-valid c =
-    let l = c.args.looks.now in
+    let l = c.args.turns.now in
     let i = c.steps.number-index in
     let numbers = c.args.numbers.now in
     let p = get_or numbers i 0 in
-    let at = found_in c.steps.looks l c.steps.invariant.graph c.steps.invariant.targets c.steps.edge p None c.in_default.ensures.found in
+    let at = found_in c.steps.turns l c.steps.invariant.graph c.steps.invariant.targets c.steps.edge p None c.in_default.ensures.found in
     sym (valid-none (makers_of l.graph.now) (row_in l.graph.now l.targets.now c.steps.edge) numbers i p c.steps-test.true (get_or_default numbers i 0 p c.steps-test.true) at) ∙ c.steps.invariant.rest
 
 pub returns-then-is_none-clause-valid : goal.returns-then-is_none-clause-valid
 returns-then-is_none-clause-valid c =
-    let l = c.args.looks.now in
+    let l = c.args.turns.now in
     let i = c.steps.number-index in
     let numbers = c.args.numbers.now in
     let p = get_or numbers i 0 in
-    let at = found_in c.steps.looks l c.steps.invariant.graph c.steps.invariant.targets c.steps.edge p (Some c.in-Some.found) c.in-Some.ensures.found in
+    let at = found_in c.steps.turns l c.steps.invariant.graph c.steps.invariant.targets c.steps.edge p (Some c.in-Some.found) c.in-Some.ensures.found in
     let none : c.in-Some.found ≡ None = none_of c.in-Some.found c.if-is_none.ensures in
     sym (valid-source (makers_of l.graph.now) (row_in l.graph.now l.targets.now c.steps.edge) numbers i p c.steps-test.true (get_or_default numbers i 0 p c.steps-test.true) (at ∙ ap Some none)) ∙ c.steps.invariant.rest
 
@@ -57,12 +57,12 @@ counted_more n = omega arith
 
 pub steps-preserved : goal.steps-preserved
 steps-preserved c =
-    let l = c.args.looks.now in
+    let l = c.args.turns.now in
     let i = c.steps.number-index in
     let numbers = c.args.numbers.now in
     let p = get_or numbers i 0 in
     let row = row_in l.graph.now l.targets.now c.steps.edge in
-    let at = found_in c.steps.looks l c.steps.invariant.graph c.steps.invariant.targets c.steps.edge p (Some c.in-Some.found) c.in-Some.ensures.found in
+    let at = found_in c.steps.turns l c.steps.invariant.graph c.steps.invariant.targets c.steps.edge p (Some c.in-Some.found) c.in-Some.ensures.found in
     let some = some_of c.in-Some.found c.if-is_none.ensures in
     let next = valid-maker (makers_of l.graph.now) row numbers i p c.steps-test.true (get_or_default numbers i 0 p c.steps-test.true) some.0 (at ∙ ap Some some.1) in
     record {

@@ -7,10 +7,10 @@ use Rattle.nj_needs.proofs.resuming.leads.Given as goal
 
 abbrev pub invariant-steps : goal.invariant-steps
 invariant-steps l = record {
-  edge_in : (e : ℕ) → l.edge ≡ Some e → e < count_of l.fn.looks.graph.now;
-  rest : is_valid (makers_of l.fn.looks.graph.now) (row_in l.fn.looks.graph.now l.fn.looks.targets.now l.edge) (drop l.number-index l.numbers)
-      ≡ is_valid (makers_of l.fn.looks.graph.now) (row_of l.fn.looks.graph.now l.fn.looks.targets.now) l.numbers;
-  turns : l.looks.turns ≡ saturated l.number-index;
-  graph : l.looks.graph ≡ l.fn.looks.graph;
-  targets : l.looks.targets ≡ l.fn.looks.targets;
+  edge_in : (e : ℕ) → l.edge ≡ Some e → e < count_of l.fn.turns.graph.now;
+  rest : is_valid (makers_of l.fn.turns.graph.now) (row_in l.fn.turns.graph.now l.fn.turns.targets.now l.edge) (drop l.number-index l.numbers)
+      ≡ is_valid (makers_of l.fn.turns.graph.now) (row_of l.fn.turns.graph.now l.fn.turns.targets.now) l.numbers;
+  turns : l.turns.taken ≡ saturated l.number-index;
+  graph : l.turns.graph ≡ l.fn.turns.graph;
+  targets : l.turns.targets ≡ l.fn.turns.targets;
 }

@@ -7,8 +7,8 @@ use Rattle.nj_needs.proofs.resuming.reach.Goals as goal
 use Rattle.nj_needs.proofs.resuming.reach.Goals.{After-take_turn, then-len-depth+else-walk-place, else-len-depth}
 
 goes : (c : After-take_turn) → IsHeading (take c.args.depth c.args.walk.now.path.items) c.args.place c.take_turn.new.self.path.items c.take_turn.new.self.place
-    × (turns_left_of c.take_turn.new.self.looks.graph.now c.take_turn.new.self.looks.targets.now c.take_turn.new.self.path.items c.take_turn.new.self.place
-    < turns_left_of c.turns.walk.looks.graph.now c.turns.walk.looks.targets.now c.turns.walk.path.items c.turns.walk.place)
+    × (turns_left_of c.take_turn.new.self.turns.graph.now c.take_turn.new.self.turns.targets.now c.take_turn.new.self.path.items c.take_turn.new.self.place
+    < turns_left_of c.turns.walk.turns.graph.now c.turns.walk.turns.targets.now c.turns.walk.path.items c.turns.walk.place)
 goes c =
     let w = c.turns.walk in
     let e = c.take_turn.ensures in
@@ -18,7 +18,7 @@ goes c =
       | then-len-depth+else-walk-place b ↦ b.if-walk-place.false at
       | else-len-depth b ↦ b.if-len-depth.false (omega (arith, long, len, c.len.ensures))
     ] in
-    let inside : c.args.place ≤ length (top_of w.looks.graph.now w.looks.targets.now base) = rw (c.turns.invariant.graph, c.turns.invariant.targets) c.requires.place_in in
+    let inside : c.args.place ≤ length (top_of w.turns.graph.now w.turns.targets.now base) = rw (c.turns.invariant.graph, c.turns.invariant.targets) c.requires.place_in in
     turn-goes w c.take_turn.new.self e.graph e.targets base c.args.place c.turns.invariant.heading elsewhere inside c.take_turn.result e.turn
 
 pub turns-smaller : goal.turns-smaller

@@ -8,12 +8,12 @@ use Rattle.nj_needs.proofs.RebuildLemmas.{IsOnWay, IsCut, IsOpened, way-step, wa
 use Rattle.nj_needs.proofs.resuming.rebuild.Goals as goal
 
 -- the walk after it reached the place of a number
-reached : (u r : Walk) (graph : r.looks.graph ≡ u.looks.graph) (targets : r.looks.targets ≡ u.looks.targets) (numbers : List ℕ) (i : ℕ) → IsOnWay u numbers i → IsWalk r → r.path.items ≡ u.path.items → IsOnWay r numbers i
+reached : (u r : Walk) (graph : r.turns.graph ≡ u.turns.graph) (targets : r.turns.targets ≡ u.turns.targets) (numbers : List ℕ) (i : ℕ) → IsOnWay u numbers i → IsWalk r → r.path.items ≡ u.path.items → IsOnWay r numbers i
 reached u r graph targets numbers i h walk path = record { walk = walk; path = rw path h.path; valid = rw (graph, targets, path) h.valid }
 
 -- one step of the way
-stepped : (u r v : Walk) (t : Turn) (numbers : List ℕ) (i : ℕ) → i < length numbers → IsOnWay u numbers i → r.looks.graph ≡ u.looks.graph → r.looks.targets ≡ u.looks.targets → IsWalk r → r.path.items ≡ u.path.items
-    → r.place ≡ get_or numbers i 0 → v.looks.graph ≡ r.looks.graph → v.looks.targets ≡ r.looks.targets → IsWalk v → TurnIs r t v → IsCut r v numbers ⊎ IsOpened r v numbers i
+stepped : (u r v : Walk) (t : Turn) (numbers : List ℕ) (i : ℕ) → i < length numbers → IsOnWay u numbers i → r.turns.graph ≡ u.turns.graph → r.turns.targets ≡ u.turns.targets → IsWalk r → r.path.items ≡ u.path.items
+    → r.place ≡ get_or numbers i 0 → v.turns.graph ≡ r.turns.graph → v.turns.targets ≡ r.turns.targets → IsWalk v → TurnIs r t v → IsCut r v numbers ⊎ IsOpened r v numbers i
 stepped u r v t numbers i lt on graph targets walk path place graph' targets' after turn =
     way-step r v graph' targets' numbers i (get_or numbers i 0) lt (get_or_default numbers i 0 (get_or numbers i 0) lt) (reached u r graph targets numbers i on walk path) place after t turn
 

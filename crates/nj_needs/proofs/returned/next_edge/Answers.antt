@@ -57,7 +57,7 @@ pub returns-then-not-phony-clause-known : goal.returns-then-not-phony-clause-kno
 returns-then-not-phony-clause-known c =
     let w = c.turns.walk in
     let h = c.turns.invariant.needs.walk in
-    let below = first-below w.looks.graph.now w.looks.targets.now (places w.path.items) c.in-Closed.edge h.acyclic h.inside c.in-Closed.ensures.turn.first in
+    let below = first-below w.turns.graph.now w.turns.targets.now (places w.path.items) c.in-Closed.edge h.acyclic h.inside c.in-Closed.ensures.turn.first in
     subst (λ g. c.in-Closed.edge < count_of g.now) c.turns.invariant.graph below
 
 pub turns-smaller : goal.turns-smaller
@@ -89,7 +89,7 @@ returns-then-not-phony-clause-turns c =
 pub returns-in-Ended-clause-turns : goal.returns-in-Ended-clause-turns
 returns-in-Ended-clause-turns c =
     let e = c.in-Ended.ensures in
-    let none : turns_left_of c.take_turn.new.self.looks.graph.now c.take_turn.new.self.looks.targets.now c.take_turn.new.self.path.items c.take_turn.new.self.place ≡ 0 =
+    let none : turns_left_of c.take_turn.new.self.turns.graph.now c.take_turn.new.self.turns.targets.now c.take_turn.new.self.path.items c.take_turn.new.self.place ≡ 0 =
     ended-turns c.turns.walk c.take_turn.new.self e.graph e.targets e.turn in
     omega (arith, none)
 
@@ -103,7 +103,7 @@ returns-in-Ended-clause-next c =
     let w = c.turns.walk in
     let v = c.take_turn.new.self in
     let e = c.in-Ended.ensures in
-    let none : turns_left_of v.looks.graph.now v.looks.targets.now v.path.items v.place ≡ 0 = ended-turns w v e.graph e.targets e.turn in
+    let none : turns_left_of v.turns.graph.now v.turns.targets.now v.path.items v.place ≡ 0 = ended-turns w v e.graph e.targets e.turn in
     record {
       none = sym c.turns.invariant.left ∙ e.turn.left;
       none_after = ended-left w v e.graph e.targets e.turn;

@@ -11,18 +11,18 @@ returns-in_default-clause-turn c =
     let w = c.args.self.now in
     let same : w.path.items ≡ c.pop.new.self.items = c.in_default.ensures.items ∙ append-nil c.pop.new.self.items in
     let empty : w.path.items ≡ [] = same ∙ nil_from_length c.pop.new.self.items (omega (arith, c.in_default.ensures.cases)) in
-    turn-end w.looks.graph.now w.looks.targets.now w.looks.turns w.path w.place w.flags.items w.begun c.requires.walk empty c.requires.past c.pop.new.self.items (sym same)
+    turn-end w.turns.graph.now w.turns.targets.now w.turns.taken w.path w.place w.flags.items w.begun c.requires.walk empty c.requires.past c.pop.new.self.items (sym same)
 
 pub close-phony-requires-clause-edge_in : goal.close-phony-requires-clause-edge_in
 close-phony-requires-clause-edge_in c =
     let w = c.args.self.now in
-    close-within w.looks.graph.now w.looks.targets.now w.looks.turns w.path w.place w.flags.items w.begun c.requires.walk
+    close-within w.turns.graph.now w.turns.targets.now w.turns.taken w.path w.place w.flags.items w.begun c.requires.walk
     c.in-Some.frame c.pop.new.self c.in-Some.ensures.items (omega (arith, c.in-Some.ensures.capacity)) c.requires.past
 
 pub close-phony-requires-clause-flag_in : goal.close-phony-requires-clause-flag_in
 close-phony-requires-clause-flag_in c =
     let w = c.args.self.now in
-    let within = close-within w.looks.graph.now w.looks.targets.now w.looks.turns w.path w.place w.flags.items w.begun c.requires.walk
+    let within = close-within w.turns.graph.now w.turns.targets.now w.turns.taken w.path w.place w.flags.items w.begun c.requires.walk
     c.in-Some.frame c.pop.new.self c.in-Some.ensures.items (omega (arith, c.in-Some.ensures.capacity)) c.requires.past in
     omega (arith, within, c.requires.walk.standing.flags_len, ap length c.deref_mut.ensures.value)
 
@@ -35,8 +35,8 @@ pub returns-clause-walk : goal.returns-clause-walk
 returns-clause-walk c =
     let w = c.args.self.now in
     let f = c.in-Some.frame in
-    let base : IsWalkAt w.looks.graph.now w.looks.targets.now (counted w.looks.turns) c.pop.new.self (f.at + 1) (set w.flags.items f.edge true) w.begun =
-    walk-close w.looks.graph.now w.looks.targets.now w.looks.turns w.path w.place w.flags.items w.begun c.requires.walk
+    let base : IsWalkAt w.turns.graph.now w.turns.targets.now (counted w.turns.taken) c.pop.new.self (f.at + 1) (set w.flags.items f.edge true) w.begun =
+    walk-close w.turns.graph.now w.turns.targets.now w.turns.taken w.path w.place w.flags.items w.begun c.requires.walk
     f c.pop.new.self c.in-Some.ensures.items (omega (arith, c.in-Some.ensures.capacity)) c.requires.past in
     let flags = flags_after w.flags c.deref_mut.result.now c.close-phony.new.flags f.edge c.deref_mut.ensures.value c.deref_mut.ensures.len c.close-phony.ensures.flag in
     rw (c.close-phony.ensures.graph, c.close-phony.ensures.targets, c.close-phony.ensures.turn, flags) base
@@ -45,5 +45,5 @@ pub returns-clause-turn : goal.returns-clause-turn
 returns-clause-turn c =
     let w = c.args.self.now in
     let f = c.in-Some.frame in
-    rw c.close-phony.ensures.phony (turn-close w.looks.graph.now w.looks.targets.now w.looks.turns w.path w.place w.flags.items w.begun c.requires.walk
+    rw c.close-phony.ensures.phony (turn-close w.turns.graph.now w.turns.targets.now w.turns.taken w.path w.place w.flags.items w.begun c.requires.walk
     f c.pop.new.self c.in-Some.ensures.items (omega (arith, c.in-Some.ensures.capacity)) c.requires.past)

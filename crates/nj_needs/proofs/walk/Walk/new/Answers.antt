@@ -6,9 +6,9 @@ use Rattle.nj_needs.proofs.walk.Walk.new.Goals as goal
 
 pub returns-clause-walk : goal.returns-clause-walk
 returns-clause-walk c =
-    let g = c.args.looks.graph.now in
+    let g = c.args.turns.graph.now in
     let wide : count_of g ≤ vec_capacity c.in_ok-path.path = omega (arith, c.edge_count-count.ensures.count, c.in_ok-path.ensures.capacity) in
     let len : length c.in_ok-flags.flags.items ≡ count_of g = omega (arith, c.edge_count-count.ensures.count, c.in_ok-flags.ensures.len) in
     let clear : (e : ℕ) → e < count_of g → get_or c.in_ok-flags.flags.items e false ≡ false = λ e lt. grind (arith, common_steps) in
-    IsWalkAt-start g c.args.looks.targets.now c.args.looks.turns c.in_ok-path.path c.in_ok-flags.flags.items c.args.begun
+    IsWalkAt-start g c.args.turns.targets.now c.args.turns.taken c.in_ok-path.path c.in_ok-flags.flags.items c.args.begun
     c.edge_count-count.ensures.acyclic c.edge_count-count.ensures.within c.requires c.in_ok-path.ensures.items wide len clear

@@ -14,14 +14,14 @@ use Rattle.nj_needs.proofs.walk.Walk.take_turn.Goals as goal
 
 -- what was found stands in the row on top
 stands : (w : Walk) (path : List Frame) (edge : Option ℕ) (found : Option (Option ℕ)) → path ≡ w.path.items → IsTop path edge
-    → found ≡ slice_get (row_in w.looks.graph.now w.looks.targets.now edge) w.place → slice_get (top_of w.looks.graph.now w.looks.targets.now w.path.items) w.place ≡ found
+    → found ≡ slice_get (row_in w.turns.graph.now w.turns.targets.now edge) w.place → slice_get (top_of w.turns.graph.now w.turns.targets.now w.path.items) w.place ≡ found
 stands w path edge found same top is =
-    ap (λ (r : List (Option ℕ)). slice_get r w.place) (sym (row-top w.looks.graph.now w.looks.targets.now w.path.items edge (subst (λ p. IsTop p edge) same top))) ∙ sym is
+    ap (λ (r : List (Option ℕ)). slice_get r w.place) (sym (row-top w.turns.graph.now w.turns.targets.now w.path.items edge (subst (λ p. IsTop p edge) same top))) ∙ sym is
 
 pub look-requires : goal.look-requires
 look-requires c =
     let w = c.args.self.now in
-    top-is_edge w.looks.graph.now w.looks.targets.now w.looks.turns w.path w.place w.flags.items w.begun c.requires c.top_edge-edge.result
+    top-is_edge w.turns.graph.now w.turns.targets.now w.turns.taken w.path w.place w.flags.items w.begun c.requires c.top_edge-edge.result
     (subst (λ p. IsTop p c.top_edge-edge.result) c.deref.ensures.value c.top_edge-edge.ensures)
 
 pub close-requires-clause-past : goal.close-requires-clause-past
@@ -34,8 +34,8 @@ pub returns-in_default-found-clause-walk : goal.returns-in_default-found-clause-
 returns-in_default-found-clause-walk c =
     let w = c.args.self.now in
     let at = stands w c.deref.result.now c.top_edge-edge.result (Some c.in-Some.found) c.deref.ensures.value c.top_edge-edge.ensures c.in-Some.ensures.found in
-    let base : IsWalkAt w.looks.graph.now w.looks.targets.now (counted w.looks.turns) w.path (w.place + 1) w.flags.items w.begun =
-    walk-pass w.looks.graph.now w.looks.targets.now w.looks.turns w.path w.place w.flags.items w.begun c.requires c.in-Some.found at
+    let base : IsWalkAt w.turns.graph.now w.turns.targets.now (counted w.turns.taken) w.path (w.place + 1) w.flags.items w.begun =
+    walk-pass w.turns.graph.now w.turns.targets.now w.turns.taken w.path w.place w.flags.items w.begun c.requires c.in-Some.found at
     (λ m is. absurd (c.in_default-found.not-Some m is)) in
     rw (c.look.ensures.graph, c.look.ensures.targets, c.in-Some.ensures.turn) base
 
@@ -43,19 +43,19 @@ pub returns-in_default-found-clause-turn : goal.returns-in_default-found-clause-
 returns-in_default-found-clause-turn c =
     let w = c.args.self.now in
     let at = stands w c.deref.result.now c.top_edge-edge.result (Some c.in-Some.found) c.deref.ensures.value c.top_edge-edge.ensures c.in-Some.ensures.found in
-    turn-pass w.looks.graph.now w.looks.targets.now w.looks.turns w.path w.place w.flags.items w.begun c.requires c.in-Some.found at
+    turn-pass w.turns.graph.now w.turns.targets.now w.turns.taken w.path w.place w.flags.items w.begun c.requires c.in-Some.found at
     (λ m is. absurd (c.in_default-found.not-Some m is))
 
 -- a maker
 maker_at : (w : Walk) (path : List Frame) (edge : Option ℕ) (found : Option ℕ) (maker : ℕ) → path ≡ w.path.items → IsTop path edge
-    → Some found ≡ slice_get (row_in w.looks.graph.now w.looks.targets.now edge) w.place → found ≡ Some maker
-    → slice_get (top_of w.looks.graph.now w.looks.targets.now w.path.items) w.place ≡ Some (Some maker)
+    → Some found ≡ slice_get (row_in w.turns.graph.now w.turns.targets.now edge) w.place → found ≡ Some maker
+    → slice_get (top_of w.turns.graph.now w.turns.targets.now w.path.items) w.place ≡ Some (Some maker)
 maker_at w path edge found maker same top is made = stands w path edge (Some found) same top is ∙ ap Some made
 
-maker_in : (w : Walk) → IsWalkAt w.looks.graph.now w.looks.targets.now w.looks.turns w.path w.place w.flags.items w.begun → (maker : ℕ)
-    → slice_get (top_of w.looks.graph.now w.looks.targets.now w.path.items) w.place ≡ Some (Some maker) → maker < length w.flags.items
+maker_in : (w : Walk) → IsWalkAt w.turns.graph.now w.turns.targets.now w.turns.taken w.path w.place w.flags.items w.begun → (maker : ℕ)
+    → slice_get (top_of w.turns.graph.now w.turns.targets.now w.path.items) w.place ≡ Some (Some maker) → maker < length w.flags.items
 maker_in w h maker at =
-    let low = top-edge_within w.looks.graph.now w.looks.targets.now w.looks.turns w.path w.place w.flags.items w.begun h w.place maker at in
+    let low = top-edge_within w.turns.graph.now w.turns.targets.now w.turns.taken w.path w.place w.flags.items w.begun h w.place maker at in
     omega (arith, low, h.standing.flags_len)
 
 pub index-requires : goal.index-requires
@@ -66,17 +66,17 @@ index-requires c =
     omega (arith, low)
 
 -- the flag of the maker tells whether it is done
-is_done : (w : Walk) (h : IsWalkAt w.looks.graph.now w.looks.targets.now w.looks.turns w.path w.place w.flags.items w.begun) (maker : ℕ) (flag : Bool)
-    → slice_get (top_of w.looks.graph.now w.looks.targets.now w.path.items) w.place ≡ Some (Some maker) → flag ≡ get_or w.flags.items maker flag → get_or w.flags.items maker false ≡ flag
+is_done : (w : Walk) (h : IsWalkAt w.turns.graph.now w.turns.targets.now w.turns.taken w.path w.place w.flags.items w.begun) (maker : ℕ) (flag : Bool)
+    → slice_get (top_of w.turns.graph.now w.turns.targets.now w.path.items) w.place ≡ Some (Some maker) → flag ≡ get_or w.flags.items maker flag → get_or w.flags.items maker false ≡ flag
 is_done w h maker flag at is = sym (get_or_read w.flags.items maker flag (maker_in w h maker at) is false)
 
 -- a maker whose flag is set is done
-all_done : (w : Walk) (h : IsWalkAt w.looks.graph.now w.looks.targets.now w.looks.turns w.path w.place w.flags.items w.begun) (maker : ℕ)
-    → slice_get (top_of w.looks.graph.now w.looks.targets.now w.path.items) w.place ≡ Some (Some maker) → get_or w.flags.items maker false ≡ true
-    → (m : ℕ) → Some maker ≡ Some m → In (done_of w.looks.graph.now w.looks.targets.now w.path.items w.place) m
+all_done : (w : Walk) (h : IsWalkAt w.turns.graph.now w.turns.targets.now w.turns.taken w.path w.place w.flags.items w.begun) (maker : ℕ)
+    → slice_get (top_of w.turns.graph.now w.turns.targets.now w.path.items) w.place ≡ Some (Some maker) → get_or w.flags.items maker false ≡ true
+    → (m : ℕ) → Some maker ≡ Some m → In (done_of w.turns.graph.now w.turns.targets.now w.path.items w.place) m
 all_done w h maker at done m is =
-    let low = top-edge_within w.looks.graph.now w.looks.targets.now w.looks.turns w.path w.place w.flags.items w.begun h w.place maker at in
-    subst (In (done_of w.looks.graph.now w.looks.targets.now w.path.items w.place)) (same_Some maker m is) (sym (h.standing.flagged maker low) ∙ done)
+    let low = top-edge_within w.turns.graph.now w.turns.targets.now w.turns.taken w.path w.place w.flags.items w.begun h w.place maker at in
+    subst (In (done_of w.turns.graph.now w.turns.targets.now w.path.items w.place)) (same_Some maker m is) (sym (h.standing.flagged maker low) ∙ done)
 
 -- a maker that is done
 pub returns-then-index-clause-walk : goal.returns-then-index-clause-walk
@@ -85,8 +85,8 @@ returns-then-index-clause-walk c =
     let m = c.in-Some-found.maker in
     let at = maker_at w c.deref.result.now c.top_edge-edge.result c.in-Some.found m c.deref.ensures.value c.top_edge-edge.ensures c.in-Some.ensures.found c.in-Some-found.is in
     let done : get_or w.flags.items m false ≡ true = is_done w c.requires m c.index.result.now at c.index.ensures ∙ c.if-index.true in
-    let base : IsWalkAt w.looks.graph.now w.looks.targets.now (counted w.looks.turns) w.path (w.place + 1) w.flags.items w.begun =
-    walk-pass w.looks.graph.now w.looks.targets.now w.looks.turns w.path w.place w.flags.items w.begun c.requires (Some m) at
+    let base : IsWalkAt w.turns.graph.now w.turns.targets.now (counted w.turns.taken) w.path (w.place + 1) w.flags.items w.begun =
+    walk-pass w.turns.graph.now w.turns.targets.now w.turns.taken w.path w.place w.flags.items w.begun c.requires (Some m) at
     (all_done w c.requires m at done) in
     rw (c.look.ensures.graph, c.look.ensures.targets, c.in-Some.ensures.turn) base
 
@@ -96,7 +96,7 @@ returns-then-index-clause-turn c =
     let m = c.in-Some-found.maker in
     let at = maker_at w c.deref.result.now c.top_edge-edge.result c.in-Some.found m c.deref.ensures.value c.top_edge-edge.ensures c.in-Some.ensures.found c.in-Some-found.is in
     let done : get_or w.flags.items m false ≡ true = is_done w c.requires m c.index.result.now at c.index.ensures ∙ c.if-index.true in
-    turn-pass w.looks.graph.now w.looks.targets.now w.looks.turns w.path w.place w.flags.items w.begun c.requires (Some m) at (all_done w c.requires m at done)
+    turn-pass w.turns.graph.now w.turns.targets.now w.turns.taken w.path w.place w.flags.items w.begun c.requires (Some m) at (all_done w c.requires m at done)
 
 -- a maker that is not done
 pub push_within-requires : goal.push_within-requires
@@ -104,7 +104,7 @@ push_within-requires c =
     let w = c.args.self.now in
     let m = c.in-Some-found.maker in
     let at = maker_at w c.deref.result.now c.top_edge-edge.result c.in-Some.found m c.deref.ensures.value c.top_edge-edge.ensures c.in-Some.ensures.found c.in-Some-found.is in
-    let room = room-open w.looks.graph.now w.looks.targets.now w.looks.turns w.path w.place w.flags.items w.begun c.requires w.place m at in
+    let room = room-open w.turns.graph.now w.turns.targets.now w.turns.taken w.path w.place w.flags.items w.begun c.requires w.place m at in
     omega (arith, room)
 
 pub returns-clause-walk : goal.returns-clause-walk
@@ -113,8 +113,8 @@ returns-clause-walk c =
     let m = c.in-Some-found.maker in
     let at = maker_at w c.deref.result.now c.top_edge-edge.result c.in-Some.found m c.deref.ensures.value c.top_edge-edge.ensures c.in-Some.ensures.found c.in-Some-found.is in
     let fresh : get_or w.flags.items m false ≡ false = is_done w c.requires m c.index.result.now at c.index.ensures ∙ c.if-index.false in
-    let base : IsWalkAt w.looks.graph.now w.looks.targets.now (counted w.looks.turns) c.push_within.new.path 0 w.flags.items w.begun =
-    walk-open w.looks.graph.now w.looks.targets.now w.looks.turns w.path w.place w.flags.items w.begun c.requires _ c.push_within.new.path
+    let base : IsWalkAt w.turns.graph.now w.turns.targets.now (counted w.turns.taken) c.push_within.new.path 0 w.flags.items w.begun =
+    walk-open w.turns.graph.now w.turns.targets.now w.turns.taken w.path w.place w.flags.items w.begun c.requires _ c.push_within.new.path
     c.push_within.ensures.items c.push_within.ensures.room refl at fresh in
     rw (c.look.ensures.graph, c.look.ensures.targets, c.in-Some.ensures.turn) base
 
@@ -124,5 +124,5 @@ returns-clause-turn c =
     let m = c.in-Some-found.maker in
     let at = maker_at w c.deref.result.now c.top_edge-edge.result c.in-Some.found m c.deref.ensures.value c.top_edge-edge.ensures c.in-Some.ensures.found c.in-Some-found.is in
     let fresh : get_or w.flags.items m false ≡ false = is_done w c.requires m c.index.result.now at c.index.ensures ∙ c.if-index.false in
-    turn-open w.looks.graph.now w.looks.targets.now w.looks.turns w.path w.place w.flags.items w.begun c.requires _ c.push_within.new.path
+    turn-open w.turns.graph.now w.turns.targets.now w.turns.taken w.path w.place w.flags.items w.begun c.requires _ c.push_within.new.path
     c.push_within.ensures.items c.push_within.ensures.room refl at fresh

@@ -13,25 +13,25 @@ use nj_edges::{EdgeGraph, EdgeNo, FileNo};
 
 /// The graph and the targets, and how many turns were taken. The count stays at the greatest `u64`.
 #[derive(Drop)]
-pub(crate) struct Looks<'g> {
+pub(crate) struct Turns<'g> {
     graph: &'g EdgeGraph,
     targets: &'g [FileNo],
-    turns: u64,
+    taken: u64,
     ghost targets_in: { All (λ f. f.0 < length graph.now.files) targets.now },
 }
 
-impl<'g> Looks<'g> {
+impl<'g> Turns<'g> {
     /// No turn was taken yet.
-    pub fn new(graph: &'g EdgeGraph, targets: &'g [FileNo]) -> Looks<'g>
+    pub fn new(graph: &'g EdgeGraph, targets: &'g [FileNo]) -> Turns<'g>
         requires { All (λ f. f.0 < length graph.now.files) targets.now }
         ensures graph { result.graph ≡ graph.entry }
         ensures targets { result.targets ≡ targets.entry }
-        ensures turns { result.turns ≡ 0 }
+        ensures taken { result.taken ≡ 0 }
     {
-        Looks {
+        Turns {
             graph,
             targets,
-            turns: 0,
+            taken: 0,
         }
     }
 
@@ -54,11 +54,11 @@ impl<'g> Looks<'g> {
         ensures fits { IfSome result (λ _. place + 1 < 2 ^ 64) }
         ensures graph { self.new.graph ≡ self.old.graph }
         ensures targets { self.new.targets ≡ self.old.targets }
-        ensures turn { self.new.turns
-            ≡ (if is_some result then counted self.old.turns else self.old.turns) }
+        ensures turn { self.new.taken
+            ≡ (if is_some result then counted self.old.taken else self.old.taken) }
     {
         let maker = self.maker_at(edge, place)?;
-        self.turns = self.turns.saturating_add(1);
+        self.taken = self.taken.saturating_add(1);
         Some(maker.map(|maker| maker.0))
     }
 
@@ -86,17 +86,17 @@ impl<'g> Looks<'g> {
         ensures flag { flags.new ≡ slice_set flags.old edge true }
         ensures graph { self.new.graph ≡ self.old.graph }
         ensures targets { self.new.targets ≡ self.old.targets }
-        ensures turn { self.new.turns ≡ counted self.old.turns }
+        ensures turn { self.new.taken ≡ counted self.old.taken }
     {
-        self.turns = self.turns.saturating_add(1);
+        self.taken = self.taken.saturating_add(1);
         flags[edge] = true;
         self.graph.is_phony(EdgeNo(edge))
     }
 
     /// How many turns were taken.
-    pub fn turns(&self) -> u64
-        ensures { result ≡ self.now.turns }
+    pub fn taken(&self) -> u64
+        ensures { result ≡ self.now.taken }
     {
-        self.turns
+        self.taken
     }
 }

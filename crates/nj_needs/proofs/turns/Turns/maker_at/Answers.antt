@@ -3,7 +3,7 @@ use Rattle.std.specs.Prelude.{slice_get}
 use Rattle.std.proofs.lemmas.Bool.{ltb-true}
 use Rattle.nj_needs.specs.Inside.Tops.{row_in}
 use Rattle.nj_needs.proofs.Bridges.{row-at}
-use Rattle.nj_needs.proofs.looks.Looks.maker_at.Goals as goal
+use Rattle.nj_needs.proofs.turns.Turns.maker_at.Goals as goal
 
 pub returns-in_ok-file-in-None-clause-maker : goal.returns-in_ok-file-in-None-clause-maker
 returns-in_ok-file-in-None-clause-maker c =
