@@ -3,12 +3,12 @@
 
 use nj_cli::{
     DiskFiles, Status, UsageFault, WriteSink, read_words, refuse_words, report_out_of_memory,
-    run_words,
+    run_words_and_keep,
 };
 use std::alloc::{AllocError, Global};
 use std::io::ErrorKind;
 use std::process::ExitCode;
-use std::{env, io};
+use std::{env, io, mem};
 
 fn main(rt: HostRuntime) -> ExitCode {
     ExitCode::from(run(rt).code())
@@ -29,7 +29,11 @@ fn run(rt: HostRuntime) -> Status {
         return report_out_of_memory(&mut err);
     };
     let mut out = WriteSink::new(rt.stdout());
-    run_words(rt.alloc(), &mut files, &words, &mut out, &mut err)
+    let ended = run_words_and_keep(rt.alloc(), &mut files, &words, &mut out, &mut err);
+    let status = ended.status;
+    // The process ends here, and its memory with it.
+    mem::forget(ended);
+    status
 }
 
 /// The program's arguments, without its name. It fails if one of them is not UTF-8.

@@ -14,6 +14,14 @@ use nj_scope::FileSource;
 use nj_tools::Sink;
 use std::alloc::Global;
 
+/// How a run ended, and what it loaded. What the run loaded is freed where this is dropped, which
+/// takes time: a program that is about to exit may forget it instead.
+#[derive(Drop)]
+pub struct Ended {
+    pub status: Status,
+    pub loaded: Option<Loaded>,
+}
+
 /// Runs the program with these words, without its own name. If they are not a valid request, that
 /// is reported on the error output, and no file is read.
 pub fn run_words<S: FileSource, O: Sink, E: Sink>(
@@ -27,9 +35,27 @@ pub fn run_words<S: FileSource, O: Sink, E: Sink>(
         (around (S.state source.old) (O.state out.old) (E.state err.old))
         (around (S.state source.new) (O.state out.new) (E.state err.new)) result }
 {
+    run_words_and_keep(alloc, source, words, out, err).status
+}
+
+/// The same as [`run_words`], but what the run loaded is handed to the caller.
+pub fn run_words_and_keep<S: FileSource, O: Sink, E: Sink>(
+    alloc: Global,
+    source: &mut S,
+    words: &[String],
+    out: &mut O,
+    err: &mut E,
+) -> Ended
+    ensures { RunsWords (map string_bytes words.now)
+        (around (S.state source.old) (O.state out.old) (E.state err.old))
+        (around (S.state source.new) (O.state out.new) (E.state err.new)) result.status }
+{
     match read_words(alloc, words) {
-        Ok(request) => run_tool(alloc, source, &request, out, err),
-        Err(fault) => report_misuse(alloc, err, &fault),
+        Ok(request) => run_tool_and_keep(alloc, source, &request, out, err),
+        Err(fault) => Ended {
+            status: report_misuse(alloc, err, &fault),
+            loaded: None,
+        },
     }
 }
 
@@ -47,12 +73,36 @@ pub fn run_tool<S: FileSource, O: Sink, E: Sink>(
         (around (S.state source.old) (O.state out.old) (E.state err.old))
         (around (S.state source.new) (O.state out.new) (E.state err.new)) result }
 {
+    run_tool_and_keep(alloc, source, request, out, err).status
+}
+
+// The same as `run_tool`, but what the run loaded is handed to the caller.
+fn run_tool_and_keep<S: FileSource, O: Sink, E: Sink>(
+    alloc: Global,
+    source: &mut S,
+    request: &Request,
+    out: &mut O,
+    err: &mut E,
+) -> Ended
+    ensures { RunsAs (request_text request.now)
+        (around (S.state source.old) (O.state out.old) (E.state err.old))
+        (around (S.state source.new) (O.state out.new) (E.state err.new)) result.status }
+{
     let loaded = match read_graph(alloc, source, request) {
         Ok(loaded) => loaded,
-        Err(fault) => return report_fault(alloc, err, &fault),
+        Err(fault) => {
+            return Ended {
+                status: report_fault(alloc, err, &fault),
+                loaded: None,
+            };
+        }
     };
     let answer = answer(alloc, loaded.graph(), &request.action, out);
-    conclude(alloc, err, follows_validations(&request.action), answer)
+    let status = conclude(alloc, err, follows_validations(&request.action), answer);
+    Ended {
+        status,
+        loaded: Some(loaded),
+    }
 }
 
 // The files of a request, and their graph.
