@@ -1,5 +1,5 @@
 -- A reading comes to all paths to which what was read before it comes, in their order.
-use Rattle.std.proofs.Common.{◌≡◌, ℕ, zero, suc, Bool, true, false, cond, Option, Some, None, List, [], ◌∷◌, ◌++◌, nat_lt, bytes_eq, refl, sym, ap, subst, ◌∙◌}
+use Rattle.std.proofs.Common.{◌≡◌, ℕ, zero, suc, Bool, true, false, cond, Option, option_map, Some, None, List, [], ◌∷◌, ◌++◌, nat_lt, bytes_eq, refl, sym, ap, subst, ◌∙◌}
 use Rattle.std.specs.List.{list_any}
 use Rattle.std.proofs.lemmas.List.{append-nil, append_assoc}
 use Rattle.nj_manifest.specs.Faults.{Fault}
@@ -9,8 +9,9 @@ use Rattle.nj_scope.specs.Readings.{reading_of, IsPrefix}
 use Rattle.nj_scope.specs.ReadingList.{ReadStatement, files_opened}
 use Rattle.nj_faults.specs.declared.fault.Place.{Place}
 use Rattle.nj_faults.specs.declared.fault.GraphFault.{GraphFault}
+use Rattle.nj_faults.specs.Faults.{fault_in}
 use Rattle.nj_graph.specs.Parsed.{parsed}
-use Rattle.nj_graph.specs.Reading.{Site, entry_at, own_fault, End, Whole, Refused, Lacking, ReadingText, go_on, and_then, Opens, item_read, unless_fault, statement_read, end_by, statements_read, most_opened, most_within, found_read, answer_read, if_room, opened_in, main_site, main_read, path_named, with_new, with_named, paths_read, path_at_end, paths_come_to}
+use Rattle.nj_graph.specs.Reading.{Site, entry_at, own_fault, End, Whole, Refused, Lacking, ReadingText, go_on, and_then, Opens, item_read, unless_fault, statement_read, end_by, statements_read, text_read, most_opened, most_within, found_read, answer_read, if_room, opened_in, main_site, main_read, path_named, with_new, with_named, paths_read, path_at_end, paths_come_to}
 
 -- ---- paths before others
 
@@ -67,24 +68,24 @@ item_read-comes main opens comes e before (SubninjaText word) = comes _ _ _ befo
 statement_read-comes : (main : List ℕ) (opens : Opens) → OpensCome main opens → (e : ReadStatement) (before : List ReadStatement) → ComesTo main before (statement_read opens e before)
 statement_read-comes main opens comes e before = by_fault (own_fault e before)
   where
-    by_fault : (f : Option GraphFault) → ComesTo main before (unless_fault f opens e before)
+    by_fault : (f : Option GraphFault) → ComesTo main before (unless_fault f before (item_read opens e before e.item))
     by_fault (Some fault) = ends-there main before (Refused fault)
     by_fault None = item_read-comes main opens comes e before e.item
 
 statements_read-come : (main : List ℕ) (opens : Opens) → OpensCome main opens → (site : Site) (statements : List PlacedText) (fault : Option Fault) (before : List ReadStatement) → ComesTo main before (statements_read opens site statements fault before)
 unfolding statements_read
-statements_read-come main opens comes site [] fault before = ends-there main before (end_by site.file fault)
+statements_read-come main opens comes site [] fault before = ends-there main before (end_by (option_map (fault_in site.file) fault))
 statements_read-come main opens comes site (s ∷ others) fault before =
     and_then-comes main (paths_read main before) (statement_read opens (entry_at site s) before) (λ entries. statements_read opens site others fault entries) (statement_read-comes main opens comes (entry_at site s) before) (statements_read-come main opens comes site others fault)
 
 -- ---- a file
 
-found_read-comes : (main : List ℕ) (within : Opens) → OpensCome main within → (site : Site) (place : Place) (entries before : List ReadStatement) → IsPrefix (paths_read main before) (paths_read main entries) → (text : Option (List ℕ)) → ComesTo main before (found_read within site place entries before text)
+found_read-comes : (main : List ℕ) (within : Opens) → OpensCome main within → (site : Site) (place : Place) (entries before : List ReadStatement) → IsPrefix (paths_read main before) (paths_read main entries) → (text : Option (List ℕ)) → ComesTo main before (found_read site.file place before (λ t. text_read within site t entries) text)
 found_read-comes main within comes site place entries before more None = prefix-new (paths_read main before) site.file
 found_read-comes main within comes site place entries before more (Some text) =
     prefix-then (paths_read main before) (paths_read main entries) _ more (statements_read-come main within comes site (parsed text).items (parsed text).fault entries)
 
-answer_read-comes : (main : List ℕ) (within : Opens) → OpensCome main within → (site : Site) (place : Place) (entries before : List ReadStatement) → IsPrefix (paths_read main before) (paths_read main entries) → (r : Option table.Reading) → ComesTo main before (answer_read within site place entries before r)
+answer_read-comes : (main : List ℕ) (within : Opens) → OpensCome main within → (site : Site) (place : Place) (entries before : List ReadStatement) → IsPrefix (paths_read main before) (paths_read main entries) → (r : Option table.Reading) → ComesTo main before (answer_read site.file place before (λ t. text_read within site t entries) r)
 answer_read-comes main within comes site place entries before more None = prefix-new (paths_read main before) site.file
 answer_read-comes main within comes site place entries before more (Some r) = found_read-comes main within comes site place entries before more r.bytes
 
@@ -123,11 +124,14 @@ opened-names main files left site place e before names room =
     named : paths_read main (e ∷ before) ≡ front
     named = ap (with_named (paths_read main before)) names
 
-    by_text : (text : Option (List ℕ)) → Front (found_read (opened_in files left) site place (e ∷ before) before text)
-    by_text None = prefix-self front
-    by_text (Some text) = subst (λ paths. IsPrefix paths (paths_come_to main (found_read (opened_in files left) site place (e ∷ before) before (Some text)))) named (statements-come main files left site (parsed text).items (parsed text).fault (e ∷ before))
+    reads : List ℕ → ReadingText
+    reads t = text_read (opened_in files left) site t (e ∷ before)
 
-    by_answer : (r : Option table.Reading) → Front (answer_read (opened_in files left) site place (e ∷ before) before r)
+    by_text : (text : Option (List ℕ)) → Front (found_read site.file place before reads text)
+    by_text None = prefix-self front
+    by_text (Some text) = subst (λ paths. IsPrefix paths (paths_come_to main (found_read site.file place before reads (Some text)))) named (statements-come main files left site (parsed text).items (parsed text).fault (e ∷ before))
+
+    by_answer : (r : Option table.Reading) → Front (answer_read site.file place before reads r)
     by_answer None = prefix-self front
     by_answer (Some r) = by_text r.bytes
 

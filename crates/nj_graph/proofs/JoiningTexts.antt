@@ -17,8 +17,8 @@ use Rattle.nj_statements.specs.Answers.{IsFault}
 use Rattle.nj_statements.specs.Joining.{entry_fault, with_entry}
 use Rattle.nj_statements.specs.JoiningHeld.{JoiningText, HoldsJoined}
 use Rattle.nj_graph.specs.Parsed.{Parsed, none_parsed, and_parsed, parsed_in}
-use Rattle.nj_graph.specs.Reading.{Refused}
-use Rattle.nj_graph.specs.Joining.{after_version, entries_of, unless_fault, entries_joined, text_joined}
+use Rattle.nj_graph.specs.Reading.{Refused, unless_fault}
+use Rattle.nj_graph.specs.Joining.{after_version, entries_of, entries_joined, text_joined}
 use Rattle.nj_graph.proofs.ParsedLemmas.{parsed-step, parsed-end, parsed-fault}
 use Rattle.nj_graph.specs.Inside.JoiningContracts.{TextJoined, TextRefused, NextEntryOf, NextEntryIs}
 

@@ -7,15 +7,16 @@ use Rattle.nj_manifest.specs.Faults.{Fault}
 use Rattle.nj_manifest.specs.Dyndeps.{EntryText}
 use Rattle.nj_scope.specs.Readings.{Reading, reading_of}
 use Rattle.nj_scope.specs.ReadingList.{Discovered, ReadStatement}
+use Rattle.nj_faults.specs.declared.fault.Place.{Place}
 use Rattle.nj_faults.specs.declared.fault.GraphFault.{GraphFault}
 use Rattle.nj_faults.specs.declared.fault.Cause.TheVariants.{PathNotText}
 use Rattle.nj_statements.specs.EdgeList.{EdgeText, Pending, edges_read, pending_read}
 use Rattle.nj_statements.specs.Joining.{discover, discovered_by, entry_fault, with_entry, no_statement, lacking_fault, dyndep_files}
 use Rattle.nj_statements.proofs.DiscoverLemmas.{with_entry-by}
 use Rattle.nj_statements.proofs.DiscoverEdges.{pending-discover, pending-within}
-use Rattle.nj_graph.specs.Reading.{End, Whole, Refused, Lacking, ReadingText, stopped}
+use Rattle.nj_graph.specs.Reading.{End, Whole, Refused, Lacking, ReadingText, unless_fault, end_by, stopped, found_read, answer_read}
 use Rattle.nj_graph.specs.Runs.{ReachedText}
-use Rattle.nj_graph.specs.Joining.{end_by, unless_fault, entries_joined, statement_place, found_joined, answer_joined, file_joined, go_on, files_joined, all_joined, JoinedStaysJoined}
+use Rattle.nj_graph.specs.Joining.{entries_joined, text_joined, statement_place, file_joined, go_on, files_joined, all_joined, JoinedStaysJoined}
 
 -- ---- lists
 
@@ -81,15 +82,21 @@ module _ (P : List ReadStatement → Type 0) (keeps : (edge : ℕ) (found : Disc
   unfolding file_joined
   kept-by-file files stated p joined h = by_text (is_utf8 p.file)
     where
-      by_found : (text : Option (List ℕ)) → P (found_joined stated p text joined).entries
+      at_statement : Place
+      at_statement = statement_place stated p.edge
+
+      reads : List ℕ → ReadingText
+      reads text = text_joined p.file stated text joined
+
+      by_found : (text : Option (List ℕ)) → P (found_read p.file at_statement joined reads text).entries
       by_found None = h
       by_found (Some text) = kept-by-entries p.file stated _ _ joined h
 
-      by_answer : (r : Option Reading) → P (answer_joined stated p r joined).entries
+      by_answer : (r : Option Reading) → P (answer_read p.file at_statement joined reads r).entries
       by_answer None = h
       by_answer (Some r) = by_found r.bytes
 
-      by_text : (b : Bool) → P (cond b (answer_joined stated p (reading_of files p.file) joined) (stopped joined (statement_place stated p.edge) PathNotText)).entries
+      by_text : (b : Bool) → P (cond b (answer_read p.file at_statement joined reads (reading_of files p.file)) (stopped joined at_statement PathNotText)).entries
       by_text true = by_answer (reading_of files p.file)
       by_text false = h
 
@@ -132,16 +139,22 @@ file-whole : (files : List Reading) (stated : List ReadStatement) (p : Pending) 
 unfolding file_joined
 file-whole files stated p joined h = by_text (is_utf8 p.file) h
   where
-    by_found : (text : Option (List ℕ)) → (found_joined stated p text joined).end ≡ Whole → lacking_fault p.file (found_joined stated p text joined).entries ≡ None
+    at_statement : Place
+    at_statement = statement_place stated p.edge
+
+    reads : List ℕ → ReadingText
+    reads text = text_joined p.file stated text joined
+
+    by_found : (text : Option (List ℕ)) → (found_read p.file at_statement joined reads text).end ≡ Whole → lacking_fault p.file (found_read p.file at_statement joined reads text).entries ≡ None
     by_found None e = absurd cc
     by_found (Some text) e = entries-whole p.file stated _ _ joined e
 
-    by_answer : (r : Option Reading) → (answer_joined stated p r joined).end ≡ Whole → lacking_fault p.file (answer_joined stated p r joined).entries ≡ None
+    by_answer : (r : Option Reading) → (answer_read p.file at_statement joined reads r).end ≡ Whole → lacking_fault p.file (answer_read p.file at_statement joined reads r).entries ≡ None
     by_answer None e = absurd cc
     by_answer (Some r) e = by_found r.bytes e
 
-    by_text : (b : Bool) → (cond b (answer_joined stated p (reading_of files p.file) joined) (stopped joined (statement_place stated p.edge) PathNotText)).end ≡ Whole
-        → lacking_fault p.file (cond b (answer_joined stated p (reading_of files p.file) joined) (stopped joined (statement_place stated p.edge) PathNotText)).entries ≡ None
+    by_text : (b : Bool) → (cond b (answer_read p.file at_statement joined reads (reading_of files p.file)) (stopped joined at_statement PathNotText)).end ≡ Whole
+        → lacking_fault p.file (cond b (answer_read p.file at_statement joined reads (reading_of files p.file)) (stopped joined at_statement PathNotText)).entries ≡ None
     by_text true e = by_answer (reading_of files p.file) e
     by_text false e = absurd cc
 

@@ -64,7 +64,7 @@ module _ (main : List ℕ) (before after : SourceState) (fault : GraphFault) whe
     stops = inr (record {
       reached = reached_from main (record { entries = []; end = Lacking main (main_place main) });
       answered = (h.answered, h.failures);
-      read = λ all ext lacks. ap (λ r. reached_from main (answer_read (opened_in all most_within) (main_site main) (main_place main) [] [] r)) (none (reading_of all main) lacks);
+      read = λ all ext lacks. ap (λ r. reached_from main (answer_read main (main_place main) [] (λ t. text_read (opened_in all most_within) (main_site main) t []) r)) (none (reading_of all main) lacks);
       came_to = itself main;
     });
   }
@@ -81,7 +81,7 @@ module _ (main : List ℕ) (before after : SourceState) (fault : GraphFault) whe
     stops = inr (record {
       reached = reached_from main (record { entries = []; end = Refused (record { place = Some (main_place main); cause = Missing main }) });
       answered = (h.answered, h.failures);
-      read = λ all ext lacks. ap (λ r. reached_from main (answer_read (opened_in all most_within) (main_site main) (main_place main) [] [] r)) (reading-kept main (record { path = main; bytes = None }) all h.files ext h.found);
+      read = λ all ext lacks. ap (λ r. reached_from main (answer_read main (main_place main) [] (λ t. text_read (opened_in all most_within) (main_site main) t []) r)) (reading-kept main (record { path = main; bytes = None }) all h.files ext h.found);
       came_to = itself main ∙ sym h.came_to;
     });
   }
@@ -104,7 +104,7 @@ main-stands held new = record { within = outermost new.outermost; there = (rw ne
 module _ (main : List ℕ) (before mid after : SourceState) (old opened held : Reader) (text : List ℕ) (new : IsNew old) (found : FindsText before mid old.files opened.files main text) where
   is-text : (all : List Reading) → IsPrefix found.files all → main_read all main ≡ text_read (opened_in all most_within) (main_site main) text []
   unfolding main_read
-  is-text all ext = ap (λ r. answer_read (opened_in all most_within) (main_site main) (main_place main) [] [] r) (reading-kept main (record { path = main; bytes = Some text }) all found.files ext found.found)
+  is-text all ext = ap (λ r. answer_read main (main_place main) [] (λ t. text_read (opened_in all most_within) (main_site main) t []) r) (reading-kept main (record { path = main; bytes = Some text }) all found.files ext found.found)
 
   pub main-holds : opened.declarations ≡ old.declarations → opened.building ≡ old.building → opened.opened ≡ old.opened → Holds main opened []
   main-holds declared building count = record {

@@ -18,7 +18,7 @@ use Rattle.nj_graph.specs.declared.reader.OpenFile.{OpenFile}
 use Rattle.nj_faults.specs.declared.fault.Place.{Place}
 use Rattle.nj_faults.specs.declared.fault.Cause.{Cause}
 use Rattle.nj_faults.specs.Faults.{fault_at, fault_in, no_memory}
-use Rattle.nj_graph.specs.Reading.{Site, entry_at, expanded_in, place_at, path_fault, subninja_site, fault_if, or_then, depth_fault, item_fault, own_fault, Whole, Refused, ReadingText, Opens, item_read, unless_fault, statement_read, opened_in, text_read, path_named, with_new, with_named, paths_read, path_at_fault, paths_come_to}
+use Rattle.nj_graph.specs.Reading.{Site, entry_at, expanded_in, place_at, path_fault, fault_if, or_then, depth_fault, item_fault, own_fault, Whole, Refused, ReadingText, Opens, item_read, unless_fault, statement_read, opened_in, text_read, path_named, with_new, with_named, paths_read, path_at_fault, paths_come_to}
 use Rattle.nj_graph.specs.Inside.ReaderContracts.{site_scope}
 use Rattle.nj_edges.specs.Edges.{EdgePaths}
 use Rattle.nj_faults.specs.declared.fault.Cause.TheVariants.{RuleVariableCycle}
@@ -131,7 +131,7 @@ module _ (kind : Naming) (site : Site) (start : Spot) (entries : List ReadStatem
 
   -- without a fault of its own
   pub named-read : path_fault site.file word.spot (expanded_in (site_scope site) entries word) ≡ None → (opens : Opens) → statement_read opens names entries ≡ opens (named_site kind names entries word) (place_at names word.spot) names entries
-  named-read none opens = ap (λ f. unless_fault f opens names entries) (named-fault ∙ none) ∙ named-item opens
+  named-read none opens = ap (λ f. unless_fault f entries (item_read opens names entries names.item)) (named-fault ∙ none) ∙ named-item opens
 
 -- a new scope for the file after `subninja`
 pub enters-new : {X : Type 0} (old : Reader) (new : DeclarationsText) (file : OpenFile) (start : Spot) (word : WordText) (entries : List ReadStatement) (around : List ℕ) (depth : ℕ) (result : Result ℕ X)
@@ -139,7 +139,7 @@ pub enters-new : {X : Type 0} (old : Reader) (new : DeclarationsText) (file : Op
     → ((n : ℕ) → n < length old.declarations.scopes → parent_at new.scopes n ≡ parent_at old.declarations.scopes n) → OnOk result (length new.scopes ≡ length old.declarations.scopes + 1)
     → OnOk result (TakesIn old.declarations new file.scope around (SubninjaText word)) → DeclaredBy old.declarations entries → IsOpenIn old file around
     → IfOk result (λ n. EntersScope (record { declarations = new; building = old.building; files = old.files; opened = old.opened }) n
-    (subninja_site (entry_at (site_of file around depth) (record { spot = start; item = SubninjaText word })) entries word) (entry_at (site_of file around depth) (record { spot = start; item = SubninjaText word })) entries)
+    (named_site naming.Subninja (entry_at (site_of file around depth) (record { spot = start; item = SubninjaText word })) entries word) (entry_at (site_of file around depth) (record { spot = start; item = SubninjaText word })) entries)
 enters-new old new file start word entries around depth (Err e) number within others count opened declares inside = tt
 enters-new old new file start word entries around depth (Ok n) number within others count opened declares inside =
     let grown = open-grown old.declarations.scopes new.scopes file.scope around (record { count = omega (arith, count); parents = others }) inside in
@@ -189,7 +189,7 @@ module _ (main : List ℕ) (before after : SourceState) (old : Reader) (entries 
       → StopsAt main before after old.files (λ all. statement_read (opened_in all left) e entries) fault
   stops-own left e fault (inl none) = stops-memory (λ all. statement_read (opened_in all left) e entries) fault (λ all. item-comes main all left e entries) none
   stops-own left e fault (inr told) =
-      stops-refused (λ all. statement_read (opened_in all left) e entries) fault fault (λ all. ap (λ f. unless_fault f (opened_in all left) e entries) told)
+      stops-refused (λ all. statement_read (opened_in all left) e entries) fault fault (λ all. ap (λ f. unless_fault f entries (item_read (opened_in all left) e entries e.item)) told)
       (item-names e entries e.item fault told) refl
 
 -- ---- a file that is named
@@ -242,5 +242,5 @@ pub reads-one : (main : List ℕ) (source : SourceState) (old held : Reader) (e 
 reads-one main source old held e entries holds after none files reads = record {
   reads = record { reads = read-nothing source old.files holds.once; held_is = files; failures = refl };
   holds = after;
-  read = λ opens. ap (λ f. unless_fault f opens e entries) none ∙ reads opens;
+  read = λ opens. ap (λ f. unless_fault f entries (item_read opens e entries e.item)) none ∙ reads opens;
 }

@@ -13,7 +13,7 @@ use Rattle.nj_faults.specs.declared.fault.Place.{Place}
 use Rattle.nj_faults.specs.declared.fault.Cause.{Cause}
 use Rattle.nj_faults.specs.declared.fault.Cause.TheVariants.{Missing, TooDeep, TooManyOpenings}
 use Rattle.nj_faults.specs.Faults.{no_memory}
-use Rattle.nj_graph.specs.Reading.{Site, Lacking, most_opened, stopped, answer_read, if_room, opened_in, path_named, with_new, with_named, paths_read, path_at_fault, paths_come_to}
+use Rattle.nj_graph.specs.Reading.{Site, Lacking, most_opened, stopped, text_read, answer_read, if_room, opened_in, path_named, with_new, with_named, paths_read, path_at_fault, paths_come_to}
 use Rattle.nj_graph.specs.Inside.ReaderContracts.{IsFault, StopsAt, OpensText, OpensPath}
 use Rattle.nj_graph.specs.Runs.{IsRead}
 use Rattle.nj_graph.specs.Loads.{reached_from}
@@ -42,11 +42,11 @@ module _ (all : List Reading) (inner : Site) (place : Place) (e : ReadStatement)
     unfolding opened_in
     opened-full h = ap (λ room. if_room room (opened_in all within) all inner place e entries) (le-ltb (files_opened entries) most_opened h)
 
-    opened-answered : (answer : Option Reading) → files_opened entries < most_opened → reading_of all inner.file ≡ answer → opened_in all (suc within) inner place e entries ≡ answer_read (opened_in all within) inner place (e ∷ entries) entries answer
+    opened-answered : (answer : Option Reading) → files_opened entries < most_opened → reading_of all inner.file ≡ answer → opened_in all (suc within) inner place e entries ≡ answer_read inner.file place entries (λ t. text_read (opened_in all within) inner t (e ∷ entries)) answer
     unfolding opened_in
     opened-answered answer h is =
         ap (λ room. if_room room (opened_in all within) all inner place e entries) (lt-ltb (files_opened entries) most_opened h)
-        ∙ ap (answer_read (opened_in all within) inner place (e ∷ entries) entries) is
+        ∙ ap (answer_read inner.file place entries (λ t. text_read (opened_in all within) inner t (e ∷ entries))) is
 
 -- ---- how a run stops there
 

@@ -8,7 +8,7 @@ use Rattle.nj_scope.specs.ReadingList.{ReadStatement, files_opened}
 use Rattle.nj_faults.specs.declared.fault.Place.{Place}
 use Rattle.nj_faults.specs.declared.fault.GraphFault.{GraphFault}
 use Rattle.nj_graph.specs.Parsed.{parsed}
-use Rattle.nj_graph.specs.Reading.{Site, entry_at, own_fault, End, Whole, Refused, Lacking, ReadingText, and_then, Opens, item_read, unless_fault, statement_read, statements_read, found_read, answer_read, if_room, most_opened, most_within, opened_in, main_site, main_read}
+use Rattle.nj_graph.specs.Reading.{Site, entry_at, own_fault, End, Whole, Refused, Lacking, ReadingText, and_then, Opens, item_read, unless_fault, statement_read, statements_read, text_read, found_read, answer_read, if_room, most_opened, most_within, opened_in, main_site, main_read}
 use Rattle.nj_graph.specs.Runs.{IsLacking}
 use Rattle.nj_graph.specs.Laws.{OthersAreNotRead}
 use Rattle.nj_graph.proofs.Tables.{reading-kept}
@@ -47,7 +47,7 @@ item-same all few more same e before (SubninjaText word) = same _ _ _ before
 statement-same : (all : List table.Reading) (few more : Opens) → SameOpens all few more → (e : ReadStatement) (before : List ReadStatement) → SameReading all (statement_read few e before) (statement_read more e before)
 statement-same all few more same e before = by (own_fault e before)
   where
-    by : (f : Option GraphFault) → SameReading all (unless_fault f few e before) (unless_fault f more e before)
+    by : (f : Option GraphFault) → SameReading all (unless_fault f before (item_read few e before e.item)) (unless_fault f before (item_read more e before e.item))
     by (Some fault) = λ lacks. refl
     by None = item-same all few more same e before e.item
 
@@ -59,20 +59,20 @@ statements-same all few more same site (s ∷ others) fault before =
     (statement-same all few more same (entry_at site s) before) (statements-same all few more same site others fault)
 
 answer-same : (files all : List table.Reading) (few more : Opens) → IsPrefix files all → SameOpens all few more → (site : Site) (place : Place) (entries before : List ReadStatement)
-    → SameReading all (answer_read few site place entries before (reading_of files site.file)) (answer_read more site place entries before (reading_of all site.file))
+    → SameReading all (answer_read site.file place before (λ t. text_read few site t entries) (reading_of files site.file)) (answer_read site.file place before (λ t. text_read more site t entries) (reading_of all site.file))
 answer-same files all few more extends same site place entries before = by (reading_of files site.file) refl
   where
     none : (r : Option table.Reading) → is_some r ≡ false → r ≡ None
     none None e = refl
     none (Some r) e = absurd (true≢false e)
 
-    found : (text : Option (List ℕ)) → SameReading all (found_read few site place entries before text) (found_read more site place entries before text)
+    found : (text : Option (List ℕ)) → SameReading all (found_read site.file place before (λ t. text_read few site t entries) text) (found_read site.file place before (λ t. text_read more site t entries) text)
     found None = λ lacks. refl
     found (Some text) = statements-same all few more same site (parsed text).items (parsed text).fault entries
 
-    by : (r : Option table.Reading) → reading_of files site.file ≡ r → SameReading all (answer_read few site place entries before r) (answer_read more site place entries before (reading_of all site.file))
-    by None is = λ lacks. ap (λ r. answer_read more site place entries before r) (none (reading_of all site.file) lacks)
-    by (Some r) is = λ lacks. ap (λ r. answer_read more site place entries before r) (reading-kept site.file r all files extends is) ∙ found r.bytes lacks
+    by : (r : Option table.Reading) → reading_of files site.file ≡ r → SameReading all (answer_read site.file place before (λ t. text_read few site t entries) r) (answer_read site.file place before (λ t. text_read more site t entries) (reading_of all site.file))
+    by None is = λ lacks. ap (λ r. answer_read site.file place before (λ t. text_read more site t entries) r) (none (reading_of all site.file) lacks)
+    by (Some r) is = λ lacks. ap (λ r. answer_read site.file place before (λ t. text_read more site t entries) r) (reading-kept site.file r all files extends is) ∙ found r.bytes lacks
 
 opened-same : (files all : List table.Reading) → IsPrefix files all → (left : ℕ) → SameOpens all (opened_in files left) (opened_in all left)
 unfolding opened_in

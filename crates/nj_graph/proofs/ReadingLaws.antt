@@ -13,7 +13,7 @@ use Rattle.nj_faults.specs.declared.fault.GraphFault.{GraphFault}
 use Rattle.nj_faults.specs.declared.fault.Cause.TheVariants.{DuplicateRule}
 use Rattle.nj_faults.specs.Faults.{fault_at}
 use Rattle.nj_graph.specs.Parsed.{parsed}
-use Rattle.nj_graph.specs.Reading.{Site, entry_at, fault_if, item_fault, own_fault, End, Whole, Refused, Lacking, ReadingText, go_on, and_then, Opens, item_read, unless_fault, statement_read, statements_read, found_read, answer_read, if_room, most_opened, most_within, opened_in, main_site, main_read}
+use Rattle.nj_graph.specs.Reading.{Site, entry_at, fault_if, item_fault, own_fault, End, Whole, Refused, Lacking, ReadingText, go_on, and_then, Opens, item_read, unless_fault, statement_read, statements_read, text_read, found_read, answer_read, if_room, most_opened, most_within, opened_in, main_site, main_read}
 use Rattle.nj_graph.specs.Laws.{Faultless, ReadIsFaultless, OpenFilesAreBounded, OpeningsAreBounded, MainRulesRise}
 use Rattle.nj_graph.proofs.NameLemmas.{names_rise-read}
 
@@ -50,7 +50,7 @@ module _ (P : List ReadStatement → Type 0) (next : (e : ReadStatement) (before
         by_item (IncludeText word) is none = keeps _ _ e before deeper p (λ room. next e before p none (λ one. room) within)
         by_item (SubninjaText word) is none = keeps _ _ e before deeper p (λ room. next e before p none (λ one. room) within)
 
-        by : (f : Option GraphFault) → own_fault e before ≡ f → P (unless_fault f opens e before).entries
+        by : (f : Option GraphFault) → own_fault e before ≡ f → P (unless_fault f before (item_read opens e before e.item)).entries
         by (Some fault) is = p
         by None is = by_item e.item refl is
 
@@ -67,11 +67,11 @@ module _ (P : List ReadStatement → Type 0) (next : (e : ReadStatement) (before
             by_end (Refused f) = q
             by_end (Lacking path place) = q
 
-    answer-keeps : (site : Site) (place : Place) (entries before : List ReadStatement) (r : Option table.Reading) → site.depth + left ≡ most_within → P entries → P before → P (answer_read opens site place entries before r).entries
+    answer-keeps : (site : Site) (place : Place) (entries before : List ReadStatement) (r : Option table.Reading) → site.depth + left ≡ most_within → P entries → P before → P (answer_read site.file place before (λ t. text_read opens site t entries) r).entries
     answer-keeps site place entries before None depth p q = q
     answer-keeps site place entries before (Some r) depth p q = by r.bytes
       where
-        by : (text : Option (List ℕ)) → P (found_read opens site place entries before text).entries
+        by : (text : Option (List ℕ)) → P (found_read site.file place before (λ t. text_read opens site t entries) text).entries
         by None = q
         by (Some text) = statements-keep site (parsed text).items (parsed text).fault entries depth p
 

@@ -17,7 +17,7 @@ use Rattle.nj_graph.specs.declared.reader.Reader.{Reader}
 use Rattle.nj_faults.specs.Faults.{fault_in, no_memory}
 use Rattle.nj_graph.specs.Parsed.{Parsed, parsed_in, and_parsed}
 use Rattle.nj_graph.specs.Reading as reading
-use Rattle.nj_graph.specs.Reading.{Site, entry_at, End, Whole, Lacking, ReadingText, Opens, go_on, and_then, opened_in, statement_read, statements_read, text_read, end_by, with_named, paths_read, path_at_fault, paths_come_to}
+use Rattle.nj_graph.specs.Reading.{Site, entry_at, End, Whole, Lacking, ReadingText, Opens, go_on, and_then, opened_in, statement_read, statements_read, text_read, with_named, paths_read, path_at_fault, paths_come_to}
 use Rattle.nj_graph.specs.Runs.{IsRead, IsEnd, ReachedText, Stops}
 use Rattle.nj_graph.specs.Loads.{reached_from}
 use Rattle.nj_graph.specs.Inside.ReaderContracts.{Holds, ReadsAll, ReadsOne, StopsAt, OpensNamed, ReadsText, ReadsOrStops, NextOf, NextIs}

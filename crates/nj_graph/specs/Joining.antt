@@ -1,5 +1,5 @@
 -- The joining of dyndep files to the statements of a run ("Dynamic Dependencies" in the manual), up to the first fault.
-use Rattle.std.specs.Prelude.{◌≡◌, ℕ, suc, if◌then◌else◌, Option, Some, None, Result, Ok, Err, List, [], ◌∷◌, ◌++◌, map, length}
+use Rattle.std.specs.Prelude.{◌≡◌, ℕ, suc, if◌then◌else◌, Option, option_map, Result, Ok, Err, List, [], ◌∷◌, ◌++◌, map, length}
 use Rattle.std.specs.Str.{is_utf8}
 use Rattle.nj_text.specs.Lines.{Line, text_lines}
 use Rattle.nj_manifest.specs.Faults.{Fault}
@@ -9,13 +9,13 @@ use Rattle.nj_scope.specs.Sources.{SourceState}
 use Rattle.nj_scope.specs.ReadingList.{ReadStatement}
 use Rattle.nj_faults.specs.declared.fault.Place.{Place}
 use Rattle.nj_faults.specs.declared.fault.GraphFault.{GraphFault}
-use Rattle.nj_faults.specs.declared.fault.Cause.TheVariants.{Missing, PathNotText}
+use Rattle.nj_faults.specs.declared.fault.Cause.TheVariants.{PathNotText}
 use Rattle.nj_faults.specs.Faults.{fault_in}
 use Rattle.nj_statements.specs.EdgeList.{Pending, edges_read, pending_read}
 use Rattle.nj_statements.specs.Built.{detail_at, detail_of}
 use Rattle.nj_statements.specs.Joining.{entry_fault, with_entry, lacking_fault, dyndep_files}
 use Rattle.nj_graph.specs.Parsed.{Parsed, none_parsed, parsed_in}
-use Rattle.nj_graph.specs.Reading.{End, Whole, Refused, Lacking, ReadingText, stopped, with_new}
+use Rattle.nj_graph.specs.Reading.{End, Whole, ReadingText, or_then, unless_fault, end_by, stopped, answer_read, with_new}
 use Rattle.nj_graph.specs.Runs.{ReachedText}
 use Rattle.nj_graph.specs.Loads.{LoadedText, LoadsAfter}
 
@@ -31,23 +31,11 @@ entries_of text = after_version (suc (length text)) (version_next (text_lines te
 
 -- ---- one file
 
--- how a file ends after its last entry, by its fault
-abbrev pub end_by : Option GraphFault → End
-end_by None = Whole
-end_by (Some fault) = Refused fault
-
-abbrev pub at_end : (file : List ℕ) → Option Fault → (joined : List ReadStatement) → ReadingText
-at_end file None joined = record { entries = joined; end = end_by (lacking_fault file joined) }
-at_end file (Some fault) joined = record { entries = joined; end = Refused (fault_in file fault) }
-
-abbrev pub unless_fault : Option GraphFault → (joined : List ReadStatement) → ReadingText → ReadingText
-unless_fault (Some fault) joined others = record { entries = joined; end = Refused fault }
-unless_fault None joined others = others
-
 -- Its entries, one after the other: the statements as they were read, and as they are with what was joined so far.
 unfoldable pub entries_joined : (file : List ℕ) → (stated : List ReadStatement) → List EntryText → Option Fault → (joined : List ReadStatement)
     → ReadingText
-entries_joined file stated [] fault joined = at_end file fault joined
+entries_joined file stated [] fault joined =
+    record { entries = joined; end = end_by (or_then (option_map (fault_in file) fault) (lacking_fault file joined)) }
 entries_joined file stated (entry ∷ others) fault joined =
     unless_fault (entry_fault file stated joined entry) joined
     (entries_joined file stated others fault (with_entry stated joined entry))
@@ -61,19 +49,12 @@ statement_place stated edge =
     let detail = detail_at (map detail_of (edges_read stated)) edge in
     record { file = detail.file; spot = detail.spot }
 
--- by what was found at its path; where there is no file, or none that can be read, the first edge that is bound to it is to blame
-abbrev pub found_joined : (stated : List ReadStatement) → Pending → Option (List ℕ) → (joined : List ReadStatement) → ReadingText
-found_joined stated p None joined = stopped joined (statement_place stated p.edge) (Missing p.file)
-found_joined stated p (Some text) joined = text_joined p.file stated text joined
-
-abbrev pub answer_joined : (stated : List ReadStatement) → Pending → Option Reading → (joined : List ReadStatement) → ReadingText
-answer_joined stated p None joined = record { entries = joined; end = Lacking p.file (statement_place stated p.edge) }
-answer_joined stated p (Some reading) joined = found_joined stated p reading.bytes joined
-
+-- where there is no file, or none that can be read, the first edge that is bound to it is to blame
 unfoldable pub file_joined : (files : List Reading) → (stated : List ReadStatement) → Pending → (joined : List ReadStatement) → ReadingText
 file_joined files stated p joined =
-    if is_utf8 p.file then answer_joined stated p (reading_of files p.file) joined
-    else stopped joined (statement_place stated p.edge) PathNotText
+    let place = statement_place stated p.edge in
+    if is_utf8 p.file then answer_read p.file place joined (λ text. text_joined p.file stated text joined) (reading_of files p.file)
+    else stopped joined place PathNotText
 
 -- ---- all files: the statements with what was joined, and the paths of the dyndep files that it reaches
 

@@ -122,43 +122,37 @@ Opens = Site → Place → ReadStatement → (before : List ReadStatement) → R
 abbrev pub place_at : ReadStatement → Spot → Place
 place_at e spot = record { file = e.file; spot = spot }
 
--- The statements of a file that is included stand in the scope of the `include`, those of a file after `subninja` in a new
--- scope within that of the statement.
-abbrev pub included_site : ReadStatement → (before : List ReadStatement) → WordText → Site
-included_site e before word = record {
+-- The statements of a file that a statement names stand in the scope of this number, within these: those of a file that is included in
+-- that of the `include`, those of a file after `subninja` in a new one within that of the statement.
+abbrev pub opened_site : ReadStatement → (before : List ReadStatement) → WordText → (number : ℕ) → (around : List ℕ) → Site
+opened_site e before word number around = record {
   file = expanded_in (scope_of e) before word;
   depth = suc e.depth;
-  number = e.number;
-  around = e.around;
-}
-
-abbrev pub subninja_site : ReadStatement → (before : List ReadStatement) → WordText → Site
-subninja_site e before word = record {
-  file = expanded_in (scope_of e) before word;
-  depth = suc e.depth;
-  number = scopes_opened before;
-  around = scope_of e;
+  number = number;
+  around = around;
 }
 
 abbrev pub item_read : Opens → ReadStatement → (before : List ReadStatement) → StatementText → ReadingText
-item_read opens e before (IncludeText word) = opens (included_site e before word) (place_at e word.spot) e before
-item_read opens e before (SubninjaText word) = opens (subninja_site e before word) (place_at e word.spot) e before
+item_read opens e before (IncludeText word) = opens (opened_site e before word e.number e.around) (place_at e word.spot) e before
+item_read opens e before (SubninjaText word) =
+    opens (opened_site e before word (scopes_opened before) (scope_of e)) (place_at e word.spot) e before
 item_read opens e before item = record { entries = e ∷ before; end = Whole }
 
-abbrev pub unless_fault : Option GraphFault → Opens → ReadStatement → (before : List ReadStatement) → ReadingText
-unless_fault (Some fault) opens e before = record { entries = before; end = Refused fault }
-unless_fault None opens e before = item_read opens e before e.item
+-- nothing more is read after a fault
+abbrev pub unless_fault : Option GraphFault → (before : List ReadStatement) → ReadingText → ReadingText
+unless_fault (Some fault) before reading = record { entries = before; end = Refused fault }
+unless_fault None before reading = reading
 
 abbrev pub statement_read : Opens → ReadStatement → (before : List ReadStatement) → ReadingText
-statement_read opens e before = unless_fault (own_fault e before) opens e before
+statement_read opens e before = unless_fault (own_fault e before) before (item_read opens e before e.item)
 
-abbrev pub end_by : (file : List ℕ) → Option Fault → End
-end_by file None = Whole
-end_by file (Some fault) = Refused (fault_in file fault)
+abbrev pub end_by : Option GraphFault → End
+end_by None = Whole
+end_by (Some fault) = Refused fault
 
 -- the statements of a file, one after the other
 unfoldable pub statements_read : Opens → Site → (statements : List PlacedText) → Option Fault → (before : List ReadStatement) → ReadingText
-statements_read opens site [] fault before = record { entries = before; end = end_by site.file fault }
+statements_read opens site [] fault before = record { entries = before; end = end_by (option_map (fault_in site.file) fault) }
 statements_read opens site (s ∷ others) fault before =
     and_then (statement_read opens (entry_at site s) before) (λ entries. statements_read opens site others fault entries)
 
@@ -176,18 +170,20 @@ most_within = 31
 abbrev pub stopped : List ReadStatement → Place → Cause → ReadingText
 stopped before place cause = record { entries = before; end = Refused (record { place = Some place; cause = cause }) }
 
--- by the table's answer for a path
-abbrev pub found_read : Opens → Site → Place → (entries before : List ReadStatement) → Option (List ℕ) → ReadingText
-found_read within site place entries before None = stopped before place (Missing site.file)
-found_read within site place entries before (Some text) = text_read within site text entries
+-- by what was found at a path that the statement at this place names
+abbrev pub found_read : (path : List ℕ) → Place → (before : List ReadStatement) → (List ℕ → ReadingText) → Option (List ℕ) → ReadingText
+found_read path place before reads None = stopped before place (Missing path)
+found_read path place before reads (Some text) = reads text
 
-abbrev pub answer_read : Opens → Site → Place → (entries before : List ReadStatement) → Option table.Reading → ReadingText
-answer_read within site place entries before None = record { entries = before; end = Lacking site.file place }
-answer_read within site place entries before (Some r) = found_read within site place entries before r.bytes
+-- by the table's answer for that path
+abbrev pub answer_read : (path : List ℕ) → Place → (before : List ReadStatement) → (List ℕ → ReadingText) → Option table.Reading → ReadingText
+answer_read path place before reads None = record { entries = before; end = Lacking path place }
+answer_read path place before reads (Some r) = found_read path place before reads r.bytes
 
 abbrev pub if_room : Bool → (within : Opens) → (files : List table.Reading) → Site → Place → ReadStatement → (before : List ReadStatement) → ReadingText
 if_room false within files site place e before = stopped before place TooManyOpenings
-if_room true within files site place e before = answer_read within site place (e ∷ before) before (reading_of files site.file)
+if_room true within files site place e before =
+    answer_read site.file place before (λ text. text_read within site text (e ∷ before)) (reading_of files site.file)
 
 -- what is read of a file by these files, where `left` more may be open
 unfoldable pub opened_in : (files : List table.Reading) → (left : ℕ) → Opens
@@ -206,7 +202,7 @@ main_place main = record { file = main; spot = record { line = 1; column = 1 } }
 -- the main file, and all that it includes
 unfoldable pub main_read : (files : List table.Reading) → (main : List ℕ) → ReadingText
 main_read files main =
-    answer_read (opened_in files most_within) (main_site main) (main_place main) [] [] (reading_of files main)
+    answer_read main (main_place main) [] (λ text. text_read (opened_in files most_within) (main_site main) text []) (reading_of files main)
 
 -- ---- the paths that a reading reaches
 

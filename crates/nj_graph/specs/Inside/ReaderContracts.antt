@@ -18,7 +18,7 @@ use Rattle.nj_scope.specs.Sources.{SourceState}
 use Rattle.nj_scope.specs.Opening as table
 use Rattle.nj_scope.specs.Scopes.{ScopeText, parent_at}
 use Rattle.nj_scope.specs.Declarations.{DeclaredBy}
-use Rattle.nj_scope.specs.ReadingList.{ReadStatement, files_opened}
+use Rattle.nj_scope.specs.ReadingList.{ReadStatement, scope_of, scopes_opened, files_opened}
 use Rattle.nj_faults.specs.declared.fault.Place.{Place}
 use Rattle.nj_faults.specs.declared.fault.GraphFault.{GraphFault}
 use Rattle.nj_faults.specs.declared.fault.Cause.TheVariants.{Missing, Io}
@@ -31,7 +31,7 @@ use Rattle.nj_faults.specs.Faults.{fault_in, no_memory}
 use Rattle.nj_statements.specs.Answers.{HoldsEdges}
 pub use Rattle.nj_statements.specs.Answers.{IsFault, Checks}
 use Rattle.nj_graph.specs.Graph.{IsOpenScope}
-use Rattle.nj_graph.specs.Reading.{Site, included_site, subninja_site, own_fault, Whole, ReadingText, Opens, opened_in, statement_read}
+use Rattle.nj_graph.specs.Reading.{Site, opened_site, own_fault, Whole, ReadingText, Opens, opened_in, statement_read}
 use Rattle.nj_graph.specs.Reading.{text_read, path_named, with_new, paths_read}
 use Rattle.nj_graph.specs.Runs.{IsRead, Stops}
 use Rattle.nj_graph.specs.Loads.{reached_from}
@@ -147,8 +147,8 @@ named_item naming.Subninja word = SubninjaText word
 
 -- the site of the statements of the file that a statement names
 abbrev pub named_site : Naming → ReadStatement → (before : List ReadStatement) → WordText → Site
-named_site naming.Include e before word = included_site e before word
-named_site naming.Subninja e before word = subninja_site e before word
+named_site naming.Include e before word = opened_site e before word e.number e.around
+named_site naming.Subninja e before word = opened_site e before word (scopes_opened before) (scope_of e)
 
 -- The statement that names a file is held, and the scope of that file is open.
 pub record EntersScope (held : Reader) (number : ℕ) (inner : Site) (e : ReadStatement) (entries : List ReadStatement) : Type 0 where
