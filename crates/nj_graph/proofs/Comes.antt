@@ -11,7 +11,7 @@ use Rattle.nj_faults.specs.declared.fault.Place.{Place}
 use Rattle.nj_faults.specs.declared.fault.GraphFault.{GraphFault}
 use Rattle.nj_faults.specs.Faults.{fault_in}
 use Rattle.nj_graph.specs.Parsed.{parsed}
-use Rattle.nj_graph.specs.Reading.{Site, entry_at, own_fault, End, Whole, Refused, Lacking, ReadingText, go_on, and_then, Opens, item_read, unless_fault, statement_read, end_by, statements_read, text_read, most_opened, most_within, found_read, answer_read, if_room, opened_in, main_site, main_read, path_named, with_new, with_named, paths_read, path_at_end, paths_come_to}
+use Rattle.nj_graph.specs.Reading.{Site, entry_at, own_fault, End, Whole, Refused, Lacking, ReadingText, go_on, and_then, Opens, item_read, unless_fault, statement_read, end_by, statements_read, text_read, most_opened, most_within, found_read, answer_read, if_room, opened_in, main_site, main_read, path_named, with_new, with_all_new, paths_read, path_at_end, paths_come_to}
 
 -- ---- paths before others
 
@@ -28,9 +28,10 @@ prefix-new before path = by_there (list_any (bytes_eq path) before)
     by_there true = prefix-self before
     by_there false = (path ∷ [], refl)
 
-pub prefix-named : (before paths : List (List ℕ)) → IsPrefix before (with_named before paths)
+pub prefix-named : (before paths : List (List ℕ)) → IsPrefix before (with_all_new before paths)
 prefix-named before [] = prefix-self before
-prefix-named before (path ∷ paths) = prefix-new before path
+prefix-named before (path ∷ paths) =
+    prefix-then before (with_new before path) (with_all_new (with_new before path) paths) (prefix-new before path) (prefix-named (with_new before path) paths)
 
 -- ---- one reading after the other
 
@@ -40,7 +41,7 @@ pub and_then-comes : (main : List ℕ) (front : List (List ℕ)) (r : ReadingTex
     → IsPrefix front (paths_come_to main (and_then r k))
 and_then-comes main front r k comes others = by_end r.end comes
   where
-    by_end : (end : End) → IsPrefix front (with_named (paths_read main r.entries) (path_at_end end)) → IsPrefix front (paths_come_to main (go_on end r.entries k))
+    by_end : (end : End) → IsPrefix front (with_all_new (paths_read main r.entries) (path_at_end end)) → IsPrefix front (paths_come_to main (go_on end r.entries k))
     by_end Whole p = prefix-then front (paths_read main r.entries) (paths_come_to main (k r.entries)) p (others r.entries)
     by_end (Refused fault) p = p
     by_end (Lacking path place) p = p
@@ -122,7 +123,7 @@ opened-names main files left site place e before names room =
     Front r = IsPrefix front (paths_come_to main r)
 
     named : paths_read main (e ∷ before) ≡ front
-    named = ap (with_named (paths_read main before)) names
+    named = ap (with_all_new (paths_read main before)) names
 
     reads : List ℕ → ReadingText
     reads t = text_read (opened_in files left) site t (e ∷ before)

@@ -14,7 +14,7 @@ use Rattle.nj_faults.specs.declared.fault.GraphFault.{GraphFault}
 use Rattle.nj_graph.specs.declared.reader.Reader.{Reader}
 use Rattle.nj_faults.specs.declared.fault.Cause.TheVariants.{BadDepth, DuplicateRule, DuplicatePool}
 use Rattle.nj_faults.specs.Faults.{fault_at}
-use Rattle.nj_graph.specs.Reading.{expanded_in, fault_if, or_then, rule_fault, depth_fault, pool_fault, own_fault, path_named, with_named, paths_read}
+use Rattle.nj_graph.specs.Reading.{expanded_in, fault_if, or_then, rule_fault, depth_fault, pool_fault, own_fault, path_named, with_all_new, paths_read}
 use Rattle.nj_statements.specs.Answers.{HoldsEdges, ReadsStatement}
 use Rattle.nj_graph.specs.Graph.{IsOpenScope}
 use Rattle.nj_graph.proofs.OpenScopes.{open-next}
@@ -28,7 +28,7 @@ holds-next main old held entries e holds follows opened files none names edges g
   edges = edges;
   scopes = open-next old.declarations.scopes held.declarations.scopes e entries grows inside holds.scopes;
   opened = opened ∙ holds.opened ∙ sym (add-zero (files_opened entries)) ∙ ap (λ n. files_opened entries + n) (sym none);
-  paths_are = ap paths_of files ∙ holds.paths_are ∙ ap (with_named (paths_read main entries)) (sym names);
+  paths_are = ap paths_of files ∙ holds.paths_are ∙ ap (with_all_new (paths_read main entries)) (sym names);
   once = subst EachPathOnce (sym files) holds.once;
 }
 

@@ -14,13 +14,13 @@ use Rattle.nj_statements.specs.Built.{EdgeDetail, detail_at, detail_of}
 use Rattle.nj_statements.specs.Answers.{IsFault, Checks}
 use Rattle.nj_statements.specs.Joining.{lacking_fault}
 use Rattle.nj_statements.specs.JoiningHeld.{JoiningText}
-use Rattle.nj_graph.specs.Reading.{Refused, Lacking, ReadingText, end_by, with_new, stopped, answer_read}
-use Rattle.nj_graph.specs.Joining.{statement_place, text_joined, path_asked, file_joined, with_all_new}
+use Rattle.nj_graph.specs.Reading.{Refused, Lacking, ReadingText, end_by, with_new, stopped, answer_read, with_all_new}
+use Rattle.nj_graph.specs.Joining.{statement_place, text_joined, path_asked, file_joined}
 use Rattle.nj_graph.specs.Inside.JoiningContracts.{TextJoined, TextRefused, FileJoined, FileStops, JoinsFile}
-use Rattle.nj_graph.proofs.Comes.{prefix-self}
+use Rattle.nj_graph.proofs.Comes.{prefix-self, prefix-named}
 use Rattle.nj_graph.proofs.Found.{FindsText, FindsNone, CannotTell, HasNoMemory}
 use Rattle.nj_graph.proofs.Tables.{reading-kept, with_new-other, read-nothing}
-use Rattle.nj_graph.proofs.JoiningTables.{all_new-prefix, asked-named, asked-none}
+use Rattle.nj_graph.proofs.JoiningTables.{asked-named, asked-none}
 
 absent : {X : Type 0} (o : Option X) → is_some o ≡ false → o ≡ None
 absent None h = refl
@@ -58,7 +58,7 @@ module _ (stated joined : List ReadStatement) (p : Pending) where
     stops-memory none = record {
       files = old;
       reads = read-nothing source old once;
-      stops = inl (record { answered = none; failures = refl; came_to = all_new-prefix (paths_of old) (path_asked p) });
+      stops = inl (record { answered = none; failures = refl; came_to = prefix-named (paths_of old) (path_asked p) });
     }
 
     stops-unnamed : is_utf8 p.file ≡ false → fault ≡ record { place = Some at_statement; cause = PathNotText } → FileStops stated joined p source source old fault
@@ -85,7 +85,7 @@ module _ (stated joined : List ReadStatement) (p : Pending) where
     stops-lacking fault h = record { files = h.files; reads = h.reads; stops = inl (record { answered = h.answered; failures = h.failures; came_to = by h.came_to }) }
       where
         by : (paths_of h.files ≡ paths_of old) ⊎ ((paths_of h.files ≡ with_new (paths_of old) p.file) × (is_read h.files p.file ≡ true)) → IsPrefix (paths_of h.files) (with_all_new (paths_of old) (path_asked p))
-        by (inl same) = subst (λ ps. IsPrefix ps (with_all_new (paths_of old) (path_asked p))) (sym same) (all_new-prefix (paths_of old) (path_asked p))
+        by (inl same) = subst (λ ps. IsPrefix ps (with_all_new (paths_of old) (path_asked p))) (sym same) (prefix-named (paths_of old) (path_asked p))
         by (inr (one, there)) = subst (λ ps. IsPrefix (paths_of h.files) ps) (one ∙ sym (comes old utf8)) (prefix-self (paths_of h.files))
 
     stops-unread : (fault : GraphFault) → CannotTell before after old at_statement p.file fault → FileStops stated joined p before after old fault

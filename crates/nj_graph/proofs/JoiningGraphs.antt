@@ -16,16 +16,15 @@ use Rattle.nj_statements.specs.Joining.{discover}
 use Rattle.nj_statements.specs.JoiningHeld.{JoiningText, has_pending}
 use Rattle.nj_statements.proofs.DiscoverLemmas.{declared-discover, all-discover}
 use Rattle.nj_statements.proofs.DiscoverEdges.{all_edges-discover}
-use Rattle.nj_graph.specs.Reading.{Whole}
+use Rattle.nj_graph.specs.Reading.{Whole, with_all_new}
 use Rattle.nj_graph.specs.Graph.{GraphText, IsOpenScope, HasRule, IsGraphOf}
 use Rattle.nj_graph.specs.Inside.GraphHeld.{IsKnown, IsGraph}
 use Rattle.nj_graph.specs.Runs.{ReachedText}
 use Rattle.nj_graph.specs.Loads.{LoadedText, IsWhole}
-use Rattle.nj_graph.specs.Joining.{all_joined, with_all_new, joined_after, Joins}
+use Rattle.nj_graph.specs.Joining.{all_joined, joined_after, Joins}
 use Rattle.nj_graph.specs.Inside.JoiningContracts.{FilesJoined, FilesStop}
-use Rattle.nj_graph.proofs.Comes.{prefix-self}
+use Rattle.nj_graph.proofs.Comes.{prefix-self, prefix-named}
 use Rattle.nj_graph.proofs.Tables.{read-nothing}
-use Rattle.nj_graph.proofs.JoiningTables.{all_new-prefix}
 use Rattle.nj_graph.proofs.JoiningWaits.{kept-by-all, none-waits, nothing-joined}
 
 -- ---- nothing is read
@@ -51,7 +50,7 @@ module _ (stated : List ReadStatement) (source : SourceState) (old : List Readin
       nothing = nothing-joined old stated (sym is.built.pending ∙ none-pending g.built.pending none)
 
   pub joins-memory : (fault : GraphFault) → fault ≡ no_memory → Joins stated old source source (Err fault)
-  joins-memory fault none = (old, read-nothing source old once, inl (inl (record { answered = none; failures = refl; came_to = λ all ext. all_new-prefix (paths_of old) (all_joined all stated).paths })))
+  joins-memory fault none = (old, read-nothing source old once, inl (inl (record { answered = none; failures = refl; came_to = λ all ext. prefix-named (paths_of old) (all_joined all stated).paths })))
 
 module _ (stated : List ReadStatement) (before after : SourceState) (old : List Reading) where
   pub joins-stop : (fault : GraphFault) → FilesStop stated before after old fault → Joins stated old before after (Err fault)

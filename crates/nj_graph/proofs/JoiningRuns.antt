@@ -8,14 +8,14 @@ use Rattle.nj_faults.specs.declared.fault.GraphFault.{GraphFault}
 use Rattle.nj_statements.specs.EdgeList.{Pending, pending_read}
 use Rattle.nj_statements.specs.Joining.{dyndep_files}
 use Rattle.nj_statements.specs.JoiningHeld.{JoiningText, HoldsJoined}
-use Rattle.nj_graph.specs.Reading.{End, Whole, Refused, Lacking, ReadingText}
+use Rattle.nj_graph.specs.Reading.{End, Whole, Refused, Lacking, ReadingText, with_all_new}
 use Rattle.nj_graph.specs.Runs.{IsRead, IsEnd, paths_with, ReachedText, Stops}
 use Rattle.nj_graph.specs.Inside.ReaderContracts.{ReadsAll}
-use Rattle.nj_graph.specs.Joining.{go_on, path_asked, file_joined, files_joined, all_joined, with_all_new, reached_after, joined_after}
+use Rattle.nj_graph.specs.Joining.{go_on, path_asked, file_joined, files_joined, all_joined, reached_after, joined_after}
 use Rattle.nj_graph.specs.Inside.JoiningContracts.{FileJoined, FileLacksMemory, FileEnds, FileStops, FilesJoined, FilesStop}
-use Rattle.nj_graph.proofs.Comes.{prefix-then}
+use Rattle.nj_graph.proofs.Comes.{prefix-then, prefix-named}
 use Rattle.nj_graph.proofs.Tables.{extends-trans, read-extends, reads-then, reads-all-nothing, reads-all-then}
-use Rattle.nj_graph.proofs.JoiningTables.{all_new-prefix, all_new-append}
+use Rattle.nj_graph.proofs.JoiningTables.{all_new-append}
 
 -- ---- ends
 
@@ -111,7 +111,7 @@ module _ (stated : List ReadStatement) (before : SourceState) (old : List Readin
           let paths : (all_joined all stated).paths ≡ (u.paths ++ path_asked p) ++ more.0 = ap (λ (j : ReachedText). j.paths) (next all ext r refl) ∙ ap (λ ps. u.paths ++ ps) more.1 ∙ sym (append_assoc u.paths (path_asked p) more.0) in
           let whole : with_all_new (paths_of old) (all_joined all stated).paths ≡ with_all_new (with_all_new (paths_of u.files) (path_asked p)) more.0 =
           ap (with_all_new (paths_of old)) paths ∙ all_new-append (paths_of old) (u.paths ++ path_asked p) more.0 ∙ ap (λ ps. with_all_new ps more.0) came in
-          subst (IsPrefix (with_all_new (paths_of u.files) (path_asked p))) (sym whole) (all_new-prefix (with_all_new (paths_of u.files) (path_asked p)) more.0)
+          subst (IsPrefix (with_all_new (paths_of u.files) (path_asked p))) (sym whole) (prefix-named (with_all_new (paths_of u.files) (path_asked p)) more.0)
 
       pub files-stop : (after : SourceState) (fault : GraphFault) → FileStops stated u.now p mid after table fault → FilesStop stated before after old fault
       files-stop after fault s = record { files = s.files; reads = reads-then before mid after old u.files s.files u.reads.reads there; stops = by s.stops }

@@ -7,9 +7,8 @@ use Rattle.nj_edges.specs.declared.files.FileNo.{FileNo}
 use Rattle.nj_edges.specs.Files.{path_at}
 use Rattle.nj_statements.specs.EdgeList.{Pending}
 use Rattle.nj_statements.proofs.Lists.{get-longer}
-use Rattle.nj_graph.specs.Reading.{with_new}
-use Rattle.nj_graph.specs.Joining.{path_asked, with_all_new}
-use Rattle.nj_graph.proofs.Comes.{prefix-self, prefix-then, prefix-new}
+use Rattle.nj_graph.specs.Reading.{with_new, with_all_new}
+use Rattle.nj_graph.specs.Joining.{path_asked}
 
 pub for-ok : {X E P : Type 0} (r : Result X E) → P → OnOk r P
 for-ok (Ok x) h = h
@@ -37,10 +36,6 @@ pub some-is : {X : Type 0} (x y : X) → Some x ≡ Some y → x ≡ y
 some-is x y h = cc
 
 -- ---- the paths that are asked for
-
-pub all_new-prefix : (before paths : List (List ℕ)) → IsPrefix before (with_all_new before paths)
-all_new-prefix before [] = prefix-self before
-all_new-prefix before (path ∷ paths) = prefix-then before (with_new before path) (with_all_new (with_new before path) paths) (prefix-new before path) (all_new-prefix (with_new before path) paths)
 
 pub all_new-append : (before paths more : List (List ℕ)) → with_all_new before (paths ++ more) ≡ with_all_new (with_all_new before paths) more
 all_new-append before [] more = refl

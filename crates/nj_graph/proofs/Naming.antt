@@ -18,7 +18,7 @@ use Rattle.nj_graph.specs.declared.reader.OpenFile.{OpenFile}
 use Rattle.nj_faults.specs.declared.fault.Place.{Place}
 use Rattle.nj_faults.specs.declared.fault.Cause.{Cause}
 use Rattle.nj_faults.specs.Faults.{fault_at, fault_in, no_memory}
-use Rattle.nj_graph.specs.Reading.{Site, entry_at, expanded_in, place_at, path_fault, fault_if, or_then, depth_fault, item_fault, own_fault, Whole, Refused, ReadingText, Opens, item_read, unless_fault, statement_read, opened_in, text_read, path_named, with_new, with_named, paths_read, path_at_fault, paths_come_to}
+use Rattle.nj_graph.specs.Reading.{Site, entry_at, expanded_in, place_at, path_fault, fault_if, or_then, depth_fault, item_fault, own_fault, Whole, Refused, ReadingText, Opens, item_read, unless_fault, statement_read, opened_in, text_read, path_named, with_new, with_all_new, paths_read, path_at_fault, paths_come_to}
 use Rattle.nj_graph.specs.Inside.ReaderContracts.{site_scope}
 use Rattle.nj_edges.specs.Edges.{EdgePaths}
 use Rattle.nj_faults.specs.declared.fault.Cause.TheVariants.{RuleVariableCycle}
@@ -181,7 +181,7 @@ module _ (main : List ℕ) (before after : SourceState) (old : Reader) (entries 
   stops-refused reading fault expected is none told = record {
     files = old.files;
     reads = read-no_more;
-    stops = inr (record { reached = reached_from main (record { entries = entries; end = Refused expected }); answered = (told, ap (λ source. source.failures) same); read = λ all e lacks. ap (reached_from main) (is all); came_to = ap (with_named (paths_read main entries)) none ∙ sym holds.paths_are });
+    stops = inr (record { reached = reached_from main (record { entries = entries; end = Refused expected }); answered = (told, ap (λ source. source.failures) same); read = λ all e lacks. ap (reached_from main) (is all); came_to = ap (with_all_new (paths_read main entries)) none ∙ sym holds.paths_are });
   }
 
   -- a fault of a statement by itself
@@ -207,7 +207,7 @@ module _ (main : List ℕ) (before after : SourceState) (old mid held : Reader) 
       edges = subst (λ b. HoldsEdges b (e ∷ entries)) (sym building) (holds-other old.building e entries builds holds.edges);
       scopes = open-next old.declarations.scopes held.declarations.scopes e entries grows inside holds.scopes;
       opened = opened ∙ ap suc holds.opened ∙ sym (add-one (files_opened entries)) ∙ ap (λ n. files_opened entries + n) (sym one);
-      paths_are = ap paths_of (files ∙ o.reads.held_is) ∙ o.came_to ∙ ap (λ ps. with_new ps path) holds.paths_are ∙ ap (with_named (paths_read main entries)) (sym names);
+      paths_are = ap paths_of (files ∙ o.reads.held_is) ∙ o.came_to ∙ ap (λ ps. with_new ps path) holds.paths_are ∙ ap (with_all_new (paths_read main entries)) (sym names);
       once = subst EachPathOnce (sym (files ∙ o.reads.held_is)) o.reads.reads.once;
     };
     within = o.within;
@@ -228,7 +228,7 @@ module _ (main : List ℕ) (before after : SourceState) (old mid held : Reader) 
   }
     where
       listed : paths_read main (e ∷ entries) ≡ paths_of o.files
-      listed = ap (with_named (paths_read main entries)) names ∙ ap (λ ps. with_new ps path) (sym holds.paths_are) ∙ sym o.came_to
+      listed = ap (with_all_new (paths_read main entries)) names ∙ ap (λ ps. with_new ps path) (sym holds.paths_are) ∙ sym o.came_to
 
       comes : (all : List Reading) → IsPrefix (paths_of o.files) (paths_come_to main (text_read (opened_in all o.within) inner text (e ∷ entries)))
       comes all = subst (λ ps. IsPrefix ps (paths_come_to main (text_read (opened_in all o.within) inner text (e ∷ entries)))) listed (statements-come main all o.within inner _ _ (e ∷ entries))

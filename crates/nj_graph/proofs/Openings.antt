@@ -13,7 +13,7 @@ use Rattle.nj_faults.specs.declared.fault.Place.{Place}
 use Rattle.nj_faults.specs.declared.fault.Cause.{Cause}
 use Rattle.nj_faults.specs.declared.fault.Cause.TheVariants.{Missing, TooDeep, TooManyOpenings}
 use Rattle.nj_faults.specs.Faults.{no_memory}
-use Rattle.nj_graph.specs.Reading.{Site, Lacking, most_opened, stopped, text_read, answer_read, if_room, opened_in, path_named, with_new, with_named, paths_read, path_at_fault, paths_come_to}
+use Rattle.nj_graph.specs.Reading.{Site, Lacking, most_opened, stopped, text_read, answer_read, if_room, opened_in, path_named, with_new, with_all_new, paths_read, path_at_fault, paths_come_to}
 use Rattle.nj_graph.specs.Inside.ReaderContracts.{IsFault, StopsAt, OpensText, OpensPath}
 use Rattle.nj_graph.specs.Runs.{IsRead}
 use Rattle.nj_graph.specs.Loads.{reached_from}
@@ -76,7 +76,7 @@ module _ (main : List ℕ) (before after : SourceState) (old : List Reading) (pl
     }
 
     -- no more files may be open, or opened
-    stops-refused : (left : ℕ) (cause : Cause) → ((before : List (List ℕ)) → with_named before (path_at_fault cause) ≡ before)
+    stops-refused : (left : ℕ) (cause : Cause) → ((before : List (List ℕ)) → with_all_new before (path_at_fault cause) ≡ before)
         → ((all : List Reading) (inner : Site) (e : ReadStatement) → opened_in all left inner place e entries ≡ stopped entries place cause)
         → EachPathOnce old → after ≡ before → (f : GraphFault) → f ≡ record { place = Some place; cause = cause } → StopsHere left f
     stops-refused left cause none read once stays f answered inner e same named = record {

@@ -17,7 +17,7 @@ use Rattle.nj_graph.specs.declared.reader.Reader.{Reader}
 use Rattle.nj_faults.specs.Faults.{fault_in, no_memory}
 use Rattle.nj_graph.specs.Parsed.{Parsed, parsed_in, and_parsed}
 use Rattle.nj_graph.specs.Reading as reading
-use Rattle.nj_graph.specs.Reading.{Site, entry_at, End, Whole, Lacking, ReadingText, Opens, go_on, and_then, opened_in, statement_read, statements_read, text_read, with_named, paths_read, path_at_fault, paths_come_to}
+use Rattle.nj_graph.specs.Reading.{Site, entry_at, End, Whole, Lacking, ReadingText, Opens, go_on, and_then, opened_in, statement_read, statements_read, text_read, with_all_new, paths_read, path_at_fault, paths_come_to}
 use Rattle.nj_graph.specs.Runs.{IsRead, IsEnd, ReachedText, Stops}
 use Rattle.nj_graph.specs.Loads.{reached_from}
 use Rattle.nj_graph.specs.Inside.ReaderContracts.{Holds, ReadsAll, ReadsOne, StopsAt, OpensNamed, ReadsText, ReadsOrStops, NextOf, NextIs}
@@ -167,7 +167,7 @@ module _ (main : List ℕ) (before after : SourceState) (old held : Reader) (lef
       reached = reached_from main (record { entries = u.now; end = reading.Refused (fault_in site.file found) });
       answered = (told, u.reads.failures);
       read = λ all ext lacks. ap (reached_from main) (u.goes_on all ext ∙ ap (λ (s : Parsed PlacedText). statements_read (opened_in all left) site s.items s.fault u.now) (parsed-fault next_statement u.most lines found h u.room));
-      came_to = ap (with_named (paths_read main u.now)) (syntax-names site.file found) ∙ sym u.holds.paths_are ∙ ap paths_of u.reads.held_is;
+      came_to = ap (with_all_new (paths_read main u.now)) (syntax-names site.file found) ∙ sym u.holds.paths_are ∙ ap paths_of u.reads.held_is;
     });
   }
 

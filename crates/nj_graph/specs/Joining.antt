@@ -15,7 +15,7 @@ use Rattle.nj_statements.specs.EdgeList.{Pending, edges_read, pending_read}
 use Rattle.nj_statements.specs.Built.{detail_at, detail_of}
 use Rattle.nj_statements.specs.Joining.{entry_fault, with_entry, lacking_fault, dyndep_files}
 use Rattle.nj_graph.specs.Parsed.{Parsed, none_parsed, parsed_in}
-use Rattle.nj_graph.specs.Reading.{End, Whole, ReadingText, or_then, unless_fault, end_by, stopped, answer_read, with_new}
+use Rattle.nj_graph.specs.Reading.{End, Whole, ReadingText, or_then, unless_fault, end_by, stopped, answer_read, with_all_new}
 use Rattle.nj_graph.specs.Runs.{ReachedText}
 use Rattle.nj_graph.specs.Loads.{LoadedText, LoadsAfter}
 
@@ -78,11 +78,6 @@ unfoldable pub all_joined : (files : List Reading) → (stated : List ReadStatem
 all_joined files stated = files_joined files stated (dyndep_files (pending_read stated)) stated
 
 -- ---- what joining answers
-
--- the paths with others, each at its first occurrence
-abbrev pub with_all_new : (before paths : List (List ℕ)) → List (List ℕ)
-with_all_new before [] = before
-with_all_new before (path ∷ paths) = with_all_new (with_new before path) paths
 
 -- what joining reads and reaches after these paths
 abbrev pub reached_after : (before : List (List ℕ)) → ReachedText → ReachedText

@@ -215,14 +215,15 @@ path_named e before item = []
 abbrev pub with_new : (before : List (List ℕ)) → (path : List ℕ) → List (List ℕ)
 with_new before path = if list_any (bytes_eq path) before then before else before ++ path ∷ []
 
-abbrev pub with_named : (before paths : List (List ℕ)) → List (List ℕ)
-with_named before [] = before
-with_named before (path ∷ paths) = with_new before path
+-- the paths with others, each at its first occurrence
+abbrev pub with_all_new : (before paths : List (List ℕ)) → List (List ℕ)
+with_all_new before [] = before
+with_all_new before (path ∷ paths) = with_all_new (with_new before path) paths
 
 -- the main file, and the files that the statements name, each at its first occurrence
 abbrev pub paths_read : (main : List ℕ) → List ReadStatement → List (List ℕ)
 paths_read main [] = main ∷ []
-paths_read main (e ∷ before) = with_named (paths_read main before) (path_named e before e.item)
+paths_read main (e ∷ before) = with_all_new (paths_read main before) (path_named e before e.item)
 
 -- a path at which a reading ends
 abbrev pub path_at_fault : Cause → List (List ℕ)
@@ -236,4 +237,4 @@ path_at_end (Lacking path place) = path ∷ []
 
 -- all paths that the reading reaches, the one at its end among them
 abbrev pub paths_come_to : (main : List ℕ) → ReadingText → List (List ℕ)
-paths_come_to main r = with_named (paths_read main r.entries) (path_at_end r.end)
+paths_come_to main r = with_all_new (paths_read main r.entries) (path_at_end r.end)

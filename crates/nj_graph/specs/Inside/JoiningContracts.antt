@@ -18,10 +18,10 @@ use Rattle.nj_faults.specs.Faults.{fault_in, no_memory}
 use Rattle.nj_statements.specs.EdgeList.{Pending}
 use Rattle.nj_statements.specs.Joining.{lacking_fault}
 use Rattle.nj_statements.specs.JoiningHeld.{JoiningText, HoldsJoined}
-use Rattle.nj_graph.specs.Reading.{End, Whole, Refused, end_by}
+use Rattle.nj_graph.specs.Reading.{End, Whole, Refused, end_by, with_all_new}
 use Rattle.nj_graph.specs.Runs.{IsRead, IsEnd, IsLacking, paths_with, Stops}
 use Rattle.nj_graph.specs.Inside.ReaderContracts.{ReadsAll}
-use Rattle.nj_graph.specs.Joining.{text_joined, path_asked, file_joined, all_joined, with_all_new, joined_after}
+use Rattle.nj_graph.specs.Joining.{text_joined, path_asked, file_joined, all_joined, joined_after}
 
 -- ---- the name of a file
 
