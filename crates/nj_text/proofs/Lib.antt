@@ -22,6 +22,8 @@ pub mod NamesDropped
 pub mod WrittenComponents
 pub mod CleanTexts
 pub mod CleanPaths
+pub mod SuspectLanes
+pub mod NamesSeen
 pub mod PathRows
 pub mod QuoteRows
 pub mod QuotedTexts

@@ -1,10 +1,12 @@
 //! The components between the slashes of a path.
 
 ghost use Rattle.std.specs.Prelude.{◌≡◌, ◌∷◌, false};
-ghost use Rattle.std.specs.Option.{option_copied};
+ghost use Rattle.std.specs.Option.{IfSome, option_copied};
 ghost use Rattle.std.specs.List.{list_any, slice_split};
 ghost use Rattle.nj_text.specs.Paths.{is_slash};
 ghost use Rattle.nj_text.specs.Inside.Cleaning.{component_of, components_left, all_stay, is_here};
+
+use crate::names::are_names;
 
 /// What a component between two slashes says.
 #[derive(Clone, Copy)]
@@ -42,9 +44,40 @@ pub fn first_component(text: &[u8]) -> (&[u8], Option<&[u8]>)
     (text, None)
 }
 
+/// The text after the `../` at its front.
+#[inline]
+fn after_up(text: &[u8]) -> Option<&[u8]>
+    ensures { IfSome result (λ after. text.now ≡ 46 ∷ 46 ∷ 47 ∷ after.now) }
+{
+    match text {
+        [b'.', b'.', b'/', after @ ..] => Some(after),
+        _ => None,
+    }
+}
+
+/// The text after each `../` at its front.
+#[inline]
+pub fn after_ups(text: &[u8]) -> &[u8]
+    ensures { all_stay false (slice_split is_slash text.now)
+        ≡ all_stay false (slice_split is_slash result.now) }
+{
+    let mut left = text;
+    'ups: while let Some(after) = after_up(left) {
+        left = after;
+    }
+    left
+}
+
 /// Whether each component of the text stands in its clean path as it is; `named` tells whether a
 /// name came before.
-pub fn all_stay(text: &[u8], mut named: bool) -> bool
+pub fn all_stay(text: &[u8], named: bool) -> bool
+    ensures { result ≡ all_stay named (slice_split is_slash text.now) }
+{
+    are_names(text) || each_stays(text, named)
+}
+
+/// Whether each component of the text stands as it is, by a look at one after another.
+fn each_stays(text: &[u8], mut named: bool) -> bool
     ensures { result ≡ all_stay named (slice_split is_slash text.now) }
 {
     let mut rest = Some(text);

@@ -14,6 +14,7 @@ mod lanes;
 mod laws;
 mod lexer;
 mod line_start;
+mod names;
 mod numbers;
 mod parts;
 mod path_laws;

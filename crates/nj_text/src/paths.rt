@@ -6,7 +6,7 @@ ghost use Rattle.nj_text.specs.Paths.{clean_path_of};
 ghost use Rattle.nj_text.specs.Inside.Cleaning.{stays_clean};
 
 use crate::cleaning::{is_absolute, push_clean};
-use crate::components::{all_stay, is_here};
+use crate::components::{after_ups, all_stay, is_here};
 use std::alloc::{AllocError, AllocFailed, Global};
 
 /// Why a path has no clean form.
@@ -49,7 +49,7 @@ fn stays_clean(path: &[u8]) -> bool
         let components = &path[1..];
         components.is_empty() || all_stay(components, true)
     } else {
-        is_here(path) || all_stay(path, false)
+        is_here(path) || all_stay(after_ups(path), false)
     }
 }
 

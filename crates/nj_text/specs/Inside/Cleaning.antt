@@ -2,6 +2,7 @@
 -- believed.
 use Rattle.std.specs.Prelude.{◌≡◌, ℕ, suc, ◌+◌, ◌≤◌, ◌⊎◌, nat_lt, Bool, true, false, not, ◌&&◌, ◌||◌, ◌==◌, drop, if◌then◌else◌, Option, Some, None, List, [], ◌∷◌, ◌++◌, length, replicate}
 use Rattle.std.specs.List.{slice_split, join_with_byte, list_any, AllByRecursion}
+use Rattle.std.specs.Simd.Lanes.{zip2}
 use Rattle.nj_text.specs.declared.components.Component.{Component}
 use Rattle.nj_text.specs.declared.components.Component.TheVariants.{Nowhere, Up, Name}
 use Rattle.nj_text.specs.Paths.{is_slash, is_up, leads_nowhere, is_absolute, IsName}
@@ -96,3 +97,27 @@ abbrev pub stays_clean : List ℕ → Bool
 stays_clean path =
     if is_absolute path then length (drop 1 path) == 0 || all_stay true (slice_split is_slash (drop 1 path))
     else is_here path || all_stay false (slice_split is_slash path)
+
+-- ---- names that are seen sixteen bytes at a time
+
+-- a slash before a slash or a dot: what begins after it may be no name
+abbrev pub is_suspect : ℕ → ℕ → Bool
+is_suspect byte next = is_slash byte && (is_slash next || next == 46)
+
+-- for each byte but the last, whether it is suspect before the next one
+abbrev pub suspects : List ℕ → List Bool
+suspects text = zip2 is_suspect text (drop 1 text)
+
+abbrev pub any : List Bool → Bool
+any tests = list_any (λ test. test) tests
+
+-- whether the last byte is a slash
+abbrev pub ends_with_slash : List ℕ → Bool
+ends_with_slash [] = false
+ends_with_slash (b ∷ []) = is_slash b
+ends_with_slash (b ∷ bs) = ends_with_slash bs
+
+-- whether the first byte is one that begins a name: neither a slash nor a dot
+abbrev pub begins_name : List ℕ → Bool
+begins_name [] = false
+begins_name (b ∷ bs) = not (is_slash b || b == 46)
