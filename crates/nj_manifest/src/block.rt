@@ -1,6 +1,6 @@
 //! The lines of a block.
 
-ghost use Rattle.std.specs.Prelude.{◌≡◌, map};
+ghost use Rattle.std.specs.Prelude.{◌≡◌, map, OnOk, ◌++◌, ◌∷◌, []};
 ghost use Rattle.nj_text.specs.Words.{word_text};
 ghost use Rattle.nj_manifest.specs.Inside.ParserContracts.{TakesStep};
 ghost use Rattle.nj_manifest.specs.Statements.{allows, equals_value, line_next, block, names, gives, whole_rule, whole_pool};
@@ -8,10 +8,14 @@ ghost use Rattle.nj_manifest.specs.Contents.{line_text, lines_text};
 ghost use Rattle.nj_manifest.specs.Inside.ParserContracts.{ParsesFrom, Wholes};
 
 use crate::fault::{ParseFault, Wanted};
+use crate::room::empty_list;
 use crate::statement::Line;
 use crate::steps::{expect_sign, name_next};
 use nj_text::{Lexer, LineStart, Sign, Spot, Word};
-use std::alloc::Global;
+use std::alloc::{AllocError, Global};
+
+// For how many lines there is room as soon as a block has one. Few blocks have more.
+const LINES_AT_FIRST: usize = 8;
 
 /// Which keys the lines of a block may have.
 #[derive(Clone, Copy, Debug, PartialEq, Eq)]
@@ -84,18 +88,30 @@ fn line_next<'a>(
     })
 }
 
+/// Appends a line, in room for several.
+fn push_line<'a>(lines: &mut Vec<Line<'a>>, line: Line<'a>) -> Result<(), AllocError>
+    ensures { OnOk result (lines.new.items ≡ lines.old.items ++ line.entry ∷ []) }
+{
+    if lines.as_slice().is_empty() {
+        lines.reserve(LINES_AT_FIRST)?;
+    }
+    lines.push(line)?;
+    Ok(())
+}
+
 /// The lines of a block, from the start of a line on.
 pub fn block<'a>(
     alloc: Global,
     lexer: &mut Lexer<'a>,
     allowed: Keys,
+    kept: &mut Option<Vec<Line<'a>>>,
 ) -> Result<Vec<Line<'a>>, ParseFault<'a>>
     ensures { ParsesFrom (λ lines. lines_text lines.items) lexer.old lexer.new
         (block allowed) result }
 {
-    let mut lines = Vec::new(alloc);
+    let mut lines = empty_list(alloc, kept);
     'lines: while let LineStart::Indented = lexer.start_line()? {
-        lines.push(line_next(alloc, lexer, allowed)?)?;
+        push_line(&mut lines, line_next(alloc, lexer, allowed)?)?;
     }
     Ok(lines)
 }

@@ -129,7 +129,7 @@ fn added_inputs<'a>(alloc: Global, lexer: &mut Lexer<'a>) -> Result<Vec<Word<'a>
         (added_inputs lexer.old) }
 {
     no_path(alloc, lexer)?;
-    let ins = section_next(alloc, lexer, Sign::Pipe)?;
+    let ins = section_next(alloc, lexer, Sign::Pipe, &mut None)?;
     no_section(lexer, Sign::Pipe2)?;
     no_section(lexer, Sign::PipeAt)?;
     expect_sign(lexer, Sign::LineEnd, Wanted::Newline)?;
@@ -143,7 +143,7 @@ pub fn entry_line<'a>(alloc: Global, lexer: &mut Lexer<'a>) -> Result<Entry<'a>,
 {
     word_of_form(lexer, b"build", Wanted::Statement)?;
     let out = output_next(alloc, lexer)?;
-    let outs = section_next(alloc, lexer, Sign::Pipe)?;
+    let outs = section_next(alloc, lexer, Sign::Pipe, &mut None)?;
     expect_sign(lexer, Sign::Colon, Wanted::Colon)?;
     word_of_form(lexer, b"dyndep", Wanted::CommandName)?;
     let ins = added_inputs(alloc, lexer)?;

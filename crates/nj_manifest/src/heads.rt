@@ -8,6 +8,7 @@ ghost use Rattle.nj_manifest.specs.Inside.ParserContracts.{TakesStep, name_text,
 
 use crate::block::equals_value;
 use crate::fault::{ParseFault, Wanted};
+use crate::room::Room;
 use crate::statement::{Build, Pool, Rule, Statement};
 use crate::steps::{PlacedName, expect_sign, name_next, section_next, words_next};
 use nj_text::{Lexer, Sign, Word};
@@ -54,12 +55,13 @@ fn pool_next<'a>(alloc: Global, lexer: &mut Lexer<'a>) -> Result<Statement<'a>, 
 fn outputs_next<'a>(
     alloc: Global,
     lexer: &mut Lexer<'a>,
+    room: &mut Room<'a>,
 ) -> Result<(Vec<Word<'a>>, Vec<Word<'a>>), ParseFault<'a>>
     ensures { TakesStep (λ outs. outs_text outs.0.items outs.1.items) result lexer.new
         (outputs_next lexer.old) }
 {
-    let explicit = words_next(alloc, lexer)?;
-    let implicit = section_next(alloc, lexer, Sign::Pipe)?;
+    let explicit = words_next(alloc, lexer, &mut room.explicit_outs)?;
+    let implicit = section_next(alloc, lexer, Sign::Pipe, &mut room.implicit_outs)?;
     if explicit.is_empty() && implicit.is_empty() {
         return Err(ParseFault::Expected(lexer.spot(), Wanted::Path));
     }
@@ -68,16 +70,20 @@ fn outputs_next<'a>(
 
 /// `OUTPUTS : RULE INPUTS | IMPLICIT || ORDER-ONLY |@ VALIDATIONS`.
 #[tactic(auto, unfolding(crate::specs::Statements::build_next, crate::specs::Statements::inputs_next))]
-fn build_next<'a>(alloc: Global, lexer: &mut Lexer<'a>) -> Result<Statement<'a>, ParseFault<'a>>
+fn build_next<'a>(
+    alloc: Global,
+    lexer: &mut Lexer<'a>,
+    room: &mut Room<'a>,
+) -> Result<Statement<'a>, ParseFault<'a>>
     ensures { TakesStep head_text result lexer.new (build_next lexer.old) }
 {
-    let (explicit_outs, implicit_outs) = outputs_next(alloc, lexer)?;
+    let (explicit_outs, implicit_outs) = outputs_next(alloc, lexer, room)?;
     expect_sign(lexer, Sign::Colon, Wanted::Colon)?;
     let rule = name_next(lexer, Wanted::CommandName)?;
-    let explicit = words_next(alloc, lexer)?;
-    let implicit = section_next(alloc, lexer, Sign::Pipe)?;
-    let order_only = section_next(alloc, lexer, Sign::Pipe2)?;
-    let validations = section_next(alloc, lexer, Sign::PipeAt)?;
+    let explicit = words_next(alloc, lexer, &mut room.explicit)?;
+    let implicit = section_next(alloc, lexer, Sign::Pipe, &mut room.implicit)?;
+    let order_only = section_next(alloc, lexer, Sign::Pipe2, &mut room.order_only)?;
+    let validations = section_next(alloc, lexer, Sign::PipeAt, &mut room.validations)?;
     expect_sign(lexer, Sign::LineEnd, Wanted::Newline)?;
     Ok(Statement::Build(Build {
         explicit_outs,
@@ -98,7 +104,7 @@ fn targets_next<'a>(alloc: Global, lexer: &mut Lexer<'a>) -> Result<Vec<Word<'a>
     ensures { TakesStep (λ words. words_text words.items) result lexer.new
         (targets_next lexer.old) }
 {
-    let words = words_next(alloc, lexer)?;
+    let words = words_next(alloc, lexer, &mut None)?;
     if words.is_empty() {
         return Err(ParseFault::Expected(lexer.spot(), Wanted::TargetName));
     }
@@ -125,12 +131,13 @@ fn file_next<'a>(alloc: Global, lexer: &mut Lexer<'a>) -> Result<Word<'a>, Parse
 fn head_after<'a>(
     alloc: Global,
     lexer: &mut Lexer<'a>,
+    room: &mut Room<'a>,
     word: &'a [u8],
 ) -> Result<Statement<'a>, ParseFault<'a>>
     ensures { TakesStep head_text result lexer.new (head_after word.now lexer.old) }
 {
     if word == b"build".as_slice() {
-        build_next(alloc, lexer)
+        build_next(alloc, lexer, room)
     } else if word == b"rule".as_slice() {
         rule_next(alloc, lexer)
     } else if word == b"pool".as_slice() {
@@ -152,9 +159,13 @@ fn head_after<'a>(
 
 /// The first line of a statement: the statement without its block.
 #[tactic(auto, unfolding(crate::specs::Statements::head_next))]
-pub fn head_next<'a>(alloc: Global, lexer: &mut Lexer<'a>) -> Result<Statement<'a>, ParseFault<'a>>
+pub fn head_next<'a>(
+    alloc: Global,
+    lexer: &mut Lexer<'a>,
+    room: &mut Room<'a>,
+) -> Result<Statement<'a>, ParseFault<'a>>
     ensures { TakesStep head_text result lexer.new (head_next lexer.old) }
 {
     let word = name_next(lexer, Wanted::Statement)?;
-    head_after(alloc, lexer, word.name)
+    head_after(alloc, lexer, room, word.name)
 }

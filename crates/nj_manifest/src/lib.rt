@@ -14,6 +14,7 @@ mod laws;
 mod next;
 mod opening;
 mod parser;
+mod room;
 mod statement;
 mod steps;
 

@@ -8,6 +8,7 @@ ghost use Rattle.nj_text.specs.Lines.{text_lines};
 
 use crate::fault::ParseFault;
 use crate::next::next_statement;
+use crate::room::Room;
 use crate::statement::{Placed, Statement};
 use nj_text::Lexer;
 use std::alloc::Global;
@@ -21,6 +22,7 @@ use std::marker::Model;
 pub struct Parser<'a> {
     lexer: Lexer<'a>,
     refused: Option<ParseFault<'a>>,
+    room: Room<'a>,
     ghost between: { is_between_unless refused lexer ≡ true },
 }
 
@@ -42,6 +44,7 @@ impl<'a> Parser<'a> {
         Parser {
             lexer: Lexer::new(text),
             refused: None,
+            room: Room::none(),
         }
     }
 
@@ -60,12 +63,20 @@ impl<'a> Parser<'a> {
         if let Some(fault) = self.refused {
             return Err(fault);
         }
-        match next_statement(alloc, &mut self.lexer) {
+        match next_statement(alloc, &mut self.lexer, &mut self.room) {
             Ok(found) => Ok(found),
             Err(fault) => {
                 self.refused = Some(fault);
                 Err(fault)
             }
         }
+    }
+
+    /// Takes a statement back, whichever it is: the next one is read into the memory of its lists.
+    /// What the calls answer stays the same.
+    pub fn reuse(&mut self, statement: Statement<'a>)
+        ensures { self.new ≡ self.old }
+    {
+        self.room.keep(statement);
     }
 }

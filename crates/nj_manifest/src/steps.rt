@@ -6,6 +6,7 @@ ghost use Rattle.nj_manifest.specs.Inside.ParserContracts.{TakesStep, LeadsTo, n
 ghost use Rattle.nj_manifest.specs.LineSteps.{name_next, expect_sign, words_next, section_next};
 
 use crate::fault::{ParseFault, Wanted};
+use crate::room::empty_list;
 use nj_text::{Lexer, Sign, Spot, Word};
 use std::alloc::Global;
 
@@ -49,11 +50,15 @@ pub fn expect_sign<'a>(
 }
 
 /// The words from here on, up to what is no word.
-pub fn words_next<'a>(alloc: Global, lexer: &mut Lexer<'a>) -> Result<Vec<Word<'a>>, ParseFault<'a>>
+pub fn words_next<'a>(
+    alloc: Global,
+    lexer: &mut Lexer<'a>,
+    kept: &mut Option<Vec<Word<'a>>>,
+) -> Result<Vec<Word<'a>>, ParseFault<'a>>
     ensures { TakesStep (λ words. map word_text words.items) result lexer.new
         (words_next lexer.old) }
 {
-    let mut words = Vec::new(alloc);
+    let mut words = empty_list(alloc, kept);
     'words: while let Some(word) = lexer.path_word(alloc)? {
         words.push(word)?;
     }
@@ -67,12 +72,13 @@ pub fn section_next<'a>(
     alloc: Global,
     lexer: &mut Lexer<'a>,
     want: Sign,
+    kept: &mut Option<Vec<Word<'a>>>,
 ) -> Result<Vec<Word<'a>>, ParseFault<'a>>
     ensures { TakesStep (λ words. map word_text words.items) result lexer.new
         (section_next want lexer.old) }
 {
     if lexer.sign(want)? {
-        return words_next(alloc, lexer);
+        return words_next(alloc, lexer, kept);
     }
-    Ok(Vec::new(alloc))
+    Ok(empty_list(alloc, kept))
 }

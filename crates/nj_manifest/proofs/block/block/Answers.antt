@@ -25,7 +25,7 @@ pub lines-preserved : goal.lines-preserved
 lines-preserved c =
     let turned = block-turn c.args.allowed (lines_text c.lines.lines.items) c.args.lexer.now c.lines.lexer c.start_line.new.self (line_text c.in_ok-line_next.field-0) c.line_next.new.lexer
     c.lines.invariant (rw c.in-Indented.is at c.in_ok-start_line.ensures) c.in_ok-line_next.ensures in
-    let items = ap lines_text c.in_ok-push.ensures.items ∙ map-append line_text c.lines.lines.items (c.in_ok-line_next.field-0 ∷ []) in
+    let items = ap lines_text c.in_ok-push_line.ensures ∙ map-append line_text c.lines.lines.items (c.in_ok-line_next.field-0 ∷ []) in
     rw items turned
 
 pub returns : goal.returns
