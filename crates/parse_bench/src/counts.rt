@@ -88,7 +88,7 @@ pub fn count_statements(alloc: Global, text: &[u8]) -> Result<Counts, ParseFault
     let mut counts = Counts::none();
     'statements: while let Some(statement) = parser.next_statement(alloc)? {
         counts.add(&statement.item);
-        drop(statement);
+        parser.reuse(statement.item);
     }
     Ok(counts)
 }

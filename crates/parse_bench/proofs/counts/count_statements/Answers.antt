@@ -16,9 +16,9 @@ add-requires c =
 pub statements-smaller : goal.statements-smaller
 statements-smaller c =
     let next : IsNext c.statements.parser c.next_statement.new.self (Ok (Some c.in-Some.statement)) = rw c.in-Some.is at c.in_ok-statement.ensures in
-    (turn (text_lines c.args.text.now) (length c.args.text.now) c.statements.counts c.statements.parser c.next_statement.new.self c.in-Some.statement c.statements.invariant next).fewer
+    rw c.reuse.ensures (turn (text_lines c.args.text.now) (length c.args.text.now) c.statements.counts c.statements.parser c.next_statement.new.self c.in-Some.statement c.statements.invariant next).fewer
 
 pub statements-preserved : goal.statements-preserved
 statements-preserved c =
     let next : IsNext c.statements.parser c.next_statement.new.self (Ok (Some c.in-Some.statement)) = rw c.in-Some.is at c.in_ok-statement.ensures in
-    rw c.add.ensures (turn (text_lines c.args.text.now) (length c.args.text.now) c.statements.counts c.statements.parser c.next_statement.new.self c.in-Some.statement c.statements.invariant next).stands
+    rw (c.add.ensures, c.reuse.ensures) (turn (text_lines c.args.text.now) (length c.args.text.now) c.statements.counts c.statements.parser c.next_statement.new.self c.in-Some.statement c.statements.invariant next).stands
