@@ -1,5 +1,6 @@
 -- What names say: late texts, where no variable of a rule refers back to itself.
 use Rattle.std.proofs.Common.{◌≡◌, ℕ, zero, suc, ◌<◌, ◌≤◌, Bool, true, false, ◌||◌, if◌then◌else◌, List, [], ◌∷◌, ◌++◌, length, Option, None, Some, unwrap_or, option_map, bytes_eq, refl, sym, ap, subst, ◌∙◌, true≢false, arith}
+use Rattle.std.specs.Option.{option_or}
 use Rattle.std.specs.Prelude.{is_some, codes, find, reverse, ◌⊎◌}
 use Rattle.std.proofs.Common.{inl, inr}
 use Rattle.std.proofs.lemmas.Slice.Eq.{bytes_eq-Decides}
@@ -8,7 +9,7 @@ use Rattle.std.proofs.lemmas.List.Folds.{list_any-append}
 use Rattle.nj_text.specs.Words.{PartText, Text, Name}
 use Rattle.nj_scope.specs.Rules.{RuleLineText, given}
 use Rattle.nj_scope.specs.RulesHeld.{has_key}
-use Rattle.nj_scope.specs.Scopes.{or_else, expanded}
+use Rattle.nj_scope.specs.Scopes.{expanded}
 use Rattle.nj_edge_env.specs.LateTexts.{LateNames, text_of_paths, paths_text, names_paths, is_one_of, value_given, unless_empty, is_of_command, rule_value, file_value, refers, Says, late_in, late_text}
 use Rattle.nj_edge_env.specs.LateTexts.Says.{by_paths, by_block, by_rule, by_file}
 use Rattle.nj_edge_env.specs.VariableCycles.{RefersTo, Reaches, IsOnCycle, HasNoCycle}
@@ -95,19 +96,19 @@ way quoting n name = by (names_paths name) (n.block name) (value_given n.lines n
 -- one line further
 abbrev pub once : (value : List ℕ → List ℕ) → Bool → LateNames → List ℕ → List ℕ
 once value quoting n name =
-    unwrap_or (or_else (text_of_paths quoting n.inputs n.outputs name) (or_else (n.block name) (option_map (expanded value) (rule_value n.block n.lines name)))) (file_value n name)
+    unwrap_or (option_or (text_of_paths quoting n.inputs n.outputs name) (option_or (n.block name) (option_map (expanded value) (rule_value n.block n.lines name)))) (file_value n name)
 
 pub once_paths : (value : List ℕ → List ℕ) (quoting : Bool) (n : LateNames) (name text : List ℕ) → text_of_paths quoting n.inputs n.outputs name ≡ Some text → once value quoting n name ≡ text
-once_paths value quoting n name text h = ap (λ o. unwrap_or (or_else o (or_else (n.block name) (option_map (expanded value) (rule_value n.block n.lines name)))) (file_value n name)) h
+once_paths value quoting n name text h = ap (λ o. unwrap_or (option_or o (option_or (n.block name) (option_map (expanded value) (rule_value n.block n.lines name)))) (file_value n name)) h
 
-after_paths : (value : List ℕ → List ℕ) (quoting : Bool) (n : LateNames) (name : List ℕ) → names_paths name ≡ false → once value quoting n name ≡ unwrap_or (or_else (n.block name) (option_map (expanded value) (rule_value n.block n.lines name))) (file_value n name)
-after_paths value quoting n name p = ap (λ o. unwrap_or (or_else o (or_else (n.block name) (option_map (expanded value) (rule_value n.block n.lines name)))) (file_value n name)) (without_paths quoting n.inputs n.outputs name p)
+after_paths : (value : List ℕ → List ℕ) (quoting : Bool) (n : LateNames) (name : List ℕ) → names_paths name ≡ false → once value quoting n name ≡ unwrap_or (option_or (n.block name) (option_map (expanded value) (rule_value n.block n.lines name))) (file_value n name)
+after_paths value quoting n name p = ap (λ o. unwrap_or (option_or o (option_or (n.block name) (option_map (expanded value) (rule_value n.block n.lines name)))) (file_value n name)) (without_paths quoting n.inputs n.outputs name p)
 
 pub once_block : (value : List ℕ → List ℕ) (quoting : Bool) (n : LateNames) (name text : List ℕ) → names_paths name ≡ false → n.block name ≡ Some text → once value quoting n name ≡ text
-once_block value quoting n name text p h = after_paths value quoting n name p ∙ ap (λ o. unwrap_or (or_else o (option_map (expanded value) (rule_value n.block n.lines name))) (file_value n name)) h
+once_block value quoting n name text p h = after_paths value quoting n name p ∙ ap (λ o. unwrap_or (option_or o (option_map (expanded value) (rule_value n.block n.lines name))) (file_value n name)) h
 
 after_block : (value : List ℕ → List ℕ) (quoting : Bool) (n : LateNames) (name : List ℕ) → names_paths name ≡ false → n.block name ≡ None → once value quoting n name ≡ unwrap_or (option_map (expanded value) (rule_value n.block n.lines name)) (file_value n name)
-after_block value quoting n name p h = after_paths value quoting n name p ∙ ap (λ o. unwrap_or (or_else o (option_map (expanded value) (rule_value n.block n.lines name))) (file_value n name)) h
+after_block value quoting n name p h = after_paths value quoting n name p ∙ ap (λ o. unwrap_or (option_or o (option_map (expanded value) (rule_value n.block n.lines name))) (file_value n name)) h
 
 pub once_rule : (value : List ℕ → List ℕ) (quoting : Bool) (n : LateNames) (name : List ℕ) (parts : List PartText) → rule_value n.block n.lines name ≡ Some parts → once value quoting n name ≡ expanded value parts
 once_rule value quoting n name parts h =

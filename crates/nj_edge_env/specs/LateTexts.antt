@@ -1,11 +1,12 @@
 -- Late texts: what the variables of a rule say when an edge uses them.
 use Rattle.std.specs.Prelude.{◌≡◌, ℕ, zero, suc, Bool, true, false, not, ◌&&◌, ◌||◌, if◌then◌else◌, Option, Some, None, is_some}
+use Rattle.std.specs.Option.{option_or}
 use Rattle.std.specs.Prelude.{unwrap_or, option_map, List, [], ◌∷◌, ◌++◌, map, length, codes, bytes_eq}
 use Rattle.std.specs.List.{list_any, flat_map}
 use Rattle.nj_text.specs.Quotes.{quoted}
 use Rattle.nj_text.specs.Words.{PartText, Text, Name}
 use Rattle.nj_scope.specs.Rules.{RuleLineText, given}
-use Rattle.nj_scope.specs.Scopes.{or_else, expanded}
+use Rattle.nj_scope.specs.Scopes.{expanded}
 
 -- What an edge's names depend on: the paths of its explicit inputs and outputs, the values that its block binds, the lines of
 -- its rule, whether that is `phony`, and the values of names in the file that has the edge.
@@ -89,8 +90,8 @@ abbrev pub late_in : (depth : ℕ) → (quoting : Bool) → LateNames → (name 
 late_in zero quoting n name = []
 late_in (suc depth) quoting n name =
     unwrap_or
-    (or_else (text_of_paths quoting n.inputs n.outputs name)
-    (or_else (n.block name) (option_map (expanded (late_in depth quoting n)) (rule_value n.block n.lines name))))
+    (option_or (text_of_paths quoting n.inputs n.outputs name)
+    (option_or (n.block name) (option_map (expanded (late_in depth quoting n)) (rule_value n.block n.lines name))))
     (file_value n name)
 
 -- unless lines of the rule refer to each other in a cycle, no more of them are nested than the rule has

@@ -1,5 +1,6 @@
 -- The rules and scopes of the edges of statements without a fault.
 use Rattle.std.proofs.Common.{◌≡◌, ℕ, ◌==◌, not, unwrap_or, is_some, Option, Some, None, List, [], ◌∷◌, ◌++◌, map, slice_get, refl, sym, ap, ◌∙◌}
+use Rattle.std.specs.Option.{option_or}
 use Rattle.std.specs.List.{AllByRecursion}
 use Rattle.std.proofs.lemmas.Option.{slice_get_within}
 use Rattle.nj_manifest.specs.LineSteps.{NameText}
@@ -21,7 +22,7 @@ use Rattle.nj_statements.proofs.LateLemmas.{is-phony, kept-phony}
 use Rattle.nj_graph.specs.Graph.{IsOpenScope, HasRule}
 use Rattle.nj_graph.specs.Inside.GraphHeld.{IsKnown}
 use Rattle.nj_graph.specs.Laws.{Faultless}
-use Rattle.nj_graph.specs.Reading.{fault_if, or_then, item_fault}
+use Rattle.nj_graph.specs.Reading.{fault_if, item_fault}
 use Rattle.nj_graph.proofs.OpenScopes.{AreOpen}
 
 -- ---- all of a list
@@ -40,7 +41,7 @@ module _ {X : Type 0} where
 has-longer : (rules more : List kept.RuleText) (e : EdgeText) → HasRule rules e → HasRule (rules ++ more) e
 has-longer rules more e has = record { rule = has.rule; rule_is = get-longer rules more e.rule has.rule has.rule_is; phony_is = has.phony_is }
 
-first-none : (first others : Option GraphFault) → or_then first others ≡ None → first ≡ None
+first-none : (first others : Option GraphFault) → option_or first others ≡ None → first ≡ None
 first-none (Some first) others h = h
 first-none None others h = refl
 

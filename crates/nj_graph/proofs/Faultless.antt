@@ -1,5 +1,6 @@
 -- When a statement has no fault of its own.
 use Rattle.std.proofs.Common.{◌≡◌, ℕ, suc, Bool, true, false, not, ◌==◌, Some, None, List, [], ◌∷◌, length, String, string_bytes, refl, sym, ap, subst, ◌∙◌, IsUtf8, arith}
+use Rattle.std.specs.Option.{option_or}
 use Rattle.std.proofs.lemmas.Grind.{common_steps}
 use Rattle.std.proofs.lemmas.Str.{IsUtf8-string_bytes, IsUtf8-from_is_utf8, is_utf8-from_IsUtf8}
 use Rattle.std.specs.Str.{is_utf8}
@@ -7,7 +8,7 @@ use Rattle.nj_text.specs.declared.spot.Spot.{Spot}
 use Rattle.nj_text.specs.Calls.{is_empty}
 use Rattle.nj_faults.specs.declared.fault.Cause.TheVariants.{EmptyPath, PathNotText}
 use Rattle.nj_faults.specs.Faults.{fault_at}
-use Rattle.nj_graph.specs.Reading.{fault_if, or_then, path_fault}
+use Rattle.nj_graph.specs.Reading.{fault_if, path_fault}
 
 pub empty-by_length : (bytes : List ℕ) (b : Bool) → b ≡ (length bytes == 0) → is_empty bytes ≡ b
 empty-by_length [] b h = sym h
@@ -17,10 +18,10 @@ empty-by_length (x ∷ xs) b h = sym (h ∙ never (length xs))
     never n = grind (arith, common_steps)
 
 pub path-empty : (file : List ℕ) (spot : Spot) (path : List ℕ) → is_empty path ≡ true → path_fault file spot path ≡ Some (fault_at file spot EmptyPath)
-path-empty file spot path h = ap (λ b. or_then (fault_if b (fault_at file spot EmptyPath)) (fault_if (not (is_utf8 path)) (fault_at file spot PathNotText))) h
+path-empty file spot path h = ap (λ b. option_or (fault_if b (fault_at file spot EmptyPath)) (fault_if (not (is_utf8 path)) (fault_at file spot PathNotText))) h
 
 pub path-utf8 : (file : List ℕ) (spot : Spot) (path : List ℕ) → is_empty path ≡ false → path_fault file spot path ≡ fault_if (not (is_utf8 path)) (fault_at file spot PathNotText)
-path-utf8 file spot path h = ap (λ b. or_then (fault_if b (fault_at file spot EmptyPath)) (fault_if (not (is_utf8 path)) (fault_at file spot PathNotText))) h
+path-utf8 file spot path h = ap (λ b. option_or (fault_if b (fault_at file spot EmptyPath)) (fault_if (not (is_utf8 path)) (fault_at file spot PathNotText))) h
 
 pub path-whole : {Z : Type 0} (file : List ℕ) (spot : Spot) (path : List ℕ) (s : String Z) → is_empty path ≡ false → string_bytes s ≡ path → path_fault file spot path ≡ None
 path-whole file spot path s h e =

@@ -1,11 +1,12 @@
 -- What a reader holds after one statement more.
 use Rattle.std.proofs.Common.{◌≡◌, ℕ, ◌+◌, ◌==◌, ◌&&◌, if◌then◌else◌, Bool, true, false, not, cond, inl, inr, Option, Some, None, option_map, Result, Ok, Err, List, [], ◌∷◌, find, refl, sym, ap, subst, ◌∙◌, add-zero, true≢false, arith}
+use Rattle.std.specs.Option.{option_or}
 use mathlib.Core.Path.{fun_ext}
 use Rattle.nj_text.specs.Words.{WordText}
 use Rattle.nj_manifest.specs.LineSteps.{NameText}
 use Rattle.nj_manifest.specs.Statements.{LineText}
 use Rattle.nj_scope.specs.Readings.{EachPathOnce, paths_of}
-use Rattle.nj_scope.specs.Scopes.{or_else, Bounds, value_in, expanded, rule_at}
+use Rattle.nj_scope.specs.Scopes.{Bounds, value_in, expanded, rule_at}
 use Rattle.nj_scope.specs.Declarations.{DeclarationsText, DeclaredBy, SameScopes}
 use Rattle.nj_scope.specs.Limits.{is_depth}
 use Rattle.nj_scope.specs.Pools.{is_pool}
@@ -14,7 +15,7 @@ use Rattle.nj_faults.specs.declared.fault.GraphFault.{GraphFault}
 use Rattle.nj_graph.specs.declared.reader.Reader.{Reader}
 use Rattle.nj_faults.specs.declared.fault.Cause.TheVariants.{BadDepth, DuplicateRule, DuplicatePool}
 use Rattle.nj_faults.specs.Faults.{fault_at}
-use Rattle.nj_graph.specs.Reading.{expanded_in, fault_if, or_then, rule_fault, depth_fault, pool_fault, own_fault, path_named, with_all_new, paths_read}
+use Rattle.nj_graph.specs.Reading.{expanded_in, fault_if, rule_fault, depth_fault, pool_fault, own_fault, path_named, with_all_new, paths_read}
 use Rattle.nj_statements.specs.Answers.{HoldsEdges, ReadsStatement}
 use Rattle.nj_graph.specs.Graph.{IsOpenScope}
 use Rattle.nj_graph.proofs.OpenScopes.{open-next}
@@ -57,7 +58,7 @@ rule-new main held entries file number name holds new =
 pub pool-new : (main : List ℕ) (held : Reader) (entries : List ReadStatement) (file scope : List ℕ) (name : NameText) (lines : List LineText) → Holds main held entries
     → true ≡ not (is_pool held.declarations.pools name.name) → pool_fault file scope entries name lines ≡ depth_fault file scope entries lines
 pool-new main held entries file scope name lines holds new =
-    ap (λ f. or_then f (depth_fault file scope entries lines)) (fault-unless (is_pool (pools entries) name.name) (fault_at file name.spot (DuplicatePool name.name)) (new ∙ ap (λ ps. not (is_pool ps name.name)) holds.declares.pools))
+    ap (λ f. option_or f (depth_fault file scope entries lines)) (fault-unless (is_pool (pools entries) name.name) (fault_at file name.spot (DuplicatePool name.name)) (new ∙ ap (λ ps. not (is_pool ps name.name)) holds.declares.pools))
 
 -- ---- depths
 
@@ -66,8 +67,8 @@ bounds-same : (e : ReadStatement) (entries : List ReadStatement) → ((value : L
 unfolding bounds
 bounds-same e entries nothing n x = by (n == e.number)
   where
-    by : (a : Bool) → or_else (if a then binds (value_in (bounds entries) (scope_of e)) e.item x else None) (bounds entries n x) ≡ bounds entries n x
-    by true = ap (λ o. or_else o (bounds entries n x)) (nothing (value_in (bounds entries) (scope_of e)) x)
+    by : (a : Bool) → option_or (if a then binds (value_in (bounds entries) (scope_of e)) e.item x else None) (bounds entries n x) ≡ bounds entries n x
+    by true = ap (λ o. option_or o (bounds entries n x)) (nothing (value_in (bounds entries) (scope_of e)) x)
     by false = refl
 
 expanded-kept : (e : ReadStatement) (entries : List ReadStatement) → ((value : List ℕ → List ℕ) (x : List ℕ) → binds value e.item x ≡ None) → (scope : List ℕ) (word : WordText) → expanded_in scope (e ∷ entries) word ≡ expanded_in scope entries word

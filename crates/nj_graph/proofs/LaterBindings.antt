@@ -1,9 +1,10 @@
 -- Bindings after the statement of an edge.
 use Rattle.std.proofs.Common.{◌≡◌, ℕ, if◌then◌else◌, Some, None, unwrap_or, List, [], ◌∷◌, refl, sym, ap, ◌∙◌, eq-eqb}
+use Rattle.std.specs.Option.{option_or}
 use Rattle.std.proofs.lemmas.Slice.Eq.{bytes_eq-Decides}
 use Rattle.nj_text.specs.Words.{WordText}
 use Rattle.nj_manifest.specs.Statements.{StatementText, BindingText}
-use Rattle.nj_scope.specs.Scopes.{or_else, nearest, value_in, expanded}
+use Rattle.nj_scope.specs.Scopes.{nearest, value_in, expanded}
 use Rattle.nj_scope.specs.ReadingList.{ReadStatement, scope_of, binds, bounds}
 use Rattle.nj_statements.specs.EdgeList.{EdgeText, with_edge, edges_read}
 use Rattle.nj_graph.specs.Reading.{expanded_in}
@@ -13,16 +14,16 @@ use Rattle.nj_graph.specs.Laws.{LaterBindingsCount, LaterBindingsChangeNoEdge}
 binds-now : (e : ReadStatement) (before : List ReadStatement) (edge : EdgeText) (name : List ℕ) (word : WordText) → e.item ≡ BindingText name word → e.number ≡ edge.number → bounds (e ∷ before) edge.number name ≡ Some (expanded_in (scope_of e) before word)
 unfolding bounds
 binds-now e before edge name word is number =
-    ap (λ b. or_else (if b then binds value e.item name else None) (bounds before edge.number name)) (eq-eqb edge.number e.number (sym number))
-    ∙ ap (λ (i : StatementText). or_else (binds value i name) (bounds before edge.number name)) is
-    ∙ ap (λ b. or_else (if b then Some (expanded value word.parts) else None) (bounds before edge.number name)) ((bytes_eq-Decides name name).1 refl)
+    ap (λ b. option_or (if b then binds value e.item name else None) (bounds before edge.number name)) (eq-eqb edge.number e.number (sym number))
+    ∙ ap (λ (i : StatementText). option_or (binds value i name) (bounds before edge.number name)) is
+    ∙ ap (λ b. option_or (if b then Some (expanded value word.parts) else None) (bounds before edge.number name)) ((bytes_eq-Decides name name).1 refl)
   where
     value : List ℕ → List ℕ
     value = value_in (bounds before) (scope_of e)
 
 pub later_bindings_count : LaterBindingsCount
 later_bindings_count e before edge name word is number =
-    ap (λ o. unwrap_or (or_else o (nearest (λ s. bounds (e ∷ before) s name) edge.around)) []) (binds-now e before edge name word is number)
+    ap (λ o. unwrap_or (option_or o (nearest (λ s. bounds (e ∷ before) s name) edge.around)) []) (binds-now e before edge name word is number)
 
 pub later_bindings_change_no_edge : LaterBindingsChangeNoEdge
 unfolding edges_read

@@ -1,5 +1,6 @@
 -- What is read of a statement, where it has a fault of its own, and where it names a file.
 use Rattle.std.proofs.Common.{◌≡◌, ℕ, suc, ◌+◌, ◌<◌, Result, Ok, Err, IfOk, OnOk, length, arith, Bool, true, false, inl, inr, Option, Some, None, option_map, List, [], ◌∷◌, ◌++◌, refl, sym, ap, subst, ◌∙◌, add-one}
+use Rattle.std.specs.Option.{option_or}
 use Rattle.nj_text.specs.declared.spot.Spot.{Spot}
 use Rattle.nj_text.specs.Words.{WordText}
 use Rattle.nj_text.specs.declared.fault.UnitFault.TheVariants as unit
@@ -18,7 +19,7 @@ use Rattle.nj_graph.specs.declared.reader.OpenFile.{OpenFile}
 use Rattle.nj_faults.specs.declared.fault.Place.{Place}
 use Rattle.nj_faults.specs.declared.fault.Cause.{Cause}
 use Rattle.nj_faults.specs.Faults.{fault_at, fault_in, no_memory}
-use Rattle.nj_graph.specs.Reading.{Site, entry_at, expanded_in, place_at, path_fault, fault_if, or_then, depth_fault, item_fault, own_fault, Whole, Refused, ReadingText, Opens, item_read, unless_fault, statement_read, opened_in, text_read, path_named, with_new, with_all_new, paths_read, path_at_fault, paths_come_to}
+use Rattle.nj_graph.specs.Reading.{Site, entry_at, expanded_in, place_at, path_fault, fault_if, depth_fault, item_fault, own_fault, Whole, Refused, ReadingText, Opens, item_read, unless_fault, statement_read, opened_in, text_read, path_named, with_new, with_all_new, paths_read, path_at_fault, paths_come_to}
 use Rattle.nj_graph.specs.Inside.ReaderContracts.{site_scope}
 use Rattle.nj_edges.specs.Edges.{EdgePaths}
 use Rattle.nj_faults.specs.declared.fault.Cause.TheVariants.{RuleVariableCycle}
@@ -46,7 +47,7 @@ if-names : (b : Bool) (file : List ℕ) (spot : Spot) (cause : Cause) → path_a
 if-names true file spot cause none fault h = ap (λ f. path_at_fault f.cause) (sym (some-is _ fault h)) ∙ none
 if-names false file spot cause none fault h = absurd cc
 
-or-names : (first others : Option GraphFault) → NamesNone first → NamesNone others → NamesNone (or_then first others)
+or-names : (first others : Option GraphFault) → NamesNone first → NamesNone others → NamesNone (option_or first others)
 or-names (Some first) others one more = one
 or-names None others one more = more
 
@@ -67,7 +68,7 @@ target-names file values edges word = or-names (empty_path file values word) _ (
 outputs-name : (file : List ℕ) (values : Values) (edges : List EdgePaths) (left : List (List ℕ)) (words : List WordText) → NamesNone (outputs_fault file values edges left words)
 outputs-name file values edges left [] = λ fault h. absurd cc
 outputs-name file values edges left (word ∷ words) =
-    or-names (or_then (empty_path file values word) (two_makers file values edges left word)) _
+    or-names (option_or (empty_path file values word) (two_makers file values edges left word)) _
     (or-names (empty_path file values word) _ (empty-names file values word) (if-names _ file word.spot _ refl))
     (outputs-name file values edges (left ++ path_said values word ∷ []) words)
 

@@ -1,5 +1,6 @@
 -- The joining of dyndep files to the statements of a run ("Dynamic Dependencies" in the manual), up to the first fault.
 use Rattle.std.specs.Prelude.{◌≡◌, ℕ, suc, if◌then◌else◌, Option, option_map, Result, Ok, Err, List, [], ◌∷◌, ◌++◌, map, length}
+use Rattle.std.specs.Option.{option_or}
 use Rattle.std.specs.Str.{is_utf8}
 use Rattle.nj_text.specs.Lines.{Line, text_lines}
 use Rattle.nj_manifest.specs.Faults.{Fault}
@@ -15,7 +16,7 @@ use Rattle.nj_statements.specs.EdgeList.{Pending, edges_read, pending_read}
 use Rattle.nj_statements.specs.Built.{detail_at, detail_of}
 use Rattle.nj_statements.specs.Joining.{entry_fault, with_entry, lacking_fault, dyndep_files}
 use Rattle.nj_graph.specs.Parsed.{Parsed, none_parsed, parsed_in}
-use Rattle.nj_graph.specs.Reading.{End, Whole, ReadingText, or_then, unless_fault, end_by, stopped, answer_read, with_all_new}
+use Rattle.nj_graph.specs.Reading.{End, Whole, ReadingText, unless_fault, end_by, stopped, answer_read, with_all_new}
 use Rattle.nj_graph.specs.Runs.{ReachedText}
 use Rattle.nj_graph.specs.Loads.{LoadedText, LoadsAfter}
 
@@ -35,7 +36,7 @@ entries_of text = after_version (suc (length text)) (version_next (text_lines te
 unfoldable pub entries_joined : (file : List ℕ) → (stated : List ReadStatement) → List EntryText → Option Fault → (joined : List ReadStatement)
     → ReadingText
 entries_joined file stated [] fault joined =
-    record { entries = joined; end = end_by (or_then (option_map (fault_in file) fault) (lacking_fault file joined)) }
+    record { entries = joined; end = end_by (option_or (option_map (fault_in file) fault) (lacking_fault file joined)) }
 entries_joined file stated (entry ∷ others) fault joined =
     unless_fault (entry_fault file stated joined entry) joined
     (entries_joined file stated others fault (with_entry stated joined entry))

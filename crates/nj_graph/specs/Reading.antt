@@ -1,5 +1,6 @@
 -- The reading of a run's files: all statements in reading order, up to the first fault.
 use Rattle.std.specs.Prelude.{ℕ, zero, suc, Bool, true, false, not, ◌&&◌, if◌then◌else◌, nat_lt, Option, Some, None, option_map, List, []}
+use Rattle.std.specs.Option.{option_or}
 use Rattle.std.specs.Prelude.{◌∷◌, ◌++◌, find, codes, bytes_eq}
 use Rattle.std.specs.List.{list_any}
 use Rattle.std.specs.Str.{is_utf8}
@@ -24,7 +25,7 @@ use Rattle.nj_faults.specs.declared.fault.Cause.TheVariants.{PathNotText, TooDee
 use Rattle.nj_faults.specs.Faults.{fault_at, fault_in}
 use Rattle.nj_faults.specs.Versions.{is_newer}
 use Rattle.nj_statements.specs.BuildFaults.{build_fault, default_fault}
-pub use Rattle.nj_statements.specs.BuildFaults.{fault_if, or_then}
+pub use Rattle.nj_statements.specs.BuildFaults.{fault_if}
 use Rattle.nj_graph.specs.Parsed.{parsed}
 
 -- ---- where a statement stands
@@ -69,12 +70,12 @@ depth_fault file scope before lines =
 
 abbrev pub pool_fault : (file scope : List ℕ) → (before : List ReadStatement) → NameText → List LineText → Option GraphFault
 pool_fault file scope before name lines =
-    or_then (fault_if (is_pool (pools before) name.name) (fault_at file name.spot (DuplicatePool name.name)))
+    option_or (fault_if (is_pool (pools before) name.name) (fault_at file name.spot (DuplicatePool name.name)))
     (depth_fault file scope before lines)
 
 abbrev pub path_fault : (file : List ℕ) → Spot → (path : List ℕ) → Option GraphFault
 path_fault file spot path =
-    or_then (fault_if (is_empty path) (fault_at file spot EmptyPath)) (fault_if (not (is_utf8 path)) (fault_at file spot PathNotText))
+    option_or (fault_if (is_empty path) (fault_at file spot EmptyPath)) (fault_if (not (is_utf8 path)) (fault_at file spot PathNotText))
 
 abbrev pub item_fault : ReadStatement → (before : List ReadStatement) → StatementText → Option GraphFault
 item_fault e before (BindingText name value) = binding_fault e.file e.spot name (expanded_in (scope_of e) before value)

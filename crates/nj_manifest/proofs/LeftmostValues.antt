@@ -1,11 +1,12 @@
 -- Values along a line: `= VALUE` to its end, or the first bad unit in it.
 use Rattle.std.proofs.Common.{◌≡◌, Bool, true, false, cond, Option, Some, None, Result, Ok, Err, inl, List, [], ◌∷◌, ◌++◌, refl, sym, ap, ◌∙◌}
+use Rattle.std.specs.Option.{option_or}
 use Rattle.nj_text.specs.declared.fault.UnitFault.{UnitFault}
 use Rattle.nj_text.specs.declared.sign.Sign.TheVariants as sign
 use Rattle.nj_text.specs.declared.spot.Spot.{Spot}
 use Rattle.nj_text.specs.Units.{Meaning, Ordinary, Join, OpeningJoin, TextUnit}
 use Rattle.nj_text.specs.Lines.{Line, lines_after, spot_of_first}
-use Rattle.nj_text.specs.Words.{is_blank, is_blank_meaning, is_opening_meaning, after_opening, fault_of, fault_of_meaning, next_fault, or_else, first_fault, parts_of, WordText}
+use Rattle.nj_text.specs.Words.{is_blank, is_blank_meaning, is_opening_meaning, after_opening, fault_of, fault_of_meaning, next_fault, first_fault, parts_of, WordText}
 use Rattle.nj_text.specs.Calls.{State, Between, reply, unless_fault, value_of}
 use Rattle.nj_manifest.specs.declared.fault.Wanted.TheVariants as wanted
 use Rattle.nj_manifest.specs.Faults.{Fault, Bad}
@@ -30,7 +31,7 @@ opening_no_fault OpeningJoin spot h = refl
 opening_no_fault m spot h = absurd cc
 
 first_of_sound : (u : TextUnit) (us : List TextUnit) → fault_of u ≡ None → first_fault us ≡ first_fault (u ∷ us)
-first_of_sound u us h = sym (ap (λ (f : Option UnitFault). or_else f (first_fault us)) h)
+first_of_sound u us h = sym (ap (λ (f : Option UnitFault). option_or f (first_fault us)) h)
 
 first_after_blanks : (us : List TextUnit) → first_fault (skip us) ≡ first_fault us
 first_after_blanks [] = refl
@@ -52,13 +53,13 @@ first_after_sound : (used x : List TextUnit) → first_fault used ≡ None → f
 first_after_sound [] x h = refl
 first_after_sound (u ∷ used) x h = by_unit (fault_of u) refl h (first_after_sound used x)
   where
-    by_unit : (f : Option UnitFault) → fault_of u ≡ f → or_else f (first_fault used) ≡ None → (first_fault used ≡ None → first_fault (used ++ x) ≡ first_fault x) → or_else f (first_fault (used ++ x)) ≡ first_fault x
+    by_unit : (f : Option UnitFault) → fault_of u ≡ f → option_or f (first_fault used) ≡ None → (first_fault used ≡ None → first_fault (used ++ x) ≡ first_fault x) → option_or f (first_fault (used ++ x)) ≡ first_fault x
     by_unit None e g rest = rest g
     by_unit (Some bad) e g rest = absurd cc
 
 first_is_next : (x : List TextUnit) (bad : UnitFault) → next_fault x ≡ Some bad → first_fault x ≡ Some bad
 first_is_next [] bad h = absurd cc
-first_is_next (u ∷ x) bad h = ap (λ (f : Option UnitFault). or_else f (first_fault x)) h
+first_is_next (u ∷ x) bad h = ap (λ (f : Option UnitFault). option_or f (first_fault x)) h
 
 -- the units before the first bad one
 record Sound (us : List TextUnit) (bad : UnitFault) : Type 0 where
@@ -72,7 +73,7 @@ before_bad : (us : List TextUnit) (bad : UnitFault) → first_fault us ≡ Some 
 before_bad [] bad h = absurd cc
 before_bad (u ∷ us) bad h = by_unit (fault_of u) refl h (before_bad us bad)
   where
-    by_unit : (f : Option UnitFault) → fault_of u ≡ f → or_else f (first_fault us) ≡ Some bad → (first_fault us ≡ Some bad → Sound us bad) → Sound (u ∷ us) bad
+    by_unit : (f : Option UnitFault) → fault_of u ≡ f → option_or f (first_fault us) ≡ Some bad → (first_fault us ≡ Some bad → Sound us bad) → Sound (u ∷ us) bad
     by_unit (Some other) e g rest = record { used = []; left = u ∷ us; cut = refl; sound = refl; next = e ∙ g }
     by_unit None e g rest =
         let r = rest g in

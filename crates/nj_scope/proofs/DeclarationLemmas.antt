@@ -1,10 +1,11 @@
 -- What is held after one statement more.
 use Rattle.std.proofs.Common.{◌≡◌, ℕ, ◌+◌, Bool, true, false, ◌&&◌, ◌==◌, if◌then◌else◌, List, [], ◌∷◌, ◌++◌, map, length, Option, Some, None, unwrap_or, bytes_eq, Result, Ok, Err, OnOk, OnErr, IfOk, refl, sym, ap, ◌∙◌, add-zero, true≢false}
+use Rattle.std.specs.Option.{option_or}
 use Rattle.nj_text.specs.Words.{PartText, Text, Name, WordText}
 use Rattle.nj_manifest.specs.LineSteps.{NameText}
 use Rattle.nj_manifest.specs.Statements.{LineText, OutputsText, InputsText, StatementText, BindingText, RuleText, PoolText, BuildText, DefaultText, IncludeText, SubninjaText}
 use Rattle.nj_scope.specs.Rules.{line_kept, phony_rule}
-use Rattle.nj_scope.specs.Scopes.{or_else, nearest, Bounds, value_in, expanded, bound_at, rule_at}
+use Rattle.nj_scope.specs.Scopes.{nearest, Bounds, value_in, expanded, bound_at, rule_at}
 use Rattle.nj_scope.specs.Declarations.{DeclarationsText, DeclaredBy, TakesIn}
 use Rattle.nj_scope.specs.ReadingList.{ReadStatement, scope_of, binds, declares, bounds, rules, with_rule, rule_texts, with_pool, pools, opens_scope, scopes_opened, value_after}
 
@@ -24,7 +25,7 @@ if_ok (Err e) h then_so = tt
 
 nearest-same : {X : Type 0} (f g : ℕ → Option X) → ((n : ℕ) → f n ≡ g n) → (scope : List ℕ) → nearest f scope ≡ nearest g scope
 nearest-same f g same [] = refl
-nearest-same f g same (s ∷ around) = ap (λ o. or_else o (nearest f around)) (same s) ∙ ap (or_else (g s)) (nearest-same f g same around)
+nearest-same f g same (s ∷ around) = ap (λ o. option_or o (nearest f around)) (same s) ∙ ap (option_or (g s)) (nearest-same f g same around)
 
 value-same : (f g : Bounds) → ((n : ℕ) (name : List ℕ) → f n name ≡ g n name) → (scope name : List ℕ) → value_in f scope name ≡ value_in g scope name
 value-same f g same scope name = ap (λ o. unwrap_or o []) (nearest-same (λ s. f s name) (λ s. g s name) (λ s. same s name) scope)
@@ -52,7 +53,7 @@ module _ (held after : DeclarationsText) (entries : List ReadStatement) (e : Rea
       bound n x ∙ ap (λ o. if n == e.number && bytes_eq x name then Some value else o) (follows.bound n x) ∙ ap (λ v. if n == e.number && bytes_eq x name then Some v else bounds entries n x) (listed is)
       ∙ by (n == e.number) (bytes_eq x name)
     where
-      by : (a b : Bool) → (if a && b then Some (expanded (value_after entries (scope_of e)) word.parts) else bounds entries n x) ≡ or_else (if a then (if b then Some (expanded (value_after entries (scope_of e)) word.parts) else None) else None) (bounds entries n x)
+      by : (a b : Bool) → (if a && b then Some (expanded (value_after entries (scope_of e)) word.parts) else bounds entries n x) ≡ option_or (if a then (if b then Some (expanded (value_after entries (scope_of e)) word.parts) else None) else None) (bounds entries n x)
       by true true = refl
       by true false = refl
       by false b = refl
@@ -60,7 +61,7 @@ module _ (held after : DeclarationsText) (entries : List ReadStatement) (e : Rea
   declared-after : ((n : ℕ) (x : List ℕ) → rule_at after.scopes n x ≡ rule_at held.scopes n x) → (n : ℕ) (x : List ℕ) → rule_at after.scopes n x ≡ rules (binding ∷ entries) n x
   declared-after same n x = same n x ∙ follows.declared n x ∙ by (n == e.number)
     where
-      by : (a : Bool) → rules entries n x ≡ or_else (if a && false then Some (length (rule_texts entries)) else None) (rules entries n x)
+      by : (a : Bool) → rules entries n x ≡ option_or (if a && false then Some (length (rule_texts entries)) else None) (rules entries n x)
       by true = refl
       by false = refl
 
@@ -83,14 +84,14 @@ bounds-kept : (e : ReadStatement) (entries : List ReadStatement) → ((value : L
 unfolding bounds
 bounds-kept e entries nothing n x = by (n == e.number)
   where
-    by : (a : Bool) → or_else (if a then binds (value_in (bounds entries) (scope_of e)) e.item x else None) (bounds entries n x) ≡ bounds entries n x
-    by true = ap (λ o. or_else o (bounds entries n x)) (nothing (value_in (bounds entries) (scope_of e)) x)
+    by : (a : Bool) → option_or (if a then binds (value_in (bounds entries) (scope_of e)) e.item x else None) (bounds entries n x) ≡ bounds entries n x
+    by true = ap (λ o. option_or o (bounds entries n x)) (nothing (value_in (bounds entries) (scope_of e)) x)
     by false = refl
 
 pub rules-kept : (e : ReadStatement) (entries : List ReadStatement) → ((x : List ℕ) → declares e.item x ≡ false) → (n : ℕ) (x : List ℕ) → rules (e ∷ entries) n x ≡ rules entries n x
 rules-kept e entries nothing n x = by (n == e.number) (declares e.item x) (nothing x)
   where
-    by : (a b : Bool) → b ≡ false → or_else (if a && b then Some (length (rule_texts entries)) else None) (rules entries n x) ≡ rules entries n x
+    by : (a b : Bool) → b ≡ false → option_or (if a && b then Some (length (rule_texts entries)) else None) (rules entries n x) ≡ rules entries n x
     by true true h = absurd (true≢false h)
     by true false h = refl
     by false b h = refl
@@ -111,7 +112,7 @@ module _ (held after : DeclarationsText) (entries : List ReadStatement) (e : Rea
     pools = same_pools ∙ follows.pools;
   }
     where
-      by : (n : ℕ) (x : List ℕ) (a : Bool) → (if a then Some (length (rule_texts entries)) else rules entries n x) ≡ or_else (if a then Some (length (rule_texts entries)) else None) (rules entries n x)
+      by : (n : ℕ) (x : List ℕ) (a : Bool) → (if a then Some (length (rule_texts entries)) else rules entries n x) ≡ option_or (if a then Some (length (rule_texts entries)) else None) (rules entries n x)
       by n x true = refl
       by n x false = refl
 

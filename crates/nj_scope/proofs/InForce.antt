@@ -1,5 +1,6 @@
 -- The rule that is in force under a name is one that was declared under it.
 use Rattle.std.proofs.Common.{◌≡◌, ◌⊎◌, ℕ, suc, ◌<◌, Bool, true, false, ◌&&◌, ◌==◌, if◌then◌else◌, List, [], ◌∷◌, ◌++◌, map, length, Option, Some, None, unwrap_or, is_some, slice_get, bytes_eq, refl, sym, ap, ◌∙◌, true≢false, inl, inr, arith, eqb-true, IfSome, subst}
+use Rattle.std.specs.Option.{option_or}
 use Rattle.std.specs.List.{Contains}
 use Rattle.std.proofs.lemmas.List.{length-append}
 use Rattle.std.proofs.lemmas.Option.{slice_get_within, slice_get-get_or, get_or_from_slice_get}
@@ -9,7 +10,7 @@ use Rattle.std.proofs.Math.Seq.{get_or-append_seam}
 use Rattle.nj_manifest.specs.Statements.{StatementText, BindingText, RuleText, PoolText, BuildText, DefaultText, IncludeText, SubninjaText}
 use Rattle.nj_scope.specs.Rules as kept
 use Rattle.nj_scope.specs.Rules.{line_kept, phony, phony_rule}
-use Rattle.nj_scope.specs.Scopes.{or_else, nearest, rule_at}
+use Rattle.nj_scope.specs.Scopes.{nearest, rule_at}
 use Rattle.nj_scope.specs.Declarations.{DeclarationsText, DeclaredBy}
 use Rattle.nj_scope.specs.Laws.{InForceIsDeclared}
 use Rattle.nj_scope.specs.ReadingList.{ReadStatement, with_rule, rule_texts, rules}
@@ -47,7 +48,7 @@ found-more : (before : List ReadStatement) (e : ReadStatement) (item : Statement
 found-more before e (RuleText declared lines) scope name number rest h = by (scope == e.number) (bytes_eq name declared.name) (eqb-true scope e.number) (bytes_eq-Decides name declared.name).0 h
   where
     by : (a b : Bool) → (a ≡ true → scope ≡ e.number) → (b ≡ true → name ≡ declared.name)
-        → or_else (if a && b then Some (length (rule_texts before)) else None) (rules before scope name) ≡ Some number
+        → option_or (if a && b then Some (length (rule_texts before)) else None) (rules before scope name) ≡ Some number
         → Found (rule_texts before ++ record { scope = e.number; name = declared.name; lines = map line_kept lines } ∷ []) scope name number
     by true true at named h = record {
       rule = record { scope = e.number; name = declared.name; lines = map line_kept lines };
@@ -78,7 +79,7 @@ nearest-own own (s ∷ around) number h = by (own s) (nearest-own own around num
     farther : (t : ℕ) × Contains around t × (own t ≡ Some number) → (t : ℕ) × Contains (s ∷ around) t × (own t ≡ Some number)
     farther (t, (k, within, is), owns) = (t, (suc k, omega arith, is), owns)
 
-    by : (o : Option ℕ) → (nearest own around ≡ Some number → (t : ℕ) × Contains around t × (own t ≡ Some number)) → own s ≡ o → or_else o (nearest own around) ≡ Some number
+    by : (o : Option ℕ) → (nearest own around ≡ Some number → (t : ℕ) × Contains around t × (own t ≡ Some number)) → own s ≡ o → option_or o (nearest own around) ≡ Some number
         → (t : ℕ) × Contains (s ∷ around) t × (own t ≡ Some number)
     by None rest is h = farther (rest h)
     by (Some n) rest is h = (s, (0, omega arith, refl), is ∙ h)

@@ -1,5 +1,6 @@
 -- The names of a scope's rules, where each rule was new as it was declared.
 use Rattle.std.proofs.Common.{◌≡◌, ℕ, Bool, true, false, cond, ◌&&◌, ◌||◌, ◌==◌, if◌then◌else◌, List, [], ◌∷◌, ◌++◌, map, length, Option, Some, None, is_some, bytes_eq, refl, sym, ap, subst, ◌∙◌, eqb-true}
+use Rattle.std.specs.Option.{option_or}
 use Rattle.std.specs.List.{filter, list_any, IsDistinct}
 use Rattle.std.proofs.lemmas.Cmp.{nat_list_eq_equiv}
 use Rattle.std.proofs.lemmas.List.{map-append, append-nil}
@@ -9,7 +10,6 @@ use Rattle.std.proofs.lemmas.Map.Keys.{IsDistinct-push}
 use Rattle.nj_manifest.specs.Statements.{StatementText, BindingText, RuleText, PoolText, BuildText, DefaultText, IncludeText, SubninjaText}
 use Rattle.nj_scope.specs.Rules as kept
 use Rattle.nj_scope.specs.Rules.{rule_names, line_kept, phony, phony_rule}
-use Rattle.nj_scope.specs.Scopes.{or_else}
 use Rattle.nj_scope.specs.ReadingList.{ReadStatement, with_rule, rule_texts, declares, rules, is_declared}
 use Rattle.nj_scope.proofs.NewRules.{RuleIsNew, EachRuleIsNew}
 use Rattle.nj_scope.proofs.DeclarationLemmas.{rules-kept}
@@ -49,7 +49,7 @@ any_one name other true = by (bytes_eq name other)
     by false = refl
 any_one name other false = refl
 
-taken-push : (phony hit : Bool) (k : ℕ) (o : Option ℕ) → (phony || is_some (or_else (if hit then Some k else None) o)) ≡ ((phony || is_some o) || hit)
+taken-push : (phony hit : Bool) (k : ℕ) (o : Option ℕ) → (phony || is_some (option_or (if hit then Some k else None) o)) ≡ ((phony || is_some o) || hit)
 taken-push true hit k o = refl
 taken-push false true k None = refl
 taken-push false true k (Some x) = refl

@@ -1,7 +1,8 @@
 -- The look-up of a name, from a scope to those around it.
 use Rattle.std.proofs.Common.{◌≡◌, ℕ, suc, ◌<◌, List, Option, Some, None, unwrap_or, is_some, IfSome, length, refl, sym, ap, ◌∙◌, subst, true≢false}
+use Rattle.std.specs.Option.{option_or}
 use Rattle.std.proofs.Math.Nat.{lt_trans, zero-lt-suc, suc-lt_of_lt-pred}
-use Rattle.nj_scope.specs.Scopes.{IsScope, nearest, or_else, ScopeText, parent_at}
+use Rattle.nj_scope.specs.Scopes.{IsScope, nearest, ScopeText, parent_at}
 use Rattle.nj_scope.specs.Scopes.IsScope.{outermost, child}
 
 abbrev pub IsWithin : List ScopeText → Option ℕ → Type 0
@@ -39,19 +40,19 @@ module _ {X : Type 0} where
 
     -- a scope in which it is found
     found_here : (found : Option X) (x : X) (n : ℕ) → own n ≡ Some x → LooksFrom own scopes found (Some n) → found ≡ Some x
-    found_here found x n here (_, outermost none, is) = is ∙ ap (λ o. or_else o None) here
-    found_here found x n here (_, child {around = around} some inner, is) = is ∙ ap (λ o. or_else o (nearest own around)) here
+    found_here found x n here (_, outermost none, is) = is ∙ ap (λ o. option_or o None) here
+    found_here found x n here (_, child {around = around} some inner, is) = is ∙ ap (λ o. option_or o (nearest own around)) here
 
     pub looks-found : (x : X) (n : ℕ) → StillLooks own scopes scope (Some n) → own n ≡ Some x → (around : List ℕ) → IsScope (parent_at scopes) scope around → nearest own around ≡ Some x
     looks-found x n still here around is = found_here (nearest own around) x n here (still.looks around is)
 
     -- a scope in which it is not
     looks_beyond : (found : Option X) (n : ℕ) (parent : Option ℕ) → parent_at scopes n ≡ parent → own n ≡ None → LooksFrom own scopes found (Some n) → LooksFrom own scopes found parent
-    looks_beyond found n None p nothing (_, outermost none, is) = is ∙ ap (λ o. or_else o None) nothing
+    looks_beyond found n None p nothing (_, outermost none, is) = is ∙ ap (λ o. option_or o None) nothing
     looks_beyond found n (Some q) p nothing (_, outermost none, is) = absurd (true≢false (ap is_some (sym p ∙ none)))
     looks_beyond found n None p nothing (_, child some inner, is) = absurd (true≢false (ap is_some (sym some ∙ p)))
     looks_beyond found n (Some q) p nothing (_, child {p = r} {around = around} some inner, is) =
-        (around, subst (λ m. IsScope (parent_at scopes) m around) (some_same (sym some ∙ p)) inner, is ∙ ap (λ o. or_else o (nearest own around)) nothing)
+        (around, subst (λ m. IsScope (parent_at scopes) m around) (some_same (sym some ∙ p)) inner, is ∙ ap (λ o. option_or o (nearest own around)) nothing)
 
     pub looks-beyond : (n : ℕ) (parent : Option ℕ) → StillLooks own scopes scope (Some n) → own n ≡ None → parent ≡ parent_at scopes n → IfSome parent (λ p. p < n) → StillLooks own scopes scope parent
     looks-beyond n parent still nothing is earlier = record {

@@ -1,10 +1,11 @@
 -- The statements of a run in reading order, and what names, rules and pools stand for before one of them.
 use Rattle.std.specs.Prelude.{◌≡◌, ℕ, ◌+◌, Bool, false, ◌&&◌, ◌==◌, Option, Some, None, option_and_then, List, [], ◌∷◌, ◌++◌, map, length, slice_get, bytes_eq, is_some, ◌||◌, if◌then◌else◌}
+use Rattle.std.specs.Option.{option_or}
 use Rattle.nj_text.specs.declared.spot.Spot.{Spot}
 use Rattle.nj_scope.specs.Rules as kept
 use Rattle.nj_scope.specs.Rules.{line_kept, phony, phony_rule}
 use Rattle.nj_manifest.specs.Statements.{StatementText, BindingText, RuleText, PoolText, IncludeText, SubninjaText}
-use Rattle.nj_scope.specs.Scopes.{or_else, nearest, Bounds, value_in, expanded}
+use Rattle.nj_scope.specs.Scopes.{nearest, Bounds, value_in, expanded}
 
 -- What a dyndep file adds to a build statement ("Dynamic Dependencies" in the manual): outputs and inputs, by their clean paths.
 pub record Discovered : Type 0 where
@@ -45,7 +46,7 @@ binds_in number e value name = if number == e.number then binds value e.item nam
 -- what the statements before it bind.
 unfoldable pub bounds : List ReadStatement → Bounds
 bounds [] number name = None
-bounds (e ∷ before) number name = or_else (binds_in number e (value_in (bounds before) (scope_of e)) name) (bounds before number name)
+bounds (e ∷ before) number name = option_or (binds_in number e (value_in (bounds before) (scope_of e)) name) (bounds before number name)
 
 -- the value of a name in a scope, after these statements
 abbrev pub value_after : List ReadStatement → (scope name : List ℕ) → List ℕ
@@ -70,7 +71,7 @@ declares item name = false
 abbrev pub rules : List ReadStatement → (number : ℕ) → (name : List ℕ) → Option ℕ
 rules [] number name = None
 rules (e ∷ before) number name =
-    or_else (if number == e.number && declares e.item name then Some (length (rule_texts before)) else None) (rules before number name)
+    option_or (if number == e.number && declares e.item name then Some (length (rule_texts before)) else None) (rules before number name)
 
 -- whether a name is taken, where its own scope has this rule of the name; `phony` is always there
 abbrev pub is_declared : Option ℕ → (name : List ℕ) → Bool

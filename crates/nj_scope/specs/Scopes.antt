@@ -1,18 +1,15 @@
 -- Scopes: which variables and rules a statement sees.
 use Rattle.std.specs.Prelude.{◌≡◌, ℕ, Option, Some, None, option_and_then, unwrap_or, List, [], ◌∷◌, slice_get, bytes_eq}
+use Rattle.std.specs.Option.{option_or}
 use Rattle.std.specs.List.{flat_map}
 use Rattle.std.specs.Map.{lookup}
 use Rattle.nj_text.specs.Words.{PartText, Text, Name}
-
-abbrev pub or_else : {X : Type 0} → Option X → Option X → Option X
-or_else None other = other
-or_else (Some x) other = Some x
 
 -- A scope is given by its number and those of the scopes around it, the nearest first. What a name stands for in it: what
 -- it stands for in the scope itself, else in the scopes around it.
 abbrev pub nearest : {X : Type 0} → (own : ℕ → Option X) → (scope : List ℕ) → Option X
 nearest own [] = None
-nearest own (s ∷ around) = or_else (own s) (nearest own around)
+nearest own (s ∷ around) = option_or (own s) (nearest own around)
 
 -- what each scope itself binds, by its number and the name
 abbrev pub Bounds : Type 0

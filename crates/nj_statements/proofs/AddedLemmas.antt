@@ -1,5 +1,6 @@
 -- Lemmas on what is collected for an edge.
 use Rattle.std.proofs.Common.{◌≡◌, ℕ, ◌+◌, ◌<◌, Option, None, length, drop, get_or, Bool, true, false, if◌then◌else◌, List, [], ◌∷◌, ◌++◌, bytes_eq, refl, sym, ap, subst, ◌∙◌}
+use Rattle.std.specs.Option.{option_or}
 use Rattle.std.specs.List.{IsDistinct, list_any}
 use Rattle.std.specs.Cmp.{IsEquivalence}
 use Rattle.std.proofs.lemmas.List.{append_assoc, append-nil}
@@ -14,7 +15,7 @@ use Rattle.nj_faults.specs.declared.fault.GraphFault.{GraphFault}
 use Rattle.nj_faults.specs.declared.fault.Cause.TheVariants.{TwoMakers}
 use Rattle.nj_faults.specs.Faults.{fault_at}
 use Rattle.nj_statements.specs.EdgeList.{path_said, paths_said}
-use Rattle.nj_statements.specs.BuildFaults.{fault_if, or_then, first_fault, empty_path, two_makers, outputs_fault}
+use Rattle.nj_statements.specs.BuildFaults.{fault_if, first_fault, empty_path, two_makers, outputs_fault}
 use Rattle.nj_statements.specs.Joining.{no_values}
 use Rattle.nj_statements.specs.JoiningHeld.{KeepsEdges}
 use Rattle.nj_statements.specs.Inside.JoiningSteps.{with_added_outputs, with_added_inputs}
@@ -91,7 +92,7 @@ outputs-turn t new path words i word below is says adds =
 pub no-fault-turn : (fault_of : WordText → Option GraphFault) (words : List Word) (i : ℕ) (word : Word) → i < length words → word ≡ get_or words i word → fault_of (word_text word) ≡ None
     → first_fault fault_of (words_text (drop (i + 1) words)) ≡ first_fault fault_of (words_text (drop i words))
 no-fault-turn fault_of words i word below is none =
-    ap (λ o. or_then o (first_fault fault_of (words_text (drop (i + 1) words)))) (sym none)
+    ap (λ o. option_or o (first_fault fault_of (words_text (drop (i + 1) words)))) (sym none)
     ∙ sym (at-next (λ (ws : List Word). first_fault fault_of (words_text ws)) words i word below is)
 
 pub new-output-turn : (name : List ℕ) (t new : JoinTable) (path : List ℕ) (words : List Word) (i : ℕ) (word : Word) → i < length words → word ≡ get_or words i word → path ≡ path_said no_values (word_text word)
@@ -101,8 +102,8 @@ new-output-turn name t new path words i word below is says none fresh adds =
     ap (λ (u : JoinTable). outputs_fault name no_values u.joined u.«open».outputs rest) (adds ∙ ap (with_added_output t) says)
     ∙ sym (
     at-next (λ (ws : List Word). outputs_fault name no_values t.joined t.«open».outputs (words_text ws)) words i word below is
-    ∙ ap (λ o. or_then (or_then o (two_makers name no_values t.joined t.«open».outputs (word_text word))) later) none
-    ∙ ap (λ b. or_then (fault_if b (fault_at name word.spot (TwoMakers said))) later) (ap (is_made_so_far t) (sym says) ∙ fresh)
+    ∙ ap (λ o. option_or (option_or o (two_makers name no_values t.joined t.«open».outputs (word_text word))) later) none
+    ∙ ap (λ b. option_or (fault_if b (fault_at name word.spot (TwoMakers said))) later) (ap (is_made_so_far t) (sym says) ∙ fresh)
     )
   where
     said : List ℕ

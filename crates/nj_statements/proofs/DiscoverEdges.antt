@@ -1,5 +1,6 @@
 -- What is discovered for an edge: which edges change by it, and which ones wait from then on.
 use Rattle.std.proofs.Common.{◌≡◌, ◌≢◌, ◌⊎◌, inl, inr, ℕ, zero, suc, ◌+◌, ◌<◌, ◌≤◌, ◌==◌, ◌||◌, Bool, true, false, not, cond, true≢false, if◌then◌else◌, List, [], ◌∷◌, ◌++◌, length, map, Option, Some, None, unwrap_or, slice_get, bytes_eq, is_some, refl, sym, ap, ◌∙◌, subst, arith}
+use Rattle.std.specs.Option.{option_or}
 use Rattle.std.specs.Prelude.{codes, filter, ◌&&◌}
 use Rattle.std.specs.List.{AllByRecursion, AllZip, list_any}
 use Rattle.std.proofs.lemmas.Bool.{ne_eqb, eqb-true}
@@ -20,7 +21,7 @@ use Rattle.nj_edge_env.specs.LateTexts.{LateNames, asked_text}
 use Rattle.nj_statements.specs.EdgeList.{EdgeText, Pending, path_said, block_of, on_line, stated_paths, edge_paths, with_discovered, edge_of_build, edges_read, paths_of_edges, block_of_edge, block_at}
 use Rattle.nj_statements.specs.EdgeList.{file_said, dyndep_of, pending_at, pending_read}
 use Rattle.nj_statements.specs.Joining.{no_values, discover, discovered_by, edge_meant, discover_for, waits_for, meaning_fault}
-use Rattle.nj_statements.specs.BuildFaults.{fault_if, or_then, first_fault, empty_path, outputs_fault}
+use Rattle.nj_statements.specs.BuildFaults.{fault_if, first_fault, empty_path, outputs_fault}
 use Rattle.nj_statements.specs.Built.{detail_of}
 use Rattle.nj_statements.specs.Laws.{is_pending, with_found, AreRising, StandByNumber, AddsToOneEdge, OthersWaitAsBefore, PendingEdgesRise, AddsToItsEdge, EntriesAddToTheirEdges}
 use Rattle.nj_statements.proofs.DiscoverLemmas.{Declared, bounds-discover, rules-discover, names_of_edge-discover}
@@ -440,7 +441,7 @@ pub fault_if-none : (b : Bool) (fault : GraphFault) → fault_if (not b) fault �
 fault_if-none true fault none = refl
 fault_if-none false fault none = absurd (true≢false (ap is_some none))
 
-pub or_then-none : (a b : Option GraphFault) → or_then a b ≡ None → (a ≡ None) × (b ≡ None)
+pub or_then-none : (a b : Option GraphFault) → option_or a b ≡ None → (a ≡ None) × (b ≡ None)
 or_then-none None b none = (refl, none)
 or_then-none (Some fault) b none = absurd (true≢false (ap is_some none))
 
@@ -448,10 +449,10 @@ pub entries_add : EntriesAddToTheirEdges
 entries_add file stated joined entry none = by (edge_meant stated entry) refl waits
   where
     meaning : meaning_fault file stated joined entry ≡ None
-    meaning = (or_then-none (meaning_fault file stated joined entry) others (or_then-none (empty_path file no_values entry.out) (or_then (meaning_fault file stated joined entry) others) none).1).0
+    meaning = (or_then-none (meaning_fault file stated joined entry) others (or_then-none (empty_path file no_values entry.out) (option_or (meaning_fault file stated joined entry) others) none).1).0
       where
         others : Option GraphFault
-        others = or_then (outputs_fault file no_values (paths_of_edges (edges_read joined)) [] entry.outs) (first_fault (empty_path file no_values) entry.ins)
+        others = option_or (outputs_fault file no_values (paths_of_edges (edges_read joined)) [] entry.outs) (first_fault (empty_path file no_values) entry.ins)
 
     extra : Option GraphFault
     extra = fault_if (not (waits_for file (pending_read stated) (edge_meant stated entry))) (fault_at file entry.out.spot (DyndepExtra (path_said no_values entry.out)))

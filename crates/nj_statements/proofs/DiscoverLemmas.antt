@@ -1,11 +1,12 @@
 -- What is discovered for a statement changes nothing else that statements say.
 use Rattle.std.proofs.Common.{◌≡◌, ℕ, suc, ◌+◌, ◌==◌, ◌&&◌, Bool, true, false, if◌then◌else◌, List, [], ◌∷◌, ◌++◌, length, map, Option, Some, None, slice_get, bytes_eq, refl, sym, ap, ◌∙◌, subst}
+use Rattle.std.specs.Option.{option_or}
 use Rattle.std.specs.List.{AllByRecursion}
 use Rattle.nj_manifest.specs.Statements.{StatementText, BindingText, RuleText, PoolText, BuildText, DefaultText, IncludeText, SubninjaText}
 use Rattle.nj_manifest.specs.Dyndeps.{EntryText}
 use Rattle.nj_scope.specs.Rules as kept
 use Rattle.nj_scope.specs.Rules.{phony}
-use Rattle.nj_scope.specs.Scopes.{Bounds, or_else, nearest, value_in}
+use Rattle.nj_scope.specs.Scopes.{Bounds, nearest, value_in}
 use Rattle.nj_scope.specs.Declarations.{DeclarationsText, DeclaredBy}
 use Rattle.nj_scope.specs.ReadingList.{Discovered, ReadStatement, scope_of, binds_in, bounds, value_after, with_rule, rule_texts, declares, rules, rule_in_force, is_declared}
 use Rattle.nj_scope.proofs.NewRules.{RuleIsNew, EachRuleIsNew}
@@ -43,7 +44,7 @@ kept-by f same edge found entries = sym (same (discover edge found entries)) ∙
 
 -- one statement more
 abbrev bounds_with : ReadStatement → Bounds → Bounds
-bounds_with e before number name = or_else (binds_in number e (value_in before (scope_of e)) name) (before number name)
+bounds_with e before number name = option_or (binds_in number e (value_in before (scope_of e)) name) (before number name)
 
 bounds-as_read : (entries : List ReadStatement) → bounds (as_read entries) ≡ bounds entries
 unfolding bounds
@@ -71,7 +72,7 @@ Declared = ℕ → List ℕ → Option ℕ
 
 -- one statement more, after so many rules
 abbrev declared_with : ReadStatement → (texts : List kept.RuleText) → Declared → Declared
-declared_with e texts own number name = or_else (if number == e.number && declares e.item name then Some (length texts) else None) (own number name)
+declared_with e texts own number name = option_or (if number == e.number && declares e.item name then Some (length texts) else None) (own number name)
 
 rules-as_read : (entries : List ReadStatement) → rules (as_read entries) ≡ rules entries
 rules-as_read [] = refl

@@ -1,5 +1,6 @@
 -- Which edges make files after an entry of a dyndep file.
 use Rattle.std.proofs.Common.{◌≡◌, ℕ, zero, suc, ◌+◌, ◌<◌, ◌==◌, ◌||◌, Bool, true, false, true≢false, List, [], ◌∷◌, ◌++◌, length, Option, Some, None, option_map, unwrap_or, is_some, if◌then◌else◌, bytes_eq, refl, sym, ap, ◌∙◌, subst, arith}
+use Rattle.std.specs.Option.{option_or}
 use Rattle.std.specs.List.{list_any}
 use Rattle.std.proofs.lemmas.Bool.{or_parts}
 use Rattle.std.proofs.lemmas.List.{length-map}
@@ -12,7 +13,7 @@ use Rattle.nj_faults.specs.declared.fault.GraphFault.{GraphFault}
 use Rattle.nj_faults.specs.declared.fault.Cause.TheVariants.{TwoMakers}
 use Rattle.nj_faults.specs.Faults.{fault_at}
 use Rattle.nj_statements.specs.EdgeList.{Values, EdgeText, path_said, paths_said, edges_read, paths_of_edges, pending_read}
-use Rattle.nj_statements.specs.BuildFaults.{fault_if, or_then, first_fault, empty_path, two_makers, outputs_fault}
+use Rattle.nj_statements.specs.BuildFaults.{fault_if, first_fault, empty_path, two_makers, outputs_fault}
 use Rattle.nj_manifest.specs.Dyndeps.{EntryText}
 use Rattle.nj_scope.specs.ReadingList.{ReadStatement}
 use Rattle.nj_statements.specs.Joining.{no_values, discovered_by, edge_meant, discover_for, with_entry, meaning_fault, entry_fault}
@@ -93,8 +94,8 @@ pub outputs-new : (file : List ℕ) (values : Values) (edges : List EdgePaths) (
 outputs-new file values edges left [] path none among = absurd (true≢false (sym among))
 outputs-new file values edges left (word ∷ words) path none among = by (bytes_eq path (path_said values word)) (bytes_eq-Decides path (path_said values word)).0 (outputs-new file values edges (left ++ path_said values word ∷ []) words path parts.1) among
   where
-    parts : (or_then (empty_path file values word) (two_makers file values edges left word) ≡ None) × (outputs_fault file values edges (left ++ path_said values word ∷ []) words ≡ None)
-    parts = or_then-none (or_then (empty_path file values word) (two_makers file values edges left word)) (outputs_fault file values edges (left ++ path_said values word ∷ []) words) none
+    parts : (option_or (empty_path file values word) (two_makers file values edges left word) ≡ None) × (outputs_fault file values edges (left ++ path_said values word ∷ []) words ≡ None)
+    parts = or_then-none (option_or (empty_path file values word) (two_makers file values edges left word)) (outputs_fault file values edges (left ++ path_said values word ∷ []) words) none
 
     own : maker_of edges (path_said values word) ≡ None
     own = (neither-makes file values edges left word (or_then-none (empty_path file values word) (two_makers file values edges left word) parts.0).1).0
@@ -130,8 +131,8 @@ module _ (file : List ℕ) (stated joined : List ReadStatement) (entry : EntryTe
 
   pub outputs-fine : outputs_fault file no_values before [] entry.outs ≡ None
   outputs-fine = (or_then-none (outputs_fault file no_values before [] entry.outs) (first_fault (empty_path file no_values) entry.ins)
-      (or_then-none (meaning_fault file stated joined entry) (or_then (outputs_fault file no_values before [] entry.outs) (first_fault (empty_path file no_values) entry.ins))
-      (or_then-none (empty_path file no_values entry.out) (or_then (meaning_fault file stated joined entry) (or_then (outputs_fault file no_values before [] entry.outs) (first_fault (empty_path file no_values) entry.ins))) none).1).1).0
+      (or_then-none (meaning_fault file stated joined entry) (option_or (outputs_fault file no_values before [] entry.outs) (first_fault (empty_path file no_values) entry.ins))
+      (or_then-none (empty_path file no_values entry.out) (option_or (meaning_fault file stated joined entry) (option_or (outputs_fault file no_values before [] entry.outs) (first_fault (empty_path file no_values) entry.ins))) none).1).1).0
 
 pub edges_make : EdgesMakeWhatIsDiscovered
 edges_make file stated joined entry edge path none means = record {

@@ -1,5 +1,6 @@
 -- No file gets two makers.
 use Rattle.std.proofs.Common.{◌≡◌, ℕ, zero, suc, ◌+◌, ◌<◌, ◌||◌, Bool, true, false, true≢false, List, [], ◌∷◌, ◌++◌, length, Option, Some, None, option_map, is_some, if◌then◌else◌, bytes_eq, refl, sym, ap, ◌∙◌, subst, arith}
+use Rattle.std.specs.Option.{option_or}
 use Rattle.std.specs.Prelude.{◌==◌, IsPermutation}
 use Rattle.std.specs.List.{IsDistinct}
 use Rattle.std.specs.Cmp.{IsEquivalence}
@@ -17,7 +18,7 @@ use Rattle.nj_scope.specs.ReadingList.{Discovered, ReadStatement}
 use Rattle.nj_edges.specs.Edges.{EdgePaths, outputs_of, is_among, maker_of}
 use Rattle.nj_edges.specs.Joining.{AddedFiles, with_added, changed_at}
 use Rattle.nj_statements.specs.EdgeList.{Values, EdgeText, path_said, paths_said, line_values, stated_paths, loses_own, without_own, edge_paths, with_discovered, rule_number, edge_of_build, with_edge, edges_read, paths_of_edges}
-use Rattle.nj_statements.specs.BuildFaults.{or_then, empty_path, two_makers, outputs_fault, inputs_fault, unknown_rule, paths_fault, late_fault, build_fault}
+use Rattle.nj_statements.specs.BuildFaults.{empty_path, two_makers, outputs_fault, inputs_fault, unknown_rule, paths_fault, late_fault, build_fault}
 use Rattle.nj_statements.specs.Joining.{no_values, edge_meant, with_entry, entry_fault}
 use Rattle.nj_statements.specs.Laws.{AddsToItsEdge, IsFaultless, AreFaultless, IsWithEntries, as_stated, with_one_more, all_outputs, NoFileGetsTwoMakers}
 use Rattle.nj_statements.proofs.DiscoverEdges.{or_then-none, entries_add}
@@ -50,8 +51,8 @@ outputs-apart file values edges left (word ∷ words) none apart =
     path : List ℕ
     path = path_said values word
 
-    parts : (or_then (empty_path file values word) (two_makers file values edges left word) ≡ None) × (outputs_fault file values edges (left ++ path ∷ []) words ≡ None)
-    parts = or_then-none (or_then (empty_path file values word) (two_makers file values edges left word)) (outputs_fault file values edges (left ++ path ∷ []) words) none
+    parts : (option_or (empty_path file values word) (two_makers file values edges left word) ≡ None) × (outputs_fault file values edges (left ++ path ∷ []) words ≡ None)
+    parts = or_then-none (option_or (empty_path file values word) (two_makers file values edges left word)) (outputs_fault file values edges (left ++ path ∷ []) words) none
 
     neither : (maker_of edges path ≡ None) × (is_among left path ≡ false)
     neither = neither-makes file values edges left word (or_then-none (empty_path file values word) (two_makers file values edges left word) parts.0).1
@@ -97,7 +98,7 @@ module _ (e : ReadStatement) (before : List ReadStatement) (outputs : OutputsTex
       fine : outputs_fault e.file values edges [] words ≡ None
       fine = (or_then-none (outputs_fault e.file values edges [] words) (inputs_fault e.file values inputs)
           (or_then-none (paths_fault e.file values edges outputs inputs) (late_fault before edge)
-          (or_then-none (unknown_rule e before rule) (or_then (paths_fault e.file values edges outputs inputs) (late_fault before edge)) none).1).0).0
+          (or_then-none (unknown_rule e before rule) (option_or (paths_fault e.file values edges outputs inputs) (late_fault before edge)) none).1).0).0
 
       all-is : all_outputs (paths_of_edges (edges_read before ++ edge ∷ [])) ≡ all_outputs edges ++ paths_said values words
       all-is =

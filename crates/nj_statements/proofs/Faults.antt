@@ -1,5 +1,6 @@
 -- Lemmas on faults.
 use Rattle.std.proofs.Common.{◌≡◌, ℕ, ◌+◌, ◌<◌, inl, inr, Option, Some, None, Result, Ok, Err, IsErrAnd, List, [], ◌∷◌, ◌++◌, length, drop, get_or, refl, sym, ap, subst, ◌∙◌}
+use Rattle.std.specs.Option.{option_or}
 use Rattle.std.proofs.lemmas.List.{append_assoc, append-nil}
 use Rattle.nj_text.specs.declared.word.Word.{Word}
 use Rattle.nj_text.specs.Words.{WordText, word_text}
@@ -7,11 +8,11 @@ use Rattle.nj_manifest.specs.Contents.{words_text}
 use Rattle.nj_edges.specs.Edges.{EdgePaths}
 use Rattle.nj_faults.specs.declared.fault.GraphFault.{GraphFault}
 use Rattle.nj_statements.specs.EdgeList.{Values, path_said, paths_said}
-use Rattle.nj_statements.specs.BuildFaults.{or_then, first_fault, empty_path, two_makers, outputs_fault}
+use Rattle.nj_statements.specs.BuildFaults.{first_fault, empty_path, two_makers, outputs_fault}
 use Rattle.nj_statements.specs.Answers.{IsFault, Checks}
 use Rattle.nj_statements.proofs.Lists.{at-next}
 
-pub fault-first : (a b : Option GraphFault) (f : GraphFault) → IsFault a f → IsFault (or_then a b) f
+pub fault-first : (a b : Option GraphFault) (f : GraphFault) → IsFault a f → IsFault (option_or a b) f
 fault-first a b f (inl m) = inl m
 fault-first (Some x) b f (inr e) = inr e
 fault-first None b f (inr e) = absurd (cc)
@@ -21,39 +22,39 @@ pub err-checks : {A : Type 0} (r : Result A GraphFault) (f : GraphFault) (a : Op
 err-checks (Err y) f a is h = subst (IsFault a) (sym is) h
 err-checks (Ok x) f a is h = absurd is
 
-pub fault-second : (a b : Option GraphFault) (f : GraphFault) → a ≡ None → IsFault b f → IsFault (or_then a b) f
-fault-second a b f none h = subst (λ o. IsFault (or_then o b) f) (sym none) h
+pub fault-second : (a b : Option GraphFault) (f : GraphFault) → a ≡ None → IsFault b f → IsFault (option_or a b) f
+fault-second a b f none h = subst (λ o. IsFault (option_or o b) f) (sym none) h
 
-pub checks-second : {A : Type 0} (a b : Option GraphFault) (r : Result A GraphFault) → a ≡ None → Checks b r → Checks (or_then a b) r
-checks-second a b r none h = subst (λ o. Checks (or_then o b) r) (sym none) h
+pub checks-second : {A : Type 0} (a b : Option GraphFault) (r : Result A GraphFault) → a ≡ None → Checks b r → Checks (option_or a b) r
+checks-second a b r none h = subst (λ o. Checks (option_or o b) r) (sym none) h
 
-pub both-none : (a b : Option GraphFault) → a ≡ None → b ≡ None → or_then a b ≡ None
-both-none a b none h = ap (λ o. or_then o b) none ∙ h
+pub both-none : (a b : Option GraphFault) → a ≡ None → b ≡ None → option_or a b ≡ None
+both-none a b none h = ap (λ o. option_or o b) none ∙ h
 
-or_then-assoc : (a b c : Option GraphFault) → or_then (or_then a b) c ≡ or_then a (or_then b c)
+or_then-assoc : (a b c : Option GraphFault) → option_or (option_or a b) c ≡ option_or a (option_or b c)
 or_then-assoc (Some x) b c = refl
 or_then-assoc None b c = refl
 
-pub first-append : (fault_of : WordText → Option GraphFault) (xs ys : List WordText) → first_fault fault_of (xs ++ ys) ≡ or_then (first_fault fault_of xs) (first_fault fault_of ys)
+pub first-append : (fault_of : WordText → Option GraphFault) (xs ys : List WordText) → first_fault fault_of (xs ++ ys) ≡ option_or (first_fault fault_of xs) (first_fault fault_of ys)
 first-append fault_of [] ys = refl
-first-append fault_of (x ∷ xs) ys = ap (or_then (fault_of x)) (first-append fault_of xs ys) ∙ sym (or_then-assoc (fault_of x) (first_fault fault_of xs) (first_fault fault_of ys))
+first-append fault_of (x ∷ xs) ys = ap (option_or (fault_of x)) (first-append fault_of xs ys) ∙ sym (or_then-assoc (fault_of x) (first_fault fault_of xs) (first_fault fault_of ys))
 
 pub outputs-append : (file : List ℕ) (values : Values) (edges : List EdgePaths) (left : List (List ℕ)) (xs ys : List WordText)
-    → outputs_fault file values edges left (xs ++ ys) ≡ or_then (outputs_fault file values edges left xs) (outputs_fault file values edges (left ++ paths_said values xs) ys)
+    → outputs_fault file values edges left (xs ++ ys) ≡ option_or (outputs_fault file values edges left xs) (outputs_fault file values edges (left ++ paths_said values xs) ys)
 outputs-append file values edges left [] ys = ap (λ l. outputs_fault file values edges l ys) (sym (append-nil left))
 outputs-append file values edges left (x ∷ xs) ys =
-    ap (or_then here) (outputs-append file values edges (left ++ path_said values x ∷ []) xs ys ∙ ap (λ l. or_then (outputs_fault file values edges (left ++ path_said values x ∷ []) xs) (outputs_fault file values edges l ys)) (append_assoc left (path_said values x ∷ []) (paths_said values xs)))
+    ap (option_or here) (outputs-append file values edges (left ++ path_said values x ∷ []) xs ys ∙ ap (λ l. option_or (outputs_fault file values edges (left ++ path_said values x ∷ []) xs) (outputs_fault file values edges l ys)) (append_assoc left (path_said values x ∷ []) (paths_said values xs)))
     ∙ sym (or_then-assoc here (outputs_fault file values edges (left ++ path_said values x ∷ []) xs) (outputs_fault file values edges (left ++ (path_said values x ∷ paths_said values xs)) ys))
   where
     here : Option GraphFault
-    here = or_then (empty_path file values x) (two_makers file values edges left x)
+    here = option_or (empty_path file values x) (two_makers file values edges left x)
 
 -- the faults of four lists of words
 pub first-four : (fault_of : WordText → Option GraphFault) (a b c d : List WordText)
-    → first_fault fault_of (a ++ (b ++ (c ++ d))) ≡ or_then (first_fault fault_of a) (or_then (first_fault fault_of b) (or_then (first_fault fault_of c) (first_fault fault_of d)))
+    → first_fault fault_of (a ++ (b ++ (c ++ d))) ≡ option_or (first_fault fault_of a) (option_or (first_fault fault_of b) (option_or (first_fault fault_of c) (first_fault fault_of d)))
 first-four fault_of a b c d =
     first-append fault_of a (b ++ (c ++ d))
-    ∙ ap (or_then (first_fault fault_of a)) (first-append fault_of b (c ++ d) ∙ ap (or_then (first_fault fault_of b)) (first-append fault_of c d))
+    ∙ ap (option_or (first_fault fault_of a)) (first-append fault_of b (c ++ d) ∙ ap (option_or (first_fault fault_of b)) (first-append fault_of c d))
 
 -- the fault of the next word is that of all of them, where those before it have none
 pub next-fault : (fault_of : WordText → Option GraphFault) (words : List Word) (i : ℕ) (word : Word) (f : GraphFault) → i < length words → word ≡ get_or words i word

@@ -1,5 +1,6 @@
 -- What is held of no statement, and of one statement more.
 use Rattle.std.proofs.Common.{◌≡◌, ◌⊎◌, inl, inr, take, ℕ, ◌+◌, ◌<◌, ◌≤◌, ◌==◌, Bool, true, false, true≢false, if◌then◌else◌, List, [], ◌∷◌, ◌++◌, length, get_or, Option, Some, None, is_some, unwrap_or, Result, Ok, Err, OnOk, OnErr, IsErrAnd, map, slice_get, refl, sym, ap, subst, ◌∙◌, arith, ◌≢◌, suc}
+use Rattle.std.specs.Option.{option_or}
 use Rattle.std.proofs.lemmas.List.{append_assoc, append-nil, length-append, map-append, take_more}
 use Rattle.std.proofs.lemmas.Bool.{cases_lt}
 use Rattle.std.proofs.lemmas.Bool.Decides.{eqb_tells}
@@ -13,7 +14,6 @@ use Rattle.nj_manifest.specs.Contents.{words_text}
 use Rattle.nj_manifest.specs.Statements.{LineText, OutputsText, InputsText, StatementText, BindingText, RuleText, PoolText, BuildText, DefaultText, IncludeText, SubninjaText}
 use Rattle.nj_scope.specs.Rules.{line_kept}
 use Rattle.nj_scope.specs.Readings.{IsPrefix}
-use Rattle.nj_scope.specs.Scopes.{or_else}
 use Rattle.nj_scope.specs.ReadingList.{ReadStatement, scope_of, value_after, rule_texts}
 use Rattle.nj_edge_env.specs.Blocks.{BlocksText, bound_in}
 use Rattle.nj_edges.specs.declared.files.FileNo.{FileNo}
@@ -138,28 +138,28 @@ abbrev bound-by : Option EdgeText → (name : List ℕ) → Option (List ℕ)
 bound-by o name = block_of_edge o name
 
 block-more : (edges : List EdgeText) (e : EdgeText) (n : ℕ) (name : List ℕ)
-    → (if n == length edges then or_else (e.block name) (block_at edges n name) else block_at edges n name) ≡ block_at (edges ++ e ∷ []) n name
+    → (if n == length edges then option_or (e.block name) (block_at edges n name) else block_at edges n name) ≡ block_at (edges ++ e ∷ []) n name
 block-more edges e n name = by (eqb_tells n (length edges)) (cases_lt n (length edges))
   where
     whole : length (edges ++ e ∷ []) ≡ length edges + 1
     whole = length-append edges (e ∷ [])
 
-    with-none : (o : Option (List ℕ)) → or_else o None ≡ o
+    with-none : (o : Option (List ℕ)) → option_or o None ≡ o
     with-none (Some x) = refl
     with-none None = refl
 
     by : ((n == length edges) ≡ true × (n ≡ length edges)) ⊎ ((n == length edges) ≡ false × (n ≢ length edges)) → (n < length edges) ⊎ (length edges ≤ n)
-        → (if n == length edges then or_else (e.block name) (block_at edges n name) else block_at edges n name) ≡ block_at (edges ++ e ∷ []) n name
+        → (if n == length edges then option_or (e.block name) (block_at edges n name) else block_at edges n name) ≡ block_at (edges ++ e ∷ []) n name
     by (inl (same, is)) h =
-        ap (λ b. if b then or_else (e.block name) (block_at edges n name) else block_at edges n name) same
-        ∙ ap (λ o. or_else (e.block name) (bound-by o name)) (slice_get_past edges n (omega (arith, is)))
+        ap (λ b. if b then option_or (e.block name) (block_at edges n name) else block_at edges n name) same
+        ∙ ap (λ o. option_or (e.block name) (bound-by o name)) (slice_get_past edges n (omega (arith, is)))
         ∙ with-none (e.block name)
         ∙ ap (λ o. bound-by o name) (sym (slice_get-get_or (edges ++ e ∷ []) n e (omega (arith, is, whole)) ∙ ap Some (ap (λ m. get_or (edges ++ e ∷ []) m e) is ∙ get_or-append_seam edges e [] e)))
     by (inr (other, apart)) (inl below) =
-        ap (λ b. if b then or_else (e.block name) (block_at edges n name) else block_at edges n name) other
+        ap (λ b. if b then option_or (e.block name) (block_at edges n name) else block_at edges n name) other
         ∙ ap (λ o. bound-by o name) (slice_get-get_or edges n e below ∙ ap Some (sym (get_or-append edges (e ∷ []) e n below)) ∙ sym (slice_get-get_or (edges ++ e ∷ []) n e (omega (arith, below, whole))))
     by (inr (other, apart)) (inr above) =
-        ap (λ b. if b then or_else (e.block name) (block_at edges n name) else block_at edges n name) other
+        ap (λ b. if b then option_or (e.block name) (block_at edges n name) else block_at edges n name) other
         ∙ ap (λ o. bound-by o name) (slice_get_past edges n above ∙ sym (slice_get_past (edges ++ e ∷ []) n (omega (arith, above, apart, whole))))
 
 -- what waits with one edge more
@@ -190,7 +190,7 @@ fresh e = record e { discovered = None }
 
 pub holds-build : (old new : BuildingText) (e : ReadStatement) (before : List ReadStatement) (outputs : OutputsText) (rule : NameText) (inputs : InputsText) (lines : List LineText) (d : DetailText) (dyndep : Option FileNo) → HoldsEdges old before
     → AddsEdge old.table new.table (edge_of_build (fresh e) before outputs rule inputs lines).paths
-    → ((n : ℕ) (name : List ℕ) → bound_in new.blocks n name ≡ (if n == length old.details then or_else (build_block e before lines name) (bound_in old.blocks n name) else bound_in old.blocks n name))
+    → ((n : ℕ) (name : List ℕ) → bound_in new.blocks n name ≡ (if n == length old.details then option_or (build_block e before lines name) (bound_in old.blocks n name) else bound_in old.blocks n name))
     → IsPrefix old.names new.names → new.details ≡ old.details ++ d ∷ [] → IsDetail new.names d (edge_of_build (fresh e) before outputs rule inputs lines) → new.defaults ≡ old.defaults
     → new.dyndeps ≡ with_dyndep (length old.details) dyndep old.dyndeps → IsFileSaid new.table.files dyndep (dyndep_of before (edge_of_build (fresh e) before outputs rule inputs lines))
     → HoldsReferences new.references (rule_texts before) → HoldsEdges new (record e { item = BuildText outputs rule inputs lines; discovered = None } ∷ before)
@@ -200,8 +200,8 @@ holds-build old new e before outputs rule inputs lines d dyndep holds adds block
   none_open = adds.none_open;
   blocks = λ n name.
       blocks n name
-      ∙ ap (λ count. if n == count then or_else (edge.block name) (bound_in old.blocks n name) else bound_in old.blocks n name) (details-count old.names old.details (edges_read before) holds.details)
-      ∙ ap (λ o. if n == length (edges_read before) then or_else (edge.block name) o else o) (holds.blocks n name)
+      ∙ ap (λ count. if n == count then option_or (edge.block name) (bound_in old.blocks n name) else bound_in old.blocks n name) (details-count old.names old.details (edges_read before) holds.details)
+      ∙ ap (λ o. if n == length (edges_read before) then option_or (edge.block name) o else o) (holds.blocks n name)
       ∙ block-more (edges_read before) edge n name;
   details = subst (λ ds. AreDetails new.names ds (edges_read before ++ edge ∷ [])) (sym details) (details-more old.names new.names old.details (edges_read before) d edge names holds.details is);
   defaults = subst (λ ns. AreFiles new.table.files ns (defaults_read before)) (sym defaults) (files-longer old.table.files new.table.files old.defaults (defaults_read before) adds.files holds.defaults);
@@ -223,20 +223,20 @@ no-block held before edge holds is name = holds.blocks edge name ∙ ap (λ o. b
 
 -- what the block of the edge that is being read binds
 pub open-block : (old : BuildingText) (before : List ReadStatement) (block : Block) (new : BlocksText) (edge : ℕ) → HoldsEdges old before → edge ≡ length old.details
-    → ((n : ℕ) (name : List ℕ) → bound_in new n name ≡ (if n == edge then or_else (block name) (bound_in old.blocks n name) else bound_in old.blocks n name))
+    → ((n : ℕ) (name : List ℕ) → bound_in new n name ≡ (if n == edge then option_or (block name) (bound_in old.blocks n name) else bound_in old.blocks n name))
     → (name : List ℕ) → bound_in new edge name ≡ block name
 open-block old before block new edge holds is bound name =
     bound edge name ∙ by (eqb_tells edge edge)
-    ∙ ap (or_else (block name)) (no-block old before edge holds is name)
+    ∙ ap (option_or (block name)) (no-block old before edge holds is name)
     ∙ with-none (block name)
   where
-    with-none : (o : Option (List ℕ)) → or_else o None ≡ o
+    with-none : (o : Option (List ℕ)) → option_or o None ≡ o
     with-none (Some x) = refl
     with-none None = refl
 
     by : ((edge == edge) ≡ true × (edge ≡ edge)) ⊎ ((edge == edge) ≡ false × (edge ≢ edge))
-        → (if edge == edge then or_else (block name) (bound_in old.blocks edge name) else bound_in old.blocks edge name) ≡ or_else (block name) (bound_in old.blocks edge name)
-    by (inl (same, h)) = ap (λ b. if b then or_else (block name) (bound_in old.blocks edge name) else bound_in old.blocks edge name) same
+        → (if edge == edge then option_or (block name) (bound_in old.blocks edge name) else bound_in old.blocks edge name) ≡ option_or (block name) (bound_in old.blocks edge name)
+    by (inl (same, h)) = ap (λ b. if b then option_or (block name) (bound_in old.blocks edge name) else bound_in old.blocks edge name) same
     by (inr (other, apart)) = absurd (apart refl)
 
 -- ---- any other statement

@@ -1,5 +1,6 @@
 -- What is held while dyndep files are joined is what the statements say.
 use Rattle.std.proofs.Common.{◌≡◌, ◌⊎◌, inl, inr, ℕ, zero, suc, ◌+◌, ◌-◌, ◌<◌, ◌≤◌, ◌==◌, Bool, true, false, not, if◌then◌else◌, true≢false, ◌≢◌, List, [], ◌∷◌, length, get_or, set, map, slice_get, Option, Some, None, Result, Ok, Err, IsErrAnd, option_map, option_and_then, IfSome, is_some, unwrap_or, find, bytes_eq, refl, sym, ap, subst, ◌∙◌, arith}
+use Rattle.std.specs.Option.{option_or}
 use Rattle.std.specs.List.{AllByRecursion, IsDistinct, filter}
 use Rattle.std.proofs.lemmas.List.{get_or_read, length-map, length-append, length-set, get_or-set_same, get_or-set_other}
 use Rattle.std.proofs.lemmas.Bool.Decides.{eqb_tells}
@@ -21,7 +22,7 @@ use Rattle.nj_faults.specs.Faults.{fault_at}
 use Rattle.nj_statements.specs.declared.building.Detail.{Detail}
 use Rattle.nj_statements.specs.declared.building.DyndepEdge.{DyndepEdge}
 use Rattle.nj_statements.specs.EdgeList.{Pending, EdgeText, path_said, edges_read, paths_of_edges, pending_read}
-use Rattle.nj_statements.specs.BuildFaults.{fault_if, or_then, empty_path, first_fault, outputs_fault}
+use Rattle.nj_statements.specs.BuildFaults.{fault_if, empty_path, first_fault, outputs_fault}
 use Rattle.nj_statements.specs.Built.{EdgeDetail, detail_at, detail_of}
 use Rattle.nj_statements.specs.Inside.BuiltHeld.{detail_named, pending_named}
 use Rattle.nj_statements.specs.Joining.{no_values, discover, discovered_by, discover_for, edge_meant, with_entry, waits_for, meaning_fault, entry_fault, no_statement, lacking_fault}
@@ -390,7 +391,7 @@ module _ (table : JoinTable) (blocks : BlocksText) (names : List (List ℕ)) (de
       pub meaning-held : (entry : EntryText) → maker_fault name entry.out table (edge_bound table bound file entry.out) ≡ meaning_fault name stated joined entry
       meaning-held entry =
           by (maker_of table.stated path)
-          ∙ ap (λ (es : List EdgePaths). or_then (fault_if (not (waits_for name (pending_read stated) (maker_of es path))) extra) (fault_if (not (waits_for name (pending_read joined) (maker_of es path))) twice)) holds.stated_paths
+          ∙ ap (λ (es : List EdgePaths). option_or (fault_if (not (waits_for name (pending_read stated) (maker_of es path))) extra) (fault_if (not (waits_for name (pending_read joined) (maker_of es path))) twice)) holds.stated_paths
         where
           path : List ℕ
           path = path_said no_values entry.out
@@ -407,7 +408,7 @@ module _ (table : JoinTable) (blocks : BlocksText) (names : List (List ℕ)) (de
 
           step : (edge : ℕ) (binds : Bool) → is_bound_to (get_or bound edge None) file ≡ binds
               → maker_fault name entry.out table (if binds then Some edge else None)
-              ≡ or_then (fault_if (not binds) extra) (fault_if (not (is_bound_to (unless_joined (get_or bound edge None) (is_joined table edge)) file)) twice)
+              ≡ option_or (fault_if (not binds) extra) (fault_if (not (is_bound_to (unless_joined (get_or bound edge None) (is_joined table edge)) file)) twice)
           step edge false is = refl
           step edge true is = sym (ap (λ b. fault_if (not b) twice) (unless (get_or bound edge None) (is_joined table edge) is) ∙ ap (λ b. fault_if b twice) (not-not (is_joined table edge)))
             where
@@ -417,23 +418,23 @@ module _ (table : JoinTable) (blocks : BlocksText) (names : List (List ℕ)) (de
 
           by : (maker : Option ℕ)
               → maker_fault name entry.out table (if_bound bound file maker)
-              ≡ or_then (fault_if (not (waits_for name (pending_read stated) maker)) extra) (fault_if (not (waits_for name (pending_read joined) maker)) twice)
+              ≡ option_or (fault_if (not (waits_for name (pending_read stated) maker)) extra) (fault_if (not (waits_for name (pending_read joined) maker)) twice)
           by None = refl
           by (Some edge) =
               step edge (is_bound_to (get_or bound edge None) file) refl
-              ∙ ap (λ b. or_then (fault_if (not b) extra) (fault_if (not (is_bound_to (unless_joined (get_or bound edge None) (is_joined table edge)) file)) twice)) (sym (bound-waits edge))
-              ∙ ap (λ b. or_then (fault_if (not (waits_for name (pending_read stated) (Some edge))) extra) (fault_if (not b) twice)) (sym (still-waits edge))
+              ∙ ap (λ b. option_or (fault_if (not b) extra) (fault_if (not (is_bound_to (unless_joined (get_or bound edge None) (is_joined table edge)) file)) twice)) (sym (bound-waits edge))
+              ∙ ap (λ b. option_or (fault_if (not (waits_for name (pending_read stated) (Some edge))) extra) (fault_if (not b) twice)) (sym (still-waits edge))
 
       -- what is wrong with an entry
       pub fault-is : (entry : EntryText)
           → entry_fault name stated joined entry
-          ≡ or_then (or_then (empty_path name no_values entry.out) (maker_fault name entry.out table (edge_bound table bound file entry.out)))
-          (or_then (outputs_fault name no_values table.joined table.«open».outputs entry.outs) (first_fault (empty_path name no_values) entry.ins))
+          ≡ option_or (option_or (empty_path name no_values entry.out) (maker_fault name entry.out table (edge_bound table bound file entry.out)))
+          (option_or (outputs_fault name no_values table.joined table.«open».outputs entry.outs) (first_fault (empty_path name no_values) entry.ins))
       fault-is entry =
-          ap (λ o. or_then (empty_path name no_values entry.out) (or_then o (or_then (outputs_fault name no_values (paths_of_edges (edges_read joined)) [] entry.outs) inputs))) (sym (meaning-held entry))
-          ∙ ap (λ (es : List EdgePaths). or_then (empty_path name no_values entry.out) (or_then meaning (or_then (outputs_fault name no_values es [] entry.outs) inputs))) (sym holds.joined_paths)
-          ∙ ap (λ (added : AddedFiles). or_then (empty_path name no_values entry.out) (or_then meaning (or_then (outputs_fault name no_values table.joined added.outputs entry.outs) inputs))) (sym holds.none_open)
-          ∙ sym (or_then-assoc (empty_path name no_values entry.out) meaning (or_then (outputs_fault name no_values table.joined table.«open».outputs entry.outs) inputs))
+          ap (λ o. option_or (empty_path name no_values entry.out) (option_or o (option_or (outputs_fault name no_values (paths_of_edges (edges_read joined)) [] entry.outs) inputs))) (sym (meaning-held entry))
+          ∙ ap (λ (es : List EdgePaths). option_or (empty_path name no_values entry.out) (option_or meaning (option_or (outputs_fault name no_values es [] entry.outs) inputs))) (sym holds.joined_paths)
+          ∙ ap (λ (added : AddedFiles). option_or (empty_path name no_values entry.out) (option_or meaning (option_or (outputs_fault name no_values table.joined added.outputs entry.outs) inputs))) (sym holds.none_open)
+          ∙ sym (or_then-assoc (empty_path name no_values entry.out) meaning (option_or (outputs_fault name no_values table.joined table.«open».outputs entry.outs) inputs))
         where
           meaning : Option GraphFault
           meaning = maker_fault name entry.out table (edge_bound table bound file entry.out)
@@ -441,7 +442,7 @@ module _ (table : JoinTable) (blocks : BlocksText) (names : List (List ℕ)) (de
           inputs : Option GraphFault
           inputs = first_fault (empty_path name no_values) entry.ins
 
-          or_then-assoc : (a b d : Option GraphFault) → or_then (or_then a b) d ≡ or_then a (or_then b d)
+          or_then-assoc : (a b d : Option GraphFault) → option_or (option_or a b) d ≡ option_or a (option_or b d)
           or_then-assoc (Some x) b d = refl
           or_then-assoc None b d = refl
 

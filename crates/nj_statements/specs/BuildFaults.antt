@@ -1,5 +1,6 @@
 -- What is wrong with a `build` or `default` statement, by the statements before it.
 use Rattle.std.specs.Prelude.{ℕ, Bool, true, false, ◌||◌, not, Option, Some, None, is_some, option_map, List, [], ◌∷◌, ◌++◌, codes}
+use Rattle.std.specs.Option.{option_or}
 use Rattle.nj_text.specs.declared.spot.Spot.{Spot}
 use Rattle.nj_text.specs.Words.{WordText}
 use Rattle.nj_text.specs.Paths.{clean_path_of}
@@ -22,14 +23,10 @@ abbrev pub fault_if : Bool → GraphFault → Option GraphFault
 fault_if true fault = Some fault
 fault_if false fault = None
 
-abbrev pub or_then : {A : Type 0} → Option A → Option A → Option A
-or_then (Some first) others = Some first
-or_then None others = others
-
 -- the fault of the first word that has one
 abbrev pub first_fault : (WordText → Option GraphFault) → List WordText → Option GraphFault
 first_fault fault_of [] = None
-first_fault fault_of (word ∷ words) = or_then (fault_of word) (first_fault fault_of words)
+first_fault fault_of (word ∷ words) = option_or (fault_of word) (first_fault fault_of words)
 
 abbrev pub empty_path : (file : List ℕ) → Values → WordText → Option GraphFault
 empty_path file values word = fault_if (is_empty (expanded values word.parts)) (fault_at file word.spot EmptyPath)
@@ -49,7 +46,7 @@ two_makers file values edges left word =
 abbrev pub outputs_fault : (file : List ℕ) → Values → List EdgePaths → (left : List (List ℕ)) → List WordText → Option GraphFault
 outputs_fault file values edges left [] = None
 outputs_fault file values edges left (word ∷ words) =
-    or_then (or_then (empty_path file values word) (two_makers file values edges left word))
+    option_or (option_or (empty_path file values word) (two_makers file values edges left word))
     (outputs_fault file values edges (left ++ path_said values word ∷ []) words)
 
 abbrev pub inputs_fault : (file : List ℕ) → Values → InputsText → Option GraphFault
@@ -58,7 +55,7 @@ inputs_fault file values inputs =
 
 abbrev pub paths_fault : (file : List ℕ) → Values → List EdgePaths → OutputsText → InputsText → Option GraphFault
 paths_fault file values edges outputs inputs =
-    or_then (outputs_fault file values edges [] (outputs.explicit ++ outputs.implicit)) (inputs_fault file values inputs)
+    option_or (outputs_fault file values edges [] (outputs.explicit ++ outputs.implicit)) (inputs_fault file values inputs)
 
 -- A variable of the rule refers back to itself, by variables that the block does not bind. It is a fault even if nothing asks for it.
 abbrev pub variable_cycle_fault : (file : List ℕ) → Spot → LateNames → Option GraphFault
@@ -76,8 +73,8 @@ dyndep_not_input file spot inputs dyndep =
 -- the first of these faults, where these pools are declared and the edge has these inputs
 abbrev pub names_fault : (file : List ℕ) → Spot → (declared inputs : List (List ℕ)) → LateNames → Option GraphFault
 names_fault file spot declared inputs n =
-    or_then (variable_cycle_fault file spot n)
-    (or_then (unknown_pool file spot declared (asked_text n (codes "pool")))
+    option_or (variable_cycle_fault file spot n)
+    (option_or (unknown_pool file spot declared (asked_text n (codes "pool")))
     (dyndep_not_input file spot inputs (asked_text n (codes "dyndep"))))
 
 -- The edge is the one that the statement makes, with its block and without the inputs that it loses. A name of the file has the
@@ -88,8 +85,8 @@ late_fault before edge = names_fault edge.file edge.spot (pools before) (inputs_
 -- its rule, its outputs from left to right, its inputs, its validations; then the variables of the rule, the pool, the dyndep file
 abbrev pub build_fault : ReadStatement → (before : List ReadStatement) → OutputsText → NameText → InputsText → List LineText → Option GraphFault
 build_fault e before outputs rule inputs lines =
-    or_then (unknown_rule e before rule)
-    (or_then (paths_fault e.file (line_values e before lines) (paths_of_edges (edges_read before)) outputs inputs)
+    option_or (unknown_rule e before rule)
+    (option_or (paths_fault e.file (line_values e before lines) (paths_of_edges (edges_read before)) outputs inputs)
     (late_fault before (edge_of_build e before outputs rule inputs lines)))
 
 -- ---- default statements
@@ -100,7 +97,7 @@ unknown_target file values edges word =
 
 -- A default is a file that an earlier edge names.
 abbrev pub target_fault : (file : List ℕ) → Values → List EdgePaths → WordText → Option GraphFault
-target_fault file values edges word = or_then (empty_path file values word) (unknown_target file values edges word)
+target_fault file values edges word = option_or (empty_path file values word) (unknown_target file values edges word)
 
 abbrev pub default_fault : ReadStatement → (before : List ReadStatement) → List WordText → Option GraphFault
 default_fault e before words =

@@ -1,5 +1,6 @@
 -- What the entries of dyndep files add to build statements ("Dynamic Dependencies" in the manual).
 use Rattle.std.specs.Prelude.{ℕ, ◌==◌, Bool, true, false, ◌&&◌, not, if◌then◌else◌, Option, Some, None, option_map, option_and_then, unwrap_or, List, [], ◌∷◌}
+use Rattle.std.specs.Option.{option_or}
 use Rattle.std.specs.Prelude.{find, filter, length, slice_get, bytes_eq}
 use Rattle.std.specs.List.{list_any}
 use Rattle.nj_manifest.specs.Statements.{StatementText, BuildText}
@@ -10,7 +11,7 @@ use Rattle.nj_faults.specs.declared.fault.GraphFault.{GraphFault}
 use Rattle.nj_faults.specs.declared.fault.Cause.TheVariants.{DyndepExtra, DyndepTwice, DyndepNoStatement}
 use Rattle.nj_faults.specs.Faults.{fault_at}
 use Rattle.nj_statements.specs.EdgeList.{Values, EdgeText, Pending, path_said, paths_said, edges_read, paths_of_edges, pending_read}
-use Rattle.nj_statements.specs.BuildFaults.{fault_if, or_then, first_fault, empty_path, outputs_fault}
+use Rattle.nj_statements.specs.BuildFaults.{fault_if, first_fault, empty_path, outputs_fault}
 
 -- ---- the statements that are joined
 
@@ -57,16 +58,16 @@ abbrev pub meaning_fault : (file : List ℕ) → (stated joined : List ReadState
 meaning_fault file stated joined entry =
     let path = path_said no_values entry.out in
     let edge = edge_meant stated entry in
-    or_then (fault_if (not (waits_for file (pending_read stated) edge)) (fault_at file entry.out.spot (DyndepExtra path)))
+    option_or (fault_if (not (waits_for file (pending_read stated) edge)) (fault_at file entry.out.spot (DyndepExtra path)))
     (fault_if (not (waits_for file (pending_read joined) edge)) (fault_at file entry.out.spot (DyndepTwice path)))
 
 -- its output, and which statement it means; the outputs that it discovers, from left to right, each of which no other edge may
 -- make; and the inputs
 abbrev pub entry_fault : (file : List ℕ) → (stated joined : List ReadStatement) → EntryText → Option GraphFault
 entry_fault file stated joined entry =
-    or_then (empty_path file no_values entry.out)
-    (or_then (meaning_fault file stated joined entry)
-    (or_then (outputs_fault file no_values (paths_of_edges (edges_read joined)) [] entry.outs)
+    option_or (empty_path file no_values entry.out)
+    (option_or (meaning_fault file stated joined entry)
+    (option_or (outputs_fault file no_values (paths_of_edges (edges_read joined)) [] entry.outs)
     (first_fault (empty_path file no_values) entry.ins)))
 
 -- ---- what is wrong with a file

@@ -1,8 +1,9 @@
 //! The blocks of build statements.
 
 ghost use Rattle.std.specs.Prelude.{◌≡◌, ℕ, ◌<◌, ◌≤◌, ◌==◌, if◌then◌else◌, List, ◌∷◌, length, OnOk};
+ghost use Rattle.std.specs.Option.{option_or};
 ghost use Rattle.nj_manifest.specs.Contents.{lines_text};
-ghost use Rattle.nj_scope.specs.Scopes.{or_else, IsScope, parent_at};
+ghost use Rattle.nj_scope.specs.Scopes.{IsScope, parent_at};
 ghost use Rattle.nj_scope.specs.Declarations.{DeclaredBy};
 ghost use Rattle.nj_scope.specs.ReadingList.{ReadStatement, value_after};
 ghost use Rattle.nj_edge_env.specs.Blocks.{bound_in};
@@ -28,7 +29,7 @@ pub(crate) fn bind_block(
         → DeclaredBy declarations.now entries
         → IsScope (parent_at declarations.now.scopes) scope (scope ∷ around)
         → OnOk result ((e : ℕ) (name : List ℕ) → bound_in blocks.new e name
-        ≡ (if e == edge then or_else (block_of (value_after entries (scope ∷ around))
+        ≡ (if e == edge then option_or (block_of (value_after entries (scope ∷ around))
         (lines_text lines.now) name) (bound_in blocks.old e name)
         else bound_in blocks.old e name)) }
     ensures others { (e : ℕ) (name : List ℕ) → e < edge

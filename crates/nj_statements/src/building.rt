@@ -1,6 +1,7 @@
 //! The edges that were read so far, and the defaults.
 
 ghost use Rattle.std.specs.Prelude.{◌≡◌, ℕ, ◌<◌, List, [], ◌∷◌, Some, option_map, length, slice_get, vec_len, vec_capacity, OnOk, OnErr, IfSome};
+ghost use Rattle.std.specs.Option.{option_or};
 ghost use Rattle.nj_manifest.specs.Contents.{words_text, outputs_text, used_rule, inputs_text, lines_text, build_text};
 ghost use Rattle.nj_manifest.specs.Statements.{DefaultText};
 ghost use Rattle.nj_scope.specs.Readings.{IsPrefix};
@@ -9,7 +10,7 @@ ghost use Rattle.nj_scope.specs.Declarations.{DeclaredBy};
 ghost use Rattle.nj_scope.specs.ReadingList.{ReadStatement, rule_in_force, rule_texts};
 ghost use Rattle.nj_edges.specs.EdgeTables.{no_files};
 ghost use Rattle.nj_statements.specs.EdgeList.{Values, paths_said, line_values, edge_of_build, edges_read, paths_of_edges};
-ghost use Rattle.nj_statements.specs.BuildFaults.{or_then, first_fault, paths_fault, late_fault, target_fault, build_fault, default_fault};
+ghost use Rattle.nj_statements.specs.BuildFaults.{first_fault, paths_fault, late_fault, target_fault, build_fault, default_fault};
 ghost use Rattle.nj_statements.specs.Answers.{Checks, HoldsEdges, AddsNothing, ReadsStatement, entry_at_place};
 ghost use Rattle.nj_statements.specs.Inside.EdgeSteps.{SeesNames, AddsTargets, with_dyndep};
 
@@ -158,7 +159,7 @@ impl Building {
             let outputs = outputs_text build.now in
             let inputs = inputs_text build.now in
             let lines = lines_text build.now.lines.items in
-            ReadsStatement self.new (or_then (paths_fault e.file (line_values e entries lines)
+            ReadsStatement self.new (option_or (paths_fault e.file (line_values e entries lines)
             (paths_of_edges (edges_read entries)) outputs inputs) (late_fault entries
             (edge_of_build e entries outputs (used_rule build.now) inputs lines)))
             e entries result }

@@ -1,6 +1,7 @@
 //! The files that a build statement names.
 
 ghost use Rattle.std.specs.Prelude.{◌≡◌, ◌==◌, ◌<◌, ◌≤◌, ◌+◌, ◌++◌, ◌∷◌, false, Some, length, slice_get, codes, IfOk, OnOk, OnErr};
+ghost use Rattle.std.specs.Option.{option_or};
 ghost use Rattle.nj_text.specs.Words.{word_text};
 ghost use Rattle.nj_manifest.specs.Contents.{words_text, outputs_text, inputs_text};
 ghost use Rattle.nj_scope.specs.ReadingList.{value_after, pools};
@@ -10,7 +11,7 @@ ghost use Rattle.nj_edge_env.specs.LateEdges.{late_names};
 ghost use Rattle.nj_edge_env.specs.LateTexts.{asked_text};
 ghost use Rattle.nj_edge_env.specs.ReferencesHeld.{TellsCycles};
 ghost use Rattle.nj_statements.specs.EdgeList.{Values, path_said, paths_said, stated_paths, loses_own, edge_paths, file_said};
-ghost use Rattle.nj_statements.specs.BuildFaults.{or_then, empty_path, first_fault, target_fault, outputs_fault, inputs_fault, paths_fault, names_fault};
+ghost use Rattle.nj_statements.specs.BuildFaults.{empty_path, first_fault, target_fault, outputs_fault, inputs_fault, paths_fault, names_fault};
 ghost use Rattle.nj_statements.specs.Answers.{Checks, KeepsRead};
 ghost use Rattle.nj_statements.specs.Inside.EdgeSteps.{SeesNames, IsFileSaid, bound_by, Grows, AddsInputs, AddsEdge, names_read, with_outputs, with_input_unless, with_inputs, with_validations};
 
@@ -270,7 +271,7 @@ pub(crate) fn add_edge(
         → TellsCycles rule.entry.rule.now.lines references.now
         → let paths = edge_paths (stated_paths values (outputs_text build.now)
         (inputs_text build.now) (rule.entry.number == 0)) in
-        Checks (or_then (paths_fault context.entry.place.file.now values edges.old.edges
+        Checks (option_or (paths_fault context.entry.place.file.now values edges.old.edges
         (outputs_text build.now) (inputs_text build.now))
         (names_fault context.entry.place.file.now context.entry.place.spot (pools sees.entries)
         (inputs_of paths) (names_read paths (bound_by context.entry) rule.entry.rule.now

@@ -1,6 +1,7 @@
 //! What dyndep files add to the edges of a run.
 
 ghost use Rattle.std.specs.Prelude.{◌≡◌, ℕ, ◌<◌, ◌==◌, List, [], Some, None, option_map, unwrap_or, map, length, slice_get, replicate, slice_index_or, IfOk, IfSome, OnOk, OnErr};
+ghost use Rattle.std.specs.Option.{option_or};
 ghost use Rattle.std.specs.List.{AllByRecursion};
 ghost use Rattle.nj_text.specs.Words.{word_text};
 ghost use Rattle.nj_manifest.specs.Contents.{words_text};
@@ -12,7 +13,7 @@ ghost use Rattle.nj_edges.specs.Files.{path_at};
 ghost use Rattle.nj_edges.specs.Joining.{none_added};
 ghost use Rattle.nj_faults.specs.Faults.{fault_at};
 ghost use Rattle.nj_statements.specs.EdgeList.{path_said, paths_said, pending_read};
-ghost use Rattle.nj_statements.specs.BuildFaults.{or_then, empty_path, first_fault, outputs_fault};
+ghost use Rattle.nj_statements.specs.BuildFaults.{empty_path, first_fault, outputs_fault};
 ghost use Rattle.nj_statements.specs.Built.{ComesTo, IsBuiltOf, detail_at};
 ghost use Rattle.nj_statements.specs.Joining.{no_values, entry_fault, with_entry, lacking_fault};
 ghost use Rattle.nj_statements.specs.Answers.{Checks, IsFault};
@@ -381,7 +382,7 @@ impl DyndepLine<'_> {
         word: &Word<'_>,
     ) -> Result<EdgeNo, GraphFault>
         requires { length bound.now ≡ length edges.now.stated }
-        ensures fault { Checks (or_then
+        ensures fault { Checks (option_or
             (empty_path self.entry.name.now no_values (word_text word.now))
             (maker_fault self.entry.name.now (word_text word.now) edges.now
             (edge_bound edges.now bound.now self.entry.file (word_text word.now)))) result }

@@ -1,5 +1,6 @@
 -- From the units that are left of a text to the line that is left, and the lines after it.
 use Rattle.std.proofs.Common.{◌≡◌, ℕ, Bool, true, false, cond, eqb, List, [], ◌∷◌, take, drop, Option, Some, None, refl, sym, ap, ◌∙◌, ◌⊎◌, inl, inr}
+use Rattle.std.specs.Option.{option_or}
 use Rattle.std.specs.Prelude.{is_some}
 use Rattle.std.specs.List.{take_while}
 use Rattle.std.proofs.lemmas.Bool.{false≢true}
@@ -10,7 +11,7 @@ use Rattle.nj_text.specs.Bytes.{is_identifier_byte, drop_while}
 use Rattle.nj_text.specs.Units.{Meaning, Ordinary, Escape, Reference, Join, OpeningJoin, Comment, LeadingTab, LineEnd, TextEnd, BadByte, BadEscape, TextUnit, is_ordinary_in, Position, AtStart, found_at, position_after, spot_after, cut}
 use Rattle.nj_text.specs.Lines.{Line, ending_of, before_first_line, lines_before, lines_of, with_units, lines_after, line_spot}
 use Rattle.nj_text.specs.Inside.Scans.{units_within, Begins, BeginsBadly}
-use Rattle.nj_text.specs.Words.{is_blank, is_blank_meaning, in_identifier, in_word, in_word_meaning, opens_word_meaning, next_fault, fault_of, fault_of_meaning, first_fault, or_else, begins_with_byte}
+use Rattle.nj_text.specs.Words.{is_blank, is_blank_meaning, in_identifier, in_word, in_word_meaning, opens_word_meaning, next_fault, fault_of, fault_of_meaning, first_fault, begins_with_byte}
 use Rattle.nj_text.specs.Calls.{Inside, begins_word}
 use Rattle.nj_text.specs.declared.parts.TextKind.TheVariants as kind
 use Rattle.nj_text.specs.Inside.Gathering.{in_value_meaning, in_text}
@@ -225,7 +226,7 @@ value_goes_on u us l ls e n t f rest =
     let d = drop_while-cons_yes of_value u us t in
     let line : first_line (lines_of us) ≡ l = ap first_line e in
     record {
-      fault = ap (λ (x : Line). first_fault x.units) first ∙ ap (λ o. or_else o (first_fault l.units)) f ∙ ap (λ (x : Line). first_fault x.units) (sym line) ∙ rest.fault ∙ ap next_fault (sym d);
+      fault = ap (λ (x : Line). first_fault x.units) first ∙ ap (λ o. option_or o (first_fault l.units)) f ∙ ap (λ (x : Line). first_fault x.units) (sym line) ∙ rest.fault ∙ ap next_fault (sym d);
       all = λ h. ap (λ (x : Line). x.units) first ∙ ap (λ vs. u ∷ vs) (ap (λ (x : Line). x.units) (sym line) ∙ rest.all (sym (ap next_fault d) ∙ h)) ∙ sym (take_while-cons_yes of_value u us t);
       rest = λ h. ap (λ vs. inside (lines_of vs)) d ∙ rest.rest (sym (ap next_fault d) ∙ h) ∙ ap (λ lines. Inside (with_units [] (first_line lines)) (other_lines lines)) e ∙ sym (ends_same n e);
     }
@@ -240,7 +241,7 @@ value_fails u us l ls f e n t k =
     let d = drop_while-cons_no of_value u us t in
     let is_bad : next_fault (drop_while of_value (u ∷ us)) ≡ Some f = ap next_fault d ∙ k in
     record {
-      fault = ap (λ (x : Line). first_fault x.units) first ∙ ap (λ o. or_else o (first_fault l.units)) k ∙ sym is_bad;
+      fault = ap (λ (x : Line). first_fault x.units) first ∙ ap (λ o. option_or o (first_fault l.units)) k ∙ sym is_bad;
       all = λ h. absurd (absurd_fault f (sym is_bad ∙ h));
       rest = λ h. absurd (absurd_fault f (sym is_bad ∙ h));
     }

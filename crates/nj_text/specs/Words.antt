@@ -1,5 +1,6 @@
 -- Identifiers, words and values: what the units of a line say.
 use Rattle.std.specs.Prelude.{ℕ, Bool, true, false, ◌==◌, if◌then◌else◌, Option, Some, None, List, [], ◌∷◌, map}
+use Rattle.std.specs.Option.{option_or}
 use Rattle.nj_text.specs.declared.fault.UnitFault.{UnitFault}
 use Rattle.nj_text.specs.declared.fault.UnitFault.TheVariants as fault
 use Rattle.nj_text.specs.declared.spot.Spot.{Spot}
@@ -70,14 +71,10 @@ abbrev pub next_fault : List TextUnit → Option UnitFault
 next_fault [] = None
 next_fault (u ∷ us) = fault_of u
 
-abbrev pub or_else : Option UnitFault → Option UnitFault → Option UnitFault
-or_else None other = other
-or_else (Some f) other = Some f
-
 -- the fault of the first bad unit among them
 abbrev pub first_fault : List TextUnit → Option UnitFault
 first_fault [] = None
-first_fault (u ∷ us) = or_else (fault_of u) (first_fault us)
+first_fault (u ∷ us) = option_or (fault_of u) (first_fault us)
 
 -- ---- what the units of a word or a value say
 

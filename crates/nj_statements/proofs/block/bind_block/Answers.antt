@@ -1,9 +1,10 @@
 use Rattle.std.proofs.Common.{◌≡◌, ◌+◌, ◌==◌, ◌&&◌, if◌then◌else◌, List, ◌∷◌, ◌++◌, drop, Bool, true, false, Some, bytes_eq, arith, refl, sym, ap, ◌∙◌}
+use Rattle.std.specs.Option.{option_or}
 use Rattle.std.proofs.lemmas.Bool.{ne_eqb}
 use Rattle.std.proofs.lemmas.List.{at_drop_all}
 use Rattle.nj_manifest.specs.declared.statement.Line.{Line}
 use Rattle.nj_manifest.specs.Contents.{line_text, lines_text}
-use Rattle.nj_scope.specs.Scopes.{or_else, expanded}
+use Rattle.nj_scope.specs.Scopes.{expanded}
 use Rattle.nj_scope.specs.ReadingList.{value_after}
 use Rattle.nj_text.specs.Words.{word_text}
 use Rattle.nj_edge_env.specs.Blocks.{bound_in}
@@ -25,7 +26,7 @@ lines-preserved c = record {
       let bound = c.in_ok-bind.ensures.bound e name in
       block-turn values c.args.edge e (line_text c.line-item.result) (lines_text (drop (c.lines.line-index + 1) c.args.lines.now)) name (bound_in c.bind.new.self e name) (bound_in c.lines.blocks e name)
       (bound ∙ ap (λ value. if e == c.args.edge && bytes_eq name c.line-item.result.name.now then Some value else bound_in c.lines.blocks e name) (c.as_slice.ensures.value ∙ says))
-      ∙ sym (at-next (λ (ls : List Line). if e == c.args.edge then or_else (block_of values (lines_text ls) name) (bound_in c.lines.blocks e name) else bound_in c.lines.blocks e name) c.args.lines.now c.lines.line-index c.line-item.result c.lines-test.true c.line-item.is)
+      ∙ sym (at-next (λ (ls : List Line). if e == c.args.edge then option_or (block_of values (lines_text ls) name) (bound_in c.lines.blocks e name) else bound_in c.lines.blocks e name) c.args.lines.now c.lines.line-index c.line-item.result c.lines-test.true c.line-item.is)
       ∙ c.lines.invariant.bound entries around declared within e name;
 }
 
@@ -35,7 +36,7 @@ returns-in_err-bind-clause-others c = λ e name below. c.in_err-bind.ensures.ref
 pub returns-clause-bound : goal.returns-clause-bound
 returns-clause-bound c = λ entries around declared within e name.
     let values : Values = value_after entries (c.args.scope ∷ around) in
-    sym (at_drop_all (λ (ls : List Line). if e == c.args.edge then or_else (block_of values (lines_text ls) name) (bound_in c.lines.blocks e name) else bound_in c.lines.blocks e name) c.args.lines.now c.lines.line-index c.lines-test.false ∙ by (e == c.args.edge))
+    sym (at_drop_all (λ (ls : List Line). if e == c.args.edge then option_or (block_of values (lines_text ls) name) (bound_in c.lines.blocks e name) else bound_in c.lines.blocks e name) c.args.lines.now c.lines.line-index c.lines-test.false ∙ by (e == c.args.edge))
     ∙ c.lines.invariant.bound entries around declared within e name
   where
     by : {X : Type 0} {x : X} (b : Bool) → (if b then x else x) ≡ x

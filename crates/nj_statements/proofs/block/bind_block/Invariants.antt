@@ -1,6 +1,7 @@
 use Rattle.std.proofs.Common.{◌≡◌, ◌<◌, ◌≤◌, ◌==◌, ℕ, List, ◌∷◌, drop, if◌then◌else◌}
+use Rattle.std.specs.Option.{option_or}
 use Rattle.nj_manifest.specs.Contents.{lines_text}
-use Rattle.nj_scope.specs.Scopes.{or_else, IsScope, parent_at}
+use Rattle.nj_scope.specs.Scopes.{IsScope, parent_at}
 use Rattle.nj_scope.specs.Declarations.{DeclaredBy}
 use Rattle.nj_scope.specs.ReadingList.{ReadStatement, value_after}
 use Rattle.nj_edge_env.specs.Blocks.{bound_in}
@@ -12,6 +13,6 @@ invariant-lines l = record {
   last : l.blocks.last ≤ l.edge;
   others : (e : ℕ) (name : List ℕ) → e < l.edge → bound_in l.blocks e name ≡ bound_in l.fn.blocks e name;
   bound : (entries : List ReadStatement) (around : List ℕ) → DeclaredBy l.declarations entries → IsScope (parent_at l.declarations.scopes) l.scope (l.scope ∷ around) → (e : ℕ) (name : List ℕ)
-      → (if e == l.edge then or_else (block_of (value_after entries (l.scope ∷ around)) (lines_text (drop l.line-index l.lines)) name) (bound_in l.blocks e name) else bound_in l.blocks e name)
-      ≡ (if e == l.edge then or_else (block_of (value_after entries (l.scope ∷ around)) (lines_text l.lines) name) (bound_in l.fn.blocks e name) else bound_in l.fn.blocks e name);
+      → (if e == l.edge then option_or (block_of (value_after entries (l.scope ∷ around)) (lines_text (drop l.line-index l.lines)) name) (bound_in l.blocks e name) else bound_in l.blocks e name)
+      ≡ (if e == l.edge then option_or (block_of (value_after entries (l.scope ∷ around)) (lines_text l.lines) name) (bound_in l.fn.blocks e name) else bound_in l.fn.blocks e name);
 }

@@ -1,11 +1,12 @@
 use Rattle.std.proofs.Common.{◌≡◌, ◌==◌, ◌∷◌, None, codes, length, sym, ap, subst, ◌∙◌}
+use Rattle.std.specs.Option.{option_or}
 use Rattle.nj_manifest.specs.Contents.{outputs_text, inputs_text}
 use Rattle.nj_scope.specs.ReadingList.{value_after, pools}
 use Rattle.nj_edges.specs.Edges.{EdgePaths, inputs_of}
 use Rattle.nj_edges.specs.EdgeTables.{edge_read}
 use Rattle.nj_edge_env.specs.LateTexts.{LateNames, asked_text}
 use Rattle.nj_statements.specs.EdgeList.{stated_paths, edge_paths, file_said}
-use Rattle.nj_statements.specs.BuildFaults.{or_then, paths_fault, names_fault}
+use Rattle.nj_statements.specs.BuildFaults.{paths_fault, names_fault}
 use Rattle.nj_statements.specs.Answers.{IsFault}
 use Rattle.nj_statements.specs.Inside.EdgeSteps.{IsFileSaid, SeesLate, bound_by, names_read}
 use Rattle.nj_statements.proofs.Faults.{fault-second, both-none, err-checks}
@@ -30,7 +31,7 @@ returns-in_err-dyndep-clause-fault c = λ values sees none tells.
     let f = c.in_err-dyndep.field-0.0 in
     let before = paths_fault file values c.args.edges.now.edges outputs inputs in
     let after = names_fault file spot (pools sees.entries) (inputs_of paths) n in
-    err-checks c.from_residual-in_err-dyndep.result f (or_then before after) c.from_residual-in_err-dyndep.ensures.1
+    err-checks c.from_residual-in_err-dyndep.result f (option_or before after) c.from_residual-in_err-dyndep.ensures.1
     (fault-second before after f (c.in_ok-kinds.ensures.fault values sees none)
     (subst (λ is. IsFault (names_fault file spot (pools sees.entries) is n) f) (sym inputs_are) (c.in_err-dyndep.ensures.fault sees.entries n late tells)))
 

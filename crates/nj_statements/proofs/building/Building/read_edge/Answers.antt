@@ -1,17 +1,17 @@
 use Rattle.std.proofs.Common.{◌≡◌, ◌<◌, ◌==◌, if◌then◌else◌, List, ◌∷◌, ◌++◌, [], ℕ, Option, Some, None, unwrap_or, length, map, codes, refl, sym, ap, subst, ◌∙◌}
+use Rattle.std.specs.Option.{option_or}
 use Rattle.std.specs.Prelude.{slice_index_or}
 use Rattle.std.proofs.lemmas.List.{length-map, map-append}
 use Rattle.nj_manifest.specs.LineSteps.{NameText}
 use Rattle.nj_manifest.specs.Contents.{outputs_text, used_rule, inputs_text, lines_text, build_text}
 use Rattle.nj_scope.specs.Readings.{IsPrefix}
 use Rattle.nj_scope.specs.Rules.{RuleText}
-use Rattle.nj_scope.specs.Scopes.{or_else}
 use Rattle.nj_scope.specs.ReadingList.{value_after, rule_texts, pools}
 use Rattle.nj_edge_env.specs.Blocks.{bound_in}
 use Rattle.nj_edges.specs.Edges.{inputs_of}
 use Rattle.nj_statements.specs.declared.building.Detail.{Detail}
 use Rattle.nj_statements.specs.EdgeList.{Values, Block, block_of, on_line, edges_read, edge_of_build, file_said, paths_of_edges, stated_paths, edge_paths}
-use Rattle.nj_statements.specs.BuildFaults.{or_then, paths_fault, names_fault, late_fault}
+use Rattle.nj_statements.specs.BuildFaults.{paths_fault, names_fault, late_fault}
 use Rattle.nj_statements.specs.Answers.{BuildingText, HoldsEdges, IsFault, AddsNothing, entry_at_place}
 use Rattle.nj_statements.specs.Inside.EdgeSteps.{Sees, AddsEdge, names_read, detail_text, IsFileSaid, with_dyndep}
 use Rattle.nj_edge_env.specs.LateTexts.{asked_text}
@@ -37,7 +37,7 @@ returns-in_err-dyndep-clause-reads c = λ entries around depth by within rule_is
     let held : HoldsEdges old entries = subst (λ b. HoldsEdges b entries) (sym c.self.view_is) holds in
     let edge = length c.as_slice-edge.result.now in
     let count : edge ≡ length old.details = ap length c.as_slice-edge.ensures.value ∙ sym (length-map c.self.inside.details.items detail_text) in
-    let bound = subst (λ ls. (n : ℕ) (name : List ℕ) → bound_in c.bind_block.new.blocks n name ≡ if n == edge then or_else (block_of scope_values (lines_text ls) name) (bound_in c.self.inside.block_values n name) else bound_in c.self.inside.block_values n name) c.as_slice.ensures.value
+    let bound = subst (λ ls. (n : ℕ) (name : List ℕ) → bound_in c.bind_block.new.blocks n name ≡ if n == edge then option_or (block_of scope_values (lines_text ls) name) (bound_in c.self.inside.block_values n name) else bound_in c.self.inside.block_values n name) c.as_slice.ensures.value
     (c.in_ok-bind_block.ensures.bound entries around by within) in
     let block_is = open-block old entries block c.bind_block.new.blocks edge held count bound in
     let sees : Sees c.args.declarations.now c.args.place.scope (bound_in c.bind_block.new.blocks edge) values = record { entries = entries; around = around; declared = by; within = within; are = λ name. ap (λ o. unwrap_or o (scope_values name)) (sym (block_is name)) } in
@@ -48,9 +48,9 @@ returns-in_err-dyndep-clause-reads c = λ entries around depth by within rule_is
     let kept = c.in_ok-keep_references.ensures.held (rule_texts entries) held.references there in
     let own = kept c.args.rule.number c.rule_references-references.result.now (ap (λ kept. slice_index_or kept c.args.rule.number None) (sym c.deref.ensures.value) ∙ c.rule_references-references.ensures) in
     let tells : TellsCycles c.args.rule.rule.now.lines c.rule_references-references.result.now = subst (λ (r : RuleText). TellsCycles r.lines c.rule_references-references.result.now) (same-rule (rule_texts entries) c.args.rule.number own.0 c.args.rule.rule.now own.1 there) own.2 in
-    reads-err _ (or_then (paths_fault c.args.place.file.now values (paths_of_edges (edges_read entries)) outputs inputs) late_is) e entries c.from_residual-in_err-dyndep.result c.in_err-dyndep.field-0.0 c.from_residual-in_err-dyndep.ensures.1
-    (subst (λ o. IsFault (or_then (paths_fault c.args.place.file.now values (paths_of_edges (edges_read entries)) outputs inputs) o) c.in_err-dyndep.field-0.0) late
-    (subst (λ es. IsFault (or_then (paths_fault c.args.place.file.now values es outputs inputs) said) c.in_err-dyndep.field-0.0) held.edges (c.in_err-dyndep.ensures.fault values sees held.none_open tells)))
+    reads-err _ (option_or (paths_fault c.args.place.file.now values (paths_of_edges (edges_read entries)) outputs inputs) late_is) e entries c.from_residual-in_err-dyndep.result c.in_err-dyndep.field-0.0 c.from_residual-in_err-dyndep.ensures.1
+    (subst (λ o. IsFault (option_or (paths_fault c.args.place.file.now values (paths_of_edges (edges_read entries)) outputs inputs) o) c.in_err-dyndep.field-0.0) late
+    (subst (λ es. IsFault (option_or (paths_fault c.args.place.file.now values es outputs inputs) said) c.in_err-dyndep.field-0.0) held.edges (c.in_err-dyndep.ensures.fault values sees held.none_open tells)))
 
 pub returns-clause-reads : goal.returns-clause-reads
 returns-clause-reads c = λ entries around depth by within rule_is there holds.
@@ -66,7 +66,7 @@ returns-clause-reads c = λ entries around depth by within rule_is there holds.
     let held : HoldsEdges old entries = subst (λ b. HoldsEdges b entries) (sym c.self.view_is) holds in
     let edge = length c.as_slice-edge.result.now in
     let count : edge ≡ length old.details = ap length c.as_slice-edge.ensures.value ∙ sym (length-map c.self.inside.details.items detail_text) in
-    let bound = subst (λ ls. (n : ℕ) (name : List ℕ) → bound_in c.bind_block.new.blocks n name ≡ if n == edge then or_else (block_of scope_values (lines_text ls) name) (bound_in c.self.inside.block_values n name) else bound_in c.self.inside.block_values n name) c.as_slice.ensures.value
+    let bound = subst (λ ls. (n : ℕ) (name : List ℕ) → bound_in c.bind_block.new.blocks n name ≡ if n == edge then option_or (block_of scope_values (lines_text ls) name) (bound_in c.self.inside.block_values n name) else bound_in c.self.inside.block_values n name) c.as_slice.ensures.value
     (c.in_ok-bind_block.ensures.bound entries around by within) in
     let block_is = open-block old entries block c.bind_block.new.blocks edge held count bound in
     let sees : Sees c.args.declarations.now c.args.place.scope (bound_in c.bind_block.new.blocks edge) values = record { entries = entries; around = around; declared = by; within = within; are = λ name. ap (λ o. unwrap_or o (scope_values name)) (sym (block_is name)) } in
@@ -79,11 +79,11 @@ returns-clause-reads c = λ entries around depth by within rule_is there holds.
     let tells : TellsCycles c.args.rule.rule.now.lines c.rule_references-references.result.now = subst (λ (r : RuleText). TellsCycles r.lines c.rule_references-references.result.now) (same-rule (rule_texts entries) c.args.rule.number own.0 c.args.rule.rule.now own.1 there) own.2 in
     let detail : Detail = record { file = c.in_ok-file.file; spot = c.args.place.spot; scope = c.args.place.scope; rule = c.args.rule.number } in
     let new : BuildingText = record { table = c.add_edge.new.edges; blocks = c.bind_block.new.blocks; names = c.name.new.self; details = map detail_text c.push_reserved.new.self.items; defaults = old.defaults; dyndeps = c.push_dyndep.new.dyndeps.items; references = c.keep_references.new.kept.items } in (
-      subst (λ o. or_then (paths_fault c.args.place.file.now values (paths_of_edges (edges_read entries)) outputs inputs) o ≡ None) late
-          (subst (λ es. or_then (paths_fault c.args.place.file.now values es outputs inputs) said ≡ None) held.edges (c.in_ok-dyndep.ensures.fault values sees held.none_open tells)),
+      subst (λ o. option_or (paths_fault c.args.place.file.now values (paths_of_edges (edges_read entries)) outputs inputs) o ≡ None) late
+          (subst (λ es. option_or (paths_fault c.args.place.file.now values es outputs inputs) said ≡ None) held.edges (c.in_ok-dyndep.ensures.fault values sees held.none_open tells)),
       holds-build old new e entries outputs rule_text inputs lines (detail_text detail) c.in_ok-dyndep.dyndep held
           (subst (λ b. AddsEdge old.table new.table (edge_paths (stated_paths values outputs inputs b))) (ap (λ (o : Option ℕ). unwrap_or o 0 == 0) (sym rule_is)) (c.in_ok-dyndep.ensures.added values sees held.none_open))
-          (λ n name. bound n name ∙ ap (λ edge. if n == edge then or_else (block name) (bound_in old.blocks n name) else bound_in old.blocks n name) count)
+          (λ n name. bound n name ∙ ap (λ edge. if n == edge then option_or (block name) (bound_in old.blocks n name) else bound_in old.blocks n name) count)
           (subst (IsPrefix old.names) (sym c.in_ok-file.ensures.named) (named-prefix old.names c.as_bytes.result.now))
           (ap (map detail_text) (c.push_reserved.ensures.items ∙ ap (λ (ds : List Detail). ds ++ detail ∷ []) c.in_ok-reserve.ensures.items) ∙ map-append detail_text c.self.inside.details.items (detail ∷ []))
           (record { file = c.in_ok-file.ensures.number ∙ ap Some c.as_bytes.ensures.value; spot = refl; scope = refl; rule = ap (λ (o : Option ℕ). unwrap_or o 0) (sym rule_is) })

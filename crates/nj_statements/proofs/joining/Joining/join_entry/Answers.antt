@@ -1,9 +1,10 @@
 use Rattle.std.proofs.Common.{◌≡◌, ◌<◌, ◌++◌, Some, None, slice_get, sym, ap, subst, ◌∙◌}
+use Rattle.std.specs.Option.{option_or}
 use Rattle.nj_manifest.specs.DyndepParsers.{entry_text}
 use Rattle.nj_manifest.specs.Contents.{words_text}
 use Rattle.nj_edges.specs.Joining.{JoinTable, AddedFiles}
 use Rattle.nj_statements.specs.EdgeList.{paths_said}
-use Rattle.nj_statements.specs.BuildFaults.{or_then, empty_path, first_fault, outputs_fault}
+use Rattle.nj_statements.specs.BuildFaults.{empty_path, first_fault, outputs_fault}
 use Rattle.nj_statements.specs.Joining.{no_values, entry_fault, with_entry}
 use Rattle.nj_statements.specs.Answers.{IsFault}
 use Rattle.nj_statements.specs.JoiningHeld.{JoiningText, HoldsJoined, KeepsEdges}
@@ -25,14 +26,14 @@ returns-in_err-edge-clause-joins c = λ stated joined holds'.
     let holds = subst (λ (h : JoiningText). HoldsJoined h stated joined) (sym c.self.view_is) holds' in
     let here : slice_get t.files c.args.file.0 ≡ Some name = subst (λ (h : JoiningText). slice_get h.table.files c.args.file.0 ≡ Some name) (sym c.self.view_is) c.requires in
     let expected = entry_fault name stated joined entry in
-    let first = or_then (empty_path name no_values entry.out) (maker_fault name entry.out t (edge_bound t bound c.args.file entry.out)) in
+    let first = option_or (empty_path name no_values entry.out) (maker_fault name entry.out t (edge_bound t bound c.args.file entry.out)) in
     let outputs = outputs_fault name no_values t.joined t.«open».outputs entry.outs in
     let inputs = first_fault (empty_path name no_values) entry.ins in
-    let is : expected ≡ or_then first (or_then outputs inputs) = fault-is c.self.inside.edges c.self.inside.blocks c.self.inside.names c.self.inside.details.items c.self.inside.defaults.items c.self.inside.dyndep_files.items c.self.inside.bound.items c.self.inside.waiting.items c.self.invariant stated joined holds c.args.file name here entry in
+    let is : expected ≡ option_or first (option_or outputs inputs) = fault-is c.self.inside.edges c.self.inside.blocks c.self.inside.names c.self.inside.details.items c.self.inside.defaults.items c.self.inside.dyndep_files.items c.self.inside.bound.items c.self.inside.waiting.items c.self.invariant stated joined holds c.args.file name here entry in
     let f = c.in_err-edge.field-0.0 in
     joins-err _ expected stated (with_entry stated joined entry) c.from_residual.result f c.from_residual.ensures.1
-    (subst (λ o. IsFault o f) (sym is) (fault-first first (or_then outputs inputs) f
-    (subst (λ bs. IsFault (or_then (empty_path name no_values entry.out) (maker_fault name entry.out t (edge_bound t bs c.args.file entry.out))) f) c.deref.ensures.value c.in_err-edge.ensures.fault)))
+    (subst (λ o. IsFault o f) (sym is) (fault-first first (option_or outputs inputs) f
+    (subst (λ bs. IsFault (option_or (empty_path name no_values entry.out) (maker_fault name entry.out t (edge_bound t bs c.args.file entry.out))) f) c.deref.ensures.value c.in_err-edge.ensures.fault)))
 
 -- ---- its outputs
 
@@ -48,14 +49,14 @@ returns-in_err-add_outputs-clause-joins c = λ stated joined holds'.
     let holds = subst (λ (h : JoiningText). HoldsJoined h stated joined) (sym c.self.view_is) holds' in
     let here : slice_get t.files c.args.file.0 ≡ Some name = subst (λ (h : JoiningText). slice_get h.table.files c.args.file.0 ≡ Some name) (sym c.self.view_is) c.requires in
     let expected = entry_fault name stated joined entry in
-    let first = or_then (empty_path name no_values entry.out) (maker_fault name entry.out t (edge_bound t bound c.args.file entry.out)) in
+    let first = option_or (empty_path name no_values entry.out) (maker_fault name entry.out t (edge_bound t bound c.args.file entry.out)) in
     let outputs = outputs_fault name no_values t.joined t.«open».outputs entry.outs in
     let inputs = first_fault (empty_path name no_values) entry.ins in
-    let is : expected ≡ or_then first (or_then outputs inputs) = fault-is c.self.inside.edges c.self.inside.blocks c.self.inside.names c.self.inside.details.items c.self.inside.defaults.items c.self.inside.dyndep_files.items c.self.inside.bound.items c.self.inside.waiting.items c.self.invariant stated joined holds c.args.file name here entry in
-    let none : first ≡ None = subst (λ bs. or_then (empty_path name no_values entry.out) (maker_fault name entry.out t (edge_bound t bs c.args.file entry.out)) ≡ None) c.deref.ensures.value c.in_ok-edge.ensures.fault in
+    let is : expected ≡ option_or first (option_or outputs inputs) = fault-is c.self.inside.edges c.self.inside.blocks c.self.inside.names c.self.inside.details.items c.self.inside.defaults.items c.self.inside.dyndep_files.items c.self.inside.bound.items c.self.inside.waiting.items c.self.invariant stated joined holds c.args.file name here entry in
+    let none : first ≡ None = subst (λ bs. option_or (empty_path name no_values entry.out) (maker_fault name entry.out t (edge_bound t bs c.args.file entry.out)) ≡ None) c.deref.ensures.value c.in_ok-edge.ensures.fault in
     let f = c.in_err-add_outputs.field-0.0 in
     joins-err _ expected stated (with_entry stated joined entry) c.from_residual-in_err-add_outputs.result f c.from_residual-in_err-add_outputs.ensures.1
-    (subst (λ o. IsFault o f) (sym is) (fault-second first (or_then outputs inputs) f none (fault-first outputs inputs f
+    (subst (λ o. IsFault o f) (sym is) (fault-second first (option_or outputs inputs) f none (fault-first outputs inputs f
     (subst (λ words. IsFault (outputs_fault name no_values t.joined t.«open».outputs (words_text words)) f) c.as_slice.ensures.value c.in_err-add_outputs.ensures.fault))))
 
 pub returns-in_err-add_outputs-clause-dyndep_files : goal.returns-in_err-add_outputs-clause-dyndep_files
@@ -77,15 +78,15 @@ returns-in_err-add_inputs-clause-joins c = λ stated joined holds'.
     let holds = subst (λ (h : JoiningText). HoldsJoined h stated joined) (sym c.self.view_is) holds' in
     let here : slice_get t.files c.args.file.0 ≡ Some name = subst (λ (h : JoiningText). slice_get h.table.files c.args.file.0 ≡ Some name) (sym c.self.view_is) c.requires in
     let expected = entry_fault name stated joined entry in
-    let first = or_then (empty_path name no_values entry.out) (maker_fault name entry.out t (edge_bound t bound c.args.file entry.out)) in
+    let first = option_or (empty_path name no_values entry.out) (maker_fault name entry.out t (edge_bound t bound c.args.file entry.out)) in
     let outputs = outputs_fault name no_values t.joined t.«open».outputs entry.outs in
     let inputs = first_fault (empty_path name no_values) entry.ins in
-    let is : expected ≡ or_then first (or_then outputs inputs) = fault-is c.self.inside.edges c.self.inside.blocks c.self.inside.names c.self.inside.details.items c.self.inside.defaults.items c.self.inside.dyndep_files.items c.self.inside.bound.items c.self.inside.waiting.items c.self.invariant stated joined holds c.args.file name here entry in
-    let none : first ≡ None = subst (λ bs. or_then (empty_path name no_values entry.out) (maker_fault name entry.out t (edge_bound t bs c.args.file entry.out)) ≡ None) c.deref.ensures.value c.in_ok-edge.ensures.fault in
+    let is : expected ≡ option_or first (option_or outputs inputs) = fault-is c.self.inside.edges c.self.inside.blocks c.self.inside.names c.self.inside.details.items c.self.inside.defaults.items c.self.inside.dyndep_files.items c.self.inside.bound.items c.self.inside.waiting.items c.self.invariant stated joined holds c.args.file name here entry in
+    let none : first ≡ None = subst (λ bs. option_or (empty_path name no_values entry.out) (maker_fault name entry.out t (edge_bound t bs c.args.file entry.out)) ≡ None) c.deref.ensures.value c.in_ok-edge.ensures.fault in
     let no_outputs : outputs ≡ None = subst (λ words. outputs_fault name no_values t.joined t.«open».outputs (words_text words) ≡ None) c.as_slice.ensures.value c.in_ok-add_outputs.ensures.fault in
     let f = c.in_err-add_inputs.field-0.0 in
     joins-err _ expected stated (with_entry stated joined entry) c.from_residual-in_err-add_inputs.result f c.from_residual-in_err-add_inputs.ensures.1
-    (subst (λ o. IsFault o f) (sym is) (fault-second first (or_then outputs inputs) f none (fault-second outputs inputs f no_outputs
+    (subst (λ o. IsFault o f) (sym is) (fault-second first (option_or outputs inputs) f none (fault-second outputs inputs f no_outputs
     (subst (λ words. IsFault (first_fault (empty_path name no_values) (words_text words)) f) c.as_slice-2.ensures.value c.in_err-add_inputs.ensures.fault))))
 
 pub returns-in_err-add_inputs-clause-dyndep_files : goal.returns-in_err-add_inputs-clause-dyndep_files
@@ -142,11 +143,11 @@ returns-clause-joins c = λ stated joined holds'.
     let holds = subst (λ (h : JoiningText). HoldsJoined h stated joined) (sym c.self.view_is) holds' in
     let here : slice_get t.files c.args.file.0 ≡ Some name = subst (λ (h : JoiningText). slice_get h.table.files c.args.file.0 ≡ Some name) (sym c.self.view_is) c.requires in
     let expected = entry_fault name stated joined entry in
-    let first = or_then (empty_path name no_values entry.out) (maker_fault name entry.out t (edge_bound t bound c.args.file entry.out)) in
+    let first = option_or (empty_path name no_values entry.out) (maker_fault name entry.out t (edge_bound t bound c.args.file entry.out)) in
     let outputs = outputs_fault name no_values t.joined t.«open».outputs entry.outs in
     let inputs = first_fault (empty_path name no_values) entry.ins in
-    let is : expected ≡ or_then first (or_then outputs inputs) = fault-is c.self.inside.edges c.self.inside.blocks c.self.inside.names c.self.inside.details.items c.self.inside.defaults.items c.self.inside.dyndep_files.items c.self.inside.bound.items c.self.inside.waiting.items c.self.invariant stated joined holds c.args.file name here entry in
-    let none : first ≡ None = subst (λ bs. or_then (empty_path name no_values entry.out) (maker_fault name entry.out t (edge_bound t bs c.args.file entry.out)) ≡ None) c.deref.ensures.value c.in_ok-edge.ensures.fault in
+    let is : expected ≡ option_or first (option_or outputs inputs) = fault-is c.self.inside.edges c.self.inside.blocks c.self.inside.names c.self.inside.details.items c.self.inside.defaults.items c.self.inside.dyndep_files.items c.self.inside.bound.items c.self.inside.waiting.items c.self.invariant stated joined holds c.args.file name here entry in
+    let none : first ≡ None = subst (λ bs. option_or (empty_path name no_values entry.out) (maker_fault name entry.out t (edge_bound t bs c.args.file entry.out)) ≡ None) c.deref.ensures.value c.in_ok-edge.ensures.fault in
     let no_outputs : outputs ≡ None = subst (λ words. outputs_fault name no_values t.joined t.«open».outputs (words_text words) ≡ None) c.as_slice.ensures.value c.in_ok-add_outputs.ensures.fault in
     let meant : IsMeant c.self.inside.edges c.self.inside.bound.items c.args.file (entry_text c.args.entry.now).out c.in_ok-edge.edge.0 =
     subst (λ bs. IsMeant c.self.inside.edges bs c.args.file (entry_text c.args.entry.now).out c.in_ok-edge.edge.0) c.deref.ensures.value c.in_ok-edge.ensures.edge in
@@ -161,6 +162,6 @@ returns-clause-joins c = λ stated joined holds'.
     ap (λ (u : JoinTable). u.«open») added_inputs ∙ inputs-open c.add_outputs.new.edges ins
     ∙ ap (λ (u : JoinTable). record u.«open» { inputs = u.«open».inputs ++ ins }) added_outputs
     ∙ ap (λ (o : AddedFiles). record o { inputs = o.inputs ++ ins }) (outputs-open t outs ∙ ap (λ (o : AddedFiles). record o { outputs = o.outputs ++ outs }) holds.none_open) in (
-      is ∙ both-none first (or_then outputs inputs) none (both-none outputs inputs no_outputs no_inputs),
+      is ∙ both-none first (option_or outputs inputs) none (both-none outputs inputs no_outputs no_inputs),
       joined-holds c.self.inside.edges c.self.inside.blocks c.self.inside.names c.self.inside.details.items c.self.inside.defaults.items c.self.inside.dyndep_files.items c.self.inside.bound.items c.self.inside.waiting.items c.self.invariant stated joined holds c.args.file name here entry c.in_ok-edge.edge.0 meant c.add_inputs.new.edges c.end_join.new.self keeps opens c.end_join.ensures,
     )
