@@ -1,7 +1,9 @@
 //! The hasher of names.
+ghost use Rattle.nj_hash.specs.ByteHash.{hash_bytes};
 ghost use Rattle.nj_hash.specs.NameHash.{folded_product, take_block, take_byte, write, finish};
 ghost use Rattle.std.specs.Prelude.{◌≡◌};
 
+use crate::byte_hash::state_after;
 use std::hash::Hasher;
 use std::marker::Model;
 
@@ -55,6 +57,16 @@ impl NameHasher {
         }
     }
 
+    /// The hash of these bytes at once, from the state that it is in.
+    #[tactic(auto, unfolding(crate::specs::ByteHash::hash_bytes))]
+    #[inline(always)]
+    pub(crate) fn hash_bytes(&self, bytes: &[u8]) -> u64
+        ensures { result ≡ hash_bytes self.now bytes.now }
+    {
+        let state = state_after(self.factor, self.state, bytes);
+        folded_product(state ^ bytes.len() as u64, self.factor)
+    }
+
     /// Takes in one byte. It is small, so that a name is hashed in registers.
     #[inline(always)]
     fn take_byte(&mut self, byte: u8)
@@ -79,7 +91,7 @@ impl NameHasher {
 
 /// The halves of the 128 bits of a product, joined by xor.
 #[inline(always)]
-fn folded_product(a: u64, b: u64) -> u64
+pub(crate) fn folded_product(a: u64, b: u64) -> u64
     ensures { result ≡ folded_product a b }
 {
     let product = a as u128 * b as u128;
