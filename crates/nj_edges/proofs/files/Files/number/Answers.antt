@@ -1,19 +1,23 @@
-use Rattle.std.proofs.Common.{◌∙◌, sym}
-use Rattle.nj_edges.proofs.FileLemmas.{position-held, list_any-held}
+use Rattle.std.proofs.Common.{◌≡◌, false, None, Some, bytes_eq, slice_get}
+use Rattle.std.specs.List.{list_any}
+use Rattle.nj_edges.specs.Inside.FilesHeld.{held_paths}
+use Rattle.nj_edges.proofs.FileLemmas.{found-index, found-known}
 use Rattle.nj_edges.proofs.files.Files.number.Goals as goal
 
 pub returns-in-Some-clause-index : goal.returns-in-Some-clause-index
 returns-in-Some-clause-index c =
-    rw (← c.self.view_is) (sym c.in-Some.is ∙ c.get_index_of.ensures.index ∙ position-held c.args.path.now c.self.inside.paths.keys)
+    let paths = held_paths c.self.inside.text.items c.self.inside.ends.items in
+    let here : slice_get paths c.in-Some.number ≡ Some c.args.path.now = rw (← c.as_slice.ensures.value, ← c.as_slice-2.ensures.value) c.in-Some.ensures in
+    rw (← c.self.view_is) (found-index c.args.path.now paths (Some c.in-Some.number) c.self.invariant.distinct here)
 
 pub returns-in-Some-clause-known : goal.returns-in-Some-clause-known
 returns-in-Some-clause-known c =
-    rw (← c.self.view_is) (c.in-Some.ensures.found ∙ list_any-held c.args.path.now c.self.inside.paths.keys)
+    let paths = held_paths c.self.inside.text.items c.self.inside.ends.items in
+    let here : slice_get paths c.in-Some.number ≡ Some c.args.path.now = rw (← c.as_slice.ensures.value, ← c.as_slice-2.ensures.value) c.in-Some.ensures in
+    rw (← c.self.view_is) (found-known c.args.path.now paths (Some c.in-Some.number) here)
 
 pub returns-in-None-clause-index : goal.returns-in-None-clause-index
 returns-in-None-clause-index c =
-    rw (← c.self.view_is) (sym c.in-None.is ∙ c.get_index_of.ensures.index ∙ position-held c.args.path.now c.self.inside.paths.keys)
-
-pub returns-in-None-clause-known : goal.returns-in-None-clause-known
-returns-in-None-clause-known c =
-    rw (← c.self.view_is) (c.in-None.ensures.found ∙ list_any-held c.args.path.now c.self.inside.paths.keys)
+    let paths = held_paths c.self.inside.text.items c.self.inside.ends.items in
+    let absent : list_any (bytes_eq c.args.path.now) paths ≡ false = rw (← c.as_slice.ensures.value, ← c.as_slice-2.ensures.value) c.in-None.ensures in
+    rw (← c.self.view_is) (found-index c.args.path.now paths None c.self.invariant.distinct absent)
