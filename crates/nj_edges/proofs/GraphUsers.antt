@@ -6,14 +6,13 @@ use Rattle.nj_edges.specs.declared.files.FileNo.{FileNo}
 use Rattle.nj_edges.specs.declared.edges.EdgeNo.{EdgeNo}
 use Rattle.nj_edges.specs.declared.edges.EdgeRow.{EdgeRow}
 use Rattle.nj_edges.specs.declared.edges.OpenStarts.{OpenStarts}
-use Rattle.nj_edges.specs.declared.edges.Span.{Span}
 use Rattle.nj_edges.specs.declared.users.RowPart.{RowPart}
 use Rattle.nj_edges.specs.declared.users.RowPart.TheVariants.{Inputs, Validations}
 use Rattle.nj_edges.specs.EdgeGraphs.{EdgeGraph}
 use Rattle.nj_edges.specs.Edges.{EdgePaths, edges_from, inputs_of, is_among, users_of, validation_users_of}
 use Rattle.nj_edges.specs.Inside.EdgesHeld.{has_number, paths_at, within, edge_of, edges_of, RowIsWithin, EdgesAreHeld}
 use Rattle.nj_edges.specs.Files.{path_at}
-use Rattle.nj_edges.specs.Inside.UsersHeld.{HoldUsers, numbers_of, using_edges}
+use Rattle.nj_edges.specs.Inside.UsersHeld.{AreParts, HoldUsers, numbers_of, using_edges}
 use Rattle.nj_edges.proofs.EdgeLemmas.{all-of, get-path, has-among, within-numbers}
 use Rattle.nj_edges.proofs.GraphLemmas.{kinds-joined}
 
@@ -70,13 +69,12 @@ module _ (files : List (List ℕ)) (makers : List (Option ℕ)) (outputs inputs 
         rows held.rows_are
         ∙ sym (edges-map 0 (λ (e : EdgePaths). is_among e.validations (path_at files f)) edge rows) ∙ ap (λ (v : EdgeGraph). validation_users_of v.edges (path_at v.files f)) is
 
-    pub spans-below : (spans : List Span) (numbers : List ℕ) (uses : ℕ → List ℕ) → HoldUsers (length files) spans numbers uses → f.0 < length spans
-    spans-below spans numbers uses users = subst (λ n. f.0 < n) (sym users.count_is) below
+    pub starts-below : (starts numbers : List ℕ) (uses : ℕ → List ℕ) → HoldUsers (length files) starts numbers uses → f.0 + 1 < length starts
+    starts-below starts numbers uses users = let count : length starts ≡ length files + 1 = users.count_is in let less = below in omega (arith, count, less)
 
--- parts for so many files, by how many parts there are
-pub as-many : (count : ℕ) (spans ss : List Span) (edges es : List EdgeNo) (uses : ℕ → List ℕ) → ss ≡ spans → es ≡ edges → HoldUsers count spans (numbers_of edges) uses → HoldUsers (length ss) ss (numbers_of es) uses
-as-many count spans ss edges es uses s e held =
-    subst (λ xs. HoldUsers (length xs) xs (numbers_of es) uses) (sym s) (subst (λ xs. HoldUsers (length spans) spans (numbers_of xs) uses) (sym e) (subst (λ n. HoldUsers n spans (numbers_of edges) uses) (sym held.count_is) held))
+-- the parts, as they are lent
+pub parts-lent : (count : ℕ) (starts ss : List ℕ) (edges es : List EdgeNo) (uses : ℕ → List ℕ) → ss ≡ starts → es ≡ edges → HoldUsers count starts (numbers_of edges) uses → AreParts ss (numbers_of es) uses
+parts-lent count starts ss edges es uses s e held = rw (s, e) held.parts_are
 
-pub held-users : (count n : ℕ) (spans : List Span) (numbers : List ℕ) (part : RowPart) (fs files : List FileNo) (rs rows : List EdgeRow) → count ≡ n → fs ≡ files → rs ≡ rows → HoldUsers count spans numbers (using_edges fs part 0 rs) → HoldUsers n spans numbers (using_edges files part 0 rows)
-held-users count n spans numbers part fs files rs rows c f r held = rw (← c, ← f, ← r) held
+pub held-users : (count n : ℕ) (starts numbers : List ℕ) (part : RowPart) (fs files : List FileNo) (rs rows : List EdgeRow) → count ≡ n → fs ≡ files → rs ≡ rows → HoldUsers count starts numbers (using_edges fs part 0 rs) → HoldUsers n starts numbers (using_edges files part 0 rows)
+held-users count n starts numbers part fs files rs rows c f r held = rw (← c, ← f, ← r) held

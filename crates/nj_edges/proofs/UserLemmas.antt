@@ -1,125 +1,95 @@
 -- Lemmas on the users of files.
-use Rattle.std.proofs.Common.{◌≡◌, ◌≢◌, ◌<◌, ◌≤◌, ◌+◌, ◌-◌, ◌==◌, ◌||◌, ◌⊎◌, inl, inr, ℕ, zero, suc, Bool, true, false, cond, List, [], ◌∷◌, ◌++◌, map, length, take, drop, slice_get, slice_range, get_or, set, Some, None, is_some, unwrap_or, refl, sym, ap, subst, ◌∙◌, true≢false, arith, length-append, add-one, append_assoc, append-nil}
-use Rattle.std.proofs.lemmas.Bool.Decides.{eqb_tells}
-use Rattle.std.proofs.lemmas.List.{drop-map, map_push, take_more, length-map, length-set, get_or-set_same, get_or-set_other}
-use Rattle.std.proofs.lemmas.Option.{slice_get_within}
-use Rattle.std.proofs.Math.Seq.{drop-append_seam}
+use Rattle.std.proofs.Common.{◌≡◌, ◌≢◌, ◌<◌, ◌≤◌, ◌+◌, ◌-◌, ◌==◌, ◌||◌, ◌⊎◌, inl, inr, leb, ℕ, zero, suc, Bool, true, false, cond, List, [], ◌∷◌, ◌++◌, map, length, take, drop, slice_get, slice_range, get_or, set, Some, is_some, unwrap_or, refl, sym, ap, subst, ◌∙◌, true≢false, arith, add-one, length-take, length-drop}
+use Rattle.std.proofs.Math.Path.{fun_ext}
+use Rattle.std.proofs.lemmas.Bool.Decides.{eqb_tells, leb_tells}
+use Rattle.std.proofs.lemmas.Grind.{same_number_lists}
+use Rattle.std.proofs.lemmas.List.{drop-map, take_more, take-append-drop, length-map, length-set, get_or-set_same, get_or-set_other, get_or-drop, get_or-take}
 use Rattle.nj_edges.specs.declared.files.FileNo.{FileNo}
 use Rattle.nj_edges.specs.declared.edges.EdgeNo.{EdgeNo}
 use Rattle.nj_edges.specs.declared.edges.EdgeRow.{EdgeRow}
-use Rattle.nj_edges.specs.declared.edges.Span.{Span}
-use Rattle.nj_edges.specs.declared.users.Link.{Link}
 use Rattle.nj_edges.specs.declared.users.RowPart.{RowPart}
 use Rattle.nj_edges.specs.Edges.{edges_from}
-use Rattle.nj_edges.specs.Inside.EdgesHeld.{IsWithin, has_number, within}
-use Rattle.nj_edges.specs.Inside.UsersHeld.{AreUses, HoldUsers, IsChain, IsPart, IsSomeChain, is_of, link_at, numbers_of, plus_use, plus_uses, span_of, using_edges, with_front}
+use Rattle.nj_edges.specs.Inside.EdgesHeld.{has_number, within}
+use Rattle.nj_edges.specs.Inside.UsersHeld.{AreMarks, AreParts, ArePlaced, HaveRoom, IsPart, number_at, numbers_of, plus_use, plus_uses, span_of, starts_with, users_before, using_edges, with_front}
 use Rattle.nj_edges.proofs.AddLemmas.{same-number}
-use Rattle.nj_edges.proofs.EdgeLemmas.{get-append, get-last, get-push, has-push}
-use Rattle.nj_edges.proofs.ListLemmas.{slice_range-append, slice_range-rest}
-
--- ---- links
-
-link-more : (links others : List Link) (at : ℕ) (l : Link) → link_at links at ≡ Some l → link_at (links ++ others) at ≡ Some l
-link-more links others zero l h = absurd (true≢false (sym (ap is_some h)))
-link-more links others (suc k) l h = get-append links others k (slice_get_within links k l h) ∙ h
-
-link-within : (links : List Link) (at : ℕ) (l : Link) → link_at links at ≡ Some l → at < suc (length links)
-link-within links zero l h = omega arith
-link-within links (suc k) l h = let below : k < length links = slice_get_within links k l h in omega arith
-
-chain-more : (links others : List Link) (at : ℕ) (es : List ℕ) → IsChain links at es → IsChain (links ++ others) at es
-chain-more links others at [] h = h
-chain-more links others at (e ∷ es) h = (h.0, record { here = link-more links others at (record { edge = e; next = h.0 }) h.1.here; falls = h.1.falls }, chain-more links others h.0 es h.2)
-
-chain-within : (links : List Link) (at : ℕ) (es : List ℕ) → IsChain links at es → at < suc (length links)
-chain-within links at [] h = let none : at ≡ 0 = h in omega arith
-chain-within links at (e ∷ es) h = link-within links at (record { edge = e; next = h.0 }) h.1.here
-
--- what a chain leads to from its first link on
-pub chain-rest : (links : List Link) (next : ℕ) (rest : List ℕ) (link : Link) → IsChain links next rest → link_at links next ≡ Some link → (es : List ℕ) × (rest ≡ link.edge ∷ es) × (link.next < next) × IsChain links link.next es
-chain-rest links next [] link h is = absurd (true≢false (sym (ap is_some (ap (link_at links) (sym h) ∙ is))))
-chain-rest links next (e ∷ es) link h is =
-    let same : record { edge = e; next = h.0 } ≡ link = ap (λ o. unwrap_or o link) (sym h.1.here ∙ is) in
-    (es, ap (λ (l : Link). l.edge ∷ es) same, subst (λ (l : Link). l.next < next) same h.1.falls, subst (λ (l : Link). IsChain links l.next es) same h.2)
-
-pub chain-end : (links : List Link) (next : ℕ) (rest : List ℕ) → IsChain links next rest → link_at links next ≡ None → rest ≡ []
-chain-end links next [] h is = refl
-chain-end links next (e ∷ es) h is = absurd (true≢false (ap is_some (sym h.1.here ∙ is)))
+use Rattle.nj_edges.proofs.EdgeLemmas.{has-push}
 
 -- ---- an edge in front
 
-front-twice : (edge : ℕ) (xs : List ℕ) → with_front edge (with_front edge xs) ≡ with_front edge xs
-front-twice edge [] = ap (λ b. cond b (edge ∷ []) (edge ∷ edge ∷ [])) (same-number edge)
-front-twice edge (e ∷ es) = by (e == edge) refl
+front-first : (edge : ℕ) (xs : List ℕ) → starts_with edge (with_front edge xs) ≡ true
+front-first edge xs = by (starts_with edge xs) refl
   where
-    by : (b : Bool) → (e == edge) ≡ b → with_front edge (cond b (e ∷ es) (edge ∷ e ∷ es)) ≡ cond b (e ∷ es) (edge ∷ e ∷ es)
-    by true same = ap (λ b. cond b (e ∷ es) (edge ∷ e ∷ es)) same
-    by false apart = ap (λ b. cond b (edge ∷ e ∷ es) (edge ∷ edge ∷ e ∷ es)) (same-number edge)
+    by : (b : Bool) → starts_with edge xs ≡ b → starts_with edge (cond b xs (edge ∷ xs)) ≡ true
+    by true is = is
+    by false is = same-number edge
 
-head-front : (links : List Link) (at : ℕ) (es : List ℕ) (edge : ℕ) → IsChain links at es → with_front edge es ≡ cond (is_of (link_at links at) edge) es (edge ∷ es)
-head-front links at [] edge h = ap (λ a. cond (is_of (link_at links a) edge) [] (edge ∷ [])) (sym h)
-head-front links at (e ∷ es) edge h = ap (λ o. cond (is_of o edge) (e ∷ es) (edge ∷ e ∷ es)) (sym h.1.here)
+front-twice : (edge : ℕ) (xs : List ℕ) → with_front edge (with_front edge xs) ≡ with_front edge xs
+front-twice edge xs = ap (λ b. cond b (with_front edge xs) (edge ∷ with_front edge xs)) (front-first edge xs)
 
-module _ (first : List ℕ) (links : List Link) (f edge next : ℕ) (room : f < length first) (next-is : next ≡ get_or first f 0) where
-  here-is : (n : ℕ) → n ≡ f → get_or first n 0 ≡ next
-  here-is n same = ap (λ k. get_or first k 0) same ∙ sym next-is
+-- another edge in front of the uses of a file, or the one that is there
+plus-here : (f edge : ℕ) (uses : ℕ → List ℕ) → starts_with edge (uses f) ≡ false → (n : ℕ) → n ≡ f → plus_use f edge uses n ≡ edge ∷ uses n
+plus-here f edge uses other n same =
+    ap (λ k. plus_use f edge uses k) same ∙ ap (λ b. cond b (with_front edge (uses f)) (uses f)) (same-number f) ∙ ap (λ b. cond b (uses f) (edge ∷ uses f)) other ∙ ap (λ k. edge ∷ uses k) (sym same)
 
-  -- the edge is the first use already
-  pub use-same : is_of (link_at links next) edge ≡ true → (uses : ℕ → List ℕ) → AreUses first links uses → AreUses first links (plus_use f edge uses)
-  use-same own uses are n below = by (eqb_tells n f)
-    where
-      by : ((n == f) ≡ true × (n ≡ f)) ⊎ ((n == f) ≡ false × (n ≢ f)) → IsChain links (get_or first n 0) (cond (n == f) (with_front edge (uses n)) (uses n))
-      by (inl same) =
-          subst (IsChain links (get_or first n 0))
-          (sym (ap (λ b. cond b (with_front edge (uses n)) (uses n)) same.0 ∙ head-front links (get_or first n 0) (uses n) edge (are n below)
-          ∙ ap (λ b. cond b (uses n) (edge ∷ uses n)) (ap (λ k. is_of (link_at links k) edge) (here-is n same.1) ∙ own)))
-          (are n below)
-      by (inr apart) = subst (IsChain links (get_or first n 0)) (sym (ap (λ b. cond b (with_front edge (uses n)) (uses n)) apart.0)) (are n below)
+plus-other : (f edge : ℕ) (uses : ℕ → List ℕ) (n : ℕ) → n ≢ f → plus_use f edge uses n ≡ uses n
+plus-other f edge uses n apart = by (eqb_tells n f)
+  where
+    by : ((n == f) ≡ true × (n ≡ f)) ⊎ ((n == f) ≡ false × (n ≢ f)) → plus_use f edge uses n ≡ uses n
+    by (inl same) = absurd (apart same.1)
+    by (inr differs) = ap (λ b. cond b (with_front edge (uses n)) (uses n)) differs.0
 
-  abbrev longer : List Link
-  longer = links ++ record { edge = edge; next = next } ∷ []
-
-  -- another use
-  pub use-more : is_of (link_at links next) edge ≡ false → (uses : ℕ → List ℕ) → AreUses first links uses → AreUses (set first f (length longer)) longer (plus_use f edge uses)
-  use-more other uses are n below = by (eqb_tells n f)
-    where
-      inside : n < length first
-      inside = subst (λ k. n < k) (length-set first f (length longer)) below
-
-      last : length longer ≡ suc (length links)
-      last = length-append links (record { edge = edge; next = next } ∷ []) ∙ add-one (length links)
-
-      by : ((n == f) ≡ true × (n ≡ f)) ⊎ ((n == f) ≡ false × (n ≢ f)) → IsChain longer (get_or (set first f (length longer)) n 0) (cond (n == f) (with_front edge (uses n)) (uses n))
-      by (inl same) =
-          let old : IsChain links next (uses n) = subst (λ a. IsChain links a (uses n)) (here-is n same.1) (are n inside) in
-          let at-is : get_or (set first f (length longer)) n 0 ≡ suc (length links) = ap (λ k. get_or (set first f (length longer)) k 0) same.1 ∙ get_or-set_same first f (length longer) 0 room ∙ last in
-          let list-is : cond (n == f) (with_front edge (uses n)) (uses n) ≡ edge ∷ uses n =
-          ap (λ b. cond b (with_front edge (uses n)) (uses n)) same.0 ∙ head-front links next (uses n) edge old ∙ ap (λ b. cond b (uses n) (edge ∷ uses n)) other in
-          let chain : IsChain longer (suc (length links)) (edge ∷ uses n) =
-          (next, record { here = get-last links (record { edge = edge; next = next }); falls = chain-within links next (uses n) old }, chain-more links (record { edge = edge; next = next } ∷ []) next (uses n) old) in
-          subst (λ a. IsChain longer a (cond (n == f) (with_front edge (uses n)) (uses n))) (sym at-is) (subst (IsChain longer (suc (length links))) (sym list-is) chain)
-      by (inr apart) =
-          let at-is : get_or (set first f (length longer)) n 0 ≡ get_or first n 0 = get_or-set_other first f n (length longer) 0 apart.1 in
-          let list-is : cond (n == f) (with_front edge (uses n)) (uses n) ≡ uses n = ap (λ b. cond b (with_front edge (uses n)) (uses n)) apart.0 in
-          subst (λ a. IsChain longer a (cond (n == f) (with_front edge (uses n)) (uses n))) (sym at-is)
-          (subst (IsChain longer (get_or first n 0)) (sym list-is) (chain-more links (record { edge = edge; next = next } ∷ []) (get_or first n 0) (uses n) (are n inside)))
+plus-none : (f edge : ℕ) (uses : ℕ → List ℕ) → starts_with edge (uses f) ≡ true → plus_use f edge uses ≡ uses
+plus-none f edge uses known = fun_ext (λ n. by n (eqb_tells n f))
+  where
+    by : (n : ℕ) → ((n == f) ≡ true × (n ≡ f)) ⊎ ((n == f) ≡ false × (n ≢ f)) → plus_use f edge uses n ≡ uses n
+    by n (inl same) = ap (λ b. cond b (with_front edge (uses n)) (uses n)) same.0 ∙ ap (λ b. cond b (uses n) (edge ∷ uses n)) (ap (λ k. starts_with edge (uses k)) same.1 ∙ known)
+    by n (inr apart) = plus-other f edge uses n apart.1
 
 -- ---- the files of an edge
 
-plus-both : (ns : List FileNo) (f : FileNo) (edge : ℕ) (uses : ℕ → List ℕ) (n : ℕ) → plus_use f.0 edge (plus_uses ns edge uses) n ≡ plus_uses (ns ++ f ∷ []) edge uses n
-plus-both ns f edge uses n = by (n == f.0) (has_number n ns) ∙ ap (λ b. cond b (with_front edge (uses n)) (uses n)) (sym (has-push n ns f))
+pub plus-next : (files : List FileNo) (i : ℕ) (d : FileNo) (edge : ℕ) (uses : ℕ → List ℕ) → i < length files → plus_use (get_or files i d).0 edge (plus_uses (take i files) edge uses) ≡ plus_uses (take (i + 1) files) edge uses
+plus-next files i d edge uses below = fun_ext (λ n.
+    by n (n == (get_or files i d).0) (has_number n (take i files))
+    ∙ ap (λ b. cond b (with_front edge (uses n)) (uses n)) (sym (has-push n (take i files) (get_or files i d)))
+    ∙ ap (λ ns. plus_uses ns edge uses n) (sym (take_more files i d below)))
   where
-    by : (a b : Bool) → cond a (with_front edge (cond b (with_front edge (uses n)) (uses n))) (cond b (with_front edge (uses n)) (uses n)) ≡ cond (b || a) (with_front edge (uses n)) (uses n)
-    by true true = front-twice edge (uses n)
-    by true false = refl
-    by false true = refl
-    by false false = refl
+    by : (n : ℕ) (a b : Bool) → cond a (with_front edge (cond b (with_front edge (uses n)) (uses n))) (cond b (with_front edge (uses n)) (uses n)) ≡ cond (b || a) (with_front edge (uses n)) (uses n)
+    by n true true = front-twice edge (uses n)
+    by n true false = refl
+    by n false true = refl
+    by n false false = refl
 
-pub uses-step : (first : List ℕ) (links : List Link) (ns : List FileNo) (f : FileNo) (edge : ℕ) (uses : ℕ → List ℕ) → AreUses first links (plus_use f.0 edge (plus_uses ns edge uses)) → AreUses first links (plus_uses (ns ++ f ∷ []) edge uses)
-uses-step first links ns f edge uses are n below = subst (IsChain links (get_or first n 0)) (plus-both ns f edge uses n) (are n below)
+has-append : (n : ℕ) (ns ms : List FileNo) → has_number n (ns ++ ms) ≡ (has_number n ns || has_number n ms)
+has-append n [] ms = refl
+has-append n (f ∷ ns) ms = by (n == f.0) (has-append n ns ms)
+  where
+    by : (b : Bool) → has_number n (ns ++ ms) ≡ (has_number n ns || has_number n ms) → (b || has_number n (ns ++ ms)) ≡ ((b || has_number n ns) || has_number n ms)
+    by true more = refl
+    by false more = more
 
-pub uses-next : (first : List ℕ) (links : List Link) (files : List FileNo) (i : ℕ) (d : FileNo) (edge : ℕ) (uses : ℕ → List ℕ) → i < length files → AreUses first links (plus_use (get_or files i d).0 edge (plus_uses (take i files) edge uses)) → AreUses first links (plus_uses (take (i + 1) files) edge uses)
-uses-next first links files i d edge uses below are = subst (λ ns. AreUses first links (plus_uses ns edge uses)) (sym (take_more files i d below)) (uses-step first links (take i files) (get_or files i d) edge uses are)
+front-longer : (edge : ℕ) (xs : List ℕ) → length xs ≤ length (with_front edge xs)
+front-longer edge xs = by (starts_with edge xs)
+  where
+    by : (b : Bool) → length xs ≤ length (cond b xs (edge ∷ xs))
+    by true = omega arith
+    by false = omega arith
+
+-- some of the files of an edge have no more uses than all of them
+room-some : (all uses : ℕ → List ℕ) (files : List FileNo) (i edge : ℕ) → HaveRoom all (plus_uses files edge uses) → HaveRoom all (plus_uses (take i files) edge uses)
+room-some all uses files i edge room n =
+    let fewer = by (has_number n (take i files)) (has_number n (drop i files)) (front-longer edge (uses n)) in
+    let whole : has_number n files ≡ (has_number n (take i files) || has_number n (drop i files)) = ap (has_number n) (sym (take-append-drop i files)) ∙ has-append n (take i files) (drop i files) in
+    let most : length (cond (has_number n (take i files) || has_number n (drop i files)) (with_front edge (uses n)) (uses n)) ≤ length (all n) =
+    subst (λ b. length (cond b (with_front edge (uses n)) (uses n)) ≤ length (all n)) whole (room n) in
+    omega (arith, fewer, most)
+  where
+    by : (a b : Bool) → length (uses n) ≤ length (with_front edge (uses n)) → length (cond a (with_front edge (uses n)) (uses n)) ≤ length (cond (a || b) (with_front edge (uses n)) (uses n))
+    by true b more = omega arith
+    by false true more = more
+    by false false more = omega arith
+
+pub room-next : (all uses : ℕ → List ℕ) (files : List FileNo) (i : ℕ) (d : FileNo) (edge : ℕ) → i < length files → HaveRoom all (plus_uses files edge uses) → HaveRoom all (plus_use (get_or files i d).0 edge (plus_uses (take i files) edge uses))
+room-next all uses files i d edge below room = subst (HaveRoom all) (sym (plus-next files i d edge uses below)) (room-some all uses files (i + 1) edge room)
 
 -- ---- the edges from the last one on
 
@@ -145,80 +115,198 @@ drop-row [] e row h = absurd (true≢false (sym (ap is_some h)))
 drop-row (x ∷ rows) zero row h = ap (λ o. unwrap_or o x ∷ rows) h
 drop-row (x ∷ rows) (suc e) row h = let more : drop e rows ≡ row ∷ drop (e + 1) rows = drop-row rows e row h in rw (add-one (suc e)) (rw (add-one e) at more)
 
-pub rows-step : (files : List FileNo) (part : RowPart) (rows : List EdgeRow) (first first' : List ℕ) (links links' : List Link) (e at : ℕ) (row : EdgeRow) → at ≡ e + 1 → slice_get rows e ≡ Some row
-    → ((uses : ℕ → List ℕ) → AreUses first links uses → AreUses first' links' (plus_uses (within files (span_of part row)) e uses))
-    → AreUses first links (using_edges files part at (drop at rows)) → AreUses first' links' (using_edges files part e (drop e rows))
-rows-step files part rows first first' links links' e at row at-is here step are n below =
-    subst (IsChain links' (get_or first' n 0))
-    (ap (λ k. plus_uses (within files (span_of part row)) e (using_edges files part k (drop k rows)) n) at-is ∙ edge-step files part e row (drop (e + 1) rows) n ∙ ap (λ rs. using_edges files part e rs n) (sym (drop-row rows e row here)))
-    (step (using_edges files part at (drop at rows)) are n below)
+-- one edge more, by the files that it has
+pub rows-next : (files : List FileNo) (part : RowPart) (rows : List EdgeRow) (e at : ℕ) (row : EdgeRow) (found : List FileNo) → at ≡ e + 1 → slice_get rows e ≡ Some row → found ≡ within files (span_of part row)
+    → plus_uses found e (using_edges files part at (drop at rows)) ≡ using_edges files part e (drop e rows)
+rows-next files part rows e at row found at-is here is =
+    ap (λ ns. plus_uses ns e (using_edges files part at (drop at rows))) is ∙ ap (λ k. plus_uses (within files (span_of part row)) e (using_edges files part k (drop k rows))) at-is
+    ∙ fun_ext (λ n. edge-step files part e row (drop (e + 1) rows) n) ∙ ap (λ rs. using_edges files part e rs) (sym (drop-row rows e row here))
 
--- ---- in order
+edges-fewer : {E : Type 0} (k j : ℕ) (test : E → Bool) (es : List E) → length (edges_from (k + j) test (drop j es)) ≤ length (edges_from k test es)
+edges-fewer k zero test es = let same : k + 0 ≡ k = omega arith in subst (λ m. length (edges_from m test es) ≤ length (edges_from k test es)) (sym same) (omega arith)
+edges-fewer k (suc j) test [] = omega arith
+edges-fewer k (suc j) test (x ∷ xs) = by (test x) (subst (λ m. length (edges_from m test (drop j xs)) ≤ length (edges_from (k + 1) test xs)) next (edges-fewer (k + 1) j test xs))
+  where
+    next : (k + 1) + j ≡ k + suc j
+    next = omega arith
 
--- what was appended so far, and what the links still lead to
-abbrev pub Appended : List Link → (at next : ℕ) → (old new : List EdgeNo) → Type 0
-Appended links at next old new = (uses : List ℕ) → IsChain links at uses → (rest : List ℕ) × IsChain links next rest × (numbers_of new ++ rest ≡ numbers_of old ++ uses)
+    by : (b : Bool) → length (edges_from (k + suc j) test (drop j xs)) ≤ length (edges_from (k + 1) test xs) → length (edges_from (k + suc j) test (drop j xs)) ≤ length (cond b (k ∷ edges_from (k + 1) test xs) (edges_from (k + 1) test xs))
+    by true fewer = omega (arith, fewer)
+    by false fewer = fewer
 
-pub appended-none : (links : List Link) (at : ℕ) (old : List EdgeNo) → Appended links at at old old
-appended-none links at old uses chain = (uses, chain, refl)
+-- the edges from a later one on have no more uses than all edges
+pub rows-room : (files : List FileNo) (part : RowPart) (rows : List EdgeRow) (e : ℕ) → HaveRoom (using_edges files part 0 rows) (using_edges files part e (drop e rows))
+rows-room files part rows e n =
+    let same : 0 + e ≡ e = omega arith in
+    subst (λ m. length (using_edges files part m (drop e rows) n) ≤ length (using_edges files part 0 rows n)) same (edges-fewer 0 e (λ (r : EdgeRow). has_number n (within files (span_of part r))) rows)
 
-pub appended-more : (links : List Link) (at next : ℕ) (old new new' : List EdgeNo) (e : EdgeNo) (link : Link) → link_at links next ≡ Some link → e.0 ≡ link.edge → new' ≡ new ++ e ∷ [] → Appended links at next old new → Appended links at link.next old new'
-appended-more links at next old new new' e link is same grown so uses chain =
-    let s = so uses chain in
-    let t = chain-rest links next s.0 link s.1 is in (
-      t.0,
-      t.3,
-      ap (λ es. numbers_of es ++ t.0) grown ∙ ap (λ ns. ns ++ t.0) (map_push (λ (d : EdgeNo). d.0) new e) ∙ append_assoc (numbers_of new) (e.0 ∷ []) t.0
-          ∙ ap (λ k. numbers_of new ++ k ∷ t.0) same ∙ ap (λ es. numbers_of new ++ es) (sym t.1) ∙ s.2,
-    )
+-- ---- ends
 
-pub appended-some : (links : List Link) (next : ℕ) (link : Link) → link_at links next ≡ Some link → IsSomeChain links next → IsSomeChain links link.next × (link.next < next)
-appended-some links next link is some = let t = chain-rest links next some.0 link some.1 is in ((t.0, t.3), t.2)
+before-rises : (uses : ℕ → List ℕ) (m n : ℕ) → m ≤ n → users_before uses m ≤ users_before uses n
+before-rises uses m zero below = let none : m ≡ 0 = omega arith in rw none (omega arith)
+before-rises uses m (suc n) below = by (eqb_tells m (suc n)) (λ less. before-rises uses m n less)
+  where
+    by : ((m == suc n) ≡ true × (m ≡ suc n)) ⊎ ((m == suc n) ≡ false × (m ≢ suc n)) → (m ≤ n → users_before uses m ≤ users_before uses n) → users_before uses m ≤ users_before uses (suc n)
+    by (inl same) up = subst (λ k. users_before uses m ≤ users_before uses k) same.1 (omega arith)
+    by (inr apart) up = let differs : m ≢ suc n = apart.1 in let rises : users_before uses m ≤ users_before uses n = up (omega arith) in omega (arith, rises)
 
-pub appended-all : (links : List Link) (at next : ℕ) (old new : List EdgeNo) → link_at links next ≡ None → Appended links at next old new → (uses : List ℕ) → IsChain links at uses → numbers_of new ≡ numbers_of old ++ uses
-appended-all links at next old new is so uses chain =
-    let s = so uses chain in
-    sym (append-nil (numbers_of new)) ∙ ap (λ es. numbers_of new ++ es) (sym (chain-end links next s.0 s.1 is)) ∙ s.2
+before-next : (uses : ℕ → List ℕ) (n : ℕ) → users_before uses (n + 1) ≡ users_before uses n + length (uses n)
+before-next uses n = ap (users_before uses) (add-one n)
 
-part-more : (numbers others : List ℕ) (span : Span) (users : List ℕ) → IsPart numbers span users → IsPart (numbers ++ others) span users
-part-more numbers others span users part =
-    let rises = part.inside.rises in let ends = part.inside.ends in
-    record {
-      inside = record { rises = rises; ends = simp length-append (omega arith) };
-      users_are = slice_range-append numbers others span.start span.end rises ends ∙ part.users_are;
-    }
+-- ---- places
 
-part-last : (numbers users : List ℕ) → IsPart (numbers ++ users) (record { start = length numbers; end = length (numbers ++ users) }) users
-part-last numbers users =
-    let rises : length numbers ≤ length (numbers ++ users) = simp length-append (omega arith) in
-    record {
-      inside = record { rises = rises; ends = omega arith };
-      users_are = slice_range-rest (numbers ++ users) (length numbers) rises ∙ drop-append_seam numbers users;
-    }
+module _ (all uses : ℕ → List ℕ) (places marks : List ℕ) (edges : List EdgeNo) (f edge : ℕ) (placed : ArePlaced all uses places marks edges) (inside : f < length places) where
+  -- there is a place for another edge of a file
+  module _ (other : starts_with edge (uses f) ≡ false) (room : HaveRoom all (plus_use f edge uses)) where
+    more : suc (length (uses f)) ≤ length (all f)
+    more = subst (λ es. length es ≤ length (all f)) (plus-here f edge uses other f refl) (room f)
 
-pub users-step : (count : ℕ) (spans : List Span) (numbers : List ℕ) (uses : ℕ → List ℕ) (span : Span) (more : List ℕ) → HoldUsers count spans numbers uses → more ≡ numbers ++ uses count → span ≡ record { start = length numbers; end = length more }
-    → HoldUsers (count + 1) (spans ++ span ∷ []) more uses
-users-step count spans numbers uses span more held grown place = record {
-  count_is = length-append spans (span ∷ []) ∙ ap (λ n. n + 1) held.count_is;
-  parts_are = λ n other here. by n other here (get-push spans span other n here);
+    place-before : suc (users_before all f) ≤ get_or places f 0
+    place-before =
+        let ends : get_or places f 0 + length (uses f) ≡ users_before all (f + 1) = placed.ends_are f inside in
+        let next : users_before all (f + 1) ≡ users_before all f + length (all f) = before-next all f in
+        let fewer = more in
+        omega (arith, ends, next, fewer)
+
+    pub place-within : get_or places f 0 - 1 < length edges
+    place-within =
+        let ends : get_or places f 0 + length (uses f) ≡ users_before all (f + 1) = placed.ends_are f inside in
+        let low = place-before in
+        let up : users_before all (f + 1) ≤ users_before all (length places) = before-rises all (f + 1) (length places) (omega arith) in
+        let count : length edges ≡ users_before all (length places) = placed.count_is in
+        omega (arith, ends, low, up, count)
+
+    module _ (place : ℕ) (place-is : place ≡ get_or places f 0 - 1) (marks' : List ℕ) (marked : AreMarks marks' (plus_use f edge uses)) where
+      abbrev places' : List ℕ
+      places' = set places f place
+
+      abbrev edges' : List EdgeNo
+      edges' = set edges place (record { 0 = edge })
+
+      place-next : get_or places f 0 ≡ place + 1
+      place-next = let low = place-before in omega (arith, low, place-is)
+
+      place-count : length places' ≡ length places
+      place-count = length-set places f place
+
+      below-old : (n : ℕ) → n < length places' → n < length places
+      below-old n below = subst (λ k. n < k) place-count below
+
+      here-is : (n : ℕ) → n ≡ f → get_or places' n 0 ≡ place
+      here-is n same = ap (λ k. get_or places' k 0) same ∙ get_or-set_same places f place 0 inside
+
+      other-is : (n : ℕ) → n ≢ f → get_or places' n 0 ≡ get_or places n 0
+      other-is n apart = get_or-set_other places f n place 0 apart
+
+      -- the place of another file's edge is another one
+      apart-place : (n i : ℕ) → n < length places → n ≢ f → i < length (uses n) → get_or places n 0 + i ≢ place
+      apart-place n i below differs i-below same = by (leb_tells n f)
+        where
+          end-n : get_or places n 0 + length (uses n) ≡ users_before all (n + 1)
+          end-n = placed.ends_are n below
+
+          end-f : get_or places f 0 + length (uses f) ≡ users_before all (f + 1)
+          end-f = placed.ends_are f inside
+
+          start-n : users_before all n ≤ get_or places n 0
+          start-n = placed.starts_are n below
+
+          by : ((leb n f ≡ true) × (n ≤ f)) ⊎ ((leb n f ≡ false) × (f < n)) → ⊥
+          by (inl before) =
+              let up : users_before all (n + 1) ≤ users_before all f = before-rises all (n + 1) f (let b : n ≤ f = before.1 in omega (arith, b, differs)) in
+              let next = place-next in let low = place-before in let at = same in let end = end-n in
+              omega (arith, up, next, low, at, end, i-below)
+          by (inr after) =
+              let up : users_before all (f + 1) ≤ users_before all n = before-rises all (f + 1) n (let b : f < n = after.1 in omega (arith, b)) in
+              let next = place-next in let start = start-n in let at = same in let end = end-f in
+              omega (arith, up, next, start, at, end)
+
+      pub placed-more : ArePlaced all (plus_use f edge uses) places' marks' edges'
+      placed-more = record {
+        count_is = length-set edges place (record { 0 = edge }) ∙ placed.count_is ∙ ap (users_before all) (sym place-count);
+        starts_are = λ n below. starts n (below-old n below) (eqb_tells n f);
+        ends_are = λ n below. ends n (below-old n below) (eqb_tells n f);
+        edges_are = λ n i below i-below. stand n i (below-old n below) i-below (eqb_tells n f);
+        marks_are = marked;
+      }
+        where
+          starts : (n : ℕ) → n < length places → ((n == f) ≡ true × (n ≡ f)) ⊎ ((n == f) ≡ false × (n ≢ f)) → users_before all n ≤ get_or places' n 0
+          starts n below (inl same) =
+              let low = place-before in let next = place-next in
+              let start : users_before all f ≤ place = omega (arith, low, next) in
+              rw (here-is n same.1) (subst (λ k. users_before all k ≤ place) (sym same.1) start)
+          starts n below (inr apart) = rw (other-is n apart.1) (placed.starts_are n below)
+
+          ends : (n : ℕ) → n < length places → ((n == f) ≡ true × (n ≡ f)) ⊎ ((n == f) ≡ false × (n ≢ f)) → get_or places' n 0 + length (plus_use f edge uses n) ≡ users_before all (n + 1)
+          ends n below (inl same) =
+              let old : get_or places n 0 + length (uses n) ≡ users_before all (n + 1) = placed.ends_are n below in
+              let next : get_or places n 0 ≡ place + 1 = ap (λ k. get_or places k 0) same.1 ∙ place-next in
+              let sum : place + suc (length (uses n)) ≡ users_before all (n + 1) = omega (arith, old, next) in
+              ap (λ p. p + length (plus_use f edge uses n)) (here-is n same.1) ∙ ap (λ es. place + length es) (plus-here f edge uses other n same.1) ∙ sum
+          ends n below (inr apart) = ap (λ p. p + length (plus_use f edge uses n)) (other-is n apart.1) ∙ ap (λ es. get_or places n 0 + length es) (plus-other f edge uses n apart.1) ∙ placed.ends_are n below
+
+          behind : (n i : ℕ) → n < length places → n ≡ f → i < length (edge ∷ uses n) → number_at edges' (place + i) ≡ get_or (edge ∷ uses n) i 0
+          behind n zero below same i-below = ap (λ k. number_at edges' k) (omega arith) ∙ ap (λ (e : EdgeNo). e.0) (get_or-set_same edges place (record { 0 = edge }) (record { 0 = 0 }) (let within = place-within in rw place-is within))
+          behind n (suc j) below same i-below =
+              let next : get_or places n 0 ≡ place + 1 = ap (λ k. get_or places k 0) same ∙ place-next in
+              let at-is : place + suc j ≡ get_or places n 0 + j = omega (arith, next) in
+              let differs : place + suc j ≢ place = λ (h : place + suc j ≡ place). omega arith in
+              ap (λ (e : EdgeNo). e.0) (get_or-set_other edges place (place + suc j) (record { 0 = edge }) (record { 0 = 0 }) differs) ∙ ap (number_at edges) at-is ∙ placed.edges_are n j below (omega arith)
+
+          stand : (n i : ℕ) → n < length places → i < length (plus_use f edge uses n) → ((n == f) ≡ true × (n ≡ f)) ⊎ ((n == f) ≡ false × (n ≢ f)) → number_at edges' (get_or places' n 0 + i) ≡ get_or (plus_use f edge uses n) i 0
+          stand n i below i-below (inl same) =
+              let are = plus-here f edge uses other n same.1 in
+              ap (λ p. number_at edges' (p + i)) (here-is n same.1) ∙ behind n i below same.1 (subst (λ es. i < length es) are i-below) ∙ ap (λ es. get_or es i 0) (sym are)
+          stand n i below i-below (inr apart) =
+              let are = plus-other f edge uses n apart.1 in
+              let i-old : i < length (uses n) = subst (λ es. i < length es) are i-below in
+              ap (λ p. number_at edges' (p + i)) (other-is n apart.1)
+              ∙ ap (λ (e : EdgeNo). e.0) (get_or-set_other edges place (get_or places n 0 + i) (record { 0 = edge }) (record { 0 = 0 }) (apart-place n i below apart.1 i-old))
+              ∙ placed.edges_are n i below i-old ∙ ap (λ es. get_or es i 0) (sym are)
+
+number-map : (edges : List EdgeNo) (k : ℕ) → get_or (numbers_of edges) k 0 ≡ number_at edges k
+number-map [] k = refl
+number-map (e ∷ edges) zero = refl
+number-map (e ∷ edges) (suc k) = number-map edges k
+
+-- all are placed
+pub placed-all : (all : ℕ → List ℕ) (places marks : List ℕ) (edges : List EdgeNo) → ArePlaced all all places marks edges → AreParts places (numbers_of edges) all
+placed-all all places marks edges placed n below = record {
+  rises = rise;
+  ends = within;
+  users_are = same_number_lists (slice_range (numbers_of edges) (get_or places n 0) (get_or places (n + 1) 0)) (all n) count here;
 }
   where
-    here-last : IsPart more span (uses count)
-    here-last = subst (λ s. IsPart more s (uses count)) (sym place) (subst (λ m. IsPart m (record { start = length numbers; end = length m }) (uses count)) (sym grown) (part-last numbers (uses count)))
+    start : (m : ℕ) → m < length places → get_or places m 0 ≡ users_before all m
+    start m inside =
+        let ends : get_or places m 0 + length (all m) ≡ users_before all (m + 1) = placed.ends_are m inside in
+        let next : users_before all (m + 1) ≡ users_before all m + length (all m) = before-next all m in
+        omega (arith, ends, next)
 
-    by : (n : ℕ) (other : Span) → slice_get (spans ++ span ∷ []) n ≡ Some other → (n ≡ length spans) ⊎ ((n < length spans) × (slice_get spans n ≡ Some other)) → IsPart more other (uses n)
-    by n other here (inl end) =
-        let is : span ≡ other = ap (λ o. unwrap_or o other) (sym (get-last spans span) ∙ ap (slice_get (spans ++ span ∷ [])) (sym end) ∙ here) in
-        subst (λ s. IsPart more s (uses n)) is (subst (λ k. IsPart more span (uses k)) (sym (end ∙ held.count_is)) here-last)
-    by n other here (inr before) = subst (λ m. IsPart m other (uses n)) (sym grown) (part-more numbers (uses count) other (uses n) (held.parts_are n other before.1))
+    first : get_or places n 0 + length (all n) ≡ get_or places (n + 1) 0
+    first =
+        let ends : get_or places n 0 + length (all n) ≡ users_before all (n + 1) = placed.ends_are n (omega arith) in
+        ends ∙ sym (start (n + 1) below)
 
--- the part that was appended
-pub users-push : (count : ℕ) (spans : List Span) (edges edges' xs ys : List EdgeNo) (uses : ℕ → List ℕ) → xs ≡ edges → ys ≡ edges' → numbers_of edges' ≡ numbers_of edges ++ uses count → HoldUsers count spans (numbers_of edges) uses
-    → HoldUsers (count + 1) (spans ++ record { start = length xs; end = length ys } ∷ []) (numbers_of edges') uses
-users-push count spans edges edges' xs ys uses e e' grown held =
-    let place : record { start = length xs; end = length ys } ≡ record { start = length (numbers_of edges); end = length (numbers_of edges') } =
-    rw (e, e', length-map edges (λ (d : EdgeNo). d.0), length-map edges' (λ (d : EdgeNo). d.0)) refl in
-    users-step count spans (numbers_of edges) uses (record { start = length xs; end = length ys }) (numbers_of edges') held grown place
+    rise : get_or places n 0 ≤ get_or places (n + 1) 0
+    rise = let sum = first in omega (arith, sum)
+
+    within : get_or places (n + 1) 0 ≤ length (numbers_of edges)
+    within =
+        let up : users_before all (n + 1) ≤ users_before all (length places) = before-rises all (n + 1) (length places) (omega arith) in
+        let at = start (n + 1) below in
+        let whole : length (numbers_of edges) ≡ users_before all (length places) = length-map edges (λ (e : EdgeNo). e.0) ∙ placed.count_is in
+        omega (arith, up, at, whole)
+
+    count : length (slice_range (numbers_of edges) (get_or places n 0) (get_or places (n + 1) 0)) ≡ length (all n)
+    count = let sum = first in let top = within in simp (length-take, length-drop) (omega (arith, sum, top))
+
+    here : (k : ℕ) → k < length (slice_range (numbers_of edges) (get_or places n 0) (get_or places (n + 1) 0)) → get_or (slice_range (numbers_of edges) (get_or places n 0) (get_or places (n + 1) 0)) k 0 ≡ get_or (all n) k 0
+    here k k-below =
+        let inside : k < length (all n) = subst (λ m. k < m) count k-below in
+        let sum = first in
+        get_or-take (get_or places (n + 1) 0 - get_or places n 0) (drop (get_or places n 0) (numbers_of edges)) k 0 (omega (arith, sum, inside))
+        ∙ get_or-drop (get_or places n 0) (numbers_of edges) k 0 ∙ number-map edges (get_or places n 0 + k) ∙ placed.edges_are n k (omega arith) inside
 
 -- ---- the users of a file
 
@@ -230,8 +318,8 @@ take-map f (suc n) (x ∷ xs) = ap (λ ys. f x ∷ ys) (take-map f n xs)
 numbers-part : (edges : List EdgeNo) (start end : ℕ) → slice_range (numbers_of edges) start end ≡ numbers_of (slice_range edges start end)
 numbers-part edges start end = ap (take (end - start)) (drop-map (λ (e : EdgeNo). e.0) start edges) ∙ take-map (λ (e : EdgeNo). e.0) (end - start) (drop start edges)
 
-pub part-inside : (spans : List Span) (edges : List EdgeNo) (uses : ℕ → List ℕ) → HoldUsers (length spans) spans (numbers_of edges) uses → (n : ℕ) (span : Span) → slice_get spans n ≡ Some span → IsWithin span (length edges)
-part-inside spans edges uses held n span here = subst (IsWithin span) (length-map edges (λ (e : EdgeNo). e.0)) (held.parts_are n span here).inside
+pub part-inside : (edges : List EdgeNo) (start end : ℕ) (users : List ℕ) → IsPart (numbers_of edges) start end users → end ≤ length edges
+part-inside edges start end users part = subst (λ n. end ≤ n) (length-map edges (λ (e : EdgeNo). e.0)) part.ends
 
-pub part-users : (spans : List Span) (edges found : List EdgeNo) (n : ℕ) (span : Span) → slice_get spans n ≡ Some span → found ≡ slice_range edges span.start span.end → (uses : ℕ → List ℕ) → HoldUsers (length spans) spans (numbers_of edges) uses → numbers_of found ≡ uses n
-part-users spans edges found n span here is uses held = ap numbers_of is ∙ sym (numbers-part edges span.start span.end) ∙ (held.parts_are n span here).users_are
+pub part-users : (edges found : List EdgeNo) (start end : ℕ) (users : List ℕ) → found ≡ slice_range edges start end → IsPart (numbers_of edges) start end users → numbers_of found ≡ users
+part-users edges found start end users is part = ap numbers_of is ∙ sym (numbers-part edges start end) ∙ part.users_are

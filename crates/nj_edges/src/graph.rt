@@ -190,7 +190,7 @@ impl EdgeGraph {
             ≡ users_of self.now.edges (path_at self.now.files file) }
         ensures known { All (λ edge. edge.0 < length self.now.edges) result.now }
     {
-        users_at(&self.users.spans, &self.users.edges, file)
+        users_at(&self.users.starts, &self.users.edges, file)
     }
 
     /// The edges that name this file as a validation ("Validations" in the Ninja manual), by
@@ -202,7 +202,7 @@ impl EdgeGraph {
         ensures known { All (λ edge. edge.0 < length self.now.edges) result.now }
     {
         users_at(
-            &self.validation_users.spans,
+            &self.validation_users.starts,
             &self.validation_users.edges,
             file,
         )

@@ -1,9 +1,9 @@
 //! The users of files: the edges that have a file among their inputs, or their validations.
 
-ghost use Rattle.std.specs.Prelude.{◌≡◌, ℕ, List, ◌<◌, ◌++◌, Some, length, map, slice_get, IfOk, OnOk};
+ghost use Rattle.std.specs.Prelude.{◌≡◌, ℕ, List, ◌+◌, ◌<◌, ◌≤◌, ◌^◌, Some, length, slice_get, slice_index_or, IfOk, OnOk};
 ghost use Rattle.std.specs.List.{AllByRecursion};
-ghost use Rattle.nj_edges.specs.Inside.EdgesHeld.{AreNumbers, IsWithin};
-ghost use Rattle.nj_edges.specs.Inside.UsersHeld.{AreUses, HoldUsers, IsChain, IsSomeChain, is_of, link_at, numbers_of, plus_use, plus_uses, span_of, using_edges};
+ghost use Rattle.nj_edges.specs.Inside.EdgesHeld.{AreNumbers, IsWithin, within};
+ghost use Rattle.nj_edges.specs.Inside.UsersHeld.{AreCounted, AreCounts, AreEnds, AreMarks, AreParts, ArePlaced, HaveRoom, HoldUsers, numbers_of, plus_use, plus_uses, span_of, starts_with, users_before, using_edges};
 
 use crate::edges::{EdgeNo, EdgeRow, Span};
 use crate::files::FileNo;
@@ -18,29 +18,17 @@ pub(crate) enum RowPart {
     Validations,
 }
 
-/// The users of each file, by number: one list, and where the users of each file are in it.
+/// The users of each file, by number: one list, in which those of a file stand together.
 #[derive(Drop)]
 pub(crate) struct Users {
-    pub(crate) spans: Vec<Span>,
+    /// Where the users of each file begin, and where those of the last one end.
+    pub(crate) starts: Vec<u32>,
     pub(crate) edges: Vec<EdgeNo>,
 }
 
-// A use of a file, and where the next one is: links are counted from 1, and 0 is the end.
-#[derive(Clone, Copy)]
-struct Link {
-    edge: usize,
-    next: usize,
-}
-
-// The uses of all files: where those of each file begin.
-#[derive(Drop)]
-struct Uses {
-    first: Vec<usize>,
-    links: Vec<Link>,
-}
-
-/// The edges that have a file in this part of theirs, for each of `file_count` files. Takes time in
-/// proportion to the files and these parts.
+/// The edges that have a file in this part of theirs, for each of `file_count` files. They are
+/// counted first, and then each is put in its place. Takes time in proportion to the files and
+/// these parts. A number that does not fit in 32 bits is refused as memory is.
 pub(crate) fn users_of_files(
     alloc: Global,
     file_count: usize,
@@ -51,63 +39,89 @@ pub(crate) fn users_of_files(
     requires files { AreNumbers file_count files.now }
     requires rows { AllByRecursion (λ row. IsWithin (span_of row_part row) (length files.now))
         rows.now }
-    ensures { IfOk result (λ users. HoldUsers file_count users.spans.items
+    ensures { IfOk result (λ users. HoldUsers file_count users.starts.items
         (numbers_of users.edges.items) (using_edges files.now row_part 0 rows.now)) }
 {
-    let uses = linked_uses(alloc, file_count, files, rows, row_part)?;
-    users_in_order(alloc, &uses.first, &uses.links)
+    let start_count = file_count.checked_add(1).ok_or(AllocError)?;
+    let mut starts = user_counts(alloc, start_count, files, rows, row_part)?;
+    let user_count = add_up(&mut starts)?;
+    let edges = placed_users(alloc, &mut starts, user_count, files, rows, row_part)?;
+    Ok(Users { starts, edges })
 }
 
 // The users of a file.
-pub(crate) fn users_at<'a>(spans: &[Span], edges: &'a [EdgeNo], file: FileNo) -> &'a [EdgeNo]
-    requires held { (uses : ℕ → List ℕ) × HoldUsers (length spans.now) spans.now
-        (numbers_of edges.now) uses }
-    requires file { file.0 < length spans.now }
-    ensures { (uses : ℕ → List ℕ) → HoldUsers (length spans.now) spans.now
-        (numbers_of edges.now) uses → numbers_of result.now ≡ uses file.0 }
+pub(crate) fn users_at<'a>(starts: &[u32], edges: &'a [EdgeNo], file: FileNo) -> &'a [EdgeNo]
+    requires held { (uses : ℕ → List ℕ) × AreParts starts.now (numbers_of edges.now) uses }
+    requires file { file.0 + 1 < length starts.now }
+    ensures { (uses : ℕ → List ℕ) → AreParts starts.now (numbers_of edges.now) uses
+        → numbers_of result.now ≡ uses file.0 }
 {
-    let span = span_at(spans, file.0);
-    part(edges, span.start, span.end)
+    part(
+        edges,
+        start_at(starts, file.0),
+        start_at(starts, file.0 + 1),
+    )
 }
 
-// The part of a file.
-fn span_at(spans: &[Span], file: usize) -> Span
-    requires { file < length spans.now }
-    ensures { slice_get spans.now file ≡ Some result }
+// Where the users of a file begin.
+fn start_at(starts: &[u32], file: usize) -> usize
+    requires { file < length starts.now }
+    ensures { result ≡ slice_index_or starts.now file 0 }
 {
-    spans[file]
+    starts[file] as usize
 }
 
-// The uses of the files, linked. Edges are taken from the last one on, so that links lead to edges
-// of higher numbers.
-fn linked_uses(
+// How many users each of `count` files has.
+fn user_counts(
     alloc: Global,
-    file_count: usize,
+    count: usize,
     files: &[FileNo],
     rows: &[EdgeRow],
     row_part: RowPart,
-) -> Result<Uses, AllocError>
-    requires files { AreNumbers file_count files.now }
+) -> Result<Vec<u32>, AllocError>
+    requires files { AreNumbers count files.now }
     requires rows { AllByRecursion (λ row. IsWithin (span_of row_part row) (length files.now))
         rows.now }
-    ensures count { IfOk result (λ uses. length uses.first.items ≡ file_count) }
-    ensures uses { IfOk result (λ uses. AreUses uses.first.items uses.links.items
+    ensures count { IfOk result (λ counts. length counts.items ≡ count) }
+    ensures counts { IfOk result (λ counts. AreCounts counts.items
         (using_edges files.now row_part 0 rows.now)) }
 {
-    let mut first = vec![in alloc; 0; file_count]?;
-    let mut links = Vec::with_capacity(alloc, files.len())?;
-    let mut edge = rows.len();
+    let mut counts = vec![in alloc; 0_u32; count]?;
+    let mut marks = vec![in alloc; 0_u32; count]?;
+    let mut edge = row_count(rows)?;
     'rows: while edge > 0 {
         edge -= 1;
-        let span = span_of(row_at(rows, edge), row_part);
-        add_uses(
-            &mut first,
-            &mut links,
-            part(files, span.start, span.end),
-            edge,
-        )?;
+        let edge_files = files_of(files, rows, row_part, edge as usize);
+        count_uses(&mut counts, &mut marks, edge_files, edge)?;
     }
-    Ok(Uses { first, links })
+    Ok(counts)
+}
+
+// How many edges there are.
+fn row_count(rows: &[EdgeRow]) -> Result<u32, AllocError>
+    ensures { IfOk result (λ count. count ≡ length rows.now) }
+{
+    match u32::try_from(rows.len()) {
+        Ok(count) => Ok(count),
+        Err(_) => Err(AllocError),
+    }
+}
+
+// The files in this part of an edge.
+fn files_of<'a>(
+    files: &'a [FileNo],
+    rows: &[EdgeRow],
+    row_part: RowPart,
+    edge: usize,
+) -> &'a [FileNo]
+    requires edge { edge < length rows.now }
+    requires rows { AllByRecursion (λ row. IsWithin (span_of row_part row) (length files.now))
+        rows.now }
+    ensures { (row : EdgeRow) × (slice_get rows.now edge ≡ Some row)
+        × (result.now ≡ within files.now (span_of row_part row)) }
+{
+    let span = span_of(row_at(rows, edge), row_part);
+    part(files, span.start, span.end)
 }
 
 // Where this part of an edge is.
@@ -120,97 +134,167 @@ fn span_of(row: EdgeRow, row_part: RowPart) -> Span
     }
 }
 
-// Prepends an edge to the uses of these files.
-fn add_uses(
-    first: &mut Vec<usize>,
-    links: &mut Vec<Link>,
+// Counts an edge among the users of these files.
+fn count_uses(
+    counts: &mut Vec<u32>,
+    marks: &mut Vec<u32>,
     files: &[FileNo],
-    edge: usize,
+    edge: u32,
 ) -> Result<(), AllocError>
-    requires { AreNumbers (length first.old.items) files.now }
-    ensures count { length first.new.items ≡ length first.old.items }
-    ensures uses { OnOk result ((uses : ℕ → List ℕ) → AreUses first.old.items links.old.items uses
-        → AreUses first.new.items links.new.items (plus_uses files.now edge uses)) }
+    requires files { AreNumbers (length counts.old.items) files.now }
+    requires marks { length marks.old.items ≡ length counts.old.items }
+    requires fits { edge + 1 < 2 ^ 32 }
+    ensures count { length counts.new.items ≡ length counts.old.items }
+    ensures marks { length marks.new.items ≡ length marks.old.items }
+    ensures uses { OnOk result ((uses : ℕ → List ℕ)
+        → AreCounted counts.old.items marks.old.items uses
+        → AreCounted counts.new.items marks.new.items (plus_uses files.now edge uses)) }
 {
     'files: for file in files {
-        add_use(first, links, *file, edge)?;
+        count_use(counts, marks, *file, edge)?;
     }
     Ok(())
 }
 
-// Prepends an edge to the uses of a file, unless it is the first of them.
-fn add_use(
-    first: &mut Vec<usize>,
-    links: &mut Vec<Link>,
+// Counts an edge among the users of a file, once.
+fn count_use(
+    counts: &mut Vec<u32>,
+    marks: &mut Vec<u32>,
     file: FileNo,
-    edge: usize,
+    edge: u32,
 ) -> Result<(), AllocError>
-    requires { file.0 < length first.old.items }
-    ensures count { length first.new.items ≡ length first.old.items }
-    ensures uses { OnOk result ((uses : ℕ → List ℕ) → AreUses first.old.items links.old.items uses
-        → AreUses first.new.items links.new.items (plus_use file.0 edge uses)) }
+    requires file { file.0 < length counts.old.items }
+    requires marks { length marks.old.items ≡ length counts.old.items }
+    requires fits { edge + 1 < 2 ^ 32 }
+    ensures count { length counts.new.items ≡ length counts.old.items }
+    ensures marks { length marks.new.items ≡ length marks.old.items }
+    ensures uses { OnOk result ((uses : ℕ → List ℕ)
+        → AreCounted counts.old.items marks.old.items uses
+        → AreCounted counts.new.items marks.new.items (plus_use file.0 edge uses)) }
 {
-    let next = first[file.0];
-    if is_of(link_at(links, next), edge) {
+    if mark(marks, file, edge) {
         return Ok(());
     }
-    links.push(Link { edge, next })?;
-    first[file.0] = links.as_slice().len();
+    counts[file.0] = counts[file.0].checked_add(1).ok_or(AllocError)?;
     Ok(())
 }
 
-// Whether this is a use by the edge.
-fn is_of(link: Option<Link>, edge: usize) -> bool
-    ensures { result ≡ is_of link edge }
+// Marks a file with an edge that uses it; whether it had that mark. A mark is one more than the
+// number of an edge, and 0 is that of no edge.
+fn mark(marks: &mut Vec<u32>, file: FileNo, edge: u32) -> bool
+    requires file { file.0 < length marks.old.items }
+    requires fits { edge + 1 < 2 ^ 32 }
+    ensures count { length marks.new.items ≡ length marks.old.items }
+    ensures known { (uses : ℕ → List ℕ) → AreMarks marks.old.items uses
+        → result ≡ starts_with edge (uses file.0) }
+    ensures marks { (uses : ℕ → List ℕ) → AreMarks marks.old.items uses
+        → AreMarks marks.new.items (plus_use file.0 edge uses) }
 {
-    match link {
-        Some(link) => link.edge == edge,
-        None => false,
+    let known = marks[file.0] == edge + 1;
+    marks[file.0] = edge + 1;
+    known
+}
+
+// Makes each count the sum of those up to it, and returns the sum of all.
+fn add_up(counts: &mut Vec<u32>) -> Result<u32, AllocError>
+    ensures count { length counts.new.items ≡ length counts.old.items }
+    ensures ends { OnOk result ((uses : ℕ → List ℕ) → AreCounts counts.old.items uses
+        → AreEnds counts.new.items uses) }
+    ensures sum { IfOk result (λ sum. (uses : ℕ → List ℕ) → AreCounts counts.old.items uses
+        → sum ≡ users_before uses (length counts.old.items)) }
+{
+    let mut sum = 0_u32;
+    'counts: for count in counts.iter_mut() {
+        sum = sum.checked_add(*count).ok_or(AllocError)?;
+        *count = sum;
+    }
+    Ok(sum)
+}
+
+// The users of each file before its end; the ends become the starts. Edges are taken from the last
+// one on, each in front of those that stand there.
+fn placed_users(
+    alloc: Global,
+    places: &mut Vec<u32>,
+    user_count: u32,
+    files: &[FileNo],
+    rows: &[EdgeRow],
+    row_part: RowPart,
+) -> Result<Vec<EdgeNo>, AllocError>
+    requires files { AreNumbers (length places.old.items) files.now }
+    requires rows { AllByRecursion (λ row. IsWithin (span_of row_part row) (length files.now))
+        rows.now }
+    requires ends { AreEnds places.old.items (using_edges files.now row_part 0 rows.now) }
+    requires sum { user_count ≡ users_before (using_edges files.now row_part 0 rows.now)
+        (length places.old.items) }
+    ensures count { length places.new.items ≡ length places.old.items }
+    ensures users { IfOk result (λ edges. AreParts places.new.items (numbers_of edges.items)
+        (using_edges files.now row_part 0 rows.now)) }
+{
+    let mut marks = vec![in alloc; 0_u32; places.as_slice().len()]?;
+    let mut edges = vec![in alloc; EdgeNo(0); user_count as usize]?;
+    let mut edge = row_count(rows)?;
+    'rows: while edge > 0 {
+        edge -= 1;
+        let edge_files = files_of(files, rows, row_part, edge as usize);
+        place_uses(places, &mut marks, &mut edges, edge_files, edge);
+    }
+    Ok(edges)
+}
+
+// Puts an edge in front of the users of these files.
+fn place_uses(
+    places: &mut Vec<u32>,
+    marks: &mut Vec<u32>,
+    edges: &mut Vec<EdgeNo>,
+    files: &[FileNo],
+    edge: u32,
+)
+    requires files { AreNumbers (length places.old.items) files.now }
+    requires marks { length marks.old.items ≡ length places.old.items }
+    requires fits { edge + 1 < 2 ^ 32 }
+    requires room { (all uses : ℕ → List ℕ)
+        × ArePlaced all uses places.old.items marks.old.items edges.old.items
+        × HaveRoom all (plus_uses files.now edge uses) }
+    ensures count { length places.new.items ≡ length places.old.items }
+    ensures marks { length marks.new.items ≡ length marks.old.items }
+    ensures uses { (all uses : ℕ → List ℕ)
+        → ArePlaced all uses places.old.items marks.old.items edges.old.items
+        → HaveRoom all (plus_uses files.now edge uses)
+        → ArePlaced all (plus_uses files.now edge uses) places.new.items marks.new.items
+        edges.new.items }
+{
+    'files: for file in files {
+        place_use(places, marks, edges, *file, edge);
     }
 }
 
-// The link there, counted from 1; `None` at 0.
-fn link_at(links: &[Link], at: usize) -> Option<Link>
-    ensures { result ≡ link_at links.now at }
+// Puts an edge in front of the users of a file, once.
+fn place_use(
+    places: &mut Vec<u32>,
+    marks: &mut Vec<u32>,
+    edges: &mut Vec<EdgeNo>,
+    file: FileNo,
+    edge: u32,
+)
+    requires file { file.0 < length places.old.items }
+    requires marks { length marks.old.items ≡ length places.old.items }
+    requires fits { edge + 1 < 2 ^ 32 }
+    requires room { (all uses : ℕ → List ℕ)
+        × ArePlaced all uses places.old.items marks.old.items edges.old.items
+        × HaveRoom all (plus_use file.0 edge uses) }
+    ensures count { length places.new.items ≡ length places.old.items }
+    ensures marks { length marks.new.items ≡ length marks.old.items }
+    ensures uses { (all uses : ℕ → List ℕ)
+        → ArePlaced all uses places.old.items marks.old.items edges.old.items
+        → HaveRoom all (plus_use file.0 edge uses)
+        → ArePlaced all (plus_use file.0 edge uses) places.new.items marks.new.items
+        edges.new.items }
 {
-    if at == 0 {
-        return None;
+    if mark(marks, file, edge) {
+        return;
     }
-    match links.get(at - 1) {
-        Some(link) => Some(*link),
-        None => None,
-    }
-}
-
-// The users of each file, of the uses from its first link on.
-fn users_in_order(alloc: Global, first: &[usize], links: &[Link]) -> Result<Users, AllocError>
-    requires { (uses : ℕ → List ℕ) × AreUses first.now links.now uses }
-    ensures { IfOk result (λ users. (uses : ℕ → List ℕ) → AreUses first.now links.now uses
-        → HoldUsers (length first.now) users.spans.items (numbers_of users.edges.items) uses) }
-{
-    let mut spans = Vec::with_capacity(alloc, first.len())?;
-    let mut edges = Vec::with_capacity(alloc, links.len())?;
-    'files: for at in first {
-        let start = edges.as_slice().len();
-        push_uses(&mut edges, links, *at)?;
-        spans.push(Span {
-            start,
-            end: edges.as_slice().len(),
-        })?;
-    }
-    Ok(Users { spans, edges })
-}
-
-// Appends the edges from this link on.
-fn push_uses(edges: &mut Vec<EdgeNo>, links: &[Link], at: usize) -> Result<(), AllocError>
-    requires { IsSomeChain links.now at }
-    ensures { OnOk result ((uses : List ℕ) → IsChain links.now at uses
-        → numbers_of edges.new.items ≡ numbers_of edges.old.items ++ uses) }
-{
-    let mut next = at;
-    'uses: while let Some(link) = link_at(links, next) {
-        edges.push(EdgeNo(link.edge))?;
-        next = link.next;
-    }
-    Ok(())
+    let place = places[file.0] - 1;
+    places[file.0] = place;
+    edges[place as usize] = EdgeNo(edge as usize);
 }

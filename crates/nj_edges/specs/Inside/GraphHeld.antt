@@ -22,6 +22,6 @@ pub record GraphIsHeld (files : List (List ℕ)) (makers : List (Option ℕ)) (o
   pub named : AreNamed (length files) outputs inputs validations
   pub acyclic : IsAcyclic (makers_of_inputs (edges_of files outputs inputs validations rows)) (length rows)
   pub roots_are : AreFiles files roots (roots_of (edges_of files outputs inputs validations rows))
-  pub users_are : HoldUsers (length files) users.spans.items (numbers_of users.edges.items) (using_edges inputs Inputs 0 rows)
-  pub validation_users_are : HoldUsers (length files) validation_users.spans.items (numbers_of validation_users.edges.items)
+  pub users_are : HoldUsers (length files) users.starts.items (numbers_of users.edges.items) (using_edges inputs Inputs 0 rows)
+  pub validation_users_are : HoldUsers (length files) validation_users.starts.items (numbers_of validation_users.edges.items)
       (using_edges validations Validations 0 rows)

@@ -1,15 +1,14 @@
 -- How the users of files are held and found.
-use Rattle.std.specs.Prelude.{◌≡◌, ℕ, zero, suc, ◌<◌, ◌==◌, Bool, false, if◌then◌else◌, Option, None, Some, List, [], ◌∷◌, map, length}
-use Rattle.std.specs.Prelude.{slice_get, slice_index_or, slice_range}
+use Rattle.std.specs.Prelude.{◌≡◌, ℕ, zero, suc, ◌+◌, ◌<◌, ◌≤◌, ◌==◌, Bool, false, if◌then◌else◌, List, [], ◌∷◌, map, length}
+use Rattle.std.specs.Prelude.{slice_index_or, slice_range}
 use Rattle.nj_edges.specs.declared.files.FileNo.{FileNo}
 use Rattle.nj_edges.specs.declared.edges.EdgeNo.{EdgeNo}
 use Rattle.nj_edges.specs.declared.edges.EdgeRow.{EdgeRow}
 use Rattle.nj_edges.specs.declared.edges.Span.{Span}
-use Rattle.nj_edges.specs.declared.users.Link.{Link}
 use Rattle.nj_edges.specs.declared.users.RowPart.{RowPart}
 use Rattle.nj_edges.specs.declared.users.RowPart.TheVariants.{Inputs, Validations}
 use Rattle.nj_edges.specs.Edges.{edges_from}
-use Rattle.nj_edges.specs.Inside.EdgesHeld.{IsWithin, has_number, within}
+use Rattle.nj_edges.specs.Inside.EdgesHeld.{has_number, within}
 
 abbrev pub span_of : RowPart → EdgeRow → Span
 span_of Inputs row = row.inputs
@@ -24,49 +23,74 @@ numbers_of edges = map (λ e. e.0) edges
 
 -- ---- as one list
 
--- the span has the users of a file
-pub record IsPart (numbers : List ℕ) (span : Span) (users : List ℕ) : Type 0 where
-  pub inside : IsWithin span (length numbers)
-  pub users_are : slice_range numbers span.start span.end ≡ users
+-- the part between two places has the users of a file
+pub record IsPart (numbers : List ℕ) (start end : ℕ) (users : List ℕ) : Type 0 where
+  pub rises : start ≤ end
+  pub ends : end ≤ length numbers
+  pub users_are : slice_range numbers start end ≡ users
 
-pub record HoldUsers (count : ℕ) (spans : List Span) (numbers : List ℕ) (users : ℕ → List ℕ) : Type 0 where
-  pub count_is : length spans ≡ count
-  pub parts_are : (n : ℕ) (span : Span) → slice_get spans n ≡ Some span → IsPart numbers span (users n)
+-- those of each file stand between its start and that of the next one
+abbrev pub AreParts : (starts numbers : List ℕ) → (users : ℕ → List ℕ) → Type 0
+AreParts starts numbers users = (n : ℕ) → n + 1 < length starts → IsPart numbers (slice_index_or starts n 0) (slice_index_or starts (n + 1) 0) (users n)
 
--- ---- linked, while they are found
+pub record HoldUsers (count : ℕ) (starts numbers : List ℕ) (users : ℕ → List ℕ) : Type 0 where
+  pub count_is : length starts ≡ count + 1
+  pub parts_are : AreParts starts numbers users
 
--- a link, counted from 1
-abbrev pub link_at : List Link → (at : ℕ) → Option Link
-link_at links zero = None
-link_at links (suc k) = slice_get links k
+-- ---- the uses that were seen, while edges are taken from the last one on
 
-pub record IsLink (links : List Link) (at edge next : ℕ) : Type 0 where
-  pub here : link_at links at ≡ Some (record { edge = edge; next = next })
-  pub falls : next < at
-
--- from the link at `at` on, the links lead to these edges
-abbrev pub IsChain : List Link → (at : ℕ) → List ℕ → Type 0
-IsChain links at [] = at ≡ 0
-IsChain links at (e ∷ es) = (next : ℕ) × IsLink links at e next × IsChain links next es
-
-abbrev pub IsSomeChain : List Link → (at : ℕ) → Type 0
-IsSomeChain links at = (uses : List ℕ) × IsChain links at uses
-
--- from the first link of each file they lead to its users
-abbrev pub AreUses : (first : List ℕ) → List Link → (uses : ℕ → List ℕ) → Type 0
-AreUses first links uses = (n : ℕ) → n < length first → IsChain links (slice_index_or first n 0) (uses n)
-
-abbrev pub is_of : Option Link → (edge : ℕ) → Bool
-is_of None edge = false
-is_of (Some link) edge = link.edge == edge
+abbrev pub starts_with : (edge : ℕ) → List ℕ → Bool
+starts_with edge [] = false
+starts_with edge (e ∷ es) = e == edge
 
 -- the edges with one in front, unless it is the first already
 abbrev pub with_front : (edge : ℕ) → List ℕ → List ℕ
-with_front edge [] = edge ∷ []
-with_front edge (e ∷ es) = if e == edge then e ∷ es else edge ∷ e ∷ es
+with_front edge edges = if starts_with edge edges then edges else edge ∷ edges
 
 abbrev pub plus_use : (file edge : ℕ) → (uses : ℕ → List ℕ) → ℕ → List ℕ
 plus_use file edge uses n = if n == file then with_front edge (uses n) else uses n
 
 abbrev pub plus_uses : List FileNo → (edge : ℕ) → (uses : ℕ → List ℕ) → ℕ → List ℕ
 plus_uses files edge uses n = if has_number n files then with_front edge (uses n) else uses n
+
+-- ---- counted
+
+-- the mark of a file that these edges use: one more than the first of them
+abbrev pub mark_of : List ℕ → ℕ
+mark_of [] = 0
+mark_of (e ∷ es) = e + 1
+
+abbrev pub AreMarks : (marks : List ℕ) → (uses : ℕ → List ℕ) → Type 0
+AreMarks marks uses = (n : ℕ) → n < length marks → slice_index_or marks n 0 ≡ mark_of (uses n)
+
+abbrev pub AreCounts : (counts : List ℕ) → (uses : ℕ → List ℕ) → Type 0
+AreCounts counts uses = (n : ℕ) → n < length counts → slice_index_or counts n 0 ≡ length (uses n)
+
+pub record AreCounted (counts marks : List ℕ) (uses : ℕ → List ℕ) : Type 0 where
+  pub counts_are : AreCounts counts uses
+  pub marks_are : AreMarks marks uses
+
+-- how many users the files before one have
+abbrev pub users_before : (uses : ℕ → List ℕ) → (file : ℕ) → ℕ
+users_before uses zero = 0
+users_before uses (suc n) = users_before uses n + length (uses n)
+
+abbrev pub AreEnds : (ends : List ℕ) → (uses : ℕ → List ℕ) → Type 0
+AreEnds ends uses = (n : ℕ) → n < length ends → slice_index_or ends n 0 ≡ users_before uses (n + 1)
+
+-- ---- placed
+
+abbrev pub number_at : List EdgeNo → (place : ℕ) → ℕ
+number_at edges place = (slice_index_or edges place (record { 0 = 0 })).0
+
+-- some of all uses stand at their places: those of each file from a place up to where its users end
+pub record ArePlaced (all uses : ℕ → List ℕ) (places marks : List ℕ) (edges : List EdgeNo) : Type 0 where
+  pub count_is : length edges ≡ users_before all (length places)
+  pub starts_are : (n : ℕ) → n < length places → users_before all n ≤ slice_index_or places n 0
+  pub ends_are : (n : ℕ) → n < length places → slice_index_or places n 0 + length (uses n) ≡ users_before all (n + 1)
+  pub edges_are : (n i : ℕ) → n < length places → i < length (uses n) → number_at edges (slice_index_or places n 0 + i) ≡ slice_index_or (uses n) i 0
+  pub marks_are : AreMarks marks uses
+
+-- no file has more of these uses than of all
+abbrev pub HaveRoom : (all uses : ℕ → List ℕ) → Type 0
+HaveRoom all uses = (n : ℕ) → length (uses n) ≤ length (all n)

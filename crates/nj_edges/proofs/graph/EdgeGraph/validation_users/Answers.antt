@@ -1,22 +1,22 @@
-use Rattle.std.proofs.Common.{◌∙◌, ◌<◌, length, subst, sym}
+use Rattle.std.proofs.Common.{◌∙◌, ◌+◌, ◌<◌, ℕ, List, length, subst, sym}
 use Rattle.nj_edges.specs.Edges.{EdgePaths, is_among}
 use Rattle.nj_edges.specs.Files.{path_at}
 use Rattle.nj_edges.specs.Inside.UsersHeld.{using_edges}
 use Rattle.nj_edges.specs.declared.users.RowPart.TheVariants.{Validations}
-use Rattle.nj_edges.proofs.GraphUsers.{as-many, spans-below, users-known, validation-paths}
+use Rattle.nj_edges.proofs.GraphUsers.{parts-lent, starts-below, users-known, validation-paths}
 use Rattle.nj_edges.proofs.graph.EdgeGraph.validation_users.Goals as goal
 
 pub users_at-requires-clause-held : goal.users_at-requires-clause-held
-users_at-requires-clause-held c = (using_edges c.self.inside.validations.items Validations 0 c.self.inside.rows.items, (as-many _ _ c.deref.result.now _ c.deref-2.result.now _ c.deref.ensures.value c.deref-2.ensures.value c.self.invariant.validation_users_are))
+users_at-requires-clause-held c = (using_edges c.self.inside.validations.items Validations 0 c.self.inside.rows.items, (parts-lent _ _ c.deref.result.now _ c.deref-2.result.now _ c.deref.ensures.value c.deref-2.ensures.value c.self.invariant.validation_users_are))
 
 pub users_at-requires-clause-file : goal.users_at-requires-clause-file
 users_at-requires-clause-file c =
-    subst (λ ss. c.args.file.0 < length ss) (sym c.deref.ensures.value)
-    (spans-below _ _ _ _ _ _ _ c.self.invariant.edges_are c.args.self.now c.self.view_is c.args.file c.requires _ _ _ c.self.invariant.validation_users_are)
+    subst (λ (ss : List ℕ). c.args.file.0 + 1 < length ss) (sym c.deref.ensures.value)
+    (starts-below _ _ _ _ _ _ _ c.self.invariant.edges_are c.args.self.now c.self.view_is c.args.file c.requires _ _ _ c.self.invariant.validation_users_are)
 
 pub returns-clause-users : goal.returns-clause-users
 returns-clause-users c =
-    c.users_at.ensures (using_edges c.self.inside.validations.items Validations 0 c.self.inside.rows.items) (as-many _ _ c.deref.result.now _ c.deref-2.result.now _ c.deref.ensures.value c.deref-2.ensures.value c.self.invariant.validation_users_are)
+    c.users_at.ensures (using_edges c.self.inside.validations.items Validations 0 c.self.inside.rows.items) (parts-lent _ _ c.deref.result.now _ c.deref-2.result.now _ c.deref.ensures.value c.deref-2.ensures.value c.self.invariant.validation_users_are)
     ∙ validation-paths _ _ _ _ _ _ _ c.self.invariant.edges_are c.args.self.now c.self.view_is c.args.file c.requires
 
 pub returns-clause-known : goal.returns-clause-known
