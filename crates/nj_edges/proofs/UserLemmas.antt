@@ -38,13 +38,6 @@ plus-other f edge uses n apart = by (eqb_tells n f)
     by (inl same) = absurd (apart same.1)
     by (inr differs) = ap (λ b. cond b (with_front edge (uses n)) (uses n)) differs.0
 
-plus-none : (f edge : ℕ) (uses : ℕ → List ℕ) → starts_with edge (uses f) ≡ true → plus_use f edge uses ≡ uses
-plus-none f edge uses known = fun_ext (λ n. by n (eqb_tells n f))
-  where
-    by : (n : ℕ) → ((n == f) ≡ true × (n ≡ f)) ⊎ ((n == f) ≡ false × (n ≢ f)) → plus_use f edge uses n ≡ uses n
-    by n (inl same) = ap (λ b. cond b (with_front edge (uses n)) (uses n)) same.0 ∙ ap (λ b. cond b (uses n) (edge ∷ uses n)) (ap (λ k. starts_with edge (uses k)) same.1 ∙ known)
-    by n (inr apart) = plus-other f edge uses n apart.1
-
 -- ---- the files of an edge
 
 pub plus-next : (files : List FileNo) (i : ℕ) (d : FileNo) (edge : ℕ) (uses : ℕ → List ℕ) → i < length files → plus_use (get_or files i d).0 edge (plus_uses (take i files) edge uses) ≡ plus_uses (take (i + 1) files) edge uses

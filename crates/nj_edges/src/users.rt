@@ -136,19 +136,17 @@ fn span_of(row: EdgeRow, row_part: RowPart) -> Span
 
 // Counts an edge among the users of these files.
 fn count_uses(
-    counts: &mut Vec<u32>,
-    marks: &mut Vec<u32>,
+    counts: &mut [u32],
+    marks: &mut [u32],
     files: &[FileNo],
     edge: u32,
 ) -> Result<(), AllocError>
-    requires files { AreNumbers (length counts.old.items) files.now }
-    requires marks { length marks.old.items ≡ length counts.old.items }
+    requires files { AreNumbers (length counts.old) files.now }
+    requires marks { length marks.old ≡ length counts.old }
     requires fits { edge + 1 < 2 ^ 32 }
-    ensures count { length counts.new.items ≡ length counts.old.items }
-    ensures marks { length marks.new.items ≡ length marks.old.items }
-    ensures uses { OnOk result ((uses : ℕ → List ℕ)
-        → AreCounted counts.old.items marks.old.items uses
-        → AreCounted counts.new.items marks.new.items (plus_uses files.now edge uses)) }
+    ensures { OnOk result ((uses : ℕ → List ℕ)
+        → AreCounted counts.old marks.old uses
+        → AreCounted counts.new marks.new (plus_uses files.now edge uses)) }
 {
     'files: for file in files {
         count_use(counts, marks, *file, edge)?;
@@ -158,19 +156,17 @@ fn count_uses(
 
 // Counts an edge among the users of a file, once.
 fn count_use(
-    counts: &mut Vec<u32>,
-    marks: &mut Vec<u32>,
+    counts: &mut [u32],
+    marks: &mut [u32],
     file: FileNo,
     edge: u32,
 ) -> Result<(), AllocError>
-    requires file { file.0 < length counts.old.items }
-    requires marks { length marks.old.items ≡ length counts.old.items }
+    requires file { file.0 < length counts.old }
+    requires marks { length marks.old ≡ length counts.old }
     requires fits { edge + 1 < 2 ^ 32 }
-    ensures count { length counts.new.items ≡ length counts.old.items }
-    ensures marks { length marks.new.items ≡ length marks.old.items }
-    ensures uses { OnOk result ((uses : ℕ → List ℕ)
-        → AreCounted counts.old.items marks.old.items uses
-        → AreCounted counts.new.items marks.new.items (plus_use file.0 edge uses)) }
+    ensures { OnOk result ((uses : ℕ → List ℕ)
+        → AreCounted counts.old marks.old uses
+        → AreCounted counts.new marks.new (plus_use file.0 edge uses)) }
 {
     if mark(marks, file, edge) {
         return Ok(());
@@ -181,14 +177,13 @@ fn count_use(
 
 // Marks a file with an edge that uses it; whether it had that mark. A mark is one more than the
 // number of an edge, and 0 is that of no edge.
-fn mark(marks: &mut Vec<u32>, file: FileNo, edge: u32) -> bool
-    requires file { file.0 < length marks.old.items }
+fn mark(marks: &mut [u32], file: FileNo, edge: u32) -> bool
+    requires file { file.0 < length marks.old }
     requires fits { edge + 1 < 2 ^ 32 }
-    ensures count { length marks.new.items ≡ length marks.old.items }
-    ensures known { (uses : ℕ → List ℕ) → AreMarks marks.old.items uses
+    ensures known { (uses : ℕ → List ℕ) → AreMarks marks.old uses
         → result ≡ starts_with edge (uses file.0) }
-    ensures marks { (uses : ℕ → List ℕ) → AreMarks marks.old.items uses
-        → AreMarks marks.new.items (plus_use file.0 edge uses) }
+    ensures marks { (uses : ℕ → List ℕ) → AreMarks marks.old uses
+        → AreMarks marks.new (plus_use file.0 edge uses) }
 {
     let known = marks[file.0] == edge + 1;
     marks[file.0] = edge + 1;
@@ -196,12 +191,11 @@ fn mark(marks: &mut Vec<u32>, file: FileNo, edge: u32) -> bool
 }
 
 // Makes each count the sum of those up to it, and returns the sum of all.
-fn add_up(counts: &mut Vec<u32>) -> Result<u32, AllocError>
-    ensures count { length counts.new.items ≡ length counts.old.items }
-    ensures ends { OnOk result ((uses : ℕ → List ℕ) → AreCounts counts.old.items uses
-        → AreEnds counts.new.items uses) }
-    ensures sum { IfOk result (λ sum. (uses : ℕ → List ℕ) → AreCounts counts.old.items uses
-        → sum ≡ users_before uses (length counts.old.items)) }
+fn add_up(counts: &mut [u32]) -> Result<u32, AllocError>
+    ensures ends { OnOk result ((uses : ℕ → List ℕ) → AreCounts counts.old uses
+        → AreEnds counts.new uses) }
+    ensures sum { IfOk result (λ sum. (uses : ℕ → List ℕ) → AreCounts counts.old uses
+        → sum ≡ users_before uses (length counts.old)) }
 {
     let mut sum = 0_u32;
     'counts: for count in counts.iter_mut() {
@@ -211,27 +205,26 @@ fn add_up(counts: &mut Vec<u32>) -> Result<u32, AllocError>
     Ok(sum)
 }
 
-// The users of each file before its end; the ends become the starts. Edges are taken from the last
-// one on, each in front of those that stand there.
+// Puts the users of each file in front of its end, which so becomes its start: edges are taken from
+// the last one on.
 fn placed_users(
     alloc: Global,
-    places: &mut Vec<u32>,
+    places: &mut [u32],
     user_count: u32,
     files: &[FileNo],
     rows: &[EdgeRow],
     row_part: RowPart,
 ) -> Result<Vec<EdgeNo>, AllocError>
-    requires files { AreNumbers (length places.old.items) files.now }
+    requires files { AreNumbers (length places.old) files.now }
     requires rows { AllByRecursion (λ row. IsWithin (span_of row_part row) (length files.now))
         rows.now }
-    requires ends { AreEnds places.old.items (using_edges files.now row_part 0 rows.now) }
+    requires ends { AreEnds places.old (using_edges files.now row_part 0 rows.now) }
     requires sum { user_count ≡ users_before (using_edges files.now row_part 0 rows.now)
-        (length places.old.items) }
-    ensures count { length places.new.items ≡ length places.old.items }
-    ensures users { IfOk result (λ edges. AreParts places.new.items (numbers_of edges.items)
+        (length places.old) }
+    ensures { IfOk result (λ edges. AreParts places.new (numbers_of edges.items)
         (using_edges files.now row_part 0 rows.now)) }
 {
-    let mut marks = vec![in alloc; 0_u32; places.as_slice().len()]?;
+    let mut marks = vec![in alloc; 0_u32; places.len()]?;
     let mut edges = vec![in alloc; EdgeNo(0); user_count as usize]?;
     let mut edge = row_count(rows)?;
     'rows: while edge > 0 {
@@ -244,25 +237,22 @@ fn placed_users(
 
 // Puts an edge in front of the users of these files.
 fn place_uses(
-    places: &mut Vec<u32>,
-    marks: &mut Vec<u32>,
-    edges: &mut Vec<EdgeNo>,
+    places: &mut [u32],
+    marks: &mut [u32],
+    edges: &mut [EdgeNo],
     files: &[FileNo],
     edge: u32,
 )
-    requires files { AreNumbers (length places.old.items) files.now }
-    requires marks { length marks.old.items ≡ length places.old.items }
+    requires files { AreNumbers (length places.old) files.now }
+    requires marks { length marks.old ≡ length places.old }
     requires fits { edge + 1 < 2 ^ 32 }
     requires room { (all uses : ℕ → List ℕ)
-        × ArePlaced all uses places.old.items marks.old.items edges.old.items
+        × ArePlaced all uses places.old marks.old edges.old
         × HaveRoom all (plus_uses files.now edge uses) }
-    ensures count { length places.new.items ≡ length places.old.items }
-    ensures marks { length marks.new.items ≡ length marks.old.items }
-    ensures uses { (all uses : ℕ → List ℕ)
-        → ArePlaced all uses places.old.items marks.old.items edges.old.items
+    ensures { (all uses : ℕ → List ℕ)
+        → ArePlaced all uses places.old marks.old edges.old
         → HaveRoom all (plus_uses files.now edge uses)
-        → ArePlaced all (plus_uses files.now edge uses) places.new.items marks.new.items
-        edges.new.items }
+        → ArePlaced all (plus_uses files.now edge uses) places.new marks.new edges.new }
 {
     'files: for file in files {
         place_use(places, marks, edges, *file, edge);
@@ -270,26 +260,17 @@ fn place_uses(
 }
 
 // Puts an edge in front of the users of a file, once.
-fn place_use(
-    places: &mut Vec<u32>,
-    marks: &mut Vec<u32>,
-    edges: &mut Vec<EdgeNo>,
-    file: FileNo,
-    edge: u32,
-)
-    requires file { file.0 < length places.old.items }
-    requires marks { length marks.old.items ≡ length places.old.items }
+fn place_use(places: &mut [u32], marks: &mut [u32], edges: &mut [EdgeNo], file: FileNo, edge: u32)
+    requires file { file.0 < length places.old }
+    requires marks { length marks.old ≡ length places.old }
     requires fits { edge + 1 < 2 ^ 32 }
     requires room { (all uses : ℕ → List ℕ)
-        × ArePlaced all uses places.old.items marks.old.items edges.old.items
+        × ArePlaced all uses places.old marks.old edges.old
         × HaveRoom all (plus_use file.0 edge uses) }
-    ensures count { length places.new.items ≡ length places.old.items }
-    ensures marks { length marks.new.items ≡ length marks.old.items }
-    ensures uses { (all uses : ℕ → List ℕ)
-        → ArePlaced all uses places.old.items marks.old.items edges.old.items
+    ensures { (all uses : ℕ → List ℕ)
+        → ArePlaced all uses places.old marks.old edges.old
         → HaveRoom all (plus_use file.0 edge uses)
-        → ArePlaced all (plus_use file.0 edge uses) places.new.items marks.new.items
-        edges.new.items }
+        → ArePlaced all (plus_use file.0 edge uses) places.new marks.new edges.new }
 {
     if mark(marks, file, edge) {
         return;

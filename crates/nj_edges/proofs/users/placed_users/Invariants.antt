@@ -4,10 +4,9 @@ use Rattle.nj_edges.proofs.users.placed_users.Given as goal
 
 abbrev pub invariant-rows : goal.invariant-rows
 invariant-rows l = record {
-  count : length l.places.items ≡ length l.fn.places.items;
-  marks : length l.marks.items ≡ length l.fn.places.items;
+  marks : length l.marks.items ≡ length l.fn.places;
   within : l.edge ≤ length l.rows;
-  placed : ArePlaced (using_edges l.files l.row_part 0 l.rows) (using_edges l.files l.row_part l.edge (drop l.edge l.rows)) l.places.items l.marks.items l.edges.items;
+  placed : ArePlaced (using_edges l.files l.row_part 0 l.rows) (using_edges l.files l.row_part l.edge (drop l.edge l.rows)) l.places l.marks.items l.edges.items;
 }
 
 abbrev pub decreases-rows : goal.decreases-rows
