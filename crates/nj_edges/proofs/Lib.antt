@@ -1,4 +1,7 @@
 pub mod AddLemmas
+mod ChangeRows
+pub mod ChangeLaws
+pub mod ChangeLemmas
 pub mod CycleLemmas
 pub mod EdgeLemmas
 pub mod EndLemmas
@@ -10,6 +13,7 @@ pub mod JoinedLists
 pub mod JoiningLemmas
 pub mod ListLemmas
 pub mod NamedLemmas
+pub mod Passing
 pub mod RootLemmas
 pub mod StartLemmas
 pub mod StatedLemmas

@@ -1,6 +1,7 @@
 //! The files and edges of a graph of build statements, by their numbers.
 #![tactic(auto)]
 
+mod affected;
 mod edges;
 mod files;
 mod graph;
@@ -10,6 +11,7 @@ mod lists;
 mod roots;
 mod users;
 
+pub use affected::affected_law;
 pub use edges::{EdgeNo, Edges, Kind, KindEnds};
 pub use files::{FileNo, Files};
 pub use graph::{CycleEdge, EdgeGraph, Finished};
