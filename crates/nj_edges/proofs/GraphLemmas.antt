@@ -149,9 +149,9 @@ module _ (files : List (List ℕ)) (makers : List (Option ℕ)) (outputs inputs 
 pub on-edge : (edges : List EdgePaths) (e : ℕ) → IsLeastOnCycle (makers_of_inputs edges) e → (e < length edges) × IsLeastOnCycle (makers_of_inputs edges) e
 on-edge edges e least = (chain-below edges e e least.0, least)
 
-pub same-first : (makers : List (Option ℕ)) (inputs ins : List FileNo) (rows rs : List EdgeRow) (ms : List (Option ℕ)) (found first : Option ℕ) → ins ≡ inputs → rs ≡ rows → ms ≡ makers → found ≡ first
-    → IsFirstOnCycle (makers_in_rows ins rs ms) (length rs) found → IsFirstOnCycle (makers_in_rows inputs rows makers) (length rows) first
-same-first makers inputs ins rows rs ms found first i r m f h = rw (← i, ← r, ← m, ← f) h
+pub same-first : (makers : List (Option ℕ)) (inputs ins : List FileNo) (rows : List EdgeRow) (ms : List (Option ℕ)) (found first : Option ℕ) → ins ≡ inputs → ms ≡ makers → found ≡ first
+    → IsFirstOnCycle (makers_in_rows ins rows ms) (length rows) found → IsFirstOnCycle (makers_in_rows inputs rows makers) (length rows) first
+same-first makers inputs ins rows ms found first i m f h = rw (← i, ← m, ← f) h
 
 -- ---- one edge
 
@@ -227,8 +227,8 @@ module _ (files : List (List ℕ)) (makers : List (Option ℕ)) (outputs inputs 
   pub maker-at : (f : FileNo) → f.0 < length g.files → get_or makers f.0 None ≡ maker_of g.edges (path_at g.files f)
   maker-at f below = subst (λ (v : EdgeGraph). get_or makers f.0 None ≡ maker_of v.edges (path_at v.files f)) is (maker-path files makers outputs inputs validations rows held f (subst (λ (v : EdgeGraph). f.0 < length v.files) (sym is) below))
 
-  pub graph-makers : (ins : List FileNo) (rs : List EdgeRow) (ms : List (Option ℕ)) → ins ≡ inputs → rs ≡ rows → ms ≡ makers → makers_in_rows ins rs ms ≡ makers_of_inputs g.edges
-  graph-makers ins rs ms i r m = rw (i, r, m) (makers-by-paths files makers outputs inputs validations rows held ∙ ap (λ (v : EdgeGraph). makers_of_inputs v.edges) is)
+  pub graph-makers : (ins : List FileNo) (ms : List (Option ℕ)) → ins ≡ inputs → ms ≡ makers → makers_in_rows ins rows ms ≡ makers_of_inputs g.edges
+  graph-makers ins ms i m = rw (i, m) (makers-by-paths files makers outputs inputs validations rows held ∙ ap (λ (v : EdgeGraph). makers_of_inputs v.edges) is)
 
   pub maker-edge : (n e : ℕ) → get_or makers n None ≡ Some e → e < length g.edges
   maker-edge n e h = subst (λ (v : EdgeGraph). e < length v.edges) is (subst (λ m. e < m) (sym (length-map rows (edge_of files outputs inputs validations))) (maker-below files makers outputs inputs validations rows held n e h))

@@ -76,5 +76,5 @@ module _ (files : List (List ℕ)) (makers : List (Option ℕ)) (outputs inputs 
 pub parts-lent : (count : ℕ) (starts ss : List ℕ) (edges es : List EdgeNo) (uses : ℕ → List ℕ) → ss ≡ starts → es ≡ edges → HoldUsers count starts (numbers_of edges) uses → AreParts ss (numbers_of es) uses
 parts-lent count starts ss edges es uses s e held = rw (s, e) held.parts_are
 
-pub held-users : (count n : ℕ) (starts numbers : List ℕ) (part : RowPart) (fs files : List FileNo) (rs rows : List EdgeRow) → count ≡ n → fs ≡ files → rs ≡ rows → HoldUsers count starts numbers (using_edges fs part 0 rs) → HoldUsers n starts numbers (using_edges files part 0 rows)
-held-users count n starts numbers part fs files rs rows c f r held = rw (← c, ← f, ← r) held
+pub held-users : (count n : ℕ) (starts numbers : List ℕ) (part : RowPart) (fs files : List FileNo) (rows : List EdgeRow) → count ≡ n → fs ≡ files → HoldUsers count starts numbers (using_edges fs part 0 rows) → HoldUsers n starts numbers (using_edges files part 0 rows)
+held-users count n starts numbers part fs files rows c f held = rw (← c, ← f) held

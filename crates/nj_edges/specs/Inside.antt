@@ -5,4 +5,5 @@ pub mod FilesHeld
 pub mod GraphHeld
 pub mod JoiningHeld
 pub mod RootsHeld
+pub mod RowsHeld
 pub mod UsersHeld

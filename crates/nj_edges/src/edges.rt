@@ -9,6 +9,7 @@ ghost use Rattle.nj_edges.specs.EdgeTables.{no_files, EndWithin, with_output, wi
 
 use crate::files::{FileNo, Files};
 use crate::lists::after;
+use crate::rows::Rows;
 use nj_hash::HashKeys;
 use std::alloc::{AllocError, Global};
 use std::marker::Model;
@@ -71,7 +72,7 @@ pub struct Edges {
     pub(crate) outputs: Vec<FileNo>,
     pub(crate) inputs: Vec<FileNo>,
     pub(crate) validations: Vec<FileNo>,
-    pub(crate) rows: Vec<EdgeRow>,
+    pub(crate) rows: Rows,
     pub(crate) starts: OpenStarts,
 }
 
@@ -82,10 +83,10 @@ impl Model for Edges {
     ghost Value = { EdgeTable };
 
     ghost view = { λ e. table_of e.files e.outputs.items e.inputs.items e.validations.items
-        e.rows.items e.starts };
+        e.rows e.starts };
 
     ghost invariant = { λ e. TableIsHeld e.files e.makers.items e.outputs.items e.inputs.items
-        e.validations.items e.rows.items e.starts };
+        e.validations.items e.rows e.starts };
 }
 
 impl Edges {
@@ -99,7 +100,7 @@ impl Edges {
             outputs: Vec::new(alloc),
             inputs: Vec::new(alloc),
             validations: Vec::new(alloc),
-            rows: Vec::new(alloc),
+            rows: Rows::new(alloc),
             starts: OpenStarts {
                 outputs: 0,
                 inputs: 0,
@@ -121,7 +122,7 @@ impl Edges {
         if self.makers[file.0].is_some() {
             return Ok(false);
         }
-        self.makers[file.0] = Some(self.rows.as_slice().len());
+        self.makers[file.0] = Some(self.rows.count());
         self.outputs.push_reserved(file);
         Ok(true)
     }
@@ -146,7 +147,7 @@ impl Edges {
     {
         self.inputs.reserve(1)?;
         let file = name(&mut self.files, &mut self.makers, path)?;
-        if is_made_by(&self.makers, file, self.rows.as_slice().len()) {
+        if is_made_by(&self.makers, file, self.rows.count()) {
             return Ok(());
         }
         self.inputs.push_reserved(file);
@@ -189,7 +190,7 @@ impl Edges {
     pub fn edge_count(&self) -> usize
         ensures { result ≡ length self.now.edges }
     {
-        self.rows.as_slice().len()
+        self.rows.count()
     }
 
     /// The outputs that the edge that is being read has so far.

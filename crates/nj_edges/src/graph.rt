@@ -15,6 +15,7 @@ use crate::files::{FileNo, Files};
 use crate::inputs::InputMakers;
 use crate::lists::{first, part};
 use crate::roots::roots;
+use crate::rows::Rows;
 use crate::users::{RowPart, Users, users_at, users_of_files};
 use nj_cycles::{EdgeInputs, first_on_cycle};
 use std::alloc::{AllocError, Global};
@@ -28,7 +29,7 @@ pub struct EdgeGraph {
     pub(crate) outputs: Vec<FileNo>,
     pub(crate) inputs: Vec<FileNo>,
     pub(crate) validations: Vec<FileNo>,
-    pub(crate) rows: Vec<EdgeRow>,
+    pub(crate) rows: Rows,
     roots: Vec<FileNo>,
     users: Users,
     validation_users: Users,
@@ -43,11 +44,11 @@ impl Model for EdgeGraph {
 
     ghost view = { λ g. record {
       files = g.files;
-      edges = edges_of g.files g.outputs.items g.inputs.items g.validations.items g.rows.items;
+      edges = edges_of g.files g.outputs.items g.inputs.items g.validations.items g.rows;
     } };
 
     ghost invariant = { λ g. GraphIsHeld g.files g.makers.items g.outputs.items g.inputs.items
-        g.validations.items g.rows.items g.roots.items g.users g.validation_users };
+        g.validations.items g.rows g.roots.items g.users g.validation_users };
 }
 
 /// An edge on a dependency cycle.
@@ -74,7 +75,7 @@ impl EdgeGraph {
         ensures count { result ≡ length self.now.edges }
         ensures acyclic { IsAcyclic (makers_of_inputs self.now.edges) (length self.now.edges) }
     {
-        self.rows.as_slice().len()
+        self.rows.count()
     }
 
     /// How many files there are: the paths that edges name as outputs, inputs or validations, each
@@ -267,11 +268,11 @@ impl EdgeGraph {
 }
 
 // The row of an edge.
-pub(crate) fn row_at(rows: &[EdgeRow], edge: usize) -> EdgeRow
+pub(crate) fn row_at(rows: &Rows, edge: usize) -> EdgeRow
     requires { edge < length rows.now }
     ensures { slice_get rows.now edge ≡ Some result }
 {
-    rows[edge]
+    rows.row(edge)
 }
 
 // The kind of the input at an index, by where the kinds end.

@@ -3,17 +3,17 @@
 ghost use Rattle.std.specs.Prelude.{◌≡◌, ℕ, ◌<◌, ◌≤◌, Some, None, All, length, slice_index_or};
 ghost use Rattle.nj_edges.specs.Inside.EdgesHeld.{makers_in_rows};
 
-use crate::edges::EdgeRow;
 use crate::files::FileNo;
 use crate::graph::row_at;
 use crate::lists::part;
+use crate::rows::Rows;
 use nj_cycles::EdgeInputs;
 
 /// The inputs of all edges, and the edge that makes each file.
 #[derive(Clone, Copy)]
 pub(crate) struct InputMakers<'a> {
     pub(crate) inputs: &'a [FileNo],
-    pub(crate) rows: &'a [EdgeRow],
+    pub(crate) rows: &'a Rows,
     pub(crate) makers: &'a [Option<usize>],
     ghost rows_rise: { All (λ row. row.inputs.start ≤ row.inputs.end) rows.now },
     ghost rows_within: { All (λ row. row.inputs.end ≤ length inputs.now) rows.now },
@@ -28,7 +28,7 @@ impl<'a> EdgeInputs for InputMakers<'a> {
     ghost count = { λ i. length i.rows.now };
 
     fn edge_count(&self) -> usize {
-        self.rows.len()
+        self.rows.count()
     }
 
     fn maker_at(&self, edge: usize, index: usize) -> Option<Option<usize>> {

@@ -13,6 +13,7 @@ use crate::edges::{EdgeNo, EdgeRow, Edges, KindEnds, OpenStarts, Span, name};
 use crate::files::{FileNo, Files};
 use crate::graph::{EdgeGraph, Finished, row_at};
 use crate::lists::part;
+use crate::rows::Rows;
 use std::alloc::{AllocError, Global};
 use std::marker::Model;
 
@@ -33,7 +34,7 @@ pub struct JoiningEdges {
     outputs: Vec<FileNo>,
     inputs: Vec<FileNo>,
     validations: Vec<FileNo>,
-    rows: Vec<EdgeRow>,
+    rows: Rows,
     // for each file, the edge to which it was added as an output
     added_makers: Vec<Option<usize>>,
     added_outputs: Vec<FileNo>,
@@ -52,11 +53,11 @@ impl Model for JoiningEdges {
     ghost Value = { JoinTable };
 
     ghost view = { λ j. join_held j.files j.outputs.items j.inputs.items j.validations.items
-        j.rows.items j.added_outputs.items j.added_inputs.items j.added.items
+        j.rows j.added_outputs.items j.added_inputs.items j.added.items
         j.open_outputs j.open_inputs };
 
     ghost invariant = { λ j. JoinIsHeld j.files j.makers.items j.outputs.items j.inputs.items
-        j.validations.items j.rows.items j.added_makers.items j.added_outputs.items
+        j.validations.items j.rows j.added_makers.items j.added_outputs.items
         j.added_inputs.items j.added.items j.open_outputs j.open_inputs };
 }
 
@@ -75,7 +76,7 @@ impl EdgeGraph {
             ..
         } = self;
         let added_makers = no_makers(alloc, files.count())?;
-        let added = nothing_added(alloc, rows.as_slice().len())?;
+        let added = nothing_added(alloc, rows.count())?;
         Ok(JoiningEdges {
             files,
             makers,
@@ -150,7 +151,7 @@ impl JoiningEdges {
         if is_made(&self.makers, &self.added_makers, file) {
             return Ok(false);
         }
-        self.added_makers[file.0] = Some(self.rows.as_slice().len());
+        self.added_makers[file.0] = Some(self.rows.count());
         self.added_outputs.push_reserved(file);
         Ok(true)
     }
@@ -325,7 +326,7 @@ fn add_makers(makers: &mut Vec<Option<usize>>, added: &[Option<usize>])
 struct Stated<'a> {
     outputs: &'a [FileNo],
     inputs: &'a [FileNo],
-    rows: &'a [EdgeRow],
+    rows: &'a Rows,
 }
 
 // The outputs and inputs that were added to edges, and where those of each edge are.
@@ -341,7 +342,7 @@ struct Added<'a> {
 struct JoinedLists {
     outputs: Vec<FileNo>,
     inputs: Vec<FileNo>,
-    rows: Vec<EdgeRow>,
+    rows: Rows,
 }
 
 // The edges with what was added to them.
@@ -365,16 +366,16 @@ fn joined_lists(
     ensures inputs { IfOk result (λ lists. lists.inputs.items
         ≡ flat (joined_with (joined_inputs stated.entry.inputs.now added.entry.inputs.now)
         stated.entry.rows.now added.entry.edges.now)) }
-    ensures rows { IfOk result (λ lists. lists.rows.items
+    ensures rows { IfOk result (λ lists. lists.rows
         ≡ joined_rows stated.entry.outputs.now stated.entry.inputs.now added.entry.outputs.now
         added.entry.inputs.now 0 0 stated.entry.rows.now added.entry.edges.now) }
 {
     let mut lists = JoinedLists {
         outputs: Vec::with_capacity(alloc, stated.outputs.len())?,
         inputs: Vec::with_capacity(alloc, stated.inputs.len())?,
-        rows: Vec::with_capacity(alloc, stated.rows.len())?,
+        rows: Rows::with_capacity(alloc, stated.rows.count())?,
     };
-    'rows: for edge in 0..stated.rows.len() {
+    'rows: for edge in 0..stated.rows.count() {
         let row = row_at(stated.rows, edge);
         let found = found_at(added.edges, edge);
         push_edge(&mut lists, stated, added, row, found)?;
@@ -398,7 +399,7 @@ fn push_edge(
         ++ joined_outputs stated.entry.outputs.now added.entry.outputs.now row found) }
     ensures inputs { OnOk result (lists.new.inputs.items ≡ lists.old.inputs.items
         ++ joined_inputs stated.entry.inputs.now added.entry.inputs.now row found) }
-    ensures rows { OnOk result (lists.new.rows.items ≡ lists.old.rows.items
+    ensures rows { OnOk result (lists.new.rows ≡ lists.old.rows
         ++ joined_row stated.entry.outputs.now stated.entry.inputs.now added.entry.outputs.now
         added.entry.inputs.now (length lists.old.outputs.items) (length lists.old.inputs.items)
         row found ∷ []) }

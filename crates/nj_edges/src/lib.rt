@@ -9,6 +9,7 @@ mod inputs;
 mod joining;
 mod lists;
 mod roots;
+mod rows;
 mod users;
 
 pub use affected::affected_law;

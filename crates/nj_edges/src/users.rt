@@ -9,6 +9,7 @@ use crate::edges::{EdgeNo, EdgeRow, Span};
 use crate::files::FileNo;
 use crate::graph::row_at;
 use crate::lists::part;
+use crate::rows::Rows;
 use std::alloc::{AllocError, Global};
 
 /// A part of an edge whose files have users.
@@ -33,7 +34,7 @@ pub(crate) fn users_of_files(
     alloc: Global,
     file_count: usize,
     files: &[FileNo],
-    rows: &[EdgeRow],
+    rows: &Rows,
     row_part: RowPart,
 ) -> Result<Users, AllocError>
     requires files { AreNumbers file_count files.now }
@@ -76,7 +77,7 @@ fn user_counts(
     alloc: Global,
     count: usize,
     files: &[FileNo],
-    rows: &[EdgeRow],
+    rows: &Rows,
     row_part: RowPart,
 ) -> Result<Vec<u32>, AllocError>
     requires files { AreNumbers count files.now }
@@ -98,10 +99,10 @@ fn user_counts(
 }
 
 // How many edges there are.
-fn row_count(rows: &[EdgeRow]) -> Result<u32, AllocError>
+fn row_count(rows: &Rows) -> Result<u32, AllocError>
     ensures { IfOk result (λ count. count ≡ length rows.now) }
 {
-    match u32::try_from(rows.len()) {
+    match u32::try_from(rows.count()) {
         Ok(count) => Ok(count),
         Err(_) => Err(AllocError),
     }
@@ -110,7 +111,7 @@ fn row_count(rows: &[EdgeRow]) -> Result<u32, AllocError>
 // The files in this part of an edge.
 fn files_of<'a>(
     files: &'a [FileNo],
-    rows: &[EdgeRow],
+    rows: &Rows,
     row_part: RowPart,
     edge: usize,
 ) -> &'a [FileNo]
@@ -212,7 +213,7 @@ fn placed_users(
     places: &mut [u32],
     user_count: u32,
     files: &[FileNo],
-    rows: &[EdgeRow],
+    rows: &Rows,
     row_part: RowPart,
 ) -> Result<Vec<EdgeNo>, AllocError>
     requires files { AreNumbers (length places.old) files.now }

@@ -19,6 +19,6 @@ rows-preserved c =
       outputs = files-step (joined_outputs stated.outputs.now added.outputs.now) stated.rows.now added.edges.now c.rows.edge c.row_at-row.result c.found_at-found.result c.rows.lists.outputs.items lists.outputs.items _ c.row_at-row.ensures c.found_at-found.ensures c.in_ok-push_edge.ensures.outputs c.rows.invariant.outputs;
       inputs = files-step (joined_inputs stated.inputs.now added.inputs.now) stated.rows.now added.edges.now c.rows.edge c.row_at-row.result c.found_at-found.result c.rows.lists.inputs.items lists.inputs.items _ c.row_at-row.ensures c.found_at-found.ensures c.in_ok-push_edge.ensures.inputs c.rows.invariant.inputs;
       rows = rows-step stated.outputs.now stated.inputs.now added.outputs.now added.inputs.now stated.rows.now added.edges.now c.rows.edge c.row_at-row.result c.found_at-found.result
-          c.rows.lists.outputs.items c.rows.lists.inputs.items lists.outputs.items lists.inputs.items c.rows.lists.rows.items lists.rows.items _ c.row_at-row.ensures c.found_at-found.ensures
+          c.rows.lists.outputs.items c.rows.lists.inputs.items lists.outputs.items lists.inputs.items c.rows.lists.rows lists.rows _ c.row_at-row.ensures c.found_at-found.ensures
           c.in_ok-push_edge.ensures.outputs c.in_ok-push_edge.ensures.inputs c.in_ok-push_edge.ensures.rows c.rows.invariant.rows;
     }

@@ -21,7 +21,7 @@ index_mut-requires c = subst (λ n. c.in_ok-file.file.0 < n) (sym c.name.new.mak
 
 pub invariant_of-self-2 : goal.invariant_of-self-2
 invariant_of-self-2 c =
-    rw (c.push_reserved.ensures.items, c.in_ok-reserve.ensures.items, c.as_slice.ensures.value)
+    rw (c.push_reserved.ensures.items, c.in_ok-reserve.ensures.items, c.count.ensures.count)
     (output-held _ _ _ _ _ _ _ c.self.invariant c.args.path.now c.name.new.files c.name.new.makers.items c.in_ok-file.file c.in_ok-file.ensures.named c.in_ok-file.ensures.makers c.in_ok-file.ensures.each_path_once c.in_ok-file.ensures.number _ c.self.view_is c.index.result.now c.index.ensures (sym c.is_some.ensures ∙ c.if-is_some.false))
 
 pub returns-clause-is_new : goal.returns-clause-is_new

@@ -32,7 +32,7 @@ index_mut-requires c =
 pub invariant_of-self-2 : goal.invariant_of-self-2
 invariant_of-self-2 c =
     let made = rw (c.deref.ensures.value, c.deref-2.ensures.value) at c.is_made.ensures in
-    rw (c.push_reserved.ensures.items, c.in_ok-reserve.ensures.items, c.as_slice.ensures.value)
+    rw (c.push_reserved.ensures.items, c.in_ok-reserve.ensures.items, c.count.ensures.count)
     (output-held _ _ _ _ _ _ _ _ _ _ _ _ c.self.invariant c.args.path.now c.name_for_both.new.files c.name_for_both.new.makers.items c.name_for_both.new.added_makers.items c.in_ok-file.file
     c.in_ok-file.ensures.named c.in_ok-file.ensures.makers c.in_ok-file.ensures.added c.in_ok-file.ensures.each_path_once c.in_ok-file.ensures.number _ c.self.view_is (sym made ∙ c.if-is_made.false))
 

@@ -6,7 +6,6 @@ use Rattle.nj_edges.proofs.joining.JoiningEdges.stated_outputs.Goals as goal
 
 pub returns : goal.returns
 returns c =
-    let here = rw c.deref.ensures.value at c.row_at-row.ensures in
     let graph : JoinTable → EdgeGraph = λ t. record { files = t.files; edges = t.stated } in
-    rw (c.part.ensures, c.deref-2.ensures.value)
-    (outputs-at _ _ _ _ _ _ c.self.invariant.lists_are.stated_are (graph c.args.self.now) (ap graph c.self.view_is) c.args.edge.0 c.row_at-row.result here)
+    rw (c.part.ensures, c.deref.ensures.value)
+    (outputs-at _ _ _ _ _ _ c.self.invariant.lists_are.stated_are (graph c.args.self.now) (ap graph c.self.view_is) c.args.edge.0 c.row_at-row.result c.row_at-row.ensures)
