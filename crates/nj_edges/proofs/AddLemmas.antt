@@ -186,7 +186,7 @@ module _ (files : List (List ℕ)) (makers : List (Option ℕ)) (outputs inputs 
           let grown : length files ≡ length files + 1 = ap length (sym old.same ∙ ap (λ c. cond c files (files ++ path ∷ [])) e) ∙ length-append files (path ∷ []) in absurd (omega arith)
 
   -- a file with a maker was there
-  made-before : (found : Option ℕ) → found ≡ get_or ms f.0 found → is_some found ≡ true → f.0 < length files
+  made-before : (found : Option ℕ) → found ≡ get_or ms f.0 None → is_some found ≡ true → f.0 < length files
   made-before found found-is some = by cases
     where
       last : f.0 ≡ length files → (b : Bool) → list_any (bytes_eq path) files ≡ b → slice_get ms f.0 ≡ Some None
@@ -195,7 +195,7 @@ module _ (files : List (List ℕ)) (makers : List (Option ℕ)) (outputs inputs 
 
       by : IsNew files path f.0 ⊎ IsOld files path f.0 → f.0 < length files
       by (inr old) = old.below
-      by (inl new) = absurd (true≢false (sym some ∙ ap is_some (found-is ∙ get_or_from_slice_get ms f.0 None found (last new.last (list_any (bytes_eq path) files) refl))))
+      by (inl new) = absurd (true≢false (sym some ∙ ap is_some (found-is ∙ get_or_from_slice_get ms f.0 None None (last new.last (list_any (bytes_eq path) files) refl))))
 
   same-table : f.0 < length files → TableIsHeld fs ms outputs inputs validations rows starts × (table_of fs outputs inputs validations rows starts ≡ t)
   same-table below =
@@ -205,19 +205,19 @@ module _ (files : List (List ℕ)) (makers : List (Option ℕ)) (outputs inputs 
       )
 
   -- a file with a maker: nothing changes
-  pub made-table : (found : Option ℕ) → found ≡ get_or ms f.0 found → is_some found ≡ true → table_of fs outputs inputs validations rows starts ≡ t
+  pub made-table : (found : Option ℕ) → found ≡ get_or ms f.0 None → is_some found ≡ true → table_of fs outputs inputs validations rows starts ≡ t
   made-table found found-is some = (same-table (made-before found found-is some)).1
 
-  pub made-held : (found : Option ℕ) → found ≡ get_or ms f.0 found → is_some found ≡ true → TableIsHeld fs ms outputs inputs validations rows starts
+  pub made-held : (found : Option ℕ) → found ≡ get_or ms f.0 None → is_some found ≡ true → TableIsHeld fs ms outputs inputs validations rows starts
   made-held found found-is some = (same-table (made-before found found-is some)).0
 
   -- whether it has a maker
-  pub made-is : (found : Option ℕ) → found ≡ get_or ms f.0 found → is_some found ≡ is_made t path
+  pub made-is : (found : Option ℕ) → found ≡ get_or ms f.0 None → is_some found ≡ is_made t path
   made-is found found-is = made-at fs ms outputs inputs validations rows starts held-name f.0 path here found found-is ∙ ap (λ u. is_made u path) table-name
 
   -- ---- an output
 
-  module _ (found : Option ℕ) (found-is : found ≡ get_or ms f.0 found) (none : is_some found ≡ false) where
+  module _ (found : Option ℕ) (found-is : found ≡ get_or ms f.0 None) (none : is_some found ≡ false) where
     unmade-now : first_edge (has_number f.0) (output_rows outputs starts.outputs rows) ≡ None
     unmade-now = unmade fs ms outputs inputs validations rows starts held-name f found within-files found-is none
 

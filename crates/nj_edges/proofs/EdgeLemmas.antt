@@ -469,8 +469,8 @@ module _ (files : List (List ℕ)) (makers : List (Option ℕ)) (outputs inputs 
   within-makers = subst (λ m. n < m) (sym held.makers_count) (slice_get_within files n path here)
 
   -- what the list of makers has at the file
-  pub made-at : (found : Option ℕ) → found ≡ get_or makers n found → is_some found ≡ is_made (table_of files outputs inputs validations rows starts) path
-  made-at found is = ap is_some (is ∙ get_or_from_slice_get makers n (first_edge (has_number n) (output_rows outputs starts.outputs rows)) found (held.makers_are n within-makers)) ∙ made-by
+  pub made-at : (found : Option ℕ) → found ≡ get_or makers n None → is_some found ≡ is_made (table_of files outputs inputs validations rows starts) path
+  made-at found is = ap is_some (is ∙ get_or_from_slice_get makers n (first_edge (has_number n) (output_rows outputs starts.outputs rows)) None (held.makers_are n within-makers)) ∙ made-by
 
 -- the table where the edge that is being read ends
 abbrev pub end-value : KindEnds → Bool → EdgeTable → EdgeTable
@@ -587,10 +587,10 @@ module _ (files : List (List ℕ)) (makers : List (Option ℕ)) (outputs inputs 
   }
 
   -- a file whose maker is none is made by none
-  pub unmade : (found : Option ℕ) → f.0 < length files → found ≡ get_or makers f.0 found → is_some found ≡ false → first_edge (has_number f.0) (output_rows outputs starts.outputs rows) ≡ None
+  pub unmade : (found : Option ℕ) → f.0 < length files → found ≡ get_or makers f.0 None → is_some found ≡ false → first_edge (has_number f.0) (output_rows outputs starts.outputs rows) ≡ None
   unmade found room is none =
       let below : f.0 < length makers = subst (λ n. f.0 < n) (sym held.makers_count) room in
-      let same = is ∙ get_or_from_slice_get makers f.0 (first_edge (has_number f.0) (output_rows outputs starts.outputs rows)) found (held.makers_are f.0 below) in
+      let same = is ∙ get_or_from_slice_get makers f.0 (first_edge (has_number f.0) (output_rows outputs starts.outputs rows)) None (held.makers_are f.0 below) in
       sym same ∙ absent found none
 
   pub held-input : f.0 < length files → EdgesAreHeld files makers outputs (inputs ++ f ∷ []) validations rows starts

@@ -2,7 +2,7 @@
 use Rattle.std.proofs.Common.{◌≡◌, ◌<◌, ◌≤◌, ◌+◌, ◌-◌, ℕ, zero, suc, Bool, true, false, cond, List, [], ◌∷◌, ◌++◌, map, length, take, drop, slice_get, slice_range, get_or, Option, Some, None, is_some, option_map, unwrap_or, refl, sym, ap, subst, ◌∙◌, true≢false, arith, append_assoc}
 use Rattle.std.specs.Prelude.{All, Contains}
 use Rattle.std.specs.List.{AllByRecursion}
-use Rattle.std.proofs.lemmas.List.{take-append-drop, take-map, length-map, get_or_default}
+use Rattle.std.proofs.lemmas.List.{take-append-drop, take-map, length-map}
 use Rattle.std.proofs.lemmas.List.Elements.{All-from_recursion, All-weaker}
 use Rattle.std.proofs.lemmas.List.Folds.{drop_split}
 use Rattle.std.proofs.lemmas.Option.{slice_get_within, get_or_from_slice_get}
@@ -149,9 +149,9 @@ module _ (files : List (List ℕ)) (makers : List (Option ℕ)) (outputs inputs 
 pub on-edge : (edges : List EdgePaths) (e : ℕ) → IsLeastOnCycle (makers_of_inputs edges) e → (e < length edges) × IsLeastOnCycle (makers_of_inputs edges) e
 on-edge edges e least = (chain-below edges e e least.0, least)
 
-pub same-first : (makers : List (Option ℕ)) (inputs ins : List FileNo) (rows : List EdgeRow) (ms : List (Option ℕ)) (found first : Option ℕ) → ins ≡ inputs → ms ≡ makers → found ≡ first
-    → IsFirstOnCycle (makers_in_rows ins rows ms) (length rows) found → IsFirstOnCycle (makers_in_rows inputs rows makers) (length rows) first
-same-first makers inputs ins rows ms found first i m f h = rw (← i, ← m, ← f) h
+pub same-first : (makers : List (Option ℕ)) (inputs ins : List FileNo) (rows : List EdgeRow) (found first : Option ℕ) → ins ≡ inputs → found ≡ first
+    → IsFirstOnCycle (makers_in_rows ins rows makers) (length rows) found → IsFirstOnCycle (makers_in_rows inputs rows makers) (length rows) first
+same-first makers inputs ins rows found first i f h = rw (← i, ← f) h
 
 -- ---- one edge
 
@@ -227,12 +227,8 @@ module _ (files : List (List ℕ)) (makers : List (Option ℕ)) (outputs inputs 
   pub maker-at : (f : FileNo) → f.0 < length g.files → get_or makers f.0 None ≡ maker_of g.edges (path_at g.files f)
   maker-at f below = subst (λ (v : EdgeGraph). get_or makers f.0 None ≡ maker_of v.edges (path_at v.files f)) is (maker-path files makers outputs inputs validations rows held f (subst (λ (v : EdgeGraph). f.0 < length v.files) (sym is) below))
 
-  pub graph-makers : (ins : List FileNo) (ms : List (Option ℕ)) → ins ≡ inputs → ms ≡ makers → makers_in_rows ins rows ms ≡ makers_of_inputs g.edges
-  graph-makers ins ms i m = rw (i, m) (makers-by-paths files makers outputs inputs validations rows held ∙ ap (λ (v : EdgeGraph). makers_of_inputs v.edges) is)
+  pub graph-makers : (ins : List FileNo) → ins ≡ inputs → makers_in_rows ins rows makers ≡ makers_of_inputs g.edges
+  graph-makers ins i = rw i (makers-by-paths files makers outputs inputs validations rows held ∙ ap (λ (v : EdgeGraph). makers_of_inputs v.edges) is)
 
   pub maker-edge : (n e : ℕ) → get_or makers n None ≡ Some e → e < length g.edges
   maker-edge n e h = subst (λ (v : EdgeGraph). e < length v.edges) is (subst (λ m. e < m) (sym (length-map rows (edge_of files outputs inputs validations))) (maker-below files makers outputs inputs validations rows held n e h))
-
--- what a list of makers has at a file
-pub found-in : (makers : List (Option ℕ)) (n : ℕ) → n < length makers → (found : Option ℕ) → found ≡ get_or makers n found → found ≡ get_or makers n None
-found-in makers n below found is = is ∙ get_or_default makers n found None below

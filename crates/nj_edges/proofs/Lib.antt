@@ -12,6 +12,7 @@ pub mod GraphUsers
 pub mod JoinedLists
 pub mod JoiningLemmas
 pub mod ListLemmas
+pub mod MakerLemmas
 pub mod NamedLemmas
 pub mod Passing
 pub mod RootLemmas

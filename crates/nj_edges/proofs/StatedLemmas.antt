@@ -1,5 +1,5 @@
 -- Lemmas on the makers of files in the graph, of paths that may be of no file.
-use Rattle.std.proofs.Common.{◌≡◌, ◌<◌, ℕ, false, List, [], ◌∷◌, length, slice_get, get_or, Option, None, Some, bytes_eq, sym, ap, subst, unwrap_or, ◌∙◌}
+use Rattle.std.proofs.Common.{◌≡◌, ℕ, false, List, [], ◌∷◌, length, slice_get, get_or, Option, None, Some, bytes_eq, sym, ap, unwrap_or, ◌∙◌}
 use Rattle.std.specs.List.{AllByRecursion, list_any}
 use Rattle.std.proofs.lemmas.List.{take-append-drop}
 use Rattle.std.proofs.lemmas.Option.{slice_get_within}
@@ -10,7 +10,7 @@ use Rattle.nj_edges.specs.Edges.{EdgePaths, is_among, maker_of, outputs_of}
 use Rattle.nj_edges.specs.Inside.EdgesHeld.{EdgesAreHeld, edges_of, paths_at, within}
 use Rattle.nj_edges.specs.Inside.GraphHeld.{ends_of}
 use Rattle.nj_edges.proofs.EdgeLemmas.{first-none, within-numbers}
-use Rattle.nj_edges.proofs.GraphLemmas.{found-in, maker-path}
+use Rattle.nj_edges.proofs.GraphLemmas.{maker-path}
 use Rattle.nj_edges.proofs.NamedLemmas.{none-among}
 
 module _ (files : List (List ℕ)) (makers : List (Option ℕ)) (outputs inputs validations : List FileNo) (rows : List EdgeRow) (held : EdgesAreHeld files makers outputs inputs validations rows (ends_of outputs inputs validations)) (g : EdgeGraph) (is : record { files = files; edges = edges_of files outputs inputs validations rows } ≡ g) (path : List ℕ) where
@@ -26,14 +26,10 @@ module _ (files : List (List ℕ)) (makers : List (Option ℕ)) (outputs inputs 
   pub unmade-path : list_any (bytes_eq path) files ≡ false → maker_of g.edges path ≡ None
   unmade-path absent = ap (λ (v : EdgeGraph). maker_of v.edges path) (sym is) ∙ first-none (λ e. is_among (outputs_of e) path) (edges_of files outputs inputs validations rows) (none-make absent rows)
 
-  module _ (f : FileNo) (here : slice_get files f.0 ≡ Some path) (found : Option ℕ) (found-is : found ≡ get_or makers f.0 found) where
-    -- what the list of makers has at a file
-    pub found-maker : found ≡ get_or makers f.0 None
-    found-maker = found-in makers f.0 (subst (λ m. f.0 < m) (sym held.makers_count) (slice_get_within files f.0 path here)) found found-is
-
+  module _ (f : FileNo) (here : slice_get files f.0 ≡ Some path) (found : Option ℕ) (found-is : found ≡ get_or makers f.0 None) where
     pub made-path : found ≡ maker_of g.edges path
     made-path =
-        found-maker
+        found-is
         ∙ maker-path files makers outputs inputs validations rows held f (slice_get_within files f.0 path here)
         ∙ ap (maker_of (edges_of files outputs inputs validations rows)) (ap (λ o. unwrap_or o []) here)
         ∙ ap (λ (v : EdgeGraph). maker_of v.edges path) is

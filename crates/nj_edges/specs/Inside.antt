@@ -4,6 +4,7 @@ pub mod EdgesHeld
 pub mod FilesHeld
 pub mod GraphHeld
 pub mod JoiningHeld
+pub mod MakersHeld
 pub mod RootsHeld
 pub mod RowsHeld
 pub mod UsersHeld

@@ -3,12 +3,13 @@
 ghost use Rattle.std.specs.Prelude.{◌≡◌, ℕ, ◌<◌, List, [], ◌∷◌, ◌++◌, Some, not, if◌then◌else◌, option_map, position, slice_get, slice_index_or, is_some, length, bytes_eq, IfOk, IfSome, OnOk, OnErr};
 ghost use Rattle.std.specs.List.{IsDistinct, list_any};
 ghost use Rattle.nj_edges.specs.Edges.{is_among, is_named};
-ghost use Rattle.nj_edges.specs.Files.{AreFiles, with_path};
-ghost use Rattle.nj_edges.specs.Inside.EdgesHeld.{row_between, with_maker, has_number, is_made_by};
+ghost use Rattle.nj_edges.specs.Files.{AreFiles};
+ghost use Rattle.nj_edges.specs.Inside.EdgesHeld.{row_between, has_number, is_made_by};
 ghost use Rattle.nj_edges.specs.EdgeTables.{no_files, EndWithin, with_output, with_input, with_validation, is_made, is_named_so_far, edge_read};
 
 use crate::files::{FileNo, Files};
 use crate::lists::after;
+use crate::makers::{Makers, name};
 use crate::rows::Rows;
 use nj_hash::HashKeys;
 use std::alloc::{AllocError, Global};
@@ -68,7 +69,7 @@ pub(crate) struct OpenStarts {
 #[derive(Drop)]
 pub struct Edges {
     pub(crate) files: Files,
-    pub(crate) makers: Vec<Option<usize>>,
+    pub(crate) makers: Makers,
     pub(crate) outputs: Vec<FileNo>,
     pub(crate) inputs: Vec<FileNo>,
     pub(crate) validations: Vec<FileNo>,
@@ -85,7 +86,7 @@ impl Model for Edges {
     ghost view = { λ e. table_of e.files e.outputs.items e.inputs.items e.validations.items
         e.rows e.starts };
 
-    ghost invariant = { λ e. TableIsHeld e.files e.makers.items e.outputs.items e.inputs.items
+    ghost invariant = { λ e. TableIsHeld e.files e.makers e.outputs.items e.inputs.items
         e.validations.items e.rows e.starts };
 }
 
@@ -96,7 +97,7 @@ impl Edges {
     {
         Edges {
             files: Files::new(alloc, keys),
-            makers: Vec::new(alloc),
+            makers: Makers::new(alloc),
             outputs: Vec::new(alloc),
             inputs: Vec::new(alloc),
             validations: Vec::new(alloc),
@@ -119,10 +120,10 @@ impl Edges {
     {
         self.outputs.reserve(1)?;
         let file = name(&mut self.files, &mut self.makers, path)?;
-        if self.makers[file.0].is_some() {
+        if self.makers.maker(file).is_some() {
             return Ok(false);
         }
-        self.makers[file.0] = Some(self.rows.count());
+        self.makers.set(file, self.rows.count());
         self.outputs.push_reserved(file);
         Ok(true)
     }
@@ -261,35 +262,12 @@ impl Edges {
     }
 }
 
-// The number of the file at this path, which is named from now on. A new file has no maker.
-pub(crate) fn name(
-    files: &mut Files,
-    makers: &mut Vec<Option<usize>>,
-    path: &[u8],
-) -> Result<FileNo, AllocError>
-    requires { length makers.old.items ≡ length files.old }
-    ensures named { OnOk result (files.new ≡ with_path files.old path.now) }
-    ensures each_path_once { OnOk result (IsDistinct bytes_eq files.new) }
-    ensures makers { OnOk result (makers.new.items
-        ≡ with_maker files.old path.now makers.old.items) }
-    ensures number { IfOk result (λ file. slice_get files.new file.0 ≡ Some path.now) }
-    ensures refused { OnErr result (files.new ≡ files.old) }
-    ensures makers_refused { OnErr result (makers.new.items ≡ makers.old.items) }
-{
-    makers.reserve(1)?;
-    let file = files.name(path)?;
-    if file.0 == makers.as_slice().len() {
-        makers.push_reserved(None);
-    }
-    Ok(file)
-}
-
 // Whether this edge makes the file.
-fn is_made_by(makers: &[Option<usize>], file: FileNo, edge: usize) -> bool
+fn is_made_by(makers: &Makers, file: FileNo, edge: usize) -> bool
     requires { file.0 < length makers.now }
     ensures { result ≡ is_made_by makers.now file.0 edge }
 {
-    match makers[file.0] {
+    match makers.maker(file) {
         Some(maker) => maker == edge,
         None => false,
     }

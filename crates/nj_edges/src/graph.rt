@@ -14,6 +14,7 @@ use crate::edges::{EdgeNo, EdgeRow, Edges, Kind, KindEnds, Span};
 use crate::files::{FileNo, Files};
 use crate::inputs::InputMakers;
 use crate::lists::{first, part};
+use crate::makers::Makers;
 use crate::roots::roots;
 use crate::rows::Rows;
 use crate::users::{RowPart, Users, users_at, users_of_files};
@@ -25,7 +26,7 @@ use std::marker::Model;
 #[derive(Drop)]
 pub struct EdgeGraph {
     pub(crate) files: Files,
-    pub(crate) makers: Vec<Option<usize>>,
+    pub(crate) makers: Makers,
     pub(crate) outputs: Vec<FileNo>,
     pub(crate) inputs: Vec<FileNo>,
     pub(crate) validations: Vec<FileNo>,
@@ -47,7 +48,7 @@ impl Model for EdgeGraph {
       edges = edges_of g.files g.outputs.items g.inputs.items g.validations.items g.rows;
     } };
 
-    ghost invariant = { λ g. GraphIsHeld g.files g.makers.items g.outputs.items g.inputs.items
+    ghost invariant = { λ g. GraphIsHeld g.files g.makers g.outputs.items g.inputs.items
         g.validations.items g.rows g.roots.items g.users g.validation_users };
 }
 
@@ -114,7 +115,7 @@ impl EdgeGraph {
             ≡ maker_of self.now.edges (path_at self.now.files file) }
         ensures known { IfSome result (λ edge. edge.0 < length self.now.edges) }
     {
-        match self.makers[file.0] {
+        match self.makers.maker(file) {
             Some(edge) => Some(EdgeNo(edge)),
             None => None,
         }

@@ -6,6 +6,7 @@ ghost use Rattle.nj_edges.specs.Inside.EdgesHeld.{makers_in_rows};
 use crate::files::FileNo;
 use crate::graph::row_at;
 use crate::lists::part;
+use crate::makers::Makers;
 use crate::rows::Rows;
 use nj_cycles::EdgeInputs;
 
@@ -14,7 +15,7 @@ use nj_cycles::EdgeInputs;
 pub(crate) struct InputMakers<'a> {
     pub(crate) inputs: &'a [FileNo],
     pub(crate) rows: &'a Rows,
-    pub(crate) makers: &'a [Option<usize>],
+    pub(crate) makers: &'a Makers,
     ghost rows_rise: { All (λ row. row.inputs.start ≤ row.inputs.end) rows.now },
     ghost rows_within: { All (λ row. row.inputs.end ≤ length inputs.now) rows.now },
     ghost files_known: { All (λ file. file.0 < length makers.now) inputs.now },
@@ -34,14 +35,6 @@ impl<'a> EdgeInputs for InputMakers<'a> {
     fn maker_at(&self, edge: usize, index: usize) -> Option<Option<usize>> {
         let row = row_at(self.rows, edge);
         let file = *part(self.inputs, row.inputs.start, row.inputs.end).get(index)?;
-        Some(maker_of(self.makers, file))
+        Some(self.makers.maker(file))
     }
-}
-
-/// The edge that makes a file.
-fn maker_of(makers: &[Option<usize>], file: FileNo) -> Option<usize>
-    requires { file.0 < length makers.now }
-    ensures { result ≡ slice_index_or makers.now file.0 None }
-{
-    makers[file.0]
 }

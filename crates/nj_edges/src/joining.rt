@@ -1,18 +1,19 @@
 //! Files that are added to the edges of a graph, as dyndep files discover them.
 
-ghost use Rattle.std.specs.Prelude.{◌≡◌, ◌<◌, ◌||◌, ◌++◌, [], ◌∷◌, None, Some, not, false, if◌then◌else◌, option_map, is_some, length, replicate, slice_get, slice_index_or, bytes_eq, IfOk, IfSome, OnOk, OnErr};
+ghost use Rattle.std.specs.Prelude.{◌≡◌, ◌<◌, ◌+◌, ◌^◌, ◌||◌, ◌++◌, [], ◌∷◌, None, Some, not, false, if◌then◌else◌, option_map, is_some, length, replicate, slice_get, slice_index_or, bytes_eq, IfOk, IfSome, OnOk, OnErr};
 ghost use Rattle.std.specs.List.{AllByRecursion, IsDistinct};
 ghost use Rattle.nj_edges.specs.Edges.{edge_at, outputs_of, maker_of};
-ghost use Rattle.nj_edges.specs.Inside.EdgesHeld.{AreNumbers, IsWithin, with_maker};
-ghost use Rattle.nj_edges.specs.Files.{AreFiles, with_path};
+ghost use Rattle.nj_edges.specs.Inside.EdgesHeld.{AreNumbers, IsWithin};
+ghost use Rattle.nj_edges.specs.Files.{AreFiles};
 ghost use Rattle.nj_edges.specs.Graph.{FinishesAs};
 ghost use Rattle.nj_edges.specs.Joining.{none_added, join_of, with_added_output, with_added_input, with_joined, is_made_so_far, is_joined};
 ghost use Rattle.nj_edges.specs.Inside.JoiningHeld.{AddedInputsAreWithin, AddedOutputsAreWithin, AreJoinedMakers, AreSet, InputsAreWithin, added_inputs_of, added_outputs_of, flat, joined_inputs, joined_outputs, joined_row, joined_rows, joined_with, needed_inputs};
 
-use crate::edges::{EdgeNo, EdgeRow, Edges, KindEnds, OpenStarts, Span, name};
+use crate::edges::{EdgeNo, EdgeRow, Edges, KindEnds, OpenStarts, Span};
 use crate::files::{FileNo, Files};
 use crate::graph::{EdgeGraph, Finished, row_at};
 use crate::lists::part;
+use crate::makers::{Makers, name_for_both};
 use crate::rows::Rows;
 use std::alloc::{AllocError, Global};
 use std::marker::Model;
@@ -30,13 +31,13 @@ pub(crate) struct AddedSpans {
 pub struct JoiningEdges {
     files: Files,
     // as they are in the graph
-    makers: Vec<Option<usize>>,
+    makers: Makers,
     outputs: Vec<FileNo>,
     inputs: Vec<FileNo>,
     validations: Vec<FileNo>,
     rows: Rows,
     // for each file, the edge to which it was added as an output
-    added_makers: Vec<Option<usize>>,
+    added_makers: Makers,
     added_outputs: Vec<FileNo>,
     added_inputs: Vec<FileNo>,
     // for each edge, what was added to it
@@ -56,8 +57,8 @@ impl Model for JoiningEdges {
         j.rows j.added_outputs.items j.added_inputs.items j.added.items
         j.open_outputs j.open_inputs };
 
-    ghost invariant = { λ j. JoinIsHeld j.files j.makers.items j.outputs.items j.inputs.items
-        j.validations.items j.rows j.added_makers.items j.added_outputs.items
+    ghost invariant = { λ j. JoinIsHeld j.files j.makers j.outputs.items j.inputs.items
+        j.validations.items j.rows j.added_makers j.added_outputs.items
         j.added_inputs.items j.added.items j.open_outputs j.open_inputs };
 }
 
@@ -75,7 +76,7 @@ impl EdgeGraph {
             rows,
             ..
         } = self;
-        let added_makers = no_makers(alloc, files.count())?;
+        let added_makers = Makers::of_sources(alloc, files.count())?;
         let added = nothing_added(alloc, rows.count())?;
         Ok(JoiningEdges {
             files,
@@ -110,7 +111,7 @@ impl JoiningEdges {
         ensures known { IfSome result (λ edge. edge.0 < length self.now.stated) }
     {
         let file = self.files.number(path)?;
-        match self.makers[file.0] {
+        match self.makers.maker(file) {
             Some(edge) => Some(EdgeNo(edge)),
             None => None,
         }
@@ -151,7 +152,7 @@ impl JoiningEdges {
         if is_made(&self.makers, &self.added_makers, file) {
             return Ok(false);
         }
-        self.added_makers[file.0] = Some(self.rows.count());
+        self.added_makers.set(file, self.rows.count());
         self.added_outputs.push_reserved(file);
         Ok(true)
     }
@@ -186,6 +187,9 @@ impl JoiningEdges {
             start: self.open_inputs,
             end: self.added_inputs.as_slice().len(),
         };
+        // an edge of the graph, whose number fits a maker
+        let edge_count = self.rows.count();
+        prove!(edge.0 < edge_count);
         set_makers(
             &mut self.added_makers,
             part(&self.added_outputs, outputs.start, outputs.end),
@@ -247,13 +251,6 @@ impl JoiningEdges {
     }
 }
 
-// No maker for each of `count` files.
-fn no_makers(alloc: Global, count: usize) -> Result<Vec<Option<usize>>, AllocError>
-    ensures { IfOk result (λ makers. makers.items ≡ replicate count None) }
-{
-    vec![in alloc; None; count]
-}
-
 // Nothing added to each of `count` edges.
 fn nothing_added(alloc: Global, count: usize) -> Result<Vec<Option<AddedSpans>>, AllocError>
     ensures { IfOk result (λ added. added.items ≡ replicate count None) }
@@ -261,62 +258,35 @@ fn nothing_added(alloc: Global, count: usize) -> Result<Vec<Option<AddedSpans>>,
     vec![in alloc; None; count]
 }
 
-// The number of the file at this path, which is named from now on. A new file has no maker.
-fn name_for_both(
-    files: &mut Files,
-    makers: &mut Vec<Option<usize>>,
-    added_makers: &mut Vec<Option<usize>>,
-    path: &[u8],
-) -> Result<FileNo, AllocError>
-    requires stated { length makers.old.items ≡ length files.old }
-    requires added { length added_makers.old.items ≡ length files.old }
-    ensures named { OnOk result (files.new ≡ with_path files.old path.now) }
-    ensures each_path_once { OnOk result (IsDistinct bytes_eq files.new) }
-    ensures makers { OnOk result (makers.new.items
-        ≡ with_maker files.old path.now makers.old.items) }
-    ensures added { OnOk result (added_makers.new.items
-        ≡ with_maker files.old path.now added_makers.old.items) }
-    ensures number { IfOk result (λ file. slice_get files.new file.0 ≡ Some path.now) }
-    ensures refused { OnErr result (files.new ≡ files.old) }
-    ensures makers_refused { OnErr result (makers.new.items ≡ makers.old.items) }
-    ensures added_refused { OnErr result (added_makers.new.items ≡ added_makers.old.items) }
-{
-    added_makers.reserve(1)?;
-    let file = name(files, makers, path)?;
-    if file.0 == added_makers.as_slice().len() {
-        added_makers.push_reserved(None);
-    }
-    Ok(file)
-}
-
 // Whether an edge makes the file, in the graph or as one that was added.
-fn is_made(makers: &[Option<usize>], added_makers: &[Option<usize>], file: FileNo) -> bool
+fn is_made(makers: &Makers, added_makers: &Makers, file: FileNo) -> bool
     requires stated { file.0 < length makers.now }
     requires added { file.0 < length added_makers.now }
     ensures { result ≡ (is_some (slice_index_or makers.now file.0 None)
         || is_some (slice_index_or added_makers.now file.0 None)) }
 {
-    makers[file.0].is_some() || added_makers[file.0].is_some()
+    makers.maker(file).is_some() || added_makers.maker(file).is_some()
 }
 
 // Sets this edge as the maker of these files.
-fn set_makers(makers: &mut Vec<Option<usize>>, files: &[FileNo], edge: usize)
-    requires { AreNumbers (length makers.old.items) files.now }
-    ensures { AreSet files.now edge makers.old.items makers.new.items }
+fn set_makers(makers: &mut Makers, files: &[FileNo], edge: usize)
+    requires files { AreNumbers (length makers.old) files.now }
+    requires fits { edge + 1 < 2 ^ 32 }
+    ensures { AreSet files.now edge makers.old makers.new }
 {
     'files: for file in files {
-        makers[file.0] = Some(edge);
+        makers.set(*file, edge);
     }
 }
 
 // Adds the makers of the outputs that were added to those of the files in the graph.
-fn add_makers(makers: &mut Vec<Option<usize>>, added: &[Option<usize>])
-    requires { length added.now ≡ length makers.old.items }
-    ensures { AreJoinedMakers makers.old.items added.now makers.new.items }
+fn add_makers(makers: &mut Makers, added: &Makers)
+    requires { length added.now ≡ length makers.old }
+    ensures { AreJoinedMakers makers.old added.now makers.new }
 {
-    'files: for file in 0..added.len() {
-        if added[file].is_some() {
-            makers[file] = added[file];
+    'files: for file in 0..added.count() {
+        if let Some(edge) = added.maker(FileNo(file)) {
+            makers.set(FileNo(file), edge);
         }
     }
 }

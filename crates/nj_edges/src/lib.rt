@@ -8,6 +8,7 @@ mod graph;
 mod inputs;
 mod joining;
 mod lists;
+mod makers;
 mod roots;
 mod rows;
 mod users;

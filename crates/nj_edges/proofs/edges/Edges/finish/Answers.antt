@@ -16,38 +16,37 @@ pub invariant_of-held : goal.invariant_of-held
 invariant_of-held c =
     let held = held-whole _ _ _ _ _ _ _ c.self.invariant.edges_are c.args.self c.self.view_is c.requires in
     let inputs = c.deref.ensures.value in
-    let makers = c.deref-2.ensures.value in
     record {
       rows_rise = rows-rise _ _ _ _ _ _ held;
       rows_within = rw inputs (rows-end _ _ _ _ _ _ held);
-      files_known = rw (inputs, makers) (inputs-below _ _ _ _ _ _ held);
-      makers_known = rw makers (maker-below _ _ _ _ _ _ held);
+      files_known = rw inputs (inputs-below _ _ _ _ _ _ held);
+      makers_known = maker-below _ _ _ _ _ _ held;
     }
 
 pub invariant_of-result : goal.invariant_of-result
 invariant_of-result c =
     let held = held-whole _ _ _ _ _ _ _ c.self.invariant.edges_are c.args.self c.self.view_is c.requires in
-    let found = same-first c.self.inside.makers.items c.self.inside.inputs.items _ c.self.inside.rows _ _ None c.deref.ensures.value c.deref-2.ensures.value c.in_default.is c.in_ok-edge.ensures in
+    let found = same-first c.self.inside.makers c.self.inside.inputs.items _ c.self.inside.rows _ None c.deref.ensures.value c.in_default.is c.in_ok-edge.ensures in
     record {
       edges_are = held;
       named = c.self.invariant.named;
       acyclic = first-paths _ _ _ _ _ _ held None found;
-      roots_are = roots-held _ _ _ _ _ _ held c.in_ok-roots.roots.items _ _ c.deref-3.ensures.value c.deref-4.ensures.value c.in_ok-roots.ensures;
-      users_are = held-users _ _ _ _ Inputs _ _ c.self.inside.rows c.count-count.ensures.count c.deref-5.ensures.value c.in_ok-users.ensures;
-      validation_users_are = held-users _ _ _ _ Validations _ _ c.self.inside.rows c.count-count.ensures.count c.deref-6.ensures.value c.in_ok-validation_users.ensures;
+      roots_are = roots-held _ _ _ _ _ _ held c.in_ok-roots.roots.items _ _ c.deref-2.ensures.value c.deref-3.ensures.value c.in_ok-roots.ensures;
+      users_are = held-users _ _ _ _ Inputs _ _ c.self.inside.rows c.count-count.ensures.count c.deref-4.ensures.value c.in_ok-users.ensures;
+      validation_users_are = held-users _ _ _ _ Validations _ _ c.self.inside.rows c.count-count.ensures.count c.deref-5.ensures.value c.in_ok-validation_users.ensures;
     }
 
 pub row_at-row-requires : goal.row_at-row-requires
 row_at-row-requires c =
     let held = held-whole _ _ _ _ _ _ _ c.self.invariant.edges_are c.args.self c.self.view_is c.requires in
-    let found = same-first c.self.inside.makers.items c.self.inside.inputs.items _ c.self.inside.rows _ _ (Some c.in-Some.edge) c.deref.ensures.value c.deref-2.ensures.value c.in-Some.is c.in_ok-edge.ensures in
+    let found = same-first c.self.inside.makers c.self.inside.inputs.items _ c.self.inside.rows _ (Some c.in-Some.edge) c.deref.ensures.value c.in-Some.is c.in_ok-edge.ensures in
     let least = on-edge c.args.self.edges c.in-Some.edge (first-table _ _ _ _ _ _ held c.args.self c.self.inside.starts c.self.view_is (Some c.in-Some.edge) found) in
     row-below _ _ _ _ c.self.inside.rows c.self.inside.starts c.args.self c.self.view_is c.in-Some.edge least.0
 
 pub cycle_edge-requires-clause-some : goal.cycle_edge-requires-clause-some
 cycle_edge-requires-clause-some c =
     let held = held-whole _ _ _ _ _ _ _ c.self.invariant.edges_are c.args.self c.self.view_is c.requires in
-    let found = same-first c.self.inside.makers.items c.self.inside.inputs.items _ c.self.inside.rows _ _ (Some c.in-Some.edge) c.deref.ensures.value c.deref-2.ensures.value c.in-Some.is c.in_ok-edge.ensures in
+    let found = same-first c.self.inside.makers c.self.inside.inputs.items _ c.self.inside.rows _ (Some c.in-Some.edge) c.deref.ensures.value c.in-Some.is c.in_ok-edge.ensures in
     let least = on-edge c.args.self.edges c.in-Some.edge (first-table _ _ _ _ _ _ held c.args.self c.self.inside.starts c.self.view_is (Some c.in-Some.edge) found) in
     let here = c.row_at-row.ensures in
     some-output _ _ _ _ _ _ held c.self.inside.starts c.args.self c.self.view_is c.in-Some.edge c.row_at-row.result here least.1
@@ -61,7 +60,7 @@ cycle_edge-requires-clause-within c =
 pub returns-in-Some : goal.returns-in-Some
 returns-in-Some c =
     let held = held-whole _ _ _ _ _ _ _ c.self.invariant.edges_are c.args.self c.self.view_is c.requires in
-    let found = same-first c.self.inside.makers.items c.self.inside.inputs.items _ c.self.inside.rows _ _ (Some c.in-Some.edge) c.deref.ensures.value c.deref-2.ensures.value c.in-Some.is c.in_ok-edge.ensures in
+    let found = same-first c.self.inside.makers c.self.inside.inputs.items _ c.self.inside.rows _ (Some c.in-Some.edge) c.deref.ensures.value c.in-Some.is c.in_ok-edge.ensures in
     let least = on-edge c.args.self.edges c.in-Some.edge (first-table _ _ _ _ _ _ held c.args.self c.self.inside.starts c.self.view_is (Some c.in-Some.edge) found) in
     let here = c.row_at-row.ensures in
     let first = first-output _ _ _ _ _ _ held c.self.inside.starts c.args.self c.self.view_is c.in-Some.edge c.row_at-row.result here in
@@ -72,6 +71,6 @@ returns-in-Some c =
 pub returns : goal.returns
 returns c =
     let held = held-whole _ _ _ _ _ _ _ c.self.invariant.edges_are c.args.self c.self.view_is c.requires in
-    let found = same-first c.self.inside.makers.items c.self.inside.inputs.items _ c.self.inside.rows _ _ None c.deref.ensures.value c.deref-2.ensures.value c.in_default.is c.in_ok-edge.ensures in
+    let found = same-first c.self.inside.makers c.self.inside.inputs.items _ c.self.inside.rows _ None c.deref.ensures.value c.in_default.is c.in_ok-edge.ensures in
     let graph : EdgeTable → EdgeGraph = λ t. record { files = t.files; edges = t.edges } in
     (ap graph c.self.view_is, first-table _ _ _ _ _ _ held c.args.self c.self.inside.starts c.self.view_is None found)

@@ -1,0 +1,148 @@
+//! The makers of files: which edge makes each.
+
+ghost use Rattle.std.specs.Prelude.{◌≡◌, ◌+◌, ◌<◌, ◌^◌, [], None, Some, length, replicate, slice_get, slice_index_or, slice_set, bytes_eq, IfOk, IfSome, OnOk, OnErr};
+ghost use Rattle.std.specs.List.{IsDistinct};
+ghost use Rattle.nj_edges.specs.Files.{with_path};
+ghost use Rattle.nj_edges.specs.Inside.EdgesHeld.{with_maker};
+ghost use Rattle.nj_edges.specs.Inside.MakersHeld.{maker_held};
+
+use crate::files::{FileNo, Files};
+use std::alloc::{AllocError, Global};
+use std::marker::Model;
+
+/// The edge that makes each file, by the number of the file; `None` for a source.
+#[derive(Drop)]
+pub(crate) struct Makers {
+    // the numbers of the edges, counted from 1; 0 for a source
+    numbers: Vec<u32>,
+}
+
+impl Model for Makers {
+    ghost use Rattle.std.specs.Prelude.{ℕ, List, Option};
+    ghost use Rattle.nj_edges.specs.Inside.MakersHeld.{makers_held};
+
+    ghost Value = { List (Option ℕ) };
+
+    ghost view = { λ m. makers_held m.numbers.items };
+}
+
+impl Makers {
+    /// No files. It allocates nothing.
+    pub(crate) fn new(alloc: Global) -> Makers
+        ensures { result ≡ [] }
+    {
+        Makers {
+            numbers: Vec::new(alloc),
+        }
+    }
+
+    /// As many files, all of them sources.
+    pub(crate) fn of_sources(alloc: Global, count: usize) -> Result<Makers, AllocError>
+        ensures { IfOk result (λ makers. makers ≡ replicate count None) }
+    {
+        let numbers = vec![in alloc; 0; count]?;
+        Ok(Makers { numbers })
+    }
+
+    /// How many files there are.
+    pub(crate) fn count(&self) -> usize
+        ensures { result ≡ length self.now }
+    {
+        self.numbers.as_slice().len()
+    }
+
+    /// The edge that makes a file.
+    pub(crate) fn maker(&self, file: FileNo) -> Option<usize>
+        requires { file.0 < length self.now }
+        ensures maker { result ≡ slice_index_or self.now file.0 None }
+        ensures fits { IfSome result (λ edge. edge + 1 < 2 ^ 32) }
+    {
+        edge_of(number_at(&self.numbers, file))
+    }
+
+    /// Sets this edge as the maker of a file.
+    pub(crate) fn set(&mut self, file: FileNo, edge: usize)
+        requires file { file.0 < length self.old }
+        requires fits { edge + 1 < 2 ^ 32 }
+        ensures { self.new ≡ slice_set self.old file.0 (Some edge) }
+    {
+        self.numbers[file.0] = number_of(edge);
+    }
+}
+
+/// The number of the file at this path, which is named from now on. A new file has no maker.
+pub(crate) fn name(
+    files: &mut Files,
+    makers: &mut Makers,
+    path: &[u8],
+) -> Result<FileNo, AllocError>
+    requires { length makers.old ≡ length files.old }
+    ensures named { OnOk result (files.new ≡ with_path files.old path.now) }
+    ensures each_path_once { OnOk result (IsDistinct bytes_eq files.new) }
+    ensures makers { OnOk result (makers.new ≡ with_maker files.old path.now makers.old) }
+    ensures number { IfOk result (λ file. slice_get files.new file.0 ≡ Some path.now) }
+    ensures refused { OnErr result (files.new ≡ files.old) }
+    ensures makers_refused { OnErr result (makers.new ≡ makers.old) }
+{
+    makers.numbers.reserve(1)?;
+    let file = files.name(path)?;
+    if file.0 == makers.numbers.as_slice().len() {
+        makers.numbers.push_reserved(0);
+    }
+    Ok(file)
+}
+
+/// The number of the file at this path, which is named from now on. A new file has no maker in
+/// either list.
+pub(crate) fn name_for_both(
+    files: &mut Files,
+    makers: &mut Makers,
+    added_makers: &mut Makers,
+    path: &[u8],
+) -> Result<FileNo, AllocError>
+    requires stated { length makers.old ≡ length files.old }
+    requires added { length added_makers.old ≡ length files.old }
+    ensures named { OnOk result (files.new ≡ with_path files.old path.now) }
+    ensures each_path_once { OnOk result (IsDistinct bytes_eq files.new) }
+    ensures makers { OnOk result (makers.new ≡ with_maker files.old path.now makers.old) }
+    ensures added { OnOk result (added_makers.new
+        ≡ with_maker files.old path.now added_makers.old) }
+    ensures number { IfOk result (λ file. slice_get files.new file.0 ≡ Some path.now) }
+    ensures refused { OnErr result (files.new ≡ files.old) }
+    ensures makers_refused { OnErr result (makers.new ≡ makers.old) }
+    ensures added_refused { OnErr result (added_makers.new ≡ added_makers.old) }
+{
+    added_makers.numbers.reserve(1)?;
+    let file = name(files, makers, path)?;
+    if file.0 == added_makers.numbers.as_slice().len() {
+        added_makers.numbers.push_reserved(0);
+    }
+    Ok(file)
+}
+
+// The number that is kept for a file.
+fn number_at(numbers: &[u32], file: FileNo) -> u32
+    requires { file.0 < length numbers.now }
+    ensures { slice_get numbers.now file.0 ≡ Some result }
+{
+    numbers[file.0]
+}
+
+// The edge that is kept by this number.
+fn edge_of(number: u32) -> Option<usize>
+    ensures edge { result ≡ maker_held number }
+    ensures fits { IfSome result (λ edge. edge + 1 < 2 ^ 32) }
+{
+    if number == 0 {
+        return None;
+    }
+    Some(number as usize - 1)
+}
+
+// The number by which an edge is kept.
+fn number_of(edge: usize) -> u32
+    requires { edge + 1 < 2 ^ 32 }
+    ensures { maker_held result ≡ Some edge }
+{
+    edge as u32 + 1
+}
