@@ -192,5 +192,9 @@ fn text_fault(alloc: Global, graph: &Graph, edge: EdgeNo) -> Result<GraphFault, 
     ensures { (entries : List ReadStatement) → IsGraphOf graph.now entries
         → IfOk result (λ fault. fault ≡ text_fault (slice_get (edges_read entries) edge.0)) }
 {
-    graph.edge_place(edge).fault(alloc, Cause::TextNotUtf8)
+    let place = graph.edge_place(edge).to_place(alloc)?;
+    Ok(GraphFault {
+        place: Some(place),
+        cause: Cause::TextNotUtf8,
+    })
 }

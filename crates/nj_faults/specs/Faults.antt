@@ -1,5 +1,5 @@
 -- Why files do not make a graph, or why what is asked of their graph cannot be answered: the place of a fault, and what is wrong there.
-use Rattle.std.specs.Prelude.{ℕ, Option, Some, None, List}
+use Rattle.std.specs.Prelude.{◌≡◌, ◌⊎◌, ℕ, Option, Some, None, List}
 use Rattle.nj_text.specs.declared.spot.Spot.{Spot}
 use Rattle.nj_text.specs.declared.fault.UnitFault.TheVariants as unit
 use Rattle.nj_manifest.specs.Faults.{Fault, Bad, Expected, UnexpectedIndent, MissingCommand, RspPair, UnknownKey, MissingDepth, DyndepVersion, DyndepShape, OutOfMemory, place_of}
@@ -17,6 +17,10 @@ unplaced cause = record { place = None; cause = cause }
 
 abbrev pub no_memory : GraphFault
 no_memory = unplaced cause.OutOfMemory
+
+-- the fault is the expected one, or out of memory
+abbrev pub IsFault : Option GraphFault → GraphFault → Type 0
+IsFault expected fault = (fault ≡ no_memory) ⊎ (expected ≡ Some fault)
 
 -- ---- the faults of a text
 

@@ -1,10 +1,10 @@
 //! Why files do not make a graph, or why what is asked of their graph cannot be answered.
 
-ghost use Rattle.std.specs.Prelude.{◌≡◌, IfOk, nat_eq};
+ghost use Rattle.std.specs.Prelude.{◌≡◌, Some, IfOk, nat_eq};
 ghost use Rattle.std.specs.Cmp.{partial_equiv_from_equiv};
 ghost use Rattle.std.specs.Cmp.Lexicographic.{nat_list_eq_equiv, pointwise};
 ghost use Rattle.nj_manifest.specs.Faults as parsed;
-ghost use Rattle.nj_faults.specs.Faults.{cause_of, fault_at, fault_in, no_memory, unplaced};
+ghost use Rattle.nj_faults.specs.Faults.{IsFault, cause_of, fault_at, fault_in, no_memory, unplaced};
 
 use nj_manifest::{LexFault, ParseFault, Spot, Wanted};
 use std::alloc::{AllocError, AllocFailed, Global};
@@ -70,6 +70,41 @@ pub struct Place {
     /// statement that names it says.
     pub file: Name,
     pub spot: Spot,
+}
+
+/// A place in a file whose name is lent.
+#[derive(Clone, Copy, Debug, PartialEq, Eq)]
+pub struct PlaceRef<'a> {
+    /// The name under which the file was opened.
+    pub file: &'a [u8],
+    pub spot: Spot,
+}
+
+impl PlaceRef<'_> {
+    /// The place, with a copy of the name.
+    pub fn to_place(self, alloc: Global) -> Result<Place, AllocError>
+        ensures { IfOk result (λ place. place
+            ≡ record { file = self.entry.file.now; spot = self.entry.spot }) }
+    {
+        let file = Name::new(alloc, self.file)?;
+        Ok(Place {
+            file,
+            spot: self.spot,
+        })
+    }
+
+    /// The fault of this cause at the place; out of memory if the name could not be copied.
+    pub fn fault(self, alloc: Global, cause: Cause) -> GraphFault
+        ensures { IsFault (Some (fault_at self.entry.file.now self.entry.spot cause)) result }
+    {
+        match self.to_place(alloc) {
+            Ok(place) => GraphFault {
+                place: Some(place),
+                cause,
+            },
+            Err(_) => GraphFault::out_of_memory(),
+        }
+    }
 }
 
 /// What is wrong at the place of a fault.
@@ -186,17 +221,6 @@ pub struct GraphFault {
 }
 
 impl GraphFault {
-    /// A fault of this cause at a place of the file.
-    pub fn at(alloc: Global, file: &str, spot: Spot, cause: Cause) -> Result<GraphFault, AllocError>
-        ensures { IfOk result (λ f. f ≡ fault_at file.now spot cause) }
-    {
-        let file = Name::new(alloc, file.as_bytes())?;
-        Ok(GraphFault {
-            place: Some(Place { file, spot }),
-            cause,
-        })
-    }
-
     /// The fault that the parser of the file returned.
     pub fn of_text(
         alloc: Global,
@@ -207,7 +231,14 @@ impl GraphFault {
     {
         let cause = Cause::of_text(alloc, fault)?;
         match fault.spot() {
-            Some(spot) => GraphFault::at(alloc, file, spot, cause),
+            Some(spot) => {
+                let file = file.as_bytes();
+                let place = PlaceRef { file, spot }.to_place(alloc)?;
+                Ok(GraphFault {
+                    place: Some(place),
+                    cause,
+                })
+            }
             None => Ok(GraphFault::unplaced(cause)),
         }
     }

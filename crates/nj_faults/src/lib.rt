@@ -6,5 +6,5 @@ mod fault;
 mod fault_line;
 mod version;
 
-pub use fault::{Cause, GraphFault, Name, Place};
+pub use fault::{Cause, GraphFault, Name, Place, PlaceRef};
 pub use version::is_newer;

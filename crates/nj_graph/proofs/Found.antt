@@ -51,9 +51,11 @@ pub record HasNoMemory (before after : SourceState) (old : List Reading) (path :
   pub answered : fault ≡ no_memory
 
 -- a fault is that of the word, where its file has this name
-pub answers-named : (before after : SourceState) (old held : List Reading) (name file : List ℕ) (spot : Spot) (path : List ℕ) (fault : GraphFault) → name ≡ file
-    → AnswersText before after old held (record { file = name; spot = spot }) path (Err fault) → AnswersText before after old held (record { file = file; spot = spot }) path (Err fault)
-answers-named before after old held name file spot path fault is answers = subst (λ f. AnswersText before after old held (record { file = f; spot = spot }) path (Err fault)) is answers
+pub answers-named : (before after : SourceState) (old held : List Reading) (name file : List ℕ) (at spot : Spot) (path : List ℕ) (fault : GraphFault) → name ≡ file → at ≡ spot
+    → AnswersText before after old held (record { file = name; spot = at }) path (Err fault) → AnswersText before after old held (record { file = file; spot = spot }) path (Err fault)
+answers-named before after old held name file at spot path fault is there answers =
+    subst (λ f. AnswersText before after old held (record { file = f; spot = spot }) path (Err fault)) is
+    (subst (λ s. AnswersText before after old held (record { file = name; spot = s }) path (Err fault)) there answers)
 
 module _ (before after : SourceState) (old held : List Reading) (path : List ℕ) (once : EachPathOnce old) where
   -- the path was known, or was read now

@@ -2,9 +2,10 @@
 use Rattle.std.proofs.Common.{◌≡◌, ℕ, ◌+◌, ◌==◌, ◌&&◌, if◌then◌else◌, Bool, true, false, not, cond, inl, inr, Option, Some, None, option_map, Result, Ok, Err, List, [], ◌∷◌, find, refl, sym, ap, subst, ◌∙◌, add-zero, true≢false, arith}
 use Rattle.std.specs.Option.{option_or}
 use mathlib.Core.Path.{fun_ext}
+use Rattle.nj_text.specs.declared.spot.Spot.{Spot}
 use Rattle.nj_text.specs.Words.{WordText}
 use Rattle.nj_manifest.specs.LineSteps.{NameText}
-use Rattle.nj_manifest.specs.Statements.{LineText}
+use Rattle.nj_manifest.specs.Statements.{LineText, StatementText}
 use Rattle.nj_scope.specs.Readings.{EachPathOnce, paths_of}
 use Rattle.nj_scope.specs.Scopes.{Bounds, value_in, expanded, rule_at}
 use Rattle.nj_scope.specs.Declarations.{DeclarationsText, DeclaredBy, SameScopes}
@@ -12,14 +13,16 @@ use Rattle.nj_scope.specs.Limits.{is_depth}
 use Rattle.nj_scope.specs.Pools.{is_pool}
 use Rattle.nj_scope.specs.ReadingList.{ReadStatement, scope_of, binds, bounds, files_opened, opens_file, rules, is_declared, pools}
 use Rattle.nj_faults.specs.declared.fault.GraphFault.{GraphFault}
+use Rattle.nj_faults.specs.declared.fault.PlaceRef.{PlaceRef}
+use Rattle.nj_graph.specs.declared.reader.OpenFile.{OpenFile}
 use Rattle.nj_graph.specs.declared.reader.Reader.{Reader}
 use Rattle.nj_faults.specs.declared.fault.Cause.TheVariants.{BadDepth, DuplicateRule, DuplicatePool}
 use Rattle.nj_faults.specs.Faults.{fault_at}
-use Rattle.nj_graph.specs.Reading.{expanded_in, fault_if, rule_fault, depth_fault, pool_fault, own_fault, path_named, with_all_new, paths_read}
-use Rattle.nj_statements.specs.Answers.{HoldsEdges, ReadsStatement}
+use Rattle.nj_graph.specs.Reading.{entry_at, expanded_in, fault_if, rule_fault, depth_fault, pool_fault, own_fault, path_named, with_all_new, paths_read}
+use Rattle.nj_statements.specs.Answers.{HoldsEdges, ReadsStatement, entry_at_place}
 use Rattle.nj_graph.specs.Graph.{IsOpenScope}
 use Rattle.nj_graph.proofs.OpenScopes.{open-next}
-use Rattle.nj_graph.specs.Inside.ReaderContracts.{Holds, Grows, Checks, Declares}
+use Rattle.nj_graph.specs.Inside.ReaderContracts.{Holds, Grows, Checks, Declares, site_of}
 
 -- a statement that names no file
 pub holds-next : (main : List ℕ) (old held : Reader) (entries : List ReadStatement) (e : ReadStatement) → Holds main old entries → DeclaredBy held.declarations (e ∷ entries) → held.opened ≡ old.opened → held.files ≡ old.files
@@ -100,6 +103,14 @@ pub same-grows : (before after : DeclarationsText) → SameScopes before after �
 same-grows before after same = let count = same.count in record { count = omega (arith, count); parents = λ n below. same.parents n }
 
 -- ---- statements that say what is built
+
+-- a statement at a place of an open file
+pub placed-entry : (file : OpenFile) (place : PlaceRef) (spot : Spot) (around : List ℕ) (depth : ℕ) (item : StatementText)
+    → place.file.now ≡ file.name.now → place.spot ≡ spot
+    → entry_at_place place file.scope around depth item ≡ entry_at (site_of file around depth) (record { spot = spot; item = item })
+placed-entry file place spot around depth item file_is spot_is =
+    ap (λ (name : List ℕ). entry_at (record { file = name; depth = depth; number = file.scope; around = around }) (record { spot = place.spot; item = item })) file_is
+    ∙ ap (λ (s : Spot). entry_at (site_of file around depth) (record { spot = s; item = item })) spot_is
 
 -- a statement by which the declarations stay, and the edges are those of one statement more
 pub built-declares : (main : List ℕ) (old held : Reader) (entries : List ReadStatement) (e : ReadStatement) (result : Result (Unit {0}) GraphFault) → Holds main old entries

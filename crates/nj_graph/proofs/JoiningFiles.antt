@@ -8,10 +8,10 @@ use Rattle.nj_scope.specs.ReadingList.{ReadStatement}
 use Rattle.nj_faults.specs.declared.fault.Place.{Place}
 use Rattle.nj_faults.specs.declared.fault.GraphFault.{GraphFault}
 use Rattle.nj_faults.specs.declared.fault.Cause.TheVariants.{Missing, PathNotText}
-use Rattle.nj_faults.specs.Faults.{no_memory}
+use Rattle.nj_faults.specs.Faults.{IsFault, no_memory}
 use Rattle.nj_statements.specs.EdgeList.{Pending, edges_read}
 use Rattle.nj_statements.specs.Built.{EdgeDetail, detail_at, detail_of}
-use Rattle.nj_statements.specs.Answers.{IsFault, Checks}
+use Rattle.nj_statements.specs.Answers.{Checks}
 use Rattle.nj_statements.specs.Joining.{lacking_fault}
 use Rattle.nj_statements.specs.JoiningHeld.{JoiningText}
 use Rattle.nj_graph.specs.Reading.{Refused, Lacking, ReadingText, end_by, with_new, stopped, answer_read, with_all_new}

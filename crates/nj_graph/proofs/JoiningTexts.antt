@@ -12,8 +12,7 @@ use Rattle.nj_manifest.proofs.Starts.{ahead}
 use Rattle.nj_manifest.proofs.DyndepMeasures.{entry-takes, version-takes, left_entry-takes, text-ahead}
 use Rattle.nj_scope.specs.ReadingList.{ReadStatement}
 use Rattle.nj_faults.specs.declared.fault.GraphFault.{GraphFault}
-use Rattle.nj_faults.specs.Faults.{fault_in, no_memory}
-use Rattle.nj_statements.specs.Answers.{IsFault}
+use Rattle.nj_faults.specs.Faults.{IsFault, fault_in, no_memory}
 use Rattle.nj_statements.specs.Joining.{entry_fault, with_entry}
 use Rattle.nj_statements.specs.JoiningHeld.{JoiningText, HoldsJoined}
 use Rattle.nj_graph.specs.Parsed.{Parsed, none_parsed, and_parsed, parsed_in}

@@ -18,7 +18,7 @@ use Rattle.nj_graph.specs.declared.reader.Reader.{Reader}
 use Rattle.nj_graph.specs.declared.reader.OpenFile.{OpenFile}
 use Rattle.nj_faults.specs.declared.fault.Place.{Place}
 use Rattle.nj_faults.specs.declared.fault.Cause.{Cause}
-use Rattle.nj_faults.specs.Faults.{fault_at, fault_in, no_memory}
+use Rattle.nj_faults.specs.Faults.{IsFault, fault_at, fault_in, no_memory}
 use Rattle.nj_graph.specs.Reading.{Site, entry_at, expanded_in, place_at, path_fault, fault_if, depth_fault, item_fault, own_fault, Whole, Refused, ReadingText, Opens, item_read, unless_fault, statement_read, opened_in, text_read, path_named, with_new, with_all_new, paths_read, path_at_fault, paths_come_to}
 use Rattle.nj_graph.specs.Inside.ReaderContracts.{site_scope}
 use Rattle.nj_edges.specs.Edges.{EdgePaths}
@@ -30,7 +30,7 @@ use Rattle.nj_statements.proofs.Holding.{names_files, holds-other}
 use Rattle.nj_graph.specs.Runs.{IsRead, Stops}
 use Rattle.nj_graph.specs.Loads.{reached_from}
 use Rattle.nj_graph.specs.Graph.{IsOpenScope}
-use Rattle.nj_graph.specs.Inside.ReaderContracts.{named_item, named_site, site_of, EntersScope, Holds, Grows, IsOpenIn, IsFault, ReadsOne, StopsAt, OpensText, OpensNamed}
+use Rattle.nj_graph.specs.Inside.ReaderContracts.{named_item, named_site, site_of, EntersScope, Holds, Grows, IsOpenIn, ReadsOne, StopsAt, OpensText, OpensNamed}
 use Rattle.nj_graph.proofs.Comes.{item-comes, statements-come}
 use Rattle.nj_graph.proofs.Tables.{read-nothing}
 use Rattle.nj_graph.proofs.OpenScopes.{open-grown, open-next}

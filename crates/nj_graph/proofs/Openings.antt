@@ -14,7 +14,7 @@ use Rattle.nj_faults.specs.declared.fault.Cause.{Cause}
 use Rattle.nj_faults.specs.declared.fault.Cause.TheVariants.{Missing, TooDeep, TooManyOpenings}
 use Rattle.nj_faults.specs.Faults.{no_memory}
 use Rattle.nj_graph.specs.Reading.{Site, Lacking, most_opened, stopped, text_read, answer_read, if_room, opened_in, path_named, with_new, with_all_new, paths_read, path_at_fault, paths_come_to}
-use Rattle.nj_graph.specs.Inside.ReaderContracts.{IsFault, StopsAt, OpensText, OpensPath}
+use Rattle.nj_graph.specs.Inside.ReaderContracts.{StopsAt, OpensText, OpensPath}
 use Rattle.nj_graph.specs.Runs.{IsRead}
 use Rattle.nj_graph.specs.Loads.{reached_from}
 use Rattle.nj_graph.proofs.Found.{FindsText, FindsNone, CannotTell, HasNoMemory}
@@ -24,11 +24,6 @@ use Rattle.nj_graph.proofs.Comes.{opened-comes, opened-names}
 absent : {X : Type 0} (o : Option X) → is_some o ≡ false → o ≡ None
 absent None h = refl
 absent (Some x) h = absurd (true≢false h)
-
--- a fault is the expected one, or out of memory
-pub by-fault : {R : Type 0} (expected fault : GraphFault) → IsFault (Some expected) fault → (fault ≡ no_memory → R) → (fault ≡ expected → R) → R
-by-fault expected fault (inl none) lacks is = lacks none
-by-fault expected fault (inr told) lacks is = is cc
 
 -- ---- what is read of a file
 

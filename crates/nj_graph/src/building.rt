@@ -9,7 +9,6 @@ ghost use Rattle.nj_graph.specs.Inside.ReaderContracts.{InFile, ScopesGrow, Decl
 use crate::reader::{OpenFile, Reader};
 use nj_faults::GraphFault;
 use nj_manifest::{Build, Spot, Word};
-use nj_statements::StatementPlace;
 use std::alloc::Global;
 
 impl Reader {
@@ -28,13 +27,9 @@ impl Reader {
         ensures files { self.new.files ≡ self.old.files }
         ensures grows { OnOk result (ScopesGrow self.old self.new) }
     {
-        let place = StatementPlace {
-            file: file.name,
-            spot,
-            scope: file.scope,
-        };
+        let place = file.place(spot);
         self.building
-            .read_build(alloc, &self.declarations, place, build)
+            .read_build(alloc, &self.declarations, place, file.scope, build)
     }
 
     /// Reads a `default` statement, whose first byte is at this place.
@@ -53,12 +48,8 @@ impl Reader {
         ensures files { self.new.files ≡ self.old.files }
         ensures grows { OnOk result (ScopesGrow self.old self.new) }
     {
-        let place = StatementPlace {
-            file: file.name,
-            spot,
-            scope: file.scope,
-        };
+        let place = file.place(spot);
         self.building
-            .read_default(alloc, &self.declarations, place, words)
+            .read_default(alloc, &self.declarations, place, file.scope, words)
     }
 }

@@ -8,7 +8,7 @@ ghost use Rattle.nj_graph.specs.Graph.{edges_of, files_of, IsGraphOf, rule_name,
 
 use crate::graph::{Graph, rule_name};
 use nj_edges::{EdgeGraph, EdgeNo, FileNo};
-use nj_statements::PlaceRef;
+use nj_faults::PlaceRef;
 use std::ops::Deref;
 
 impl Deref for Graph {

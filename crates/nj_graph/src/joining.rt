@@ -13,10 +13,10 @@ use crate::graph::Graph;
 use crate::loading::Loaded;
 use crate::opening::text_at;
 use nj_edges::FileNo;
-use nj_faults::{Cause, GraphFault};
+use nj_faults::{Cause, GraphFault, PlaceRef};
 use nj_manifest::{DyndepParser, Entry};
 use nj_scope::{FileSource, FileTable};
-use nj_statements::{DyndepFile, Joining, PlaceRef};
+use nj_statements::{DyndepFile, Joining};
 use std::alloc::Global;
 
 /// Joins the dyndep files to which edges are bound ("Dynamic Dependencies" in the Ninja manual):
@@ -102,7 +102,7 @@ fn join_file<S: FileSource>(
     let DyndepFile { number, path, edge } = joining.file(index);
     let place = joining.edge_place(edge);
     let path = file_name(alloc, place, path)?;
-    let text = text_at(alloc, source, files, place.file, place.spot, &path)?;
+    let text = text_at(alloc, source, files, place, &path)?;
     join_text(alloc, joining, number, &path, &text)?;
     joining.end_file(alloc, number)
 }
@@ -115,7 +115,7 @@ fn file_name(alloc: Global, place: PlaceRef<'_>, path: &[u8]) -> Result<String, 
     let bytes = Vec::from_slice(alloc, path)?;
     match String::from_utf8(bytes) {
         Ok(path) => Ok(path),
-        Err(_) => Err(place.fault(alloc, Cause::PathNotText)?),
+        Err(_) => Err(place.fault(alloc, Cause::PathNotText)),
     }
 }
 

@@ -22,8 +22,7 @@ pub use laws::{
 };
 pub use loading::{Loaded, load};
 pub use nj_edges::{EdgeGraph, EdgeNo, FileNo, Kind};
-pub use nj_faults::{Cause, GraphFault, Name, Place};
+pub use nj_faults::{Cause, GraphFault, Name, Place, PlaceRef};
 pub use nj_manifest::{Spot, Wanted};
 pub use nj_scope::{FileSource, FileTable, HashKeys, MemoryFiles, SourceFault};
-pub use nj_statements::PlaceRef;
 pub use targets::pick_target;

@@ -10,7 +10,7 @@ ghost use Rattle.nj_graph.specs.Inside.ReaderContracts.{site_scope};
 ghost use Rattle.nj_graph.specs.Inside.ReaderContracts.{Holds, InFile, IsOpenIn, ScopesGrow, site_of, place_in, named_item, named_site, EntersScope, AnswersText, OpensOrStops, SaysPath, OpensPath};
 
 use crate::reader::{OpenFile, Opened, Reader};
-use nj_faults::{Cause, GraphFault, Name, Place};
+use nj_faults::{Cause, GraphFault, Name, PlaceRef};
 use nj_manifest::{Spot, Word};
 use nj_scope::{FileSource, FileTable, SourceFault};
 use std::alloc::{AllocError, Global};
@@ -92,8 +92,7 @@ impl Reader {
         if self.opened >= MOST_OPENED {
             return Err(file.fault(alloc, spot, Cause::TooManyOpenings));
         }
-        let name = file.name.as_bytes();
-        let text = text_at(alloc, source, &mut self.files, name, spot, path)?;
+        let text = text_at(alloc, source, &mut self.files, file.place(spot), path)?;
         self.opened += 1;
         Ok(text)
     }
@@ -127,16 +126,14 @@ pub(crate) fn text_at<S: FileSource>(
     alloc: Global,
     source: &mut S,
     files: &mut FileTable,
-    file: &[u8],
-    spot: Spot,
+    place: PlaceRef<'_>,
     path: &str,
 ) -> Result<RcSlice<u8>, GraphFault>
     ensures { AnswersText (S.state source.old) (S.state source.new) files.old files.new
-        (record { file = file.now; spot = spot }) path.now result }
+        (record { file = place.entry.file.now; spot = place.entry.spot }) path.now result }
 {
     let name = Name::new(alloc, path.as_bytes())?;
-    let file = Name::new(alloc, file)?;
-    let place = Some(Place { file, spot });
+    let place = Some(place.to_place(alloc)?);
     match files.open(alloc, source, path) {
         Ok(Some(text)) => Ok(text),
         Ok(None) => Err(GraphFault {

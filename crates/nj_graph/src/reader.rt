@@ -3,12 +3,12 @@
 ghost use Rattle.std.specs.Prelude.{◌≡◌, ◌<◌, Some, None, length, IfOk, OnOk, IfSome};
 ghost use Rattle.nj_manifest.specs.Contents.{placed_text};
 ghost use Rattle.nj_scope.specs.Scopes.{parent_at};
-ghost use Rattle.nj_faults.specs.Faults.{fault_at};
+ghost use Rattle.nj_faults.specs.Faults.{IsFault, fault_at};
 ghost use Rattle.nj_graph.specs.Reading.{entry_at, opened_in, text_read, statement_read, main_read};
-ghost use Rattle.nj_graph.specs.Inside.ReaderContracts.{IsNew, InFile, ScopesGrow, IsFault, ReadsItem, ReadsOrStops, NextIs};
+ghost use Rattle.nj_graph.specs.Inside.ReaderContracts.{IsNew, InFile, ScopesGrow, ReadsItem, ReadsOrStops, NextIs};
 
 use crate::opening::{Naming, text_at};
-use nj_faults::{Cause, GraphFault};
+use nj_faults::{Cause, GraphFault, PlaceRef};
 use nj_manifest::{Parser, Placed, Spot, Statement};
 use nj_scope::{Declarations, FileSource, FileTable, HashKeys};
 use nj_statements::Building;
@@ -28,15 +28,23 @@ pub(crate) struct OpenFile<'a> {
     pub(crate) left: usize,
 }
 
-impl OpenFile<'_> {
-    // The fault of this cause at a place of the file, or out of memory.
+impl<'a> OpenFile<'a> {
+    /// The place in the file.
+    pub(crate) fn place(self, spot: Spot) -> PlaceRef<'a>
+        ensures file { result.file.now ≡ self.entry.name.now }
+        ensures spot { result.spot ≡ spot }
+    {
+        PlaceRef {
+            file: self.name.as_bytes(),
+            spot,
+        }
+    }
+
+    /// The fault of this cause at a place of the file, or out of memory.
     pub(crate) fn fault(self, alloc: Global, spot: Spot, cause: Cause) -> GraphFault
         ensures { IsFault (Some (fault_at self.entry.name.now spot cause)) result }
     {
-        match GraphFault::at(alloc, self.name, spot, cause) {
-            Ok(fault) => fault,
-            Err(_) => GraphFault::out_of_memory(),
-        }
+        self.place(spot).fault(alloc, cause)
     }
 }
 
@@ -83,8 +91,11 @@ impl Reader {
             self.old self.new (λ files. main_read files main.now) result }
         ensures outermost { OnOk result (parent_at self.new.declarations.scopes 0 ≡ None) }
     {
-        let front = Spot { line: 1, column: 1 };
-        let text = text_at(alloc, source, &mut self.files, main.as_bytes(), front, main)?;
+        let front = PlaceRef {
+            file: main.as_bytes(),
+            spot: Spot { line: 1, column: 1 },
+        };
+        let text = text_at(alloc, source, &mut self.files, front, main)?;
         let file = OpenFile {
             name: main,
             scope: 0,

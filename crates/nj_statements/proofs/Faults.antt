@@ -2,15 +2,22 @@
 use Rattle.std.proofs.Common.{◌≡◌, ℕ, ◌+◌, ◌<◌, inl, inr, Option, Some, None, Result, Ok, Err, IsErrAnd, List, [], ◌∷◌, ◌++◌, length, drop, get_or, refl, sym, ap, subst, ◌∙◌}
 use Rattle.std.specs.Option.{option_or}
 use Rattle.std.proofs.lemmas.List.{append_assoc, append-nil}
+use Rattle.std.proofs.lemmas.Option.{same_Some}
 use Rattle.nj_text.specs.declared.word.Word.{Word}
 use Rattle.nj_text.specs.Words.{WordText, word_text}
 use Rattle.nj_manifest.specs.Contents.{words_text}
 use Rattle.nj_edges.specs.Edges.{EdgePaths}
 use Rattle.nj_faults.specs.declared.fault.GraphFault.{GraphFault}
+use Rattle.nj_faults.specs.Faults.{IsFault, no_memory}
 use Rattle.nj_statements.specs.EdgeList.{Values, path_said, paths_said}
 use Rattle.nj_statements.specs.BuildFaults.{first_fault, empty_path, two_makers, outputs_fault}
-use Rattle.nj_statements.specs.Answers.{IsFault, Checks}
+use Rattle.nj_statements.specs.Answers.{Checks}
 use Rattle.nj_statements.proofs.Lists.{at-next}
+
+-- a fault is the expected one, or out of memory
+pub by-fault : {R : Type 0} (expected f : GraphFault) → IsFault (Some expected) f → (f ≡ no_memory → R) → (f ≡ expected → R) → R
+by-fault expected f (inl none) lacks is = lacks none
+by-fault expected f (inr told) lacks is = is (sym (same_Some expected f told))
 
 pub fault-first : (a b : Option GraphFault) (f : GraphFault) → IsFault a f → IsFault (option_or a b) f
 fault-first a b f (inl m) = inl m

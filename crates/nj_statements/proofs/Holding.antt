@@ -20,9 +20,10 @@ use Rattle.nj_edges.specs.declared.files.FileNo.{FileNo}
 use Rattle.nj_edges.specs.EdgeTables.{no_files}
 use Rattle.nj_edges.specs.Files.{AreFiles}
 use Rattle.nj_faults.specs.declared.fault.GraphFault.{GraphFault}
+use Rattle.nj_faults.specs.Faults.{IsFault}
 use Rattle.nj_statements.specs.EdgeList.{Values, Block, EdgeText, Pending, build_block, path_said, paths_said, edge_of_build, edges_read, defaults_read, dyndep_of, pending_at, pending_read, block_at, block_of_edge}
 use Rattle.nj_statements.specs.declared.building.DyndepEdge.{DyndepEdge}
-use Rattle.nj_statements.specs.Answers.{BuildingText, ArePending, HoldsEdges, DetailText, IsDetail, AreDetails, IsFault, ReadsStatement, HoldsReferences}
+use Rattle.nj_statements.specs.Answers.{BuildingText, ArePending, HoldsEdges, DetailText, IsDetail, AreDetails, ReadsStatement, HoldsReferences}
 use Rattle.nj_statements.specs.Inside.EdgeSteps.{IsFileSaid, with_dyndep, AddsEdge, AddsTargets}
 use Rattle.nj_statements.proofs.Lists.{get-longer}
 use Rattle.nj_statements.proofs.ReferenceLemmas.{references-none, references-longer}

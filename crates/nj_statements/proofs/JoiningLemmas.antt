@@ -18,7 +18,7 @@ use Rattle.nj_edges.specs.Joining.{AddedFiles, JoinTable, changed_at, with_added
 use Rattle.nj_edges.proofs.EdgeLemmas.{same-number}
 use Rattle.nj_faults.specs.declared.fault.GraphFault.{GraphFault}
 use Rattle.nj_faults.specs.declared.fault.Cause.TheVariants.{DyndepExtra, DyndepTwice, DyndepNoStatement}
-use Rattle.nj_faults.specs.Faults.{fault_at}
+use Rattle.nj_faults.specs.Faults.{IsFault, fault_at}
 use Rattle.nj_statements.specs.declared.building.Detail.{Detail}
 use Rattle.nj_statements.specs.declared.building.DyndepEdge.{DyndepEdge}
 use Rattle.nj_statements.specs.EdgeList.{Pending, EdgeText, path_said, edges_read, paths_of_edges, pending_read}
@@ -26,7 +26,6 @@ use Rattle.nj_statements.specs.BuildFaults.{fault_if, empty_path, first_fault, o
 use Rattle.nj_statements.specs.Built.{EdgeDetail, detail_at, detail_of}
 use Rattle.nj_statements.specs.Inside.BuiltHeld.{detail_named, pending_named}
 use Rattle.nj_statements.specs.Joining.{no_values, discover, discovered_by, discover_for, edge_meant, with_entry, waits_for, meaning_fault, entry_fault, no_statement, lacking_fault}
-use Rattle.nj_statements.specs.Answers.{IsFault}
 use Rattle.nj_statements.specs.JoiningHeld.{unless_joined, still_waiting, pending_from, waiting_from, KeepsEdges, JoiningText, HoldsJoined, JoinsEntry, JoinsNothing}
 use Rattle.nj_statements.specs.Inside.JoiningSteps.{is_bound_to, count_waiting, fault_of_waiting, file_named, if_bound, maker_fault, edge_bound, IsMeant, joining_of, JoiningIsHeld}
 use Rattle.nj_statements.proofs.Lists.{get-longer}

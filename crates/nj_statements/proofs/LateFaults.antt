@@ -7,10 +7,9 @@ use Rattle.nj_text.specs.Paths.{clean_path_of}
 use Rattle.nj_scope.specs.Pools.{is_pool}
 use Rattle.nj_faults.specs.declared.fault.GraphFault.{GraphFault}
 use Rattle.nj_faults.specs.declared.fault.Cause.TheVariants.{UnknownPool, DyndepNotInput}
-use Rattle.nj_faults.specs.Faults.{fault_at}
+use Rattle.nj_faults.specs.Faults.{IsFault, fault_at}
 use Rattle.nj_edges.specs.Edges.{is_among}
 use Rattle.nj_statements.specs.BuildFaults.{fault_if, unknown_pool, dyndep_not_input}
-use Rattle.nj_statements.specs.Answers.{IsFault}
 
 -- ---- the pool
 

@@ -1,5 +1,5 @@
 -- What the reading of a statement answers, and how what is read is held.
-use Rattle.std.specs.Prelude.{◌≡◌, ◌⊎◌, ℕ, Option, Some, None, Result, Ok, Err}
+use Rattle.std.specs.Prelude.{◌≡◌, ℕ, Option, Some, None, Result, Ok, Err}
 use Rattle.std.specs.Prelude.{List, [], ◌∷◌, ◌<◌, map, length, slice_get, slice_index_or}
 use Rattle.nj_text.specs.declared.spot.Spot.{Spot}
 use Rattle.nj_manifest.specs.Statements.{StatementText}
@@ -11,17 +11,13 @@ use Rattle.nj_edges.specs.declared.files.FileNo.{FileNo}
 use Rattle.nj_edges.specs.EdgeTables.{EdgeTable, no_files}
 use Rattle.nj_edges.specs.Files.{AreFiles}
 use Rattle.nj_faults.specs.declared.fault.GraphFault.{GraphFault}
-use Rattle.nj_faults.specs.Faults.{no_memory}
+use Rattle.nj_faults.specs.declared.fault.PlaceRef.{PlaceRef}
+use Rattle.nj_faults.specs.Faults.{IsFault}
 use Rattle.nj_edge_env.specs.ReferencesHeld.{ReferringKeyText, TellsCycles}
 use Rattle.nj_statements.specs.declared.building.DyndepEdge.{DyndepEdge}
-use Rattle.nj_statements.specs.declared.place.StatementPlace.{StatementPlace}
 use Rattle.nj_statements.specs.EdgeList.{EdgeText, Pending, edges_read, paths_of_edges, defaults_read, pending_read, block_at}
 
 -- ---- faults
-
--- the fault is the expected one, or out of memory
-abbrev pub IsFault : Option GraphFault → GraphFault → Type 0
-IsFault expected fault = (fault ≡ no_memory) ⊎ (expected ≡ Some fault)
 
 -- there is no fault, or it is answered
 abbrev pub Checks : {A : Type 0} → Option GraphFault → Result A GraphFault → Type 0
@@ -106,12 +102,12 @@ pub record AddsNothing (before after : BuildingText) : Type 0 where
 
 -- ---- a statement
 
-abbrev pub entry_at_place : StatementPlace → (around : List ℕ) → (depth : ℕ) → StatementText → ReadStatement
-entry_at_place place around depth item = record {
+abbrev pub entry_at_place : PlaceRef → (scope : ℕ) → (around : List ℕ) → (depth : ℕ) → StatementText → ReadStatement
+entry_at_place place scope around depth item = record {
   file = place.file.now;
   spot = place.spot;
   depth = depth;
-  number = place.scope;
+  number = scope;
   around = around;
   item = item;
   discovered = None;

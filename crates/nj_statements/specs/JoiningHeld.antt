@@ -10,7 +10,7 @@ use Rattle.nj_faults.specs.declared.fault.GraphFault.{GraphFault}
 use Rattle.nj_statements.specs.EdgeList.{Pending, edges_read, paths_of_edges, defaults_read, pending_read, block_at}
 use Rattle.nj_statements.specs.Built.{EdgeDetail, detail_of}
 use Rattle.nj_statements.specs.Joining.{dyndep_files}
-use Rattle.nj_statements.specs.Answers.{IsFault}
+use Rattle.nj_faults.specs.Faults.{IsFault}
 
 -- ---- the edges that wait
 

@@ -17,12 +17,11 @@ ghost use Rattle.nj_statements.specs.Inside.EdgeSteps.{SeesNames, AddsTargets, w
 use crate::block::bind_block;
 use crate::context::Context;
 use crate::edge::add_edge;
-use crate::place::StatementPlace;
 use crate::references::{UsedRule, keep_references, rule_references};
 use crate::room::Room;
 use nj_edge_env::{Blocks, KeyReferences};
 use nj_edges::{Edges, FileNo, Files};
-use nj_faults::{Cause, GraphFault, Name};
+use nj_faults::{Cause, GraphFault, Name, PlaceRef};
 use nj_manifest::Build;
 use nj_scope::{Declarations, HashKeys, PHONY};
 use nj_text::{Spot, Word};
@@ -112,29 +111,34 @@ impl Building {
         &mut self,
         alloc: Global,
         declarations: &Declarations,
-        place: StatementPlace<'_>,
+        place: PlaceRef<'_>,
+        scope: usize,
         build: &Build<'_>,
     ) -> Result<(), GraphFault>
-        requires { place.scope < length declarations.now.scopes }
+        requires { scope < length declarations.now.scopes }
         ensures reads { (entries : List ReadStatement) (around : List ℕ) (depth : ℕ)
             → DeclaredBy declarations.now entries
-            → IsScope (parent_at declarations.now.scopes) place.entry.scope
-            (place.entry.scope ∷ around)
+            → IsScope (parent_at declarations.now.scopes) scope (scope ∷ around)
             → HoldsEdges self.old entries
-            → let e = entry_at_place place.entry around depth (build_text build.now) in
+            → let e = entry_at_place place.entry scope around depth (build_text build.now) in
             ReadsStatement self.new (build_fault e entries (outputs_text build.now)
             (used_rule build.now) (inputs_text build.now)
             (lines_text build.now.lines.items)) e entries result }
         ensures refused { OnErr result (AddsNothing self.old self.new) }
     {
-        let rule = match rule_named(declarations, place.scope, build.rule) {
+        let rule = match rule_named(declarations, scope, build.rule) {
             Some(rule) => rule,
             None => {
                 let cause = Cause::UnknownRule(Name::new(alloc, build.rule)?);
-                return Err(place.fault(alloc, build.rule_spot, cause));
+                let file = place.file;
+                let place = PlaceRef {
+                    file,
+                    spot: build.rule_spot,
+                };
+                return Err(place.fault(alloc, cause));
             }
         };
-        self.read_edge(alloc, declarations, place, build, rule)
+        self.read_edge(alloc, declarations, place, scope, build, rule)
     }
 
     // Reads a build statement that has this rule.
@@ -142,20 +146,20 @@ impl Building {
         &mut self,
         alloc: Global,
         declarations: &Declarations,
-        place: StatementPlace<'_>,
+        place: PlaceRef<'_>,
+        scope: usize,
         build: &Build<'_>,
         rule: UsedRule<'_>,
     ) -> Result<(), GraphFault>
-        requires { place.scope < length declarations.now.scopes }
+        requires { scope < length declarations.now.scopes }
         ensures reads { (entries : List ReadStatement) (around : List ℕ) (depth : ℕ)
             → DeclaredBy declarations.now entries
-            → IsScope (parent_at declarations.now.scopes) place.entry.scope
-            (place.entry.scope ∷ around)
-            → rule_in_force entries (place.entry.scope ∷ around) build.now.rule.now
+            → IsScope (parent_at declarations.now.scopes) scope (scope ∷ around)
+            → rule_in_force entries (scope ∷ around) build.now.rule.now
             ≡ Some rule.entry.number
             → slice_get (rule_texts entries) rule.entry.number ≡ Some rule.entry.rule.now
             → HoldsEdges self.old entries
-            → let e = entry_at_place place.entry around depth (build_text build.now) in
+            → let e = entry_at_place place.entry scope around depth (build_text build.now) in
             let outputs = outputs_text build.now in
             let inputs = inputs_text build.now in
             let lines = lines_text build.now.lines.items in
@@ -169,19 +173,20 @@ impl Building {
         // Room is made first, so that nothing can fail once the edge is there.
         self.details.reserve(1)?;
         self.dyndeps.reserve(1)?;
-        let file = self.names.name(place.file.as_bytes())?;
+        let file = self.names.name(place.file)?;
         keep_references(alloc, &mut self.references, rule)?;
         bind_block(
             &mut self.block_values,
             &mut self.room.text,
             declarations,
-            place.scope,
+            scope,
             edge,
             build.lines.as_slice(),
         )?;
         let context = Context {
             alloc,
             place,
+            scope,
             declarations,
             blocks: &self.block_values,
             edge,
@@ -199,7 +204,7 @@ impl Building {
         self.details.push_reserved(Detail {
             file,
             spot: place.spot,
-            scope: place.scope,
+            scope,
             rule: rule.number,
         });
         Ok(())
@@ -215,16 +220,16 @@ impl Building {
         &mut self,
         alloc: Global,
         declarations: &Declarations,
-        place: StatementPlace<'_>,
+        place: PlaceRef<'_>,
+        scope: usize,
         words: &[Word<'_>],
     ) -> Result<(), GraphFault>
-        requires { place.scope < length declarations.now.scopes }
+        requires { scope < length declarations.now.scopes }
         ensures reads { (entries : List ReadStatement) (around : List ℕ) (depth : ℕ)
             → DeclaredBy declarations.now entries
-            → IsScope (parent_at declarations.now.scopes) place.entry.scope
-            (place.entry.scope ∷ around)
+            → IsScope (parent_at declarations.now.scopes) scope (scope ∷ around)
             → HoldsEdges self.old entries
-            → let e = entry_at_place place.entry around depth (DefaultText (words_text words.now))
+            → let e = entry_at_place place.entry scope around depth (DefaultText (words_text words.now))
             in ReadsStatement self.new (default_fault e entries (words_text words.now))
             e entries result }
         ensures refused { OnErr result (self.new ≡ self.old) }
@@ -232,6 +237,7 @@ impl Building {
         let context = Context {
             alloc,
             place,
+            scope,
             declarations,
             blocks: &self.block_values,
             edge: self.details.as_slice().len(),

@@ -1,44 +1,18 @@
 //! The edges and defaults of a run, after its last statement.
 
-ghost use Rattle.std.specs.Prelude.{◌≡◌, List, ◌<◌, length, All, IfOk};
+ghost use Rattle.std.specs.Prelude.{◌≡◌, List, ◌<◌, Some, length, All};
 ghost use Rattle.nj_scope.specs.ReadingList.{ReadStatement};
 ghost use Rattle.nj_edges.specs.Files.{path_at, AreFiles};
-ghost use Rattle.nj_faults.specs.Faults.{fault_at};
+ghost use Rattle.nj_faults.specs.Faults.{IsFault, fault_at};
 ghost use Rattle.nj_statements.specs.Answers.{HoldsEdges};
 ghost use Rattle.nj_statements.specs.Built.{ComesTo, defaults_in_force, detail_at};
 
 use crate::building::{Building, Detail, DyndepEdge};
 use nj_edge_env::Blocks;
 use nj_edges::{EdgeGraph, EdgeNo, FileNo, Files, Finished};
-use nj_faults::{Cause, GraphFault, Name, Place};
-use nj_text::Spot;
-use std::alloc::{AllocError, Global};
+use nj_faults::{Cause, GraphFault, Name, PlaceRef};
+use std::alloc::Global;
 use std::marker::Model;
-
-/// A place in a file.
-#[derive(Clone, Copy, Debug, PartialEq, Eq)]
-pub struct PlaceRef<'a> {
-    /// The name under which the file was opened.
-    pub file: &'a [u8],
-    pub spot: Spot,
-}
-
-impl PlaceRef<'_> {
-    /// The fault of this cause at the place.
-    pub fn fault(self, alloc: Global, cause: Cause) -> Result<GraphFault, AllocError>
-        ensures { IfOk result (λ fault. fault
-            ≡ fault_at self.entry.file.now self.entry.spot cause) }
-    {
-        let file = Name::new(alloc, self.file)?;
-        Ok(GraphFault {
-            place: Some(Place {
-                file,
-                spot: self.spot,
-            }),
-            cause,
-        })
-    }
-}
 
 /// An edge without its files and its block: the place of its build statement, the numbers of its
 /// scope and of its rule.
@@ -109,22 +83,17 @@ impl Building {
             Finished::Cycle(cycle) => {
                 let detail = details[cycle.edge.0];
                 let output = Name::from(cycle.output);
-                Err(cycle_fault(alloc, &names, detail, output)?)
+                Err(cycle_fault(alloc, &names, detail, output))
             }
         }
     }
 }
 
 // The fault of a cycle at the statement of this edge, with this output of it.
-pub(crate) fn cycle_fault(
-    alloc: Global,
-    names: &Files,
-    detail: Detail,
-    output: Name,
-) -> Result<GraphFault, AllocError>
+pub(crate) fn cycle_fault(alloc: Global, names: &Files, detail: Detail, output: Name) -> GraphFault
     requires { detail.file.0 < length names.now }
-    ensures { IfOk result (λ fault. fault
-        ≡ fault_at (path_at names.now detail.file) detail.spot (Cause.Cycle output)) }
+    ensures { IsFault (Some (fault_at (path_at names.now detail.file) detail.spot
+        (Cause.Cycle output))) result }
 {
     place_of(names, detail).fault(alloc, Cause::Cycle(output))
 }

@@ -1,10 +1,12 @@
 //! Where a statement stands, and what names mean there.
 
-ghost use Rattle.std.specs.Prelude.{◌<◌, length};
+ghost use Rattle.std.specs.Prelude.{◌<◌, Some, length};
+ghost use Rattle.nj_faults.specs.Faults.{IsFault, fault_at};
 
-use crate::place::StatementPlace;
 use nj_edge_env::Blocks;
+use nj_faults::{Cause, GraphFault, PlaceRef};
 use nj_scope::Declarations;
+use nj_text::Spot;
 use std::alloc::Global;
 
 /// Where a statement stands, and what names mean there: what the block of its edge binds, else
@@ -13,9 +15,20 @@ use std::alloc::Global;
 #[derive(Clone, Copy)]
 pub(crate) struct Context<'a> {
     pub(crate) alloc: Global,
-    pub(crate) place: StatementPlace<'a>,
+    pub(crate) place: PlaceRef<'a>,
+    pub(crate) scope: usize,
     pub(crate) declarations: &'a Declarations,
     pub(crate) blocks: &'a Blocks,
     pub(crate) edge: usize,
-    ghost scope_known: { place.scope < length declarations.now.scopes },
+    ghost scope_known: { scope < length declarations.now.scopes },
+}
+
+impl Context<'_> {
+    /// The fault of this cause at a place of the file, or out of memory.
+    pub(crate) fn fault(self, spot: Spot, cause: Cause) -> GraphFault
+        ensures { IsFault (Some (fault_at self.entry.place.file.now spot cause)) result }
+    {
+        let file = self.place.file;
+        PlaceRef { file, spot }.fault(self.alloc, cause)
+    }
 }

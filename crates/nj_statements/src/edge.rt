@@ -45,7 +45,7 @@ impl Context<'_> {
             Some(file) => Ok(file),
             None => {
                 let cause = Cause::UnknownTarget(Name::new(self.alloc, path)?);
-                Err(self.place.fault(self.alloc, word.spot, cause))
+                Err(self.fault(word.spot, cause))
             }
         }
     }
@@ -71,7 +71,7 @@ impl Context<'_> {
             let path = self.path(room, word)?;
             if !edges.add_output(path)? {
                 let cause = Cause::TwoMakers(Name::new(self.alloc, path)?);
-                return Err(self.place.fault(self.alloc, word.spot, cause));
+                return Err(self.fault(word.spot, cause));
             }
         }
         Ok(())
@@ -238,7 +238,7 @@ fn late_edge<'a>(
     requires { EndWithin kinds (length edges.now.«open».outputs)
         (length edges.now.«open».inputs) }
     ensures declarations { result.declarations.now ≡ context.entry.declarations.now }
-    ensures scope { result.scope ≡ context.entry.place.scope }
+    ensures scope { result.scope ≡ context.entry.scope }
     ensures names { (file : Values) → late_names result file
         ≡ names_read (edge_read edges.now.«open» kinds (rule.entry.number == 0))
         (bound_by context.entry) rule.entry.rule.now file }
@@ -251,7 +251,7 @@ fn late_edge<'a>(
         edge: context.edge,
         rule: rule.rule,
         declarations: context.declarations,
-        scope: context.place.scope,
+        scope: context.scope,
     }
 }
 
@@ -275,7 +275,7 @@ pub(crate) fn add_edge(
         (outputs_text build.now) (inputs_text build.now))
         (names_fault context.entry.place.file.now context.entry.place.spot (pools sees.entries)
         (inputs_of paths) (names_read paths (bound_by context.entry) rule.entry.rule.now
-        (value_after sees.entries (context.entry.place.scope ∷ sees.around))))) result }
+        (value_after sees.entries (context.entry.scope ∷ sees.around))))) result }
     ensures added { (values : Values) → SeesNames context.entry values
         → edges.old.«open» ≡ no_files
         → OnOk result (AddsEdge edges.old edges.new (edge_paths (stated_paths values
@@ -286,7 +286,7 @@ pub(crate) fn add_edge(
         (inputs_text build.now) (rule.entry.number == 0)) in
         IfOk result (λ file. IsFileSaid edges.new.files file (file_said (asked_text
         (names_read paths (bound_by context.entry) rule.entry.rule.now
-        (value_after sees.entries (context.entry.place.scope ∷ sees.around))) (codes "dyndep")))) }
+        (value_after sees.entries (context.entry.scope ∷ sees.around))) (codes "dyndep")))) }
     ensures refused { OnErr result (KeepsRead edges.old edges.new) }
 {
     let is_phony = rule.number == PHONY;

@@ -11,21 +11,21 @@ ghost use Rattle.nj_scope.specs.ReadingList.{ReadStatement};
 ghost use Rattle.nj_edges.specs.Edges.{edge_at, first_output, first_edge, maker_of};
 ghost use Rattle.nj_edges.specs.Files.{path_at};
 ghost use Rattle.nj_edges.specs.Joining.{none_added};
-ghost use Rattle.nj_faults.specs.Faults.{fault_at};
+ghost use Rattle.nj_faults.specs.Faults.{IsFault, fault_at};
 ghost use Rattle.nj_statements.specs.EdgeList.{path_said, paths_said, pending_read};
 ghost use Rattle.nj_statements.specs.BuildFaults.{empty_path, first_fault, outputs_fault};
 ghost use Rattle.nj_statements.specs.Built.{ComesTo, IsBuiltOf, detail_at};
 ghost use Rattle.nj_statements.specs.Joining.{no_values, entry_fault, with_entry, lacking_fault};
-ghost use Rattle.nj_statements.specs.Answers.{Checks, IsFault};
+ghost use Rattle.nj_statements.specs.Answers.{Checks};
 ghost use Rattle.nj_statements.specs.JoiningHeld.{HoldsJoined, JoinsEntry, JoinsNothing, KeepsEdges, has_pending, still_waiting};
 ghost use Rattle.nj_statements.specs.Inside.JoiningSteps.{IsMeant, fault_of_waiting, bind_all, first_edges, count_bound, is_bound_to, if_bound, maker_fault, edge_bound, with_added_outputs, with_added_inputs};
 
 use crate::building::{Detail, DyndepEdge};
-use crate::built::{Built, PlaceRef, cycle_fault, place_of};
+use crate::built::{Built, cycle_fault, place_of};
 use crate::room::Room;
 use nj_edge_env::Blocks;
 use nj_edges::{EdgeNo, FileNo, Files, Finished, JoiningEdges};
-use nj_faults::{Cause, GraphFault, Name};
+use nj_faults::{Cause, GraphFault, Name, PlaceRef};
 use nj_manifest::{Entry, Word};
 use nj_text::{Spot, TextFault};
 use std::alloc::{AllocError, Global};
@@ -257,14 +257,14 @@ impl Joining {
     ) -> Result<GraphFault, AllocError>
         requires file { file.0 < length self.now.table.files }
         requires edge { edge.0 < length self.now.table.stated }
-        ensures { IfOk result (λ fault. fault ≡ fault_of_waiting
+        ensures { IfOk result (λ fault. IsFault (Some (fault_of_waiting
             (path_at self.now.table.files file) (detail_at self.now.details edge.0)
-            (edge_at self.now.table.stated edge.0)) }
+            (edge_at self.now.table.stated edge.0))) fault) }
     {
         let output = Name::new(alloc, first_output(&self.edges, edge))?;
         let path = Name::new(alloc, self.edges.files().path(file))?;
         let place = self.edge_place(edge);
-        place.fault(alloc, Cause::DyndepNoStatement(output, path))
+        Ok(place.fault(alloc, Cause::DyndepNoStatement(output, path)))
     }
 
     /// What the edges yield with what was joined to them, once no edge waits. Takes time in
@@ -298,7 +298,7 @@ impl Joining {
             Finished::Cycle(cycle) => {
                 let detail = details[cycle.edge.0];
                 let output = Name::from(cycle.output);
-                Err(cycle_fault(alloc, &names, detail, output)?)
+                Err(cycle_fault(alloc, &names, detail, output))
             }
         }
     }
@@ -451,10 +451,8 @@ impl DyndepLine<'_> {
     fn fault(self, spot: Spot, cause: Cause) -> GraphFault
         ensures { IsFault (Some (fault_at self.entry.name.now spot cause)) result }
     {
-        match GraphFault::at(self.alloc, self.name, spot, cause) {
-            Ok(fault) => fault,
-            Err(_) => GraphFault::out_of_memory(),
-        }
+        let file = self.name.as_bytes();
+        PlaceRef { file, spot }.fault(self.alloc, cause)
     }
 }
 

@@ -53,7 +53,7 @@ impl Context<'_> {
         match references.variable_cycle(self.alloc, edge.blocks, edge.edge)? {
             Some(key) => {
                 let cause = Cause::RuleVariableCycle(Name::new(self.alloc, key)?);
-                Err(self.place.fault(self.alloc, self.place.spot, cause))
+                Err(self.place.fault(self.alloc, cause))
             }
             None => Ok(()),
         }
@@ -72,7 +72,7 @@ impl Context<'_> {
             return Ok(());
         }
         let cause = Cause::UnknownPool(Name::new(self.alloc, pool)?);
-        Err(self.place.fault(self.alloc, self.place.spot, cause))
+        Err(self.place.fault(self.alloc, cause))
     }
 
     // The dyndep file of the edge, if there is one. Refuses one that is no input of the edge.
@@ -101,7 +101,7 @@ impl Context<'_> {
             return Ok(Some(file));
         }
         let cause = Cause::DyndepNotInput(Name::new(self.alloc, path)?);
-        Err(self.place.fault(self.alloc, self.place.spot, cause))
+        Err(self.place.fault(self.alloc, cause))
     }
 }
 

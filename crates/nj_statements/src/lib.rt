@@ -10,15 +10,13 @@ mod joining;
 mod late;
 mod laws;
 mod names;
-mod place;
 mod references;
 mod room;
 
 pub use building::Building;
-pub use built::{Built, EdgeDetail, PlaceRef};
+pub use built::{Built, EdgeDetail};
 pub use joining::{DyndepFile, Joining};
 pub use laws::{
     discovered_files_are_added, dyndep_files_stand_once, entries_add_to_their_edges,
     no_file_gets_two_makers, pending_edges_rise,
 };
-pub use place::StatementPlace;

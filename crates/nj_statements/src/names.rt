@@ -21,7 +21,7 @@ impl Context<'_> {
     {
         match self.blocks.value(self.edge, name) {
             Some(value) => value,
-            None => self.declarations.value(self.place.scope, name),
+            None => self.declarations.value(self.scope, name),
         }
     }
 
@@ -65,9 +65,7 @@ impl Context<'_> {
         self.expand(&mut room.text, word)?;
         match room.clean_path() {
             Ok(path) => Ok(path),
-            Err(TextFault::EmptyPath) => {
-                Err(self.place.fault(self.alloc, word.spot, Cause::EmptyPath))
-            }
+            Err(TextFault::EmptyPath) => Err(self.fault(word.spot, Cause::EmptyPath)),
             Err(TextFault::OutOfMemory) => Err(GraphFault::out_of_memory()),
         }
     }

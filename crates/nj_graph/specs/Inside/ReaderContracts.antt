@@ -27,9 +27,9 @@ use Rattle.nj_graph.specs.declared.opening.Naming.TheVariants as naming
 use Rattle.nj_graph.specs.declared.reader.Reader.{Reader}
 use Rattle.nj_graph.specs.declared.reader.OpenFile.{OpenFile}
 use Rattle.nj_graph.specs.declared.reader.Opened.{Opened}
-use Rattle.nj_faults.specs.Faults.{fault_in, no_memory}
+use Rattle.nj_faults.specs.Faults.{IsFault, fault_in, no_memory}
 use Rattle.nj_statements.specs.Answers.{HoldsEdges}
-pub use Rattle.nj_statements.specs.Answers.{IsFault, Checks}
+pub use Rattle.nj_statements.specs.Answers.{Checks}
 use Rattle.nj_graph.specs.Graph.{IsOpenScope}
 use Rattle.nj_graph.specs.Reading.{Site, opened_site, own_fault, Whole, ReadingText, Opens, opened_in, statement_read}
 use Rattle.nj_graph.specs.Reading.{text_read, path_named, with_new, paths_read}

@@ -34,7 +34,7 @@ abbrev pub bound_by : Context → Block
 bound_by c = bound_in c.blocks.now c.edge
 
 abbrev pub SeesNames : Context → Values → Type 0
-SeesNames c values = Sees c.declarations.now c.place.scope (bound_by c) values
+SeesNames c values = Sees c.declarations.now c.scope (bound_by c) values
 
 abbrev pub with_outputs : EdgeTable → List (List ℕ) → EdgeTable
 with_outputs t [] = t

@@ -1,5 +1,6 @@
-use Rattle.std.proofs.Common.{Some, IsUtf8, inr, ap, sym, subst, ◌∙◌, true≢false}
+use Rattle.std.proofs.Common.{Some, IsUtf8, inl, inr, ap, sym, subst, ◌∙◌, true≢false}
 use Rattle.nj_faults.specs.declared.fault.Cause.TheVariants.{PathNotText}
+use Rattle.nj_statements.proofs.Faults.{by-fault}
 use Rattle.nj_graph.proofs.JoiningTables.{name-utf8, name-bad}
 use Rattle.nj_graph.proofs.joining.file_name.Goals as goal
 
@@ -10,4 +11,5 @@ returns-in-Ok c =
 
 pub returns : goal.returns
 returns c =
-    inr (name-bad c.args.path.now (λ good. true≢false (sym (c.in-Err.ensures.succeeds (subst IsUtf8 (sym c.in_ok-bytes.ensures.items) good)))), c.in_ok-fault-in-Err.ensures)
+    let bad = name-bad c.args.path.now (λ good. true≢false (sym (c.in-Err.ensures.succeeds (subst IsUtf8 (sym c.in_ok-bytes.ensures.items) good)))) in
+    by-fault _ _ c.fault.ensures inl (λ is. inr (bad, is))

@@ -1,8 +1,8 @@
 use Rattle.std.proofs.Common.{◌≡◌, None, sym, subst, ◌∙◌}
 use Rattle.std.specs.Option.{option_or}
 use Rattle.nj_manifest.specs.Contents.{words_text, inputs_text}
+use Rattle.nj_faults.specs.Faults.{IsFault}
 use Rattle.nj_statements.specs.BuildFaults.{empty_path, first_fault, inputs_fault}
-use Rattle.nj_statements.specs.Answers.{IsFault}
 use Rattle.nj_statements.proofs.Faults.{fault-first, fault-second, both-none, first-four, err-checks}
 use Rattle.nj_statements.proofs.edge.add_all_inputs.Goals as goal
 

@@ -1,8 +1,9 @@
 use Rattle.std.proofs.Common.{◌≡◌, None, ◌++◌, ap, sym, subst, ◌∙◌}
 use Rattle.nj_manifest.specs.Contents.{words_text}
+use Rattle.nj_faults.specs.Faults.{IsFault}
 use Rattle.nj_statements.specs.EdgeList.{paths_said}
 use Rattle.nj_statements.specs.BuildFaults.{outputs_fault}
-use Rattle.nj_statements.specs.Answers.{IsFault, Checks}
+use Rattle.nj_statements.specs.Answers.{Checks}
 use Rattle.nj_statements.specs.Inside.EdgeSteps.{with_outputs}
 use Rattle.nj_statements.proofs.Faults.{fault-first, checks-second, outputs-append, err-checks}
 use Rattle.nj_statements.proofs.Tables.{outputs-open}

@@ -5,9 +5,9 @@ use Rattle.nj_scope.specs.ReadingList.{value_after, pools}
 use Rattle.nj_edges.specs.Edges.{EdgePaths, inputs_of}
 use Rattle.nj_edges.specs.EdgeTables.{edge_read}
 use Rattle.nj_edge_env.specs.LateTexts.{LateNames, asked_text}
+use Rattle.nj_faults.specs.Faults.{IsFault}
 use Rattle.nj_statements.specs.EdgeList.{stated_paths, edge_paths, file_said}
 use Rattle.nj_statements.specs.BuildFaults.{paths_fault, names_fault}
-use Rattle.nj_statements.specs.Answers.{IsFault}
 use Rattle.nj_statements.specs.Inside.EdgeSteps.{IsFileSaid, SeesLate, bound_by, names_read}
 use Rattle.nj_statements.proofs.Faults.{fault-second, both-none, err-checks}
 use Rattle.nj_statements.proofs.Adding.{adds-edge}
@@ -23,10 +23,10 @@ returns-in_err-dyndep-clause-fault c = λ values sees none tells.
     let block = bound_by c.args.context in
     let open_edge = c.add_files.new.edges.«open» in
     let paths : EdgePaths = edge_paths (stated_paths values outputs inputs (c.args.rule.number == 0)) in
-    let n : LateNames = names_read paths block c.args.rule.rule.now (value_after sees.entries (c.args.context.place.scope ∷ sees.around)) in
+    let n : LateNames = names_read paths block c.args.rule.rule.now (value_after sees.entries (c.args.context.scope ∷ sees.around)) in
     let named = c.in_ok-kinds.ensures.named values sees none in
     let inputs_are : inputs_of paths ≡ open_edge.inputs = sym (ap inputs_of named) ∙ inputs-read open_edge c.in_ok-kinds.kinds (c.args.rule.number == 0) (length open_edge.outputs) c.in_ok-kinds.ensures.within in
-    let late : SeesLate c.late_edge-edge.result sees.entries n = sees-late c.late_edge-edge.result c.args.context.declarations.now c.args.context.place.scope sees.entries sees.around (edge_read open_edge c.in_ok-kinds.kinds (c.args.rule.number == 0)) paths block c.args.rule.rule.now
+    let late : SeesLate c.late_edge-edge.result sees.entries n = sees-late c.late_edge-edge.result c.args.context.declarations.now c.args.context.scope sees.entries sees.around (edge_read open_edge c.in_ok-kinds.kinds (c.args.rule.number == 0)) paths block c.args.rule.rule.now
     c.late_edge-edge.ensures.declarations c.late_edge-edge.ensures.scope c.late_edge-edge.ensures.names named sees.declared sees.within in
     let f = c.in_err-dyndep.field-0.0 in
     let before = paths_fault file values c.args.edges.now.edges outputs inputs in
@@ -44,10 +44,10 @@ returns-clause-fault c = λ values sees none tells.
     let block = bound_by c.args.context in
     let open_edge = c.add_files.new.edges.«open» in
     let paths : EdgePaths = edge_paths (stated_paths values outputs inputs (c.args.rule.number == 0)) in
-    let n : LateNames = names_read paths block c.args.rule.rule.now (value_after sees.entries (c.args.context.place.scope ∷ sees.around)) in
+    let n : LateNames = names_read paths block c.args.rule.rule.now (value_after sees.entries (c.args.context.scope ∷ sees.around)) in
     let named = c.in_ok-kinds.ensures.named values sees none in
     let inputs_are : inputs_of paths ≡ open_edge.inputs = sym (ap inputs_of named) ∙ inputs-read open_edge c.in_ok-kinds.kinds (c.args.rule.number == 0) (length open_edge.outputs) c.in_ok-kinds.ensures.within in
-    let late : SeesLate c.late_edge-edge.result sees.entries n = sees-late c.late_edge-edge.result c.args.context.declarations.now c.args.context.place.scope sees.entries sees.around (edge_read open_edge c.in_ok-kinds.kinds (c.args.rule.number == 0)) paths block c.args.rule.rule.now
+    let late : SeesLate c.late_edge-edge.result sees.entries n = sees-late c.late_edge-edge.result c.args.context.declarations.now c.args.context.scope sees.entries sees.around (edge_read open_edge c.in_ok-kinds.kinds (c.args.rule.number == 0)) paths block c.args.rule.rule.now
     c.late_edge-edge.ensures.declarations c.late_edge-edge.ensures.scope c.late_edge-edge.ensures.names named sees.declared sees.within in
     both-none (paths_fault file values c.args.edges.now.edges outputs inputs) (names_fault file spot (pools sees.entries) (inputs_of paths) n) (c.in_ok-kinds.ensures.fault values sees none)
     (subst (λ is. names_fault file spot (pools sees.entries) is n ≡ None) (sym inputs_are) (c.in_ok-dyndep.ensures.fault sees.entries n late tells))
@@ -64,8 +64,8 @@ returns-clause-dyndep c = λ values sees none.
     let block = bound_by c.args.context in
     let open_edge = c.add_files.new.edges.«open» in
     let paths : EdgePaths = edge_paths (stated_paths values outputs inputs (c.args.rule.number == 0)) in
-    let n : LateNames = names_read paths block c.args.rule.rule.now (value_after sees.entries (c.args.context.place.scope ∷ sees.around)) in
+    let n : LateNames = names_read paths block c.args.rule.rule.now (value_after sees.entries (c.args.context.scope ∷ sees.around)) in
     let named = c.in_ok-kinds.ensures.named values sees none in
-    let late : SeesLate c.late_edge-edge.result sees.entries n = sees-late c.late_edge-edge.result c.args.context.declarations.now c.args.context.place.scope sees.entries sees.around (edge_read open_edge c.in_ok-kinds.kinds (c.args.rule.number == 0)) paths block c.args.rule.rule.now
+    let late : SeesLate c.late_edge-edge.result sees.entries n = sees-late c.late_edge-edge.result c.args.context.declarations.now c.args.context.scope sees.entries sees.around (edge_read open_edge c.in_ok-kinds.kinds (c.args.rule.number == 0)) paths block c.args.rule.rule.now
     c.late_edge-edge.ensures.declarations c.late_edge-edge.ensures.scope c.late_edge-edge.ensures.names named sees.declared sees.within in
     subst (λ t. IsFileSaid t.files c.in_ok-dyndep.dyndep (file_said (asked_text n (codes "dyndep")))) (sym c.in_ok-end_edge.ensures.ended) (c.in_ok-dyndep.ensures.file sees.entries n late)

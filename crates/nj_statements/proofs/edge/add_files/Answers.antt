@@ -2,9 +2,9 @@ use Rattle.std.proofs.Common.{◌++◌, [], length, ap, sym, subst, ◌∙◌}
 use Rattle.std.proofs.lemmas.List.{length-map}
 use Rattle.nj_manifest.specs.Contents.{words_text, outputs_text, inputs_text}
 use Rattle.nj_text.specs.Words.{word_text}
+use Rattle.nj_faults.specs.Faults.{IsFault}
 use Rattle.nj_statements.specs.EdgeList.{path_said}
 use Rattle.nj_statements.specs.BuildFaults.{outputs_fault, inputs_fault, paths_fault}
-use Rattle.nj_statements.specs.Answers.{IsFault}
 use Rattle.nj_statements.proofs.Faults.{fault-first, err-checks}
 use Rattle.nj_statements.proofs.Adding.{edge-named}
 use Rattle.nj_statements.proofs.edge.add_files.Goals as goal

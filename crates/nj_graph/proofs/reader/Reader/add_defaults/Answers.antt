@@ -1,13 +1,15 @@
-use Rattle.std.proofs.Common.{refl}
+use Rattle.std.proofs.Common.{refl, subst}
 use Rattle.nj_manifest.specs.Contents.{words_text}
 use Rattle.nj_manifest.specs.Statements.{DefaultText}
 use Rattle.nj_scope.specs.ReadingList.{ReadStatement}
 use Rattle.nj_scope.proofs.DeclarationLemmas.{takes-default}
+use Rattle.nj_statements.specs.BuildFaults.{default_fault}
+use Rattle.nj_statements.specs.Answers.{ReadsStatement}
 use Rattle.nj_graph.specs.declared.reader.Reader.{Reader}
 use Rattle.nj_graph.specs.Reading.{entry_at}
 use Rattle.nj_graph.specs.Inside.ReaderContracts.{site_of}
 use Rattle.nj_graph.proofs.OpenScopes.{grows-self}
-use Rattle.nj_graph.proofs.Holding.{built-declares}
+use Rattle.nj_graph.proofs.Holding.{built-declares, placed-entry}
 use Rattle.nj_graph.proofs.reader.Reader.add_defaults.Goals as goal
 
 pub returns-clause-declares : goal.returns-clause-declares
@@ -17,4 +19,6 @@ returns-clause-declares c = λ main entries around depth holds inside.
     let held : Reader = record { declarations = c.args.self.now.declarations; building = c.read_default.new.self; files = c.args.self.now.files; opened = c.args.self.now.opened } in
     let takes = takes-default c.args.self.now.declarations c.args.file.scope around words entries c.args.file.name.now c.args.spot depth holds.declares in
     built-declares main c.args.self.now held entries e c.read_default.result holds takes refl refl refl refl (grows-self c.args.self.now.declarations.scopes) inside
-    (c.read_default.ensures.reads entries around depth holds.declares inside.within holds.edges)
+    (subst (λ x. ReadsStatement c.read_default.new.self (default_fault x entries words) x entries c.read_default.result)
+    (placed-entry c.args.file c.place.result c.args.spot around depth (DefaultText words) c.place.ensures.file c.place.ensures.spot)
+    (c.read_default.ensures.reads entries around depth holds.declares inside.within holds.edges))

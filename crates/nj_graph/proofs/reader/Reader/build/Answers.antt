@@ -1,12 +1,14 @@
-use Rattle.std.proofs.Common.{refl}
+use Rattle.std.proofs.Common.{refl, subst}
 use Rattle.nj_manifest.specs.Contents.{outputs_text, used_rule, inputs_text, lines_text, build_text}
 use Rattle.nj_scope.specs.ReadingList.{ReadStatement}
 use Rattle.nj_scope.proofs.DeclarationLemmas.{takes-build}
+use Rattle.nj_statements.specs.BuildFaults.{build_fault}
+use Rattle.nj_statements.specs.Answers.{ReadsStatement}
 use Rattle.nj_graph.specs.declared.reader.Reader.{Reader}
 use Rattle.nj_graph.specs.Reading.{entry_at}
 use Rattle.nj_graph.specs.Inside.ReaderContracts.{site_of}
 use Rattle.nj_graph.proofs.OpenScopes.{grows-self}
-use Rattle.nj_graph.proofs.Holding.{built-declares}
+use Rattle.nj_graph.proofs.Holding.{built-declares, placed-entry}
 use Rattle.nj_graph.proofs.reader.Reader.build.Goals as goal
 
 pub returns-clause-declares : goal.returns-clause-declares
@@ -16,4 +18,6 @@ returns-clause-declares c = λ main entries around depth holds inside.
     let held : Reader = record { declarations = c.args.self.now.declarations; building = c.read_build.new.self; files = c.args.self.now.files; opened = c.args.self.now.opened } in
     let takes = takes-build c.args.self.now.declarations c.args.file.scope around (outputs_text b) (used_rule b) (inputs_text b) (lines_text b.lines.items) entries c.args.file.name.now c.args.spot depth holds.declares in
     built-declares main c.args.self.now held entries e c.read_build.result holds takes refl refl refl refl (grows-self c.args.self.now.declarations.scopes) inside
-    (c.read_build.ensures.reads entries around depth holds.declares inside.within holds.edges)
+    (subst (λ x. ReadsStatement c.read_build.new.self (build_fault x entries (outputs_text b) (used_rule b) (inputs_text b) (lines_text b.lines.items)) x entries c.read_build.result)
+    (placed-entry c.args.file c.place.result c.args.spot around depth (build_text b) c.place.ensures.file c.place.ensures.spot)
+    (c.read_build.ensures.reads entries around depth holds.declares inside.within holds.edges))

@@ -1,9 +1,10 @@
 -- A file that a word names is opened.
 use Rattle.std.proofs.Common.{◌≡◌, ℕ, zero, suc, ◌-◌, ◌<◌, ◌≤◌, refl, subst, arith}
+use Rattle.nj_statements.proofs.Faults.{by-fault}
 use Rattle.nj_graph.specs.Reading.{most_opened}
 use Rattle.nj_graph.specs.Inside.ReaderContracts.{place_in}
 use Rattle.nj_graph.proofs.Found.{answers-named, found-text, unfound}
-use Rattle.nj_graph.proofs.Openings.{stops-lacking, stops-closed, stops-full, stops-unfound, opens-text, opens-same_fault, by-fault}
+use Rattle.nj_graph.proofs.Openings.{stops-lacking, stops-closed, stops-full, stops-unfound, opens-text, opens-same_fault}
 use Rattle.nj_graph.proofs.reader.Reader.open_file.Goals as goal
 
 one_less : (left : ℕ) → (left ≡ 0 → ⊥) → left ≡ suc (left - 1)
@@ -27,7 +28,7 @@ returns-then-self-ge-MOST_OPENED-clause-opens g c main entries holds =
 pub returns-in_err-text-clause-opens : goal.returns-in_err-text-clause-opens
 returns-in_err-text-clause-opens g c main entries holds =
     opens-same_fault main _ _ _ _ _ _ _ entries c.from_residual.result _ c.from_residual.ensures.1
-    (stops-unfound main _ _ _ _ _ entries holds.paths_are _ _ (one_less c.args.file.left c.if-file-eq0.false) (subst (λ n. n < most_opened) holds.opened c.if-self-ge-MOST_OPENED.false) _ (unfound _ _ _ _ _ holds.once (place_in c.args.file c.args.spot) _ (answers-named _ _ _ _ _ _ _ _ _ c.as_bytes-name.ensures.value c.in_err-text.ensures)))
+    (stops-unfound main _ _ _ _ _ entries holds.paths_are _ _ (one_less c.args.file.left c.if-file-eq0.false) (subst (λ n. n < most_opened) holds.opened c.if-self-ge-MOST_OPENED.false) _ (unfound _ _ _ _ _ holds.once (place_in c.args.file c.args.spot) _ (answers-named _ _ _ _ _ _ _ _ _ _ c.place.ensures.file c.place.ensures.spot c.in_err-text.ensures)))
 
 pub returns-clause-opens : goal.returns-clause-opens
 returns-clause-opens g c main entries holds =

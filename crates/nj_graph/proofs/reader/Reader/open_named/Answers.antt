@@ -2,11 +2,11 @@ use Rattle.std.proofs.Common.{◌≡◌, [], ◌∷◌, refl, sym, ap, subst, �
 use Rattle.nj_text.specs.Words.{word_text}
 use Rattle.nj_scope.specs.Declarations.{DeclaredBy}
 use Rattle.nj_scope.specs.ReadingList.{ReadStatement}
-use Rattle.nj_faults.specs.Faults.{no_memory}
+use Rattle.nj_faults.specs.Faults.{IsFault, no_memory}
 use Rattle.nj_graph.specs.Reading.{Site, entry_at, expanded_in, opened_in, statement_read}
 use Rattle.nj_graph.specs.Inside.ReaderContracts.{site_scope}
 use Rattle.nj_graph.specs.Graph.{IsOpenScope}
-use Rattle.nj_graph.specs.Inside.ReaderContracts.{Grows, IsFault, site_of, place_in, named_item, named_site}
+use Rattle.nj_graph.specs.Inside.ReaderContracts.{Grows, site_of, place_in, named_item, named_site}
 use Rattle.nj_manifest.proofs.Handed.{handed, handed-as}
 use Rattle.nj_graph.proofs.Naming.{stops-own, stops-same, stops-open, opens-file, named-fault, named-path, named-file, named-opens, named-builds, named-read}
 use Rattle.nj_graph.proofs.reader.Reader.open_named.Goals as goal

@@ -1,8 +1,8 @@
 use Rattle.std.proofs.Common.{◌≡◌, ◌∷◌, false, true≢false, IsUtf8, ap, sym, ◌∙◌, subst}
 use Rattle.nj_text.specs.Words.{word_text}
 use Rattle.nj_text.specs.Calls.{is_empty}
+use Rattle.nj_faults.specs.Faults.{IsFault}
 use Rattle.nj_graph.specs.Reading.{expanded_in}
-use Rattle.nj_graph.specs.Inside.ReaderContracts.{IsFault}
 use Rattle.nj_graph.proofs.Faultless.{empty-by_length, path-whole, path-bad}
 use Rattle.nj_graph.proofs.reader.Reader.path.Goals as goal
 

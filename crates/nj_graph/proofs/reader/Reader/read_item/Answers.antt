@@ -4,8 +4,9 @@ use Rattle.nj_text.specs.Words.{word_text}
 use Rattle.nj_manifest.specs.Statements.{BindingText, DefaultText}
 use Rattle.nj_manifest.specs.Contents.{words_text, rule_text, pool_text, build_text, statement_text}
 use Rattle.nj_scope.specs.ReadingList.{ReadStatement}
+use Rattle.nj_faults.specs.Faults.{IsFault}
 use Rattle.nj_graph.specs.Reading.{entry_at, own_fault}
-use Rattle.nj_graph.specs.Inside.ReaderContracts.{Holds, IsFault, Declares, site_of}
+use Rattle.nj_graph.specs.Inside.ReaderContracts.{Holds, Declares, site_of}
 use Rattle.nj_manifest.proofs.Handed.{handed}
 use Rattle.nj_graph.proofs.Naming.{stops-own, reads-one}
 use Rattle.nj_graph.proofs.reader.Reader.read_item.Goals as goal

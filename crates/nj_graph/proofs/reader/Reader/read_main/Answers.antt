@@ -18,7 +18,7 @@ returns-in_err-text-clause-reads g c =
     rw (handed c.in_err-text.field-0.0 c.from_residual.result c.from_residual.ensures)
     (main-fault c.args.main.now before after c.in_err-text.field-0.0 c.args.self.now.files c.requires.files
     (unfound before after c.args.self.now.files c.text_at.new.files c.args.main.now (subst EachPathOnce (sym c.requires.files) tt) (main_place c.args.main.now) c.in_err-text.field-0.0
-    (answers-named before after c.args.self.now.files c.text_at.new.files c.as_bytes.result.now c.args.main.now front c.args.main.now c.in_err-text.field-0.0 c.as_bytes.ensures.value c.in_err-text.ensures)))
+    (answers-named before after c.args.self.now.files c.text_at.new.files c.as_bytes.result.now c.args.main.now front front c.args.main.now c.in_err-text.field-0.0 c.as_bytes.ensures.value refl c.in_err-text.ensures)))
 
 pub returns-clause-reads : goal.returns-clause-reads
 returns-clause-reads g c =

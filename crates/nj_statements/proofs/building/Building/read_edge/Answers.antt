@@ -9,10 +9,11 @@ use Rattle.nj_scope.specs.Rules.{RuleText}
 use Rattle.nj_scope.specs.ReadingList.{value_after, rule_texts, pools}
 use Rattle.nj_edge_env.specs.Blocks.{bound_in}
 use Rattle.nj_edges.specs.Edges.{inputs_of}
+use Rattle.nj_faults.specs.Faults.{IsFault}
 use Rattle.nj_statements.specs.declared.building.Detail.{Detail}
 use Rattle.nj_statements.specs.EdgeList.{Values, Block, block_of, on_line, edges_read, edge_of_build, file_said, paths_of_edges, stated_paths, edge_paths}
 use Rattle.nj_statements.specs.BuildFaults.{paths_fault, names_fault, late_fault}
-use Rattle.nj_statements.specs.Answers.{BuildingText, HoldsEdges, IsFault, AddsNothing, entry_at_place}
+use Rattle.nj_statements.specs.Answers.{BuildingText, HoldsEdges, AddsNothing, entry_at_place}
 use Rattle.nj_statements.specs.Inside.EdgeSteps.{Sees, AddsEdge, names_read, detail_text, IsFileSaid, with_dyndep}
 use Rattle.nj_edge_env.specs.LateTexts.{asked_text}
 use Rattle.nj_edge_env.specs.ReferencesHeld.{TellsCycles}
@@ -29,8 +30,8 @@ returns-in_err-dyndep-clause-reads c = λ entries around depth by within rule_is
     let outputs = outputs_text c.args.build.now in
     let inputs = inputs_text c.args.build.now in
     let rule_text : NameText = used_rule c.args.build.now in
-    let e = entry_at_place c.args.place around depth (build_text c.args.build.now) in
-    let scope_values : Values = value_after entries (c.args.place.scope ∷ around) in
+    let e = entry_at_place c.args.place c.args.scope around depth (build_text c.args.build.now) in
+    let scope_values : Values = value_after entries (c.args.scope ∷ around) in
     let block : Block = block_of scope_values lines in
     let values : Values = on_line scope_values block in
     let old : BuildingText = record { table = c.self.inside.edges; blocks = c.self.inside.block_values; names = c.self.inside.names; details = map detail_text c.self.inside.details.items; defaults = c.self.inside.defaults.items; dyndeps = c.self.inside.dyndeps.items; references = c.self.inside.references.items } in
@@ -40,7 +41,7 @@ returns-in_err-dyndep-clause-reads c = λ entries around depth by within rule_is
     let bound = subst (λ ls. (n : ℕ) (name : List ℕ) → bound_in c.bind_block.new.blocks n name ≡ if n == edge then option_or (block_of scope_values (lines_text ls) name) (bound_in c.self.inside.block_values n name) else bound_in c.self.inside.block_values n name) c.as_slice.ensures.value
     (c.in_ok-bind_block.ensures.bound entries around by within) in
     let block_is = open-block old entries block c.bind_block.new.blocks edge held count bound in
-    let sees : Sees c.args.declarations.now c.args.place.scope (bound_in c.bind_block.new.blocks edge) values = record { entries = entries; around = around; declared = by; within = within; are = λ name. ap (λ o. unwrap_or o (scope_values name)) (sym (block_is name)) } in
+    let sees : Sees c.args.declarations.now c.args.scope (bound_in c.bind_block.new.blocks edge) values = record { entries = entries; around = around; declared = by; within = within; are = λ name. ap (λ o. unwrap_or o (scope_values name)) (sym (block_is name)) } in
     let late = late-fault e entries outputs rule_text inputs lines c.args.rule.number c.args.rule.rule.now (bound_in c.bind_block.new.blocks edge) rule_is there block_is in
     let late_is = late_fault entries (edge_of_build e entries outputs rule_text inputs lines) in
     let paths = edge_paths (stated_paths values outputs inputs (c.args.rule.number == 0)) in
@@ -58,8 +59,8 @@ returns-clause-reads c = λ entries around depth by within rule_is there holds.
     let outputs = outputs_text c.args.build.now in
     let inputs = inputs_text c.args.build.now in
     let rule_text : NameText = used_rule c.args.build.now in
-    let e = entry_at_place c.args.place around depth (build_text c.args.build.now) in
-    let scope_values : Values = value_after entries (c.args.place.scope ∷ around) in
+    let e = entry_at_place c.args.place c.args.scope around depth (build_text c.args.build.now) in
+    let scope_values : Values = value_after entries (c.args.scope ∷ around) in
     let block : Block = block_of scope_values lines in
     let values : Values = on_line scope_values block in
     let old : BuildingText = record { table = c.self.inside.edges; blocks = c.self.inside.block_values; names = c.self.inside.names; details = map detail_text c.self.inside.details.items; defaults = c.self.inside.defaults.items; dyndeps = c.self.inside.dyndeps.items; references = c.self.inside.references.items } in
@@ -69,7 +70,7 @@ returns-clause-reads c = λ entries around depth by within rule_is there holds.
     let bound = subst (λ ls. (n : ℕ) (name : List ℕ) → bound_in c.bind_block.new.blocks n name ≡ if n == edge then option_or (block_of scope_values (lines_text ls) name) (bound_in c.self.inside.block_values n name) else bound_in c.self.inside.block_values n name) c.as_slice.ensures.value
     (c.in_ok-bind_block.ensures.bound entries around by within) in
     let block_is = open-block old entries block c.bind_block.new.blocks edge held count bound in
-    let sees : Sees c.args.declarations.now c.args.place.scope (bound_in c.bind_block.new.blocks edge) values = record { entries = entries; around = around; declared = by; within = within; are = λ name. ap (λ o. unwrap_or o (scope_values name)) (sym (block_is name)) } in
+    let sees : Sees c.args.declarations.now c.args.scope (bound_in c.bind_block.new.blocks edge) values = record { entries = entries; around = around; declared = by; within = within; are = λ name. ap (λ o. unwrap_or o (scope_values name)) (sym (block_is name)) } in
     let late = late-fault e entries outputs rule_text inputs lines c.args.rule.number c.args.rule.rule.now (bound_in c.bind_block.new.blocks edge) rule_is there block_is in
     let late_is = late_fault entries (edge_of_build e entries outputs rule_text inputs lines) in
     let paths = edge_paths (stated_paths values outputs inputs (c.args.rule.number == 0)) in
@@ -77,16 +78,16 @@ returns-clause-reads c = λ entries around depth by within rule_is there holds.
     let kept = c.in_ok-keep_references.ensures.held (rule_texts entries) held.references there in
     let own = kept c.args.rule.number c.rule_references-references.result.now (ap (λ kept. slice_index_or kept c.args.rule.number None) (sym c.deref.ensures.value) ∙ c.rule_references-references.ensures) in
     let tells : TellsCycles c.args.rule.rule.now.lines c.rule_references-references.result.now = subst (λ (r : RuleText). TellsCycles r.lines c.rule_references-references.result.now) (same-rule (rule_texts entries) c.args.rule.number own.0 c.args.rule.rule.now own.1 there) own.2 in
-    let detail : Detail = record { file = c.in_ok-file.file; spot = c.args.place.spot; scope = c.args.place.scope; rule = c.args.rule.number } in
+    let detail : Detail = record { file = c.in_ok-file.file; spot = c.args.place.spot; scope = c.args.scope; rule = c.args.rule.number } in
     let new : BuildingText = record { table = c.add_edge.new.edges; blocks = c.bind_block.new.blocks; names = c.name.new.self; details = map detail_text c.push_reserved.new.self.items; defaults = old.defaults; dyndeps = c.push_dyndep.new.dyndeps.items; references = c.keep_references.new.kept.items } in (
       subst (λ o. option_or (paths_fault c.args.place.file.now values (paths_of_edges (edges_read entries)) outputs inputs) o ≡ None) late
           (subst (λ es. option_or (paths_fault c.args.place.file.now values es outputs inputs) said ≡ None) held.edges (c.in_ok-dyndep.ensures.fault values sees held.none_open tells)),
       holds-build old new e entries outputs rule_text inputs lines (detail_text detail) c.in_ok-dyndep.dyndep held
           (subst (λ b. AddsEdge old.table new.table (edge_paths (stated_paths values outputs inputs b))) (ap (λ (o : Option ℕ). unwrap_or o 0 == 0) (sym rule_is)) (c.in_ok-dyndep.ensures.added values sees held.none_open))
           (λ n name. bound n name ∙ ap (λ edge. if n == edge then option_or (block name) (bound_in old.blocks n name) else bound_in old.blocks n name) count)
-          (subst (IsPrefix old.names) (sym c.in_ok-file.ensures.named) (named-prefix old.names c.as_bytes.result.now))
+          (subst (IsPrefix old.names) (sym c.in_ok-file.ensures.named) (named-prefix old.names c.args.place.file.now))
           (ap (map detail_text) (c.push_reserved.ensures.items ∙ ap (λ (ds : List Detail). ds ++ detail ∷ []) c.in_ok-reserve.ensures.items) ∙ map-append detail_text c.self.inside.details.items (detail ∷ []))
-          (record { file = c.in_ok-file.ensures.number ∙ ap Some c.as_bytes.ensures.value; spot = refl; scope = refl; rule = ap (λ (o : Option ℕ). unwrap_or o 0) (sym rule_is) })
+          (record { file = c.in_ok-file.ensures.number; spot = refl; scope = refl; rule = ap (λ (o : Option ℕ). unwrap_or o 0) (sym rule_is) })
           refl
           (c.push_dyndep.ensures ∙ ap (with_dyndep edge c.in_ok-dyndep.dyndep) c.in_ok-reserve-2.ensures.items ∙ ap (λ n. with_dyndep n c.in_ok-dyndep.dyndep old.dyndeps) count)
           (subst (λ n. IsFileSaid new.table.files c.in_ok-dyndep.dyndep (file_said (asked_text n (codes "dyndep")))) (sym (names-of-edge e entries outputs rule_text inputs lines c.args.rule.number c.args.rule.rule.now (bound_in c.bind_block.new.blocks edge) rule_is there block_is))
@@ -103,7 +104,7 @@ returns-in_err-keep_references-clause-refused c =
     on-err c.from_residual-in_err-keep_references.result (subst (λ b. AddsNothing b new) c.self.view_is (record {
       edges = keeps_none old.table;
       blocks = λ number name below. refl;
-      names = subst (IsPrefix old.names) (sym c.in_ok-file.ensures.named) (named-prefix old.names c.as_bytes.result.now);
+      names = subst (IsPrefix old.names) (sym c.in_ok-file.ensures.named) (named-prefix old.names c.args.place.file.now);
       details = ap (map detail_text) c.in_ok-reserve.ensures.items;
       defaults = refl;
       dyndeps = c.in_ok-reserve-2.ensures.items;
@@ -118,7 +119,7 @@ returns-in_err-bind_block-clause-refused c =
     on-err c.from_residual-in_err-bind_block.result (subst (λ b. AddsNothing b new) c.self.view_is (record {
       edges = keeps_none old.table;
       blocks = λ number name below. c.in_err-bind_block.ensures.others number name (subst (λ n. number < n) (sym count) below);
-      names = subst (IsPrefix old.names) (sym c.in_ok-file.ensures.named) (named-prefix old.names c.as_bytes.result.now);
+      names = subst (IsPrefix old.names) (sym c.in_ok-file.ensures.named) (named-prefix old.names c.args.place.file.now);
       details = ap (map detail_text) c.in_ok-reserve.ensures.items;
       defaults = refl;
       dyndeps = c.in_ok-reserve-2.ensures.items;
@@ -133,7 +134,7 @@ returns-in_err-dyndep-clause-refused c =
     on-err c.from_residual-in_err-dyndep.result (subst (λ b. AddsNothing b new) c.self.view_is (record {
       edges = c.in_err-dyndep.ensures.refused;
       blocks = λ number name below. c.in_ok-bind_block.ensures.others number name (subst (λ n. number < n) (sym count) below);
-      names = subst (IsPrefix old.names) (sym c.in_ok-file.ensures.named) (named-prefix old.names c.as_bytes.result.now);
+      names = subst (IsPrefix old.names) (sym c.in_ok-file.ensures.named) (named-prefix old.names c.args.place.file.now);
       details = ap (map detail_text) c.in_ok-reserve.ensures.items;
       defaults = refl;
       dyndeps = c.in_ok-reserve-2.ensures.items;

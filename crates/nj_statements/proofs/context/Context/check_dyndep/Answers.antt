@@ -3,9 +3,8 @@ use Rattle.nj_text.specs.Paths.{clean_path_of}
 use Rattle.nj_edges.specs.Edges.{is_among}
 use Rattle.nj_edge_env.specs.LateTexts.{asked_text}
 use Rattle.nj_faults.specs.declared.fault.Cause.TheVariants.{DyndepNotInput}
-use Rattle.nj_faults.specs.Faults.{fault_at}
+use Rattle.nj_faults.specs.Faults.{IsFault, fault_at}
 use Rattle.nj_statements.specs.EdgeList.{file_said}
-use Rattle.nj_statements.specs.Answers.{IsFault}
 use Rattle.nj_statements.proofs.LateFaults.{dyndep-empty, dyndep-input, dyndep-other}
 use Rattle.nj_statements.proofs.context.Context.check_dyndep.Goals as goal
 

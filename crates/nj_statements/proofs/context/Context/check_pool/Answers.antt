@@ -3,8 +3,7 @@ use Rattle.nj_scope.specs.Pools.{is_pool}
 use Rattle.nj_scope.specs.ReadingList.{pools}
 use Rattle.nj_edge_env.specs.LateTexts.{asked_text}
 use Rattle.nj_faults.specs.declared.fault.Cause.TheVariants.{UnknownPool}
-use Rattle.nj_faults.specs.Faults.{fault_at}
-use Rattle.nj_statements.specs.Answers.{IsFault}
+use Rattle.nj_faults.specs.Faults.{IsFault, fault_at}
 use Rattle.nj_statements.proofs.LateFaults.{pool-empty, pool-known, pool-unknown}
 use Rattle.nj_statements.proofs.context.Context.check_pool.Goals as goal
 use Rattle.nj_statements.proofs.context.Context.check_pool.Goals.{then-is_empty-via-then-is_empty, then-is_empty-via-else-is_empty+then-has_pool}

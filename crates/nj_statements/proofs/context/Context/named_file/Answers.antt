@@ -2,12 +2,11 @@ use Rattle.std.proofs.Common.{◌≡◌, ℕ, List, not, false, Some, sym, ap, s
 use Rattle.nj_text.specs.Words.{word_text}
 use Rattle.nj_faults.specs.declared.fault.GraphFault.{GraphFault}
 use Rattle.nj_faults.specs.declared.fault.Cause.TheVariants.{UnknownTarget}
-use Rattle.nj_faults.specs.Faults.{fault_at}
+use Rattle.nj_faults.specs.Faults.{IsFault, fault_at}
 use Rattle.nj_edges.specs.Edges.{is_named}
 use Rattle.nj_edges.proofs.FileLemmas.{found-at}
 use Rattle.nj_statements.specs.EdgeList.{path_said}
 use Rattle.nj_statements.specs.BuildFaults.{fault_if, empty_path, unknown_target, target_fault}
-use Rattle.nj_statements.specs.Answers.{IsFault}
 use Rattle.nj_statements.proofs.Faults.{fault-first, fault-second, both-none, err-checks}
 use Rattle.nj_statements.proofs.context.Context.named_file.Goals as goal
 

@@ -2,9 +2,8 @@ use Rattle.std.proofs.Common.{ℕ, List, Err, ap, sym, subst, ◌∙◌}
 use Rattle.nj_text.specs.Calls.{is_empty}
 use Rattle.nj_text.specs.Paths.{clean_path_of}
 use Rattle.nj_faults.specs.declared.fault.Cause.TheVariants.{EmptyPath}
-use Rattle.nj_faults.specs.Faults.{fault_at}
+use Rattle.nj_faults.specs.Faults.{IsFault, fault_at}
 use Rattle.nj_statements.specs.BuildFaults.{fault_if}
-use Rattle.nj_statements.specs.Answers.{IsFault}
 use Rattle.nj_statements.proofs.context.Context.path.Goals as goal
 
 pub returns-in-Some-clause-path : goal.returns-in-Some-clause-path

@@ -4,6 +4,8 @@ use Rattle.nj_edges.specs.declared.edges.EdgeNo.{EdgeNo}
 use Rattle.nj_edges.specs.declared.files.FileNo.{FileNo}
 use Rattle.nj_edges.specs.Edges.{edge_at, first_edge}
 use Rattle.nj_edges.specs.Files.{path_at}
+use Rattle.nj_faults.specs.declared.fault.GraphFault.{GraphFault}
+use Rattle.nj_faults.specs.Faults.{IsFault}
 use Rattle.nj_statements.specs.Built.{detail_at}
 use Rattle.nj_statements.specs.Joining.{lacking_fault}
 use Rattle.nj_statements.specs.JoiningHeld.{JoiningText, HoldsJoined, still_waiting}
@@ -57,6 +59,6 @@ returns-in_ok-no_statement-in-Some c = λ stated joined holds'.
     let first : option_map (λ (e : EdgeNo). e.0) c.waiting_edge.result ≡ first_edge (λ w. is_bound_to w c.args.file) (still_waiting c.self.inside.bound.items t.was_joined) =
     c.waiting_edge.ensures ∙ ap (λ bs. first_edge (λ (w : Option FileNo). is_bound_to w c.args.file) (still_waiting bs t.was_joined)) c.deref-2.ensures.value in
     let is = one-lacks c.self.inside.edges c.self.inside.blocks c.self.inside.names c.self.inside.details.items c.self.inside.defaults.items c.self.inside.dyndep_files.items c.self.inside.bound.items c.self.inside.waiting.items c.self.invariant stated joined holds c.args.file name here c.in-Some.edge.0 (sym first ∙ ap (option_map (λ (e : EdgeNo). e.0)) c.in-Some.is) in
-    inr (ap (λ p. lacking_fault p joined) (sym path) ∙ is
-    ∙ ap (λ (h : JoiningText). Some (fault_of_waiting (path_at h.table.files c.args.file) (detail_at h.details c.in-Some.edge.0) (edge_at h.table.stated c.in-Some.edge.0))) c.self.view_is
-    ∙ ap Some (sym c.in_ok-no_statement-in-Some.ensures))
+    let lacks = ap (λ p. lacking_fault p joined) (sym path) ∙ is
+    ∙ ap (λ (h : JoiningText). Some (fault_of_waiting (path_at h.table.files c.args.file) (detail_at h.details c.in-Some.edge.0) (edge_at h.table.stated c.in-Some.edge.0))) c.self.view_is in
+    subst (λ (o : Option GraphFault). IsFault o c.in_ok-no_statement-in-Some.field-0) (sym lacks) c.in_ok-no_statement-in-Some.ensures

@@ -3,10 +3,10 @@ use Rattle.std.specs.Option.{option_or}
 use Rattle.nj_manifest.specs.DyndepParsers.{entry_text}
 use Rattle.nj_manifest.specs.Contents.{words_text}
 use Rattle.nj_edges.specs.Joining.{JoinTable, AddedFiles}
+use Rattle.nj_faults.specs.Faults.{IsFault}
 use Rattle.nj_statements.specs.EdgeList.{paths_said}
 use Rattle.nj_statements.specs.BuildFaults.{empty_path, first_fault, outputs_fault}
 use Rattle.nj_statements.specs.Joining.{no_values, entry_fault, with_entry}
-use Rattle.nj_statements.specs.Answers.{IsFault}
 use Rattle.nj_statements.specs.JoiningHeld.{JoiningText, HoldsJoined, KeepsEdges}
 use Rattle.nj_statements.specs.Inside.JoiningSteps.{IsMeant, maker_fault, edge_bound, with_added_outputs, with_added_inputs}
 use Rattle.nj_statements.proofs.Faults.{fault-first, fault-second, both-none}
