@@ -122,7 +122,7 @@ impl Reader {
         let mut parser = Parser::new(text);
         'statements: while let Some(statement) = next_statement(alloc, &mut parser, file)? {
             self.read_statement(alloc, source, file, &statement)?;
-            drop(statement);
+            parser.reuse(statement.item);
         }
         Ok(())
     }

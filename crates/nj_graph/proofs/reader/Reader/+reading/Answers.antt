@@ -80,7 +80,7 @@ read_text-returns-in_err-read_statement-clause-reads g t c = λ main entries aro
 pub read_text-statements-smaller : goal.read_text-statements-smaller
 read_text-statements-smaller g t c =
     let next = next-some c.args.file.name.now c.statements.parser c.next_statement.new.parser c.statements.invariant.1 c.in_ok-statement.field-0 c.in-Some.statement c.statements.invariant.2 c.in-Some.is c.in_ok-statement.ensures in
-    fewer-left c.statements.parser c.next_statement.new.parser c.statements.invariant.1 next.0 (placed_text c.in-Some.statement) c.statements.invariant.2 next.2 next.1
+    rw c.reuse.ensures (fewer-left c.statements.parser c.next_statement.new.parser c.statements.invariant.1 next.0 (placed_text c.in-Some.statement) c.statements.invariant.2 next.2 next.1)
 
 pub read_text-statements-preserved : goal.read_text-statements-preserved
 read_text-statements-preserved g t c =
@@ -90,7 +90,7 @@ read_text-statements-preserved g t c =
     let next = next-some c.args.file.name.now c.statements.parser c.next_statement.new.parser c.statements.invariant.1 c.in_ok-statement.field-0 c.in-Some.statement c.statements.invariant.2 c.in-Some.is c.in_ok-statement.ensures in (
       grows-then c.args.self.now.declarations.scopes c.statements.self.declarations.scopes c.read_statement.new.self.declarations.scopes c.statements.invariant.0 c.in_ok-read_statement.ensures.grows,
       next.0,
-      next.2,
+      c.reuse.ensures ∙ next.2,
       λ main entries around depth holds inside.
           let u = c.statements.invariant.3 main entries around depth holds inside in
           let there = open-grown c.args.self.now.declarations.scopes c.statements.self.declarations.scopes c.args.file.scope around c.statements.invariant.0 inside in
