@@ -4,7 +4,7 @@
     check_flood.py PROGRAM
 
 No contract says from which number the hashes of a run start: the program has to draw it. For each
-table of names the program reads a manifest of names that collide where the number is 0, as in
+table of names the program reads a manifest of names that collide in it where the number is 0, as in
 `HashKeys::default`, and one of other names (bench/flood.py has both). What counts is the least
 processor time of some runs, and the first may take at most four times that of the second.
 

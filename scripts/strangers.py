@@ -91,9 +91,10 @@ def real_projects():
 
 
 def colliding_names():
-    """Names that collide where hashes start from 0; others if there is no `cc` to find them."""
+    """For each table names that collide where hashes start from 0; others if there is no `cc` to
+    find them."""
     if not shutil.which("cc"):
-        return flood.other_names(COLLIDING)
+        return dict.fromkeys(flood.TABLES, flood.other_names(COLLIDING))
     with tempfile.TemporaryDirectory() as folder:
         return flood.colliding_names(folder, COLLIDING, BITS)
 
@@ -235,8 +236,10 @@ class Maker:
 
     def of_collisions(self):
         """A table of names that collide."""
-        names = self.colliding[: self.pick([50, COLLIDING])]
-        return {MAIN: "".join(self.pick(list(flood.TABLES.values()))(names, 2)).encode()}
+        count = self.pick([50, COLLIDING])
+        table, manifest = self.pick(list(flood.TABLES.items()))
+        lines = manifest(self.colliding[table][:count], 2)
+        return {MAIN: "".join(lines).encode(flood.ENCODING)}
 
     def bound_to_dyndeps(self):
         """Edges that are bound to two dyndep files, in which little is right."""

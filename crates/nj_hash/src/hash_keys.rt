@@ -39,13 +39,12 @@ impl HashKeys {
     /// The hash of these bytes, for a table that keeps hashes in place of keys. It takes in sixteen
     /// bytes with one multiplication, twice as many as [`NameHasher`].
     ///
-    /// A step has two numbers of eight bytes each. One is joined with the state by xor and the
-    /// other with the factor, and the halves of the product of both, joined by xor, are the next
-    /// state. Whoever chooses names knows neither the state nor the factor, so only by a guess can
-    /// a number make the product 0, which would drop the other one. How many bytes there are is
-    /// taken in last, in a step of its own, so that no choice of bytes makes up for it: `a` and
-    /// `a\0` differ, though both are the number of their bytes, and no names of different lengths
-    /// are known to collide whatever was drawn.
+    /// A step has two numbers of eight bytes each. One is joined with the state by xor, the other
+    /// with the factor, and the halves of the product of both, joined by xor, are the next state.
+    /// Whoever chooses names knows neither the state nor the factor, so only by a guess can a
+    /// number make the product 0, which would drop the other one. How many bytes there are is taken
+    /// in last, in a step of its own: so `a` and `\0a` differ, which are the same number, and no
+    /// bytes can be chosen that make up for more or fewer of them.
     ///
     /// These too are reasons, and the contract says what is computed.
     pub fn hash_bytes(&self, bytes: &[u8]) -> u64

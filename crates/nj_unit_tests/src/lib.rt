@@ -12,6 +12,8 @@ mod faults;
 #[cfg(test)]
 mod graphs;
 #[cfg(test)]
+mod hashes;
+#[cfg(test)]
 mod manifest;
 #[cfg(test)]
 mod marks;
