@@ -1,4 +1,5 @@
-use crate::loads::{answer, listed};
+use crate::loads::{answer, have, list, lists};
+use crate::runs::files_of;
 use nj_graph::{MemoryFiles, load};
 use std::test::*;
 
@@ -13,9 +14,11 @@ fn reports_failed_readings(rt: HostRuntime) -> Result<(), Fail> {
         (2, "subninja s", "build.ninja:1:10: cannot read 's'"),
         (3, "subninja s\nsubninja s", "accepted"),
     ] {
-        let mut source = MemoryFiles::new(rt.alloc());
-        source.add("build.ninja", text.as_bytes())?;
-        source.add("s", b"rule r\n  command = c")?;
+        let files = [
+            ("build.ninja", text.as_bytes()),
+            ("s", b"rule r\n  command = c"),
+        ];
+        let mut source = files_of(rt.alloc(), &files)?;
         source.fail_at(reading);
         let line = answer(&rt, &mut source)?;
         assert_eq!(rt; line.as_slice(), want.as_bytes(), "{want}");
@@ -36,10 +39,7 @@ fn keeps_each_file_once(rt: HostRuntime) -> Result<(), Fail> {
 
 #[test]
 fn a_main_file_may_be_missing(rt: HostRuntime) -> Result<(), Fail> {
-    let line = answer(&rt, &mut MemoryFiles::new(rt.alloc()))?;
-    let want = b"build.ninja:1:1: cannot find 'build.ninja'";
-    assert_eq!(rt; line.as_slice(), want.as_slice());
-    Ok(())
+    have(&rt, &[], "build.ninja:1:1: cannot find 'build.ninja'")
 }
 
 #[test]
@@ -54,28 +54,20 @@ fn a_main_file_has_the_name_that_was_given(rt: HostRuntime) -> Result<(), Fail> 
 
 #[test]
 fn lists_a_rule_and_its_description(rt: HostRuntime) -> Result<(), Fail> {
-    let mut source = MemoryFiles::new(rt.alloc());
-    source.add(
-        "build.ninja",
-        b"rule cc\n  command = c\n  description = CC $out done\n",
-    )?;
-    let text = listed(&rt, &mut source)?;
-    assert_eq!(rt; text.as_slice(), b"cc = CC ${out} done\nphony\n".as_slice());
-    Ok(())
+    let row = "rule cc\n  command = c\n  description = CC $out done\n -> \
+        cc = CC ${out} done\nphony\n";
+    lists(&rt, &[row])
 }
 
 #[test]
 fn lists_included_rules_and_none_of_a_child(rt: HostRuntime) -> Result<(), Fail> {
-    let mut source = MemoryFiles::new(rt.alloc());
-    source.add(
-        "build.ninja",
-        b"subninja t\ninclude s\nrule ar\n  command = a\n",
-    )?;
-    source.add("s", b"rule zip\n  command = z\n")?;
-    source.add("t", b"rule ld\n  command = l\n")?;
-    let text = listed(&rt, &mut source)?;
-    assert_eq!(rt; text.as_slice(), b"ar\nphony\nzip\n".as_slice());
-    Ok(())
+    let main = b"subninja t\ninclude s\nrule ar\n  command = a\n".as_slice();
+    let files = [
+        ("build.ninja", main),
+        ("s", b"rule zip\n  command = z\n"),
+        ("t", b"rule ld\n  command = l\n"),
+    ];
+    list(&rt, &files, "ar\nphony\nzip\n")
 }
 
 #[test]
