@@ -4,7 +4,7 @@
 //! fault or `end`, which each call answers from then on. Each statement is given back before the
 //! next one is read.
 
-use crate::words::{ascii, put_spot, put_word};
+use crate::words::{ascii, put_spot, put_word, sides};
 use nj_manifest::{
     Build, DyndepParser, Entry, Line, ParseFault, Parser, Placed, Statement, Wanted,
 };
@@ -194,87 +194,62 @@ fn answered(alloc: Global, grammar: Grammar, text: &[u8]) -> Result<String, Allo
     Ok(lines)
 }
 
-/// Each text is read in the lines beside it.
-fn reads(
+/// A text is read in these lines.
+fn is_read(
     rt: &(impl Abort + AllocGlobal),
     grammar: Grammar,
-    rows: &[(&[u8], &str)],
+    text: &str,
+    lines: &str,
 ) -> Result<(), Fail> {
-    'rows: for (text, want) in rows {
-        let found = answered(rt.alloc(), grammar, text)?;
-        assert_eq!(rt; found.as_str(), *want);
+    let found = answered(rt.alloc(), grammar, text.as_bytes())?;
+    assert_eq!(rt; found.as_str(), lines);
+    Ok(())
+}
+
+/// The text of each row is read in the lines that the row says.
+fn reads(rt: &(impl Abort + AllocGlobal), grammar: Grammar, rows: &[&str]) -> Result<(), Fail> {
+    'rows: for row in rows {
+        let (text, lines) = sides(row);
+        is_read(rt, grammar, text, lines)?;
     }
     Ok(())
 }
 
 #[test]
 fn statements(rt: HostRuntime) -> Result<(), Fail> {
-    reads(
-        &rt,
-        Grammar::Manifest,
-        &[
-            (b"", "end"),
-            (b"build.dir = x", "1:1 build.dir = 1:13[x]\nend"),
-            (b"x = $\n  1", "1:1 x = 2:3[1]\nend"),
-            (b"# c\n\nx = 1\r\n", "3:1 x = 3:5[1]\nend"),
-            (
-                b"rule r\n# c\n  command = x $in\n  # d\n  restat =\n",
-                "1:1 rule 1:6 r; 3:3 command = 3:13[x ]${in}; 5:3 restat = 5:11\nend",
-            ),
-            (
-                b"rule r\n  command = x\n  # c",
-                "1:1 rule 1:6 r; 2:3 command = 2:13[x]\nend",
-            ),
-            (
-                b"rule r\n  command =\n  command = x\n  rspfile =",
-                "1:1 rule 1:6 r; 2:3 command = 2:12; 3:3 command = 3:13[x]; 4:3 rspfile = 4:12\nend",
-            ),
-            (
-                b"pool p\n  depth = 1",
-                "1:1 pool 1:6 p; 2:3 depth = 2:11[1]\nend",
-            ),
-            (
-                b"pool p\n  depth = 1\nbuild a: r\n\n\n",
-                "1:1 pool 1:6 p; 2:3 depth = 2:11[1]\n3:1 build 3:7[a] : 3:10 r\nend",
-            ),
-            (
-                b"include a\nsubninja b\ndefault c d",
-                "1:1 include 1:9[a]\n2:1 subninja 2:10[b]\n3:1 default 3:9[c] 3:11[d]\nend",
-            ),
-        ],
-    )
+    let rows = [
+        " -> end",
+        "build.dir = x -> 1:1 build.dir = 1:13[x]\nend",
+        "x = $\n  1 -> 1:1 x = 2:3[1]\nend",
+        "# c\n\nx = 1\r\n -> 3:1 x = 3:5[1]\nend",
+        "rule r\n# c\n  command = x $in\n  # d\n  restat =\n -> \
+            1:1 rule 1:6 r; 3:3 command = 3:13[x ]${in}; 5:3 restat = 5:11\nend",
+        "rule r\n  command = x\n  # c -> 1:1 rule 1:6 r; 2:3 command = 2:13[x]\nend",
+        "rule r\n  command =\n  command = x\n  rspfile = -> \
+            1:1 rule 1:6 r; 2:3 command = 2:12; 3:3 command = 3:13[x]; 4:3 rspfile = 4:12\nend",
+        "pool p\n  depth = 1 -> 1:1 pool 1:6 p; 2:3 depth = 2:11[1]\nend",
+        "pool p\n  depth = 1\nbuild a: r\n\n\n -> \
+            1:1 pool 1:6 p; 2:3 depth = 2:11[1]\n3:1 build 3:7[a] : 3:10 r\nend",
+        "include a\nsubninja b\ndefault c d -> \
+            1:1 include 1:9[a]\n2:1 subninja 2:10[b]\n3:1 default 3:9[c] 3:11[d]\nend",
+    ];
+    reads(&rt, Grammar::Manifest, &rows)
 }
 
 #[test]
 fn build_statements(rt: HostRuntime) -> Result<(), Fail> {
-    reads(
-        &rt,
-        Grammar::Manifest,
-        &[
-            (
-                b"build o$ 1: cp it's$ x",
-                "1:1 build 1:7[o][ ][1] : 1:13 cp 1:16[it's][ ][x]\nend",
-            ),
-            (
-                b"build o: cp a$\n  b",
-                "1:1 build 1:7[o] : 1:10 cp 1:13[a][b]\nend",
-            ),
-            (
-                b"build o: cp a $\n  b",
-                "1:1 build 1:7[o] : 1:10 cp 1:13[a] 2:3[b]\nend",
-            ),
-            (b"build a: r |", "1:1 build 1:7[a] : 1:10 r\nend"),
-            (b"build | a: r", "1:1 build | 1:9[a] : 1:12 r\nend"),
-            (
-                b"build a | b: r c | d || e |@ f",
-                "1:1 build 1:7[a] | 1:11[b] : 1:14 r 1:16[c] | 1:20[d] || 1:25[e] |@ 1:30[f]\nend",
-            ),
-            (
-                b"build a: r\n  foo = 1\n  rspfile = $x\n",
-                "1:1 build 1:7[a] : 1:10 r; 2:3 foo = 2:9[1]; 3:3 rspfile = 3:13${x}\nend",
-            ),
-        ],
-    )
+    let rows = [
+        "build o$ 1: cp it's$ x -> 1:1 build 1:7[o][ ][1] : 1:13 cp 1:16[it's][ ][x]\nend",
+        "build o: cp a$\n  b -> 1:1 build 1:7[o] : 1:10 cp 1:13[a][b]\nend",
+        "build o: cp a $\n  b -> 1:1 build 1:7[o] : 1:10 cp 1:13[a] 2:3[b]\nend",
+        "build a: r | -> 1:1 build 1:7[a] : 1:10 r\nend",
+        "build | a: r -> 1:1 build | 1:9[a] : 1:12 r\nend",
+        "build a | b: r c | d || e |@ f -> \
+            1:1 build 1:7[a] | 1:11[b] : 1:14 r 1:16[c] | 1:20[d] || 1:25[e] |@ 1:30[f]\nend",
+        "build a: r\n  foo = 1\n  rspfile = $x\n -> \
+            1:1 build 1:7[a] : 1:10 r; 2:3 foo = 2:9[1]; 3:3 rspfile = 3:13${x}\nend",
+    ];
+    reads(&rt, Grammar::Manifest, &rows)
 }
 
 #[test]
@@ -304,137 +279,92 @@ end";
 
 #[test]
 fn bad_units(rt: HostRuntime) -> Result<(), Fail> {
-    reads(
-        &rt,
-        Grammar::Manifest,
-        &[
-            (
-                b"x = $!",
-                "1:5: bad $-escape (literal $ must be written as $$)",
-            ),
-            (
-                b"x = $",
-                "1:5: bad $-escape (literal $ must be written as $$)",
-            ),
-            (
-                b"build a$! b",
-                "1:8: bad $-escape (literal $ must be written as $$)",
-            ),
-            (
-                b"rule r\n\tcommand = x",
-                "2:1: tabs are not allowed, use spaces",
-            ),
-            (b"\n  \tx = 1", "2:3: tabs are not allowed, use spaces"),
-            (b"x = a\0", "1:6: unexpected byte"),
-            (b"\0", "1:1: unexpected byte"),
-            (b"build a: r\rb", "1:11: unexpected byte"),
-            (b"# \r\0\ndefault a \r", "2:11: unexpected byte"),
-        ],
-    )
+    let rows = [
+        "x = $! -> 1:5: bad $-escape (literal $ must be written as $$)",
+        "x = $ -> 1:5: bad $-escape (literal $ must be written as $$)",
+        "build a$! b -> 1:8: bad $-escape (literal $ must be written as $$)",
+        "rule r\n\tcommand = x -> 2:1: tabs are not allowed, use spaces",
+        "\n  \tx = 1 -> 2:3: tabs are not allowed, use spaces",
+        "x = a\0 -> 1:6: unexpected byte",
+        "\0 -> 1:1: unexpected byte",
+        "build a: r\rb -> 1:11: unexpected byte",
+        "# \r\0\ndefault a \r -> 2:11: unexpected byte",
+    ];
+    reads(&rt, Grammar::Manifest, &rows)
 }
 
 #[test]
 fn wanted_names_and_words(rt: HostRuntime) -> Result<(), Fail> {
-    reads(
-        &rt,
-        Grammar::Manifest,
-        &[
-            (b"= x", "1:1: expected statement"),
-            (b"rule", "1:5: expected rule name"),
-            (b"rule  = x", "1:7: expected rule name"),
-            (b"pool", "1:5: expected pool name"),
-            (b"build d: ", "1:10: expected build command name"),
-            (b"rule r\n  = x", "2:3: expected variable name"),
-            (b"build", "1:6: expected path"),
-            (b"build : r", "1:7: expected path"),
-            (b"build |@b: c", "1:7: expected path"),
-            (b"include", "1:8: expected path"),
-            (b"subninja \n", "1:10: expected path"),
-            (b"default", "1:8: expected target name"),
-            (b"default : a", "1:9: expected target name"),
-        ],
-    )
+    let rows = [
+        "= x -> 1:1: expected statement",
+        "rule -> 1:5: expected rule name",
+        "rule  = x -> 1:7: expected rule name",
+        "pool -> 1:5: expected pool name",
+        "build d:  -> 1:10: expected build command name",
+        "rule r\n  = x -> 2:3: expected variable name",
+        "build -> 1:6: expected path",
+        "build : r -> 1:7: expected path",
+        "build |@b: c -> 1:7: expected path",
+        "include -> 1:8: expected path",
+        "subninja \n -> 1:10: expected path",
+        "default -> 1:8: expected target name",
+        "default : a -> 1:9: expected target name",
+    ];
+    reads(&rt, Grammar::Manifest, &rows)
 }
 
 #[test]
 fn wanted_signs(rt: HostRuntime) -> Result<(), Fail> {
-    reads(
-        &rt,
-        Grammar::Manifest,
-        &[
-            (b"build a", "1:8: expected ':'"),
-            (b"build a |@b: c", "1:9: expected ':'"),
-            (b"x", "1:2: expected '='"),
-            (b"rule r\n  command", "2:10: expected '='"),
-            (b"rule r x\n", "1:8: expected newline"),
-            (b"build a: r || b | c", "1:17: expected newline"),
-            (b"default a : b", "1:11: expected newline"),
-            (b"include a b", "1:11: expected newline"),
-        ],
-    )
+    let rows = [
+        "build a -> 1:8: expected ':'",
+        "build a |@b: c -> 1:9: expected ':'",
+        "x -> 1:2: expected '='",
+        "rule r\n  command -> 2:10: expected '='",
+        "rule r x\n -> 1:8: expected newline",
+        "build a: r || b | c -> 1:17: expected newline",
+        "default a : b -> 1:11: expected newline",
+        "include a b -> 1:11: expected newline",
+    ];
+    reads(&rt, Grammar::Manifest, &rows)
 }
 
 #[test]
 fn faults_of_blocks(rt: HostRuntime) -> Result<(), Fail> {
-    reads(
-        &rt,
-        Grammar::Manifest,
-        &[
-            (b"  x = 1", "1:1: unexpected indent"),
-            (b"rule r\n  foo = 1", "2:3: unexpected variable 'foo'"),
-            (b"rule r\n  foo", "2:3: unexpected variable 'foo'"),
-            (b"rule r\n  $\n  foo = 1", "3:3: unexpected variable 'foo'"),
-            (b"rule r\n  depth = 1", "2:3: unexpected variable 'depth'"),
-            (
-                b"pool p\n  command = x",
-                "2:3: unexpected variable 'command'",
-            ),
-            (b"rule r", "1:1: expected 'command =' line"),
-            (b"rule r\n\n  command = x", "1:1: expected 'command =' line"),
-            (
-                b"rule r\n  command = x\n  command =",
-                "1:1: expected 'command =' line",
-            ),
-            (
-                b"rule r\n  command = x\n  rspfile = y",
-                "1:1: rspfile and rspfile_content need to be both specified",
-            ),
-            (
-                b"rule r\n  rspfile_content = y",
-                "1:1: rspfile and rspfile_content need to be both specified",
-            ),
-            (b"pool p", "1:1: expected 'depth =' line"),
-            (b"# c\npool p\nx = 1", "2:1: expected 'depth =' line"),
-        ],
-    )
+    let rows = [
+        "  x = 1 -> 1:1: unexpected indent",
+        "rule r\n  foo = 1 -> 2:3: unexpected variable 'foo'",
+        "rule r\n  foo -> 2:3: unexpected variable 'foo'",
+        "rule r\n  $\n  foo = 1 -> 3:3: unexpected variable 'foo'",
+        "rule r\n  depth = 1 -> 2:3: unexpected variable 'depth'",
+        "pool p\n  command = x -> 2:3: unexpected variable 'command'",
+        "rule r -> 1:1: expected 'command =' line",
+        "rule r\n\n  command = x -> 1:1: expected 'command =' line",
+        "rule r\n  command = x\n  command = -> 1:1: expected 'command =' line",
+        "rule r\n  command = x\n  rspfile = y -> \
+            1:1: rspfile and rspfile_content need to be both specified",
+        "rule r\n  rspfile_content = y -> \
+            1:1: rspfile and rspfile_content need to be both specified",
+        "pool p -> 1:1: expected 'depth =' line",
+        "# c\npool p\nx = 1 -> 2:1: expected 'depth =' line",
+    ];
+    reads(&rt, Grammar::Manifest, &rows)
 }
 
 #[test]
 fn faults_after_statements(rt: HostRuntime) -> Result<(), Fail> {
-    reads(
-        &rt,
-        Grammar::Manifest,
-        &[
-            (
-                b"build a: r\n  x = 1\n\n  y = 2\n",
-                "1:1 build 1:7[a] : 1:10 r; 2:3 x = 2:7[1]\n4:1: unexpected indent",
-            ),
-            (
-                b"x = 1\n  y = 2\n",
-                "1:1 x = 1:5[1]\n2:1: unexpected indent",
-            ),
-            (
-                b"default a\nrule r\nx = 1\n",
-                "1:1 default 1:9[a]\n2:1: expected 'command =' line",
-            ),
-            (b"x =\n\0y = 2\n", "1:1 x = 1:4\n2:1: unexpected byte"),
-        ],
-    )
+    let rows = [
+        "build a: r\n  x = 1\n\n  y = 2\n -> \
+            1:1 build 1:7[a] : 1:10 r; 2:3 x = 2:7[1]\n4:1: unexpected indent",
+        "x = 1\n  y = 2\n -> 1:1 x = 1:5[1]\n2:1: unexpected indent",
+        "default a\nrule r\nx = 1\n -> 1:1 default 1:9[a]\n2:1: expected 'command =' line",
+        "x =\n\0y = 2\n -> 1:1 x = 1:4\n2:1: unexpected byte",
+    ];
+    reads(&rt, Grammar::Manifest, &rows)
 }
 
 #[test]
 fn keys_of_rules(rt: HostRuntime) -> Result<(), Fail> {
-    let text = b"\
+    let text = "\
 rule r
  command = a
  depfile = b
@@ -451,12 +381,12 @@ rule r
         5:2 msvc_deps_prefix = 5:21[d]; 6:2 description = 6:16[e]; 7:2 dyndep = 7:11[f]; \
         8:2 generator = 8:14[g]; 9:2 pool = 9:9[h]; 10:2 restat = 10:11[i]; \
         11:2 rspfile = 11:12[j]; 12:2 rspfile_content = 12:20[k]\nend";
-    reads(&rt, Grammar::Manifest, &[(text, want)])
+    is_read(&rt, Grammar::Manifest, text, want)
 }
 
 #[test]
 fn a_small_file(rt: HostRuntime) -> Result<(), Fail> {
-    let text = b"\
+    let text = "\
 rule cc
   command = cc -c $in -o $out
 build a.o: cc a.c
@@ -470,13 +400,13 @@ build all: phony ab";
 5:1 build 5:7[ab] : 5:11 phony 5:17[a.o] 5:21[b.o]
 6:1 build 6:7[all] : 6:12 phony 6:18[ab]
 end";
-    reads(&rt, Grammar::Manifest, &[(text, want)])
+    is_read(&rt, Grammar::Manifest, text, want)
 }
 
 // Its lines end in carriage returns and line feeds.
 #[test]
 fn a_file_of_cmake(rt: HostRuntime) -> Result<(), Fail> {
-    let text = b"\
+    let text = "\
 # CMAKE generated file: DO NOT EDIT!\r
 \r
 ninja_required_version = 1.5\r
@@ -506,7 +436,7 @@ default app.o";
 17:1 include 17:9[rules.ninja]
 18:1 default 18:9[app.o]
 end";
-    reads(&rt, Grammar::Manifest, &[(text, want)])
+    is_read(&rt, Grammar::Manifest, text, want)
 }
 
 #[test]
@@ -529,7 +459,7 @@ fn wanted_has_a_text(rt: HostRuntime) {
 
 #[test]
 fn dyndep_entries(rt: HostRuntime) -> Result<(), Fail> {
-    let text = b"\
+    let text = "\
 # c
 ninja_dyndep_version = 1.0
 
@@ -538,28 +468,18 @@ build p$:q: dyndep
   restat = 1
 ";
     let want = "4:7[o] | 4:11[o2] : | 4:24[extra] 4:30${x}\n5:7[p][:][q] :\nend";
-    reads(&rt, Grammar::Dyndep, &[(text, want)])
+    is_read(&rt, Grammar::Dyndep, text, want)
 }
 
 #[test]
 fn dyndep_refusals(rt: HostRuntime) -> Result<(), Fail> {
-    reads(
-        &rt,
-        Grammar::Dyndep,
-        &[
-            (b"", "1:1: expected 'ninja_dyndep_version = 1'"),
-            (
-                b"ninja_dyndep_version = 1.1\nbuild o: dyndep\n",
-                "1:1: expected 'ninja_dyndep_version = 1'",
-            ),
-            (
-                b"ninja_dyndep_version = 1\nbuild o: dyndep\nbuild p q$!\n",
-                "2:7[o] :\n3:9: not a dyndep statement",
-            ),
-            (
-                b"ninja_dyndep_version = 1\nbuild o$!: dyndep\n",
-                "2:8: bad $-escape (literal $ must be written as $$)",
-            ),
-        ],
-    )
+    let rows = [
+        " -> 1:1: expected 'ninja_dyndep_version = 1'",
+        "ninja_dyndep_version = 1.1\nbuild o: dyndep\n -> 1:1: expected 'ninja_dyndep_version = 1'",
+        "ninja_dyndep_version = 1\nbuild o: dyndep\nbuild p q$!\n -> \
+            2:7[o] :\n3:9: not a dyndep statement",
+        "ninja_dyndep_version = 1\nbuild o$!: dyndep\n -> \
+            2:8: bad $-escape (literal $ must be written as $$)",
+    ];
+    reads(&rt, Grammar::Dyndep, &rows)
 }

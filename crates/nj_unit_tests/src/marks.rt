@@ -26,36 +26,32 @@ fn says(rt: &(impl Abort + AllocGlobal), rows: &[(&str, &str)]) -> Result<(), Fa
 
 #[test]
 fn texts_of_marks(rt: HostRuntime) -> Result<(), Fail> {
-    says(
-        &rt,
-        &[
-            ("start", "start"),
-            ("0", "0"),
-            ("0.1.0", "0.1.0"),
-            ("10.20", "10.20"),
-            ("18446744073709551615", "18446744073709551615"),
-        ],
-    )
+    let rows = [
+        ("start", "start"),
+        ("0", "0"),
+        ("0.1.0", "0.1.0"),
+        ("10.20", "10.20"),
+        ("18446744073709551615", "18446744073709551615"),
+    ];
+    says(&rt, &rows)
 }
 
 #[test]
 fn bad_marks(rt: HostRuntime) -> Result<(), Fail> {
-    says(
-        &rt,
-        &[
-            ("", "bad mark"),
-            ("0.", "bad mark"),
-            (".0", "bad mark"),
-            ("01", "bad mark"),
-            ("0..1", "bad mark"),
-            ("v0", "bad mark"),
-            ("Start", "bad mark"),
-            ("18446744073709551616", "bad mark"),
-            ("00", "bad mark"),
-            ("+1", "bad mark"),
-            ("0.-1", "bad mark"),
-        ],
-    )
+    let rows = [
+        ("", "bad mark"),
+        ("0.", "bad mark"),
+        (".0", "bad mark"),
+        ("01", "bad mark"),
+        ("0..1", "bad mark"),
+        ("v0", "bad mark"),
+        ("Start", "bad mark"),
+        ("18446744073709551616", "bad mark"),
+        ("00", "bad mark"),
+        ("+1", "bad mark"),
+        ("0.-1", "bad mark"),
+    ];
+    says(&rt, &rows)
 }
 
 #[test]

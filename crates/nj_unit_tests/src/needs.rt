@@ -148,24 +148,19 @@ fn walks_a_diamond(rt: HostRuntime) -> Result<(), Fail> {
 
 #[test]
 fn resumes_a_diamond(rt: HostRuntime) -> Result<(), Fail> {
-    resumes(
-        &rt,
-        DIAMOND,
-        b"3",
-        u64::MAX,
-        &[
-            ("start", "0 at 0.0.0, 1 at 0.0, 2 at 0.1, 3 at 0, end at 0"),
-            ("0.0", "2 at 0.1, 3 at 0, end at 0"),
-            ("0", "end at 0"),
-            ("0.1.0", "2 at 0.1, 3 at 0, end at 0"),
-            ("0.2", "out of range"),
-            ("0.0.0.0", "out of range"),
-            ("1", "out of range"),
-            ("0.18446744073709551615", "out of range"),
-            ("0.18446744073709551616", "bad mark"),
-            ("01", "bad mark"),
-        ],
-    )
+    let rows = [
+        ("start", "0 at 0.0.0, 1 at 0.0, 2 at 0.1, 3 at 0, end at 0"),
+        ("0.0", "2 at 0.1, 3 at 0, end at 0"),
+        ("0", "end at 0"),
+        ("0.1.0", "2 at 0.1, 3 at 0, end at 0"),
+        ("0.2", "out of range"),
+        ("0.0.0.0", "out of range"),
+        ("1", "out of range"),
+        ("0.18446744073709551615", "out of range"),
+        ("0.18446744073709551616", "bad mark"),
+        ("01", "bad mark"),
+    ];
+    resumes(&rt, DIAMOND, b"3", u64::MAX, &rows)
 }
 
 /// The mark of a walk that was resumed at one, and has returned no edge.
@@ -208,17 +203,12 @@ fn cuts_a_path_through_an_edge_that_is_done(rt: HostRuntime) -> Result<(), Fail>
 
 #[test]
 fn passes_over_phony_edges(rt: HostRuntime) -> Result<(), Fail> {
-    resumes(
-        &rt,
-        "1: 0, 2: phony 1",
-        b"2",
-        u64::MAX,
-        &[
-            ("start", "0 at 0.0, end at 0.0"),
-            ("0.0", "end at 0.0"),
-            ("0.1", "out of range"),
-        ],
-    )
+    let rows = [
+        ("start", "0 at 0.0, end at 0.0"),
+        ("0.0", "end at 0.0"),
+        ("0.1", "out of range"),
+    ];
+    resumes(&rt, "1: 0, 2: phony 1", b"2", u64::MAX, &rows)
 }
 
 /// The path of the file of a number.

@@ -4,7 +4,7 @@
 //! `line`, `ident`, `word`, `value`, `spot`, and a sign, of which `newline` is the line's end. The
 //! call `stays` stands for each of them, twice, where they answer one and the same fault.
 
-use crate::words::{ascii, put_spot, put_word};
+use crate::words::{ascii, put_spot, put_word, sides};
 use nj_text::{
     LexFault, Lexer, LineStart, Sign, TextFault, Word, clean_into, clean_path, is_clean,
     leading_number, quote_into, version_of,
@@ -142,280 +142,176 @@ fn answered(alloc: Global, text: &[u8], steps: &str) -> Result<String, AllocErro
     Ok(found)
 }
 
-/// Each text is read in the steps beside it.
-fn reads(rt: &(impl Abort + AllocGlobal), rows: &[(&[u8], &str)]) -> Result<(), Fail> {
-    'rows: for (text, steps) in rows {
-        let found = answered(rt.alloc(), text, steps)?;
-        assert_eq!(rt; found.as_str(), *steps);
+/// The text of each row is read in the steps that the row says.
+fn reads(rt: &(impl Abort + AllocGlobal), rows: &[&str]) -> Result<(), Fail> {
+    'rows: for row in rows {
+        let (text, steps) = sides(row);
+        let found = answered(rt.alloc(), text.as_bytes(), steps)?;
+        assert_eq!(rt; found.as_str(), steps);
     }
     Ok(())
 }
 
 #[test]
 fn lines_of_a_build_file(rt: HostRuntime) -> Result<(), Fail> {
-    reads(
-        &rt,
-        &[(
-            b"rule mk\n  command = mk $in\n\nbuild d: mk b1 b2\r\n",
-            "line plain, ident rule, ident mk, newline yes, line indented, \
-                ident command, = yes, value 2:13[mk ]${in}, newline yes, line blank, \
-                line plain, ident build, word 4:7[d], word none, : yes, ident mk, \
-                word 4:13[b1], spot 4:15, word 4:16[b2], word none, newline yes, line end, \
-                spot 5:1",
-        )],
-    )
+    let row = "rule mk\n  command = mk $in\n\nbuild d: mk b1 b2\r\n -> \
+        line plain, ident rule, ident mk, newline yes, line indented, ident command, = yes, \
+        value 2:13[mk ]${in}, newline yes, line blank, line plain, ident build, word 4:7[d], \
+        word none, : yes, ident mk, word 4:13[b1], spot 4:15, word 4:16[b2], word none, \
+        newline yes, line end, spot 5:1";
+    reads(&rt, &[row])
 }
 
 #[test]
 fn words_with_escapes(rt: HostRuntime) -> Result<(), Fail> {
-    reads(
-        &rt,
-        &[(
-            b"build o$ 1: cp it's$ x",
-            "line plain, ident build, word 1:7[o][ ][1], word none, : yes, ident cp, \
-                word 1:16[it's][ ][x], word none, newline yes, line end",
-        )],
-    )
+    let row = "build o$ 1: cp it's$ x -> \
+        line plain, ident build, word 1:7[o][ ][1], word none, : yes, ident cp, \
+        word 1:16[it's][ ][x], word none, newline yes, line end";
+    reads(&rt, &[row])
 }
 
 #[test]
 fn joined_words(rt: HostRuntime) -> Result<(), Fail> {
-    reads(
-        &rt,
-        &[
-            (
-                b"build o: cp a$\n  b",
-                "line plain, ident build, word 1:7[o], : yes, ident cp, word 1:13[a][b], \
-                word none, spot 2:4",
-            ),
-            (
-                b"build o: cp a $\n  b",
-                "line plain, ident build, word 1:7[o], : yes, ident cp, word 1:13[a], \
-                word 2:3[b], word none",
-            ),
-        ],
-    )
+    let rows = [
+        "build o: cp a$\n  b -> \
+            line plain, ident build, word 1:7[o], : yes, ident cp, word 1:13[a][b], word none, \
+            spot 2:4",
+        "build o: cp a $\n  b -> \
+            line plain, ident build, word 1:7[o], : yes, ident cp, word 1:13[a], word 2:3[b], \
+            word none",
+    ];
+    reads(&rt, &rows)
 }
 
 #[test]
 fn references(rt: HostRuntime) -> Result<(), Fail> {
-    reads(
-        &rt,
-        &[(
-            b"${b.c}d$e-f.g|$$#$:",
-            "line plain, word 1:1${b.c}[d]${e-f}[.g], | yes, word 1:15[$][#][:]",
-        )],
-    )
+    let row = "${b.c}d$e-f.g|$$#$: -> \
+        line plain, word 1:1${b.c}[d]${e-f}[.g], | yes, word 1:15[$][#][:]";
+    reads(&rt, &[row])
 }
 
 #[test]
 fn identifiers(rt: HostRuntime) -> Result<(), Fail> {
-    reads(
-        &rt,
-        &[(
-            b"a-b_C.9  d/e:",
-            "line plain, ident a-b_C.9, spot 1:8, ident d, ident none, word 1:11[/e], \
-                ident none, : yes",
-        )],
-    )
+    let row = "a-b_C.9  d/e: -> \
+        line plain, ident a-b_C.9, spot 1:8, ident d, ident none, word 1:11[/e], ident none, : yes";
+    reads(&rt, &[row])
 }
 
 #[test]
 fn values(rt: HostRuntime) -> Result<(), Fail> {
-    reads(
-        &rt,
-        &[
-            (
-                b"x =  a $b  c$:  \ny",
-                "line plain, ident x, = yes, value 1:6[a ]${b}[  c][:][  ], spot 1:17, \
-                value 1:17, newline yes, spot 2:1",
-            ),
-            (
-                b"x = a$\n   b : c | $\r\nd",
-                "line plain, ident x, = yes, value 1:5[a][b : c | ][d], newline yes, line end",
-            ),
-            (
-                b"x =  \r\n",
-                "line plain, ident x, = yes, value 1:6, newline yes, line end",
-            ),
-        ],
-    )
+    let rows = [
+        "x =  a $b  c$:  \ny -> \
+            line plain, ident x, = yes, value 1:6[a ]${b}[  c][:][  ], spot 1:17, value 1:17, \
+            newline yes, spot 2:1",
+        "x = a$\n   b : c | $\r\nd -> \
+            line plain, ident x, = yes, value 1:5[a][b : c | ][d], newline yes, line end",
+        "x =  \r\n -> line plain, ident x, = yes, value 1:6, newline yes, line end",
+    ];
+    reads(&rt, &rows)
 }
 
 #[test]
 fn signs(rt: HostRuntime) -> Result<(), Fail> {
-    reads(
-        &rt,
-        &[
-            (
-                b"| || |@ |||",
-                "line plain, || no, |@ no, | yes, | no, |@ no, || yes, | no, || no, |@ yes, \
-                | no, || yes, | yes, newline yes",
-            ),
-            (
-                b"a: =b",
-                "line plain, : no, ident a, = no, newline no, : yes, spot 1:3, = yes, \
-                spot 1:5",
-            ),
-        ],
-    )
+    let rows = [
+        "| || |@ ||| -> \
+            line plain, || no, |@ no, | yes, | no, |@ no, || yes, | no, || no, |@ yes, | no, \
+            || yes, | yes, newline yes",
+        "a: =b -> line plain, : no, ident a, = no, newline no, : yes, spot 1:3, = yes, spot 1:5",
+    ];
+    reads(&rt, &rows)
 }
 
 #[test]
 fn empty_text(rt: HostRuntime) -> Result<(), Fail> {
-    reads(
-        &rt,
-        &[(
-            b"",
-            "ident none, newline no, word none, value 1:1, line end, spot 1:1, \
-                newline no, line end",
-        )],
-    )
+    let row = " -> \
+        ident none, newline no, word none, value 1:1, line end, spot 1:1, newline no, line end";
+    reads(&rt, &[row])
 }
 
 #[test]
 fn line_starts(rt: HostRuntime) -> Result<(), Fail> {
-    reads(
-        &rt,
-        &[
-            (
-                b"a",
-                "ident none, word none, newline no, value 1:1, spot 1:1, line plain, \
-                line middle, ident a, line middle, newline yes, newline no, ident none, \
-                line end",
-            ),
-            (
-                b"$\n  a = b\nc",
-                "line plain, spot 1:1, ident none, word none, newline no, spot 1:1, \
-                line middle, value 2:3[a = b], spot 2:8, newline yes, spot 3:1",
-            ),
-            (b"$\n$\n a", "line plain, value 3:2[a]"),
-            (
-                b"r\n  a\n   $\n b",
-                "line plain, ident r, newline yes, line indented, spot 2:3, ident a, \
-                newline yes, line indented, spot 3:4, ident b, spot 4:3",
-            ),
-        ],
-    )
+    let rows = [
+        "a -> \
+            ident none, word none, newline no, value 1:1, spot 1:1, line plain, line middle, \
+            ident a, line middle, newline yes, newline no, ident none, line end",
+        "$\n  a = b\nc -> \
+            line plain, spot 1:1, ident none, word none, newline no, spot 1:1, line middle, \
+            value 2:3[a = b], spot 2:8, newline yes, spot 3:1",
+        "$\n$\n a -> line plain, value 3:2[a]",
+        "r\n  a\n   $\n b -> \
+            line plain, ident r, newline yes, line indented, spot 2:3, ident a, newline yes, \
+            line indented, spot 3:4, ident b, spot 4:3",
+    ];
+    reads(&rt, &rows)
 }
 
 #[test]
 fn comments(rt: HostRuntime) -> Result<(), Fail> {
-    reads(
-        &rt,
-        &[
-            (
-                b"a\n  # $! \0",
-                "line plain, ident a, newline yes, spot 2:1, line end, spot 2:9",
-            ),
-            (
-                b"# c\n#\r\n \r\na # b",
-                "line blank, spot 4:1, line plain, ident a, word 4:3[#], word 4:5[b]",
-            ),
-            (b"a $\n# b", "line plain, ident a, word 2:1[#], word 2:3[b]"),
-        ],
-    )
+    let rows = [
+        "a\n  # $! \0 -> line plain, ident a, newline yes, spot 2:1, line end, spot 2:9",
+        "# c\n#\r\n \r\na # b -> \
+            line blank, spot 4:1, line plain, ident a, word 4:3[#], word 4:5[b]",
+        "a $\n# b -> line plain, ident a, word 2:1[#], word 2:3[b]",
+    ];
+    reads(&rt, &rows)
 }
 
 #[test]
 fn last_line_of_spaces(rt: HostRuntime) -> Result<(), Fail> {
-    reads(
-        &rt,
-        &[(
-            b"a\r\n   ",
-            "line plain, ident a, newline yes, spot 2:1, line blank, spot 2:4, line end",
-        )],
-    )
+    let row = "a\r\n    -> \
+        line plain, ident a, newline yes, spot 2:1, line blank, spot 2:4, line end";
+    reads(&rt, &[row])
 }
 
 #[test]
 fn bad_escapes_in_a_value(rt: HostRuntime) -> Result<(), Fail> {
-    reads(
-        &rt,
-        &[
-            (
-                b"x = $!",
-                "line plain, ident x, = yes, value bad escape 1:5, stays bad escape 1:5",
-            ),
-            (
-                b"x = $",
-                "line plain, ident x, = yes, value bad escape 1:5, stays bad escape 1:5",
-            ),
-        ],
-    )
+    let rows = [
+        "x = $! -> line plain, ident x, = yes, value bad escape 1:5, stays bad escape 1:5",
+        "x = $ -> line plain, ident x, = yes, value bad escape 1:5, stays bad escape 1:5",
+    ];
+    reads(&rt, &rows)
 }
 
 #[test]
 fn bad_byte_in_a_value(rt: HostRuntime) -> Result<(), Fail> {
-    reads(
-        &rt,
-        &[(
-            b"x = a b\0$!",
-            "line plain, ident x, = yes, value bad byte 1:8, stays bad byte 1:8",
-        )],
-    )
+    let row = "x = a b\0$! -> line plain, ident x, = yes, value bad byte 1:8, stays bad byte 1:8";
+    reads(&rt, &[row])
 }
 
 #[test]
 fn tabs(rt: HostRuntime) -> Result<(), Fail> {
-    reads(
-        &rt,
-        &[
-            (
-                b"rule r\n\tcommand = x",
-                "line plain, ident rule, ident r, newline yes, line tab 2:1, stays tab 2:1",
-            ),
-            (
-                b"r\n  \t# c",
-                "line plain, ident r, newline yes, line tab 2:3, stays tab 2:3",
-            ),
-        ],
-    )
+    let rows = [
+        "rule r\n\tcommand = x -> \
+            line plain, ident rule, ident r, newline yes, line tab 2:1, stays tab 2:1",
+        "r\n  \t# c -> line plain, ident r, newline yes, line tab 2:3, stays tab 2:3",
+    ];
+    reads(&rt, &rows)
 }
 
 #[test]
 fn bad_escape_in_a_word(rt: HostRuntime) -> Result<(), Fail> {
-    reads(
-        &rt,
-        &[(
-            b"build o $\n  a$!b",
-            "line plain, ident build, word 1:7[o], word bad escape 2:4, stays bad escape 2:4",
-        )],
-    )
+    let row = "build o $\n  a$!b -> \
+        line plain, ident build, word 1:7[o], word bad escape 2:4, stays bad escape 2:4";
+    reads(&rt, &[row])
 }
 
 #[test]
 fn bad_bytes(rt: HostRuntime) -> Result<(), Fail> {
-    reads(
-        &rt,
-        &[
-            (
-                b"build o \rb",
-                "line plain, ident build, word 1:7[o], word bad byte 1:9, stays bad byte 1:9",
-            ),
-            (
-                b"x \0",
-                "line plain, ident x, ident bad byte 1:3, stays bad byte 1:3",
-            ),
-        ],
-    )
+    let rows = [
+        "build o \rb -> \
+            line plain, ident build, word 1:7[o], word bad byte 1:9, stays bad byte 1:9",
+        "x \0 -> line plain, ident x, ident bad byte 1:3, stays bad byte 1:3",
+    ];
+    reads(&rt, &rows)
 }
 
 #[test]
 fn open_references(rt: HostRuntime) -> Result<(), Fail> {
-    reads(
-        &rt,
-        &[
-            (
-                b"x ${}",
-                "line plain, ident x, : bad escape 1:3, stays bad escape 1:3",
-            ),
-            (
-                b"x${y",
-                "line plain, ident x, newline bad escape 1:2, stays bad escape 1:2",
-            ),
-        ],
-    )
+    let rows = [
+        "x ${} -> line plain, ident x, : bad escape 1:3, stays bad escape 1:3",
+        "x${y -> line plain, ident x, newline bad escape 1:2, stays bad escape 1:2",
+    ];
+    reads(&rt, &rows)
 }
 
 /// What the bytes say by this call, as bytes.
@@ -453,51 +349,45 @@ fn says(rt: &(impl Abort + AllocGlobal), call: &str, rows: &[(&[u8], &[u8])]) ->
 
 #[test]
 fn numbers_at_the_front(rt: HostRuntime) -> Result<(), Fail> {
-    says(
-        &rt,
-        "number",
-        &[
-            (b"451", b"451"),
-            (b"2x", b"2"),
-            (b"007", b"7"),
-            (b"0", b"0"),
-            (b"12 34", b"12"),
-            (b"9:", b"9"),
-            (b"", b"none"),
-            (b"-1", b"none"),
-            (b"+1", b"none"),
-            (b" 1", b"none"),
-            (b"/1", b"none"),
-            // the greatest number
-            (b"18446744073709551615", b"18446744073709551615"),
-            (b"18446744073709551616", b"18446744073709551615"),
-            (b"100000000000000000000000000007", b"18446744073709551615"),
-        ],
-    )
+    let rows: [(&[u8], &[u8]); 14] = [
+        (b"451", b"451"),
+        (b"2x", b"2"),
+        (b"007", b"7"),
+        (b"0", b"0"),
+        (b"12 34", b"12"),
+        (b"9:", b"9"),
+        (b"", b"none"),
+        (b"-1", b"none"),
+        (b"+1", b"none"),
+        (b" 1", b"none"),
+        (b"/1", b"none"),
+        // the greatest number
+        (b"18446744073709551615", b"18446744073709551615"),
+        (b"18446744073709551616", b"18446744073709551615"),
+        (b"100000000000000000000000000007", b"18446744073709551615"),
+    ];
+    says(&rt, "number", &rows)
 }
 
 #[test]
 fn versions(rt: HostRuntime) -> Result<(), Fail> {
-    says(
-        &rt,
-        "version",
-        &[
-            (b"1.8.2", b"1.8"),
-            (b"1.11", b"1.11"),
-            (b"1", b"1.0"),
-            (b"1.", b"1.0"),
-            (b".5", b"0.5"),
-            (b"1..5", b"1.0"),
-            (b"x.5", b"0.5"),
-            (b"1rc.5git", b"1.5"),
-            (b" 1.5", b"0.5"),
-            (b"1. 5", b"1.0"),
-            (b"01.011", b"1.11"),
-            (b"", b"0.0"),
-            (b"1.18446744073709551616", b"1.18446744073709551615"),
-            (b"18446744073709551616.1", b"18446744073709551615.1"),
-        ],
-    )
+    let rows: [(&[u8], &[u8]); 14] = [
+        (b"1.8.2", b"1.8"),
+        (b"1.11", b"1.11"),
+        (b"1", b"1.0"),
+        (b"1.", b"1.0"),
+        (b".5", b"0.5"),
+        (b"1..5", b"1.0"),
+        (b"x.5", b"0.5"),
+        (b"1rc.5git", b"1.5"),
+        (b" 1.5", b"0.5"),
+        (b"1. 5", b"1.0"),
+        (b"01.011", b"1.11"),
+        (b"", b"0.0"),
+        (b"1.18446744073709551616", b"1.18446744073709551615"),
+        (b"18446744073709551616.1", b"18446744073709551615.1"),
+    ];
+    says(&rt, "version", &rows)
 }
 
 const PATHS: [(&[u8], &[u8]); 24] = [
@@ -556,21 +446,18 @@ fn clean_paths_are_appended(rt: HostRuntime) {
 
 #[test]
 fn quotes(rt: HostRuntime) -> Result<(), Fail> {
-    says(
-        &rt,
-        "quote",
-        &[
-            (b"", b""),
-            (b"out/a-b_c+d.o", b"out/a-b_c+d.o"),
-            (b"o 1", b"'o 1'"),
-            (b"it's x", b"'it'\\''s x'"),
-            (b"'", b"''\\'''"),
-            (b"a''b", b"'a'\\'''\\''b'"),
-            (b"a'", b"'a'\\'''"),
-            (b"~", b"'~'"),
-            (b"a\xff", b"'a\xff'"),
-        ],
-    )
+    let rows: [(&[u8], &[u8]); 9] = [
+        (b"", b""),
+        (b"out/a-b_c+d.o", b"out/a-b_c+d.o"),
+        (b"o 1", b"'o 1'"),
+        (b"it's x", b"'it'\\''s x'"),
+        (b"'", b"''\\'''"),
+        (b"a''b", b"'a'\\'''\\''b'"),
+        (b"a'", b"'a'\\'''"),
+        (b"~", b"'~'"),
+        (b"a\xff", b"'a\xff'"),
+    ];
+    says(&rt, "quote", &rows)
 }
 
 #[test]

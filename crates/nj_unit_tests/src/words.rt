@@ -1,8 +1,13 @@
-//! Places, words and values as texts.
+//! Places, words and values as texts, and rows of tests.
 
 use nj_text::{Part, Spot, Word};
 use std::alloc::AllocError;
 use std::fmt::Write;
+
+/// What a row gives, and what it wants: a row is one text, with ` -> ` between the two.
+pub(crate) fn sides(row: &str) -> (&str, &str) {
+    row.split_once(" -> ").unwrap_or((row, "no arrow"))
+}
 
 pub(crate) fn ascii(bytes: &[u8]) -> &str {
     str::from_utf8(bytes).unwrap_or("?")
