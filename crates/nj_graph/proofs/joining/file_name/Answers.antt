@@ -1,5 +1,4 @@
-use Rattle.std.proofs.Common.{Some, IsUtf8, inl, inr, ap, sym, subst, ◌∙◌, true≢false}
-use Rattle.nj_faults.specs.declared.fault.Cause.TheVariants.{PathNotText}
+use Rattle.std.proofs.Common.{IsUtf8, inl, inr, ap, sym, subst, ◌∙◌, true≢false}
 use Rattle.nj_statements.proofs.Faults.{by-fault}
 use Rattle.nj_graph.proofs.JoiningTables.{name-utf8, name-bad}
 use Rattle.nj_graph.proofs.joining.file_name.Goals as goal

@@ -20,5 +20,5 @@ returns-clause-declares c = λ main entries around depth holds inside.
     let takes = takes-default c.args.self.now.declarations c.args.file.scope around words entries c.args.file.name.now c.args.spot depth holds.declares in
     built-declares main c.args.self.now held entries e c.read_default.result holds takes refl refl refl refl (grows-self c.args.self.now.declarations.scopes) inside
     (subst (λ x. ReadsStatement c.read_default.new.self (default_fault x entries words) x entries c.read_default.result)
-    (placed-entry c.args.file c.place.result c.args.spot around depth (DefaultText words) c.place.ensures.file c.place.ensures.spot)
+    (placed-entry c.args.file c.place-place.result c.args.spot around depth (DefaultText words) c.place-place.ensures.file c.place-place.ensures.spot)
     (c.read_default.ensures.reads entries around depth holds.declares inside.within holds.edges))

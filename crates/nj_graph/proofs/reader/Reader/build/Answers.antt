@@ -19,5 +19,5 @@ returns-clause-declares c = λ main entries around depth holds inside.
     let takes = takes-build c.args.self.now.declarations c.args.file.scope around (outputs_text b) (used_rule b) (inputs_text b) (lines_text b.lines.items) entries c.args.file.name.now c.args.spot depth holds.declares in
     built-declares main c.args.self.now held entries e c.read_build.result holds takes refl refl refl refl (grows-self c.args.self.now.declarations.scopes) inside
     (subst (λ x. ReadsStatement c.read_build.new.self (build_fault x entries (outputs_text b) (used_rule b) (inputs_text b) (lines_text b.lines.items)) x entries c.read_build.result)
-    (placed-entry c.args.file c.place.result c.args.spot around depth (build_text b) c.place.ensures.file c.place.ensures.spot)
+    (placed-entry c.args.file c.place-place.result c.args.spot around depth (build_text b) c.place-place.ensures.file c.place-place.ensures.spot)
     (c.read_build.ensures.reads entries around depth holds.declares inside.within holds.edges))

@@ -1,4 +1,4 @@
-use Rattle.std.proofs.Common.{List, ◌∷◌, Ok, refl, ap, subst}
+use Rattle.std.proofs.Common.{List, Ok, refl, ap, subst}
 use Rattle.nj_text.specs.declared.word.Word.{Word}
 use Rattle.nj_text.specs.Words.{word_text}
 use Rattle.nj_manifest.specs.Statements.{BindingText, DefaultText}
@@ -6,7 +6,7 @@ use Rattle.nj_manifest.specs.Contents.{words_text, rule_text, pool_text, build_t
 use Rattle.nj_scope.specs.ReadingList.{ReadStatement}
 use Rattle.nj_faults.specs.Faults.{IsFault}
 use Rattle.nj_graph.specs.Reading.{entry_at, own_fault}
-use Rattle.nj_graph.specs.Inside.ReaderContracts.{Holds, Declares, site_of}
+use Rattle.nj_graph.specs.Inside.ReaderContracts.{Declares, site_of}
 use Rattle.nj_manifest.proofs.Handed.{handed}
 use Rattle.nj_graph.proofs.Naming.{stops-own, reads-one}
 use Rattle.nj_graph.proofs.reader.Reader.read_item.Goals as goal
