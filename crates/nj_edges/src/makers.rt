@@ -36,7 +36,7 @@ impl Makers {
         }
     }
 
-    /// As many files, all of them sources.
+    /// This many files, all of them sources.
     pub(crate) fn of_sources(alloc: Global, count: usize) -> Result<Makers, AllocError>
         ensures { IfOk result (λ makers. makers ≡ replicate count None) }
     {

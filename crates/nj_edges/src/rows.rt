@@ -57,7 +57,7 @@ impl Rows {
         }
     }
 
-    /// No rows, and room for so many.
+    /// No rows, and room for this many.
     pub(crate) fn with_capacity(alloc: Global, count: usize) -> Result<Rows, AllocError>
         ensures { IfOk result (λ rows. rows ≡ []) }
     {

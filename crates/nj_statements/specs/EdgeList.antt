@@ -1,6 +1,6 @@
 -- The edges of a run: one for each build statement, in reading order.
 use Rattle.std.specs.Prelude.{ℕ, ◌==◌, Bool, ◌&&◌, not, if◌then◌else◌, Option, option_map, unwrap_or, Some, None, List}
-use Rattle.std.specs.Prelude.{[], ◌∷◌, ◌++◌, map, length, slice_get, bytes_eq, codes}
+use Rattle.std.specs.Prelude.{[], ◌∷◌, ◌++◌, map, length, slice_get, codes}
 use Rattle.std.specs.List.{filter}
 use Rattle.nj_text.specs.declared.spot.Spot.{Spot}
 use Rattle.nj_text.specs.Words.{WordText}
