@@ -49,7 +49,7 @@ fn own_outputs_are_no_inputs(rt: HostRuntime) -> Result<(), Fail> {
 }
 
 /// The numbers of these edges, each after a space.
-fn put_edges(text: &mut String, edges: &[EdgeNo]) -> Result<(), AllocError> {
+pub(crate) fn put_edges(text: &mut String, edges: &[EdgeNo]) -> Result<(), AllocError> {
     'edges: for edge in edges {
         write!(text, " {}", edge.0)?;
     }

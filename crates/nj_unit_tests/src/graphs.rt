@@ -4,10 +4,10 @@
 //! no command, its inputs, order-only ones after `||`, and its validations after `|@`. Edges are
 //! separated by commas.
 
-ghost use Rattle.std.specs.Prelude.{◌≡◌, OnOk};
+ghost use Rattle.std.specs.Prelude.{◌≡◌, ◌<◌, length, All, IfOk, OnOk};
 ghost use Rattle.nj_edges.specs.EdgeTables.{no_files};
 
-use nj_edges::{EdgeGraph, Edges, Finished, HashKeys, KindEnds};
+use nj_edges::{EdgeGraph, Edges, FileNo, Finished, HashKeys, KindEnds};
 use std::alloc::{AllocError, Global};
 use std::test::Fail;
 
@@ -76,4 +76,21 @@ pub(crate) fn graph_of(alloc: Global, text: &str) -> Result<EdgeGraph, Fail> {
         Finished::Graph(graph) => Ok(graph),
         Finished::Cycle(_) => Err(Fail::from("the edges have a cycle")),
     }
+}
+
+/// The files at these paths, which blanks separate; a path that no edge names is passed over.
+pub(crate) fn files_at(
+    alloc: Global,
+    graph: &EdgeGraph,
+    paths: &str,
+) -> Result<Vec<FileNo>, AllocError>
+    ensures { IfOk result (λ files. All (λ f. f.0 < length graph.now.files) files.items) }
+{
+    let mut files = Vec::new(alloc);
+    'paths: for path in paths.split(' ') {
+        if let Some(file) = graph.file_named(path.as_bytes()) {
+            files.push(file)?;
+        }
+    }
+    Ok(files)
 }

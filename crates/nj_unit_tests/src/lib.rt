@@ -4,6 +4,8 @@
 #![tactic(auto)]
 
 #[cfg(test)]
+mod affected;
+#[cfg(test)]
 mod blocks;
 #[cfg(test)]
 mod edges;

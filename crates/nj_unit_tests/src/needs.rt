@@ -6,7 +6,7 @@
 ghost use Rattle.std.specs.Prelude.{◌≡◌, ◌<◌, length, All, IfOk, OnOk};
 ghost use Rattle.nj_edges.specs.EdgeTables.{no_files};
 
-use crate::graphs::{end_edge, graph_of};
+use crate::graphs::{end_edge, files_at, graph_of};
 use nj_edges::{EdgeGraph, Edges, FileNo, Finished, HashKeys};
 use nj_needs::{Mark, MarkFault, Needs, grow_targets};
 use std::alloc::{AllocError, Global};
@@ -283,23 +283,10 @@ fn visits_each_edge_once(rt: HostRuntime) -> Result<(), Fail> {
     visits_a_chain(&rt, 100_000, 1, 200_000)
 }
 
-/// The files at these paths, as targets.
-fn targets_at(alloc: Global, graph: &EdgeGraph, paths: &str) -> Result<Vec<FileNo>, AllocError>
-    ensures { IfOk result (λ files. All (λ f. f.0 < length graph.now.files) files.items) }
-{
-    let mut files = Vec::new(alloc);
-    'paths: for path in paths.split(' ') {
-        if let Some(file) = graph.file_named(path.as_bytes()) {
-            files.push(file)?;
-        }
-    }
-    Ok(files)
-}
-
 /// The paths of the targets and of what is to be validated when they are built, each with a blank
 /// after it.
 fn grown(alloc: Global, graph: &EdgeGraph, paths: &str) -> Result<Vec<u8>, AllocError> {
-    let targets = targets_at(alloc, graph, paths)?;
+    let targets = files_at(alloc, graph, paths)?;
     let files = grow_targets(alloc, graph, &targets)?;
     let mut text = Vec::new(alloc);
     'files: for file in &files {
