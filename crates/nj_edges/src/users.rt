@@ -109,12 +109,7 @@ fn row_count(rows: &Rows) -> Result<u32, AllocError>
 }
 
 // The files in this part of an edge.
-fn files_of<'a>(
-    files: &'a [FileNo],
-    rows: &Rows,
-    row_part: RowPart,
-    edge: usize,
-) -> &'a [FileNo]
+fn files_of<'a>(files: &'a [FileNo], rows: &Rows, row_part: RowPart, edge: usize) -> &'a [FileNo]
     requires edge { edge < length rows.now }
     requires rows { AllByRecursion (λ row. IsWithin (span_of row_part row) (length files.now))
         rows.now }

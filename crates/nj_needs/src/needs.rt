@@ -6,10 +6,10 @@ ghost use Rattle.nj_needs.specs.Counts.{saturated};
 ghost use Rattle.nj_needs.specs.Resuming.{ResumeIs};
 ghost use Rattle.nj_needs.specs.Walks.{BeginsAt, commands_of, IsSound, IsSameWalk, NextIs, number_of};
 
-use crate::turns::Turns;
 use crate::resuming::{leads, rebuild};
 use crate::returned::next_edge;
 use crate::saved::Saved;
+use crate::turns::Turns;
 use crate::walk::Walk;
 use nj_edges::{EdgeGraph, EdgeNo, FileNo};
 use nj_marks::{Mark, MarkFault};

@@ -229,8 +229,9 @@ impl Building {
             → DeclaredBy declarations.now entries
             → IsScope (parent_at declarations.now.scopes) scope (scope ∷ around)
             → HoldsEdges self.old entries
-            → let e = entry_at_place place.entry scope around depth (DefaultText (words_text words.now))
-            in ReadsStatement self.new (default_fault e entries (words_text words.now))
+            → let item = DefaultText (words_text words.now) in
+            let e = entry_at_place place.entry scope around depth item in
+            ReadsStatement self.new (default_fault e entries (words_text words.now))
             e entries result }
         ensures refused { OnErr result (self.new ≡ self.old) }
     {
