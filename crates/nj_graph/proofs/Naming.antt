@@ -193,6 +193,14 @@ module _ (main : List ℕ) (before after : SourceState) (old : Reader) (entries 
       stops-refused (λ all. statement_read (opened_in all left) e entries) fault fault (λ all. ap (λ f. unless_fault f entries (item_read (opened_in all left) e entries e.item)) told)
       (item-names e entries e.item fault told) refl
 
+  -- the same where this is what the statement says
+  pub stops-item : (left : ℕ) (site : Site) (spot : Spot) (item said : StatementText) (fault : GraphFault) → item ≡ said
+      → IsFault (own_fault (entry_at site (record { spot = spot; item = said })) entries) fault
+      → StopsAt main before after old.files (λ all. statement_read (opened_in all left) (entry_at site (record { spot = spot; item = item })) entries) fault
+  stops-item left site spot item said fault is told =
+      subst (λ i. StopsAt main before after old.files (λ all. statement_read (opened_in all left) (entry_at site (record { spot = spot; item = i })) entries) fault) (sym is)
+      (stops-own left (entry_at site (record { spot = spot; item = said })) fault told)
+
 -- ---- a file that is named
 
 module _ (main : List ℕ) (before after : SourceState) (old mid held : Reader) (left : ℕ) (place : Place) (path : List ℕ) (e : ReadStatement) (entries : List ReadStatement) (text : List ℕ) where

@@ -8,7 +8,7 @@ use Rattle.nj_faults.specs.Faults.{IsFault}
 use Rattle.nj_graph.specs.Reading.{entry_at, own_fault}
 use Rattle.nj_graph.specs.Inside.ReaderContracts.{Declares, site_of}
 use Rattle.nj_manifest.proofs.Handed.{handed}
-use Rattle.nj_graph.proofs.Naming.{stops-own, reads-one}
+use Rattle.nj_graph.proofs.Naming.{stops-item, reads-one}
 use Rattle.nj_graph.proofs.reader.Reader.read_item.Goals as goal
 
 pub returns-in_err-bind-in-Binding-clause-reads : goal.returns-in_err-bind-in-Binding-clause-reads
@@ -17,8 +17,8 @@ returns-in_err-bind-in-Binding-clause-reads g c = λ main entries around depth h
     let e : ReadStatement = entry_at (site_of c.args.file around depth) (record { spot = c.args.statement.now.spot; item = item }) in
     let source = g.S.FileSource.state c.args.source.now in
     let fault = c.in_err-bind-in-Binding.field-0.0 in
-    rw (handed fault c.from_residual.result c.from_residual.ensures, ap statement_text c.in-Binding.is)
-    (stops-own main source source c.args.self.now entries holds refl c.args.file.left e fault (c.in_err-bind-in-Binding.ensures.declares main entries around depth holds inside))
+    rw (handed fault c.from_residual.result c.from_residual.ensures)
+    (stops-item main source source c.args.self.now entries holds refl c.args.file.left (site_of c.args.file around depth) c.args.statement.now.spot _ item fault (ap statement_text c.in-Binding.is) (c.in_err-bind-in-Binding.ensures.declares main entries around depth holds inside))
 
 pub returns-in_err-declare_rule-in-Rule-clause-reads : goal.returns-in_err-declare_rule-in-Rule-clause-reads
 returns-in_err-declare_rule-in-Rule-clause-reads g c = λ main entries around depth holds inside.
@@ -26,8 +26,8 @@ returns-in_err-declare_rule-in-Rule-clause-reads g c = λ main entries around de
     let e : ReadStatement = entry_at (site_of c.args.file around depth) (record { spot = start; item = rule_text c.in-Rule.rule }) in
     let source = g.S.FileSource.state c.args.source.now in
     let fault = c.in_err-declare_rule-in-Rule.field-0.0 in
-    rw (handed fault c.from_residual-in_err-declare_rule-in-Rule.result c.from_residual-in_err-declare_rule-in-Rule.ensures, ap statement_text c.in-Rule.is)
-    (stops-own main source source c.args.self.now entries holds refl c.args.file.left e fault (c.in_err-declare_rule-in-Rule.ensures.declares start main entries around depth holds inside))
+    rw (handed fault c.from_residual-in_err-declare_rule-in-Rule.result c.from_residual-in_err-declare_rule-in-Rule.ensures)
+    (stops-item main source source c.args.self.now entries holds refl c.args.file.left (site_of c.args.file around depth) c.args.statement.now.spot _ (rule_text c.in-Rule.rule) fault (ap statement_text c.in-Rule.is) (c.in_err-declare_rule-in-Rule.ensures.declares start main entries around depth holds inside))
 
 pub returns-in_err-declare_pool-in-Pool-clause-reads : goal.returns-in_err-declare_pool-in-Pool-clause-reads
 returns-in_err-declare_pool-in-Pool-clause-reads g c = λ main entries around depth holds inside.
@@ -35,8 +35,8 @@ returns-in_err-declare_pool-in-Pool-clause-reads g c = λ main entries around de
     let e : ReadStatement = entry_at (site_of c.args.file around depth) (record { spot = start; item = pool_text c.in-Pool.pool }) in
     let source = g.S.FileSource.state c.args.source.now in
     let fault = c.in_err-declare_pool-in-Pool.field-0.0 in
-    rw (handed fault c.from_residual-in_err-declare_pool-in-Pool.result c.from_residual-in_err-declare_pool-in-Pool.ensures, ap statement_text c.in-Pool.is)
-    (stops-own main source source c.args.self.now entries holds refl c.args.file.left e fault
+    rw (handed fault c.from_residual-in_err-declare_pool-in-Pool.result c.from_residual-in_err-declare_pool-in-Pool.ensures)
+    (stops-item main source source c.args.self.now entries holds refl c.args.file.left (site_of c.args.file around depth) c.args.statement.now.spot _ (pool_text c.in-Pool.pool) fault (ap statement_text c.in-Pool.is)
     (c.in_err-declare_pool-in-Pool.ensures.declares start main entries around depth holds inside))
 
 pub returns-in_ok-declare_rule-in-Rule-clause-reads : goal.returns-in_ok-declare_rule-in-Rule-clause-reads
@@ -54,8 +54,8 @@ returns-in_err-build-in-Build-clause-reads g c = λ main entries around depth ho
     let source = g.S.FileSource.state c.args.source.now in
     let e : ReadStatement = entry_at (site_of c.args.file around depth) (record { spot = c.args.statement.now.spot; item = build_text c.in-Build.build }) in
     let fault = c.in_err-build-in-Build.field-0.0 in
-    rw (handed fault c.from_residual-in_err-build-in-Build.result c.from_residual-in_err-build-in-Build.ensures, ap statement_text c.in-Build.is)
-    (stops-own main source source c.args.self.now entries holds refl c.args.file.left e fault (c.in_err-build-in-Build.ensures.declares main entries around depth holds inside))
+    rw (handed fault c.from_residual-in_err-build-in-Build.result c.from_residual-in_err-build-in-Build.ensures)
+    (stops-item main source source c.args.self.now entries holds refl c.args.file.left (site_of c.args.file around depth) c.args.statement.now.spot _ (build_text c.in-Build.build) fault (ap statement_text c.in-Build.is) (c.in_err-build-in-Build.ensures.declares main entries around depth holds inside))
 
 pub returns-in_ok-build-in-Build-clause-reads : goal.returns-in_ok-build-in-Build-clause-reads
 returns-in_ok-build-in-Build-clause-reads g c = λ main entries around depth holds inside.
@@ -71,8 +71,8 @@ returns-in_err-add_defaults-in-Default-clause-reads g c = λ main entries around
     let source = g.S.FileSource.state c.args.source.now in
     let at : List Word → ReadStatement = λ words. entry_at (site_of c.args.file around depth) (record { spot = c.args.statement.now.spot; item = DefaultText (words_text words) }) in
     let fault = c.in_err-add_defaults-in-Default.field-0.0 in
-    rw (handed fault c.from_residual-in_err-add_defaults-in-Default.result c.from_residual-in_err-add_defaults-in-Default.ensures, ap statement_text c.in-Default.is)
-    (stops-own main source source c.args.self.now entries holds refl c.args.file.left (at c.in-Default.words.items) fault
+    rw (handed fault c.from_residual-in_err-add_defaults-in-Default.result c.from_residual-in_err-add_defaults-in-Default.ensures)
+    (stops-item main source source c.args.self.now entries holds refl c.args.file.left (site_of c.args.file around depth) c.args.statement.now.spot _ (DefaultText (words_text c.in-Default.words.items)) fault (ap statement_text c.in-Default.is)
     (subst (λ words. IsFault (own_fault (at words) entries) fault) c.as_slice.ensures.value (c.in_err-add_defaults-in-Default.ensures.declares main entries around depth holds inside)))
 
 pub returns-in_ok-add_defaults-in-Default-clause-reads :
