@@ -7,5 +7,5 @@ pub returns-in-Err : goal.returns-in-Err
 returns-in-Err g c =
     RunsWords-misused (map string_bytes c.args.words.now)
     (around (g.S.FileSource.state c.args.source.now) (g.O.Sink.state c.args.out.now) (g.E.Sink.state c.args.err.now))
-    (around (g.S.FileSource.state c.args.source.now) (g.O.Sink.state c.args.out.now) (g.E.Sink.state c.report_misuse-status.new.err))
-    c.in-Err.fault c.report_misuse-status.result c.in-Err.ensures.err refl refl c.report_misuse-status.ensures
+    (around (g.S.FileSource.state c.args.source.now) (g.O.Sink.state c.args.out.now) (g.E.Sink.state c.report_misuse.new.err))
+    c.in-Err.fault c.report_misuse.result c.in-Err.ensures.err refl refl c.report_misuse.ensures
