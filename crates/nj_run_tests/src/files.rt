@@ -1,5 +1,4 @@
-use crate::loads::{answer, have, list, lists};
-use crate::runs::files_of;
+use crate::loads::{answer, listed};
 use nj_graph::{MemoryFiles, load};
 use std::test::*;
 
@@ -14,11 +13,9 @@ fn reports_failed_readings(rt: HostRuntime) -> Result<(), Fail> {
         (2, "subninja s", "build.ninja:1:10: cannot read 's'"),
         (3, "subninja s\nsubninja s", "accepted"),
     ] {
-        let files = [
-            ("build.ninja", text.as_bytes()),
-            ("s", b"rule r\n  command = c"),
-        ];
-        let mut source = files_of(rt.alloc(), &files)?;
+        let mut source = MemoryFiles::new(rt.alloc());
+        source.add("build.ninja", text.as_bytes())?;
+        source.add("s", b"rule r\n  command = c")?;
         source.fail_at(reading);
         let line = answer(&rt, &mut source)?;
         assert_eq!(rt; line.as_slice(), want.as_bytes(), "{want}");
@@ -39,7 +36,10 @@ fn keeps_each_file_once(rt: HostRuntime) -> Result<(), Fail> {
 
 #[test]
 fn a_main_file_may_be_missing(rt: HostRuntime) -> Result<(), Fail> {
-    have(&rt, &[], "build.ninja:1:1: cannot find 'build.ninja'")
+    let line = answer(&rt, &mut MemoryFiles::new(rt.alloc()))?;
+    let want = b"build.ninja:1:1: cannot find 'build.ninja'";
+    assert_eq!(rt; line.as_slice(), want.as_slice());
+    Ok(())
 }
 
 #[test]
@@ -54,20 +54,28 @@ fn a_main_file_has_the_name_that_was_given(rt: HostRuntime) -> Result<(), Fail> 
 
 #[test]
 fn lists_a_rule_and_its_description(rt: HostRuntime) -> Result<(), Fail> {
-    let row = "rule cc\n  command = c\n  description = CC $out done\n -> \
-        cc = CC ${out} done\nphony\n";
-    lists(&rt, &[row])
+    let mut source = MemoryFiles::new(rt.alloc());
+    source.add(
+        "build.ninja",
+        b"rule cc\n  command = c\n  description = CC $out done\n",
+    )?;
+    let text = listed(&rt, &mut source)?;
+    assert_eq!(rt; text.as_slice(), b"cc = CC ${out} done\nphony\n".as_slice());
+    Ok(())
 }
 
 #[test]
 fn lists_included_rules_and_none_of_a_child(rt: HostRuntime) -> Result<(), Fail> {
-    let main = b"subninja t\ninclude s\nrule ar\n  command = a\n".as_slice();
-    let files = [
-        ("build.ninja", main),
-        ("s", b"rule zip\n  command = z\n"),
-        ("t", b"rule ld\n  command = l\n"),
-    ];
-    list(&rt, &files, "ar\nphony\nzip\n")
+    let mut source = MemoryFiles::new(rt.alloc());
+    source.add(
+        "build.ninja",
+        b"subninja t\ninclude s\nrule ar\n  command = a\n",
+    )?;
+    source.add("s", b"rule zip\n  command = z\n")?;
+    source.add("t", b"rule ld\n  command = l\n")?;
+    let text = listed(&rt, &mut source)?;
+    assert_eq!(rt; text.as_slice(), b"ar\nphony\nzip\n".as_slice());
+    Ok(())
 }
 
 #[test]

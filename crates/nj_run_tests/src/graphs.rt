@@ -1,7 +1,6 @@
 ghost use Rattle.std.specs.Prelude.{◌<◌, length, All};
 ghost use Rattle.nj_graph.specs.Graph.{edges_of, files_of};
 
-use crate::rows::{sides, two_files};
 use nj_graph::{EdgeNo, FileNo, Graph, Kind, Loaded, MemoryFiles, load, pick_target};
 use std::process::Abort;
 use std::test::*;
@@ -99,43 +98,59 @@ fn edges(rt: &impl AllocGlobal, main: &[u8]) -> Result<Vec<u8>, Fail> {
     edges_of(rt, loaded.graph())
 }
 
-/// The main file of each row has the edges that the row says.
-fn has_edges(rt: &(impl Abort + AllocGlobal), rows: &[&str]) -> Result<(), Fail> {
-    'rows: for row in rows {
-        let (main, want) = sides(row);
-        let text = edges(rt, main.as_bytes())?;
-        assert_eq!(rt; text.as_slice(), want.as_bytes(), "{row}");
+/// Each main file has these edges.
+fn has_edges(rt: &(impl Abort + AllocGlobal), rows: &[(&[u8], &str)]) -> Result<(), Fail> {
+    for (main, want) in rows {
+        let text = edges(rt, main)?;
+        assert_eq!(rt; text.as_slice(), want.as_bytes(), "{want}");
     }
     Ok(())
 }
 
 #[test]
 fn an_edge_has_clean_paths(rt: HostRuntime) -> Result<(), Fail> {
-    let rows = [
-        "build foo//.//..///bar: phony ./x/../foo/../../bar.h a/.. /.. foo/ -> \
-            phony 1: bar < ../bar.h . / foo @\n",
-        "build a | b: phony c | d || e |@ f -> phony 1: a b < c |d ||e @ f\n",
-    ];
-    has_edges(&rt, &rows)
+    has_edges(
+        &rt,
+        &[
+            (
+                b"build foo//.//..///bar: phony ./x/../foo/../../bar.h a/.. /.. foo/",
+                "phony 1: bar < ../bar.h . / foo @\n",
+            ),
+            (
+                b"build a | b: phony c | d || e |@ f",
+                "phony 1: a b < c |d ||e @ f\n",
+            ),
+        ],
+    )
 }
 
 #[test]
 fn a_phony_edge_loses_its_own_output(rt: HostRuntime) -> Result<(), Fail> {
-    let rows = [
-        "build a: phony a -> phony 1: a < @\n",
-        "rule t\n  command = c\nbuild x: t\nbuild all: phony all x -> \
-            t 1: x < @\nphony 1: all < x @\n",
-        "rule t\n  command = c\nbuild x: t\nbuild all: phony x || all |@ all -> \
-            t 1: x < @\nphony 1: all < x @ all\n",
-    ];
-    has_edges(&rt, &rows)
+    has_edges(
+        &rt,
+        &[
+            (b"build a: phony a", "phony 1: a < @\n"),
+            (
+                b"rule t\n  command = c\nbuild x: t\nbuild all: phony all x",
+                "t 1: x < @\nphony 1: all < x @\n",
+            ),
+            (
+                b"rule t\n  command = c\nbuild x: t\nbuild all: phony x || all |@ all",
+                "t 1: x < @\nphony 1: all < x @ all\n",
+            ),
+        ],
+    )
 }
 
 #[test]
 fn words_see_the_block_and_the_file_before_them(rt: HostRuntime) -> Result<(), Fail> {
-    let row = "v = 1\nbuild $v: phony $v$w $u$e\n  w = 2\n  u = $w$v$v\nv = 3\nbuild $v: phony -> \
-        phony 1: 1 < 12 11 @\nphony 1: 3 < @\n";
-    has_edges(&rt, &[row])
+    has_edges(
+        &rt,
+        &[(
+            b"v = 1\nbuild $v: phony $v$w $u$e\n  w = 2\n  u = $w$v$v\nv = 3\nbuild $v: phony",
+            "phony 1: 1 < 12 11 @\nphony 1: 3 < @\n",
+        )],
+    )
 }
 
 /// The places of the edges of a graph, a line each.
@@ -289,72 +304,103 @@ fn said(rt: &impl AllocGlobal, main: &[u8], s: &[u8], name: &[u8]) -> Result<Vec
     said_in(rt, loaded.graph(), name)
 }
 
-/// The edges of each row, of a main file and after ` + ` of a file `s`, say by a variable what the
-/// row says.
-fn say(rt: &(impl Abort + AllocGlobal), name: &[u8], rows: &[&str]) -> Result<(), Fail> {
-    'rows: for row in rows {
-        let (files, want) = sides(row);
-        let (main, s) = two_files(files);
-        let text = said(rt, main.as_bytes(), s.as_bytes(), name)?;
-        assert_eq!(rt; text.as_slice(), want.as_bytes(), "{row}");
+/// The edges of each main file, with the file `s` beside it, say this by a variable.
+fn say(
+    rt: &(impl Abort + AllocGlobal),
+    name: &[u8],
+    rows: &[(&[u8], &[u8], &str)],
+) -> Result<(), Fail> {
+    for (main, s, want) in rows {
+        let text = said(rt, main, s, name)?;
+        assert_eq!(rt; text.as_slice(), want.as_bytes(), "{want}");
     }
     Ok(())
 }
 
 #[test]
 fn commands_see_the_values_after_all_statements(rt: HostRuntime) -> Result<(), Fail> {
-    let rows = [
-        "x = 1\nrule r\n  command = echo $x\nbuild o: r\nx = 2 -> echo 2\n",
-        // a block's value was expanded at the statement
-        "x = 1\nrule r\n  command = echo $x\nbuild o: r\n  x = $x.3\nx = 2 -> echo 1.3\n",
-        // the scope of the statement, with those around it
-        "v = p\nw = 1\nrule r\n  command = r $v $w\nsubninja s\nbuild o: r\nw = 2 + v = c\n\
-            build i: r -> r c 2\nr p 2\n",
-        // the rule in force before the statement
-        "rule r\n  command = old\nsubninja s + build C: r\nrule r\n  command = new\nbuild D: r -> \
-            old\nnew\n",
-        "rule cc\r\n  command = cc -c $in -o $out$FLAGS\r\ninclude s\r\n\
-            build a.o: cc a.c | a.h\r\n  FLAGS = $e -O2\r\n + build b.o: cc b.c\r\n -> \
-            cc -c b.c -o b.o\ncc -c a.c -o a.o -O2\n",
-    ];
-    say(&rt, b"command", &rows)
+    say(
+        &rt,
+        b"command",
+        &[
+            (
+                b"x = 1\nrule r\n  command = echo $x\nbuild o: r\nx = 2",
+                b"",
+                "echo 2\n",
+            ),
+            // a block's value was expanded at the statement
+            (
+                b"x = 1\nrule r\n  command = echo $x\nbuild o: r\n  x = $x.3\nx = 2",
+                b"",
+                "echo 1.3\n",
+            ),
+            // the scope of the statement, with those around it
+            (
+                b"v = p\nw = 1\nrule r\n  command = r $v $w\nsubninja s\nbuild o: r\nw = 2",
+                b"v = c\nbuild i: r",
+                "r c 2\nr p 2\n",
+            ),
+            // the rule in force before the statement
+            (
+                b"rule r\n  command = old\nsubninja s",
+                b"build C: r\nrule r\n  command = new\nbuild D: r",
+                "old\nnew\n",
+            ),
+            (
+                b"rule cc\r\n  command = cc -c $in -o $out$FLAGS\r\ninclude s\r\nbuild a.o: cc a.c | a.h\r\n  FLAGS = $e -O2\r\n",
+                b"build b.o: cc b.c\r\n",
+                "cc -c b.c -o b.o\ncc -c a.c -o a.o -O2\n",
+            ),
+        ],
+    )
 }
 
 #[test]
 fn commands_quote_paths(rt: HostRuntime) -> Result<(), Fail> {
-    let rows = [
-        "rule cp\n  command = cp $in $out\nbuild o$ 1: cp it's$ x -> cp 'it'\\''s x' 'o 1'\n",
-        "rule cp\n  command = cp $in $out\nbuild o: cp a$\n  b -> cp ab o\n",
-        // decided by the name that is asked for
-        "rule r\n  command = r @$rspfile\n  rspfile = $out.rsp\n  rspfile_content = $in_newline\n\
-            build o$ 1: r -> r @'o 1'.rsp\n",
-    ];
-    say(&rt, b"command", &rows)
+    say(
+        &rt,
+        b"command",
+        &[
+            (
+                b"rule cp\n  command = cp $in $out\nbuild o$ 1: cp it's$ x",
+                b"",
+                "cp 'it'\\''s x' 'o 1'\n",
+            ),
+            (
+                b"rule cp\n  command = cp $in $out\nbuild o: cp a$\n  b",
+                b"",
+                "cp ab o\n",
+            ),
+            // decided by the name that is asked for
+            (
+                b"rule r\n  command = r @$rspfile\n  rspfile = $out.rsp\n  rspfile_content = $in_newline\nbuild o$ 1: r",
+                b"",
+                "r @'o 1'.rsp\n",
+            ),
+        ],
+    )
 }
 
 #[test]
 fn other_variables_are_said_too(rt: HostRuntime) -> Result<(), Fail> {
-    let main =
-        b"rule r\n  command = r @$rspfile\n  rspfile = $out.rsp\n  rspfile_content = $in_newline\n\
-        build o$ 1: r a b$ c";
-    let rows = [
-        "rspfile -> o 1.rsp\n",
-        "rspfile_content -> a\n'b c'\n",
-        "nothing -> \n",
-    ];
-    'rows: for row in rows {
-        let (name, want) = sides(row);
-        let text = said(&rt, main, b"", name.as_bytes())?;
-        assert_eq!(rt; text.as_slice(), want.as_bytes(), "{row}");
-    }
-    Ok(())
+    let rules =
+        b"rule r\n  command = r @$rspfile\n  rspfile = $out.rsp\n  rspfile_content = $in_newline\nbuild o$ 1: r a b$ c";
+    say(&rt, b"rspfile", &[(rules, b"", "o 1.rsp\n")])?;
+    say(&rt, b"rspfile_content", &[(rules, b"", "a\n'b c'\n")])?;
+    say(&rt, b"nothing", &[(rules, b"", "\n")])
 }
 
 #[test]
 fn a_phony_edge_has_the_command_of_its_block(rt: HostRuntime) -> Result<(), Fail> {
-    let row = "command = file\nbuild a: phony\nbuild b: phony\n  command = $v block\nv = late -> \
-        \n block\n";
-    say(&rt, b"command", &[row])
+    say(
+        &rt,
+        b"command",
+        &[(
+            b"command = file\nbuild a: phony\nbuild b: phony\n  command = $v block\nv = late",
+            b"",
+            "\n block\n",
+        )],
+    )
 }
 
 /// The commands of the edges of a graph as they are without their response files, a line each.

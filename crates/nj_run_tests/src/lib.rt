@@ -18,8 +18,6 @@ mod pages;
 #[cfg(test)]
 mod requests;
 #[cfg(test)]
-mod rows;
-#[cfg(test)]
 mod runs;
 #[cfg(test)]
 mod sinks;

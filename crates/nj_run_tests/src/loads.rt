@@ -1,5 +1,3 @@
-use crate::rows::{sides, two_files};
-use crate::runs::files_of;
 use nj_graph::{Cause, Graph, MemoryFiles, Name, Wanted, load};
 use std::process::Abort;
 use std::test::*;
@@ -13,34 +11,28 @@ pub(crate) fn answer(rt: &impl AllocGlobal, source: &mut MemoryFiles) -> Result<
     }
 }
 
-/// These files have this answer.
-pub(crate) fn have(
-    rt: &(impl Abort + AllocGlobal),
-    files: &[(&str, &[u8])],
-    want: &str,
-) -> Result<(), Fail> {
-    let mut source = files_of(rt.alloc(), files)?;
-    let line = answer(rt, &mut source)?;
-    assert_eq!(rt; line.as_slice(), want.as_bytes(), "{want}");
-    Ok(())
-}
-
-/// The main file of each row has the answer that the row says.
-pub(crate) fn reports(rt: &(impl Abort + AllocGlobal), rows: &[&str]) -> Result<(), Fail> {
-    'rows: for row in rows {
-        let (main, want) = sides(row);
-        have(rt, &[("build.ninja", main.as_bytes())], want)?;
+/// Each main file has the answer beside it.
+pub(crate) fn reports(rt: &(impl Abort + AllocGlobal), rows: &[(&[u8], &str)]) -> Result<(), Fail> {
+    for (main, want) in rows {
+        let mut source = MemoryFiles::new(rt.alloc());
+        source.add("build.ninja", main)?;
+        let line = answer(rt, &mut source)?;
+        assert_eq!(rt; line.as_slice(), want.as_bytes(), "{want}");
     }
     Ok(())
 }
 
-/// The files of each row, a main file and after ` + ` a file `s`, have the answer that it says.
-pub(crate) fn reports_with_s(rt: &(impl Abort + AllocGlobal), rows: &[&str]) -> Result<(), Fail> {
-    'rows: for row in rows {
-        let (files, want) = sides(row);
-        let (main, s) = two_files(files);
-        let files = [("build.ninja", main.as_bytes()), ("s", s.as_bytes())];
-        have(rt, &files, want)?;
+/// Each main file with a file `s` has the answer beside them.
+pub(crate) fn reports_with_s(
+    rt: &(impl Abort + AllocGlobal),
+    rows: &[(&str, &str, &str)],
+) -> Result<(), Fail> {
+    for (main, s, want) in rows {
+        let mut source = MemoryFiles::new(rt.alloc());
+        source.add("build.ninja", main.as_bytes())?;
+        source.add("s", s.as_bytes())?;
+        let line = answer(rt, &mut source)?;
+        assert_eq!(rt; line.as_slice(), want.as_bytes(), "{want}");
     }
     Ok(())
 }
@@ -100,245 +92,392 @@ fn tells_the_kind_of_a_syntax_fault(rt: HostRuntime) -> Result<(), Fail> {
 
 #[test]
 fn reports_the_syntax_of_build_and_default_first(rt: HostRuntime) -> Result<(), Fail> {
-    let rows = [
-        "build a -> build.ninja:1:8: expected ':'",
-        "build a: r\n  v -> build.ninja:2:4: expected '='",
-        "default a: -> build.ninja:1:10: expected newline",
-    ];
-    reports(&rt, &rows)
+    reports(
+        &rt,
+        &[
+            (b"build a", "build.ninja:1:8: expected ':'"),
+            (b"build a: r\n  v", "build.ninja:2:4: expected '='"),
+            (b"default a:", "build.ninja:1:10: expected newline"),
+        ],
+    )
 }
 
 #[test]
 fn reports_bad_units(rt: HostRuntime) -> Result<(), Fail> {
-    let rows = [
-        "v = a\0 -> build.ninja:1:6: unexpected byte",
-        "v = a\rb -> build.ninja:1:6: unexpected byte",
-        "rule r\n\tcommand = c -> build.ninja:2:1: tabs are not allowed, use spaces",
-        "v = $! -> build.ninja:1:5: bad $-escape (literal $ must be written as $$)",
-    ];
-    reports(&rt, &rows)
+    reports(
+        &rt,
+        &[
+            (b"v = a\0", "build.ninja:1:6: unexpected byte"),
+            (b"v = a\rb", "build.ninja:1:6: unexpected byte"),
+            (
+                b"rule r\n\tcommand = c",
+                "build.ninja:2:1: tabs are not allowed, use spaces",
+            ),
+            (
+                b"v = $!",
+                "build.ninja:1:5: bad $-escape (literal $ must be written as $$)",
+            ),
+        ],
+    )
 }
 
 #[test]
 fn reports_what_is_wanted(rt: HostRuntime) -> Result<(), Fail> {
-    let rows = [
-        "= x -> build.ninja:1:1: expected statement",
-        "rule -> build.ninja:1:5: expected rule name",
-        "pool : -> build.ninja:1:6: expected pool name",
-        "include\n -> build.ninja:1:8: expected path",
-        "subninja : -> build.ninja:1:10: expected path",
-        "build : r -> build.ninja:1:7: expected path",
-        "build a -> build.ninja:1:8: expected ':'",
-        "build a:  -> build.ninja:1:10: expected build command name",
-        "default\n -> build.ninja:1:8: expected target name",
-        "rule r\n  = x -> build.ninja:2:3: expected variable name",
-        "\nx -> build.ninja:2:2: expected '='",
-        "rule r x -> build.ninja:1:8: expected newline",
-    ];
-    reports(&rt, &rows)
+    reports(
+        &rt,
+        &[
+            (b"= x", "build.ninja:1:1: expected statement"),
+            (b"rule", "build.ninja:1:5: expected rule name"),
+            (b"pool :", "build.ninja:1:6: expected pool name"),
+            (b"include\n", "build.ninja:1:8: expected path"),
+            (b"subninja :", "build.ninja:1:10: expected path"),
+            (b"build : r", "build.ninja:1:7: expected path"),
+            (b"build a", "build.ninja:1:8: expected ':'"),
+            (
+                b"build a: ",
+                "build.ninja:1:10: expected build command name",
+            ),
+            (b"default\n", "build.ninja:1:8: expected target name"),
+            (b"rule r\n  = x", "build.ninja:2:3: expected variable name"),
+            (b"\nx", "build.ninja:2:2: expected '='"),
+            (b"rule r x", "build.ninja:1:8: expected newline"),
+        ],
+    )
 }
 
 #[test]
 fn reports_bad_blocks(rt: HostRuntime) -> Result<(), Fail> {
-    let rows = [
-        "v = a\n\n  w = b -> build.ninja:3:1: unexpected indent",
-        "\nrule r -> build.ninja:2:1: expected 'command =' line",
-        "\nrule r\n  command = c\n  rspfile = f -> \
-            build.ninja:2:1: rspfile and rspfile_content need to be both specified",
-        "rule r\n  command = c\n  rspfile_content = f -> \
-            build.ninja:1:1: rspfile and rspfile_content need to be both specified",
-        "rule r\n  command = c\n   depth = 1 -> build.ninja:3:4: unexpected variable 'depth'",
-        "pool p\n  command = c -> build.ninja:2:3: unexpected variable 'command'",
-        "\npool p -> build.ninja:2:1: expected 'depth =' line",
-    ];
-    reports(&rt, &rows)
+    reports(
+        &rt,
+        &[
+            (b"v = a\n\n  w = b", "build.ninja:3:1: unexpected indent"),
+            (b"\nrule r", "build.ninja:2:1: expected 'command =' line"),
+            (
+                b"\nrule r\n  command = c\n  rspfile = f",
+                "build.ninja:2:1: rspfile and rspfile_content need to be both specified",
+            ),
+            (
+                b"rule r\n  command = c\n  rspfile_content = f",
+                "build.ninja:1:1: rspfile and rspfile_content need to be both specified",
+            ),
+            (
+                b"rule r\n  command = c\n   depth = 1",
+                "build.ninja:3:4: unexpected variable 'depth'",
+            ),
+            (
+                b"pool p\n  command = c",
+                "build.ninja:2:3: unexpected variable 'command'",
+            ),
+            (b"\npool p", "build.ninja:2:1: expected 'depth =' line"),
+        ],
+    )
 }
 
 #[test]
 fn reports_newer_versions(rt: HostRuntime) -> Result<(), Fail> {
-    let rows = [
-        "ninja_required_version = 1.13 -> \
-            build.ninja:1:1: ninja_required_version 1.13 is newer than 1.12",
-        "ninja_required_version = 2.0 -> \
-            build.ninja:1:1: ninja_required_version 2.0 is newer than 1.12",
-        "ninja_required_version = 1.8.2 -> accepted",
-        "ninja_required_version = 1.12 -> accepted",
-        "ninja_required_version = 1.12.9 -> accepted",
-        "ninja_required_version = 1.2$ninja_required_version -> accepted",
-        "v = 1\nninja_required_version = $v.13.3 -> \
-            build.ninja:2:1: ninja_required_version 1.13.3 is newer than 1.12",
-        "ninja_required_version = 1.8\nninja_required_version = 2 -> \
-            build.ninja:2:1: ninja_required_version 2 is newer than 1.12",
-        "ninja_required_versions = 2 -> accepted",
-        // syntax first
-        "ninja_required_version = 2$! -> \
-            build.ninja:1:27: bad $-escape (literal $ must be written as $$)",
-    ];
-    reports(&rt, &rows)
+    reports(
+        &rt,
+        &[
+            (
+                b"ninja_required_version = 1.13",
+                "build.ninja:1:1: ninja_required_version 1.13 is newer than 1.12",
+            ),
+            (
+                b"ninja_required_version = 2.0",
+                "build.ninja:1:1: ninja_required_version 2.0 is newer than 1.12",
+            ),
+            (b"ninja_required_version = 1.8.2", "accepted"),
+            (b"ninja_required_version = 1.12", "accepted"),
+            (b"ninja_required_version = 1.12.9", "accepted"),
+            (
+                b"ninja_required_version = 1.2$ninja_required_version",
+                "accepted",
+            ),
+            (
+                b"v = 1\nninja_required_version = $v.13.3",
+                "build.ninja:2:1: ninja_required_version 1.13.3 is newer than 1.12",
+            ),
+            (
+                b"ninja_required_version = 1.8\nninja_required_version = 2",
+                "build.ninja:2:1: ninja_required_version 2 is newer than 1.12",
+            ),
+            (b"ninja_required_versions = 2", "accepted"),
+            // syntax first
+            (
+                b"ninja_required_version = 2$!",
+                "build.ninja:1:27: bad $-escape (literal $ must be written as $$)",
+            ),
+        ],
+    )
 }
 
 #[test]
 fn reports_bad_depths(rt: HostRuntime) -> Result<(), Fail> {
-    let rows = [
-        "pool p\n  depth = 2147483647 -> accepted",
-        "pool p\n  depth = 2147483648 -> build.ninja:2:3: invalid pool depth",
-        "pool p\n  depth = 2x -> accepted",
-        "pool p\n  depth = -1 -> build.ninja:2:3: invalid pool depth",
-        "pool p\n  depth = -> build.ninja:2:3: invalid pool depth",
-        "v = 2\npool p\n  depth = $v -> accepted",
-        "v = x\npool p\n  depth = $v -> build.ninja:3:3: invalid pool depth",
-        // each line counts, the topmost first
-        "pool p\n  depth = 1\n  depth = x -> build.ninja:3:3: invalid pool depth",
-        "pool p\n  depth = x\n  depth = 1 -> build.ninja:2:3: invalid pool depth",
-        "pool p\n  depth = x\n  depth = -> build.ninja:2:3: invalid pool depth",
-    ];
-    reports(&rt, &rows)
+    let first = "build.ninja:2:3: invalid pool depth";
+    let second = "build.ninja:3:3: invalid pool depth";
+    reports(
+        &rt,
+        &[
+            (b"pool p\n  depth = 2147483647", "accepted"),
+            (b"pool p\n  depth = 2147483648", first),
+            (b"pool p\n  depth = 2x", "accepted"),
+            (b"pool p\n  depth = -1", first),
+            (b"pool p\n  depth =", first),
+            (b"v = 2\npool p\n  depth = $v", "accepted"),
+            (b"v = x\npool p\n  depth = $v", second),
+            // each line counts, the topmost first
+            (b"pool p\n  depth = 1\n  depth = x", second),
+            (b"pool p\n  depth = x\n  depth = 1", first),
+            (b"pool p\n  depth = x\n  depth =", first),
+        ],
+    )
 }
 
 #[test]
 fn reports_second_names(rt: HostRuntime) -> Result<(), Fail> {
-    let rows = [
-        "rule phony\n  command = x -> build.ninja:1:6: duplicate rule 'phony'",
-        "rule r\n  command = x\nrule  r\n  command = x -> build.ninja:3:7: duplicate rule 'r'",
-        "pool console\n  depth = 1 -> build.ninja:1:6: duplicate pool 'console'",
-        "pool p\n  depth = 1\npool  p\n  depth = 1 -> build.ninja:3:7: duplicate pool 'p'",
-        "rule r\n  command = x\npool r\n  depth = 1\nr = x -> accepted",
-    ];
-    reports(&rt, &rows)
+    reports(
+        &rt,
+        &[
+            (
+                b"rule phony\n  command = x",
+                "build.ninja:1:6: duplicate rule 'phony'",
+            ),
+            (
+                b"rule r\n  command = x\nrule  r\n  command = x",
+                "build.ninja:3:7: duplicate rule 'r'",
+            ),
+            (
+                b"pool console\n  depth = 1",
+                "build.ninja:1:6: duplicate pool 'console'",
+            ),
+            (
+                b"pool p\n  depth = 1\npool  p\n  depth = 1",
+                "build.ninja:3:7: duplicate pool 'p'",
+            ),
+            (
+                b"rule r\n  command = x\npool r\n  depth = 1\nr = x",
+                "accepted",
+            ),
+        ],
+    )
 }
 
 // Syntax, then the pair, then the command, then the name.
 #[test]
 fn reports_the_first_fault_of_a_rule(rt: HostRuntime) -> Result<(), Fail> {
-    let rows = [
-        "rule r\n  rspfile = f\n  command -> build.ninja:3:10: expected '='",
-        "rule r\n  command -> build.ninja:2:10: expected '='",
-        "rule phony x -> build.ninja:1:12: expected newline",
-        "rule r\n  rspfile = f -> \
-            build.ninja:1:1: rspfile and rspfile_content need to be both specified",
-        "rule phony\n  command = c\n  rspfile = f -> \
-            build.ninja:1:1: rspfile and rspfile_content need to be both specified",
-        "rule phony -> build.ninja:1:1: expected 'command =' line",
-    ];
-    reports(&rt, &rows)
+    let pair = "build.ninja:1:1: rspfile and rspfile_content need to be both specified";
+    reports(
+        &rt,
+        &[
+            (
+                b"rule r\n  rspfile = f\n  command",
+                "build.ninja:3:10: expected '='",
+            ),
+            (b"rule r\n  command", "build.ninja:2:10: expected '='"),
+            (b"rule phony x", "build.ninja:1:12: expected newline"),
+            (b"rule r\n  rspfile = f", pair),
+            (b"rule phony\n  command = c\n  rspfile = f", pair),
+            (b"rule phony", "build.ninja:1:1: expected 'command =' line"),
+        ],
+    )
 }
 
 // Syntax, then a missing depth, then the name, then each depth.
 #[test]
 fn reports_the_first_fault_of_a_pool(rt: HostRuntime) -> Result<(), Fail> {
-    let rows = [
-        "pool p\n  depth -> build.ninja:2:8: expected '='",
-        "pool console x -> build.ninja:1:14: expected newline",
-        "pool p\n  depth = x\n  depth -> build.ninja:3:8: expected '='",
-        "pool console -> build.ninja:1:1: expected 'depth =' line",
-        "pool console\n  depth = x -> build.ninja:1:6: duplicate pool 'console'",
-    ];
-    reports(&rt, &rows)
+    reports(
+        &rt,
+        &[
+            (b"pool p\n  depth", "build.ninja:2:8: expected '='"),
+            (b"pool console x", "build.ninja:1:14: expected newline"),
+            (
+                b"pool p\n  depth = x\n  depth",
+                "build.ninja:3:8: expected '='",
+            ),
+            (b"pool console", "build.ninja:1:1: expected 'depth =' line"),
+            (
+                b"pool console\n  depth = x",
+                "build.ninja:1:6: duplicate pool 'console'",
+            ),
+        ],
+    )
 }
 
 #[test]
 fn reports_bad_paths(rt: HostRuntime) -> Result<(), Fail> {
-    let rows = [
-        "include x -> build.ninja:1:9: cannot find 'x'",
-        "subninja ./x//y -> build.ninja:1:10: cannot find './x//y'",
-        "v = s\ninclude $v -> build.ninja:2:9: cannot find 's'",
-        "include \u{e9} -> build.ninja:1:9: cannot find '\u{e9}'",
-        "include $v -> build.ninja:1:9: empty path",
-        "subninja ${v}$w -> build.ninja:1:10: empty path",
-        "include build.ninja -> build.ninja:1:9: more than 32 files open",
-        "subninja build.ninja -> build.ninja:1:10: more than 32 files open",
-        // syntax first
-        "include $v x -> build.ninja:1:12: expected newline",
-        "include x: -> build.ninja:1:10: expected newline",
-    ];
-    reports(&rt, &rows)?;
-    let row = [("build.ninja", b"include \xff".as_slice())];
-    have(&rt, &row, "build.ninja:1:9: path is not UTF-8")?;
-    let row = [("build.ninja", b"v = \xc3\nsubninja x$v".as_slice())];
-    have(&rt, &row, "build.ninja:2:10: path is not UTF-8")?;
-    let row = [("build.ninja", b"subninja \xff:".as_slice())];
-    have(&rt, &row, "build.ninja:1:11: expected newline")
+    reports(
+        &rt,
+        &[
+            (b"include x", "build.ninja:1:9: cannot find 'x'"),
+            (b"subninja ./x//y", "build.ninja:1:10: cannot find './x//y'"),
+            (b"v = s\ninclude $v", "build.ninja:2:9: cannot find 's'"),
+            (b"include \xc3\xa9", "build.ninja:1:9: cannot find '\u{e9}'"),
+            (b"include $v", "build.ninja:1:9: empty path"),
+            (b"subninja ${v}$w", "build.ninja:1:10: empty path"),
+            (b"include \xff", "build.ninja:1:9: path is not UTF-8"),
+            (
+                b"v = \xc3\nsubninja x$v",
+                "build.ninja:2:10: path is not UTF-8",
+            ),
+            (
+                b"include build.ninja",
+                "build.ninja:1:9: more than 32 files open",
+            ),
+            (
+                b"subninja build.ninja",
+                "build.ninja:1:10: more than 32 files open",
+            ),
+            // syntax first
+            (b"include $v x", "build.ninja:1:12: expected newline"),
+            (b"subninja \xff:", "build.ninja:1:11: expected newline"),
+            (b"include x:", "build.ninja:1:10: expected newline"),
+        ],
+    )
 }
 
 #[test]
 fn an_included_file_stands_in_the_same_scope(rt: HostRuntime) -> Result<(), Fail> {
-    let rows = [
-        "include s\ninclude $v + v = a -> build.ninja:2:9: cannot find 'a'",
-        "v = a\ninclude s + include $v -> s:1:9: cannot find 'a'",
-        "include s\ninclude s + rule r\n  command = c -> s:1:6: duplicate rule 'r'",
-        "include s\nrule r\n  command = c + rule r\n  command = c -> \
-            build.ninja:2:6: duplicate rule 'r'",
-        "rule r\n  command = c\ninclude s + rule r\n  command = c -> s:1:6: duplicate rule 'r'",
-    ];
-    reports_with_s(&rt, &rows)
+    let rule = "rule r\n  command = c";
+    reports_with_s(
+        &rt,
+        &[
+            (
+                "include s\ninclude $v",
+                "v = a",
+                "build.ninja:2:9: cannot find 'a'",
+            ),
+            ("v = a\ninclude s", "include $v", "s:1:9: cannot find 'a'"),
+            ("include s\ninclude s", rule, "s:1:6: duplicate rule 'r'"),
+            (
+                "include s\nrule r\n  command = c",
+                rule,
+                "build.ninja:2:6: duplicate rule 'r'",
+            ),
+            (
+                "rule r\n  command = c\ninclude s",
+                rule,
+                "s:1:6: duplicate rule 'r'",
+            ),
+        ],
+    )
 }
 
 #[test]
 fn a_subninja_stands_in_a_scope_of_its_own(rt: HostRuntime) -> Result<(), Fail> {
-    let rows = [
-        "v = a\nsubninja s + include $v -> s:1:9: cannot find 'a'",
-        "v = a\nsubninja s\ninclude $v + v = b -> build.ninja:3:9: cannot find 'a'",
-        "subninja s\nsubninja s + rule r\n  command = c -> accepted",
-        "subninja s\nrule r\n  command = c + rule r\n  command = c -> accepted",
-        "rule r\n  command = c\nsubninja s + rule r\n  command = c -> accepted",
-        "subninja s + rule phony\n  command = c -> s:1:6: duplicate rule 'phony'",
-        // pools stand in none
-        "subninja s\nsubninja s + pool p\n  depth = 1 -> s:1:6: duplicate pool 'p'",
-        "subninja s\npool p\n  depth = 1 + pool p\n  depth = 1 -> \
-            build.ninja:2:6: duplicate pool 'p'",
-        "pool p\n  depth = 1\nsubninja s + pool p\n  depth = 1 -> s:1:6: duplicate pool 'p'",
-    ];
-    reports_with_s(&rt, &rows)
+    let rule = "rule r\n  command = c";
+    let pool = "pool p\n  depth = 1";
+    reports_with_s(
+        &rt,
+        &[
+            ("v = a\nsubninja s", "include $v", "s:1:9: cannot find 'a'"),
+            (
+                "v = a\nsubninja s\ninclude $v",
+                "v = b",
+                "build.ninja:3:9: cannot find 'a'",
+            ),
+            ("subninja s\nsubninja s", rule, "accepted"),
+            ("subninja s\nrule r\n  command = c", rule, "accepted"),
+            ("rule r\n  command = c\nsubninja s", rule, "accepted"),
+            (
+                "subninja s",
+                "rule phony\n  command = c",
+                "s:1:6: duplicate rule 'phony'",
+            ),
+            // pools stand in none
+            ("subninja s\nsubninja s", pool, "s:1:6: duplicate pool 'p'"),
+            (
+                "subninja s\npool p\n  depth = 1",
+                pool,
+                "build.ninja:2:6: duplicate pool 'p'",
+            ),
+            (
+                "pool p\n  depth = 1\nsubninja s",
+                pool,
+                "s:1:6: duplicate pool 'p'",
+            ),
+        ],
+    )
 }
 
 #[test]
 fn values_are_expanded_where_they_stand(rt: HostRuntime) -> Result<(), Fail> {
-    let rows = [
-        "v = a\nw = $v\nv = b\ninclude $w -> build.ninja:4:9: cannot find 'a'",
-        "v = a\nv = b$v\ninclude $v -> build.ninja:3:9: cannot find 'ba'",
-        "w = a$v\nv = b\ninclude $w -> build.ninja:3:9: cannot find 'a'",
-    ];
-    reports(&rt, &rows)
+    reports(
+        &rt,
+        &[
+            (
+                b"v = a\nw = $v\nv = b\ninclude $w",
+                "build.ninja:4:9: cannot find 'a'",
+            ),
+            (
+                b"v = a\nv = b$v\ninclude $v",
+                "build.ninja:3:9: cannot find 'ba'",
+            ),
+            (
+                b"w = a$v\nv = b\ninclude $w",
+                "build.ninja:3:9: cannot find 'a'",
+            ),
+        ],
+    )
 }
 
 #[test]
 fn reports_the_first_fault_of_the_files(rt: HostRuntime) -> Result<(), Fail> {
-    let rows = [
-        "include s\nx + \n\ny -> s:3:2: expected '='",
-        "subninja s\nx + \n  y -> s:2:1: unexpected indent",
-        "include s\nx + y = 1 -> build.ninja:2:2: expected '='",
-        "x\ninclude s + y -> build.ninja:1:2: expected '='",
-        "include s x + y -> build.ninja:1:11: expected newline",
-        "v = s\nsubninja $v\ninclude x + include y -> s:1:9: cannot find 'y'",
-        "include s\ninclude x + pool p\n  depth = -> s:2:3: invalid pool depth",
-        "subninja s\nbuild a: r + default a -> s:1:9: unknown target 'a'",
-    ];
-    reports_with_s(&rt, &rows)
+    reports_with_s(
+        &rt,
+        &[
+            ("include s\nx", "\n\ny", "s:3:2: expected '='"),
+            ("subninja s\nx", "\n  y", "s:2:1: unexpected indent"),
+            ("include s\nx", "y = 1", "build.ninja:2:2: expected '='"),
+            ("x\ninclude s", "y", "build.ninja:1:2: expected '='"),
+            ("include s x", "y", "build.ninja:1:11: expected newline"),
+            (
+                "v = s\nsubninja $v\ninclude x",
+                "include y",
+                "s:1:9: cannot find 'y'",
+            ),
+            (
+                "include s\ninclude x",
+                "pool p\n  depth =",
+                "s:2:3: invalid pool depth",
+            ),
+            (
+                "subninja s\nbuild a: r",
+                "default a",
+                "s:1:9: unknown target 'a'",
+            ),
+        ],
+    )
 }
 
 #[test]
 fn each_file_may_ask_for_a_version(rt: HostRuntime) -> Result<(), Fail> {
-    let rows = [
-        "v = 1.13\ninclude s + \nninja_required_version = $v -> \
-            s:2:1: ninja_required_version 1.13 is newer than 1.12",
-        "v = 1.13\nsubninja s + \nninja_required_version = $v -> \
-            s:2:1: ninja_required_version 1.13 is newer than 1.12",
-        "v = 1.12\nsubninja s + \nninja_required_version = $v -> accepted",
-    ];
-    reports_with_s(&rt, &rows)
+    let asks = "\nninja_required_version = $v";
+    let newer = "s:2:1: ninja_required_version 1.13 is newer than 1.12";
+    reports_with_s(
+        &rt,
+        &[
+            ("v = 1.13\ninclude s", asks, newer),
+            ("v = 1.13\nsubninja s", asks, newer),
+            ("v = 1.12\nsubninja s", asks, "accepted"),
+        ],
+    )
 }
 
 // The same of the number of files that were opened.
 #[test]
 fn at_most_65536_files_are_opened(rt: HostRuntime) -> Result<(), Fail> {
-    let rows = [
-        " -> accepted",
-        "subninja e -> build.ninja:65536:10: more than 65536 files opened",
-    ];
-    'rows: for row in rows {
-        let (last, want) = sides(row);
-        let main = repeated(&rt, 65535, last.as_bytes())?;
-        have(&rt, &[("build.ninja", &main), ("e", b"")], want)?;
+    for (last, want) in [
+        (b"".as_slice(), "accepted"),
+        (
+            b"subninja e",
+            "build.ninja:65536:10: more than 65536 files opened",
+        ),
+    ] {
+        let mut source = MemoryFiles::new(rt.alloc());
+        source.add("build.ninja", &repeated(&rt, 65535, last)?)?;
+        source.add("e", b"")?;
+        let line = answer(&rt, &mut source)?;
+        assert_eq!(rt; line.as_slice(), want.as_bytes(), "{want}");
     }
     Ok(())
 }
@@ -393,54 +532,42 @@ fn rules_of(rt: &impl AllocGlobal, graph: &Graph) -> Result<Vec<u8>, Fail> {
 }
 
 /// The rules that are listed of files.
-fn listed(rt: &impl AllocGlobal, source: &mut MemoryFiles) -> Result<Vec<u8>, Fail> {
+pub(crate) fn listed(rt: &impl AllocGlobal, source: &mut MemoryFiles) -> Result<Vec<u8>, Fail> {
     match load(rt.alloc(), source, "build.ninja") {
         Ok(loaded) => rules_of(rt, loaded.graph()),
         Err(_) => Err(Fail::from("they have no fault")),
     }
 }
 
-/// The rules of these files are listed so.
-pub(crate) fn list(
-    rt: &(impl Abort + AllocGlobal),
-    files: &[(&str, &[u8])],
-    want: &str,
-) -> Result<(), Fail> {
-    let mut source = files_of(rt.alloc(), files)?;
-    let text = listed(rt, &mut source)?;
-    assert_eq!(rt; text.as_slice(), want.as_bytes(), "{want}");
-    Ok(())
-}
-
-/// The rules of each row, of a main file beside a file `s` that declares one, are listed as the
-/// row says.
-pub(crate) fn lists(rt: &(impl Abort + AllocGlobal), rows: &[&str]) -> Result<(), Fail> {
-    'rows: for row in rows {
-        let (main, want) = sides(row);
-        let files = [
-            ("build.ninja", main.as_bytes()),
-            ("s", b"rule ar\n  command = a\n"),
-        ];
-        list(rt, &files, want)?;
-    }
-    Ok(())
+/// The rules that are listed of a main file, beside a file `s` that declares one.
+fn listing(rt: &impl AllocGlobal, main: &[u8]) -> Result<Vec<u8>, Fail> {
+    let mut source = MemoryFiles::new(rt.alloc());
+    source.add("build.ninja", main)?;
+    source.add("s", b"rule ar\n  command = a\n")?;
+    listed(rt, &mut source)
 }
 
 #[test]
 fn rules_are_listed_by_name(rt: HostRuntime) -> Result<(), Fail> {
-    let rows = [
-        "rule ld\n  command = l\nsubninja s\nrule cc2\n  command = c\nrule Zip\n  command = z\n -> \
-            Zip\ncc2\nld\nphony\n",
-    ];
-    lists(&rt, &rows)
+    let text = listing(
+        &rt,
+        b"rule ld\n  command = l\nsubninja s\nrule cc2\n  command = c\nrule Zip\n  command = z\n",
+    )?;
+    assert_eq!(rt; text.as_slice(), b"Zip\ncc2\nld\nphony\n".as_slice());
+    Ok(())
 }
 
 #[test]
 fn the_last_description_counts(rt: HostRuntime) -> Result<(), Fail> {
-    let rows = [
-        "rule cc\n  command = c\n  description = x\n  description = CC $out$$ done\n -> \
-            cc = CC ${out}$ done\nphony\n",
-        "rule quiet\n  description =\n  command = q\n -> phony\nquiet = \n",
-    ];
-    lists(&rt, &rows)
+    let text = listing(
+        &rt,
+        b"rule cc\n  command = c\n  description = x\n  description = CC $out$$ done\n",
+    )?;
+    assert_eq!(rt;
+        text.as_slice(),
+        b"cc = CC ${out}$ done\nphony\n".as_slice()
+    );
+    let text = listing(&rt, b"rule quiet\n  description =\n  command = q\n")?;
+    assert_eq!(rt; text.as_slice(), b"phony\nquiet = \n".as_slice());
+    Ok(())
 }

@@ -1,6 +1,6 @@
 //! What command lines ask for.
 
-use crate::rows::{sides, words_of};
+use crate::runs::words_of;
 use nj_cli::{
     Action, InputsStyle, Mark, Request, TargetsView, ToolOption, UsageFault, Word, read_words,
 };
@@ -125,7 +125,7 @@ fn request_text(alloc: Global, request: &Request) -> Result<String, AllocError> 
 }
 
 /// What the words ask for, or the line of their fault.
-fn asked(rt: &impl AllocGlobal, words: &str) -> Result<String, Fail> {
+fn asked(rt: &impl AllocGlobal, words: &[&str]) -> Result<String, Fail> {
     let alloc = rt.alloc();
     let texts = words_of(alloc, words)?;
     match read_words(alloc, &texts) {
@@ -134,115 +134,233 @@ fn asked(rt: &impl AllocGlobal, words: &str) -> Result<String, Fail> {
     }
 }
 
-/// The words of each row ask for what the row says.
-fn ask_for(rt: &(impl AllocGlobal + Abort), rows: &[&str]) -> Result<(), Fail> {
-    'rows: for row in rows {
-        let (words, want) = sides(row);
-        assert_eq!(rt; asked(rt, words)?.as_str(), want);
+/// Compares what each row of words asks for with a text.
+fn compare(rt: &(impl AllocGlobal + Abort), rows: &[(&[&str], &str)]) -> Result<(), Fail> {
+    'rows: for (words, want) in rows {
+        assert_eq!(rt; asked(rt, words)?.as_str(), *want);
     }
     Ok(())
 }
 
 #[test]
 fn requests(rt: HostRuntime) -> Result<(), Fail> {
-    let rows = [
-        " -> stdin as build.ninja: commands from start",
-        "-t commands --take 2 d -> build.ninja: commands [d] take 2 from start",
-        "-t commands --resume 0.1 -> build.ninja: commands from 0.1",
-        "d -st=commands '' -- -s -> build.ninja: single commands [d] [] [-s]",
-        "--stdin -f a -tcommands -> stdin as a: commands from start",
-        "-t commands --take=007 - -> build.ninja: commands [-] take 7 from start",
-    ];
-    ask_for(&rt, &rows)
+    compare(
+        &rt,
+        &[
+            (&[], "stdin as build.ninja: commands from start"),
+            (
+                &["-t", "commands", "--take", "2", "d"],
+                "build.ninja: commands [d] take 2 from start",
+            ),
+            (
+                &["-t", "commands", "--resume", "0.1"],
+                "build.ninja: commands from 0.1",
+            ),
+            (
+                &["d", "-st=commands", "", "--", "-s"],
+                "build.ninja: single commands [d] [] [-s]",
+            ),
+            (
+                &["--stdin", "-f", "a", "-tcommands"],
+                "stdin as a: commands from start",
+            ),
+            (
+                &["-t", "commands", "--take=007", "-"],
+                "build.ninja: commands [-] take 7 from start",
+            ),
+        ],
+    )
 }
 
 #[test]
 fn requests_of_other_tools(rt: HostRuntime) -> Result<(), Fail> {
-    let rows = [
-        "-t inputs -> build.ninja: inputs",
-        "a -t inputs b -> build.ninja: inputs [a] [b]",
-        "-t query a^ -> build.ninja: query [a^]",
-        "-t rules -> build.ninja: rules, descriptions false",
-        "-dt rules -> build.ninja: rules, descriptions true",
-        "-t compdb -> build.ninja: compdb in ., expand false",
-        "-xt compdb cc --directory= cc -> build.ninja: compdb [cc] [cc] in , expand true",
-        "-t targets -> build.ninja: targets to depth 1",
-        "-t targets depth -> build.ninja: targets to depth 1",
-        "-t targets depth 0 -> build.ninja: targets to depth 0",
-        "-t targets depth 02147483647 -> build.ninja: targets to depth 2147483647",
-        "-t targets all -> build.ninja: all targets",
-        "-t targets rule -> build.ninja: sources",
-        "-t targets rule cc -> build.ninja: targets of rule cc",
-    ];
-    ask_for(&rt, &rows)
+    compare(
+        &rt,
+        &[
+            (&["-t", "inputs"], "build.ninja: inputs"),
+            (&["a", "-t", "inputs", "b"], "build.ninja: inputs [a] [b]"),
+            (&["-t", "query", "a^"], "build.ninja: query [a^]"),
+            (&["-t", "rules"], "build.ninja: rules, descriptions false"),
+            (&["-dt", "rules"], "build.ninja: rules, descriptions true"),
+            (&["-t", "compdb"], "build.ninja: compdb in ., expand false"),
+            (
+                &["-xt", "compdb", "cc", "--directory=", "cc"],
+                "build.ninja: compdb [cc] [cc] in , expand true",
+            ),
+            (&["-t", "targets"], "build.ninja: targets to depth 1"),
+            (
+                &["-t", "targets", "depth"],
+                "build.ninja: targets to depth 1",
+            ),
+            (
+                &["-t", "targets", "depth", "0"],
+                "build.ninja: targets to depth 0",
+            ),
+            (
+                &["-t", "targets", "depth", "02147483647"],
+                "build.ninja: targets to depth 2147483647",
+            ),
+            (&["-t", "targets", "all"], "build.ninja: all targets"),
+            (&["-t", "targets", "rule"], "build.ninja: sources"),
+            (
+                &["-t", "targets", "rule", "cc"],
+                "build.ninja: targets of rule cc",
+            ),
+        ],
+    )
 }
 
 #[test]
 fn requests_with_flags(rt: HostRuntime) -> Result<(), Fail> {
-    let rows = [
-        "-t commands --validations d -> build.ninja: commands [d] from start, validations",
-        "--validations -t commands --resume vstart -> \
-            build.ninja: commands from start, validations",
-        "-tcommands --resume=v0.1 --validations --take=2 -> \
-            build.ninja: commands take 2 from 0.1, validations",
-        "-t inputs --validations a -> build.ninja: inputs [a], validations",
-        "-t inputs --dependency-order -> build.ninja: inputs, in dependency order",
-        "-t inputs --no-shell-escape -> build.ninja: inputs, not escaped",
-        "--print0 -t inputs -> build.ninja: inputs, each before a zero",
-        "-t inputs --print0 a --no-shell-escape --dependency-order -> \
-            build.ninja: inputs [a], in dependency order, not escaped, each before a zero",
-    ];
-    ask_for(&rt, &rows)
+    compare(
+        &rt,
+        &[
+            (
+                &["-t", "commands", "--validations", "d"],
+                "build.ninja: commands [d] from start, validations",
+            ),
+            (
+                &["--validations", "-t", "commands", "--resume", "vstart"],
+                "build.ninja: commands from start, validations",
+            ),
+            (
+                &["-tcommands", "--resume=v0.1", "--validations", "--take=2"],
+                "build.ninja: commands take 2 from 0.1, validations",
+            ),
+            (
+                &["-t", "inputs", "--validations", "a"],
+                "build.ninja: inputs [a], validations",
+            ),
+            (
+                &["-t", "inputs", "--dependency-order"],
+                "build.ninja: inputs, in dependency order",
+            ),
+            (
+                &["-t", "inputs", "--no-shell-escape"],
+                "build.ninja: inputs, not escaped",
+            ),
+            (
+                &["--print0", "-t", "inputs"],
+                "build.ninja: inputs, each before a zero",
+            ),
+            (
+                &[
+                    "-t",
+                    "inputs",
+                    "--print0",
+                    "a",
+                    "--no-shell-escape",
+                    "--dependency-order",
+                ],
+                "build.ninja: inputs [a], in dependency order, not escaped, each before a zero",
+            ),
+        ],
+    )
 }
 
 #[test]
 fn faults(rt: HostRuntime) -> Result<(), Fail> {
-    let rows = [
-        "-t graph -> ninja-explain: unknown tool 'graph'\n",
-        "-t= -> ninja-explain: unknown tool ''\n",
-        "-t commands -s --resume 0 --take 1 -> \
-            ninja-explain: option --take does not go with tool 'commands'\n",
-        "-t commands -s --resume 0 -> \
-            ninja-explain: option --resume does not go with tool 'commands'\n",
-        "-t commands --take x -> ninja-explain: not a number: 'x'\n",
-        "-t commands --resume 00 d -> ninja-explain: bad mark '00'\n",
-    ];
-    ask_for(&rt, &rows)
+    compare(
+        &rt,
+        &[
+            (&["-t", "graph"], "ninja-explain: unknown tool 'graph'\n"),
+            (&["-t="], "ninja-explain: unknown tool ''\n"),
+            (
+                &["-t", "commands", "-s", "--resume", "0", "--take", "1"],
+                "ninja-explain: option --take does not go with tool 'commands'\n",
+            ),
+            (
+                &["-t", "commands", "-s", "--resume", "0"],
+                "ninja-explain: option --resume does not go with tool 'commands'\n",
+            ),
+            (
+                &["-t", "commands", "--take", "x"],
+                "ninja-explain: not a number: 'x'\n",
+            ),
+            (
+                &["-t", "commands", "--resume", "00", "d"],
+                "ninja-explain: bad mark '00'\n",
+            ),
+        ],
+    )
 }
 
 #[test]
 fn faults_of_flags(rt: HostRuntime) -> Result<(), Fail> {
-    let rows = [
-        "-t commands -s --validations t -> \
-            ninja-explain: option --validations does not go with tool 'commands'\n",
-        "-t commands -s --take 1 --validations t -> \
-            ninja-explain: option --take does not go with tool 'commands'\n",
-        "-t rules --dependency-order --validations -> \
-            ninja-explain: option --validations does not go with tool 'rules'\n",
-        "-t commands --no-shell-escape --dependency-order -> \
-            ninja-explain: option --dependency-order does not go with tool 'commands'\n",
-        "-t query --print0 --no-shell-escape t -> \
-            ninja-explain: option --no-shell-escape does not go with tool 'query'\n",
-        "-t query --print0 t -> ninja-explain: option --print0 does not go with tool 'query'\n",
-        "-t inputs --print0 --take x -> \
-            ninja-explain: option --take does not go with tool 'inputs'\n",
-    ];
-    ask_for(&rt, &rows)
+    compare(
+        &rt,
+        &[
+            (
+                &["-t", "commands", "-s", "--validations", "t"],
+                "ninja-explain: option --validations does not go with tool 'commands'\n",
+            ),
+            (
+                &["-t", "commands", "-s", "--take", "1", "--validations", "t"],
+                "ninja-explain: option --take does not go with tool 'commands'\n",
+            ),
+            (
+                &["-t", "rules", "--dependency-order", "--validations"],
+                "ninja-explain: option --validations does not go with tool 'rules'\n",
+            ),
+            (
+                &["-t", "commands", "--no-shell-escape", "--dependency-order"],
+                "ninja-explain: option --dependency-order does not go with tool 'commands'\n",
+            ),
+            (
+                &["-t", "query", "--print0", "--no-shell-escape", "t"],
+                "ninja-explain: option --no-shell-escape does not go with tool 'query'\n",
+            ),
+            (
+                &["-t", "query", "--print0", "t"],
+                "ninja-explain: option --print0 does not go with tool 'query'\n",
+            ),
+            (
+                &["-t", "inputs", "--print0", "--take", "x"],
+                "ninja-explain: option --take does not go with tool 'inputs'\n",
+            ),
+        ],
+    )
 }
 
 #[test]
 fn marks_of_runs_with_validations(rt: HostRuntime) -> Result<(), Fail> {
-    let rows = [
-        "-t commands --validations --resume 0 -> ninja-explain: bad mark '0'\n",
-        "-t commands --validations --resume v -> ninja-explain: bad mark 'v'\n",
-        "-t commands --validations --resume vv0 -> ninja-explain: bad mark 'vv0'\n",
-        "-t commands --validations --resume v01 -> ninja-explain: bad mark 'v01'\n",
-        "-t commands --validations --resume start -> ninja-explain: bad mark 'start'\n",
-        "-t commands --validations --resume= -> ninja-explain: bad mark ''\n",
-        "-t commands --resume v0 -> ninja-explain: bad mark 'v0'\n",
-        "-tcommands --validations --resume=0 --take=x -> ninja-explain: not a number: 'x'\n",
-    ];
-    ask_for(&rt, &rows)
+    compare(
+        &rt,
+        &[
+            (
+                &["-t", "commands", "--validations", "--resume", "0"],
+                "ninja-explain: bad mark '0'\n",
+            ),
+            (
+                &["-t", "commands", "--validations", "--resume", "v"],
+                "ninja-explain: bad mark 'v'\n",
+            ),
+            (
+                &["-t", "commands", "--validations", "--resume", "vv0"],
+                "ninja-explain: bad mark 'vv0'\n",
+            ),
+            (
+                &["-t", "commands", "--validations", "--resume", "v01"],
+                "ninja-explain: bad mark 'v01'\n",
+            ),
+            (
+                &["-t", "commands", "--validations", "--resume", "start"],
+                "ninja-explain: bad mark 'start'\n",
+            ),
+            (
+                &["-t", "commands", "--validations", "--resume="],
+                "ninja-explain: bad mark ''\n",
+            ),
+            (
+                &["-t", "commands", "--resume", "v0"],
+                "ninja-explain: bad mark 'v0'\n",
+            ),
+            (
+                &["-tcommands", "--validations", "--resume=0", "--take=x"],
+                "ninja-explain: not a number: 'x'\n",
+            ),
+        ],
+    )
 }
 
 /// Whether a fault quotes this word.
@@ -252,10 +370,10 @@ fn quotes(word: &Word, text: &str) -> bool {
 
 #[test]
 fn faults_hold_what_they_quote(rt: HostRuntime) -> Result<(), Fail> {
-    let words = words_of(rt.alloc(), "-t query")?;
+    let words = words_of(rt.alloc(), &["-t", "query"])?;
     let no_file = read_words(rt.alloc(), &words);
     assert!(rt; matches!(&no_file, Err(UsageFault::BadWords(tool)) if quotes(tool, "query")));
-    let words = words_of(rt.alloc(), "-t rules -x")?;
+    let words = words_of(rt.alloc(), &["-t", "rules", "-x"])?;
     let foreign = read_words(rt.alloc(), &words);
     assert!(rt;
         matches!(
@@ -268,21 +386,24 @@ fn faults_hold_what_they_quote(rt: HostRuntime) -> Result<(), Fail> {
 
 #[test]
 fn refused_words(rt: HostRuntime) -> Result<(), Fail> {
-    let rows = [
-        "-f -> ninja-explain: cannot read the arguments\n",
-        "d -> ninja-explain: cannot read the arguments\n",
-        "-t commands --take -5 -> ninja-explain: cannot read the arguments\n",
-        "-t commands -s -s -> ninja-explain: cannot read the arguments\n",
-        "-t commands -t commands -> ninja-explain: cannot read the arguments\n",
-        "-t commands --tak 1 -> ninja-explain: cannot read the arguments\n",
-        "-t commands --stdin=x -> ninja-explain: cannot read the arguments\n",
-        "-t commands -h -> ninja-explain: cannot read the arguments\n",
-        "-t commands --help -> ninja-explain: cannot read the arguments\n",
-        "-t commands --version -> ninja-explain: cannot read the arguments\n",
-        "-t commands --validations=1 -> ninja-explain: cannot read the arguments\n",
-        "-t inputs --print0 --print0 -> ninja-explain: cannot read the arguments\n",
-        "-t inputs --no-shell -> ninja-explain: cannot read the arguments\n",
-        "-t inputs -0 -> ninja-explain: cannot read the arguments\n",
-    ];
-    ask_for(&rt, &rows)
+    let refused = "ninja-explain: cannot read the arguments\n";
+    compare(
+        &rt,
+        &[
+            (&["-f"], refused),
+            (&["d"], refused),
+            (&["-t", "commands", "--take", "-5"], refused),
+            (&["-t", "commands", "-s", "-s"], refused),
+            (&["-t", "commands", "-t", "commands"], refused),
+            (&["-t", "commands", "--tak", "1"], refused),
+            (&["-t", "commands", "--stdin=x"], refused),
+            (&["-t", "commands", "-h"], refused),
+            (&["-t", "commands", "--help"], refused),
+            (&["-t", "commands", "--version"], refused),
+            (&["-t", "commands", "--validations=1"], refused),
+            (&["-t", "inputs", "--print0", "--print0"], refused),
+            (&["-t", "inputs", "--no-shell"], refused),
+            (&["-t", "inputs", "-0"], refused),
+        ],
+    )
 }
