@@ -14,7 +14,7 @@ pub use nj_args::{
     Action, InputsStyle, Request, TargetsView, ToolOption, UsageFault, Word, read_words,
 };
 pub use nj_disk::DiskFiles;
-pub use nj_graph::Name;
+pub use nj_graph::{Loaded, Name};
 pub use nj_needs::Mark;
 pub use nj_scope::{FileSource, FileTable, HashKeys, MemoryFiles, SourceFault};
 pub use nj_tools::{MemorySink, Sink, SinkFault, WriteSink};
