@@ -254,7 +254,8 @@ fn build_statements(rt: HostRuntime) -> Result<(), Fail> {
 
 #[test]
 fn statements_given_back(rt: HostRuntime) -> Result<(), Fail> {
-    let rows = ["build a b | c: r d e | f g || h i |@ j k\n  x = 1\n  y = $z\n\
+    let rows = [
+        "build a b | c: r d e | f g || h i |@ j k\n  x = 1\n  y = $z\n\
         build l: r m\npool p\n  depth = 1\nbuild | n: r || o p q\n  u = 2\n\
         default a n\nbuild s: r -> \
         1:1 build 1:7[a] 1:9[b] | 1:13[c] : 1:16 r 1:18[d] 1:20[e] | 1:24[f] 1:26[g] \
@@ -263,7 +264,8 @@ fn statements_given_back(rt: HostRuntime) -> Result<(), Fail> {
         5:1 pool 5:6 p; 6:3 depth = 6:11[1]\n\
         7:1 build | 7:9[n] : 7:12 r || 7:17[o] 7:19[p] 7:21[q]; 8:3 u = 8:7[2]\n\
         9:1 default 9:9[a] 9:11[n]\n\
-        10:1 build 10:7[s] : 10:10 r\nend"];
+        10:1 build 10:7[s] : 10:10 r\nend",
+    ];
     reads(&rt, Grammar::Manifest, &rows)
 }
 

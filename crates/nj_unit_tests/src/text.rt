@@ -410,8 +410,14 @@ const PATHS: [(&[u8], &[u8]); 24] = [
     (b"a/b/../../c", b"c"),
     (b"/../a/../../b", b"/b"),
     (b"lib/Target/X86/X86.cpp.o", b"lib/Target/X86/X86.cpp.o"),
-    (b"../../llvm/lib/Support/Path.cpp", b"../../llvm/lib/Support/Path.cpp"),
-    (b"/usr/include/linux/.hidden/a.h", b"/usr/include/linux/.hidden/a.h"),
+    (
+        b"../../llvm/lib/Support/Path.cpp",
+        b"../../llvm/lib/Support/Path.cpp",
+    ),
+    (
+        b"/usr/include/linux/.hidden/a.h",
+        b"/usr/include/linux/.hidden/a.h",
+    ),
     (b"lib/Target/X86/../ARM/ARM.cpp", b"lib/Target/ARM/ARM.cpp"),
     (b"lib/Target/X86/X86.cpp//.o", b"lib/Target/X86/X86.cpp/.o"),
     (b"/usr/lib/x86_64-linux-gnu/", b"/usr/lib/x86_64-linux-gnu"),
