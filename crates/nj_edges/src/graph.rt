@@ -243,12 +243,20 @@ impl EdgeGraph {
         first(outputs, row.kinds.explicit_outputs)
     }
 
-    /// How many outputs of an edge are explicit.
+    /// How many outputs of an edge are explicit; these are the first of its outputs.
     pub fn explicit_outputs(&self, edge: EdgeNo) -> usize
         requires { edge.0 < length self.now.edges }
         ensures { result ≡ length (edge_at self.now.edges edge.0).explicit_outputs }
     {
         row_at(&self.rows, edge.0).kinds.explicit_outputs
+    }
+
+    /// How many inputs of an edge are explicit; these are the first of its inputs.
+    pub fn explicit_inputs(&self, edge: EdgeNo) -> usize
+        requires { edge.0 < length self.now.edges }
+        ensures { result ≡ length (edge_at self.now.edges edge.0).explicit_inputs }
+    {
+        row_at(&self.rows, edge.0).kinds.explicit_inputs
     }
 
     /// The kind of the input at an index.
