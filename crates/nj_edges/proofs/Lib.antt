@@ -14,6 +14,7 @@ pub mod JoiningLemmas
 pub mod ListLemmas
 pub mod MakerLemmas
 pub mod NamedLemmas
+pub mod NumberLemmas
 pub mod Passing
 pub mod RootLemmas
 pub mod StartLemmas

@@ -1,6 +1,7 @@
 //! Tests of `nj_edges`.
 
 use crate::graphs::{end_edge, finished, graph_of};
+use crate::words::ascii;
 use nj_edges::{EdgeGraph, EdgeNo, Edges, Finished, HashKeys};
 use std::alloc::{AllocError, Global};
 use std::fmt::Write;
@@ -85,5 +86,36 @@ fn users_are_in_order(rt: HostRuntime) -> Result<(), Fail> {
     assert_eq!(rt; source.as_str(), " 0 1 2 |@");
     let validation = users_of(rt.alloc(), edges, b"v")?;
     assert_eq!(rt; validation.as_str(), " |@ 0 1 2");
+    Ok(())
+}
+
+/// The paths of all files of a graph, each after a space.
+fn put_paths(text: &mut String, graph: &EdgeGraph) -> Result<(), AllocError> {
+    'files: for file in graph.file_numbers() {
+        write!(text, " {}", ascii(graph.path(file)))?;
+    }
+    Ok(())
+}
+
+/// How many inputs each edge of a graph has, after how many of them are explicit.
+fn put_counts(text: &mut String, graph: &EdgeGraph) -> Result<(), AllocError> {
+    'edges: for edge in graph.edge_numbers() {
+        let explicit = graph.explicit_inputs(edge);
+        write!(text, " {explicit}/{}", graph.inputs(edge).len())?;
+    }
+    Ok(())
+}
+
+#[test]
+fn edges_and_files_come_in_turn(rt: HostRuntime) -> Result<(), Fail> {
+    let graph = graph_of(rt.alloc(), "b: s t || u, a: b s, c: || a")?;
+    let mut paths = String::new(rt.alloc());
+    put_paths(&mut paths, &graph)?;
+    assert_eq!(rt; paths.as_str(), " b s t u a c");
+    let mut counts = String::new(rt.alloc());
+    put_counts(&mut counts, &graph)?;
+    assert_eq!(rt; counts.as_str(), " 2/3 2/2 0/1");
+    assert_eq!(rt; graph.edge_numbers().len(), 3);
+    assert_eq!(rt; graph.file_numbers().len(), 6);
     Ok(())
 }
