@@ -86,8 +86,17 @@ impl Graph {
         with_content(alloc, command, &file, &content)
     }
 
-    // What a variable says for an edge.
-    fn variable(&self, alloc: Global, edge: EdgeNo, name: &[u8]) -> Result<Vec<u8>, AllocError>
+    /// The value of a variable for an edge, as `append_variable` appends it. Any name may be asked
+    /// for; one that is bound nowhere has the empty value. Paths (`$in`, `$in_newline`, `$out`) are
+    /// quoted for a shell, except in `rspfile`, `depfile` and `dyndep`, which name files themselves.
+    ///
+    /// The pool of an edge and its dyndep file are fixed by the values at its build statement. For
+    /// `pool` and `dyndep` this call returns the values after all statements, which may differ.
+    ///
+    /// # Errors
+    ///
+    /// If an allocation failed.
+    pub fn variable(&self, alloc: Global, edge: EdgeNo, name: &[u8]) -> Result<Vec<u8>, AllocError>
         requires { edge.0 < length (edges_of self.now) }
         ensures { (entries : List ReadStatement) → IsGraphOf self.now entries
             → IfOk result (λ text. text.items ≡ late_text_of entries edge.0 name.now) }
