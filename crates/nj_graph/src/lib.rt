@@ -21,8 +21,9 @@ pub use laws::{
     sign_before_the_first_name, statements_up_to_the_first_fault, words_mean_targets,
 };
 pub use loading::{Loaded, load};
-pub use nj_edges::{EdgeGraph, EdgeNo, FileNo, Kind};
+pub use nj_edges::{EdgeGraph, EdgeNo, EdgeNumbers, FileNo, FileNumbers, Kind};
 pub use nj_faults::{Cause, GraphFault, Name, Place, PlaceRef};
 pub use nj_manifest::{Spot, Wanted};
 pub use nj_scope::{FileSource, FileTable, HashKeys, MemoryFiles, SourceFault};
+pub use nj_text::{TextFault, clean_path, quote_into};
 pub use targets::pick_target;
