@@ -7,7 +7,7 @@ use Rattle.nj_manifest.specs.Statements.{LineText, OutputsText, InputsText, Stat
 use Rattle.nj_scope.specs.Rules.{line_kept, phony_rule}
 use Rattle.nj_scope.specs.Scopes.{nearest, Bounds, value_in, expanded, bound_at, rule_at}
 use Rattle.nj_scope.specs.Declarations.{DeclarationsText, DeclaredBy, TakesIn}
-use Rattle.nj_scope.specs.ReadingList.{ReadStatement, scope_of, binds, declares, bounds, rules, with_rule, rule_texts, with_pool, pools, opens_scope, scopes_opened, value_after}
+use Rattle.nj_scope.specs.ReadingList.{ReadStatement, scope_of, binds, declares, bounds, rules, with_rule, rule_texts, with_pool, pools, opens_scope, scopes_opened, value_after, value_if_bound}
 
 pub at_ok : {X Y P Q : Type 0} (r : Result X Y) → OnOk r P → (P → Q) → OnOk r Q
 at_ok (Ok x) h then_so = then_so h
@@ -182,6 +182,10 @@ value-listed held entries follows scope parts =
 pub name-listed : (held : DeclarationsText) (entries : List ReadStatement) → DeclaredBy held entries → (scope name : List ℕ)
     → value_in (bound_at held.scopes) scope name ≡ value_after entries scope name
 name-listed held entries follows scope name = value-same (bound_at held.scopes) (bounds entries) follows.bound scope name
+
+pub name-seen : (held : DeclarationsText) (entries : List ReadStatement) → DeclaredBy held entries → (scope name : List ℕ)
+    → nearest (λ s. bound_at held.scopes s name) scope ≡ value_if_bound entries scope name
+name-seen held entries follows scope name = nearest-same (λ s. bound_at held.scopes s name) (λ s. bounds entries s name) (λ s. follows.bound s name) scope
 
 pub rule-listed : (held : DeclarationsText) (entries : List ReadStatement) → DeclaredBy held entries → (scope name : List ℕ)
     → nearest (λ s. rule_at held.scopes s name) scope ≡ nearest (λ s. rules entries s name) scope

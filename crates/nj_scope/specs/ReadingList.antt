@@ -1,5 +1,5 @@
 -- The statements of a run in reading order, and what names, rules and pools stand for before one of them.
-use Rattle.std.specs.Prelude.{◌≡◌, ℕ, ◌+◌, Bool, false, ◌&&◌, ◌==◌, Option, Some, None, option_and_then, List, [], ◌∷◌, ◌++◌, map, length, slice_get, bytes_eq, is_some, ◌||◌, if◌then◌else◌}
+use Rattle.std.specs.Prelude.{ℕ, ◌+◌, Bool, false, ◌&&◌, ◌==◌, Option, Some, None, List, [], ◌∷◌, ◌++◌, map, length, bytes_eq, is_some, ◌||◌, if◌then◌else◌}
 use Rattle.std.specs.Option.{option_or}
 use Rattle.nj_text.specs.declared.spot.Spot.{Spot}
 use Rattle.nj_scope.specs.Rules as kept
@@ -51,6 +51,10 @@ bounds (e ∷ before) number name = option_or (binds_in number e (value_in (boun
 -- the value of a name in a scope, after these statements
 abbrev pub value_after : List ReadStatement → (scope name : List ℕ) → List ℕ
 value_after entries scope name = value_in (bounds entries) scope name
+
+-- the same, where `None` says that neither the scope nor one around it binds the name
+abbrev pub value_if_bound : List ReadStatement → (scope name : List ℕ) → Option (List ℕ)
+value_if_bound entries scope name = nearest (λ s. bounds entries s name) scope
 
 -- ---- rules
 

@@ -1,5 +1,5 @@
 -- Rules as they were declared.
-use Rattle.std.specs.Prelude.{ℕ, ◌==◌, Option, List, [], map, option_map, codes, bytes_eq}
+use Rattle.std.specs.Prelude.{ℕ, ◌==◌, Option, List, [], map, option_map, codes}
 use Rattle.std.specs.List.{filter}
 use Rattle.nj_text.specs.Words.{PartText}
 use Rattle.nj_manifest.specs.Statements.{LineText, last_line}

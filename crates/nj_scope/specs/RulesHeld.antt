@@ -1,8 +1,7 @@
 -- How a rule is held: its lines, and for each key, where its last line is.
-use Rattle.std.specs.Prelude.{◌≡◌, ℕ, ◌<◌, Bool, if◌then◌else◌, Some, option_map, unwrap_or, List, [], ◌∷◌, ◌++◌, map, length, slice_get, bytes_eq}
+use Rattle.std.specs.Prelude.{◌≡◌, ℕ, ◌<◌, Bool, if◌then◌else◌, Some, option_map, unwrap_or, List, [], ◌∷◌, ◌++◌, length, slice_get, bytes_eq}
 use Rattle.std.specs.List.{list_any}
 use Rattle.nj_text.specs.Words.{PartText}
-use Rattle.nj_scope.specs.declared.rule.RuleLine.{RuleLine}
 use Rattle.nj_scope.specs.Rules.{RuleLineText, given}
 
 -- whether a line has the key

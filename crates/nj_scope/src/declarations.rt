@@ -1,6 +1,6 @@
 //! What the statements of a run declare.
 
-ghost use Rattle.std.specs.Prelude.{◌≡◌, ℕ, ◌+◌, ◌<◌, List, [], ◌∷◌, ◌++◌, Some, None, true, false, length, not, IfOk, OnOk, OnErr, IfSome};
+ghost use Rattle.std.specs.Prelude.{◌≡◌, ℕ, ◌+◌, ◌<◌, List, [], ◌∷◌, ◌++◌, Some, None, true, false, length, not, option_copied, IfOk, OnOk, OnErr, IfSome};
 ghost use Rattle.nj_text.specs.declared.spot.Spot.{Spot};
 ghost use Rattle.nj_text.specs.Words.{WordText, word_text};
 ghost use Rattle.nj_manifest.specs.Contents.{lines_text};
@@ -8,7 +8,7 @@ ghost use Rattle.nj_manifest.specs.Statements.{LineText, BindingText, RuleText, 
 ghost use Rattle.nj_scope.specs.Scopes.{IsScope, expanded, parent_at, rule_at};
 ghost use Rattle.nj_scope.specs.Pools.{is_pool};
 ghost use Rattle.nj_scope.specs.Declarations.{DeclaredBy, TakesIn, Keeps, SameScopes};
-ghost use Rattle.nj_scope.specs.ReadingList.{ReadStatement, value_after, is_declared, rule_in_force};
+ghost use Rattle.nj_scope.specs.ReadingList.{ReadStatement, value_after, value_if_bound, is_declared, rule_in_force};
 
 use crate::pools::Pools;
 use crate::rule::Rule;
@@ -187,6 +187,24 @@ impl Declarations {
             → result.now ≡ value_after entries (scope ∷ around) name.now }
     {
         self.scopes.value(scope, name)
+    }
+
+    /// The value of the name in this scope, by what is bound so far: that of the nearest scope,
+    /// itself or around it, that binds the name. `None` if none does.
+    pub fn value_if_bound(&self, scope: usize, name: &[u8]) -> Option<&[u8]>
+        requires { scope < length self.now.scopes }
+        ensures { (entries : List ReadStatement) (around : List ℕ) → DeclaredBy self.now entries
+            → IsScope (parent_at self.now.scopes) scope (scope ∷ around)
+            → option_copied result ≡ value_if_bound entries (scope ∷ around) name.now }
+    {
+        self.scopes.value_if_bound(scope, name)
+    }
+
+    /// How many scopes there are: that of the main file, and one more for each `subninja`.
+    pub fn scope_count(&self) -> usize
+        ensures { result ≡ length self.now.scopes }
+    {
+        self.scopes.count()
     }
 
     /// Whether there is a pool of this name; `console` is always there.

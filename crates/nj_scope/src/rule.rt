@@ -1,6 +1,6 @@
 //! Rules.
 
-ghost use Rattle.std.specs.Prelude.{◌≡◌, ◌<◌, ℕ, List, Some, None, map, option_copied, length, slice_get, slice_index, All, IfOk, IfSome, IfNone};
+ghost use Rattle.std.specs.Prelude.{◌≡◌, ◌<◌, ℕ, List, Some, None, map, option_copied, length, option_map, slice_get, slice_index, All, IfOk, IfSome, IfNone};
 ghost use Rattle.nj_scope.specs.Rules.{line_kept, given};
 ghost use Rattle.nj_scope.specs.RulesHeld.{last_lines, key_count, key_at, IsNumber, KeysAreNumbered, NumbersDiffer};
 ghost use Rattle.nj_scope.specs.Inside.KeysHeld.{line_held, AreIndexes, HasKeyAt};
@@ -95,6 +95,22 @@ impl Rule {
         ensures { result ≡ length self.now.lines }
     {
         self.lines.len()
+    }
+
+    /// The key of the line at this index. Lines are in the order in which they were written.
+    pub fn line_key(&self, index: usize) -> &[u8]
+        requires { index < length self.now.lines }
+        ensures { option_map (λ l. l.key) (slice_get self.now.lines index) ≡ Some result.now }
+    {
+        self.lines[index].key.as_slice()
+    }
+
+    /// The value of the line at this index, also of one whose key a later line has too.
+    pub fn line_value(&self, index: usize) -> &LateValue
+        requires { index < length self.now.lines }
+        ensures { option_map (λ l. l.value) (slice_get self.now.lines index) ≡ Some result.now }
+    {
+        &self.lines[index].value
     }
 
     /// How many different keys the lines have. The keys are numbered, from the last line on.

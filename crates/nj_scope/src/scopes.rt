@@ -64,6 +64,13 @@ impl Scopes {
         })
     }
 
+    /// How many scopes there are.
+    pub fn count(&self) -> usize
+        ensures { result ≡ length self.now }
+    {
+        self.scopes.len()
+    }
+
     /// Opens a scope within another. Returns its number, which is the next one.
     pub fn open(&mut self, parent: usize) -> Result<usize, AllocError>
         requires { parent < length self.old }
@@ -141,14 +148,27 @@ impl Scopes {
         ensures { (around : List ℕ) → IsScope (parent_at self.now) scope around
             → result.now ≡ value_in (bound_at self.now) around name.now }
     {
+        match self.value_if_bound(scope, name) {
+            Some(value) => value,
+            None => &[],
+        }
+    }
+
+    /// The value of the name in this scope: its own, else that of the nearest scope around it that
+    /// binds the name. `None` if none does.
+    pub fn value_if_bound(&self, scope: usize, name: &[u8]) -> Option<&[u8]>
+        requires { scope < length self.now }
+        ensures { (around : List ℕ) → IsScope (parent_at self.now) scope around
+            → option_copied result ≡ nearest (λ s. bound_at self.now s name.now) around }
+    {
         let mut next = Some(scope);
         'scopes: while let Some(number) = next {
             if let Some(value) = self.own_value(number, name) {
-                return value;
+                return Some(value);
             }
             next = self.parent(number);
         }
-        &[]
+        None
     }
 
     // The value that this scope itself binds to the name.

@@ -1,6 +1,6 @@
 use Rattle.nj_scope.specs.Scopes.{bound_at}
 use Rattle.nj_scope.proofs.ScopeWalk.{StillLooks, scopes_left}
-use Rattle.nj_scope.proofs.scopes.Scopes.value.Given as goal
+use Rattle.nj_scope.proofs.scopes.Scopes.value_if_bound.Given as goal
 
 abbrev pub invariant-scopes : goal.invariant-scopes
 invariant-scopes l = StillLooks (λ s. bound_at l.self s l.name) l.self l.scope l.next
