@@ -1,5 +1,5 @@
 -- Lemmas on what a table of files keeps.
-use Rattle.std.proofs.Common.{◌≡◌, ℕ, Bool, true, false, cond, List, [], ◌∷◌, ◌++◌, map, Option, Some, None, is_some, option_map, bytes_eq, refl, sym, ap, ◌∙◌, true≢false}
+use Rattle.std.proofs.Common.{◌≡◌, ℕ, Bool, true, false, cond, List, [], ◌∷◌, ◌++◌, map, Option, Some, None, is_some, option_map, slice_get, bytes_eq, refl, sym, ap, ◌∙◌, true≢false}
 use Rattle.std.specs.Global.{Vec}
 use Rattle.std.specs.Rc.{rc_slice_items}
 use Rattle.std.specs.declared.rc.RcSlice.{RcSlice}
@@ -8,7 +8,8 @@ use Rattle.std.specs.Map.{lookup, keys_of}
 use Rattle.std.proofs.lemmas.List.{map_push}
 use Rattle.indexmap.specs.IndexMap.{IndexMap, insert_entry}
 use Rattle.indexmap.proofs.CallerLemmas.{insert_entry-new}
-use Rattle.nj_scope.specs.Readings.{reading_of, is_read, EachPathOnce}
+use Rattle.std.proofs.lemmas.Option.{slice_get-map}
+use Rattle.nj_scope.specs.Readings.{Reading, paths_of, reading_of, is_read, EachPathOnce}
 use Rattle.nj_scope.specs.Inside.TableHeld.{kept_reading}
 
 abbrev pub same_name : Vec ℕ → Vec ℕ → Bool
@@ -59,3 +60,12 @@ module _ {Z : Type 0} where
       → map kept_reading (insert_entry same_name m.entries k v) ≡ map kept_reading m.entries ++ kept_reading (k, v) ∷ []
   kept-insert_entry m k v h =
       ap (map kept_reading) (insert_entry-new same_name m k v (absent (lookup (same_name k) m.entries) (sym (is_read-kept k.items m.entries) ∙ h))) ∙ map_push kept_reading m.entries (k, v)
+
+  -- the paths
+  pub path-kept : (es : List (Vec ℕ × Option (RcSlice ℕ Z))) (index : ℕ) → slice_get (paths_of (map kept_reading es)) index ≡ option_map (λ e. e.0.items) (slice_get es index)
+  path-kept es index =
+      slice_get-map (λ r. r.path) (map kept_reading es) index ∙ ap (option_map (λ (r : Reading). r.path)) (slice_get-map kept_reading es index) ∙ by (slice_get es index)
+    where
+      by : (o : Option (Vec ℕ × Option (RcSlice ℕ Z))) → option_map (λ (r : Reading). r.path) (option_map kept_reading o) ≡ option_map (λ e. e.0.items) o
+      by None = refl
+      by (Some e) = refl

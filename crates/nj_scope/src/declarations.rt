@@ -1,6 +1,6 @@
 //! What the statements of a run declare.
 
-ghost use Rattle.std.specs.Prelude.{◌≡◌, ℕ, ◌+◌, ◌<◌, List, [], ◌∷◌, ◌++◌, Some, None, true, false, length, not, option_copied, IfOk, OnOk, OnErr, IfSome};
+ghost use Rattle.std.specs.Prelude.{◌≡◌, ℕ, ◌+◌, ◌<◌, List, [], ◌∷◌, ◌++◌, Some, None, true, false, length, not, slice_get, option_copied, IfOk, OnOk, OnErr, IfSome};
 ghost use Rattle.nj_text.specs.declared.spot.Spot.{Spot};
 ghost use Rattle.nj_text.specs.Words.{WordText, word_text};
 ghost use Rattle.nj_manifest.specs.Contents.{lines_text};
@@ -212,6 +212,21 @@ impl Declarations {
         ensures { result ≡ is_pool self.now.pools name.now }
     {
         self.pools.has(name)
+    }
+
+    /// How many pools were declared; `console` is not among them.
+    pub fn pool_count(&self) -> usize
+        ensures { result ≡ length self.now.pools }
+    {
+        self.pools.count()
+    }
+
+    /// The name of the pool at this index, in the order in which they were declared; `None` past the
+    /// last one.
+    pub fn pool_name(&self, index: usize) -> Option<&[u8]>
+        ensures { option_copied result ≡ slice_get self.now.pools index }
+    {
+        self.pools.name(index)
     }
 
     /// The number of the rule that is in force under the name in this scope: its own, else that of

@@ -1,6 +1,6 @@
 //! Pools.
 
-ghost use Rattle.std.specs.Prelude.{◌≡◌, ℕ, List, [], ◌∷◌, ◌++◌, not, IfOk, OnErr, if◌then◌else◌};
+ghost use Rattle.std.specs.Prelude.{◌≡◌, ℕ, List, [], ◌∷◌, ◌++◌, length, not, slice_get, option_copied, IfOk, OnErr, if◌then◌else◌};
 ghost use Rattle.nj_scope.specs.Pools.{is_pool};
 
 use indexmap::IndexSet;
@@ -40,6 +40,24 @@ impl Pools {
         ensures { result ≡ is_pool self.now name.now }
     {
         name == b"console".as_slice() || self.names.contains(name)
+    }
+
+    /// How many were declared.
+    pub fn count(&self) -> usize
+        ensures { result ≡ length self.now }
+    {
+        self.names.len()
+    }
+
+    /// The name of the one at this index, in the order in which they were declared; `None` past the
+    /// last one.
+    pub fn name(&self, index: usize) -> Option<&[u8]>
+        ensures { option_copied result ≡ slice_get self.now index }
+    {
+        match self.names.get_index(index) {
+            Some(name) => Some(name.as_slice()),
+            None => None,
+        }
     }
 
     /// Declares a pool. Returns `false`, and changes nothing, if there is one of the name already.

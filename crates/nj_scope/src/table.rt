@@ -1,8 +1,8 @@
 //! The files that a run has read.
 
-ghost use Rattle.std.specs.Prelude.{◌≡◌, List, [], ◌∷◌, ◌++◌, true, false, length, option_copied, option_map, IfOk, OnOk, OnErr};
+ghost use Rattle.std.specs.Prelude.{◌≡◌, List, [], ◌∷◌, ◌++◌, true, false, length, slice_get, option_copied, option_map, IfOk, OnOk, OnErr};
 ghost use Rattle.nj_scope.specs.Opening.{OpensFile, shared_bytes};
-ghost use Rattle.nj_scope.specs.Readings.{EachPathOnce, reading_of, is_read, bytes_in};
+ghost use Rattle.nj_scope.specs.Readings.{EachPathOnce, paths_of, reading_of, is_read, bytes_in};
 ghost use Rattle.nj_scope.specs.Sources.{answer_bytes};
 
 use crate::source::{FileSource, SourceFault};
@@ -46,6 +46,17 @@ impl FileTable {
         ensures each_path_once { EachPathOnce self.now }
     {
         self.files.len()
+    }
+
+    /// The path at this index, in the order in which the paths were first read; `None` past the last
+    /// one.
+    pub fn path(&self, index: usize) -> Option<&[u8]>
+        ensures { option_copied result ≡ slice_get (paths_of self.now) index }
+    {
+        match self.files.get_index(index) {
+            Some((path, _)) => Some(path.as_slice()),
+            None => None,
+        }
     }
 
     /// Whether the path was read.
