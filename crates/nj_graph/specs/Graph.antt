@@ -16,7 +16,7 @@ use Rattle.nj_edges.specs.Edges.{EdgePaths}
 use Rattle.nj_edges.specs.Needs.{makers_of_inputs}
 use Rattle.nj_edge_env.specs.LateTexts.{asked_text}
 use Rattle.nj_statements.specs.EdgeList.{EdgeText, edges_read, names_of_edge}
-use Rattle.nj_statements.specs.Built.{BuiltText, IsBuiltOf}
+use Rattle.nj_statements.specs.Built.{BuiltText, IsBuiltOf, EdgeDetail, detail_at, detail_of}
 
 -- what the statements of its files declare, after all reading, and the edges and defaults that they yield
 pub record GraphText : Type 0 where
@@ -79,6 +79,18 @@ rule_name_of entries e = rule_name (rule_texts entries) e.rule
 -- that of the edge of a number; past the last edge it is empty
 abbrev pub rule_name_at : List ReadStatement → (number : ℕ) → List ℕ
 rule_name_at entries number = unwrap_or (option_map (rule_name_of entries) (slice_get (edges_read entries) number)) []
+
+-- ---- the numbers of the rule and the scope of an edge
+
+-- what is kept of the edge of a number besides its paths and its block
+abbrev pub detail_stated : List ReadStatement → (number : ℕ) → EdgeDetail
+detail_stated entries number = detail_at (map detail_of (edges_read entries)) number
+
+abbrev pub rule_number_at : List ReadStatement → (number : ℕ) → ℕ
+rule_number_at entries number = (detail_stated entries number).rule
+
+abbrev pub scope_number_at : List ReadStatement → (number : ℕ) → ℕ
+scope_number_at entries number = (detail_stated entries number).scope
 
 -- ---- the rules that are listed
 

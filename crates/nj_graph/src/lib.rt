@@ -10,8 +10,11 @@ mod late;
 mod laws;
 mod loading;
 mod opening;
+mod pools;
 mod reader;
 mod response;
+mod rules;
+mod scopes;
 mod targets;
 
 pub use graph::{Graph, rules_by_name};
@@ -24,6 +27,8 @@ pub use loading::{Loaded, load};
 pub use nj_edges::{EdgeGraph, EdgeNo, EdgeNumbers, FileNo, FileNumbers, Kind};
 pub use nj_faults::{Cause, GraphFault, Name, Place, PlaceRef};
 pub use nj_manifest::{Spot, Wanted};
-pub use nj_scope::{FileSource, FileTable, HashKeys, MemoryFiles, SourceFault};
+pub use nj_scope::{
+    FileSource, FileTable, HashKeys, LateValue, MAIN_SCOPE, MemoryFiles, Rule, SourceFault,
+};
 pub use nj_text::{TextFault, clean_path, quote_into};
 pub use targets::pick_target;

@@ -1,0 +1,36 @@
+//! The rules of all scopes, and those of edges.
+
+ghost use Rattle.std.specs.Prelude.{◌≡◌, ◌<◌, List, length};
+ghost use Rattle.nj_scope.specs.ReadingList.{ReadStatement, rule_texts};
+ghost use Rattle.nj_statements.specs.Built.{detail_at};
+ghost use Rattle.nj_graph.specs.Graph.{edges_of, IsGraphOf, rule_number_at};
+
+use crate::graph::Graph;
+use nj_edges::EdgeNo;
+use nj_scope::Rule;
+
+impl Graph {
+    /// The rules of all scopes in the order of their numbers: `phony`, which is always there and
+    /// has no lines, and then those that `rule` statements declare, in reading order ("Rules" in
+    /// the Ninja manual). Rules of different scopes may have the same name. The lines of a rule are
+    /// kept as they were written: `LateValue::written` gives a value as a text.
+    pub fn rules(&self) -> &[Rule]
+        ensures held { result.now ≡ self.now.declarations.rules }
+        ensures stated { (entries : List ReadStatement) → IsGraphOf self.now entries
+            → result.now ≡ rule_texts entries }
+    {
+        self.declarations.rules()
+    }
+
+    /// The number of the rule of an edge, by which it is found in `rules`: of the rule that was in
+    /// force before its statement.
+    pub fn edge_rule(&self, edge: EdgeNo) -> usize
+        requires { edge.0 < length (edges_of self.now) }
+        ensures there { result < length self.now.declarations.rules }
+        ensures held { result ≡ (detail_at self.now.built.details edge.0).rule }
+        ensures stated { (entries : List ReadStatement) → IsGraphOf self.now entries
+            → result ≡ rule_number_at entries edge.0 }
+    {
+        self.built.detail(edge).rule
+    }
+}

@@ -1,0 +1,53 @@
+//! The scopes of a graph, and what they bind after all statements.
+
+ghost use Rattle.std.specs.Prelude.{◌≡◌, ◌<◌, ℕ, List, [], ◌∷◌, length, option_copied};
+ghost use Rattle.std.specs.List.{Contains};
+ghost use Rattle.nj_scope.specs.ReadingList.{ReadStatement, scope_of, scopes_opened, value_if_bound};
+ghost use Rattle.nj_scope.specs.Scopes.{IsScope, parent_at};
+ghost use Rattle.nj_statements.specs.Built.{detail_at};
+ghost use Rattle.nj_graph.specs.Graph.{edges_of, IsGraphOf, scope_number_at};
+
+use crate::graph::Graph;
+use nj_edges::EdgeNo;
+
+impl Graph {
+    /// How many scopes there are: the main file's, which has the number 0, and one more for each
+    /// file that a `subninja` statement opened, numbered in reading order ("Evaluation and scoping"
+    /// in the Ninja manual).
+    pub fn scope_count(&self) -> usize
+        ensures held { result ≡ length self.now.declarations.scopes }
+        ensures stated { (entries : List ReadStatement) → IsGraphOf self.now entries
+            → result ≡ scopes_opened entries }
+    {
+        self.declarations.scope_count()
+    }
+
+    /// The number of the scope in which the build statement of an edge stands.
+    pub fn edge_scope(&self, edge: EdgeNo) -> usize
+        requires { edge.0 < length (edges_of self.now) }
+        ensures there { result < length self.now.declarations.scopes }
+        ensures held { result ≡ (detail_at self.now.built.details edge.0).scope }
+        ensures stated { (entries : List ReadStatement) → IsGraphOf self.now entries
+            → result ≡ scope_number_at entries edge.0 }
+    {
+        self.built.detail(edge).scope
+    }
+
+    /// The value of a name, as `builddir`, in the scope of this number after all statements: what
+    /// the scope itself binds it to last, else what the nearest scope around it does ("Evaluation
+    /// and scoping" in the Ninja manual). `None` if none of them binds the name.
+    pub fn scope_value(&self, scope: usize, name: &[u8]) -> Option<&[u8]>
+        requires { scope < length self.now.declarations.scopes }
+        ensures main { (entries : List ReadStatement) → IsGraphOf self.now entries → scope ≡ 0
+            → option_copied result ≡ value_if_bound entries (0 ∷ []) name.now }
+        ensures stated { (entries : List ReadStatement) (e : ReadStatement)
+            → IsGraphOf self.now entries → Contains entries e → e.number ≡ scope
+            → option_copied result ≡ value_if_bound entries (scope_of e) name.now }
+        ensures within { (entries : List ReadStatement) (around : List ℕ)
+            → IsGraphOf self.now entries
+            → IsScope (parent_at self.now.declarations.scopes) scope (scope ∷ around)
+            → option_copied result ≡ value_if_bound entries (scope ∷ around) name.now }
+    {
+        self.declarations.value_if_bound(scope, name)
+    }
+}
