@@ -1,6 +1,6 @@
 //! Late texts.
 
-ghost use Rattle.std.specs.Prelude.{◌≡◌, ◌<◌, ◌++◌, ◌∷◌, ℕ, List, length, All, IfOk, IfSome, OnOk, OnErr, is_some};
+ghost use Rattle.std.specs.Prelude.{◌≡◌, ◌<◌, ◌++◌, ◌∷◌, [], true, ℕ, List, length, All, IfOk, IfSome, OnOk, OnErr, is_some};
 ghost use Rattle.nj_scope.specs.Declarations.{DeclaredBy};
 ghost use Rattle.nj_scope.specs.ReadingList.{ReadStatement, value_after};
 ghost use Rattle.nj_scope.specs.Readings.{IsPrefix};
@@ -12,7 +12,7 @@ ghost use Rattle.nj_edge_env.specs.Inside.TextsHeld.{AreKeyTexts, AppendsLate, A
 
 use crate::edge::LateEdge;
 use crate::memo::{KeyText, keep_text, taller, text_known};
-use crate::names::{is_of_command, is_quoted};
+use crate::names::{is_of_command, is_quoted, names_paths};
 use crate::paths::append_paths;
 use nj_scope::Rule;
 use nj_text::Part;
@@ -41,6 +41,9 @@ impl<'a> LateEdge<'a> {
             (late_names self.now (value_after entries (self.now.scope ∷ around))) asked.now) }
         ensures refused { OnErr result (out.new.items ≡ out.old.items) }
     {
+        if self.says_nothing(asked) {
+            return Ok(());
+        }
         let start = out.len();
         let mut known = [None; KEYS];
         let depth = self.rule.line_count();
@@ -51,6 +54,24 @@ impl<'a> LateEdge<'a> {
                 Err(refused)
             }
         }
+    }
+
+    // Whether nothing gives the name a value: it may be empty nevertheless where this is `false`.
+    fn says_nothing(&self, name: &[u8]) -> bool
+        ensures { (entries : List ReadStatement) (around : List ℕ)
+            → DeclaredBy self.now.declarations.now entries
+            → IsScope (parent_at self.now.declarations.now.scopes) self.now.scope
+            (self.now.scope ∷ around)
+            → result ≡ true → asked_text
+            (late_names self.now (value_after entries (self.now.scope ∷ around))) name.now ≡ [] }
+    {
+        if names_paths(name) || self.rule.key_number(name).is_some() {
+            return false;
+        }
+        if self.blocks.value(self.edge, name).is_some() {
+            return false;
+        }
+        self.file_value(name).is_empty()
     }
 
     // Appends what the name says, through at most `depth` lines of the rule after its own. Returns
