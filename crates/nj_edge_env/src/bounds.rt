@@ -7,12 +7,13 @@ ghost use Rattle.nj_edge_env.specs.Inside.BlocksHeld.{values_of, AreRising, IsPa
 
 use std::alloc::AllocError;
 
-// The value of a name in the block of an edge: a part of the text of all values.
+// The value of a name in the block of an edge: a part of the text of all values. There are many of
+// these, so numbers have 32 bits.
 #[derive(Clone, Copy)]
 pub(crate) struct Bound {
-    pub(crate) edge: usize,
-    pub(crate) start: usize,
-    pub(crate) end: usize,
+    pub(crate) edge: u32,
+    pub(crate) start: u32,
+    pub(crate) end: u32,
 }
 
 // The value in the text.
@@ -21,7 +22,7 @@ pub(crate) fn value_at(text: &[u8], bound: Bound) -> &[u8]
     requires ends { bound.end ≤ length text.now }
     ensures { result.now ≡ slice_range text.now bound.start bound.end }
 {
-    &text[bound.start..bound.end]
+    &text[bound.start as usize..bound.end as usize]
 }
 
 // The bound of this edge, if there is one. While an edge is read, its bounds are the last ones.
@@ -33,10 +34,10 @@ pub(crate) fn bound_of(bounds: &[Bound], edge: usize) -> Option<Bound>
         Some(last) => *last,
         None => return None,
     };
-    if last.edge == edge {
+    if last.edge as usize == edge {
         return Some(last);
     }
-    if last.edge < edge {
+    if (last.edge as usize) < edge {
         return None;
     }
     searched(bounds, edge)
@@ -47,9 +48,9 @@ fn searched(bounds: &[Bound], edge: usize) -> Option<Bound>
     requires { AreRising bounds.now }
     ensures { result ≡ bound_of bounds.now edge }
 {
-    let index = bounds.partition_point(|bound| bound.edge < edge);
+    let index = bounds.partition_point(|bound| (bound.edge as usize) < edge);
     match bounds.get(index) {
-        Some(bound) if bound.edge == edge => Some(*bound),
+        Some(bound) if bound.edge as usize == edge => Some(*bound),
         Some(_) => None,
         None => None,
     }
@@ -90,6 +91,7 @@ fn bound_to(
 {
     if let Some(last) = bounds.last() {
         if value_at(text.as_slice(), *last) == value {
+            let edge = short_number(edge)?;
             return Ok(Bound { edge, ..*last });
         }
     }
@@ -101,10 +103,21 @@ fn push_value(text: &mut Vec<u8>, edge: usize, value: &[u8]) -> Result<Bound, Al
     ensures bound { IfOk result (λ b. IsBoundTo text.new.items edge value.now b) }
     ensures text { BeginsWith text.old.items text.new.items }
 {
-    let start = text.as_slice().len();
+    let edge = short_number(edge)?;
+    let start = short_number(text.as_slice().len())?;
     text.extend_from_slice(value)?;
-    let end = text.as_slice().len();
+    let end = short_number(text.as_slice().len())?;
     Ok(Bound { edge, start, end })
+}
+
+// A number in 32 bits. One that does not fit is refused as if there were no memory for it.
+fn short_number(number: usize) -> Result<u32, AllocError>
+    ensures { IfOk result (λ short. short ≡ number) }
+{
+    match u32::try_from(number) {
+        Ok(short) => Ok(short),
+        Err(_) => Err(AllocError),
+    }
 }
 
 // Appends the bound, or replaces the last one if that is of the same edge.
