@@ -27,3 +27,4 @@ pub mod NamesSeen
 pub mod PathRows
 pub mod QuoteRows
 pub mod QuotedTexts
+pub mod LossyChunks

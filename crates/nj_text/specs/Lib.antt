@@ -4,6 +4,7 @@ pub mod Units
 pub mod Lines
 pub mod Words
 pub mod Calls
+pub mod Faults
 pub mod Numbers
 pub mod Laws
 pub mod Paths

@@ -4,9 +4,12 @@ ghost use Rattle.std.specs.Prelude.{◌≡◌, Some};
 ghost use Rattle.std.specs.Option.{option_map};
 ghost use Rattle.nj_text.specs.declared.fault.WordFault.TheVariants.{OutOfMemory};
 ghost use Rattle.nj_text.specs.Calls.{fault_spot, unit_of};
+ghost use Rattle.nj_text.specs.Faults.{lex_line, lex_text};
 
 use crate::spot::Spot;
 use std::alloc::{AllocError, AllocFailed};
+use std::error::Error;
+use std::fmt;
 
 /// Why a text could not be read further. Places are of the first byte of the bad unit.
 #[derive(Clone, Copy, Debug, PartialEq, Eq)]
@@ -33,7 +36,35 @@ impl LexFault {
             LexFault::OutOfMemory => None,
         }
     }
+
+    /// What is wrong, without the place.
+    pub fn text(self) -> &'static str
+        ensures { result.now ≡ lex_text self }
+    {
+        match self {
+            LexFault::BadByte(_) => "unexpected byte",
+            LexFault::Tab(_) => "tabs are not allowed, use spaces",
+            LexFault::BadEscape(_) => "bad $-escape (literal $ must be written as $$)",
+            LexFault::OutOfMemory => "out of memory",
+        }
+    }
 }
+
+/// `LINE:COLUMN: TEXT`, or `TEXT` for lack of memory.
+impl fmt::Display for LexFault {
+    ghost output = { λ fault. Some (lex_line fault) };
+
+    fn fmt<W: fmt::Write>(&self, f: &mut fmt::Formatter<W>) -> fmt::Result {
+        let fault = *self;
+        let text = fault.text();
+        match fault.spot() {
+            Some(spot) => write!(f, "{spot}: {text}"),
+            None => f.write_str(text),
+        }
+    }
+}
+
+impl Error for LexFault {}
 
 /// A bad unit of a text, with the place of its first byte.
 #[derive(Clone, Copy)]

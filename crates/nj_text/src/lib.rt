@@ -14,6 +14,7 @@ mod lanes;
 mod laws;
 mod lexer;
 mod line_start;
+mod lossy;
 mod names;
 mod numbers;
 mod parts;
@@ -35,6 +36,7 @@ pub use laws::{
 };
 pub use lexer::Lexer;
 pub use line_start::LineStart;
+pub use lossy::Lossy;
 pub use numbers::{leading_number, version_of};
 pub use path_laws::{clean_paths_stay, cleaned_paths_are_clean, cleaning_is_idempotent};
 pub use paths::{TextFault, clean_into, clean_path, is_clean};

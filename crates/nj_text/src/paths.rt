@@ -1,13 +1,16 @@
 //! Paths, and their clean form.
 
-ghost use Rattle.std.specs.Prelude.{◌≡◌, ◌++◌, ◌↔◌, [], Ok, Err, IsTrue, IfOk, OnOk, OnErr};
+ghost use Rattle.std.specs.Prelude.{◌≡◌, ◌++◌, ◌↔◌, [], Ok, Err, Some, IsTrue, IfOk, OnOk, OnErr};
 ghost use Rattle.nj_text.specs.declared.paths.TextFault.TheVariants.{EmptyPath, OutOfMemory};
+ghost use Rattle.nj_text.specs.Faults.{path_fault_text};
 ghost use Rattle.nj_text.specs.Paths.{clean_path_of};
 ghost use Rattle.nj_text.specs.Inside.Cleaning.{stays_clean};
 
 use crate::cleaning::{is_absolute, push_clean};
 use crate::components::{after_ups, all_stay, is_here};
 use std::alloc::{AllocError, AllocFailed, Global};
+use std::error::Error;
+use std::fmt;
 
 /// Why a path has no clean form.
 #[derive(Clone, Copy, Debug, PartialEq, Eq)]
@@ -17,6 +20,19 @@ pub enum TextFault {
     /// Out of memory.
     OutOfMemory,
 }
+
+impl fmt::Display for TextFault {
+    ghost output = { λ fault. Some (path_fault_text fault) };
+
+    fn fmt<W: fmt::Write>(&self, f: &mut fmt::Formatter<W>) -> fmt::Result {
+        match self {
+            TextFault::EmptyPath => f.write_str("empty path"),
+            TextFault::OutOfMemory => f.write_str("out of memory"),
+        }
+    }
+}
+
+impl Error for TextFault {}
 
 impl From<AllocError> for TextFault {
     ghost from_gives = { λ _ e. e ≡ OutOfMemory };

@@ -1,0 +1,41 @@
+-- What is said of a place in a text, of a fault of the lexer, and of one of a path.
+use Rattle.std.specs.Prelude.{ℕ, Option, Some, None, List, ◌++◌, codes}
+use Rattle.std.specs.Fmt.{decimal}
+use Rattle.std.specs.Option.{option_map}
+use Rattle.nj_text.specs.declared.spot.Spot.{Spot}
+use Rattle.nj_text.specs.declared.fault.UnitFault.{UnitFault}
+use Rattle.nj_text.specs.declared.fault.UnitFault.TheVariants as unit
+use Rattle.nj_text.specs.declared.fault.LexFault.{LexFault}
+use Rattle.nj_text.specs.declared.fault.LexFault.TheVariants as lex
+use Rattle.nj_text.specs.declared.paths.TextFault.{TextFault}
+use Rattle.nj_text.specs.declared.paths.TextFault.TheVariants as path
+use Rattle.nj_text.specs.Calls.{fault_spot, unit_of}
+
+-- `LINE:COLUMN`
+abbrev pub spot_text : Spot → List ℕ
+spot_text spot = decimal spot.line ++ codes ":" ++ decimal spot.column
+
+-- `LINE:COLUMN: TEXT`, or `TEXT` where no place is to blame
+abbrev pub placed_text : Option Spot → (text : List ℕ) → List ℕ
+placed_text (Some spot) text = spot_text spot ++ codes ": " ++ text
+placed_text None text = text
+
+-- a bad unit
+abbrev pub unit_text : UnitFault → List ℕ
+unit_text (unit.BadByte spot) = codes "unexpected byte"
+unit_text (unit.Tab spot) = codes "tabs are not allowed, use spaces"
+unit_text (unit.BadEscape spot) = codes "bad $-escape (literal $ must be written as $$)"
+
+abbrev pub lex_text : LexFault → List ℕ
+lex_text (lex.BadByte spot) = unit_text (unit.BadByte spot)
+lex_text (lex.Tab spot) = unit_text (unit.Tab spot)
+lex_text (lex.BadEscape spot) = unit_text (unit.BadEscape spot)
+lex_text lex.OutOfMemory = codes "out of memory"
+
+-- its text with its place
+abbrev pub lex_line : LexFault → List ℕ
+lex_line fault = placed_text (option_map fault_spot (unit_of fault)) (lex_text fault)
+
+abbrev pub path_fault_text : TextFault → List ℕ
+path_fault_text path.EmptyPath = codes "empty path"
+path_fault_text path.OutOfMemory = codes "out of memory"
