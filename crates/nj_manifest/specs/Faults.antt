@@ -1,10 +1,12 @@
 -- Why a text is not a list of statements.
 use Rattle.std.specs.Prelude.{ℕ, Bool, true, false, Option, Some, None, List, ◌++◌, codes}
+use Rattle.std.specs.Str.Lossy.{utf8_lossy}
 use Rattle.nj_text.specs.declared.fault.UnitFault.{UnitFault}
 use Rattle.nj_text.specs.declared.fault.UnitFault.TheVariants as unit_fault
 use Rattle.nj_text.specs.declared.fault.LexFault.TheVariants as lex
 use Rattle.nj_text.specs.declared.spot.Spot.{Spot}
 use Rattle.nj_text.specs.Calls.{fault_spot}
+use Rattle.nj_text.specs.Faults.{unit_text, placed_text}
 use Rattle.nj_manifest.specs.declared.fault.Wanted.{Wanted}
 use Rattle.nj_manifest.specs.declared.fault.Wanted.TheVariants as wanted
 use Rattle.nj_manifest.specs.declared.fault.ParseFault.{ParseFault}
@@ -80,9 +82,7 @@ place_of OutOfMemory = None
 
 -- which says nothing of the place
 abbrev pub text_of : Fault → List ℕ
-text_of (Bad (unit_fault.BadByte spot)) = codes "unexpected byte"
-text_of (Bad (unit_fault.Tab spot)) = codes "tabs are not allowed, use spaces"
-text_of (Bad (unit_fault.BadEscape spot)) = codes "bad $-escape (literal $ must be written as $$)"
+text_of (Bad unit) = unit_text unit
 text_of (Expected spot wanted) = codes "expected " ++ wanted_text wanted
 text_of (UnexpectedIndent spot) = codes "unexpected indent"
 text_of (MissingCommand spot) = codes "expected 'command =' line"
@@ -92,3 +92,19 @@ text_of (MissingDepth spot) = codes "expected 'depth =' line"
 text_of (DyndepVersion spot) = codes "expected 'ninja_dyndep_version = 1'"
 text_of (DyndepShape spot) = codes "not a dyndep statement"
 text_of OutOfMemory = codes "out of memory"
+
+-- ---- for people to read
+
+-- A text with names in it: its bytes, and the same with U+FFFD for what is not UTF-8 in the names.
+pub record Message : Type 0 where
+  pub exact : List ℕ
+  pub shown : List ℕ
+
+-- the fault with such a name
+abbrev pub with_shown_name : Fault → Fault
+with_shown_name (UnknownKey spot key) = UnknownKey spot (utf8_lossy key)
+with_shown_name fault = fault
+
+-- `LINE:COLUMN: TEXT`, or `TEXT` where no place is to blame
+abbrev pub shown_fault : Fault → List ℕ
+shown_fault fault = placed_text (place_of fault) (text_of (with_shown_name fault))

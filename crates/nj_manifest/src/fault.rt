@@ -1,13 +1,15 @@
 //! Why a text is not a list of statements.
 
-ghost use Rattle.std.specs.Prelude.{◌≡◌};
-ghost use Rattle.nj_manifest.specs.Faults.{wanted_text, fault_text, place_of, text_of};
+ghost use Rattle.std.specs.Prelude.{◌≡◌, Some};
+ghost use Rattle.nj_manifest.specs.Faults.{wanted_text, fault_text, place_of, text_of, with_shown_name, shown_fault};
 ghost use Rattle.nj_text.specs.declared.fault.LexFault.TheVariants.{OutOfMemory};
 ghost use Rattle.nj_manifest.specs.declared.fault.ParseFault.TheVariants.{Lex};
 
 use crate::fault_text::FaultText;
 use nj_text::{LexFault, Spot};
 use std::alloc::{AllocError, AllocFailed};
+use std::error::Error;
+use std::fmt;
 
 /// What would have to be at a place, in the words of the fault's text.
 #[derive(Clone, Copy, Debug, PartialEq, Eq)]
@@ -99,11 +101,13 @@ impl<'a> ParseFault<'a> {
     }
 
     /// The text of the fault, without its place.
+    #[tactic(auto, using(crate::proofs::LexTexts::lex_text_is, crate::proofs::LexTexts::lex_text_shown))]
     pub fn text(self) -> FaultText<'a>
-        ensures { result ≡ text_of (fault_text self.entry) }
+        ensures exact { result.exact ≡ text_of (fault_text self.entry) }
+        ensures shown { result.shown ≡ text_of (with_shown_name (fault_text self.entry)) }
     {
         match self {
-            ParseFault::Lex(fault) => FaultText::fixed(lex_text(fault)),
+            ParseFault::Lex(fault) => FaultText::fixed(fault.text()),
             ParseFault::Expected(_, wanted) => FaultText::pair("expected ", wanted.text()),
             ParseFault::UnexpectedIndent(_) => FaultText::fixed("unexpected indent"),
             ParseFault::MissingCommand(_) => FaultText::fixed("expected 'command =' line"),
@@ -118,17 +122,22 @@ impl<'a> ParseFault<'a> {
     }
 }
 
-/// The text of a fault of the lexer.
-fn lex_text(fault: LexFault) -> &'static str
-    ensures { result.now ≡ text_of (fault_text (Lex fault)) }
-{
-    match fault {
-        LexFault::BadByte(_) => "unexpected byte",
-        LexFault::Tab(_) => "tabs are not allowed, use spaces",
-        LexFault::BadEscape(_) => "bad $-escape (literal $ must be written as $$)",
-        LexFault::OutOfMemory => "out of memory",
+/// `LINE:COLUMN: TEXT`, or `TEXT` for lack of memory. In a name U+FFFD stands for what is not
+/// UTF-8.
+impl fmt::Display for ParseFault<'_> {
+    ghost output = { λ fault. Some (shown_fault (fault_text fault)) };
+
+    fn fmt<W: fmt::Write>(&self, f: &mut fmt::Formatter<W>) -> fmt::Result {
+        let fault = *self;
+        let text = fault.text();
+        match fault.spot() {
+            Some(spot) => write!(f, "{spot}: {text}"),
+            None => write!(f, "{text}"),
+        }
     }
 }
+
+impl Error for ParseFault<'_> {}
 
 impl From<LexFault> for ParseFault<'_> {
     ghost from_gives = { λ f e. e ≡ Lex f };
