@@ -10,7 +10,7 @@ use Rattle.nj_faults.specs.declared.fault.Cause.{Cause}
 use Rattle.nj_faults.specs.declared.fault.GraphFault.{GraphFault}
 use Rattle.nj_faults.specs.declared.fault.Cause.TheVariants.{BadDepth, DuplicateRule, VersionTooNew, Missing, TooManyOpenings, Io, UnknownRule, TwoMakers, UnknownTarget, RuleVariableCycle, UnknownPool, DyndepNotInput, DyndepNoStatement, DyndepTwice, DyndepExtra, Cycle, NoOutEdge, TextNotUtf8}
 use Rattle.nj_faults.specs.Faults.{fault_at, fault_in, unplaced, no_memory}
-use Rattle.nj_faults.specs.FaultLines.{fault_line}
+use Rattle.nj_faults.specs.FaultLines.{fault_line, fault_line_for, bare_line}
 
 abbrev spot : (line column : ℕ) → Spot
 spot line column = record { line = line; column = column }
@@ -120,3 +120,14 @@ memory_row = refl
 
 told_memory_row : told OutOfMemory ≡ no_memory
 told_memory_row = refl
+
+-- for another program, and for none
+program_row : fault_line_for (codes "audit") (unplaced (NoOutEdge (codes "a"))) ≡ codes "audit: 'a' has no out edge"
+program_row = refl
+
+placed_row : fault_line_for (codes "audit") (at 2 3 BadDepth) ≡ codes "build.ninja:2:3: invalid pool depth"
+unfolding digits
+placed_row = refl
+
+bare_row : bare_line (unplaced (UnknownTarget (codes "all"))) ≡ codes "unknown target 'all'"
+bare_row = refl

@@ -1,8 +1,9 @@
--- The line that reports a fault.
-use Rattle.std.specs.Prelude.{ℕ, Option, Some, None, List, ◌++◌, codes}
-use Rattle.std.specs.Fmt.{decimal}
+-- The line that reports a fault, and its text for people to read.
+use Rattle.std.specs.Prelude.{ℕ, Option, Some, None, List, [], ◌++◌, codes}
+use Rattle.std.specs.Str.Lossy.{utf8_lossy}
 use Rattle.nj_text.specs.declared.fault.UnitFault.TheVariants as unit
 use Rattle.nj_text.specs.Units.{first_spot}
+use Rattle.nj_text.specs.Faults.{spot_text}
 use Rattle.nj_manifest.specs.Faults.{Bad, Expected, UnexpectedIndent, MissingCommand, RspPair, UnknownKey, MissingDepth, DyndepVersion, DyndepShape, text_of}
 use Rattle.nj_faults.specs.Versions.{reader_version_text}
 use Rattle.nj_faults.specs.declared.fault.Place.{Place}
@@ -10,48 +11,70 @@ use Rattle.nj_faults.specs.declared.fault.GraphFault.{GraphFault}
 use Rattle.nj_faults.specs.declared.fault.Cause.{Cause}
 use Rattle.nj_faults.specs.declared.fault.Cause.TheVariants as cause
 
--- `FILE:LINE:COLUMN`; the program's name where no place is to blame
-abbrev pub place_text : Option Place → List ℕ
-place_text (Some place) = place.file ++ codes ":" ++ decimal place.spot.line ++ codes ":" ++ decimal place.spot.column
-place_text None = codes "ninja-explain"
+-- A name is written as it is, or shown to people: with U+FFFD for what is not UTF-8 in it (`utf8_lossy`).
+abbrev pub as_it_is : List ℕ → List ℕ
+as_it_is name = name
+
+-- `FILE:LINE:COLUMN`
+abbrev pub place_text : (shown : List ℕ → List ℕ) → Place → List ℕ
+place_text shown place = shown place.file ++ codes ":" ++ spot_text place.spot
+
+-- what stands before the text of a fault: its place, else what is given for a fault without one
+abbrev pub opening_text : (shown : List ℕ → List ℕ) → (otherwise : List ℕ) → Option Place → List ℕ
+opening_text shown otherwise (Some place) = place_text shown place ++ codes ": "
+opening_text shown otherwise None = otherwise
 
 -- a fault of the syntax has the text that the parser gives it, wherever it stands
-abbrev pub cause_text : Cause → List ℕ
-cause_text cause.BadByte = text_of (Bad (unit.BadByte first_spot))
-cause_text cause.Tab = text_of (Bad (unit.Tab first_spot))
-cause_text cause.BadEscape = text_of (Bad (unit.BadEscape first_spot))
-cause_text (cause.Expected wanted) = text_of (Expected first_spot wanted)
-cause_text cause.UnexpectedIndent = text_of (UnexpectedIndent first_spot)
-cause_text cause.MissingCommand = text_of (MissingCommand first_spot)
-cause_text cause.RspPair = text_of (RspPair first_spot)
-cause_text (cause.UnknownKey key) = text_of (UnknownKey first_spot key)
-cause_text cause.MissingDepth = text_of (MissingDepth first_spot)
-cause_text cause.DyndepVersion = text_of (DyndepVersion first_spot)
-cause_text cause.DyndepShape = text_of (DyndepShape first_spot)
-cause_text cause.EmptyPath = codes "empty path"
-cause_text cause.BadDepth = codes "invalid pool depth"
-cause_text (cause.DuplicateRule name) = codes "duplicate rule '" ++ name ++ codes "'"
-cause_text (cause.DuplicatePool name) = codes "duplicate pool '" ++ name ++ codes "'"
-cause_text (cause.VersionTooNew version) = codes "ninja_required_version " ++ version ++ codes " is newer than " ++ reader_version_text
-cause_text (cause.Missing path) = codes "cannot find '" ++ path ++ codes "'"
-cause_text cause.PathNotText = codes "path is not UTF-8"
-cause_text cause.TooDeep = codes "more than 32 files open"
-cause_text cause.TooManyOpenings = codes "more than 65536 files opened"
-cause_text (cause.Io path) = codes "cannot read '" ++ path ++ codes "'"
-cause_text (cause.UnknownRule name) = codes "unknown build rule '" ++ name ++ codes "'"
-cause_text (cause.TwoMakers path) = codes "multiple rules generate " ++ path
-cause_text (cause.UnknownTarget path) = codes "unknown target '" ++ path ++ codes "'"
-cause_text (cause.RuleVariableCycle key) = codes "cycle in rule variables at '" ++ key ++ codes "'"
-cause_text (cause.UnknownPool name) = codes "unknown pool name '" ++ name ++ codes "'"
-cause_text (cause.DyndepNotInput path) = codes "dyndep '" ++ path ++ codes "' is not an input"
-cause_text (cause.DyndepNoStatement path file) = codes "'" ++ path ++ codes "' not mentioned in its dyndep file '" ++ file ++ codes "'"
-cause_text (cause.DyndepTwice path) = codes "multiple statements for '" ++ path ++ codes "'"
-cause_text (cause.DyndepExtra path) = codes "'" ++ path ++ codes "' has no dyndep binding for this file"
-cause_text (cause.Cycle path) = codes "dependency cycle through '" ++ path ++ codes "'"
-cause_text (cause.NoOutEdge path) = codes "'" ++ path ++ codes "' has no out edge"
-cause_text cause.TextNotUtf8 = codes "text is not UTF-8"
-cause_text cause.OutOfMemory = codes "out of memory"
+abbrev pub cause_text : (shown : List ℕ → List ℕ) → Cause → List ℕ
+cause_text shown cause.BadByte = text_of (Bad (unit.BadByte first_spot))
+cause_text shown cause.Tab = text_of (Bad (unit.Tab first_spot))
+cause_text shown cause.BadEscape = text_of (Bad (unit.BadEscape first_spot))
+cause_text shown (cause.Expected wanted) = text_of (Expected first_spot wanted)
+cause_text shown cause.UnexpectedIndent = text_of (UnexpectedIndent first_spot)
+cause_text shown cause.MissingCommand = text_of (MissingCommand first_spot)
+cause_text shown cause.RspPair = text_of (RspPair first_spot)
+cause_text shown (cause.UnknownKey key) = text_of (UnknownKey first_spot (shown key))
+cause_text shown cause.MissingDepth = text_of (MissingDepth first_spot)
+cause_text shown cause.DyndepVersion = text_of (DyndepVersion first_spot)
+cause_text shown cause.DyndepShape = text_of (DyndepShape first_spot)
+cause_text shown cause.EmptyPath = codes "empty path"
+cause_text shown cause.BadDepth = codes "invalid pool depth"
+cause_text shown (cause.DuplicateRule name) = codes "duplicate rule '" ++ shown name ++ codes "'"
+cause_text shown (cause.DuplicatePool name) = codes "duplicate pool '" ++ shown name ++ codes "'"
+cause_text shown (cause.VersionTooNew version) = codes "ninja_required_version " ++ shown version ++ codes " is newer than " ++ reader_version_text
+cause_text shown (cause.Missing path) = codes "cannot find '" ++ shown path ++ codes "'"
+cause_text shown cause.PathNotText = codes "path is not UTF-8"
+cause_text shown cause.TooDeep = codes "more than 32 files open"
+cause_text shown cause.TooManyOpenings = codes "more than 65536 files opened"
+cause_text shown (cause.Io path) = codes "cannot read '" ++ shown path ++ codes "'"
+cause_text shown (cause.UnknownRule name) = codes "unknown build rule '" ++ shown name ++ codes "'"
+cause_text shown (cause.TwoMakers path) = codes "multiple rules generate " ++ shown path
+cause_text shown (cause.UnknownTarget path) = codes "unknown target '" ++ shown path ++ codes "'"
+cause_text shown (cause.RuleVariableCycle key) = codes "cycle in rule variables at '" ++ shown key ++ codes "'"
+cause_text shown (cause.UnknownPool name) = codes "unknown pool name '" ++ shown name ++ codes "'"
+cause_text shown (cause.DyndepNotInput path) = codes "dyndep '" ++ shown path ++ codes "' is not an input"
+cause_text shown (cause.DyndepNoStatement path file) = codes "'" ++ shown path ++ codes "' not mentioned in its dyndep file '" ++ shown file ++ codes "'"
+cause_text shown (cause.DyndepTwice path) = codes "multiple statements for '" ++ shown path ++ codes "'"
+cause_text shown (cause.DyndepExtra path) = codes "'" ++ shown path ++ codes "' has no dyndep binding for this file"
+cause_text shown (cause.Cycle path) = codes "dependency cycle through '" ++ shown path ++ codes "'"
+cause_text shown (cause.NoOutEdge path) = codes "'" ++ shown path ++ codes "' has no out edge"
+cause_text shown cause.TextNotUtf8 = codes "text is not UTF-8"
+cause_text shown cause.OutOfMemory = codes "out of memory"
 
--- `FILE:LINE:COLUMN: TEXT`, or `ninja-explain: TEXT`
+abbrev pub line_after : (shown : List ℕ → List ℕ) → (otherwise : List ℕ) → GraphFault → List ℕ
+line_after shown otherwise fault = opening_text shown otherwise fault.place ++ cause_text shown fault.cause
+
+-- `FILE:LINE:COLUMN: TEXT`, or `PROGRAM: TEXT`
+abbrev pub fault_line_for : (program : List ℕ) → GraphFault → List ℕ
+fault_line_for program fault = line_after as_it_is (program ++ codes ": ") fault
+
 abbrev pub fault_line : GraphFault → List ℕ
-fault_line fault = place_text fault.place ++ codes ": " ++ cause_text fault.cause
+fault_line fault = fault_line_for (codes "ninja-explain") fault
+
+-- `FILE:LINE:COLUMN: TEXT`, or `TEXT`
+abbrev pub bare_line : GraphFault → List ℕ
+bare_line fault = line_after as_it_is [] fault
+
+-- the same for people to read
+abbrev pub shown_line : GraphFault → List ℕ
+shown_line fault = line_after utf8_lossy [] fault

@@ -1,20 +1,24 @@
-//! The line that reports a fault.
+//! The line that reports a fault, and its text for people to read.
 
-ghost use Rattle.std.specs.Prelude.{◌≡◌, ◌++◌, IfOk, OnOk, codes};
-ghost use Rattle.nj_manifest.specs.Faults.{fault_text, text_of};
-ghost use Rattle.nj_faults.specs.FaultLines.{fault_line, place_text, cause_text};
+ghost use Rattle.std.specs.Prelude.{◌≡◌, ◌++◌, IfOk, Some, codes};
+ghost use Rattle.std.specs.Str.Lossy.{utf8_lossy};
+ghost use Rattle.nj_faults.specs.FaultLines.{as_it_is, bare_line, cause_text, fault_line, fault_line_for, line_after, opening_text, place_text, shown_line};
 
 use crate::fault::{Cause, GraphFault, Name, Place};
-use crate::version::READER_VERSION_TEXT;
+use crate::version::IS_NEWER;
 use nj_manifest::{FaultText, LexFault, ParseFault, Spot};
+use nj_text::Lossy;
 use std::alloc::{AllocError, Global};
+use std::error::Error;
+use std::fmt;
 
 // A place for a fault of the parser whose text alone is wanted, which says nothing of the place.
 const ANYWHERE: Spot = Spot { line: 1, column: 1 };
 
 impl GraphFault {
-    /// The line that reports the fault, without a line end: `FILE:LINE:COLUMN: TEXT`, or
-    /// `ninja-explain: TEXT` where the fault has no place. Names and paths are written as they are.
+    /// The line that `ninja-explain` reports the fault by, without a line end:
+    /// `FILE:LINE:COLUMN: TEXT`, or `ninja-explain: TEXT` where the fault has no place. Names and
+    /// paths are written as they are.
     ///
     /// # Errors
     ///
@@ -22,112 +26,174 @@ impl GraphFault {
     pub fn line(&self, alloc: Global) -> Result<Vec<u8>, AllocError>
         ensures { IfOk result (λ line. line.items ≡ fault_line self.now) }
     {
-        let mut line = place_text(alloc, &self.place)?;
-        line.extend_from_slice(b": ")?;
-        append_cause(&mut line, &self.cause)?;
-        Ok(line)
+        line_after(alloc, self, "ninja-explain: ")
+    }
+
+    /// The line for a program of this name: `FILE:LINE:COLUMN: TEXT`, or `PROGRAM: TEXT` where the
+    /// fault has no place.
+    ///
+    /// # Errors
+    ///
+    /// An allocation failed.
+    pub fn line_for(&self, alloc: Global, program: &str) -> Result<Vec<u8>, AllocError>
+        ensures { IfOk result (λ line. line.items ≡ fault_line_for program.now self.now) }
+    {
+        let opening = format!(in alloc; "{program}: ")?;
+        line_after(alloc, self, &opening)
+    }
+
+    /// The line without a program's name: `FILE:LINE:COLUMN: TEXT`, or `TEXT` where the fault has
+    /// no place.
+    ///
+    /// # Errors
+    ///
+    /// An allocation failed.
+    pub fn bare_line(&self, alloc: Global) -> Result<Vec<u8>, AllocError>
+        ensures { IfOk result (λ line. line.items ≡ bare_line self.now) }
+    {
+        line_after(alloc, self, "")
     }
 }
 
-// The text of a place.
-fn place_text(alloc: Global, place: &Option<Place>) -> Result<Vec<u8>, AllocError>
-    ensures { IfOk result (λ text. text.items ≡ place_text place.now) }
+// The line of a fault, with what stands before its text where it has no place.
+fn line_after(alloc: Global, fault: &GraphFault, otherwise: &str) -> Result<Vec<u8>, AllocError>
+    ensures { IfOk result (λ line. line.items ≡ line_after as_it_is otherwise.now fault.now) }
+{
+    let mut line = opening_text(alloc, &fault.place, otherwise)?;
+    fault.cause.text().append_to(&mut line)?;
+    Ok(line)
+}
+
+// What stands before the text of a fault: its place, or what is given for a fault without one.
+fn opening_text(
+    alloc: Global,
+    place: &Option<Place>,
+    otherwise: &str,
+) -> Result<Vec<u8>, AllocError>
+    ensures { IfOk result (λ text. text.items ≡ opening_text as_it_is otherwise.now place.now) }
 {
     match place {
         Some(place) => {
             let spot = place.spot;
             let mut text = Vec::from_slice(alloc, place.file.as_bytes())?;
-            let at = format!(in alloc; ":{}:{}", spot.line, spot.column)?;
+            let at = format!(in alloc; ":{spot}: ")?;
             text.extend_from_slice(at.as_bytes())?;
             Ok(text)
         }
-        None => Vec::from_slice(alloc, b"ninja-explain"),
+        None => Vec::from_slice(alloc, otherwise.as_bytes()),
     }
 }
 
-// Appends the text of a cause.
-fn append_cause(line: &mut Vec<u8>, cause: &Cause) -> Result<(), AllocError>
-    ensures { OnOk result (line.new.items ≡ line.old.items ++ cause_text cause.now) }
-{
-    match cause {
-        Cause::BadByte => append_parsed(line, ParseFault::Lex(LexFault::BadByte(ANYWHERE))),
-        Cause::Tab => append_parsed(line, ParseFault::Lex(LexFault::Tab(ANYWHERE))),
-        Cause::BadEscape => append_parsed(line, ParseFault::Lex(LexFault::BadEscape(ANYWHERE))),
-        Cause::Expected(wanted) => append_parsed(line, ParseFault::Expected(ANYWHERE, *wanted)),
-        Cause::UnexpectedIndent => append_parsed(line, ParseFault::UnexpectedIndent(ANYWHERE)),
-        Cause::MissingCommand => append_parsed(line, ParseFault::MissingCommand(ANYWHERE)),
-        Cause::RspPair => append_parsed(line, ParseFault::RspPair(ANYWHERE)),
-        Cause::UnknownKey(key) => {
-            append_parsed(line, ParseFault::UnknownKey(ANYWHERE, key.as_bytes()))
+impl Cause {
+    // What is wrong, in words.
+    fn text(&self) -> FaultText<'_>
+        ensures exact { result.exact ≡ cause_text as_it_is self.now }
+        ensures shown { result.shown ≡ cause_text utf8_lossy self.now }
+    {
+        match self {
+            Cause::BadByte => ParseFault::Lex(LexFault::BadByte(ANYWHERE)).text(),
+            Cause::Tab => ParseFault::Lex(LexFault::Tab(ANYWHERE)).text(),
+            Cause::BadEscape => ParseFault::Lex(LexFault::BadEscape(ANYWHERE)).text(),
+            Cause::Expected(wanted) => ParseFault::Expected(ANYWHERE, *wanted).text(),
+            Cause::UnexpectedIndent => ParseFault::UnexpectedIndent(ANYWHERE).text(),
+            Cause::MissingCommand => ParseFault::MissingCommand(ANYWHERE).text(),
+            Cause::RspPair => ParseFault::RspPair(ANYWHERE).text(),
+            Cause::UnknownKey(key) => ParseFault::UnknownKey(ANYWHERE, key.as_bytes()).text(),
+            Cause::MissingDepth => ParseFault::MissingDepth(ANYWHERE).text(),
+            Cause::DyndepVersion => ParseFault::DyndepVersion(ANYWHERE).text(),
+            Cause::DyndepShape => ParseFault::DyndepShape(ANYWHERE).text(),
+            Cause::EmptyPath => FaultText::fixed("empty path"),
+            Cause::BadDepth => FaultText::fixed("invalid pool depth"),
+            Cause::DuplicateRule(name) => quoted("duplicate rule '", name),
+            Cause::DuplicatePool(name) => quoted("duplicate pool '", name),
+            Cause::VersionTooNew(version) => {
+                naming("ninja_required_version ", version, IS_NEWER)
+            }
+            Cause::Missing(path) => quoted("cannot find '", path),
+            Cause::PathNotText => FaultText::fixed("path is not UTF-8"),
+            Cause::TooDeep => FaultText::fixed("more than 32 files open"),
+            Cause::TooManyOpenings => FaultText::fixed("more than 65536 files opened"),
+            Cause::Io(path) => quoted("cannot read '", path),
+            Cause::UnknownRule(name) => quoted("unknown build rule '", name),
+            Cause::TwoMakers(path) => naming("multiple rules generate ", path, ""),
+            Cause::UnknownTarget(path) => quoted("unknown target '", path),
+            Cause::RuleVariableCycle(key) => quoted("cycle in rule variables at '", key),
+            Cause::UnknownPool(name) => quoted("unknown pool name '", name),
+            Cause::DyndepNotInput(path) => naming("dyndep '", path, "' is not an input"),
+            Cause::DyndepNoStatement(path, file) => {
+                let (path, file) = (path.as_bytes(), file.as_bytes());
+                FaultText::naming_two("'", path, "' not mentioned in its dyndep file '", file, "'")
+            }
+            Cause::DyndepTwice(path) => quoted("multiple statements for '", path),
+            Cause::DyndepExtra(path) => {
+                naming("'", path, "' has no dyndep binding for this file")
+            }
+            Cause::Cycle(path) => quoted("dependency cycle through '", path),
+            Cause::NoOutEdge(path) => naming("'", path, "' has no out edge"),
+            Cause::TextNotUtf8 => FaultText::fixed("text is not UTF-8"),
+            Cause::OutOfMemory => FaultText::fixed("out of memory"),
         }
-        Cause::MissingDepth => append_parsed(line, ParseFault::MissingDepth(ANYWHERE)),
-        Cause::DyndepVersion => append_parsed(line, ParseFault::DyndepVersion(ANYWHERE)),
-        Cause::DyndepShape => append_parsed(line, ParseFault::DyndepShape(ANYWHERE)),
-        Cause::EmptyPath => append_fixed(line, "empty path"),
-        Cause::BadDepth => append_fixed(line, "invalid pool depth"),
-        Cause::DuplicateRule(name) => append_quoted(line, "duplicate rule '", name),
-        Cause::DuplicatePool(name) => append_quoted(line, "duplicate pool '", name),
-        Cause::VersionTooNew(version) => {
-            append_naming(line, "ninja_required_version ", version, " is newer than ")?;
-            append_fixed(line, READER_VERSION_TEXT)
-        }
-        Cause::Missing(path) => append_quoted(line, "cannot find '", path),
-        Cause::PathNotText => append_fixed(line, "path is not UTF-8"),
-        Cause::TooDeep => append_fixed(line, "more than 32 files open"),
-        Cause::TooManyOpenings => append_fixed(line, "more than 65536 files opened"),
-        Cause::Io(path) => append_quoted(line, "cannot read '", path),
-        Cause::UnknownRule(name) => append_quoted(line, "unknown build rule '", name),
-        Cause::TwoMakers(path) => append_naming(line, "multiple rules generate ", path, ""),
-        Cause::UnknownTarget(path) => append_quoted(line, "unknown target '", path),
-        Cause::RuleVariableCycle(key) => append_quoted(line, "cycle in rule variables at '", key),
-        Cause::UnknownPool(name) => append_quoted(line, "unknown pool name '", name),
-        Cause::DyndepNotInput(path) => append_naming(line, "dyndep '", path, "' is not an input"),
-        Cause::DyndepNoStatement(path, file) => {
-            append_naming(line, "'", path, "' not mentioned in its dyndep file ")?;
-            append_quoted(line, "'", file)
-        }
-        Cause::DyndepTwice(path) => append_quoted(line, "multiple statements for '", path),
-        Cause::DyndepExtra(path) => {
-            append_naming(line, "'", path, "' has no dyndep binding for this file")
-        }
-        Cause::Cycle(path) => append_quoted(line, "dependency cycle through '", path),
-        Cause::NoOutEdge(path) => append_naming(line, "'", path, "' has no out edge"),
-        Cause::TextNotUtf8 => append_fixed(line, "text is not UTF-8"),
-        Cause::OutOfMemory => append_fixed(line, "out of memory"),
     }
 }
 
-// Appends the text of a fault of the parser.
-fn append_parsed(line: &mut Vec<u8>, fault: ParseFault<'_>) -> Result<(), AllocError>
-    ensures { OnOk result (line.new.items ≡ line.old.items ++ text_of (fault_text fault.entry)) }
+// A name between two fixed texts.
+fn naming<'a>(before: &'static str, name: &'a Name, after: &'static str) -> FaultText<'a>
+    ensures exact { result.exact ≡ before.now ++ name.now ++ after.now }
+    ensures shown { result.shown ≡ before.now ++ utf8_lossy name.now ++ after.now }
 {
-    fault.text().append_to(line)
+    FaultText::naming(before, name.as_bytes(), after)
 }
 
-// Appends a fixed text.
-fn append_fixed(line: &mut Vec<u8>, text: &'static str) -> Result<(), AllocError>
-    ensures { OnOk result (line.new.items ≡ line.old.items ++ text.now) }
+// A name after a fixed text that ends in a quote, with the quote that closes it.
+fn quoted<'a>(before: &'static str, name: &'a Name) -> FaultText<'a>
+    ensures exact { result.exact ≡ before.now ++ name.now ++ codes "'" }
+    ensures shown { result.shown ≡ before.now ++ utf8_lossy name.now ++ codes "'" }
 {
-    FaultText::fixed(text).append_to(line)
+    naming(before, name, "'")
 }
 
-// Appends a name after a fixed text that ends in a quote, with the quote that closes it.
-fn append_quoted(line: &mut Vec<u8>, before: &'static str, name: &Name) -> Result<(), AllocError>
-    ensures { OnOk result (line.new.items
-        ≡ line.old.items ++ (before.now ++ name.now ++ codes "'")) }
-{
-    append_naming(line, before, name, "'")
+/// U+FFFD stands for what is not UTF-8.
+impl fmt::Display for Name {
+    ghost output = { λ name. Some (utf8_lossy name) };
+
+    fn fmt<W: fmt::Write>(&self, f: &mut fmt::Formatter<W>) -> fmt::Result {
+        let name = Lossy(self.as_bytes());
+        write!(f, "{name}")
+    }
 }
 
-// Appends a name between two fixed texts.
-fn append_naming(
-    line: &mut Vec<u8>,
-    before: &'static str,
-    name: &Name,
-    after: &'static str,
-) -> Result<(), AllocError>
-    ensures { OnOk result (line.new.items
-        ≡ line.old.items ++ (before.now ++ name.now ++ after.now)) }
-{
-    FaultText::naming(before, name.as_bytes(), after).append_to(line)
+/// `FILE:LINE:COLUMN`, with U+FFFD for what is not UTF-8 in the file's name.
+impl fmt::Display for Place {
+    ghost output = { λ place. Some (place_text utf8_lossy place) };
+
+    fn fmt<W: fmt::Write>(&self, f: &mut fmt::Formatter<W>) -> fmt::Result {
+        let Place { file, spot } = self;
+        write!(f, "{file}:{spot}")
+    }
 }
+
+/// What is wrong, without a place, with U+FFFD for what is not UTF-8 in names.
+impl fmt::Display for Cause {
+    ghost output = { λ cause. Some (cause_text utf8_lossy cause) };
+
+    fn fmt<W: fmt::Write>(&self, f: &mut fmt::Formatter<W>) -> fmt::Result {
+        let text = self.text();
+        write!(f, "{text}")
+    }
+}
+
+/// `FILE:LINE:COLUMN: TEXT`, or `TEXT` where the fault has no place. In names U+FFFD stands for what
+/// is not UTF-8; [`GraphFault::bare_line`] has them as they are.
+impl fmt::Display for GraphFault {
+    ghost output = { λ fault. Some (shown_line fault) };
+
+    fn fmt<W: fmt::Write>(&self, f: &mut fmt::Formatter<W>) -> fmt::Result {
+        let cause = &self.cause;
+        match &self.place {
+            Some(place) => write!(f, "{place}: {cause}"),
+            None => write!(f, "{cause}"),
+        }
+    }
+}
+
+impl Error for GraphFault {}
