@@ -1,5 +1,5 @@
 -- Why a text is not read.
-use Rattle.std.specs.Prelude.{◌≡◌, Option, None}
+use Rattle.std.specs.Prelude.{◌≡◌, ℕ, Option, None, List, codes}
 use Rattle.nj_marks.specs.declared.fault.MarkFault.{MarkFault}
 use Rattle.nj_marks.specs.declared.fault.MarkFault.TheVariants.{BadMark, MarkOutOfRange, OutOfMemory}
 
@@ -8,3 +8,9 @@ abbrev pub IsReadFault : {A : Type 0} → (said : Option A) → MarkFault → Ty
 IsReadFault said BadMark = said ≡ None
 IsReadFault said MarkOutOfRange = ⊥
 IsReadFault said OutOfMemory = Unit {0}
+
+-- what is said of it
+abbrev pub fault_text : MarkFault → List ℕ
+fault_text BadMark = codes "bad mark"
+fault_text MarkOutOfRange = codes "mark out of range"
+fault_text OutOfMemory = codes "out of memory"

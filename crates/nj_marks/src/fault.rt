@@ -1,9 +1,12 @@
 //! What is wrong with a mark.
 
-ghost use Rattle.std.specs.Prelude.{◌≡◌};
+ghost use Rattle.std.specs.Prelude.{◌≡◌, Some};
 ghost use Rattle.nj_marks.specs.declared.fault.MarkFault.TheVariants.{OutOfMemory};
+ghost use Rattle.nj_marks.specs.Reading.{fault_text};
 
 use std::alloc::{AllocError, AllocFailed};
+use std::error::Error;
+use std::fmt;
 
 /// Why a text is not read as a mark, or why a walk cannot be resumed at a mark.
 #[derive(Clone, Copy, Debug, PartialEq, Eq)]
@@ -15,6 +18,20 @@ pub enum MarkFault {
     /// An allocation failed.
     OutOfMemory,
 }
+
+impl fmt::Display for MarkFault {
+    ghost output = { λ fault. Some (fault_text fault) };
+
+    fn fmt<W: fmt::Write>(&self, f: &mut fmt::Formatter<W>) -> fmt::Result {
+        match self {
+            MarkFault::BadMark => f.write_str("bad mark"),
+            MarkFault::MarkOutOfRange => f.write_str("mark out of range"),
+            MarkFault::OutOfMemory => f.write_str("out of memory"),
+        }
+    }
+}
+
+impl Error for MarkFault {}
 
 impl From<AllocError> for MarkFault {
     ghost from_gives = { λ _ e. e ≡ OutOfMemory };
