@@ -1,2 +1,3 @@
 pub mod FaultLineRows
 pub mod VersionRows
+pub mod Openings

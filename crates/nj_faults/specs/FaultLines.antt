@@ -1,5 +1,7 @@
 -- The line that reports a fault, and its text for people to read.
-use Rattle.std.specs.Prelude.{ℕ, Option, Some, None, List, [], ◌++◌, codes}
+use Rattle.std.specs.Prelude.{ℕ, List, [], ◌++◌, unwrap_or, codes}
+use Rattle.std.specs.Fmt.{decimal}
+use Rattle.std.specs.Option.{option_map}
 use Rattle.std.specs.Str.Lossy.{utf8_lossy}
 use Rattle.nj_text.specs.declared.fault.UnitFault.TheVariants as unit
 use Rattle.nj_text.specs.Units.{first_spot}
@@ -11,18 +13,9 @@ use Rattle.nj_faults.specs.declared.fault.GraphFault.{GraphFault}
 use Rattle.nj_faults.specs.declared.fault.Cause.{Cause}
 use Rattle.nj_faults.specs.declared.fault.Cause.TheVariants as cause
 
--- A name is written as it is, or shown to people: with U+FFFD for what is not UTF-8 in it (`utf8_lossy`).
-abbrev pub as_it_is : List ℕ → List ℕ
-as_it_is name = name
-
--- `FILE:LINE:COLUMN`
-abbrev pub place_text : (shown : List ℕ → List ℕ) → Place → List ℕ
-place_text shown place = shown place.file ++ codes ":" ++ spot_text place.spot
-
--- what stands before the text of a fault: its place, else what is given for a fault without one
-abbrev pub opening_text : (shown : List ℕ → List ℕ) → (otherwise : List ℕ) → Option Place → List ℕ
-opening_text shown otherwise (Some place) = place_text shown place ++ codes ": "
-opening_text shown otherwise None = otherwise
+-- `FILE:LINE:COLUMN: `; a name is written as `shown` has it
+abbrev pub opening_text : (shown : List ℕ → List ℕ) → Place → List ℕ
+opening_text shown place = shown place.file ++ codes ":" ++ decimal place.spot.line ++ codes ":" ++ decimal place.spot.column ++ codes ": "
 
 -- a fault of the syntax has the text that the parser gives it, wherever it stands
 abbrev pub cause_text : (shown : List ℕ → List ℕ) → Cause → List ℕ
@@ -61,20 +54,27 @@ cause_text shown (cause.NoOutEdge path) = codes "'" ++ shown path ++ codes "' ha
 cause_text shown cause.TextNotUtf8 = codes "text is not UTF-8"
 cause_text shown cause.OutOfMemory = codes "out of memory"
 
+-- the place of a fault, else what is given for one without a place; and its text
 abbrev pub line_after : (shown : List ℕ → List ℕ) → (otherwise : List ℕ) → GraphFault → List ℕ
-line_after shown otherwise fault = opening_text shown otherwise fault.place ++ cause_text shown fault.cause
+line_after shown otherwise fault = unwrap_or (option_map (opening_text shown) fault.place) otherwise ++ cause_text shown fault.cause
+
+-- `FILE:LINE:COLUMN: TEXT`, or `ninja-explain: TEXT`
+abbrev pub fault_line : GraphFault → List ℕ
+fault_line fault = line_after (λ name. name) (codes "ninja-explain: ") fault
 
 -- `FILE:LINE:COLUMN: TEXT`, or `PROGRAM: TEXT`
 abbrev pub fault_line_for : (program : List ℕ) → GraphFault → List ℕ
-fault_line_for program fault = line_after as_it_is (program ++ codes ": ") fault
-
-abbrev pub fault_line : GraphFault → List ℕ
-fault_line fault = fault_line_for (codes "ninja-explain") fault
+fault_line_for program fault = line_after (λ name. name) (program ++ codes ": ") fault
 
 -- `FILE:LINE:COLUMN: TEXT`, or `TEXT`
 abbrev pub bare_line : GraphFault → List ℕ
-bare_line fault = line_after as_it_is [] fault
+bare_line fault = line_after (λ name. name) [] fault
 
--- the same for people to read
+-- ---- for people to read, with U+FFFD for what is not UTF-8 in names
+
 abbrev pub shown_line : GraphFault → List ℕ
 shown_line fault = line_after utf8_lossy [] fault
+
+-- `FILE:LINE:COLUMN`
+abbrev pub shown_place : Place → List ℕ
+shown_place place = utf8_lossy place.file ++ codes ":" ++ spot_text place.spot

@@ -1,8 +1,9 @@
 //! The line that reports a fault, and its text for people to read.
 
-ghost use Rattle.std.specs.Prelude.{◌≡◌, ◌++◌, IfOk, Some, codes};
+ghost use Rattle.std.specs.Prelude.{◌≡◌, ◌++◌, IfOk, Some, codes, unwrap_or};
+ghost use Rattle.std.specs.Option.{option_map};
 ghost use Rattle.std.specs.Str.Lossy.{utf8_lossy};
-ghost use Rattle.nj_faults.specs.FaultLines.{as_it_is, bare_line, cause_text, fault_line, fault_line_for, line_after, opening_text, place_text, shown_line};
+ghost use Rattle.nj_faults.specs.FaultLines.{bare_line, cause_text, fault_line, fault_line_for, line_after, opening_text, shown_line, shown_place};
 
 use crate::fault::{Cause, GraphFault, Name, Place};
 use crate::version::IS_NEWER;
@@ -57,7 +58,7 @@ impl GraphFault {
 
 // The line of a fault, with what stands before its text where it has no place.
 fn line_after(alloc: Global, fault: &GraphFault, otherwise: &str) -> Result<Vec<u8>, AllocError>
-    ensures { IfOk result (λ line. line.items ≡ line_after as_it_is otherwise.now fault.now) }
+    ensures { IfOk result (λ line. line.items ≡ line_after (λ name. name) otherwise.now fault.now) }
 {
     let mut line = opening_text(alloc, &fault.place, otherwise)?;
     fault.cause.text().append_to(&mut line)?;
@@ -70,7 +71,8 @@ fn opening_text(
     place: &Option<Place>,
     otherwise: &str,
 ) -> Result<Vec<u8>, AllocError>
-    ensures { IfOk result (λ text. text.items ≡ opening_text as_it_is otherwise.now place.now) }
+    ensures { IfOk result (λ text. text.items
+        ≡ unwrap_or (option_map (opening_text (λ name. name)) place.now) otherwise.now) }
 {
     match place {
         Some(place) => {
@@ -87,7 +89,7 @@ fn opening_text(
 impl Cause {
     // What is wrong, in words.
     fn text(&self) -> FaultText<'_>
-        ensures exact { result.exact ≡ cause_text as_it_is self.now }
+        ensures exact { result.exact ≡ cause_text (λ name. name) self.now }
         ensures shown { result.shown ≡ cause_text utf8_lossy self.now }
     {
         match self {
@@ -164,7 +166,7 @@ impl fmt::Display for Name {
 
 /// `FILE:LINE:COLUMN`, with U+FFFD for what is not UTF-8 in the file's name.
 impl fmt::Display for Place {
-    ghost output = { λ place. Some (place_text utf8_lossy place) };
+    ghost output = { λ place. Some (shown_place place) };
 
     fn fmt<W: fmt::Write>(&self, f: &mut fmt::Formatter<W>) -> fmt::Result {
         let Place { file, spot } = self;

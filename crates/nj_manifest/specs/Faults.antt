@@ -6,7 +6,7 @@ use Rattle.nj_text.specs.declared.fault.UnitFault.TheVariants as unit_fault
 use Rattle.nj_text.specs.declared.fault.LexFault.TheVariants as lex
 use Rattle.nj_text.specs.declared.spot.Spot.{Spot}
 use Rattle.nj_text.specs.Calls.{fault_spot}
-use Rattle.nj_text.specs.Faults.{unit_text, placed_text}
+use Rattle.nj_text.specs.Faults.{placed_text}
 use Rattle.nj_manifest.specs.declared.fault.Wanted.{Wanted}
 use Rattle.nj_manifest.specs.declared.fault.Wanted.TheVariants as wanted
 use Rattle.nj_manifest.specs.declared.fault.ParseFault.{ParseFault}
@@ -82,7 +82,9 @@ place_of OutOfMemory = None
 
 -- which says nothing of the place
 abbrev pub text_of : Fault → List ℕ
-text_of (Bad unit) = unit_text unit
+text_of (Bad (unit_fault.BadByte spot)) = codes "unexpected byte"
+text_of (Bad (unit_fault.Tab spot)) = codes "tabs are not allowed, use spaces"
+text_of (Bad (unit_fault.BadEscape spot)) = codes "bad $-escape (literal $ must be written as $$)"
 text_of (Expected spot wanted) = codes "expected " ++ wanted_text wanted
 text_of (UnexpectedIndent spot) = codes "unexpected indent"
 text_of (MissingCommand spot) = codes "expected 'command =' line"

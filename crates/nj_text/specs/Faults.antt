@@ -3,8 +3,6 @@ use Rattle.std.specs.Prelude.{ℕ, Option, Some, None, List, ◌++◌, codes}
 use Rattle.std.specs.Fmt.{decimal}
 use Rattle.std.specs.Option.{option_map}
 use Rattle.nj_text.specs.declared.spot.Spot.{Spot}
-use Rattle.nj_text.specs.declared.fault.UnitFault.{UnitFault}
-use Rattle.nj_text.specs.declared.fault.UnitFault.TheVariants as unit
 use Rattle.nj_text.specs.declared.fault.LexFault.{LexFault}
 use Rattle.nj_text.specs.declared.fault.LexFault.TheVariants as lex
 use Rattle.nj_text.specs.declared.paths.TextFault.{TextFault}
@@ -20,16 +18,10 @@ abbrev pub placed_text : Option Spot → (text : List ℕ) → List ℕ
 placed_text (Some spot) text = spot_text spot ++ codes ": " ++ text
 placed_text None text = text
 
--- a bad unit
-abbrev pub unit_text : UnitFault → List ℕ
-unit_text (unit.BadByte spot) = codes "unexpected byte"
-unit_text (unit.Tab spot) = codes "tabs are not allowed, use spaces"
-unit_text (unit.BadEscape spot) = codes "bad $-escape (literal $ must be written as $$)"
-
 abbrev pub lex_text : LexFault → List ℕ
-lex_text (lex.BadByte spot) = unit_text (unit.BadByte spot)
-lex_text (lex.Tab spot) = unit_text (unit.Tab spot)
-lex_text (lex.BadEscape spot) = unit_text (unit.BadEscape spot)
+lex_text (lex.BadByte spot) = codes "unexpected byte"
+lex_text (lex.Tab spot) = codes "tabs are not allowed, use spaces"
+lex_text (lex.BadEscape spot) = codes "bad $-escape (literal $ must be written as $$)"
 lex_text lex.OutOfMemory = codes "out of memory"
 
 -- its text with its place
