@@ -4,6 +4,8 @@
 #[cfg(test)]
 mod builds;
 #[cfg(test)]
+mod declared;
+#[cfg(test)]
 mod disk;
 #[cfg(test)]
 mod dyndeps;
