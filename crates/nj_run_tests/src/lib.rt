@@ -2,6 +2,8 @@
 #![tactic(auto)]
 
 #[cfg(test)]
+mod affected;
+#[cfg(test)]
 mod builds;
 #[cfg(test)]
 mod declared;
