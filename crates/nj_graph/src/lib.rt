@@ -4,6 +4,7 @@
 mod building;
 mod declaring;
 mod edges;
+mod error;
 mod graph;
 mod joining;
 mod late;
@@ -17,6 +18,7 @@ mod rules;
 mod scopes;
 mod targets;
 
+pub use error::Error;
 pub use graph::{Graph, rules_by_name};
 pub use joining::join_dyndeps;
 pub use laws::{

@@ -1,0 +1,24 @@
+-- What a client of this crate gets in place of what it asked for.
+use Rattle.std.specs.Prelude.{◌≡◌, ◌⊎◌, ℕ, List, codes}
+use Rattle.nj_text.specs.declared.paths.TextFault.{TextFault}
+use Rattle.nj_text.specs.declared.paths.TextFault.TheVariants as text
+use Rattle.nj_faults.specs.declared.fault.GraphFault.{GraphFault}
+use Rattle.nj_faults.specs.declared.fault.Cause.TheVariants as cause
+use Rattle.nj_faults.specs.FaultLines.{shown_line}
+use Rattle.nj_graph.specs.declared.error.Error.{Error}
+use Rattle.nj_graph.specs.declared.error.Error.TheVariants.{Graph, EmptyPath, OutOfMemory}
+
+-- a fault of files or of their graph is the error of its own, but for lack of memory
+abbrev pub TakesFault : GraphFault → Error → Type 0
+TakesFault fault error = ((fault.cause ≡ cause.OutOfMemory) × (error ≡ OutOfMemory)) ⊎ (¬ (fault.cause ≡ cause.OutOfMemory) × (error ≡ Graph fault))
+
+-- so is one of a path
+abbrev pub error_of_text : TextFault → Error
+error_of_text text.EmptyPath = EmptyPath
+error_of_text text.OutOfMemory = OutOfMemory
+
+-- what is said of it to people
+abbrev pub error_text : Error → List ℕ
+error_text (Graph fault) = shown_line fault
+error_text EmptyPath = codes "empty path"
+error_text OutOfMemory = codes "out of memory"
