@@ -10,5 +10,6 @@ pub mod Compdb
 pub mod CompdbJson
 pub mod Laws
 pub mod MemorySinks
+pub mod Errors
 -- how the code does that
 pub mod Inside

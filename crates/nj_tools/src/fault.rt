@@ -1,11 +1,14 @@
 //! Why a tool stopped.
 
-ghost use Rattle.std.specs.Prelude.{◌≡◌};
+ghost use Rattle.std.specs.Prelude.{◌≡◌, Some};
+ghost use Rattle.nj_tools.specs.Errors.{fault_text};
 ghost use Rattle.nj_tools.specs.declared.fault.ToolFault.TheVariants.{Write, OutOfMemory};
 
 use crate::sinks::SinkFault;
 use nj_graph::EdgeNo;
 use std::alloc::{AllocError, AllocFailed};
+use std::error::Error;
+use std::fmt;
 
 /// Why a tool stopped before the end of its text.
 #[derive(Clone, Copy, Debug, PartialEq, Eq)]
@@ -17,6 +20,20 @@ pub enum ToolFault {
     /// An allocation failed.
     OutOfMemory,
 }
+
+impl fmt::Display for ToolFault {
+    ghost output = { λ fault. Some (fault_text fault) };
+
+    fn fmt<W: fmt::Write>(&self, f: &mut fmt::Formatter<W>) -> fmt::Result {
+        match self {
+            ToolFault::TextNotUtf8(_) => f.write_str("text is not UTF-8"),
+            ToolFault::Write => f.write_str("the output could not be written"),
+            ToolFault::OutOfMemory => f.write_str("out of memory"),
+        }
+    }
+}
+
+impl Error for ToolFault {}
 
 impl From<SinkFault> for ToolFault {
     ghost from_gives = { λ _ e. e ≡ Write };

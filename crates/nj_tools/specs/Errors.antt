@@ -1,0 +1,50 @@
+-- What a client of this crate gets in place of what it asked for.
+use Rattle.std.specs.Prelude.{◌≡◌, ℕ, List, codes}
+use Rattle.nj_faults.specs.declared.fault.GraphFault.{GraphFault}
+use Rattle.nj_faults.specs.FaultLines.{shown_line}
+use Rattle.nj_marks.specs.declared.fault.MarkFault.{MarkFault}
+use Rattle.nj_marks.specs.declared.fault.MarkFault.TheVariants as mark
+use Rattle.nj_graph.specs.Errors.{TakesFault}
+use Rattle.nj_graph.specs.declared.error.Error as graph
+use Rattle.nj_graph.specs.declared.error.Error.TheVariants as graph_error
+use Rattle.nj_tools.specs.declared.fault.ToolFault.{ToolFault}
+use Rattle.nj_tools.specs.declared.fault.ToolFault.TheVariants as tool
+use Rattle.nj_tools.specs.declared.error.Error.{Error}
+use Rattle.nj_tools.specs.declared.error.Error.TheVariants.{Graph, EmptyPath, BadMark, MarkOutOfRange, TextNotUtf8, Write, OutOfMemory}
+
+-- what is said of a fault of a tool
+abbrev pub fault_text : ToolFault → List ℕ
+fault_text (tool.TextNotUtf8 edge) = codes "text is not UTF-8"
+fault_text tool.Write = codes "the output could not be written"
+fault_text tool.OutOfMemory = codes "out of memory"
+
+-- an error of `nj_graph` stays what it is
+abbrev pub error_of_graph : graph.Error → Error
+error_of_graph (graph_error.Graph fault) = Graph fault
+error_of_graph graph_error.EmptyPath = EmptyPath
+error_of_graph graph_error.OutOfMemory = OutOfMemory
+
+-- so does a fault that `nj_graph` takes
+abbrev pub TakesGraphFault : GraphFault → Error → Type 0
+TakesGraphFault fault error = (taken : graph.Error) × TakesFault fault taken × (error ≡ error_of_graph taken)
+
+-- and one of a mark or of a tool
+abbrev pub error_of_mark : MarkFault → Error
+error_of_mark mark.BadMark = BadMark
+error_of_mark mark.MarkOutOfRange = MarkOutOfRange
+error_of_mark mark.OutOfMemory = OutOfMemory
+
+abbrev pub error_of_tool : ToolFault → Error
+error_of_tool (tool.TextNotUtf8 edge) = TextNotUtf8 edge
+error_of_tool tool.Write = Write
+error_of_tool tool.OutOfMemory = OutOfMemory
+
+-- what is said of it to people
+abbrev pub error_text : Error → List ℕ
+error_text (Graph fault) = shown_line fault
+error_text EmptyPath = codes "empty path"
+error_text BadMark = codes "bad mark"
+error_text MarkOutOfRange = codes "mark out of range"
+error_text (TextNotUtf8 edge) = codes "text is not UTF-8"
+error_text Write = codes "the output could not be written"
+error_text OutOfMemory = codes "out of memory"

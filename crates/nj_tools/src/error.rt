@@ -1,0 +1,131 @@
+//! Any error of a client's work on a graph and with what tools write of it.
+
+ghost use Rattle.std.specs.Prelude.{◌≡◌, Some};
+ghost use Rattle.nj_graph.specs.Errors.{error_of_text};
+ghost use Rattle.nj_tools.specs.Errors.{TakesGraphFault, error_of_graph, error_of_mark, error_of_tool, error_text};
+ghost use Rattle.nj_tools.specs.declared.error.Error.TheVariants.{OutOfMemory, Write};
+
+use crate::fault::ToolFault;
+use crate::sinks::SinkFault;
+use nj_graph::{EdgeNo, GraphFault, TextFault};
+use nj_marks::MarkFault;
+use std::alloc::{AllocError, AllocFailed};
+use std::{error, fmt};
+
+/// Why a client's work went no further. What the calls of this crate and of `nj_graph` return goes
+/// into it by `?`; lack of memory is `OutOfMemory`, whichever call met it.
+#[derive(Debug, PartialEq, Eq, Drop)]
+pub enum Error {
+    /// The files are no graph, or what was asked of their graph has no answer.
+    Graph(GraphFault),
+    /// A path is empty, so that it has no clean form.
+    EmptyPath,
+    /// A text is not a mark.
+    BadMark,
+    /// A mark leads to no edge.
+    MarkOutOfRange,
+    /// A text of this edge is not UTF-8, so that JSON cannot hold it.
+    TextNotUtf8(EdgeNo),
+    /// The sink failed.
+    Write,
+    /// An allocation failed.
+    OutOfMemory,
+}
+
+/// `FILE:LINE:COLUMN: TEXT`, or `TEXT` where no place is to blame. In names U+FFFD stands for what
+/// is not UTF-8.
+impl fmt::Display for Error {
+    ghost output = { λ error. Some (error_text error) };
+
+    fn fmt<W: fmt::Write>(&self, f: &mut fmt::Formatter<W>) -> fmt::Result {
+        match self {
+            Error::Graph(fault) => write!(f, "{fault}"),
+            Error::EmptyPath => f.write_str("empty path"),
+            Error::BadMark => f.write_str("bad mark"),
+            Error::MarkOutOfRange => f.write_str("mark out of range"),
+            Error::TextNotUtf8(_) => f.write_str("text is not UTF-8"),
+            Error::Write => f.write_str("the output could not be written"),
+            Error::OutOfMemory => f.write_str("out of memory"),
+        }
+    }
+}
+
+impl std::error::Error for Error {}
+
+impl From<nj_graph::Error> for Error {
+    ghost from_gives = { λ taken error. error ≡ error_of_graph taken };
+
+    fn from(error: nj_graph::Error) -> Error {
+        match error {
+            nj_graph::Error::Graph(fault) => Error::Graph(fault),
+            nj_graph::Error::EmptyPath => Error::EmptyPath,
+            nj_graph::Error::OutOfMemory => Error::OutOfMemory,
+        }
+    }
+}
+
+impl From<GraphFault> for Error {
+    ghost from_gives = { TakesGraphFault };
+
+    fn from(fault: GraphFault) -> Error {
+        let taken: nj_graph::Error = fault.into();
+        taken.into()
+    }
+}
+
+impl From<TextFault> for Error {
+    ghost from_gives = { λ fault error. error ≡ error_of_graph (error_of_text fault) };
+
+    fn from(fault: TextFault) -> Error {
+        let taken: nj_graph::Error = fault.into();
+        taken.into()
+    }
+}
+
+impl From<MarkFault> for Error {
+    ghost from_gives = { λ fault error. error ≡ error_of_mark fault };
+
+    fn from(fault: MarkFault) -> Error {
+        match fault {
+            MarkFault::BadMark => Error::BadMark,
+            MarkFault::MarkOutOfRange => Error::MarkOutOfRange,
+            MarkFault::OutOfMemory => Error::OutOfMemory,
+        }
+    }
+}
+
+impl From<ToolFault> for Error {
+    ghost from_gives = { λ fault error. error ≡ error_of_tool fault };
+
+    fn from(fault: ToolFault) -> Error {
+        match fault {
+            ToolFault::TextNotUtf8(edge) => Error::TextNotUtf8(edge),
+            ToolFault::Write => Error::Write,
+            ToolFault::OutOfMemory => Error::OutOfMemory,
+        }
+    }
+}
+
+impl From<SinkFault> for Error {
+    ghost from_gives = { λ _ error. error ≡ Write };
+
+    fn from(_e: SinkFault) -> Error {
+        Error::Write
+    }
+}
+
+impl From<AllocError> for Error {
+    ghost from_gives = { λ _ error. error ≡ OutOfMemory };
+
+    fn from(_e: AllocError) -> Error {
+        Error::OutOfMemory
+    }
+}
+
+impl<T: Drop> From<AllocFailed<T>> for Error {
+    ghost from_gives = { λ _ error. error ≡ OutOfMemory };
+
+    fn from(_e: AllocFailed<T>) -> Error {
+        Error::OutOfMemory
+    }
+}
