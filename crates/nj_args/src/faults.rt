@@ -1,10 +1,12 @@
 //! Why words are not a valid request.
 
-ghost use Rattle.std.specs.Prelude.{◌≡◌, IfOk};
-ghost use Rattle.nj_args.specs.FaultLines.{option_text};
+ghost use Rattle.std.specs.Prelude.{◌≡◌, Some, IfOk};
+ghost use Rattle.nj_args.specs.FaultLines.{fault_text, option_text};
 ghost use Rattle.nj_args.specs.declared.faults.UsageFault.TheVariants.{OutOfMemory};
 
 use std::alloc::{AllocError, AllocFailed, Global};
+use std::error::Error;
+use std::fmt;
 use std::marker::Model;
 
 /// A word of the command line, or the value of an option in it.
@@ -35,6 +37,14 @@ impl Word {
         ensures { result.now ≡ self.now }
     {
         self.text.as_str()
+    }
+}
+
+impl fmt::Display for Word {
+    ghost output = { λ word. Some word };
+
+    fn fmt<W: fmt::Write>(&self, f: &mut fmt::Formatter<W>) -> fmt::Result {
+        f.write_str(self.as_str())
     }
 }
 
@@ -83,6 +93,15 @@ impl ToolOption {
     }
 }
 
+impl fmt::Display for ToolOption {
+    ghost output = { λ option. Some (option_text option) };
+
+    fn fmt<W: fmt::Write>(&self, f: &mut fmt::Formatter<W>) -> fmt::Result {
+        let option = *self;
+        f.write_str(option.text())
+    }
+}
+
 /// Why the words of a command line are not a valid request.
 #[derive(Debug, Drop)]
 pub enum UsageFault {
@@ -103,6 +122,26 @@ pub enum UsageFault {
     /// An allocation failed.
     OutOfMemory,
 }
+
+impl fmt::Display for UsageFault {
+    ghost output = { λ fault. Some (fault_text fault) };
+
+    fn fmt<W: fmt::Write>(&self, f: &mut fmt::Formatter<W>) -> fmt::Result {
+        match self {
+            UsageFault::Unparsed => f.write_str("cannot read the arguments"),
+            UsageFault::UnknownTool(tool) => write!(f, "unknown tool '{tool}'"),
+            UsageFault::ForeignOption { option, tool } => {
+                write!(f, "option {option} does not go with tool '{tool}'")
+            }
+            UsageFault::BadNumber(text) => write!(f, "not a number: '{text}'"),
+            UsageFault::BadMark(text) => write!(f, "bad mark '{text}'"),
+            UsageFault::BadWords(tool) => write!(f, "wrong words for tool '{tool}'"),
+            UsageFault::OutOfMemory => f.write_str("out of memory"),
+        }
+    }
+}
+
+impl Error for UsageFault {}
 
 impl From<AllocError> for UsageFault {
     ghost from_gives = { λ _ e. e ≡ OutOfMemory };
