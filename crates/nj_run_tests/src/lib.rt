@@ -1,20 +1,15 @@
-//! Worked runs of `ninja-explain` over files in memory, readings of a disk, and writes to sinks.
+//! Worked runs of `ninja-explain` of which no row of `nj_run_rows` can speak, readings of a disk, and
+//! writes to sinks.
 #![tactic(auto)]
 
 #[cfg(test)]
 mod affected;
 #[cfg(test)]
-mod builds;
-#[cfg(test)]
 mod declared;
 #[cfg(test)]
 mod disk;
 #[cfg(test)]
-mod dyndeps;
-#[cfg(test)]
-mod files;
-#[cfg(test)]
-mod graphs;
+mod large;
 #[cfg(test)]
 mod loads;
 #[cfg(test)]
@@ -25,7 +20,3 @@ mod requests;
 mod runs;
 #[cfg(test)]
 mod sinks;
-#[cfg(test)]
-mod tools;
-#[cfg(test)]
-mod validations;

@@ -1,6 +1,6 @@
 //! Runs that are stopped and resumed, and the turns of their walks.
 
-use crate::runs::{DIAMOND, files_of, runs_end, words_of};
+use crate::runs::{DIAMOND, main_file, words_of};
 use nj_cli::{Mark, MemoryFiles, MemorySink, run_words};
 use nj_graph::{Graph, Loaded, load, pick_target};
 use nj_needs::Needs;
@@ -13,116 +13,6 @@ const FIVE: &[u8] =
     b"rule mk\n  command = mk $out\nbuild a: mk\nbuild c: mk a\nbuild b1: mk c\nbuild b2: mk c a\nbuild d: mk b1 b2\n";
 
 const FIVE_COMMANDS: &[u8] = b"mk a\nmk c\nmk b1\nmk b2\nmk d\n";
-
-const OUT_OF_RANGE: &str = "[1] ninja-explain: mark out of range\n";
-
-#[test]
-fn stops_after_so_many_commands(rt: HostRuntime) -> Result<(), Fail> {
-    let all = "mk a\nmk b1\nmk b2\nmk d\n[0] ";
-    runs_end(
-        &rt,
-        DIAMOND,
-        &[
-            (
-                &["-t", "commands", "--take", "2", "d"],
-                "mk a\nmk b1\n[3] mark 0.0\n",
-            ),
-            (&["-t", "commands", "--take", "4", "d"], all),
-            (&["-t", "commands", "--take", "9", "d"], all),
-            (&["-t", "commands", "--take", "09"], all),
-            (&["-t", "commands", "--take", "18446744073709551615"], all),
-            (&["-t", "commands", "--take", "0", "d"], "[3] mark start\n"),
-            (
-                &["-t", "commands", "--take", "1", "b1", "b2"],
-                "mk a\n[3] mark 0.0\n",
-            ),
-            (
-                &["-t", "commands", "--take", "2", "b1", "b2"],
-                "mk a\nmk b1\n[3] mark 0\n",
-            ),
-        ],
-    )
-}
-
-#[test]
-fn resumes_at_a_mark(rt: HostRuntime) -> Result<(), Fail> {
-    runs_end(
-        &rt,
-        DIAMOND,
-        &[
-            (
-                &["-t", "commands", "--resume", "0.0", "d"],
-                "mk b2\nmk d\n[0] ",
-            ),
-            (
-                &["-t", "commands", "--resume", "start", "d"],
-                "mk a\nmk b1\nmk b2\nmk d\n[0] ",
-            ),
-            (&["-t", "commands", "--resume", "0", "d"], "[0] "),
-            (&["-t", "commands", "--resume", "0", "--take", "0"], "[0] "),
-            // a place to which the walk comes after the edge was met elsewhere
-            (
-                &["-t", "commands", "--resume", "0.1.0", "d"],
-                "mk b2\nmk d\n[0] ",
-            ),
-            (
-                &["-t", "commands", "--resume", "0.1.0", "--take", "1", "d"],
-                "mk b2\n[3] mark 0.1\n",
-            ),
-            (
-                &["-t", "commands", "--resume", "0.1.0", "--take", "0", "d"],
-                "[3] mark 0.1.0\n",
-            ),
-            // the second target is the first
-            (&["-t", "commands", "--resume", "1.0", "d", "d"], "[0] "),
-            // without targets the addresses begin with the defaults
-            (&["-t", "commands", "--resume", "0.1"], "mk d\n[0] "),
-        ],
-    )?;
-    runs_end(
-        &rt,
-        FIVE,
-        &[
-            (
-                &["-t", "commands", "--resume", "0.1.0.0", "d"],
-                "mk b2\nmk d\n[0] ",
-            ),
-            (
-                &["-t", "commands", "--resume", "0.1.1", "d"],
-                "mk b2\nmk d\n[0] ",
-            ),
-            (
-                &["-t", "commands", "--resume", "0.1.0.0", "--take", "1", "d"],
-                "mk b2\n[3] mark 0.1\n",
-            ),
-        ],
-    )
-}
-
-#[test]
-fn refuses_marks_that_lead_nowhere(rt: HostRuntime) -> Result<(), Fail> {
-    runs_end(
-        &rt,
-        FIVE,
-        &[
-            (&["-t", "commands", "--resume", "0.2", "d"], OUT_OF_RANGE),
-            (
-                &["-t", "commands", "--resume", "0.1.0.0.0", "d"],
-                OUT_OF_RANGE,
-            ),
-            (&["-t", "commands", "--resume", "1", "d"], OUT_OF_RANGE),
-            (
-                &["-t", "commands", "--resume", "0.18446744073709551615", "d"],
-                OUT_OF_RANGE,
-            ),
-            // before anything is written
-            (
-                &["-t", "commands", "--resume", "1", "--take", "0", "d"],
-                OUT_OF_RANGE,
-            ),
-        ],
-    )
-}
 
 /// The mark that a run told; an empty text if it told none.
 fn mark_told(alloc: Global, told: &[u8]) -> Result<String, AllocError> {
@@ -164,7 +54,7 @@ fn put_pages(
 
 /// What pages of so many commands of a main file write together.
 fn joined(alloc: Global, main: &[u8], takes: &[&str]) -> Result<Vec<u8>, AllocError> {
-    let mut files = files_of(alloc, &[("build.ninja", main)])?;
+    let mut files = main_file(alloc, main)?;
     let mut text = Vec::new(alloc);
     put_pages(alloc, &mut text, &mut files, takes)?;
     Ok(text)
@@ -248,7 +138,7 @@ fn writes_rows_of_edges(rt: HostRuntime) -> Result<(), Fail> {
 
 /// What a main file says, which has no fault.
 fn loaded(alloc: Global, main: &[u8]) -> Result<Loaded, Fail> {
-    let mut files = files_of(alloc, &[("build.ninja", main)])?;
+    let mut files = main_file(alloc, main)?;
     match load(alloc, &mut files, "build.ninja") {
         Ok(loaded) => Ok(loaded),
         Err(_) => Err(Fail::from("it has no fault")),

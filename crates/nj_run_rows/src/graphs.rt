@@ -1,0 +1,187 @@
+//! What a graph has, as texts.
+
+ghost use Rattle.std.specs.Prelude.{◌<◌, length, All};
+ghost use Rattle.nj_graph.specs.Graph.{edges_of, files_of};
+
+use nj_graph::{EdgeNo, FileNo, Graph, Kind, pick_target};
+use std::alloc::{AllocError, Global};
+
+/// Appends what a row of this kind asks a graph for.
+pub fn put_of_graph(
+    alloc: Global,
+    text: &mut Vec<u8>,
+    graph: &Graph,
+    kind: &str,
+    word: &[u8],
+) -> Result<(), AllocError> {
+    match kind {
+        "edges" => put_edges(alloc, text, graph),
+        "places" => put_places(alloc, text, graph),
+        "roots" => put_roots(text, graph),
+        "pick" => put_picked(alloc, text, graph, word),
+        "users" => put_users(alloc, text, graph, word),
+        "variable" => put_variable(text, graph, word),
+        "with-response-files" => put_with_response_files(alloc, text, graph),
+        "rules" => put_rules(alloc, text, graph),
+        _ => text.extend_from_slice(b"no row is of this kind\n"),
+    }
+}
+
+/// Appends the path of a file, after a space and a sign.
+fn put_file(text: &mut Vec<u8>, sign: &[u8], graph: &Graph, file: FileNo) -> Result<(), AllocError>
+    requires { file.0 < length (files_of graph.now) }
+{
+    text.push(b' ')?;
+    text.extend_from_slice(sign)?;
+    text.extend_from_slice(graph.path(file))
+}
+
+/// Appends the paths of files.
+fn put_files(text: &mut Vec<u8>, graph: &Graph, files: &[FileNo]) -> Result<(), AllocError>
+    requires { All (λ file. file.0 < length (files_of graph.now)) files.now }
+{
+    'files: for file in files {
+        put_file(text, b"", graph, *file)?;
+    }
+    Ok(())
+}
+
+/// Appends the inputs of an edge: `|` is before an implicit one, `||` before an order-only one.
+fn put_inputs(text: &mut Vec<u8>, graph: &Graph, edge: EdgeNo) -> Result<(), AllocError>
+    requires { edge.0 < length (edges_of graph.now) }
+{
+    'inputs: for (index, file) in graph.inputs(edge).iter().enumerate() {
+        let sign = match graph.input_kind(edge, index) {
+            Kind::Explicit => b"".as_slice(),
+            Kind::Implicit => b"|",
+            Kind::OrderOnly => b"||",
+        };
+        put_file(text, sign, graph, *file)?;
+    }
+    Ok(())
+}
+
+/// Appends a line of an edge: its rule, how many of its outputs are explicit, its outputs, its
+/// inputs and its validations.
+fn put_edge(
+    alloc: Global,
+    text: &mut Vec<u8>,
+    graph: &Graph,
+    edge: EdgeNo,
+) -> Result<(), AllocError>
+    requires { edge.0 < length (edges_of graph.now) }
+{
+    text.extend_from_slice(graph.rule_name(edge))?;
+    let explicit = format!(in alloc; " {}:", graph.explicit_outputs(edge))?;
+    text.extend_from_slice(explicit.as_bytes())?;
+    put_files(text, graph, graph.outputs(edge))?;
+    text.extend_from_slice(b" <")?;
+    put_inputs(text, graph, edge)?;
+    text.extend_from_slice(b" @")?;
+    put_files(text, graph, graph.validations(edge))?;
+    text.extend_from_slice(b"\n")
+}
+
+/// Appends the edges, a line each.
+fn put_edges(alloc: Global, text: &mut Vec<u8>, graph: &Graph) -> Result<(), AllocError> {
+    'edges: for number in 0..graph.edge_count() {
+        put_edge(alloc, text, graph, EdgeNo(number))?;
+    }
+    Ok(())
+}
+
+/// Appends the places of the edges, a line each.
+fn put_places(alloc: Global, text: &mut Vec<u8>, graph: &Graph) -> Result<(), AllocError> {
+    'edges: for number in 0..graph.edge_count() {
+        let place = graph.edge_place(EdgeNo(number));
+        text.extend_from_slice(place.file)?;
+        let at = format!(in alloc; ":{}:{}\n", place.spot.line, place.spot.column)?;
+        text.extend_from_slice(at.as_bytes())?;
+    }
+    Ok(())
+}
+
+/// Appends the roots and the defaults.
+fn put_roots(text: &mut Vec<u8>, graph: &Graph) -> Result<(), AllocError> {
+    text.extend_from_slice(b"roots:")?;
+    put_files(text, graph, graph.roots())?;
+    text.extend_from_slice(b"; defaults:")?;
+    put_files(text, graph, graph.defaults())?;
+    text.extend_from_slice(b"\n")
+}
+
+/// Appends the path of the target that a word means, or the line of its fault.
+fn put_picked(
+    alloc: Global,
+    text: &mut Vec<u8>,
+    graph: &Graph,
+    word: &[u8],
+) -> Result<(), AllocError> {
+    match pick_target(alloc, graph, word) {
+        Ok(file) => text.extend_from_slice(graph.path(file))?,
+        Err(fault) => text.extend_from_slice(&fault.line(alloc)?)?,
+    }
+    text.extend_from_slice(b"\n")
+}
+
+/// Appends the numbers of edges.
+fn put_numbers(alloc: Global, text: &mut Vec<u8>, edges: &[EdgeNo]) -> Result<(), AllocError> {
+    'edges: for edge in edges {
+        text.extend_from_slice(format!(in alloc; " {}", edge.0)?.as_bytes())?;
+    }
+    Ok(())
+}
+
+/// Appends the numbers of the edges that have a file as an input, and of those that name it as a
+/// validation.
+fn put_users(
+    alloc: Global,
+    text: &mut Vec<u8>,
+    graph: &Graph,
+    path: &[u8],
+) -> Result<(), AllocError> {
+    let Some(file) = graph.file_named(path) else {
+        return text.extend_from_slice(b"no edge names it\n");
+    };
+    text.extend_from_slice(b"inputs of:")?;
+    put_numbers(alloc, text, graph.users(file))?;
+    text.extend_from_slice(b"; validations of:")?;
+    put_numbers(alloc, text, graph.validation_users(file))?;
+    text.extend_from_slice(b"\n")
+}
+
+/// Appends what a variable says for each edge, a line each.
+fn put_variable(text: &mut Vec<u8>, graph: &Graph, name: &[u8]) -> Result<(), AllocError> {
+    'edges: for number in 0..graph.edge_count() {
+        graph.append_variable(text, EdgeNo(number), name)?;
+        text.push(b'\n')?;
+    }
+    Ok(())
+}
+
+/// Appends the commands of the edges as they are without their response files, a line each.
+fn put_with_response_files(
+    alloc: Global,
+    text: &mut Vec<u8>,
+    graph: &Graph,
+) -> Result<(), AllocError> {
+    'edges: for number in 0..graph.edge_count() {
+        let command = graph.command_with_rsp(alloc, EdgeNo(number))?;
+        text.extend_from_slice(&command)?;
+        text.push(b'\n')?;
+    }
+    Ok(())
+}
+
+/// Appends the rules that are listed, a line each; after ` = ` the description, if there is one.
+fn put_rules(alloc: Global, text: &mut Vec<u8>, graph: &Graph) -> Result<(), AllocError> {
+    'rules: for index in 0..graph.main_rule_count() {
+        text.extend_from_slice(graph.main_rule(index))?;
+        if graph.has_description(index) {
+            text.extend_from_slice(b" = ")?;
+            text.extend_from_slice(&graph.description_text(alloc, index)?)?;
+        }
+        text.push(b'\n')?;
+    }
+    Ok(())
+}

@@ -1,0 +1,130 @@
+//! What words ask for, as a text.
+
+use nj_cli::{Action, InputsStyle, Mark, Request, TargetsView, read_words};
+use std::alloc::{AllocError, Global};
+use std::fmt::Write;
+
+/// The words, each between brackets.
+fn put_words(text: &mut String, words: &[String]) -> Result<(), AllocError> {
+    'words: for word in words {
+        text.push_str(" [")?;
+        text.push_str(word.as_str())?;
+        text.push_str("]")?;
+    }
+    Ok(())
+}
+
+/// What the tool is, with its words.
+fn put_tool(text: &mut String, tool: &str, words: &[String]) -> Result<(), AllocError> {
+    text.push_str(tool)?;
+    put_words(text, words)
+}
+
+/// Those of the names whose flag is on.
+fn put_flags(text: &mut String, flags: &[(bool, &str)]) -> Result<(), AllocError> {
+    'flags: for (is_on, name) in flags {
+        if *is_on {
+            text.push_str(", ")?;
+            text.push_str(name)?;
+        }
+    }
+    Ok(())
+}
+
+/// What is asked for of `commands`.
+fn put_commands(
+    alloc: Global,
+    text: &mut String,
+    targets: &[String],
+    take: Option<u64>,
+    start: &Mark,
+) -> Result<(), AllocError> {
+    put_tool(text, "commands", targets)?;
+    if let Some(number) = take {
+        write!(text, " take {number}")?;
+    }
+    write!(text, " from {}", start.to_text(alloc)?.as_str())
+}
+
+/// What is asked for of `inputs`.
+fn put_inputs(
+    text: &mut String,
+    targets: &[String],
+    validations: bool,
+    style: InputsStyle,
+) -> Result<(), AllocError> {
+    put_tool(text, "inputs", targets)?;
+    put_flags(
+        text,
+        &[
+            (validations, "validations"),
+            (style.dependency_order, "in dependency order"),
+            (!style.shell_escape, "not escaped"),
+            (style.zero, "each before a zero"),
+        ],
+    )
+}
+
+/// What `targets` is to list.
+fn put_view(text: &mut String, view: &TargetsView) -> Result<(), AllocError> {
+    match view {
+        TargetsView::OfRule(rule) => {
+            let name = str::from_utf8(rule.as_bytes()).unwrap_or("");
+            write!(text, "targets of rule {name}")
+        }
+        TargetsView::Sources => text.push_str("sources"),
+        TargetsView::Depth(depth) => write!(text, "targets to depth {depth}"),
+        TargetsView::All => text.push_str("all targets"),
+    }
+}
+
+/// What is asked for.
+fn put_action(alloc: Global, text: &mut String, action: &Action) -> Result<(), AllocError> {
+    match action {
+        Action::Commands {
+            targets,
+            validations,
+            take,
+            start,
+        } => {
+            put_commands(alloc, text, targets, *take, start)?;
+            put_flags(text, &[(*validations, "validations")])
+        }
+        Action::SingleCommands { targets } => put_tool(text, "single commands", targets),
+        Action::Inputs {
+            targets,
+            validations,
+            style,
+        } => put_inputs(text, targets, *validations, *style),
+        Action::Targets { view } => put_view(text, view),
+        Action::Query { files } => put_tool(text, "query", files),
+        Action::Rules { descriptions } => write!(text, "rules, descriptions {descriptions}"),
+        Action::Compdb {
+            rules,
+            directory,
+            expand,
+        } => {
+            put_tool(text, "compdb", rules)?;
+            write!(text, " in {}, expand {expand}", directory.as_str())
+        }
+    }
+}
+
+/// What a request asks for, as a line.
+fn request_text(alloc: Global, request: &Request) -> Result<String, AllocError> {
+    let input = if request.from_stdin { "stdin as " } else { "" };
+    let joined = if request.dyndep { "joined " } else { "" };
+    let mut text = format!(in alloc; "{joined}{input}{}: ", request.file.as_str())?;
+    put_action(alloc, &mut text, &request.action)?;
+    text.push('\n')?;
+    Ok(text)
+}
+
+/// What words ask for, or the line of their fault.
+pub fn asked(alloc: Global, words: &[String]) -> Result<Vec<u8>, AllocError> {
+    let line = match read_words(alloc, words) {
+        Ok(request) => request_text(alloc, &request)?,
+        Err(fault) => fault.line(alloc)?,
+    };
+    Vec::from_slice(alloc, line.as_bytes())
+}
