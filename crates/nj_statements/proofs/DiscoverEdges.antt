@@ -19,7 +19,7 @@ use Rattle.nj_faults.specs.declared.fault.Cause.TheVariants.{DyndepExtra, Dyndep
 use Rattle.nj_faults.specs.Faults.{fault_at}
 use Rattle.nj_edge_env.specs.LateTexts.{LateNames, asked_text}
 use Rattle.nj_statements.specs.EdgeList.{EdgeText, Pending, path_said, block_of, on_line, stated_paths, edge_paths, with_discovered, edge_of_build, edges_read, paths_of_edges, block_of_edge, block_at}
-use Rattle.nj_statements.specs.EdgeList.{file_said, dyndep_of, pending_at, pending_read}
+use Rattle.nj_statements.specs.EdgeList.{file_said, name_said, dyndep_of, pending_at, pending_read, assigned_of, assigned_read}
 use Rattle.nj_statements.specs.Joining.{no_values, discover, discovered_by, edge_meant, discover_for, waits_for, meaning_fault}
 use Rattle.nj_statements.specs.BuildFaults.{fault_if, first_fault, empty_path, outputs_fault}
 use Rattle.nj_statements.specs.Built.{detail_of}
@@ -341,6 +341,54 @@ pub pending-discover : (edge : ℕ) (found : Discovered) (entries : List ReadSta
 unfolding edges_read pending_read discover
 pending-discover edge found [] = refl
 pending-discover edge found (e ∷ before) = pending-item edge found e before e.item (pending-discover edge found before)
+
+-- ---- what is assigned to edges
+
+-- it does not depend on what is discovered for an edge
+assigned-found : (before : List ReadStatement) (stated : EdgeText) (d : Option Discovered) → assigned_of before (record stated { paths = with_discovered d stated.paths }) ≡ assigned_of before stated
+assigned-found before stated None = refl
+assigned-found before stated (Some found) = refl
+
+assigned-same : (edge : ℕ) (found : Discovered) (before : List ReadStatement) (e : EdgeText) → assigned_of (discover edge found before) e ≡ assigned_of before e
+assigned-same edge found before e =
+    ap (λ (n : LateNames). record { pool = name_said (asked_text n (codes "pool")); dyndep = file_said (asked_text n (codes "dyndep")) }) (names_of_edge-discover edge found before e)
+
+assigned-build : (edge : ℕ) (found : Discovered) (e : ReadStatement) (before : List ReadStatement) (outputs : OutputsText) (rule : NameText) (inputs : InputsText) (lines : List LineText)
+    → assigned_read (discover edge found before) ≡ assigned_read before
+    → assigned_read (discover edge found (record e { item = BuildText outputs rule inputs lines } ∷ before)) ≡ assigned_read (record e { item = BuildText outputs rule inputs lines } ∷ before)
+unfolding edges_read assigned_read discover
+assigned-build edge found e before outputs rule inputs lines rest = by (length (edges_read before) == edge)
+  where
+    own : EdgeText
+    own = edge_of_build e before outputs rule inputs lines
+
+    stated : EdgeText
+    stated = edge_of_build (record e { discovered = None }) before outputs rule inputs lines
+
+    after : Bool → List ReadStatement
+    after b = if b then record e { item = BuildText outputs rule inputs lines; discovered = Some found } ∷ before else record e { item = BuildText outputs rule inputs lines } ∷ discover edge found before
+
+    by : (b : Bool) → assigned_read (after b) ≡ assigned_read before ++ assigned_of before own ∷ []
+    by true = ap (λ a. assigned_read before ++ a ∷ []) (assigned-found before stated (Some found) ∙ sym (assigned-found before stated e.discovered))
+    by false =
+        ap (λ others. others ++ assigned_of (discover edge found before) (edge_of_build e (discover edge found before) outputs rule inputs lines) ∷ []) rest
+        ∙ ap (λ a. assigned_read before ++ a ∷ []) (ap (assigned_of (discover edge found before)) (edge-same edge found e before outputs rule inputs lines) ∙ assigned-same edge found before own)
+
+assigned-item : (edge : ℕ) (found : Discovered) (e : ReadStatement) (before : List ReadStatement) (item : StatementText) → assigned_read (discover edge found before) ≡ assigned_read before
+    → assigned_read (discover edge found (record e { item = item } ∷ before)) ≡ assigned_read (record e { item = item } ∷ before)
+unfolding edges_read assigned_read discover
+assigned-item edge found e before (BuildText outputs rule inputs lines) rest = assigned-build edge found e before outputs rule inputs lines rest
+assigned-item edge found e before (BindingText bound word) rest = rest
+assigned-item edge found e before (RuleText name lines) rest = rest
+assigned-item edge found e before (PoolText name lines) rest = rest
+assigned-item edge found e before (DefaultText words) rest = rest
+assigned-item edge found e before (IncludeText word) rest = rest
+assigned-item edge found e before (SubninjaText word) rest = rest
+
+pub assigned-discover : (edge : ℕ) (found : Discovered) (entries : List ReadStatement) → assigned_read (discover edge found entries) ≡ assigned_read entries
+unfolding edges_read assigned_read discover
+assigned-discover edge found [] = refl
+assigned-discover edge found (e ∷ before) = assigned-item edge found e before e.item (assigned-discover edge found before)
 
 pub others_wait : OthersWaitAsBefore
 others_wait entries edge found = pending-discover edge found entries

@@ -16,13 +16,15 @@ use Rattle.nj_edges.specs.Files.{path_at, AreFiles}
 use Rattle.nj_edges.proofs.GraphLemmas.{files-at, files-numbers}
 use Rattle.nj_manifest.specs.Statements.{StatementText, BindingText, RuleText, PoolText, BuildText, DefaultText, IncludeText, SubninjaText}
 use Rattle.nj_scope.specs.ReadingList.{Discovered, ReadStatement}
-use Rattle.nj_statements.specs.declared.building.Detail.{Detail}
+use Rattle.nj_statements.specs.declared.detail.Detail.{Detail}
 use Rattle.nj_statements.specs.declared.building.DyndepEdge.{DyndepEdge}
-use Rattle.nj_statements.specs.EdgeList.{EdgeText, Pending, edge_of_build, with_edge, edges_read, paths_of_edges, defaults_read, dyndep_of, pending_at, with_pending, pending_read}
-use Rattle.nj_statements.specs.Answers.{BuildingText, HoldsEdges, IsDetail, AreDetails}
+use Rattle.nj_statements.specs.EdgeList.{EdgeText, Pending, edge_of_build, with_edge, edges_read, paths_of_edges, defaults_read, dyndep_of, pending_at, with_pending, pending_read, assigned_read}
+use Rattle.nj_statements.specs.Answers.{BuildingText, HoldsEdges, IsDetail, AreDetails, AreAssigned}
+use Rattle.nj_statements.specs.Inside.Details.{text_at, spot_of}
 use Rattle.nj_statements.specs.Inside.EdgeSteps.{detail_text}
 use Rattle.nj_statements.specs.Built.{BuiltText, ComesTo, defaults_in_force, IsCycleFault, detail_of}
 use Rattle.nj_statements.specs.Inside.BuiltHeld.{detail_named, pending_named, built_of, BuiltIsHeld}
+use Rattle.nj_statements.proofs.AssignedLemmas.{assigned-known, assigned-named}
 use Rattle.nj_statements.proofs.Holding.{details-count}
 
 -- files have the paths of their numbers
@@ -133,17 +135,17 @@ waiting-known (e ∷ before) = by e.item (waiting-known before)
 
 -- ---- details
 
-names-known : (names : List (List ℕ)) (ds : List Detail) (es : List EdgeText) → AreDetails names (map detail_text ds) es → AllByRecursion (λ d. d.file.0 < length names) ds
+names-known : (names : List (List ℕ)) (ds : List Detail) (es : List EdgeText) → AreDetails names (map detail_text ds) es → AllByRecursion (λ d. d.file < length names) ds
 names-known names [] es are = tt
 names-known names (d ∷ ds) [] are = absurd are
-names-known names (d ∷ ds) (e ∷ es) (is, are) = (slice_get_within names d.file.0 e.file is.file, names-known names ds es are)
+names-known names (d ∷ ds) (e ∷ es) (is, are) = (slice_get_within names d.file e.file is.file, names-known names ds es are)
 
 details-named : (names : List (List ℕ)) (ds : List Detail) (es : List EdgeText) → AreDetails names (map detail_text ds) es → map (detail_named names) ds ≡ map detail_of es
 details-named names [] [] are = refl
 details-named names [] (e ∷ es) are = absurd are
 details-named names (d ∷ ds) [] are = absurd are
 details-named names (d ∷ ds) (e ∷ es) (is, are) =
-    let file : path_at names d.file ≡ e.file = ap (λ o. unwrap_or o []) is.file in
+    let file : text_at names d.file ≡ e.file = ap (λ o. unwrap_or o []) is.file in
     let rest = details-named names ds es are in
     let spot = is.spot in
     let scope = is.scope in
@@ -174,6 +176,9 @@ module _ (held : BuildingText) (entries : List ReadStatement) (holds : HoldsEdge
   all-details : AreDetails held.names (map detail_text ds) (edges_read entries)
   all-details = subst (λ xs. AreDetails held.names xs (edges_read entries)) (sym details_are) holds.details
 
+  all-assigned : AreAssigned held.names (map detail_text ds) (assigned_read entries)
+  all-assigned = subst (λ xs. AreAssigned held.names xs (assigned_read entries)) (sym details_are) holds.assigned
+
   edge-count : length held.table.edges ≡ length (edges_read entries)
   edge-count = ap length holds.edges ∙ length-map (edges_read entries) (λ (e : EdgeText). e.paths)
 
@@ -183,16 +188,17 @@ module _ (held : BuildingText) (entries : List ReadStatement) (holds : HoldsEdge
   pub detail-there : (n : ℕ) (d : Detail) → n < length held.table.edges → d ≡ get_or ds n d → slice_get ds n ≡ Some d
   detail-there n d below is = slice_get-get_or ds n d (subst (λ m. n < m) (sym detail-count) below) ∙ ap Some (sym is)
 
-  pub detail-known : (n : ℕ) (d : Detail) → n < length held.table.edges → slice_get ds n ≡ Some d → d.file.0 < length held.names
+  pub detail-known : (n : ℕ) (d : Detail) → n < length held.table.edges → slice_get ds n ≡ Some d → d.file < length held.names
   detail-known n d below at =
       let found = get-some (edges_read entries) n (subst (λ m. n < m) edge-count below) in
-      slice_get_within held.names d.file.0 found.0.file (detail-at held.names ds (edges_read entries) n d found.0 all-details at found.1).file
+      slice_get_within held.names d.file found.0.file (detail-at held.names ds (edges_read entries) n d found.0 all-details at found.1).file
 
   module _ (g : EdgeGraph) (is : g ≡ record { files = held.table.files; edges = held.table.edges }) where
     pub built-held : BuiltIsHeld g held.names ds held.defaults held.dyndeps
     built-held = record {
       as_many = detail-count ∙ ap (λ (v : EdgeGraph). length v.edges) (sym is);
       names_known = names-known held.names ds (edges_read entries) all-details;
+      assigned_known = assigned-known held.names ds (assigned_read entries) all-assigned;
       defaults_known = subst (λ (v : EdgeGraph). AreNumbers (length v.files) held.defaults) (sym is) (files-numbers held.table.files held.defaults (defaults_read entries) holds.defaults);
       dyndep_files_known = subst (λ (v : EdgeGraph). AllByRecursion (λ (d : DyndepEdge). d.file.0 < length v.files) held.dyndeps) (sym is)
           (files-known-of (length held.table.files) held.dyndeps (files-numbers held.table.files (map (λ d. d.file) held.dyndeps) (map (λ p. p.file) (pending_read entries)) holds.dyndeps.files_are));
@@ -208,6 +214,7 @@ module _ (held : BuildingText) (entries : List ReadStatement) (holds : HoldsEdge
         blocks = holds.blocks;
         defaults = ap (λ (v : EdgeGraph). paths_at v.files held.defaults) is ∙ files-paths held.table.files held.defaults (defaults_read entries) holds.defaults;
         pending = ap (λ (v : EdgeGraph). map (pending_named v.files) held.dyndeps) is ∙ pending-named held.table.files held.dyndeps (pending_read entries) holds.dyndeps.edges_are holds.dyndeps.files_are;
+        assigned = assigned-named held.names ds (assigned_read entries) all-assigned;
       },
       subst (λ n. IsAcyclic (makers_of_inputs (paths_of_edges (edges_read entries))) n) (length-map (edges_read entries) (λ (e : EdgeText). e.paths))
           (subst (λ es. IsAcyclic (makers_of_inputs es) (length es)) holds.edges acyclic),
@@ -217,7 +224,7 @@ module _ (held : BuildingText) (entries : List ReadStatement) (holds : HoldsEdge
 
   pub cycle-fault : (n : ℕ) (d : Detail) (output : List ℕ) (fault : GraphFault) → n < length held.table.edges → slice_get ds n ≡ Some d
       → IsLeastOnCycle (makers_of_inputs held.table.edges) n → slice_get (outputs_of (edge_at held.table.edges n)) 0 ≡ Some output
-      → fault ≡ fault_at (path_at held.names d.file) d.spot (Cycle output) → IsCycleFault (edges_read entries) fault
+      → fault ≡ fault_at (text_at held.names d.file) (spot_of d) (Cycle output) → IsCycleFault (edges_read entries) fault
   cycle-fault n d output fault below at least first is =
       let found = get-some (edges_read entries) n (subst (λ m. n < m) edge-count below) in
       let detail = detail-at held.names ds (edges_read entries) n d found.0 all-details at found.1 in
@@ -228,5 +235,5 @@ module _ (held : BuildingText) (entries : List ReadStatement) (holds : HoldsEdge
         edge_is = found.1;
         least = subst (λ es. IsLeastOnCycle (makers_of_inputs es) n) holds.edges least;
         output_is = ap (λ (e : EdgePaths). slice_get (outputs_of e) 0) (sym (ap (λ es. edge_at es n) holds.edges ∙ paths-at (edges_read entries) n found.0 found.1)) ∙ first;
-        fault_is = is ∙ ap (λ file. fault_at file d.spot (Cycle output)) (ap (λ o. unwrap_or o []) detail.file) ∙ ap (λ spot. fault_at found.0.file spot (Cycle output)) detail.spot;
+        fault_is = is ∙ ap (λ file. fault_at file (spot_of d) (Cycle output)) (ap (λ o. unwrap_or o []) detail.file) ∙ ap (λ spot. fault_at found.0.file spot (Cycle output)) detail.spot;
       }

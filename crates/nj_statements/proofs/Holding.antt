@@ -21,21 +21,23 @@ use Rattle.nj_edges.specs.EdgeTables.{no_files}
 use Rattle.nj_edges.specs.Files.{AreFiles}
 use Rattle.nj_faults.specs.declared.fault.GraphFault.{GraphFault}
 use Rattle.nj_faults.specs.Faults.{IsFault}
-use Rattle.nj_statements.specs.EdgeList.{Values, Block, EdgeText, Pending, build_block, path_said, paths_said, edge_of_build, edges_read, defaults_read, dyndep_of, pending_at, pending_read, block_at, block_of_edge}
+use Rattle.nj_statements.specs.EdgeList.{Values, Block, EdgeText, Pending, build_block, path_said, paths_said, edge_of_build, edges_read, defaults_read, dyndep_of, pending_at, pending_read, block_at, block_of_edge, assigned_of, assigned_read}
 use Rattle.nj_statements.specs.declared.building.DyndepEdge.{DyndepEdge}
-use Rattle.nj_statements.specs.Answers.{BuildingText, ArePending, HoldsEdges, DetailText, IsDetail, AreDetails, ReadsStatement, HoldsReferences}
+use Rattle.nj_statements.specs.Answers.{BuildingText, ArePending, HoldsEdges, DetailText, IsDetail, AreDetails, IsAssigned, AreAssigned, ReadsStatement, HoldsReferences}
 use Rattle.nj_statements.specs.Inside.EdgeSteps.{IsFileSaid, with_dyndep, AddsEdge, AddsTargets}
+use Rattle.nj_statements.proofs.AssignedLemmas.{assigned-more}
 use Rattle.nj_statements.proofs.Lists.{get-longer}
 use Rattle.nj_statements.proofs.ReferenceLemmas.{references-none, references-longer}
 
 pub holds-none : (held : BuildingText) → held.table ≡ record { files = []; edges = []; «open» = no_files }
     → ((edge : ℕ) (name : List ℕ) → bound_in held.blocks edge name ≡ None) → held.details ≡ [] → held.defaults ≡ [] → held.dyndeps ≡ [] → held.references ≡ [] → HoldsEdges held []
-unfolding edges_read defaults_read pending_read
+unfolding edges_read defaults_read pending_read assigned_read
 holds-none held table blocks details defaults dyndeps references = record {
   edges = ap (λ t. t.edges) table;
   none_open = ap (λ t. t.«open») table;
   blocks = blocks;
   details = subst (λ ds. AreDetails held.names ds []) (sym details) tt;
+  assigned = subst (λ ds. AreAssigned held.names ds []) (sym details) tt;
   defaults = subst (λ ds. AreFiles held.table.files ds []) (sym defaults) refl;
   dyndeps = subst (λ ds. ArePending held.table.files ds []) (sym dyndeps) (record { edges_are = refl; files_are = refl });
   references = subst (λ kept. HoldsReferences kept (rule_texts [])) (sym references) (references-none (rule_texts []));
@@ -56,7 +58,7 @@ reads-err after expected e before (Ok x) f is h = absurd is
 
 -- ---- lists that grow
 
-get-prefix : {X : Type 0} (xs ys : List X) (i : ℕ) (x : X) → IsPrefix xs ys → slice_get xs i ≡ Some x → slice_get ys i ≡ Some x
+pub get-prefix : {X : Type 0} (xs ys : List X) (i : ℕ) (x : X) → IsPrefix xs ys → slice_get xs i ≡ Some x → slice_get ys i ≡ Some x
 get-prefix xs ys i x (more, is) h = subst (λ zs. slice_get zs i ≡ Some x) (sym is) (get-longer xs more i x h)
 
 files-longer : (files longer : List (List ℕ)) (ns : List FileNo) (paths : List (List ℕ)) → IsPrefix files longer → AreFiles files ns paths → AreFiles longer ns paths
@@ -105,12 +107,13 @@ pub holds-default : (old new : BuildingText) (e : ReadStatement) (before : List 
     → new.table ≡ old.table → new.blocks ≡ old.blocks → new.names ≡ old.names → new.details ≡ old.details
     → AddsTargets old.table.files old.defaults new.defaults (paths_said (value_after before (scope_of e)) words)
     → new.dyndeps ≡ old.dyndeps → new.references ≡ old.references → HoldsEdges new (record e { item = DefaultText words } ∷ before)
-unfolding edges_read defaults_read pending_read
+unfolding edges_read defaults_read pending_read assigned_read
 holds-default old new e before words holds table blocks names details adds dyndeps references = record {
   edges = ap (λ t. t.edges) table ∙ holds.edges;
   none_open = ap (λ t. t.«open») table ∙ holds.none_open;
   blocks = λ number name. ap (λ b. bound_in b number name) blocks ∙ holds.blocks number name;
   details = subst (λ ns. AreDetails ns new.details (edges_read before)) (sym names) (subst (λ ds. AreDetails old.names ds (edges_read before)) (sym details) holds.details);
+  assigned = subst (λ ns. AreAssigned ns new.details (assigned_read before)) (sym names) (subst (λ ds. AreAssigned old.names ds (assigned_read before)) (sym details) holds.assigned);
   defaults = subst (λ t. AreFiles t.files new.defaults (defaults_read before ++ paths_said (value_after before (scope_of e)) words)) (sym table)
       (subst (λ ns. AreFiles old.table.files ns (defaults_read before ++ paths_said (value_after before (scope_of e)) words)) (sym adds.after_is)
       (files-append old.table.files old.defaults adds.added (defaults_read before) (paths_said (value_after before (scope_of e)) words) holds.defaults adds.are));
@@ -132,7 +135,7 @@ details-more names longer [] [] d e grows are is = (is, tt)
 details-more names longer [] (f ∷ es) d e grows are is = absurd are
 details-more names longer (c ∷ ds) [] d e grows are is = absurd are
 details-more names longer (c ∷ ds) (f ∷ es) d e grows (of, are) is =
-    (record { file = get-prefix names longer c.file.0 f.file grows of.file; spot = of.spot; scope = of.scope; rule = of.rule }, details-more names longer ds es d e grows are is)
+    (record { file = get-prefix names longer c.file f.file grows of.file; spot = of.spot; scope = of.scope; rule = of.rule }, details-more names longer ds es d e grows are is)
 
 -- the blocks of one edge more
 abbrev bound-by : Option EdgeText → (name : List ℕ) → Option (List ℕ)
@@ -192,11 +195,11 @@ fresh e = record e { discovered = None }
 pub holds-build : (old new : BuildingText) (e : ReadStatement) (before : List ReadStatement) (outputs : OutputsText) (rule : NameText) (inputs : InputsText) (lines : List LineText) (d : DetailText) (dyndep : Option FileNo) → HoldsEdges old before
     → AddsEdge old.table new.table (edge_of_build (fresh e) before outputs rule inputs lines).paths
     → ((n : ℕ) (name : List ℕ) → bound_in new.blocks n name ≡ (if n == length old.details then option_or (build_block e before lines name) (bound_in old.blocks n name) else bound_in old.blocks n name))
-    → IsPrefix old.names new.names → new.details ≡ old.details ++ d ∷ [] → IsDetail new.names d (edge_of_build (fresh e) before outputs rule inputs lines) → new.defaults ≡ old.defaults
+    → IsPrefix old.names new.names → new.details ≡ old.details ++ d ∷ [] → IsDetail new.names d (edge_of_build (fresh e) before outputs rule inputs lines) → IsAssigned new.names d (assigned_of before (edge_of_build (fresh e) before outputs rule inputs lines)) → new.defaults ≡ old.defaults
     → new.dyndeps ≡ with_dyndep (length old.details) dyndep old.dyndeps → IsFileSaid new.table.files dyndep (dyndep_of before (edge_of_build (fresh e) before outputs rule inputs lines))
     → HoldsReferences new.references (rule_texts before) → HoldsEdges new (record e { item = BuildText outputs rule inputs lines; discovered = None } ∷ before)
-unfolding edges_read defaults_read pending_read
-holds-build old new e before outputs rule inputs lines d dyndep holds adds blocks names details is defaults dyndeps said references = record {
+unfolding edges_read defaults_read pending_read assigned_read
+holds-build old new e before outputs rule inputs lines d dyndep holds adds blocks names details is assigned defaults dyndeps said references = record {
   edges = adds.edges ∙ ap (λ es. es ++ edge.paths ∷ []) holds.edges ∙ sym (map-append (λ (x : EdgeText). x.paths) (edges_read before) (edge ∷ []));
   none_open = adds.none_open;
   blocks = λ n name.
@@ -205,6 +208,7 @@ holds-build old new e before outputs rule inputs lines d dyndep holds adds block
       ∙ ap (λ o. if n == length (edges_read before) then option_or (edge.block name) o else o) (holds.blocks n name)
       ∙ block-more (edges_read before) edge n name;
   details = subst (λ ds. AreDetails new.names ds (edges_read before ++ edge ∷ [])) (sym details) (details-more old.names new.names old.details (edges_read before) d edge names holds.details is);
+  assigned = subst (λ ds. AreAssigned new.names ds (assigned_read before ++ assigned_of before edge ∷ [])) (sym details) (assigned-more old.names new.names old.details (assigned_read before) d (assigned_of before edge) names holds.assigned assigned);
   defaults = subst (λ ns. AreFiles new.table.files ns (defaults_read before)) (sym defaults) (files-longer old.table.files new.table.files old.defaults (defaults_read before) adds.files holds.defaults);
   dyndeps = subst (λ n. ArePending new.table.files new.dyndeps (pending_read before ++ pending_at n None (dyndep_of before edge))) (details-count old.names old.details (edges_read before) holds.details)
       (subst (λ ds. ArePending new.table.files ds (pending_read before ++ pending_at (length old.details) None (dyndep_of before edge))) (sym dyndeps)
@@ -249,15 +253,15 @@ names_files (DefaultText words) = true
 names_files item = false
 
 holds-item : (held : BuildingText) (e : ReadStatement) (before : List ReadStatement) (item : StatementText) → names_files item ≡ false → HoldsEdges held before → HoldsEdges held (record e { item = item } ∷ before)
-unfolding edges_read defaults_read pending_read
-holds-item held e before (BindingText bound word) other holds = record { edges = holds.edges; none_open = holds.none_open; blocks = holds.blocks; details = holds.details; defaults = holds.defaults; dyndeps = holds.dyndeps; references = holds.references }
+unfolding edges_read defaults_read pending_read assigned_read
+holds-item held e before (BindingText bound word) other holds = record { edges = holds.edges; none_open = holds.none_open; blocks = holds.blocks; details = holds.details; assigned = holds.assigned; defaults = holds.defaults; dyndeps = holds.dyndeps; references = holds.references }
 holds-item held e before (RuleText declared lines) other holds =
-    record { edges = holds.edges; none_open = holds.none_open; blocks = holds.blocks; details = holds.details; defaults = holds.defaults; dyndeps = holds.dyndeps; references = references-longer held.references (rule_texts before) (record { scope = e.number; name = declared.name; lines = map line_kept lines } ∷ []) holds.references }
-holds-item held e before (PoolText declared lines) other holds = record { edges = holds.edges; none_open = holds.none_open; blocks = holds.blocks; details = holds.details; defaults = holds.defaults; dyndeps = holds.dyndeps; references = holds.references }
+    record { edges = holds.edges; none_open = holds.none_open; blocks = holds.blocks; details = holds.details; assigned = holds.assigned; defaults = holds.defaults; dyndeps = holds.dyndeps; references = references-longer held.references (rule_texts before) (record { scope = e.number; name = declared.name; lines = map line_kept lines } ∷ []) holds.references }
+holds-item held e before (PoolText declared lines) other holds = record { edges = holds.edges; none_open = holds.none_open; blocks = holds.blocks; details = holds.details; assigned = holds.assigned; defaults = holds.defaults; dyndeps = holds.dyndeps; references = holds.references }
 holds-item held e before (BuildText outputs rule inputs lines) other holds = absurd (true≢false other)
 holds-item held e before (DefaultText words) other holds = absurd (true≢false other)
-holds-item held e before (IncludeText word) other holds = record { edges = holds.edges; none_open = holds.none_open; blocks = holds.blocks; details = holds.details; defaults = holds.defaults; dyndeps = holds.dyndeps; references = holds.references }
-holds-item held e before (SubninjaText word) other holds = record { edges = holds.edges; none_open = holds.none_open; blocks = holds.blocks; details = holds.details; defaults = holds.defaults; dyndeps = holds.dyndeps; references = holds.references }
+holds-item held e before (IncludeText word) other holds = record { edges = holds.edges; none_open = holds.none_open; blocks = holds.blocks; details = holds.details; assigned = holds.assigned; defaults = holds.defaults; dyndeps = holds.dyndeps; references = holds.references }
+holds-item held e before (SubninjaText word) other holds = record { edges = holds.edges; none_open = holds.none_open; blocks = holds.blocks; details = holds.details; assigned = holds.assigned; defaults = holds.defaults; dyndeps = holds.dyndeps; references = holds.references }
 
 -- What is held is held still after a statement that names no files.
 pub holds-other : (held : BuildingText) (e : ReadStatement) (before : List ReadStatement) → names_files e.item ≡ false → HoldsEdges held before → HoldsEdges held (e ∷ before)

@@ -19,7 +19,7 @@ use Rattle.nj_edges.proofs.EdgeLemmas.{same-number}
 use Rattle.nj_faults.specs.declared.fault.GraphFault.{GraphFault}
 use Rattle.nj_faults.specs.declared.fault.Cause.TheVariants.{DyndepExtra, DyndepTwice, DyndepNoStatement}
 use Rattle.nj_faults.specs.Faults.{IsFault, fault_at}
-use Rattle.nj_statements.specs.declared.building.Detail.{Detail}
+use Rattle.nj_statements.specs.declared.detail.Detail.{Detail}
 use Rattle.nj_statements.specs.declared.building.DyndepEdge.{DyndepEdge}
 use Rattle.nj_statements.specs.EdgeList.{Pending, EdgeText, path_said, edges_read, paths_of_edges, pending_read}
 use Rattle.nj_statements.specs.BuildFaults.{fault_if, empty_path, first_fault, outputs_fault}
@@ -31,7 +31,7 @@ use Rattle.nj_statements.specs.Inside.JoiningSteps.{is_bound_to, count_waiting, 
 use Rattle.nj_statements.proofs.Lists.{get-longer}
 use Rattle.nj_statements.proofs.WaitingLemmas.{is_path, find-first, find-none, none-first, first-passes, still-at, still-length, still-map, still-changed, waits-at, without-one, count-removed, count-less}
 use Rattle.nj_statements.proofs.DiscoverLemmas.{defaults_read-discover}
-use Rattle.nj_statements.proofs.DiscoverEdges.{details-discover, block_at-discover, pending-discover, paths-discover, is_pending-from_waits}
+use Rattle.nj_statements.proofs.DiscoverEdges.{details-discover, assigned-discover, block_at-discover, pending-discover, paths-discover, is_pending-from_waits}
 
 -- ---- answers
 
@@ -195,6 +195,7 @@ module _ (table : JoinTable) (blocks : BlocksText) (names : List (List ℕ)) (de
           as_many_bound = held.as_many_bound ∙ sym (ap length keeps.stated);
           unchanged = λ n h. ap (λ (es : List EdgePaths). slice_get es n) keeps.joined ∙ held.unchanged n (ap (λ was. get_or was n false) (sym keeps.was_joined) ∙ h) ∙ ap (λ (es : List EdgePaths). slice_get es n) (sym keeps.stated);
           names_known = held.names_known;
+          assigned_known = held.assigned_known;
           defaults_known = all-below (λ (f : FileNo). f.0) (length table.files) (length after.files) rises defaults held.defaults_known;
           dyndep_files_known = all-below (λ (d : DyndepEdge). d.file.0) (length table.files) (length after.files) rises firsts held.dyndep_files_known;
           dyndep_edges_known = subst (λ (es : List EdgePaths). AllByRecursion (λ (d : DyndepEdge). d.edge < length es) firsts) (sym keeps.stated) held.dyndep_edges_known;
@@ -216,7 +217,7 @@ module _ (table : JoinTable) (blocks : BlocksText) (names : List (List ℕ)) (de
     pub joins-nothing : (b : JoiningText) → joining_of table blocks names details defaults firsts bound ≡ b → JoinsNothing b (joining_of after blocks names details defaults firsts bound)
     joins-nothing b is =
         subst (λ (h : JoiningText). JoinsNothing h (joining_of after blocks names details defaults firsts bound)) is
-        (record { edges = keeps; blocks = refl; details = refl; defaults = same-defaults; dyndep_files = same-firsts; bound = same-bound })
+        (record { edges = keeps; blocks = refl; details = refl; defaults = same-defaults; dyndep_files = same-firsts; bound = same-bound; assigned = refl })
 
   -- ---- with one
 
@@ -258,6 +259,7 @@ module _ (table : JoinTable) (blocks : BlocksText) (names : List (List ℕ)) (de
           let other = was-other edge table.was_joined n inside h in
           changed-other (with_added table.«open») edge table.joined n other.0 ∙ held.unchanged n other.1;
       names_known = held.names_known;
+      assigned_known = held.assigned_known;
       defaults_known = held.defaults_known;
       dyndep_files_known = held.dyndep_files_known;
       dyndep_edges_known = held.dyndep_edges_known;
@@ -495,6 +497,7 @@ module _ (table : JoinTable) (blocks : BlocksText) (names : List (List ℕ)) (de
             dyndep_files = same-firsts after keeps ∙ holds.dyndep_files;
             bound = holds.bound ∙ ap (pending_from 0) (sym (same-bound after keeps));
             waiting = waiting-after;
+            assigned = holds.assigned ∙ sym (assigned-discover edge found joined);
           }
 
 -- what is held after an entry, whose files were collected

@@ -1,5 +1,5 @@
 -- Lemmas on the faults of a rule's variables.
-use Rattle.std.proofs.Common.{◌≡◌, ℕ, ◌==◌, ◌||◌, Bool, true, false, not, List, [], ◌∷◌, length, Some, None, refl, sym, ap, subst, ◌∙◌, arith, true≢false}
+use Rattle.std.proofs.Common.{◌≡◌, ℕ, ◌==◌, ◌||◌, Bool, true, false, not, if◌then◌else◌, List, [], ◌∷◌, length, Some, None, refl, sym, ap, subst, ◌∙◌, arith, true≢false}
 use Rattle.std.proofs.lemmas.Bool.{ne_eqb}
 use Rattle.nj_text.specs.declared.spot.Spot.{Spot}
 use Rattle.nj_text.specs.Calls.{is_empty}
@@ -9,6 +9,7 @@ use Rattle.nj_faults.specs.declared.fault.GraphFault.{GraphFault}
 use Rattle.nj_faults.specs.declared.fault.Cause.TheVariants.{UnknownPool, DyndepNotInput}
 use Rattle.nj_faults.specs.Faults.{IsFault, fault_at}
 use Rattle.nj_edges.specs.Edges.{is_among}
+use Rattle.nj_statements.specs.EdgeList.{name_said}
 use Rattle.nj_statements.specs.BuildFaults.{fault_if, unknown_pool, dyndep_not_input}
 
 -- ---- the pool
@@ -38,6 +39,13 @@ module _ (file : List ℕ) (spot : Spot) (declared : List (List ℕ)) (said text
   pub pool-unknown : (f : GraphFault) → (length said == 0) ≡ false → is_pool declared said ≡ false → IsFault (Some fault) f → IsFault (unknown_pool file spot declared text) f
   pool-unknown f some unknown h =
       subst (λ o. IsFault o f) (sym (ap (unknown_pool file spot declared) (sym says) ∙ ap (λ b. fault_if (not (b || is_pool declared said)) fault) (something-said said some) ∙ ap (λ b. fault_if (not b) fault) unknown)) h
+
+  -- no pool is named, or this one
+  pub name-empty : (length said == 0) ≡ true → name_said text ≡ None
+  name-empty h = ap name_said (sym says) ∙ ap (λ b. if b then None else Some said) (nothing-said said h)
+
+  pub name-some : (length said == 0) ≡ false → name_said text ≡ Some said
+  name-some h = ap name_said (sym says) ∙ ap (λ b. if b then None else Some said) (something-said said h)
 
 -- ---- the dyndep file
 

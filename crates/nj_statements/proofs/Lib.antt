@@ -22,3 +22,4 @@ pub mod AddedLemmas
 pub mod JoiningLemmas
 pub mod StartLemmas
 pub mod JoiningRows
+pub mod AssignedLemmas

@@ -17,12 +17,12 @@ use Rattle.nj_edges.specs.Needs.{makers_of_inputs}
 use Rattle.nj_faults.specs.declared.fault.GraphFault.{GraphFault}
 use Rattle.nj_faults.specs.declared.fault.Cause.TheVariants.{Cycle}
 use Rattle.nj_faults.specs.Faults.{fault_at}
-use Rattle.nj_edges.specs.Files.{path_at}
 use Rattle.nj_edges.specs.Joining.{JoinTable, join_of}
-use Rattle.nj_statements.specs.declared.building.Detail.{Detail}
+use Rattle.nj_statements.specs.declared.detail.Detail.{Detail}
 use Rattle.nj_statements.specs.declared.building.DyndepEdge.{DyndepEdge}
 use Rattle.nj_statements.specs.EdgeList.{EdgeText, edge_of_build, edges_read, paths_of_edges, pending_at, dyndep_of, pending_read}
 use Rattle.nj_statements.specs.Built.{EdgeDetail, IsBuiltOf, IsCycleFault, detail_of}
+use Rattle.nj_statements.specs.Inside.Details.{text_at, spot_of}
 use Rattle.nj_statements.specs.Inside.BuiltHeld.{BuiltIsHeld, built_of, detail_named, pending_named}
 use Rattle.nj_statements.specs.Joining.{dyndep_files}
 use Rattle.nj_statements.specs.JoiningHeld.{pending_of, pending_from, HoldsJoined}
@@ -91,6 +91,7 @@ module _ (graph : EdgeGraph) (blocks : BlocksText) (names : List (List ℕ)) (de
     as_many_bound = bind-length dyndeps (replicate (length graph.edges) None) ∙ length-replicate (length graph.edges) None;
     unchanged = λ edge h. refl;
     names_known = held.names_known;
+    assigned_known = held.assigned_known;
     defaults_known = held.defaults_known;
     dyndep_files_known = firsts-all (λ (d : DyndepEdge). d.file.0 < length graph.files) dyndeps held.dyndep_files_known;
     dyndep_edges_known = firsts-all (λ (d : DyndepEdge). d.edge < length graph.edges) dyndeps held.dyndep_edges_known;
@@ -132,6 +133,7 @@ module _ (graph : EdgeGraph) (blocks : BlocksText) (names : List (List ℕ)) (de
       defaults = is.defaults;
       dyndep_files = firsts-named graph.files once dyndeps held.dyndep_files_known ∙ ap dyndep_files is.pending;
       bound = (awaited stated).1.are ∙ ap (pending_from 0) (sym named);
+      assigned = is.assigned;
       waiting = (awaited stated).1.are ∙ ap (pending_from 0) (sym named ∙ sym (still-all (map (file_named graph.files) (bind_all dyndeps (replicate (length graph.edges) None))) graph.edges));
     }
 
@@ -157,6 +159,7 @@ module _ (table : JoinTable) (blocks : BlocksText) (names : List (List ℕ)) (de
       blocks = holds.blocks;
       defaults = ap (λ (v : EdgeGraph). paths_at v.files defaults) finishes.0 ∙ holds.defaults;
       pending = ap (map (pending_named g.files)) empty ∙ sym none;
+      assigned = holds.assigned;
     },
     subst (λ n. IsAcyclic (makers_of_inputs (paths_of_edges (edges_read joined))) n) (length-map (edges_read joined) (λ (e : EdgeText). e.paths))
         (subst (λ es. IsAcyclic (makers_of_inputs es) (length es)) holds.joined_paths finishes.1),
@@ -164,7 +167,7 @@ module _ (table : JoinTable) (blocks : BlocksText) (names : List (List ℕ)) (de
 
   pub joined-cycle : (n : ℕ) (d : Detail) (output : List ℕ) (fault : GraphFault) → n < length table.joined → slice_get details n ≡ Some d
       → IsLeastOnCycle (makers_of_inputs table.joined) n → slice_get (outputs_of (edge_at table.joined n)) 0 ≡ Some output
-      → fault ≡ fault_at (path_at names d.file) d.spot (Cycle output) → IsCycleFault (edges_read joined) fault
+      → fault ≡ fault_at (text_at names d.file) (spot_of d) (Cycle output) → IsCycleFault (edges_read joined) fault
   joined-cycle n d output fault below at least first is =
       let found = get-some (edges_read joined) n (subst (λ m. n < m) edge-count below) in
       let detail : detail_named names d ≡ detail_of found.0 =

@@ -15,7 +15,7 @@ use Rattle.nj_faults.specs.declared.fault.PlaceRef.{PlaceRef}
 use Rattle.nj_faults.specs.Faults.{IsFault}
 use Rattle.nj_edge_env.specs.ReferencesHeld.{ReferringKeyText, TellsCycles}
 use Rattle.nj_statements.specs.declared.building.DyndepEdge.{DyndepEdge}
-use Rattle.nj_statements.specs.EdgeList.{EdgeText, Pending, edges_read, paths_of_edges, defaults_read, pending_read, block_at}
+use Rattle.nj_statements.specs.EdgeList.{EdgeText, Pending, AssignedText, edges_read, paths_of_edges, defaults_read, pending_read, block_at, assigned_read}
 
 -- ---- faults
 
@@ -46,15 +46,18 @@ HoldsReferences kept rules =
 
 -- an edge, without its paths and its block
 pub record DetailText : Type 0 where
-  pub file : FileNo
+  pub file : ℕ
   pub spot : Spot
   pub scope : ℕ
   pub rule : ℕ
+  -- the numbers of its pool and of the path of its dyndep file
+  pub pool : ℕ
+  pub dyndep : ℕ
 
 pub record BuildingText : Type 0 where
   pub table : EdgeTable
   pub blocks : BlocksText
-  -- the names of files in which edges stand
+  -- the names of files in which edges stand and of pools, and the paths of dyndep files
   pub names : List (List ℕ)
   pub details : List DetailText
   pub defaults : List FileNo
@@ -64,7 +67,7 @@ pub record BuildingText : Type 0 where
   pub references : List (Option (List ReferringKeyText))
 
 pub record IsDetail (names : List (List ℕ)) (d : DetailText) (e : EdgeText) : Type 0 where
-  pub file : slice_get names d.file.0 ≡ Some e.file
+  pub file : slice_get names d.file ≡ Some e.file
   pub spot : d.spot ≡ e.spot
   pub scope : d.scope ≡ e.number
   pub rule : d.rule ≡ e.rule
@@ -73,6 +76,19 @@ abbrev pub AreDetails : (names : List (List ℕ)) → List DetailText → List E
 AreDetails names [] [] = Unit {0}
 AreDetails names (d ∷ details) (e ∷ edges) = IsDetail names d e × AreDetails names details edges
 AreDetails names details edges = ⊥
+
+-- texts by numbers that count from 1; 0 is none
+abbrev pub numbered : (texts : List (List ℕ)) → List (Option (List ℕ))
+numbered texts = None ∷ map Some texts
+
+pub record IsAssigned (names : List (List ℕ)) (d : DetailText) (a : AssignedText) : Type 0 where
+  pub pool : slice_get (numbered names) d.pool ≡ Some a.pool
+  pub dyndep : slice_get (numbered names) d.dyndep ≡ Some a.dyndep
+
+abbrev pub AreAssigned : (names : List (List ℕ)) → List DetailText → List AssignedText → Type 0
+AreAssigned names [] [] = Unit {0}
+AreAssigned names (d ∷ details) (a ∷ assigned) = IsAssigned names d a × AreAssigned names details assigned
+AreAssigned names details assigned = ⊥
 
 -- these edges, by number, with the numbers of these files
 pub record ArePending (files : List (List ℕ)) (held : List DyndepEdge) (expected : List Pending) : Type 0 where
@@ -85,6 +101,7 @@ pub record HoldsEdges (held : BuildingText) (entries : List ReadStatement) : Typ
   pub none_open : held.table.«open» ≡ no_files
   pub blocks : (number : ℕ) (name : List ℕ) → bound_in held.blocks number name ≡ block_at (edges_read entries) number name
   pub details : AreDetails held.names held.details (edges_read entries)
+  pub assigned : AreAssigned held.names held.details (assigned_read entries)
   pub defaults : AreFiles held.table.files held.defaults (defaults_read entries)
   pub dyndeps : ArePending held.table.files held.dyndeps (pending_read entries)
   pub references : HoldsReferences held.references (rule_texts entries)

@@ -10,7 +10,7 @@ use Rattle.nj_edges.specs.Needs.{makers_of_inputs}
 use Rattle.nj_faults.specs.declared.fault.GraphFault.{GraphFault}
 use Rattle.nj_faults.specs.declared.fault.Cause.TheVariants.{Cycle}
 use Rattle.nj_faults.specs.Faults.{fault_at, no_memory}
-use Rattle.nj_statements.specs.EdgeList.{EdgeText, Pending, edges_read, paths_of_edges, defaults_read, pending_read, block_at}
+use Rattle.nj_statements.specs.EdgeList.{EdgeText, Pending, AssignedText, edges_read, paths_of_edges, defaults_read, pending_read, block_at, assigned_read}
 
 -- An edge without its paths and its block: the file of its build statement, by the name under which it was opened, the place
 -- of its first byte there, the number of its scope, and that of its rule.
@@ -29,6 +29,8 @@ pub record BuiltText : Type 0 where
   pub defaults : List (List ℕ)
   -- the edges to which dyndep files are still to be joined
   pub pending : List Pending
+  -- what is assigned to each edge
+  pub assigned : List AssignedText
 
 -- the detail of the edge of a number; past the last edge there is none
 abbrev pub detail_at : List EdgeDetail → (number : ℕ) → EdgeDetail
@@ -53,6 +55,7 @@ pub record IsBuiltOf (built : BuiltText) (entries : List ReadStatement) : Type 0
   pub blocks : (number : ℕ) (name : List ℕ) → bound_in built.blocks number name ≡ block_at (edges_read entries) number name
   pub defaults : built.defaults ≡ defaults_read entries
   pub pending : built.pending ≡ pending_read entries
+  pub assigned : built.assigned ≡ assigned_read entries
 
 -- The fault of a dependency cycle: at the statement of the edge of the smallest number that lies on one itself, with the first
 -- output of that edge. An edge that only leads into a cycle does not lie on it.

@@ -1,6 +1,6 @@
 -- The edges of a run: one for each build statement, in reading order.
 use Rattle.std.specs.Prelude.{ℕ, ◌==◌, Bool, ◌&&◌, not, if◌then◌else◌, Option, option_map, unwrap_or, Some, None, List}
-use Rattle.std.specs.Prelude.{[], ◌∷◌, ◌++◌, map, length, slice_get, codes}
+use Rattle.std.specs.Prelude.{[], ◌∷◌, ◌++◌, map, length, slice_get, slice_index_or, codes}
 use Rattle.std.specs.List.{filter}
 use Rattle.nj_text.specs.declared.spot.Spot.{Spot}
 use Rattle.nj_text.specs.Words.{WordText}
@@ -194,3 +194,35 @@ with_pending e before item others = others
 unfoldable pub pending_read : List ReadStatement → List Pending
 pending_read [] = []
 pending_read (e ∷ before) = with_pending e before e.item (pending_read before)
+
+-- ---- pools and dyndep files
+
+-- an empty text names no pool
+abbrev pub name_said : (text : List ℕ) → Option (List ℕ)
+name_said text = if is_empty text then None else Some text
+
+-- the pool of an edge, by its name: what the variable says at its build statement
+abbrev pub pool_of : (before : List ReadStatement) → EdgeText → Option (List ℕ)
+pool_of before edge = name_said (asked_text (names_of_edge before edge) (codes "pool"))
+
+-- What is assigned to an edge at its build statement: a pool, by its name, and a dyndep file, by its clean path.
+pub record AssignedText : Type 0 where
+  pub pool : Option (List ℕ)
+  pub dyndep : Option (List ℕ)
+
+abbrev pub assigned_of : (before : List ReadStatement) → EdgeText → AssignedText
+assigned_of before edge = record { pool = pool_of before edge; dyndep = dyndep_of before edge }
+
+abbrev pub with_assigned : ReadStatement → (before : List ReadStatement) → StatementText → List AssignedText → List AssignedText
+with_assigned e before (BuildText outputs rule inputs lines) others =
+    others ++ assigned_of before (edge_of_build e before outputs rule inputs lines) ∷ []
+with_assigned e before item others = others
+
+-- what is assigned to each edge, by number; that a dyndep file was joined to an edge changes nothing of it
+unfoldable pub assigned_read : List ReadStatement → List AssignedText
+assigned_read [] = []
+assigned_read (e ∷ before) = with_assigned e before e.item (assigned_read before)
+
+-- what is assigned to the edge of a number; past the last edge it is nothing
+abbrev pub assigned_at : List AssignedText → (number : ℕ) → AssignedText
+assigned_at assigned number = slice_index_or assigned number (record { pool = None; dyndep = None })

@@ -7,7 +7,7 @@ use Rattle.nj_scope.specs.ReadingList.{ReadStatement}
 use Rattle.nj_edge_env.specs.Blocks.{BlocksText, bound_in}
 use Rattle.nj_edges.specs.Joining.{JoinTable, none_added}
 use Rattle.nj_faults.specs.declared.fault.GraphFault.{GraphFault}
-use Rattle.nj_statements.specs.EdgeList.{Pending, edges_read, paths_of_edges, defaults_read, pending_read, block_at}
+use Rattle.nj_statements.specs.EdgeList.{Pending, AssignedText, edges_read, paths_of_edges, defaults_read, pending_read, block_at, assigned_read}
 use Rattle.nj_statements.specs.Built.{EdgeDetail, detail_of}
 use Rattle.nj_statements.specs.Joining.{dyndep_files}
 use Rattle.nj_faults.specs.Faults.{IsFault}
@@ -65,6 +65,8 @@ pub record JoiningText : Type 0 where
   pub dyndep_files : List Pending
   -- of each edge the dyndep file to which it is bound
   pub bound : List (Option (List ℕ))
+  -- what is assigned to each edge
+  pub assigned : List AssignedText
 
 -- It holds the edges and defaults of the joined statements, the edges of the statements as they were read, and which edges wait.
 pub record HoldsJoined (held : JoiningText) (stated joined : List ReadStatement) : Type 0 where
@@ -78,6 +80,7 @@ pub record HoldsJoined (held : JoiningText) (stated joined : List ReadStatement)
   pub dyndep_files : held.dyndep_files ≡ dyndep_files (pending_read stated)
   pub bound : pending_read stated ≡ pending_from 0 held.bound
   pub waiting : pending_read joined ≡ waiting_from 0 held.bound held.table.was_joined
+  pub assigned : held.assigned ≡ assigned_read joined
 
 -- Nothing is joined to an edge: the edges are as they were, and so is what they wait for. Files may be new, which keep the
 -- numbers of the others, and what an entry adds may be collected in part.
@@ -88,6 +91,7 @@ pub record JoinsNothing (before after : JoiningText) : Type 0 where
   pub defaults : after.defaults ≡ before.defaults
   pub dyndep_files : after.dyndep_files ≡ before.dyndep_files
   pub bound : after.bound ≡ before.bound
+  pub assigned : after.assigned ≡ before.assigned
 
 -- the entry has no fault and is joined, or its fault is answered
 abbrev pub JoinsEntry : (after : JoiningText) → Option GraphFault → (stated joined : List ReadStatement) → Result (Unit {0}) GraphFault → Type 0

@@ -16,27 +16,19 @@ ghost use Rattle.nj_statements.specs.Inside.EdgeSteps.{SeesNames, AddsTargets, w
 
 use crate::block::bind_block;
 use crate::context::Context;
+use crate::detail::Detail;
 use crate::edge::add_edge;
 use crate::references::{UsedRule, keep_references, rule_references};
 use crate::room::Room;
+use crate::text_table::Texts;
 use nj_edge_env::{Blocks, KeyReferences};
-use nj_edges::{Edges, FileNo, Files};
+use nj_edges::{Edges, FileNo};
 use nj_faults::{Cause, GraphFault, Name, PlaceRef};
 use nj_manifest::Build;
 use nj_scope::{Declarations, HashKeys, PHONY};
-use nj_text::{Spot, Word};
+use nj_text::Word;
 use std::alloc::Global;
 use std::marker::Model;
-
-// An edge without its paths and its block: the file in which its statement stands, its place there,
-// the numbers of its scope and of its rule.
-#[derive(Clone, Copy)]
-pub(crate) struct Detail {
-    pub(crate) file: FileNo,
-    pub(crate) spot: Spot,
-    pub(crate) scope: usize,
-    pub(crate) rule: usize,
-}
 
 // An edge that is bound to a dyndep file ("Dynamic Dependencies" in the Ninja manual).
 #[derive(Clone, Copy)]
@@ -51,7 +43,7 @@ pub(crate) struct DyndepEdge {
 pub struct Building {
     pub(crate) edges: Edges,
     pub(crate) block_values: Blocks,
-    pub(crate) names: Files,
+    pub(crate) names: Texts,
     pub(crate) details: Vec<Detail>,
     pub(crate) defaults: Vec<FileNo>,
     pub(crate) dyndeps: Vec<DyndepEdge>,
@@ -88,7 +80,7 @@ impl Building {
         Building {
             edges: Edges::new(alloc, keys),
             block_values: Blocks::new(alloc, keys),
-            names: Files::new(alloc, keys),
+            names: Texts::new(alloc, keys),
             details: Vec::new(alloc),
             defaults: Vec::new(alloc),
             dyndeps: Vec::new(alloc),
@@ -173,7 +165,8 @@ impl Building {
         // Room is made first, so that nothing can fail once the edge is there.
         self.details.reserve(1)?;
         self.dyndeps.reserve(1)?;
-        let file = self.names.name(place.file)?;
+        let file = self.names.file(place.file)?;
+        let detail = Detail::new(file, place.spot, scope, rule.number)?;
         keep_references(alloc, &mut self.references, rule)?;
         bind_block(
             &mut self.block_values,
@@ -192,21 +185,17 @@ impl Building {
             edge,
         };
         let references = rule_references(&self.references, rule.number);
-        let dyndep = add_edge(
+        let assigned = add_edge(
             context,
             &mut self.room,
             &mut self.edges,
+            &mut self.names,
             build,
             rule,
             references,
         )?;
-        push_dyndep(&mut self.dyndeps, edge, dyndep);
-        self.details.push_reserved(Detail {
-            file,
-            spot: place.spot,
-            scope,
-            rule: rule.number,
-        });
+        push_dyndep(&mut self.dyndeps, edge, assigned.file);
+        self.details.push_reserved(detail.with(assigned));
         Ok(())
     }
 

@@ -1,15 +1,19 @@
 //! The edges and defaults of a run, after its last statement.
 
-ghost use Rattle.std.specs.Prelude.{◌≡◌, List, ◌<◌, Some, length, All};
+ghost use Rattle.std.specs.Prelude.{◌≡◌, List, ◌<◌, Some, option_copied, length, All};
 ghost use Rattle.nj_scope.specs.ReadingList.{ReadStatement};
-ghost use Rattle.nj_edges.specs.Files.{path_at, AreFiles};
+ghost use Rattle.nj_edges.specs.Files.{AreFiles};
 ghost use Rattle.nj_faults.specs.Faults.{IsFault, fault_at};
+ghost use Rattle.nj_statements.specs.EdgeList.{assigned_at};
 ghost use Rattle.nj_statements.specs.Answers.{HoldsEdges};
 ghost use Rattle.nj_statements.specs.Built.{ComesTo, defaults_in_force, detail_at};
+ghost use Rattle.nj_statements.specs.Inside.Details.{text_at, spot_of};
 
-use crate::building::{Building, Detail, DyndepEdge};
+use crate::building::{Building, DyndepEdge};
+use crate::detail::Detail;
+use crate::text_table::Texts;
 use nj_edge_env::Blocks;
-use nj_edges::{EdgeGraph, EdgeNo, FileNo, Files, Finished};
+use nj_edges::{EdgeGraph, EdgeNo, FileNo, Finished};
 use nj_faults::{Cause, GraphFault, Name, PlaceRef};
 use std::alloc::Global;
 use std::marker::Model;
@@ -28,7 +32,7 @@ pub struct EdgeDetail<'a> {
 pub struct Built {
     pub(crate) graph: EdgeGraph,
     pub(crate) blocks: Blocks,
-    pub(crate) names: Files,
+    pub(crate) names: Texts,
     pub(crate) details: Vec<Detail>,
     pub(crate) defaults: Vec<FileNo>,
     // the edges to which dyndep files are still to be joined
@@ -90,23 +94,23 @@ impl Building {
 }
 
 // The fault of a cycle at the statement of this edge, with this output of it.
-pub(crate) fn cycle_fault(alloc: Global, names: &Files, detail: Detail, output: Name) -> GraphFault
-    requires { detail.file.0 < length names.now }
-    ensures { IsFault (Some (fault_at (path_at names.now detail.file) detail.spot
+pub(crate) fn cycle_fault(alloc: Global, names: &Texts, detail: Detail, output: Name) -> GraphFault
+    requires { detail.file < length names.now }
+    ensures { IsFault (Some (fault_at (text_at names.now detail.file) (spot_of detail)
         (Cause.Cycle output))) result }
 {
     place_of(names, detail).fault(alloc, Cause::Cycle(output))
 }
 
 // The place of the build statement of this edge.
-pub(crate) fn place_of(names: &Files, detail: Detail) -> PlaceRef<'_>
-    requires { detail.file.0 < length names.now }
-    ensures file { result.file.now ≡ path_at names.now detail.file }
-    ensures spot { result.spot ≡ detail.spot }
+pub(crate) fn place_of(names: &Texts, detail: Detail) -> PlaceRef<'_>
+    requires { detail.file < length names.now }
+    ensures file { result.file.now ≡ text_at names.now detail.file }
+    ensures spot { result.spot ≡ spot_of detail }
 {
     PlaceRef {
-        file: names.path(detail.file),
-        spot: detail.spot,
+        file: names.text(detail.file),
+        spot: detail.spot(),
     }
 }
 
@@ -136,9 +140,27 @@ impl Built {
         let detail = self.details[edge.0];
         EdgeDetail {
             place: place_of(&self.names, detail),
-            scope: detail.scope,
-            rule: detail.rule,
+            scope: detail.scope as usize,
+            rule: detail.rule as usize,
         }
+    }
+
+    /// The pool of an edge, by its name: what `pool` said at its build statement ("Pools" in the
+    /// Ninja manual). `None` if that was nothing.
+    pub fn pool(&self, edge: EdgeNo) -> Option<&[u8]>
+        requires { edge.0 < length self.now.graph.edges }
+        ensures { option_copied result ≡ (assigned_at self.now.assigned edge.0).pool }
+    {
+        self.names.numbered(self.details[edge.0].pool)
+    }
+
+    /// The dyndep file of an edge, by its clean path: what `dyndep` said at its build statement
+    /// ("Dynamic Dependencies" in the Ninja manual). `None` if that was nothing.
+    pub fn dyndep(&self, edge: EdgeNo) -> Option<&[u8]>
+        requires { edge.0 < length self.now.graph.edges }
+        ensures { option_copied result ≡ (assigned_at self.now.assigned edge.0).dyndep }
+    {
+        self.names.numbered(self.details[edge.0].dyndep)
     }
 
     /// The defaults in force: the files of the `default` lines in their order, or the roots where

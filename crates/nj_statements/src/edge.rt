@@ -5,6 +5,7 @@ ghost use Rattle.std.specs.Option.{option_or};
 ghost use Rattle.nj_text.specs.Words.{word_text};
 ghost use Rattle.nj_manifest.specs.Contents.{words_text, outputs_text, inputs_text};
 ghost use Rattle.nj_scope.specs.ReadingList.{value_after, pools};
+ghost use Rattle.nj_scope.specs.Readings.{IsPrefix};
 ghost use Rattle.nj_edges.specs.Edges.{inputs_of};
 ghost use Rattle.nj_edges.specs.EdgeTables.{no_files, EndWithin, edge_read};
 ghost use Rattle.nj_edge_env.specs.LateEdges.{late_names};
@@ -13,11 +14,14 @@ ghost use Rattle.nj_edge_env.specs.ReferencesHeld.{TellsCycles};
 ghost use Rattle.nj_statements.specs.EdgeList.{Values, path_said, paths_said, stated_paths, loses_own, edge_paths, file_said};
 ghost use Rattle.nj_statements.specs.BuildFaults.{empty_path, first_fault, target_fault, outputs_fault, inputs_fault, paths_fault, names_fault};
 ghost use Rattle.nj_statements.specs.Answers.{Checks, KeepsRead};
-ghost use Rattle.nj_statements.specs.Inside.EdgeSteps.{SeesNames, IsFileSaid, bound_by, Grows, AddsInputs, AddsEdge, names_read, with_outputs, with_input_unless, with_inputs, with_validations};
+ghost use Rattle.nj_statements.specs.Inside.Details.{AreNumbersOf};
+ghost use Rattle.nj_statements.specs.Inside.EdgeSteps.{SeesNames, IsFileSaid, assigned_by, bound_by, Grows, AddsInputs, AddsEdge, names_read, with_outputs, with_input_unless, with_inputs, with_validations};
 
 use crate::context::Context;
+use crate::detail::Assigned;
 use crate::references::{PHONY, UsedRule};
 use crate::room::Room;
+use crate::text_table::Texts;
 use nj_edge_env::{KeyReferences, LateEdge};
 use nj_edges::{Edges, FileNo, KindEnds};
 use nj_faults::{Cause, GraphFault, Name};
@@ -255,17 +259,17 @@ fn late_edge<'a>(
     }
 }
 
-/// Reads a build statement as an edge, which is then the last one. Returns its dyndep file, if it
-/// is bound to one.
+/// Reads a build statement as an edge, which is then the last one. Returns what is assigned to it.
 #[tactic(auto, using(crate::proofs::Keeps::keeps_same))]
 pub(crate) fn add_edge(
     context: Context<'_>,
     room: &mut Room,
     edges: &mut Edges,
+    texts: &mut Texts,
     build: &Build<'_>,
     rule: UsedRule<'_>,
     references: &KeyReferences,
-) -> Result<Option<FileNo>, GraphFault>
+) -> Result<Assigned, GraphFault>
     ensures fault { (values : Values) (sees : SeesNames context.entry values)
         → edges.old.«open» ≡ no_files
         → TellsCycles rule.entry.rule.now.lines references.now
@@ -284,17 +288,25 @@ pub(crate) fn add_edge(
         → edges.old.«open» ≡ no_files
         → let paths = edge_paths (stated_paths values (outputs_text build.now)
         (inputs_text build.now) (rule.entry.number == 0)) in
-        IfOk result (λ file. IsFileSaid edges.new.files file (file_said (asked_text
+        IfOk result (λ a. IsFileSaid edges.new.files a.file (file_said (asked_text
         (names_read paths (bound_by context.entry) rule.entry.rule.now
         (value_after sees.entries (context.entry.scope ∷ sees.around))) (codes "dyndep")))) }
+    ensures assigned { (values : Values) (sees : SeesNames context.entry values)
+        → edges.old.«open» ≡ no_files
+        → let paths = edge_paths (stated_paths values (outputs_text build.now)
+        (inputs_text build.now) (rule.entry.number == 0)) in
+        IfOk result (λ a. AreNumbersOf texts.new a (assigned_by
+        (names_read paths (bound_by context.entry) rule.entry.rule.now
+        (value_after sees.entries (context.entry.scope ∷ sees.around))))) }
+    ensures grows { IsPrefix texts.old texts.new }
     ensures refused { OnErr result (KeepsRead edges.old edges.new) }
 {
     let is_phony = rule.number == PHONY;
     let kinds = add_files(context, room, edges, build, is_phony)?;
     let edge = late_edge(context, edges, kinds, rule);
-    let dyndep = context.check_late(edge, room, edges, references)?;
+    let assigned = context.check_late(edge, room, edges, texts, references)?;
     edges.end_edge(kinds, is_phony)?;
-    Ok(dyndep)
+    Ok(assigned)
 }
 
 // Whether the edge of a build statement loses the inputs that are its own output.

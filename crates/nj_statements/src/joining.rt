@@ -20,11 +20,13 @@ ghost use Rattle.nj_statements.specs.Answers.{Checks};
 ghost use Rattle.nj_statements.specs.JoiningHeld.{HoldsJoined, JoinsEntry, JoinsNothing, KeepsEdges, has_pending, still_waiting};
 ghost use Rattle.nj_statements.specs.Inside.JoiningSteps.{IsMeant, fault_of_waiting, bind_all, first_edges, count_bound, is_bound_to, if_bound, maker_fault, edge_bound, with_added_outputs, with_added_inputs};
 
-use crate::building::{Detail, DyndepEdge};
+use crate::building::DyndepEdge;
 use crate::built::{Built, cycle_fault, place_of};
+use crate::detail::Detail;
 use crate::room::Room;
+use crate::text_table::Texts;
 use nj_edge_env::Blocks;
-use nj_edges::{EdgeNo, FileNo, Files, Finished, JoiningEdges};
+use nj_edges::{EdgeNo, FileNo, Finished, JoiningEdges};
 use nj_faults::{Cause, GraphFault, Name, PlaceRef};
 use nj_manifest::{Entry, Word};
 use nj_text::{Spot, TextFault};
@@ -46,7 +48,7 @@ pub struct DyndepFile<'a> {
 pub struct Joining {
     edges: JoiningEdges,
     blocks: Blocks,
-    names: Files,
+    names: Texts,
     details: Vec<Detail>,
     defaults: Vec<FileNo>,
     // the dyndep files, each with its first edge

@@ -1,16 +1,20 @@
 //! What is wrong with the edge that is being read by the variables of its rule.
 
-ghost use Rattle.std.specs.Prelude.{◌≡◌, List, false, codes, IfOk, OnOk};
+ghost use Rattle.std.specs.Prelude.{◌≡◌, ◌<◌, List, Some, false, codes, length, slice_get, IfOk, IfSome, OnOk};
 ghost use Rattle.nj_edge_env.specs.LateTexts.{LateNames, asked_text};
 ghost use Rattle.nj_edge_env.specs.ReferencesHeld.{TellsCycles};
 ghost use Rattle.nj_scope.specs.ReadingList.{ReadStatement, pools};
 ghost use Rattle.nj_statements.specs.BuildFaults.{variable_cycle_fault, unknown_pool, dyndep_not_input, names_fault};
-ghost use Rattle.nj_statements.specs.EdgeList.{file_said};
-ghost use Rattle.nj_statements.specs.Answers.{Checks};
-ghost use Rattle.nj_statements.specs.Inside.EdgeSteps.{SeesLate, IsFileSaid};
+ghost use Rattle.nj_scope.specs.Readings.{IsPrefix};
+ghost use Rattle.nj_statements.specs.EdgeList.{file_said, name_said};
+ghost use Rattle.nj_statements.specs.Answers.{Checks, numbered};
+ghost use Rattle.nj_statements.specs.Inside.Details.{AreNumbersOf};
+ghost use Rattle.nj_statements.specs.Inside.EdgeSteps.{SeesLate, IsFileSaid, assigned_by};
 
 use crate::context::Context;
+use crate::detail::Assigned;
 use crate::room::Room;
+use crate::text_table::{Texts, path_number};
 use nj_edge_env::{KeyReferences, LateEdge};
 use nj_edges::{Edges, FileNo};
 use nj_faults::{Cause, GraphFault, Name};
@@ -18,15 +22,16 @@ use nj_text::TextFault;
 use std::alloc::AllocError;
 
 impl Context<'_> {
-    /// Checks the variables of the rule, then the pool, then the dyndep file, which is returned if
-    /// the edge is bound to one.
+    /// Checks the variables of the rule, then the pool, then the dyndep file. Returns what is
+    /// assigned to the edge.
     pub(crate) fn check_late(
         self,
         edge: LateEdge<'_>,
         room: &mut Room,
         edges: &Edges,
+        texts: &mut Texts,
         references: &KeyReferences,
-    ) -> Result<Option<FileNo>, GraphFault>
+    ) -> Result<Assigned, GraphFault>
         ensures fault { (entries : List ReadStatement) (n : LateNames)
             → SeesLate edge.entry entries n
             → TellsCycles n.lines references.now
@@ -34,12 +39,18 @@ impl Context<'_> {
             edges.now.«open».inputs n) result }
         ensures file { (entries : List ReadStatement) (n : LateNames)
             → SeesLate edge.entry entries n
-            → IfOk result (λ file. IsFileSaid edges.now.files file
+            → IfOk result (λ a. IsFileSaid edges.now.files a.file
             (file_said (asked_text n (codes "dyndep")))) }
+        ensures assigned { (entries : List ReadStatement) (n : LateNames)
+            → SeesLate edge.entry entries n
+            → IfOk result (λ a. AreNumbersOf texts.new a (assigned_by n)) }
+        ensures grows { IsPrefix texts.old texts.new }
     {
         self.check_cycle(edge, references)?;
-        self.check_pool(edge, &mut room.text)?;
-        self.check_dyndep(edge, room, edges)
+        let pool = self.check_pool(edge, &mut room.text, texts)?;
+        let file = self.check_dyndep(edge, room, edges)?;
+        let dyndep = path_number(texts, edges.files(), file)?;
+        Ok(Assigned { pool, dyndep, file })
     }
 
     // Refuses a variable of the rule that refers back to itself.
@@ -59,17 +70,33 @@ impl Context<'_> {
         }
     }
 
-    // Refuses a pool that no earlier statement declares; `text` is room for its name.
-    fn check_pool(self, edge: LateEdge<'_>, text: &mut Vec<u8>) -> Result<(), GraphFault>
-        ensures { (entries : List ReadStatement) (n : LateNames)
+    // Refuses a pool that no earlier statement declares; `text` is room for its name. Returns its
+    // number.
+    #[tactic(auto, using(crate::proofs::AssignedLemmas::prefix_same))]
+    fn check_pool(
+        self,
+        edge: LateEdge<'_>,
+        text: &mut Vec<u8>,
+        texts: &mut Texts,
+    ) -> Result<u32, GraphFault>
+        ensures fault { (entries : List ReadStatement) (n : LateNames)
             → SeesLate edge.entry entries n
             → Checks (unknown_pool self.entry.place.file.now self.entry.place.spot (pools entries)
             (asked_text n (codes "pool"))) result }
+        ensures number { (entries : List ReadStatement) (n : LateNames)
+            → SeesLate edge.entry entries n
+            → IfOk result (λ number. slice_get (numbered texts.new) number
+            ≡ Some (name_said (asked_text n (codes "pool")))) }
+        ensures grows { IsPrefix texts.old texts.new }
     {
         say(edge, text, b"pool")?;
         let pool = text.as_slice();
-        if pool.is_empty() || edge.declarations.has_pool(pool) {
-            return Ok(());
+        if pool.is_empty() {
+            return Ok(0);
+        }
+        if edge.declarations.has_pool(pool) {
+            let number = texts.number(pool)?;
+            return Ok(number);
         }
         let cause = Cause::UnknownPool(Name::new(self.alloc, pool)?);
         Err(self.place.fault(self.alloc, cause))
@@ -90,6 +117,7 @@ impl Context<'_> {
             → SeesLate edge.entry entries n
             → IfOk result (λ file. IsFileSaid edges.now.files file
             (file_said (asked_text n (codes "dyndep")))) }
+        ensures known { IfOk result (λ file. IfSome file (λ f. f.0 < length edges.now.files)) }
     {
         say(edge, &mut room.text, b"dyndep")?;
         let path = match room.clean_path() {

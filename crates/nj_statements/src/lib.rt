@@ -5,6 +5,7 @@ mod block;
 mod building;
 mod built;
 mod context;
+mod detail;
 mod edge;
 mod joining;
 mod late;
@@ -12,6 +13,7 @@ mod laws;
 mod names;
 mod references;
 mod room;
+mod text_table;
 
 pub use building::Building;
 pub use built::{Built, EdgeDetail};

@@ -6,13 +6,17 @@ use Rattle.nj_edges.specs.declared.files.FileNo.{FileNo}
 use Rattle.nj_edges.specs.EdgeGraphs.{EdgeGraph}
 use Rattle.nj_edges.specs.Inside.EdgesHeld.{AreNumbers, paths_at}
 use Rattle.nj_edges.specs.Files.{path_at}
-use Rattle.nj_statements.specs.declared.building.Detail.{Detail}
+use Rattle.nj_statements.specs.declared.detail.Detail.{Detail}
 use Rattle.nj_statements.specs.declared.building.DyndepEdge.{DyndepEdge}
-use Rattle.nj_statements.specs.EdgeList.{Pending}
+use Rattle.nj_statements.specs.EdgeList.{Pending, AssignedText}
 use Rattle.nj_statements.specs.Built.{EdgeDetail, BuiltText}
+use Rattle.nj_statements.specs.Inside.Details.{text_at, spot_of, numbered_at, IsNumbered}
 
 abbrev pub detail_named : (names : List (List ℕ)) → Detail → EdgeDetail
-detail_named names d = record { file = path_at names d.file; spot = d.spot; scope = d.scope; rule = d.rule }
+detail_named names d = record { file = text_at names d.file; spot = spot_of d; scope = d.scope; rule = d.rule }
+
+abbrev pub assigned_named : (names : List (List ℕ)) → Detail → AssignedText
+assigned_named names d = record { pool = numbered_at names d.pool; dyndep = numbered_at names d.dyndep }
 
 abbrev pub pending_named : (files : List (List ℕ)) → DyndepEdge → Pending
 pending_named files d = record { edge = d.edge; file = path_at files d.file }
@@ -25,13 +29,15 @@ built_of graph blocks names details defaults dyndeps = record {
   blocks = blocks;
   defaults = paths_at graph.files defaults;
   pending = map (pending_named graph.files) dyndeps;
+  assigned = map (assigned_named names) details;
 }
 
 -- There is a detail of each edge, and all numbers are those of files and edges.
 pub record BuiltIsHeld (graph : EdgeGraph) (names : List (List ℕ)) (details : List Detail) (defaults : List FileNo)
     (dyndeps : List DyndepEdge) : Type 0 where
   pub as_many : length details ≡ length graph.edges
-  pub names_known : AllByRecursion (λ d. d.file.0 < length names) details
+  pub names_known : AllByRecursion (λ d. d.file < length names) details
+  pub assigned_known : AllByRecursion (λ d. IsNumbered names d.pool × IsNumbered names d.dyndep) details
   pub defaults_known : AreNumbers (length graph.files) defaults
   pub dyndep_files_known : AllByRecursion (λ d. d.file.0 < length graph.files) dyndeps
   pub dyndep_edges_known : AllByRecursion (λ d. d.edge < length graph.edges) dyndeps

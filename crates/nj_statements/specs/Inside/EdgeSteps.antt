@@ -1,6 +1,6 @@
 -- How the code reads an edge, step by step.
 use Rattle.std.specs.Prelude.{◌≡◌, ℕ, Bool, true, false, if◌then◌else◌, Option, Some, None, option_map}
-use Rattle.std.specs.Prelude.{List, [], ◌∷◌, ◌++◌, ◌+◌, ◌≤◌, length, slice_get, slice_index_or, bytes_eq}
+use Rattle.std.specs.Prelude.{List, [], ◌∷◌, ◌++◌, ◌+◌, ◌≤◌, length, slice_get, slice_index_or, codes, bytes_eq}
 use Rattle.nj_manifest.specs.Statements.{InputsText}
 use Rattle.nj_scope.specs.Rules.{RuleText, phony}
 use Rattle.nj_scope.specs.Readings.{IsPrefix}
@@ -13,14 +13,15 @@ use Rattle.nj_edges.specs.Edges.{EdgePaths, is_among}
 use Rattle.nj_edges.specs.EdgeTables.{EdgeTable, no_files, with_output, with_input, with_validation}
 use Rattle.nj_edges.specs.Files.{AreFiles}
 use Rattle.nj_edge_env.specs.declared.edge.LateEdge.{LateEdge}
-use Rattle.nj_edge_env.specs.LateTexts.{LateNames}
+use Rattle.nj_edge_env.specs.LateTexts.{LateNames, asked_text}
 use Rattle.nj_edge_env.specs.LateEdges.{late_names}
 use Rattle.nj_edge_env.specs.ReferencesHeld.{ReferringKeyText}
 use Rattle.nj_statements.specs.declared.context.Context.{Context}
-use Rattle.nj_statements.specs.declared.building.Detail.{Detail}
+use Rattle.nj_statements.specs.declared.detail.Detail.{Detail}
 use Rattle.nj_statements.specs.declared.building.DyndepEdge.{DyndepEdge}
-use Rattle.nj_statements.specs.EdgeList.{Values, Block, on_line, paths_said}
+use Rattle.nj_statements.specs.EdgeList.{Values, Block, AssignedText, on_line, paths_said, name_said, file_said}
 use Rattle.nj_statements.specs.Answers.{DetailText}
+use Rattle.nj_statements.specs.Inside.Details.{spot_of}
 
 -- Names have these values in a scope, by what the earlier statements declare and the block binds.
 pub record Sees (held : DeclarationsText) (scope : ℕ) (block : Block) (values : Values) : Type 0 where
@@ -100,6 +101,10 @@ pub record SeesLate (edge : LateEdge) (entries : List ReadStatement) (n : LateNa
   pub within : IsScope (parent_at edge.declarations.now.scopes) edge.scope (edge.scope ∷ around)
   pub are : n ≡ late_names edge (value_after entries (edge.scope ∷ around))
 
+-- what is assigned to an edge whose names depend on these
+abbrev pub assigned_by : LateNames → AssignedText
+assigned_by n = record { pool = name_said (asked_text n (codes "pool")); dyndep = file_said (asked_text n (codes "dyndep")) }
+
 -- the number of the file at this path, if there is one
 abbrev pub IsFileSaid : (files : List (List ℕ)) → Option FileNo → Option (List ℕ) → Type 0
 IsFileSaid files number path = option_map (λ f. slice_get files f.0) number ≡ option_map Some path
@@ -109,7 +114,7 @@ abbrev pub SameReferences : (kept others : List (Option (List ReferringKeyText))
 SameReferences kept others = (number : ℕ) → slice_index_or kept number None ≡ slice_index_or others number None
 
 abbrev pub detail_text : Detail → DetailText
-detail_text d = record { file = d.file; spot = d.spot; scope = d.scope; rule = d.rule }
+detail_text d = record { file = d.file; spot = spot_of d; scope = d.scope; rule = d.rule; pool = d.pool; dyndep = d.dyndep }
 
 -- with the edge of this number, if it is bound to a dyndep file
 abbrev pub with_dyndep : (edge : ℕ) → Option FileNo → List DyndepEdge → List DyndepEdge

@@ -12,12 +12,13 @@ use Rattle.nj_edges.specs.Joining.{JoinTable, with_added_output, with_added_inpu
 use Rattle.nj_faults.specs.declared.fault.GraphFault.{GraphFault}
 use Rattle.nj_faults.specs.declared.fault.Cause.TheVariants.{DyndepExtra, DyndepTwice, DyndepNoStatement}
 use Rattle.nj_faults.specs.Faults.{fault_at}
-use Rattle.nj_statements.specs.declared.building.Detail.{Detail}
+use Rattle.nj_statements.specs.declared.detail.Detail.{Detail}
 use Rattle.nj_statements.specs.declared.building.DyndepEdge.{DyndepEdge}
 use Rattle.nj_statements.specs.EdgeList.{path_said}
 use Rattle.nj_statements.specs.BuildFaults.{fault_if}
 use Rattle.nj_statements.specs.Built.{EdgeDetail}
-use Rattle.nj_statements.specs.Inside.BuiltHeld.{detail_named, pending_named}
+use Rattle.nj_statements.specs.Inside.BuiltHeld.{detail_named, assigned_named, pending_named}
+use Rattle.nj_statements.specs.Inside.Details.{IsNumbered}
 use Rattle.nj_statements.specs.Joining.{no_values, dyndep_files}
 use Rattle.nj_statements.specs.JoiningHeld.{still_waiting, JoiningText}
 
@@ -94,6 +95,7 @@ joining_of table blocks names details defaults dyndep_files bound = record {
   defaults = paths_at table.files defaults;
   dyndep_files = map (pending_named table.files) dyndep_files;
   bound = map (file_named table.files) bound;
+  assigned = map (assigned_named names) details;
 }
 
 -- For each edge there is a detail, and what is joined to it. All numbers are those of files and edges. For each file at most as many edges
@@ -106,7 +108,8 @@ pub record JoiningIsHeld (table : JoinTable) (names : List (List ℕ)) (details 
   pub as_many_details : length details ≡ length table.stated
   pub as_many_bound : length bound ≡ length table.stated
   pub unchanged : (edge : ℕ) → is_joined table edge ≡ false → slice_get table.joined edge ≡ slice_get table.stated edge
-  pub names_known : AllByRecursion (λ d. d.file.0 < length names) details
+  pub names_known : AllByRecursion (λ d. d.file < length names) details
+  pub assigned_known : AllByRecursion (λ d. IsNumbered names d.pool × IsNumbered names d.dyndep) details
   pub defaults_known : AreNumbers (length table.files) defaults
   pub dyndep_files_known : AllByRecursion (λ d. d.file.0 < length table.files) dyndep_files
   pub dyndep_edges_known : AllByRecursion (λ d. d.edge < length table.stated) dyndep_files

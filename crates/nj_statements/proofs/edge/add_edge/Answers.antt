@@ -14,8 +14,8 @@ use Rattle.nj_statements.proofs.Adding.{adds-edge}
 use Rattle.nj_statements.proofs.LateLemmas.{inputs-read, sees-late}
 use Rattle.nj_statements.proofs.edge.add_edge.Goals as goal
 
-pub returns-in_err-dyndep-clause-fault : goal.returns-in_err-dyndep-clause-fault
-returns-in_err-dyndep-clause-fault c = λ values sees none tells.
+pub returns-in_err-assigned-clause-fault : goal.returns-in_err-assigned-clause-fault
+returns-in_err-assigned-clause-fault c = λ values sees none tells.
     let file = c.args.context.place.file.now in
     let spot = c.args.context.place.spot in
     let outputs = outputs_text c.args.build.now in
@@ -28,12 +28,12 @@ returns-in_err-dyndep-clause-fault c = λ values sees none tells.
     let inputs_are : inputs_of paths ≡ open_edge.inputs = sym (ap inputs_of named) ∙ inputs-read open_edge c.in_ok-kinds.kinds (c.args.rule.number == 0) (length open_edge.outputs) c.in_ok-kinds.ensures.within in
     let late : SeesLate c.late_edge-edge.result sees.entries n = sees-late c.late_edge-edge.result c.args.context.declarations.now c.args.context.scope sees.entries sees.around (edge_read open_edge c.in_ok-kinds.kinds (c.args.rule.number == 0)) paths block c.args.rule.rule.now
     c.late_edge-edge.ensures.declarations c.late_edge-edge.ensures.scope c.late_edge-edge.ensures.names named sees.declared sees.within in
-    let f = c.in_err-dyndep.field-0.0 in
+    let f = c.in_err-assigned.field-0.0 in
     let before = paths_fault file values c.args.edges.now.edges outputs inputs in
     let after = names_fault file spot (pools sees.entries) (inputs_of paths) n in
-    err-checks c.from_residual-in_err-dyndep.result f (option_or before after) c.from_residual-in_err-dyndep.ensures.1
+    err-checks c.from_residual-in_err-assigned.result f (option_or before after) c.from_residual-in_err-assigned.ensures.1
     (fault-second before after f (c.in_ok-kinds.ensures.fault values sees none)
-    (subst (λ is. IsFault (names_fault file spot (pools sees.entries) is n) f) (sym inputs_are) (c.in_err-dyndep.ensures.fault sees.entries n late tells)))
+    (subst (λ is. IsFault (names_fault file spot (pools sees.entries) is n) f) (sym inputs_are) (c.in_err-assigned.ensures.fault sees.entries n late tells)))
 
 pub returns-clause-fault : goal.returns-clause-fault
 returns-clause-fault c = λ values sees none tells.
@@ -50,7 +50,7 @@ returns-clause-fault c = λ values sees none tells.
     let late : SeesLate c.late_edge-edge.result sees.entries n = sees-late c.late_edge-edge.result c.args.context.declarations.now c.args.context.scope sees.entries sees.around (edge_read open_edge c.in_ok-kinds.kinds (c.args.rule.number == 0)) paths block c.args.rule.rule.now
     c.late_edge-edge.ensures.declarations c.late_edge-edge.ensures.scope c.late_edge-edge.ensures.names named sees.declared sees.within in
     both-none (paths_fault file values c.args.edges.now.edges outputs inputs) (names_fault file spot (pools sees.entries) (inputs_of paths) n) (c.in_ok-kinds.ensures.fault values sees none)
-    (subst (λ is. names_fault file spot (pools sees.entries) is n ≡ None) (sym inputs_are) (c.in_ok-dyndep.ensures.fault sees.entries n late tells))
+    (subst (λ is. names_fault file spot (pools sees.entries) is n ≡ None) (sym inputs_are) (c.in_ok-assigned.ensures.fault sees.entries n late tells))
 
 pub returns-clause-added : goal.returns-clause-added
 returns-clause-added c = λ values sees none.
@@ -68,4 +68,17 @@ returns-clause-dyndep c = λ values sees none.
     let named = c.in_ok-kinds.ensures.named values sees none in
     let late : SeesLate c.late_edge-edge.result sees.entries n = sees-late c.late_edge-edge.result c.args.context.declarations.now c.args.context.scope sees.entries sees.around (edge_read open_edge c.in_ok-kinds.kinds (c.args.rule.number == 0)) paths block c.args.rule.rule.now
     c.late_edge-edge.ensures.declarations c.late_edge-edge.ensures.scope c.late_edge-edge.ensures.names named sees.declared sees.within in
-    subst (λ t. IsFileSaid t.files c.in_ok-dyndep.dyndep (file_said (asked_text n (codes "dyndep")))) (sym c.in_ok-end_edge.ensures.ended) (c.in_ok-dyndep.ensures.file sees.entries n late)
+    subst (λ t. IsFileSaid t.files c.in_ok-assigned.assigned.file (file_said (asked_text n (codes "dyndep")))) (sym c.in_ok-end_edge.ensures.ended) (c.in_ok-assigned.ensures.file sees.entries n late)
+
+pub returns-clause-assigned : goal.returns-clause-assigned
+returns-clause-assigned c = λ values sees none.
+    let outputs = outputs_text c.args.build.now in
+    let inputs = inputs_text c.args.build.now in
+    let block = bound_by c.args.context in
+    let open_edge = c.add_files.new.edges.«open» in
+    let paths : EdgePaths = edge_paths (stated_paths values outputs inputs (c.args.rule.number == 0)) in
+    let n : LateNames = names_read paths block c.args.rule.rule.now (value_after sees.entries (c.args.context.scope ∷ sees.around)) in
+    let named = c.in_ok-kinds.ensures.named values sees none in
+    let late : SeesLate c.late_edge-edge.result sees.entries n = sees-late c.late_edge-edge.result c.args.context.declarations.now c.args.context.scope sees.entries sees.around (edge_read open_edge c.in_ok-kinds.kinds (c.args.rule.number == 0)) paths block c.args.rule.rule.now
+    c.late_edge-edge.ensures.declarations c.late_edge-edge.ensures.scope c.late_edge-edge.ensures.names named sees.declared sees.within in
+    c.in_ok-assigned.ensures.assigned sees.entries n late

@@ -1,9 +1,9 @@
 use Rattle.std.proofs.Common.{◌<◌, inl, inr, ℕ, List, map, length, refl, sym, ap, subst, ◌∙◌}
-use Rattle.nj_edges.specs.Files.{path_at}
 use Rattle.nj_edges.specs.Graph.{FinishesAs}
 use Rattle.nj_faults.specs.declared.fault.Cause.TheVariants.{Cycle}
 use Rattle.nj_faults.specs.Faults.{fault_at}
 use Rattle.nj_statements.specs.Answers.{BuildingText, HoldsEdges}
+use Rattle.nj_statements.specs.Inside.Details.{text_at, spot_of}
 use Rattle.nj_statements.specs.Inside.EdgeSteps.{detail_text}
 use Rattle.nj_statements.proofs.Faults.{by-fault}
 use Rattle.nj_statements.proofs.Finishing.{detail-count, detail-there, detail-known, built-held, built-of, cycle-fault}
@@ -45,6 +45,6 @@ returns c = λ entries holds'.
     let held : BuildingText = record { table = c.self.inside.edges; blocks = c.self.inside.block_values; names = c.self.inside.names; details = map detail_text c.self.inside.details.items; defaults = c.self.inside.defaults.items; dyndeps = c.self.inside.dyndeps.items; references = c.self.inside.references.items } in
     let holds : HoldsEdges held entries = subst (λ b. HoldsEdges b entries) (sym c.self.view_is) holds' in
     let cycle = subst (FinishesAs c.self.inside.edges.files c.self.inside.edges.edges) c.in-Cycle.is c.in_ok-graph.ensures in
-    let is = λ (output : List ℕ). fault_at (path_at c.self.inside.names c.index-detail.result.now.file) c.index-detail.result.now.spot (Cycle output) in
+    let is = λ (output : List ℕ). fault_at (text_at c.self.inside.names c.index-detail.result.now.file) (spot_of c.index-detail.result.now) (Cycle output) in
     by-fault (is c.from-output.result) c.cycle_fault.result c.cycle_fault.ensures inl (λ same. inr (cycle-fault held entries holds c.self.inside.details.items refl c.in-Cycle.cycle.edge.0 c.index-detail.result.now c.in-Cycle.cycle.output.items c.cycle_fault.result cycle.0
     (detail-there held entries holds c.self.inside.details.items refl c.in-Cycle.cycle.edge.0 c.index-detail.result.now cycle.0 c.index-detail.ensures) cycle.1 cycle.2 (same ∙ ap is c.from-output.ensures)))

@@ -1,4 +1,4 @@
-use Rattle.std.proofs.Common.{◌≡◌, ◌<◌, ◌==◌, if◌then◌else◌, List, ◌∷◌, ◌++◌, [], ℕ, Option, None, unwrap_or, length, map, codes, refl, sym, ap, subst, ◌∙◌}
+use Rattle.std.proofs.Common.{◌≡◌, ◌<◌, ◌==◌, if◌then◌else◌, List, ◌∷◌, ◌++◌, [], ℕ, Option, None, unwrap_or, Some, slice_get, length, map, codes, refl, sym, ap, subst, ◌∙◌}
 use Rattle.std.specs.Option.{option_or}
 use Rattle.std.specs.Prelude.{slice_index_or}
 use Rattle.std.proofs.lemmas.List.{length-map, map-append}
@@ -10,22 +10,24 @@ use Rattle.nj_scope.specs.ReadingList.{value_after, rule_texts, pools}
 use Rattle.nj_edge_env.specs.Blocks.{bound_in}
 use Rattle.nj_edges.specs.Edges.{inputs_of}
 use Rattle.nj_faults.specs.Faults.{IsFault}
-use Rattle.nj_statements.specs.declared.building.Detail.{Detail}
+use Rattle.nj_statements.specs.declared.detail.Detail.{Detail}
 use Rattle.nj_statements.specs.EdgeList.{Values, Block, block_of, on_line, edges_read, edge_of_build, file_said, paths_of_edges, stated_paths, edge_paths}
 use Rattle.nj_statements.specs.BuildFaults.{paths_fault, names_fault, late_fault}
 use Rattle.nj_statements.specs.Answers.{BuildingText, HoldsEdges, AddsNothing, entry_at_place}
-use Rattle.nj_statements.specs.Inside.EdgeSteps.{Sees, AddsEdge, names_read, detail_text, IsFileSaid, with_dyndep}
+use Rattle.nj_statements.specs.Inside.EdgeSteps.{Sees, AddsEdge, names_read, detail_text, IsFileSaid, assigned_by, with_dyndep}
 use Rattle.nj_edge_env.specs.LateTexts.{asked_text}
 use Rattle.nj_edge_env.specs.ReferencesHeld.{TellsCycles}
 use Rattle.nj_statements.proofs.ReferenceLemmas.{same-rule}
-use Rattle.nj_statements.proofs.Tables.{named-prefix}
 use Rattle.nj_statements.proofs.Keeps.{keeps_none}
 use Rattle.nj_statements.proofs.LateLemmas.{names-of-edge, late-fault}
-use Rattle.nj_statements.proofs.Holding.{on-err, reads-err, open-block, holds-build}
+use Rattle.nj_statements.specs.Inside.Details.{AreNumbersOf}
+use Rattle.nj_statements.proofs.AssignedLemmas.{assigned-numbers}
+use Rattle.nj_statements.proofs.Tables.{prefix-trans}
+use Rattle.nj_statements.proofs.Holding.{on-err, reads-err, open-block, holds-build, get-prefix}
 use Rattle.nj_statements.proofs.building.Building.read_edge.Goals as goal
 
-pub returns-in_err-dyndep-clause-reads : goal.returns-in_err-dyndep-clause-reads
-returns-in_err-dyndep-clause-reads c = λ entries around depth by within rule_is there holds.
+pub returns-in_err-assigned-clause-reads : goal.returns-in_err-assigned-clause-reads
+returns-in_err-assigned-clause-reads c = λ entries around depth by within rule_is there holds.
     let lines = lines_text c.args.build.now.lines.items in
     let outputs = outputs_text c.args.build.now in
     let inputs = inputs_text c.args.build.now in
@@ -49,9 +51,9 @@ returns-in_err-dyndep-clause-reads c = λ entries around depth by within rule_is
     let kept = c.in_ok-keep_references.ensures.held (rule_texts entries) held.references there in
     let own = kept c.args.rule.number c.rule_references-references.result.now (ap (λ kept. slice_index_or kept c.args.rule.number None) (sym c.deref.ensures.value) ∙ c.rule_references-references.ensures) in
     let tells : TellsCycles c.args.rule.rule.now.lines c.rule_references-references.result.now = subst (λ (r : RuleText). TellsCycles r.lines c.rule_references-references.result.now) (same-rule (rule_texts entries) c.args.rule.number own.0 c.args.rule.rule.now own.1 there) own.2 in
-    reads-err _ (option_or (paths_fault c.args.place.file.now values (paths_of_edges (edges_read entries)) outputs inputs) late_is) e entries c.from_residual-in_err-dyndep.result c.in_err-dyndep.field-0.0 c.from_residual-in_err-dyndep.ensures.1
-    (subst (λ o. IsFault (option_or (paths_fault c.args.place.file.now values (paths_of_edges (edges_read entries)) outputs inputs) o) c.in_err-dyndep.field-0.0) late
-    (subst (λ es. IsFault (option_or (paths_fault c.args.place.file.now values es outputs inputs) said) c.in_err-dyndep.field-0.0) held.edges (c.in_err-dyndep.ensures.fault values sees held.none_open tells)))
+    reads-err _ (option_or (paths_fault c.args.place.file.now values (paths_of_edges (edges_read entries)) outputs inputs) late_is) e entries c.from_residual-in_err-assigned.result c.in_err-assigned.field-0.0 c.from_residual-in_err-assigned.ensures.1
+    (subst (λ o. IsFault (option_or (paths_fault c.args.place.file.now values (paths_of_edges (edges_read entries)) outputs inputs) o) c.in_err-assigned.field-0.0) late
+    (subst (λ es. IsFault (option_or (paths_fault c.args.place.file.now values es outputs inputs) said) c.in_err-assigned.field-0.0) held.edges (c.in_err-assigned.ensures.fault values sees held.none_open tells)))
 
 pub returns-clause-reads : goal.returns-clause-reads
 returns-clause-reads c = λ entries around depth by within rule_is there holds.
@@ -78,33 +80,38 @@ returns-clause-reads c = λ entries around depth by within rule_is there holds.
     let kept = c.in_ok-keep_references.ensures.held (rule_texts entries) held.references there in
     let own = kept c.args.rule.number c.rule_references-references.result.now (ap (λ kept. slice_index_or kept c.args.rule.number None) (sym c.deref.ensures.value) ∙ c.rule_references-references.ensures) in
     let tells : TellsCycles c.args.rule.rule.now.lines c.rule_references-references.result.now = subst (λ (r : RuleText). TellsCycles r.lines c.rule_references-references.result.now) (same-rule (rule_texts entries) c.args.rule.number own.0 c.args.rule.rule.now own.1 there) own.2 in
-    let detail : Detail = record { file = c.in_ok-file.file; spot = c.args.place.spot; scope = c.args.scope; rule = c.args.rule.number } in
-    let new : BuildingText = record { table = c.add_edge.new.edges; blocks = c.bind_block.new.blocks; names = c.name.new.self; details = map detail_text c.push_reserved.new.self.items; defaults = old.defaults; dyndeps = c.push_dyndep.new.dyndeps.items; references = c.keep_references.new.kept.items } in (
+    let given = c.in_ok-assigned.assigned in
+    let grows = c.in_ok-assigned.ensures.grows in
+    let names_are = names-of-edge e entries outputs rule_text inputs lines c.args.rule.number c.args.rule.rule.now (bound_in c.bind_block.new.blocks edge) rule_is there block_is in
+    let detail : Detail = record c.in_ok-detail.detail { pool = given.pool; dyndep = given.dyndep } in
+    let kept_as = c.in_ok-detail.ensures in
+    let new : BuildingText = record { table = c.add_edge.new.edges; blocks = c.bind_block.new.blocks; names = c.add_edge.new.texts; details = map detail_text c.push_reserved.new.self.items; defaults = old.defaults; dyndeps = c.push_dyndep.new.dyndeps.items; references = c.keep_references.new.kept.items } in (
       subst (λ o. option_or (paths_fault c.args.place.file.now values (paths_of_edges (edges_read entries)) outputs inputs) o ≡ None) late
-          (subst (λ es. option_or (paths_fault c.args.place.file.now values es outputs inputs) said ≡ None) held.edges (c.in_ok-dyndep.ensures.fault values sees held.none_open tells)),
-      holds-build old new e entries outputs rule_text inputs lines (detail_text detail) c.in_ok-dyndep.dyndep held
-          (subst (λ b. AddsEdge old.table new.table (edge_paths (stated_paths values outputs inputs b))) (ap (λ (o : Option ℕ). unwrap_or o 0 == 0) (sym rule_is)) (c.in_ok-dyndep.ensures.added values sees held.none_open))
+          (subst (λ es. option_or (paths_fault c.args.place.file.now values es outputs inputs) said ≡ None) held.edges (c.in_ok-assigned.ensures.fault values sees held.none_open tells)),
+      holds-build old new e entries outputs rule_text inputs lines (detail_text detail) c.in_ok-assigned.assigned.file held
+          (subst (λ b. AddsEdge old.table new.table (edge_paths (stated_paths values outputs inputs b))) (ap (λ (o : Option ℕ). unwrap_or o 0 == 0) (sym rule_is)) (c.in_ok-assigned.ensures.added values sees held.none_open))
           (λ n name. bound n name ∙ ap (λ edge. if n == edge then option_or (block name) (bound_in old.blocks n name) else bound_in old.blocks n name) count)
-          (subst (IsPrefix old.names) (sym c.in_ok-file.ensures.named) (named-prefix old.names c.args.place.file.now))
-          (ap (map detail_text) (c.push_reserved.ensures.items ∙ ap (λ (ds : List Detail). ds ++ detail ∷ []) c.in_ok-reserve.ensures.items) ∙ map-append detail_text c.self.inside.details.items (detail ∷ []))
-          (record { file = c.in_ok-file.ensures.number; spot = refl; scope = refl; rule = ap (λ (o : Option ℕ). unwrap_or o 0) (sym rule_is) })
+          (prefix-trans old.names c.file.new.self new.names c.in_ok-file.ensures.grows grows)
+          (ap (map detail_text) (c.push_reserved.ensures.items ∙ ap (λ (d : Detail). c.reserve.new.self.items ++ d ∷ []) c.with.ensures ∙ ap (λ (ds : List Detail). ds ++ detail ∷ []) c.in_ok-reserve.ensures.items) ∙ map-append detail_text c.self.inside.details.items (detail ∷ []))
+          (record { file = get-prefix c.file.new.self new.names detail.file c.args.place.file.now grows (subst (λ n. slice_get c.file.new.self n ≡ Some c.args.place.file.now) (sym kept_as.file_is) c.in_ok-file.ensures.number); spot = kept_as.spot_is; scope = kept_as.scope_is; rule = kept_as.rule_is ∙ ap (λ (o : Option ℕ). unwrap_or o 0) (sym rule_is) })
+          (assigned-numbers new.names given detail refl refl _ (subst (λ n. AreNumbersOf new.names given (assigned_by n)) (sym names_are) (c.in_ok-assigned.ensures.assigned values sees held.none_open)))
           refl
-          (c.push_dyndep.ensures ∙ ap (with_dyndep edge c.in_ok-dyndep.dyndep) c.in_ok-reserve-2.ensures.items ∙ ap (λ n. with_dyndep n c.in_ok-dyndep.dyndep old.dyndeps) count)
-          (subst (λ n. IsFileSaid new.table.files c.in_ok-dyndep.dyndep (file_said (asked_text n (codes "dyndep")))) (sym (names-of-edge e entries outputs rule_text inputs lines c.args.rule.number c.args.rule.rule.now (bound_in c.bind_block.new.blocks edge) rule_is there block_is))
-          (c.in_ok-dyndep.ensures.dyndep values sees held.none_open))
+          (c.push_dyndep.ensures ∙ ap (with_dyndep edge c.in_ok-assigned.assigned.file) c.in_ok-reserve-2.ensures.items ∙ ap (λ n. with_dyndep n c.in_ok-assigned.assigned.file old.dyndeps) count)
+          (subst (λ n. IsFileSaid new.table.files c.in_ok-assigned.assigned.file (file_said (asked_text n (codes "dyndep")))) (sym (names-of-edge e entries outputs rule_text inputs lines c.args.rule.number c.args.rule.rule.now (bound_in c.bind_block.new.blocks edge) rule_is there block_is))
+          (c.in_ok-assigned.ensures.dyndep values sees held.none_open))
           kept,
     )
 
 pub returns-in_err-keep_references-clause-refused : goal.returns-in_err-keep_references-clause-refused
 returns-in_err-keep_references-clause-refused c =
     let old : BuildingText = record { table = c.self.inside.edges; blocks = c.self.inside.block_values; names = c.self.inside.names; details = map detail_text c.self.inside.details.items; defaults = c.self.inside.defaults.items; dyndeps = c.self.inside.dyndeps.items; references = c.self.inside.references.items } in
-    let new : BuildingText = record { table = old.table; blocks = old.blocks; names = c.name.new.self; details = map detail_text c.reserve.new.self.items; defaults = old.defaults; dyndeps = c.reserve-2.new.self.items; references = c.keep_references.new.kept.items } in
+    let new : BuildingText = record { table = old.table; blocks = old.blocks; names = c.file.new.self; details = map detail_text c.reserve.new.self.items; defaults = old.defaults; dyndeps = c.reserve-2.new.self.items; references = c.keep_references.new.kept.items } in
     let edge = length c.as_slice-edge.result.now in
     let count : edge ≡ length old.details = ap length c.as_slice-edge.ensures.value ∙ sym (length-map c.self.inside.details.items detail_text) in
     on-err c.from_residual-in_err-keep_references.result (subst (λ b. AddsNothing b new) c.self.view_is (record {
       edges = keeps_none old.table;
       blocks = λ number name below. refl;
-      names = subst (IsPrefix old.names) (sym c.in_ok-file.ensures.named) (named-prefix old.names c.args.place.file.now);
+      names = c.in_ok-file.ensures.grows;
       details = ap (map detail_text) c.in_ok-reserve.ensures.items;
       defaults = refl;
       dyndeps = c.in_ok-reserve-2.ensures.items;
@@ -113,28 +120,28 @@ returns-in_err-keep_references-clause-refused c =
 pub returns-in_err-bind_block-clause-refused : goal.returns-in_err-bind_block-clause-refused
 returns-in_err-bind_block-clause-refused c =
     let old : BuildingText = record { table = c.self.inside.edges; blocks = c.self.inside.block_values; names = c.self.inside.names; details = map detail_text c.self.inside.details.items; defaults = c.self.inside.defaults.items; dyndeps = c.self.inside.dyndeps.items; references = c.self.inside.references.items } in
-    let new : BuildingText = record { table = old.table; blocks = c.bind_block.new.blocks; names = c.name.new.self; details = map detail_text c.reserve.new.self.items; defaults = old.defaults; dyndeps = c.reserve-2.new.self.items; references = c.keep_references.new.kept.items } in
+    let new : BuildingText = record { table = old.table; blocks = c.bind_block.new.blocks; names = c.file.new.self; details = map detail_text c.reserve.new.self.items; defaults = old.defaults; dyndeps = c.reserve-2.new.self.items; references = c.keep_references.new.kept.items } in
     let edge = length c.as_slice-edge.result.now in
     let count : edge ≡ length old.details = ap length c.as_slice-edge.ensures.value ∙ sym (length-map c.self.inside.details.items detail_text) in
     on-err c.from_residual-in_err-bind_block.result (subst (λ b. AddsNothing b new) c.self.view_is (record {
       edges = keeps_none old.table;
       blocks = λ number name below. c.in_err-bind_block.ensures.others number name (subst (λ n. number < n) (sym count) below);
-      names = subst (IsPrefix old.names) (sym c.in_ok-file.ensures.named) (named-prefix old.names c.args.place.file.now);
+      names = c.in_ok-file.ensures.grows;
       details = ap (map detail_text) c.in_ok-reserve.ensures.items;
       defaults = refl;
       dyndeps = c.in_ok-reserve-2.ensures.items;
     }))
 
-pub returns-in_err-dyndep-clause-refused : goal.returns-in_err-dyndep-clause-refused
-returns-in_err-dyndep-clause-refused c =
+pub returns-in_err-assigned-clause-refused : goal.returns-in_err-assigned-clause-refused
+returns-in_err-assigned-clause-refused c =
     let old : BuildingText = record { table = c.self.inside.edges; blocks = c.self.inside.block_values; names = c.self.inside.names; details = map detail_text c.self.inside.details.items; defaults = c.self.inside.defaults.items; dyndeps = c.self.inside.dyndeps.items; references = c.self.inside.references.items } in
-    let new : BuildingText = record { table = c.add_edge.new.edges; blocks = c.bind_block.new.blocks; names = c.name.new.self; details = map detail_text c.reserve.new.self.items; defaults = old.defaults; dyndeps = c.reserve-2.new.self.items; references = c.keep_references.new.kept.items } in
+    let new : BuildingText = record { table = c.add_edge.new.edges; blocks = c.bind_block.new.blocks; names = c.add_edge.new.texts; details = map detail_text c.reserve.new.self.items; defaults = old.defaults; dyndeps = c.reserve-2.new.self.items; references = c.keep_references.new.kept.items } in
     let edge = length c.as_slice-edge.result.now in
     let count : edge ≡ length old.details = ap length c.as_slice-edge.ensures.value ∙ sym (length-map c.self.inside.details.items detail_text) in
-    on-err c.from_residual-in_err-dyndep.result (subst (λ b. AddsNothing b new) c.self.view_is (record {
-      edges = c.in_err-dyndep.ensures.refused;
+    on-err c.from_residual-in_err-assigned.result (subst (λ b. AddsNothing b new) c.self.view_is (record {
+      edges = c.in_err-assigned.ensures.refused;
       blocks = λ number name below. c.in_ok-bind_block.ensures.others number name (subst (λ n. number < n) (sym count) below);
-      names = subst (IsPrefix old.names) (sym c.in_ok-file.ensures.named) (named-prefix old.names c.args.place.file.now);
+      names = prefix-trans old.names c.file.new.self c.add_edge.new.texts c.in_ok-file.ensures.grows c.in_err-assigned.ensures.grows;
       details = ap (map detail_text) c.in_ok-reserve.ensures.items;
       defaults = refl;
       dyndeps = c.in_ok-reserve-2.ensures.items;

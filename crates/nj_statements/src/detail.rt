@@ -1,0 +1,77 @@
+//! What is kept of an edge beside its paths and its block.
+
+ghost use Rattle.std.specs.Prelude.{◌≡◌, IfOk};
+ghost use Rattle.nj_statements.specs.Inside.Details.{IsDetailOf, spot_of};
+
+use crate::text_table::short_number;
+use nj_edges::FileNo;
+use nj_text::Spot;
+use std::alloc::AllocError;
+
+/// An edge without its paths and its block: the number of the file in which its statement stands,
+/// its place there, the numbers of its scope and of its rule; and what is assigned to it.
+#[derive(Clone, Copy)]
+pub(crate) struct Detail {
+    pub(crate) file: u32,
+    pub(crate) line: u32,
+    pub(crate) column: u32,
+    pub(crate) scope: u32,
+    pub(crate) rule: u32,
+    pub(crate) pool: u32,
+    pub(crate) dyndep: u32,
+}
+
+/// What is assigned to an edge at its build statement ("Pools" and "Dynamic Dependencies" in the
+/// Ninja manual): the numbers of its pool and of the path of its dyndep file among the texts that
+/// are kept, which count from 1, where 0 is none; and the dyndep file.
+#[derive(Clone, Copy)]
+pub(crate) struct Assigned {
+    pub(crate) pool: u32,
+    pub(crate) dyndep: u32,
+    pub(crate) file: Option<FileNo>,
+}
+
+impl Detail {
+    /// The detail of an edge that stands at this place of the file of this number, and to which
+    /// nothing is assigned yet. Numbers that
+    /// take more than 32 bits are refused as if there were no memory for them.
+    pub(crate) fn new(
+        file: u32,
+        spot: Spot,
+        scope: usize,
+        rule: usize,
+    ) -> Result<Detail, AllocError>
+        ensures { IfOk result (IsDetailOf file spot scope rule) }
+    {
+        Ok(Detail {
+            file,
+            line: short_number(spot.line)?,
+            column: short_number(spot.column)?,
+            scope: short_number(scope)?,
+            rule: short_number(rule)?,
+            pool: 0,
+            dyndep: 0,
+        })
+    }
+
+    /// The same edge, to which this is assigned.
+    pub(crate) fn with(self, assigned: Assigned) -> Detail
+        ensures { result ≡ record self { pool = assigned.pool; dyndep = assigned.dyndep } }
+    {
+        Detail {
+            pool: assigned.pool,
+            dyndep: assigned.dyndep,
+            ..self
+        }
+    }
+
+    /// The place of its statement.
+    pub(crate) fn spot(self) -> Spot
+        ensures { result ≡ spot_of self }
+    {
+        Spot {
+            line: self.line as usize,
+            column: self.column as usize,
+        }
+    }
+}

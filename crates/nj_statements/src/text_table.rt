@@ -1,0 +1,125 @@
+//! Texts that are kept by number.
+
+ghost use Rattle.std.specs.Prelude.{◌≡◌, ◌<◌, ◌+◌, [], Some, option_map, option_copied, length, slice_get, IfOk, IfSome};
+ghost use Rattle.nj_scope.specs.Readings.{IsPrefix};
+ghost use Rattle.nj_edges.specs.Files.{path_at};
+ghost use Rattle.nj_statements.specs.Answers.{numbered};
+ghost use Rattle.nj_statements.specs.Inside.Details.{numbered_at, IsNumbered};
+
+use nj_edges::{FileNo, Files};
+use nj_scope::HashKeys;
+use std::alloc::{AllocError, Global};
+use std::marker::Model;
+
+/// Texts by their numbers, each once: the names of the files in which edges stand and of pools, and
+/// the paths of dyndep files.
+#[derive(Drop)]
+pub(crate) struct Texts {
+    texts: Files,
+    // the number of the file in which the last edge stands
+    file: Option<FileNo>,
+}
+
+impl Model for Texts {
+    ghost use Rattle.std.specs.Prelude.{List, ℕ, ◌<◌, length, IfSome};
+
+    ghost Value = { List (List ℕ) };
+
+    ghost view = { λ t. t.texts };
+
+    ghost invariant = { λ t. IfSome t.file (λ file. file.0 < length t.texts) };
+}
+
+impl Texts {
+    /// No texts. It allocates nothing.
+    pub(crate) fn new(alloc: Global, keys: HashKeys) -> Texts
+        ensures { result ≡ [] }
+    {
+        Texts {
+            texts: Files::new(alloc, keys),
+            file: None,
+        }
+    }
+
+    /// The number of the file of this name, in which an edge stands. It is looked up only where the
+    /// edge before stands in another file.
+    pub(crate) fn file(&mut self, name: &[u8]) -> Result<u32, AllocError>
+        ensures number { IfOk result (λ number. slice_get self.new number ≡ Some name.now) }
+        ensures grows { IsPrefix self.old self.new }
+    {
+        if let Some(file) = self.file {
+            if self.texts.path(file) == name {
+                return short_number(file.0);
+            }
+        }
+        let file = self.texts.name(name)?;
+        self.file = Some(file);
+        short_number(file.0)
+    }
+
+    /// The number of a text, counted from 1.
+    pub(crate) fn number(&mut self, text: &[u8]) -> Result<u32, AllocError>
+        ensures number { IfOk result (λ number.
+            slice_get (numbered self.new) number ≡ Some (Some text.now)) }
+        ensures grows { IsPrefix self.old self.new }
+    {
+        let file = self.texts.name(text)?;
+        let number = next_number(file.0)?;
+        Ok(number)
+    }
+
+    /// The text of a number that counts from 1; `None` for 0.
+    pub(crate) fn numbered(&self, number: u32) -> Option<&[u8]>
+        requires { IsNumbered self.now number }
+        ensures { option_copied result ≡ numbered_at self.now number }
+    {
+        if number == 0 {
+            return None;
+        }
+        Some(self.text(number - 1))
+    }
+
+    /// The text of this number.
+    pub(crate) fn text(&self, number: u32) -> &[u8]
+        requires { number < length self.now }
+        ensures { slice_get self.now number ≡ Some result.now }
+    {
+        self.texts.path(FileNo(number as usize))
+    }
+}
+
+/// The number of the path of this file, counted from 1; 0 if it is none.
+#[tactic(auto, using(crate::proofs::AssignedLemmas::prefix_same))]
+pub(crate) fn path_number(
+    texts: &mut Texts,
+    files: &Files,
+    file: Option<FileNo>,
+) -> Result<u32, AllocError>
+    requires { IfSome file (λ f. f.0 < length files.now) }
+    ensures number { IfOk result (λ number. slice_get (numbered texts.new) number
+        ≡ Some (option_map (path_at files.now) file)) }
+    ensures grows { IsPrefix texts.old texts.new }
+{
+    match file {
+        Some(file) => texts.number(files.path(file)),
+        None => Ok(0),
+    }
+}
+
+// The number after this one, in 32 bits.
+fn next_number(number: usize) -> Result<u32, AllocError>
+    ensures { IfOk result (λ next. next ≡ number + 1) }
+{
+    let next = number.checked_add(1).ok_or(AllocError)?;
+    short_number(next)
+}
+
+/// A number in 32 bits. One that does not fit is refused as if there were no memory for it.
+pub(crate) fn short_number(number: usize) -> Result<u32, AllocError>
+    ensures { IfOk result (λ short. short ≡ number) }
+{
+    match u32::try_from(number) {
+        Ok(short) => Ok(short),
+        Err(_) => Err(AllocError),
+    }
+}
