@@ -1,6 +1,7 @@
 //! The graph of a run's build statements, from the files that it reads.
 #![tactic(auto)]
 
+mod assigned;
 mod building;
 mod declaring;
 mod edges;
