@@ -23,6 +23,7 @@ pub fn put_of_graph(
         "variable" => put_variable(text, graph, word),
         "with-response-files" => put_with_response_files(alloc, text, graph),
         "rules" => put_rules(alloc, text, graph),
+        "assigned" => put_assigned(text, graph),
         _ => text.extend_from_slice(b"no row is of this kind\n"),
     }
 }
@@ -181,6 +182,18 @@ fn put_rules(alloc: Global, text: &mut Vec<u8>, graph: &Graph) -> Result<(), All
             text.extend_from_slice(b" = ")?;
             text.extend_from_slice(&graph.description_text(alloc, index)?)?;
         }
+        text.push(b'\n')?;
+    }
+    Ok(())
+}
+
+/// Appends the pool and the dyndep file of each edge, a line each; `-` is there for none.
+fn put_assigned(text: &mut Vec<u8>, graph: &Graph) -> Result<(), AllocError> {
+    'edges: for number in 0..graph.edge_count() {
+        let edge = EdgeNo(number);
+        text.extend_from_slice(graph.pool(edge).unwrap_or(b"-".as_slice()))?;
+        text.push(b' ')?;
+        text.extend_from_slice(graph.dyndep(edge).unwrap_or(b"-".as_slice()))?;
         text.push(b'\n')?;
     }
     Ok(())
