@@ -9,7 +9,11 @@ use nj_graph::{Graph, GraphFault, load};
 use std::alloc::{AllocError, Global};
 
 /// What a row asks for.
-pub fn answer(alloc: Global, given: &Given<'_>, row: &Block<'_>) -> Result<Vec<u8>, AllocError> {
+pub(crate) fn answer(
+    alloc: Global,
+    given: &Given<'_>,
+    row: &Block<'_>,
+) -> Result<Vec<u8>, AllocError> {
     match row.kind {
         "run" => run(alloc, given, row.rest),
         "load" => first_fault(alloc, &mut given.source()?, row.rest),

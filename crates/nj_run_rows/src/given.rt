@@ -6,7 +6,7 @@ use std::alloc::{AllocError, Global};
 
 /// What was given before a row: files for all rows of a section, the rest for the next row alone.
 #[derive(Drop)]
-pub struct Given<'b> {
+pub(crate) struct Given<'b> {
     alloc: Global,
     files: Vec<(&'b str, &'b [u8])>,
     /// The reading that fails, counted from 1; 0: none does.
