@@ -1,6 +1,6 @@
 //! Kinds of faults, faults that can be compared, files that are kept, and how many may be read.
 
-use nj_graph::{Cause, MemoryFiles, Name, Wanted, load};
+use nj_graph::{Cause, MemoryFiles, Wanted, load};
 use std::test::*;
 
 /// The line of the first fault of the files, of which `build.ninja` is the main one;
@@ -36,31 +36,48 @@ fn chain(rt: &impl AllocGlobal, subninjas: usize, last: &[u8]) -> Result<MemoryF
     Ok(source)
 }
 
-/// The cause of the first fault of a main file, if it has one.
-fn cause_of(rt: &impl AllocGlobal, main: &[u8]) -> Result<Option<Cause>, Fail> {
+/// What kind of fault of syntax this is; `-` for any other.
+fn kind(cause: &Cause) -> &'static str {
+    match cause {
+        Cause::BadByte => "bad byte",
+        Cause::Tab => "tab",
+        Cause::BadEscape => "bad escape",
+        Cause::Expected(Wanted::Colon) => "expected colon",
+        Cause::UnexpectedIndent => "unexpected indent",
+        Cause::MissingCommand => "missing command",
+        Cause::RspPair => "response file alone",
+        Cause::UnknownKey(key) if key.as_bytes() == b"foo".as_slice() => "unknown key foo",
+        Cause::MissingDepth => "missing depth",
+        _ => "-",
+    }
+}
+
+/// The kind of the first fault of a main file; `accepted` if it has none.
+fn kind_of(rt: &impl AllocGlobal, main: &[u8]) -> Result<&'static str, Fail> {
     let mut source = MemoryFiles::new(rt.alloc());
     source.add("build.ninja", main)?;
     match load(rt.alloc(), &mut source, "build.ninja") {
-        Ok(_) => Ok(None),
-        Err(fault) => Ok(Some(fault.cause)),
+        Ok(_) => Ok("accepted"),
+        Err(fault) => Ok(kind(&fault.cause)),
     }
 }
 
 #[test]
 fn tells_the_kind_of_a_syntax_fault(rt: HostRuntime) -> Result<(), Fail> {
-    let unknown_key = Cause::UnknownKey(Name::new(rt.alloc(), b"foo")?);
     for (main, want) in [
-        (b"x = \0".as_slice(), Cause::BadByte),
-        (b"rule r\n\tcommand = x", Cause::Tab),
-        (b"x = $!", Cause::BadEscape),
-        (b"build a", Cause::Expected(Wanted::Colon)),
-        (b"  x = 1", Cause::UnexpectedIndent),
-        (b"rule r", Cause::MissingCommand),
-        (b"rule r\n  command = x\n  rspfile = y", Cause::RspPair),
-        (b"rule r\n  foo = 1", unknown_key),
-        (b"pool p", Cause::MissingDepth),
+        (b"x = \0".as_slice(), "bad byte"),
+        (b"rule r\n\tcommand = x", "tab"),
+        (b"x = $!", "bad escape"),
+        (b"build a", "expected colon"),
+        (b"  x = 1", "unexpected indent"),
+        (b"rule r", "missing command"),
+        (b"rule r\n  command = x\n  rspfile = y", "response file alone"),
+        (b"rule r\n  foo = 1", "unknown key foo"),
+        (b"pool p", "missing depth"),
+        (b"build a: r", "-"),
+        (b"", "accepted"),
     ] {
-        assert_eq!(rt; cause_of(&rt, main)?, Some(want));
+        assert_eq!(rt; kind_of(&rt, main)?, want);
     }
     Ok(())
 }
