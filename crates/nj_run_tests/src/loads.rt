@@ -57,9 +57,10 @@ fn kind(cause: &Cause) -> &'static str {
 fn kind_of(rt: &impl AllocGlobal, main: &[u8]) -> Result<&'static str, Fail> {
     let mut source = MemoryFiles::new(rt.alloc());
     source.add("build.ninja", main)?;
-    match load(rt.alloc(), &mut source, "build.ninja") {
-        Ok(_) => Ok("accepted"),
-        Err(fault) => Ok(kind(&fault.cause)),
+    let fault = load(rt.alloc(), &mut source, "build.ninja").err();
+    match &fault {
+        None => Ok("accepted"),
+        Some(fault) => Ok(kind(&fault.cause)),
     }
 }
 
