@@ -8,7 +8,7 @@ use crate::words::{ascii, put_spot, put_word, sides};
 use nj_manifest::{
     Build, DyndepParser, Entry, Line, ParseFault, Parser, Placed, Statement, Wanted,
 };
-use nj_text::{Spot, Word};
+use nj_text::{LexFault, Spot, Word};
 use std::alloc::{AllocError, Global};
 use std::process::Abort;
 use std::test::Fail;
@@ -474,4 +474,29 @@ fn dyndep_refusals(rt: HostRuntime) -> Result<(), Fail> {
             2:8: bad $-escape (literal $ must be written as $$)",
     ];
     reads(&rt, Grammar::Dyndep, &rows)
+}
+
+#[test]
+fn faults_are_shown(rt: HostRuntime) -> Result<(), Fail> {
+    let spot = Spot { line: 3, column: 9 };
+    let rows = [
+        (
+            ParseFault::Lex(LexFault::Tab(spot)),
+            "3:9: tabs are not allowed, use spaces",
+        ),
+        (ParseFault::Lex(LexFault::OutOfMemory), "out of memory"),
+        (
+            ParseFault::Expected(spot, Wanted::Equals),
+            "3:9: expected '='",
+        ),
+        (
+            ParseFault::UnknownKey(spot, b"d\xFFp"),
+            "3:9: unexpected variable 'd\u{FFFD}p'",
+        ),
+    ];
+    'rows: for (fault, want) in rows {
+        let found = format!(in rt.alloc(); "{fault}")?;
+        assert_eq!(rt; found.as_str(), want);
+    }
+    Ok(())
 }

@@ -62,3 +62,18 @@ fn marks_by_value(rt: HostRuntime) -> Result<(), Fail> {
     assert_eq!(rt; address.numbers(), [7, 0].as_slice());
     Ok(())
 }
+
+#[test]
+fn faults_are_shown(rt: HostRuntime) -> Result<(), Fail> {
+    let faults = [
+        MarkFault::BadMark,
+        MarkFault::MarkOutOfRange,
+        MarkFault::OutOfMemory,
+    ];
+    let wanted = ["bad mark", "mark out of range", "out of memory"];
+    'faults: for (fault, want) in faults.into_iter().zip(wanted) {
+        let found = format!(in rt.alloc(); "{fault}")?;
+        assert_eq!(rt; found.as_str(), want);
+    }
+    Ok(())
+}

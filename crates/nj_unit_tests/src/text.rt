@@ -6,8 +6,8 @@
 
 use crate::words::{ascii, put_spot, put_word, sides};
 use nj_text::{
-    LexFault, Lexer, LineStart, Sign, TextFault, Word, clean_into, clean_path, is_clean,
-    leading_number, quote_into, version_of,
+    LexFault, Lexer, LineStart, Lossy, Sign, Spot, TextFault, Word, clean_into, clean_path,
+    is_clean, leading_number, quote_into, version_of,
 };
 use std::alloc::{AllocError, Global};
 use std::process::Abort;
@@ -472,4 +472,50 @@ fn quotes_are_appended(rt: HostRuntime) {
     let answers = [quote_into(&mut out, b"a b"), quote_into(&mut out, b"c")];
     assert!(rt; answers == [Ok(()), Ok(())]);
     assert_eq!(rt; out.as_slice(), b"'a b'c".as_slice());
+}
+
+#[test]
+fn bytes_are_shown_as_text(rt: HostRuntime) -> Result<(), Fail> {
+    let rows: [(&[u8], &str); 8] = [
+        (b"", ""),
+        (b"a.c", "a.c"),
+        (b"\xC3\xA9.c", "\u{E9}.c"),
+        (b"a\xFFb", "a\u{FFFD}b"),
+        (b"\xE2\x82", "\u{FFFD}"),
+        (b"\xE2\x82c", "\u{FFFD}c"),
+        (b"\xC0\xAF", "\u{FFFD}\u{FFFD}"),
+        (b"\xF0\x9F\x98\x80\x80", "\u{1F600}\u{FFFD}"),
+    ];
+    'rows: for (bytes, want) in rows {
+        let found = format!(in rt.alloc(); "{}", Lossy(bytes))?;
+        assert_eq!(rt; found.as_str(), want);
+    }
+    Ok(())
+}
+
+#[test]
+fn faults_are_shown(rt: HostRuntime) -> Result<(), Fail> {
+    let spot = Spot {
+        line: 12,
+        column: 3,
+    };
+    let rows = [
+        (LexFault::BadByte(spot), "12:3: unexpected byte"),
+        (
+            LexFault::Tab(spot),
+            "12:3: tabs are not allowed, use spaces",
+        ),
+        (
+            LexFault::BadEscape(spot),
+            "12:3: bad $-escape (literal $ must be written as $$)",
+        ),
+        (LexFault::OutOfMemory, "out of memory"),
+    ];
+    'rows: for (fault, want) in rows {
+        let found = format!(in rt.alloc(); "{fault}")?;
+        assert_eq!(rt; found.as_str(), want);
+    }
+    let text = format!(in rt.alloc(); "{}; {}", TextFault::EmptyPath, TextFault::OutOfMemory)?;
+    assert_eq!(rt; text.as_str(), "empty path; out of memory");
+    Ok(())
 }

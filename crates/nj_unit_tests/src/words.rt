@@ -15,7 +15,7 @@ pub(crate) fn ascii(bytes: &[u8]) -> &str {
 
 /// A place, as `line:column`.
 pub(crate) fn put_spot(text: &mut String, spot: Spot) -> Result<(), AllocError> {
-    write!(text, "{}:{}", spot.line, spot.column)
+    write!(text, "{spot}")
 }
 
 /// A word or a value: its place, and its parts as `[bytes]` and `${name}`.
