@@ -9,6 +9,8 @@ mod declared;
 #[cfg(test)]
 mod disk;
 #[cfg(test)]
+mod errors;
+#[cfg(test)]
 mod large;
 #[cfg(test)]
 mod loads;

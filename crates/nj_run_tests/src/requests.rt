@@ -24,3 +24,16 @@ fn faults_hold_what_they_quote(rt: HostRuntime) -> Result<(), Fail> {
     );
     Ok(())
 }
+
+#[test]
+fn faults_of_words_are_shown(rt: HostRuntime) -> Result<(), Fail> {
+    let option = ToolOption::Expand;
+    let tool = Word::new(rt.alloc(), "rules")?;
+    let fault = UsageFault::ForeignOption { option, tool };
+    let text = format!(in rt.alloc(); "{fault}; {}", UsageFault::Unparsed)?;
+    assert_eq!(rt;
+        text.as_str(),
+        "option -x does not go with tool 'rules'; cannot read the arguments"
+    );
+    Ok(())
+}
