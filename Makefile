@@ -49,6 +49,7 @@ smoke: $(BUILT)
 	python3 scripts/check_models.py || status=1; \
 	python3 scripts/check_specs.py || status=1; \
 	python3 scripts/check_words.py $(BUILT) || status=1; \
+	python3 scripts/check_completions.py $(BUILT) || status=1; \
 	python3 scripts/check_flood.py $(BUILT) || status=1; \
 	python3 scripts/smoke.py $(BUILT) || status=1; \
 	for sweep in $(SWEEPS); do \

@@ -1,6 +1,10 @@
 # Completion of ninja-explain in bash.
+#
+# A manifest may come from a stranger. So its paths never go through `compgen -W`, which would run
+# what a path has in `$(..)`; and a path with `$` or a backtick is not offered, since readline does
+# not always quote these.
 
-# The options that go with a tool, beside those of all tools.
+# The options of a tool, without those that every tool takes.
 _ninja_explain_options() {
     case $1 in
         commands) echo '-s --take --resume --validations' ;;
@@ -10,13 +14,23 @@ _ninja_explain_options() {
     esac
 }
 
-# The names of the rules in the scope of a main file.
+# The rules in the scope of a main file. Their names have only letters, digits and `_.-`.
 _ninja_explain_rules() {
     ninja-explain -f "$1" -t rules 2>/dev/null
 }
 
+# The outputs of all edges of a main file.
+_ninja_explain_targets() {
+    ninja-explain -f "$1" -t targets all 2>/dev/null | sed 's/: [^:]*$//'
+}
+
+# The inputs that no edge makes.
+_ninja_explain_sources() {
+    ninja-explain -f "$1" -t targets rule 2>/dev/null
+}
+
 # Reads the words before the cursor into variables of the caller: the tool, the main file, the words
-# that are no options, whether `--` ended the options, and the option whose value is at the cursor.
+# that are not options, whether `--` ended the options, and the option whose value is at the cursor.
 _ninja_explain_words() {
     local index option
     for ((index = 1; index < COMP_CWORD; index++)); do
@@ -41,12 +55,29 @@ _ninja_explain_words() {
             -f*) file=${option#-f} ;;
         esac
     done
+    file=${file//[\\\"\']/}
+    file=${file/#'~/'/$HOME/}
 }
 
-# What `compgen` offers in place of a word that is no option.
+# Offers those paths on standard input that begin with the word at the cursor.
+_ninja_explain_offer_paths() {
+    local path start=${current//[\\\"\']/}
+    while IFS= read -r path; do
+        [[ $path == "$start"* && $path != *[\$\`]* ]] && COMPREPLY+=("$path")
+    done
+}
+
+# Offers a word that is not an option.
 _ninja_explain_offer_words() {
     case $tool in
-        commands | inputs | query) offer=(-f) ;;
+        commands | inputs | query)
+            _ninja_explain_offer_paths < <(_ninja_explain_targets "$file")
+            if [[ $tool == query ]]; then
+                _ninja_explain_offer_paths < <(_ninja_explain_sources "$file")
+            fi
+            # FILE^ is a target too
+            offer=(-f)
+            ;;
         compdb) offer=(-W "$(_ninja_explain_rules "$file")") ;;
         targets)
             if ((${#words[@]} == 0)); then
@@ -58,7 +89,7 @@ _ninja_explain_offer_words() {
     esac
 }
 
-# What it offers as the value of the option that wants one.
+# Offers a value of the option that wants one.
 _ninja_explain_offer_value() {
     # bash cuts `--directory=x` into three words
     [[ $current == '=' ]] && current=''
@@ -69,10 +100,12 @@ _ninja_explain_offer_value() {
     esac
 }
 
+# What is offered is in COMPREPLY, or else it is what `compgen` makes of the words in `offer`.
 _ninja_explain() {
     local tools='commands inputs targets query rules compdb'
     local tool='' file=build.ninja words=() ended='' wanted=''
     local current=${COMP_WORDS[COMP_CWORD]} offer=()
+    COMPREPLY=()
     _ninja_explain_words
 
     if [[ $wanted ]]; then
@@ -86,10 +119,10 @@ _ninja_explain() {
         _ninja_explain_offer_words
     fi
 
-    COMPREPLY=()
-    ((${#offer[@]} == 0)) && return
     [[ ${offer[0]} == -[fd] ]] && compopt -o filenames 2>/dev/null
-    mapfile -t COMPREPLY < <(compgen "${offer[@]}" -- "$current")
+    if ((${#COMPREPLY[@]} == 0 && ${#offer[@]} > 0)); then
+        mapfile -t COMPREPLY < <(compgen "${offer[@]}" -- "$current")
+    fi
 }
 
 complete -F _ninja_explain ninja-explain

@@ -3,10 +3,10 @@
 # Prints the tools, each with what it writes.
 function __ninja_explain_tools
     printf '%s\t%s\n' \
-        commands 'The commands that make the targets' \
-        inputs 'All inputs of what the targets need' \
-        targets 'Files that are made, as trees or by their rule' \
-        query 'By what files are made, and for what they are used' \
+        commands 'The commands that build the targets' \
+        inputs 'The files that the targets are built from' \
+        targets 'What can be built, as trees or as a list' \
+        query 'How files are made, and what uses them' \
         rules 'The rules of the main file' \
         compdb 'A compilation database'
 end
@@ -34,7 +34,7 @@ function __ninja_explain_tool_is
     contains -- (__ninja_explain_value -t) $argv
 end
 
-# Prints the words that are no options.
+# Prints the words that are not options.
 function __ninja_explain_words
     set -l skip no
     for word in (commandline -opc)[2..-1]
@@ -57,40 +57,56 @@ function __ninja_explain_wants_rule
     __ninja_explain_tool_is targets; and test "$(__ninja_explain_words)" = rule
 end
 
-# Prints the directories that the value of --directory may go on to.
+# Prints the directories with which the value of --directory may continue.
 function __ninja_explain_directories
     __fish_complete_directories (commandline -ct | string replace -- --directory= '')
 end
 
-# Prints the names of the rules in the main file's scope.
-function __ninja_explain_rules
+# Prints what a tool writes about the main file.
+function __ninja_explain_ask
     set -l file (__ninja_explain_value -f)
     test -n "$file"; or set file build.ninja
-    ninja-explain -f $file -t rules 2>/dev/null
+    ninja-explain -f $file -t $argv 2>/dev/null
+end
+
+# Prints the outputs of all edges and, for query, the inputs that no edge makes. If none of them fits,
+# it prints files, since FILE^ is a target too.
+function __ninja_explain_paths
+    set -l current (commandline -ct)
+    set -l targets (__ninja_explain_ask targets all | string replace -r ': [^:]*$' '')
+    set -l sources
+    __ninja_explain_tool_is query; and set sources (__ninja_explain_ask targets rule)
+    if string match -q -- "$current*" $targets $sources
+        printf '%s\tTarget\n' $targets
+        set -q sources[1]; and printf '%s\tSource\n' $sources
+    else
+        __fish_complete_path "$current"
+    end
 end
 
 complete -c ninja-explain -f
 
-complete -c ninja-explain -s t -x -a '(__ninja_explain_tools)' -d 'The tool'
-complete -c ninja-explain -s f -r -F -d 'The main file, else build.ninja'
+complete -c ninja-explain -s t -x -a '(__ninja_explain_tools)' -d 'The tool to run'
+complete -c ninja-explain -s f -r -F -d 'The main file (default: build.ninja)'
 complete -c ninja-explain -l stdin -d 'Read the main file from standard input'
-complete -c ninja-explain -l dyndep -d 'Join what dyndep files discover first'
+complete -c ninja-explain -l dyndep -d 'Add what dyndep files discover'
 
-complete -c ninja-explain -n '__ninja_explain_tool_is commands' -s s -d 'Only the targets\' own edges'
-complete -c ninja-explain -n '__ninja_explain_tool_is commands' -l take -x -d 'At most so many commands'
-complete -c ninja-explain -n '__ninja_explain_tool_is commands' -l resume -x -d 'The commands after a mark'
+complete -c ninja-explain -n '__ninja_explain_tool_is commands' -s s -d 'Only what makes the targets'
+complete -c ninja-explain -n '__ninja_explain_tool_is commands' -l take -x -d 'Stop after this many'
+complete -c ninja-explain -n '__ninja_explain_tool_is commands' -l resume -x -d 'Continue from a mark'
 complete -c ninja-explain -n '__ninja_explain_tool_is commands inputs' -l validations \
-    -d 'With what is to be validated'
+    -d 'Follow validations'
 complete -c ninja-explain -n '__ninja_explain_tool_is inputs' -l dependency-order -d 'Not sorted'
 complete -c ninja-explain -n '__ninja_explain_tool_is inputs' -l no-shell-escape -d 'Not quoted'
-complete -c ninja-explain -n '__ninja_explain_tool_is inputs' -l print0 -d 'Each followed by the byte 0'
-complete -c ninja-explain -n '__ninja_explain_tool_is rules' -s d -d 'With unexpanded descriptions'
-complete -c ninja-explain -n '__ninja_explain_tool_is compdb' -s x -d 'With response files expanded'
-complete -c ninja-explain -n '__ninja_explain_tool_is compdb' -l directory -x -d 'The directory that is written' \
-    -a '(__ninja_explain_directories)'
+complete -c ninja-explain -n '__ninja_explain_tool_is inputs' -l print0 -d 'End paths with a zero byte'
+complete -c ninja-explain -n '__ninja_explain_tool_is rules' -s d -d 'With descriptions'
+complete -c ninja-explain -n '__ninja_explain_tool_is compdb' -s x -d 'Expand response files'
+complete -c ninja-explain -n '__ninja_explain_tool_is compdb' -l directory -x \
+    -d 'The directory of each entry' -a '(__ninja_explain_directories)'
 
-complete -c ninja-explain -n '__ninja_explain_tool_is commands inputs query' -F
-complete -c ninja-explain -n __ninja_explain_no_view_yet -a all -d 'All outputs and their rules'
-complete -c ninja-explain -n __ninja_explain_no_view_yet -a depth -d 'Trees of so many levels'
+complete -c ninja-explain -n '__ninja_explain_tool_is commands inputs query' \
+    -a '(__ninja_explain_paths)'
+complete -c ninja-explain -n __ninja_explain_no_view_yet -a all -d 'All outputs, with their rules'
+complete -c ninja-explain -n __ninja_explain_no_view_yet -a depth -d 'Trees of a given depth'
 complete -c ninja-explain -n __ninja_explain_no_view_yet -a rule -d 'Outputs of a rule, or sources'
-complete -c ninja-explain -n __ninja_explain_wants_rule -a '(__ninja_explain_rules)' -d Rule
+complete -c ninja-explain -n __ninja_explain_wants_rule -a '(__ninja_explain_ask rules)' -d Rule

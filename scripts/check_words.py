@@ -20,13 +20,13 @@ import sys
 import tempfile
 from pathlib import Path
 
+from check_completions import BASH, FISH, offered_by_bash
+
 ROOT = Path(__file__).resolve().parent.parent
 PROGRAM = os.path.abspath(sys.argv[1]) if len(sys.argv) > 1 else str(ROOT / "bin/ninja-explain")
 COMMAND_LINE = ROOT / "crates/nj_args/specs/CommandLine.antt"
 PAGE = ROOT / "man/ninja-explain.1"
-BASH = ROOT / "completions/ninja-explain.bash"
 ZSH = ROOT / "completions/_ninja-explain"
-FISH = ROOT / "completions/ninja-explain.fish"
 
 # For each tool the options that go with it alone, and words that it takes.
 TOOLS = {
@@ -176,26 +176,17 @@ def check_faults():
 # ---- the completions
 
 
-def completed(folder, words):
-    """What the completion of bash offers in place of the last word."""
-    script = (
-        'source "$1"; shift; COMP_WORDS=("$@"); COMP_CWORD=$(($# - 1)); _ninja_explain;'
-        ' printf "%s\\n" "${COMPREPLY[@]}"'
-    )
-    bash = ["bash", "-c", script, "bash", BASH, "ninja-explain", *words]
-    ran = subprocess.run(bash, cwd=folder, capture_output=True, text=True, timeout=SECONDS)
-    if ran.returncode or ran.stderr:
-        report(BASH.relative_to(ROOT), f"it fails: {ran.stderr.rstrip()}")
-    return set(ran.stdout.split())
-
-
 def check_bash(folder):
     where = BASH.relative_to(ROOT)
-    compare(where, "the tool", completed(folder, ["-t", ""]), set(TOOLS))
-    compare(where, "without a tool, the option", completed(folder, ["-"]), EVERY_TOOL | {END})
+
+    def compare_offered(what, words, wanted):
+        compare(where, what, set(offered_by_bash(words, folder)), wanted)
+
+    compare_offered("the tool", ["-t", ""], set(TOOLS))
+    compare_offered("without a tool, the option", ["-"], EVERY_TOOL | {END})
     for tool in TOOLS:
         wanted = EVERY_TOOL | options_of(tool) | {END}
-        compare(where, f"with {tool}, the option", completed(folder, ["-t", tool, "-"]), wanted)
+        compare_offered(f"with {tool}, the option", ["-t", tool, "-"], wanted)
 
 
 def check_zsh():
