@@ -30,9 +30,14 @@ all:
 	mkdir -p bin
 	cp $(BUILT) bin/ninja-explain
 
-# Builds the program without any proof, and prints the commands of a project in three files.
+# Builds the program without any proof, and prints the commands of a project in three files. With
+# FOLDER=.. it runs on the *.ninja files of that folder, with the words of WORDS='..'.
 run:
+ifdef FOLDER
+	@python3 scripts/try_folder.py "$(FOLDER)" $(WORDS)
+else
 	cd $(PROGRAM) && rt try $(foreach file,$(FILES),--data $(file)=../../$(PROJECT)/$(file)) -- -t commands
+endif
 	@echo "Nothing is proved yet: 'make' proves and builds the program, 'make test' runs the whole gate."
 
 # Every proof from nothing, the must-fail edits, the tests and the stored run. It leaves the program.
