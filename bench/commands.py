@@ -27,7 +27,8 @@ import os
 import shutil
 import tempfile
 
-from manifest import SHAPES as MANIFESTS
+from manifest import SHAPES as MANIFESTS, write_statements
+from reports import load_shown, missed_beside_ninja, missed_growth, numbers, print_missed, print_runs
 from runs import MB, Run, best, measure
 from shapes import write_shape
 
@@ -35,17 +36,6 @@ NINJA = "ninja -t commands"
 STOPPED = 3
 TIME_AIM = 0.40
 MEMORY_AIM = 0.9
-GROWTH_AIM = 1.15
-
-
-def write_commands_of(count, out, shape):
-    if shape in MANIFESTS:
-        head, statement_at, _ = MANIFESTS[shape]
-        out.write(head)
-        for index in range(count):
-            out.write(statement_at(index))
-    else:
-        write_shape(count, out, shape)
 
 
 def programs_of(program, other, folder):
@@ -103,20 +93,12 @@ def divided(program, folder, lines, rounds):
 def report(shape, count, size, lines, figures, before):
     """Prints the figures of one size. Gives the aims that were missed."""
     print(f"{shape}: N = {count}, {size / MB:.1f} MB, {lines} commands")
-    for name, (seconds, processor, memory) in figures.items():
-        growth = f" x{processor / before[name][1]:.2f}" if name in before else ""
-        print(
-            f"  {name:<18} {seconds:7.3f} s | processor {processor:7.3f} s{growth}"
-            f" | memory {memory / MB:7.1f} MB"
-        )
+    print_runs(figures, before)
     missed = []
     if NINJA in figures:
-        _, processor, memory = (mine / other for mine, other in zip(figures["program"], figures[NINJA]))
-        print(f"  {processor:.2f} of Ninja's processor time, {memory:.2f} of its memory")
-        if processor > TIME_AIM:
-            missed.append(f"{shape} {count}: {processor:.2f} of Ninja's time, aim {TIME_AIM}")
-        if memory > MEMORY_AIM:
-            missed.append(f"{shape} {count}: {memory:.2f} of Ninja's memory, aim {MEMORY_AIM}")
+        _, time, memory = (mine / other for mine, other in zip(figures["program"], figures[NINJA]))
+        print(f"  {time:.2f} of Ninja's processor time, {memory:.2f} of its memory")
+        missed += missed_beside_ninja(f"{shape} {count}", time, memory, TIME_AIM, MEMORY_AIM)
     if "the rest" in figures:
         rest = figures["the rest"][1] / figures["the whole"][1]
         print(f"  the rest takes {rest:.2f} of the whole's processor time")
@@ -130,7 +112,8 @@ def measure_size(words, shape, count, before):
     with tempfile.TemporaryDirectory() as folder:
         path = os.path.join(folder, "build.ninja")
         with open(path, "w") as file:
-            write_commands_of(count, file, shape)
+            write = write_statements if shape in MANIFESTS else write_shape
+            write(count, file, shape)
         programs = programs_of(words.program, words.edges, folder)
         lines = check(programs, folder)
         out = os.path.join(folder, "out")
@@ -149,15 +132,9 @@ def measure_shape(words, shape, counts):
         missed += more
         if before:
             growth = figures["program"][1] / before["program"][1]
-            aim = GROWTH_AIM * count / few
-            if growth > aim:
-                missed.append(f"{shape}: {growth:.2f} of the time for {count / few:.0f} times N, aim {aim:.2f}")
+            missed += missed_growth(shape, growth, few, count)
         before, few = figures, count
     return missed
-
-
-def numbers(text):
-    return [int(word) for word in text.split(",")] if text else []
 
 
 def main():
@@ -170,16 +147,13 @@ def main():
     parser.add_argument("--references", type=numbers, default="1000,10000")
     parser.add_argument("--rounds", type=int, default=3)
     words = parser.parse_args()
-    print(f"load before: {os.getloadavg()[0]:.2f} on {os.cpu_count()} processors")
     shapes = {shape: words.sizes for shape in MANIFESTS}
     shapes |= {"chain": words.chain, "inputs": words.inputs, "references": words.references}
     missed = []
-    for shape, counts in shapes.items():
-        missed += measure_shape(words, shape, counts)
-    print(f"load after: {os.getloadavg()[0]:.2f}")
-    print("aims missed:" if missed else "no aim was missed")
-    for line in missed:
-        print(f"  {line}")
+    with load_shown():
+        for shape, counts in shapes.items():
+            missed += measure_shape(words, shape, counts)
+    print_missed(missed)
 
 
 if __name__ == "__main__":

@@ -14,13 +14,13 @@ import argparse
 import os
 import tempfile
 
+from reports import missed_growth, numbers, print_missed
 from runs import MB, measure, middle
 
 SIZES = [10_000, 100_000]
 ROUNDS = 5
 PER_FILE = 100
 AIM = 0.50
-GROWTH_AIM = 1.15
 
 HEAD = """rule FC
   command = gfortran $FLAGS -c $in -o $out
@@ -84,23 +84,23 @@ def costs(program, count, rounds):
 def main():
     parser = argparse.ArgumentParser(description=__doc__.split("\n", maxsplit=1)[0])
     parser.add_argument("program")
-    parser.add_argument("--sizes", default=",".join(str(size) for size in SIZES))
+    parser.add_argument("--sizes", type=numbers, default=SIZES)
     parser.add_argument("--rounds", type=int, default=ROUNDS)
     options = parser.parse_args()
     program = os.path.abspath(options.program)
     print(f"{'edges':>9} {'load s':>8} {'join s':>8} {'ratio':>6} {'load MB':>8} {'with it':>8}")
     missed = []
     before = None
-    for size in [int(text) for text in options.sizes.split(",")]:
+    for size in options.sizes:
         load, join, memory, joined = costs(program, size, options.rounds)
         line = f"{size:>9} {load:>8.3f} {join:>8.3f} {join / load:>6.2f}"
         print(f"{line} {memory / MB:>8.0f} {joined / MB:>8.0f}")
         if join > AIM * load:
-            missed.append(f"joining at {size} edges")
-        if before and join / before[1] > GROWTH_AIM * size / before[0]:
-            missed.append(f"growth up to {size} edges")
+            missed.append(f"joining at {size} edges: {join / load:.2f} of the load, aim {AIM}")
+        if before:
+            missed += missed_growth(f"joining at {size} edges", join / before[1], before[0], size)
         before = size, join
-    print("missed: " + ", ".join(missed) if missed else "all aims are met")
+    print_missed(missed)
 
 
 if __name__ == "__main__":

@@ -18,11 +18,11 @@ takes smaller sizes and fewer rounds. In the end the aims that were missed are l
 
 import argparse
 import os
-import shutil
 import tempfile
 
 from manifest import SHAPES as MANIFESTS, write_manifest
-from runs import MB, Run, best, measure
+from reports import load_shown, missed_beside_ninja, missed_growth, numbers, print_missed
+from runs import MB, NINJA_RULES, Run, measure_in_turn, programs_beside
 from shapes import SHAPES, cycle_line, write_shape
 
 ROUNDS = 3
@@ -35,10 +35,8 @@ QUICK_HARD = [10_000, 100_000]
 # Shapes with N edges of a rule that has N references, of which fewer are made.
 FEWER = {"bound": 10, "pool-line": 200}
 
-NINJA = "ninja -t rules"
 TIME_AIM = 0.45
 MEMORY_AIM = 0.9
-GROWTH_AIM = 1.15
 
 
 def make(folder, shape, count):
@@ -61,29 +59,15 @@ def check(program, place, fault):
         raise SystemExit(f"{program} said {said.decode(errors='replace')!r}, not {wanted!r}")
 
 
-def programs_of(program, words, fault):
-    programs = {"program": [program]}
-    if words.before:
-        programs["before"] = [os.path.abspath(words.before)]
-    if shutil.which("ninja") and not fault:
-        programs[NINJA] = ["ninja", "-t", "rules"]
-    return programs
-
-
 def figures_of(program, words, places, faults):
-    """The figures of the programs at each size. The sizes are taken in turn too, so that each meets
-    the same load."""
-    runs = {count: {} for count in places}
-    for _ in range(words.rounds):
-        for count, place in places.items():
-            programs = programs_of(program, words, faults[count])
-            status = 1 if faults[count] else 0
-            for name, more in measure(programs, 1, folder=place, status=status).items():
-                runs[count].setdefault(name, []).extend(more)
-    return {
-        count: {name: best(all_runs) for name, all_runs in of_size.items()}
-        for count, of_size in runs.items()
-    }
+    """The figures of the programs at each size. Ninja looks for no cycle, so it is left out there."""
+    cases = {}
+    for count, place in places.items():
+        ninja = None if faults[count] else ["ninja", "-t", "rules"]
+        status = 1 if faults[count] else 0
+        programs = programs_beside(program, words.before, ninja)
+        cases[count] = programs, {"folder": place, "status": status}
+    return measure_in_turn(cases, words.rounds)
 
 
 def report(shape, count, size, figures):
@@ -97,7 +81,7 @@ def report(shape, count, size, figures):
         )
     missed = []
     now = figures["program"]
-    for name in ("before", NINJA):
+    for name in ("before", NINJA_RULES):
         if name not in figures:
             continue
         seconds, processor, memory = (mine / other for mine, other in zip(now, figures[name]))
@@ -105,10 +89,9 @@ def report(shape, count, size, figures):
             f"  program / {name}: {seconds:.2f} of the time, {processor:.2f} of the processor time,"
             f" {memory:.2f} of the memory"
         )
-        if name == NINJA and processor > TIME_AIM:
-            missed.append(f"{shape} {count}: {processor:.2f} of Ninja's time, aim {TIME_AIM}")
-        if name == NINJA and memory > MEMORY_AIM:
-            missed.append(f"{shape} {count}: {memory:.2f} of Ninja's memory, aim {MEMORY_AIM}")
+        if name == NINJA_RULES:
+            where = f"{shape} {count}"
+            missed += missed_beside_ninja(where, processor, memory, TIME_AIM, MEMORY_AIM)
     return missed
 
 
@@ -122,11 +105,8 @@ def report_growth(shape, few, many, sizes, figures):
             f"  {name:<15} {many / few:.0f} times N, {sizes[many] / sizes[few]:.2f} of the bytes:"
             f" {processor:.2f} of the processor time, {memory:.2f} of the memory"
         )
-        aim = GROWTH_AIM * many / few
-        if name == "program" and processor > aim:
-            missed.append(
-                f"{shape}: {processor:.2f} of the time for {many / few:.0f} times N, aim {aim:.2f}"
-            )
+        if name == "program":
+            missed += missed_growth(shape, processor, few, many)
     return missed
 
 
@@ -156,10 +136,6 @@ def counts_of(words, shape):
     return [count // FEWER.get(shape, 1) for count in words.hard]
 
 
-def numbers(text):
-    return [int(word) for word in text.split(",")]
-
-
 def words_given():
     parser = argparse.ArgumentParser()
     parser.add_argument("program")
@@ -179,14 +155,11 @@ def words_given():
 def main():
     words = words_given()
     program = os.path.abspath(words.program)
-    print(f"load before: {os.getloadavg()[0]:.2f} on {os.cpu_count()} processors")
     missed = []
-    for shape in words.shapes.split(","):
-        missed += measure_shape(program, words, shape, counts_of(words, shape))
-    print(f"load after: {os.getloadavg()[0]:.2f}")
-    print("aims missed:" if missed else "no aim was missed")
-    for line in missed:
-        print(f"  {line}")
+    with load_shown():
+        for shape in words.shapes.split(","):
+            missed += measure_shape(program, words, shape, counts_of(words, shape))
+    print_missed(missed)
 
 
 if __name__ == "__main__":

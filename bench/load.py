@@ -12,11 +12,11 @@ made in a temporary folder.
 
 import argparse
 import os
-import shutil
 import tempfile
 
 from bindings import FLAGS, write_far, write_near, write_tree
-from runs import MB, Run, best, measure
+from reports import load_shown, numbers
+from runs import MB, Run, best, measure, programs_beside
 
 ROUNDS = 5
 
@@ -27,12 +27,9 @@ def check_files(program, folder, files):
 
 
 def figures_of(program, words, folder):
-    programs = {"program": [program]}
-    if words.before:
-        programs["before"] = [os.path.abspath(words.before)]
-    if shutil.which("ninja"):
-        programs["ninja -t rules"] = ["ninja", "-t", "rules"]
-    return {name: best(runs) for name, runs in measure(programs, words.rounds, folder=folder).items()}
+    programs = programs_beside(program, words.before, ["ninja", "-t", "rules"])
+    runs = measure(programs, words.rounds, folder=folder)
+    return {name: best(of_one) for name, of_one in runs.items()}
 
 
 def ratio(now, before, place):
@@ -67,10 +64,6 @@ def series(program, words, title, write, counts, flags, files_of):
         before = figures
 
 
-def numbers(text):
-    return [int(word) for word in text.split(",")]
-
-
 def main():
     parser = argparse.ArgumentParser()
     parser.add_argument("program")
@@ -80,12 +73,15 @@ def main():
     parser.add_argument("--rounds", type=int, default=ROUNDS)
     words = parser.parse_args()
     program = os.path.abspath(words.program)
-    print(f"load before: {os.getloadavg()[0]:.2f} on {os.cpu_count()} processors")
-    for flags, length in ((FLAGS, "long"), ("", "short")):
-        series(program, words, f"files of 100 {length} bindings", write_tree, words.files, flags, lambda count: count + 1)
-        series(program, words, f"{length} bindings of one file that refer to near ones", write_near, words.bindings, flags, lambda count: 1)
-        series(program, words, f"{length} bindings of one file that refer to any before them", write_far, words.bindings, flags, lambda count: 1)
-    print(f"load after: {os.getloadavg()[0]:.2f}")
+    with load_shown():
+        for flags, length in ((FLAGS, "long"), ("", "short")):
+            of_this_length = [
+                (f"files of 100 {length} bindings", write_tree, words.files, lambda count: count + 1),
+                (f"{length} bindings of one file that refer to near ones", write_near, words.bindings, lambda count: 1),
+                (f"{length} bindings of one file that refer to any before them", write_far, words.bindings, lambda count: 1),
+            ]
+            for title, write, counts, files_of in of_this_length:
+                series(program, words, title, write, counts, flags, files_of)
 
 
 if __name__ == "__main__":

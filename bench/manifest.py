@@ -190,12 +190,16 @@ SHAPES = {
 }
 
 
-def write_manifest(count, out, shape="cmake"):
-    head, statement_at, target = SHAPES[shape]
+def write_statements(count, out, shape):
+    """Writes a manifest without its `default` line, whose target has no command."""
+    head, statement_at, _ = SHAPES[shape]
     out.write(head)
-    for index in range(count):
-        out.write(statement_at(index))
-    out.write(f"default {target}\n")
+    out.writelines(map(statement_at, range(count)))
+
+
+def write_manifest(count, out, shape="cmake"):
+    write_statements(count, out, shape)
+    out.write(f"default {SHAPES[shape][2]}\n")
 
 
 if __name__ == "__main__":

@@ -11,11 +11,11 @@ the clock, and of the processor. The files are made in a temporary folder, of ea
 
 import argparse
 import os
-import shutil
 import tempfile
 
 from manifest import write_manifest
-from runs import MB, Run, best, measure
+from reports import load_shown, numbers
+from runs import MB, NINJA_RULES, Run, measure_in_turn, programs_beside
 
 ROUNDS = 3
 
@@ -38,33 +38,23 @@ def report(shape, count, size, figures):
         print(f"  {name:<15} {seconds:7.3f} s {size / MB / seconds:6.0f} MB/s | processor {processor:7.3f} s {size / MB / processor:6.0f} MB/s | memory {memory / MB:7.1f} MB, {memory / size:.2f} of the file")
     seconds, processor, memory = figures["program"]
     print(f"  memory of the program beside the file: {(memory - size) / MB:.1f} MB")
-    for other in ("before", "ninja -t rules"):
+    for other in ("before", NINJA_RULES):
         if other in figures:
             print(f"  program / {other}: {seconds / figures[other][0]:.2f} of the time, {processor / figures[other][1]:.2f} of the processor time")
 
 
-def programs_of(program, words, path):
-    programs = {"program": [program], "wc -l": ["wc", "-l"]}
-    if words.before:
-        programs["before"] = [os.path.abspath(words.before)]
-    if shutil.which("ninja"):
-        programs["ninja -t rules"] = ["ninja", "-f", path, "-t", "rules"]
-    return programs
-
-
 def figures_of(paths, program, words):
-    """The figures of the programs on each file. The files are taken in turn, so that each meets the same load."""
-    runs = {count: {} for count in paths}
-    for _ in range(words.rounds):
-        for count, path in paths.items():
-            for name, more in measure(programs_of(program, words, path), 1, stdin=path).items():
-                runs[count].setdefault(name, []).extend(more)
-    return {count: {name: best(all_runs) for name, all_runs in of_file.items()} for count, of_file in runs.items()}
+    """The figures of the programs on each file."""
+    cases = {}
+    for count, path in paths.items():
+        programs = programs_beside(program, words.before, ["ninja", "-f", path, "-t", "rules"])
+        cases[count] = programs | {"wc -l": ["wc", "-l"]}, {"stdin": path}
+    return measure_in_turn(cases, words.rounds)
 
 
 def measure_shape(program, words, shape):
     with tempfile.TemporaryDirectory() as folder:
-        paths = {count: make(folder, count, shape) for count in map(int, words.sizes.split(","))}
+        paths = {count: make(folder, count, shape) for count in words.sizes}
         sizes = {count: os.path.getsize(path) for count, path in paths.items()}
         for count, path in paths.items():
             check_count(program, path, count)
@@ -80,16 +70,15 @@ def measure_shape(program, words, shape):
 def main():
     parser = argparse.ArgumentParser()
     parser.add_argument("program")
-    parser.add_argument("--sizes", default="100000,1000000")
+    parser.add_argument("--sizes", type=numbers, default="100000,1000000")
     parser.add_argument("--shapes", default="cmake,dense,headings")
     parser.add_argument("--before")
     parser.add_argument("--rounds", type=int, default=ROUNDS)
     words = parser.parse_args()
     program = os.path.abspath(words.program)
-    print(f"load before: {os.getloadavg()[0]:.2f} on {os.cpu_count()} processors")
-    for shape in words.shapes.split(","):
-        measure_shape(program, words, shape)
-    print(f"load after: {os.getloadavg()[0]:.2f}")
+    with load_shown():
+        for shape in words.shapes.split(","):
+            measure_shape(program, words, shape)
 
 
 if __name__ == "__main__":

@@ -13,8 +13,9 @@ import argparse
 import os
 import tempfile
 
-import manifest
+from manifest import write_statements
 from projects import write_project
+from reports import load_shown
 from runs import MB, measure, middle
 
 ROUNDS = 5
@@ -23,12 +24,10 @@ TOOLS = ["rules", "commands", "compdb", "inputs"]
 
 def manifest_of(shape, count):
     """Writes a manifest without its `default` line, so that the tools speak of all its edges."""
-    head, statement_at, _ = manifest.SHAPES[shape]
 
     def write(folder):
         with open(os.path.join(folder, "build.ninja"), "w") as file:
-            file.write(head)
-            file.writelines(map(statement_at, range(count)))
+            write_statements(count, file, shape)
 
     return write
 
@@ -86,13 +85,13 @@ def main():
     parser.add_argument("--shapes", default=",".join(SHAPES))
     parser.add_argument("--rounds", type=int, default=ROUNDS)
     words = parser.parse_args()
-    print(f"load before: {os.getloadavg()[0]:.2f} on {os.cpu_count()} processors; time, memory as ratios to ninja's")
-    columns = TOOLS + ([f"{tool} / before" for tool in TOOLS] if words.before else [])
-    print(f"| shape | {' | '.join(columns)} | rules |")
-    print("|" + "---|" * (len(columns) + 2))
-    for shape in words.shapes.split(","):
-        print(row(words, shape), flush=True)
-    print(f"load after: {os.getloadavg()[0]:.2f}")
+    with load_shown():
+        print("time, memory as ratios to ninja's")
+        columns = TOOLS + ([f"{tool} / before" for tool in TOOLS] if words.before else [])
+        print(f"| shape | {' | '.join(columns)} | rules |")
+        print("|" + "---|" * (len(columns) + 2))
+        for shape in words.shapes.split(","):
+            print(row(words, shape), flush=True)
 
 
 if __name__ == "__main__":

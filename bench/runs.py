@@ -13,6 +13,8 @@ MB = 1_000_000
 # A program that Python starts begins with Python's memory, and that counts for its peak. One that `time` starts does not.
 TIME = shutil.which("time")
 
+NINJA_RULES = "ninja -t rules"
+
 
 class Run:
     """A run of a program in a folder, with a file as standard input; without one it has none. Its output goes to the file `out`,
@@ -46,6 +48,31 @@ def measure(programs, rounds, stdin=os.devnull, folder=None, status=0, out=None)
         for name, words in programs.items():
             runs[name].append(Run(words, stdin, folder, status, out))
     return runs
+
+
+def measure_in_turn(cases, rounds):
+    """The best figures of each program in each case. A case is programs, and how they are run (the
+    words of `measure`). The cases are taken in turn, so that each meets the same load."""
+    runs = {case: {} for case in cases}
+    for _ in range(rounds):
+        for case, (programs, how) in cases.items():
+            for name, more in measure(programs, 1, **how).items():
+                runs[case].setdefault(name, []).extend(more)
+    return {
+        case: {name: best(all_runs) for name, all_runs in of_case.items()}
+        for case, of_case in runs.items()
+    }
+
+
+def programs_beside(program, before, ninja=None):
+    """The words of the program and of those that it is compared with: that of an earlier commit, if
+    there is one, and `ninja -t rules`, whose words are in `ninja`, if it is to be run."""
+    programs = {"program": [program]}
+    if before:
+        programs["before"] = [os.path.abspath(before)]
+    if ninja and shutil.which("ninja"):
+        programs[NINJA_RULES] = ninja
+    return programs
 
 
 def best(runs):

@@ -27,6 +27,7 @@ import shutil
 import tempfile
 
 from manifest import PER_TARGET, SHAPES, dense_object, object_file, source
+from reports import load_shown, missed_beside_ninja, missed_growth, numbers, print_missed
 from runs import MB, Run, measure, middle
 
 SIZES = [10_000, 100_000]
@@ -35,7 +36,6 @@ MANY_FILES = 10_000
 MANY_RULES = 1_000
 TIME_AIM = 0.40
 MEMORY_AIM = 0.90
-GROWTH_AIM = 1.15
 
 # The options of `inputs` that change how the list is written.
 STYLES = {"--dependency-order", "--no-shell-escape"}
@@ -211,24 +211,19 @@ def report(shape, count, size, figures):
             time, memory = (of_tool["program"][of] / of_tool["ninja"][of] for of in (1, 2))
             line += f" time {time:.2f}, memory {memory:.2f}"
             where = f"{shape} {count}, {tool}"
-            if time > TIME_AIM:
-                missed.append(f"{where}: {time:.2f} of Ninja's time, aim {TIME_AIM}")
-            if memory > MEMORY_AIM:
-                missed.append(f"{where}: {memory:.2f} of Ninja's memory, aim {MEMORY_AIM}")
+            missed += missed_beside_ninja(where, time, memory, TIME_AIM, MEMORY_AIM)
         print(line)
     return missed
 
 
 def report_growth(shape, few, many, before, after):
     """Prints how the program's figures grow with the size. Gives the aims that were missed."""
-    more = many / few
-    print(f"{shape}: from {few} to {many} statements, {more:.0f} times as many")
+    print(f"{shape}: from {few} to {many} statements, {many / few:.0f} times as many")
     missed = []
     for tool, old in before.items():
         time, memory = (after[tool]["program"][of] / old["program"][of] for of in (1, 2))
         print(f"  {tool:<18} {time:6.2f} of the processor time, {memory:6.2f} of the memory")
-        if time > GROWTH_AIM * more:
-            missed.append(f"{shape}, {tool}: {time:.2f} of the time for {more:.0f} times N")
+        missed += missed_growth(f"{shape}, {tool}", time, few, many)
     return missed
 
 
@@ -257,10 +252,6 @@ def measure_shape(words, shape):
     return missed
 
 
-def numbers(text):
-    return [int(word) for word in text.split(",")]
-
-
 def main():
     parser = argparse.ArgumentParser()
     parser.add_argument("program", type=os.path.abspath)
@@ -269,15 +260,12 @@ def main():
     parser.add_argument("--only", type=lambda text: text.split(","), default=[])
     parser.add_argument("--rounds", type=int, default=ROUNDS)
     words = parser.parse_args()
-    print(f"load before: {os.getloadavg()[0]:.2f} on {os.cpu_count()} processors")
-    print("by the clock, of the processor, and the greatest memory:")
     missed = []
-    for shape in words.shapes.split(","):
-        missed += measure_shape(words, shape)
-    print(f"load after: {os.getloadavg()[0]:.2f}")
-    print("aims missed:" if missed else "no aim was missed")
-    for line in missed:
-        print(f"  {line}")
+    with load_shown():
+        print("by the clock, of the processor, and the greatest memory:")
+        for shape in words.shapes.split(","):
+            missed += measure_shape(words, shape)
+    print_missed(missed)
 
 
 if __name__ == "__main__":

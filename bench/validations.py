@@ -20,6 +20,7 @@ import argparse
 import os
 import tempfile
 
+from reports import load_shown, missed_growth, numbers, print_missed, print_runs
 from runs import MB, Run, best, measure
 
 RULES = """\
@@ -32,7 +33,6 @@ rule test
 """
 SOURCES = 18
 PER_LIBRARY = SOURCES + 2
-GROWTH_AIM = 1.15
 
 
 def step(number):
@@ -93,12 +93,7 @@ def measure_size(program, shape, count, rounds, before):
         runs = measure(programs, rounds, folder=folder, out=os.path.join(folder, "out"))
         figures = {name: best(all_runs) for name, all_runs in runs.items()}
         print(f"{shape}: N = {count}, {os.path.getsize(path) / MB:.1f} MB, {len(with_all)} commands")
-    for name, (seconds, processor, memory) in figures.items():
-        growth = f" x{processor / before[name][1]:.2f}" if name in before else ""
-        print(
-            f"  {name:<22} {seconds:7.3f} s | processor {processor:7.3f} s{growth}"
-            f" | memory {memory / MB:7.1f} MB"
-        )
+    print_runs(figures, before)
     for tool in ("commands", "inputs"):
         with_flag, plain = figures[f"{tool} --validations"], figures[tool]
         print(
@@ -108,31 +103,23 @@ def measure_size(program, shape, count, rounds, before):
     return figures
 
 
-def numbers(text):
-    return [int(word) for word in text.split(",")]
-
-
 def main():
     parser = argparse.ArgumentParser()
     parser.add_argument("program", type=os.path.abspath)
     parser.add_argument("--sizes", type=numbers, default="100000,1000000")
     parser.add_argument("--rounds", type=int, default=3)
     words = parser.parse_args()
-    print(f"load before: {os.getloadavg()[0]:.2f} on {os.cpu_count()} processors")
     missed = []
-    for shape in SHAPES:
-        before, few = {}, None
-        for count in words.sizes:
-            figures = measure_size(words.program, shape, count, words.rounds, before)
-            for name in before:
-                growth, aim = figures[name][1] / before[name][1], GROWTH_AIM * count / few
-                if growth > aim:
-                    missed.append(f"{shape}, {name}: {growth:.2f} of the time, aim {aim:.2f}")
-            before, few = figures, count
-    print(f"load after: {os.getloadavg()[0]:.2f}")
-    print("aims missed:" if missed else "no aim was missed")
-    for line in missed:
-        print(f"  {line}")
+    with load_shown():
+        for shape in SHAPES:
+            before, few = {}, None
+            for count in words.sizes:
+                figures = measure_size(words.program, shape, count, words.rounds, before)
+                for name in before:
+                    growth = figures[name][1] / before[name][1]
+                    missed += missed_growth(f"{shape}, {name}", growth, few, count)
+                before, few = figures, count
+    print_missed(missed)
 
 
 if __name__ == "__main__":
