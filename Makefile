@@ -1,17 +1,17 @@
 # The toolchain is the command `rt`; `rt version` names it.
 PROGRAM := crates/ninja_explain
 BUILT := $(PROGRAM)/out/ninja_explain
-# The same with sinks in memory, which `make sweep` refuses room.
+# The same program with sinks in memory, to which `make sweep` refuses memory.
 SINKS := crates/memory_sinks
 PROJECT := examples/project
 FILES := $(shell cd $(PROJECT) && find * -type f)
-# How many crates are proved side by side, each on one processor and in at most 3 GB, and how many
-# runs of the sweeps go on at once.
+# How many crates are proved at once, each on one processor and in at most 3 GB, and how many runs of
+# the sweeps.
 JOBS ?= $(shell nproc)
-# The sweeps that `make smoke` runs too; docs/RELIABILITY.md says what each of them tries.
+# The sweeps that `make smoke` runs too. docs/RELIABILITY.md describes them.
 SWEEPS := memory calls texts sizes
 
-# Where `make install` puts things; DESTDIR stands before all of it.
+# Where `make install` puts things, with DESTDIR in front of every path.
 PREFIX ?= /usr/local
 SHARE := $(DESTDIR)$(PREFIX)/share
 INSTALLED_PROGRAM := $(DESTDIR)$(PREFIX)/bin/ninja-explain
@@ -22,8 +22,8 @@ INSTALLED_FISH := $(SHARE)/fish/vendor_completions.d/ninja-explain.fish
 
 .PHONY: all run test smoke sweep install uninstall clean
 
-# Proves and builds the program, and leaves it as bin/ninja-explain. The crates that it stands on are
-# proved side by side; the last line builds it over what was proved.
+# Proves and builds the program as bin/ninja-explain. `rt all` proves the program and the crates below
+# it, several at once; `rt run` then builds the program from what was proved.
 all:
 	cd $(PROGRAM) && rt all check --jobs $(JOBS)
 	cd $(PROGRAM) && rt run --jobs 1 < stdin > /dev/null
@@ -31,7 +31,7 @@ all:
 	cp $(BUILT) bin/ninja-explain
 
 # Builds the program without any proof, and prints the commands of a project in three files. With
-# FOLDER=.. it runs on the *.ninja files of that folder, with the words of WORDS='..'.
+# FOLDER=.. it runs on the *.ninja files in that folder and below, with the words WORDS='..'.
 run:
 ifdef FOLDER
 	@python3 scripts/try_folder.py "$(FOLDER)" $(WORDS)
@@ -40,14 +40,16 @@ else
 endif
 	@echo "Nothing is proved yet: 'make' proves and builds the program, 'make test' runs the whole gate."
 
-# Every proof from nothing, the must-fail edits, the tests and the stored run. It leaves the program.
+# The gate: every proof from nothing, the must-fail edits, the tests and the stored runs. The program
+# remains in $(BUILT).
 test:
 	rt ci
 
-# Runs the built program on real files, and looks whether docs/ARCHITECTURE.md names every module,
-# each type with a private field has a model, what must be believed and what is plumbing stand apart,
-# the man page and the completions have every tool and option, and names that collide under a known
-# number cost no more than others. Last come the short sweeps.
+# Runs the built program on real files, and the short sweeps. It also checks that
+# docs/ARCHITECTURE.md names every module, that each type with a private field has a model, that what
+# must be believed is apart from plumbing, that the man page and the completions have every tool and
+# option, that the completions work, and that names which collide under a known number cost no more
+# than others.
 smoke: $(BUILT)
 	@status=0; \
 	python3 scripts/check_docs.py || status=1; \
@@ -62,8 +64,8 @@ smoke: $(BUILT)
 	done; \
 	exit $$status
 
-# Makes everything fail once that can fail, changes each byte of small projects, runs every tool over
-# 100,000 edges, and last the program over 100,000 hostile manifests.
+# Makes everything that can fail do so once, changes each byte of small projects, runs every tool on
+# 100,000 edges, and runs the program on 100,000 hostile manifests.
 sweep: $(BUILT) $(SINKS)/out/memory_sinks
 	@status=0; \
 	python3 scripts/sweep_memory.py --sinks $(SINKS)/out/memory_sinks --jobs $(JOBS) $(BUILT) \
@@ -74,15 +76,15 @@ sweep: $(BUILT) $(SINKS)/out/memory_sinks
 	python3 scripts/sweep_strangers.py --cases 100000 --jobs $(JOBS) $(BUILT) || status=1; \
 	exit $$status
 
-# `make` and `make test` leave it.
+# `make` and `make test` build it.
 $(BUILT): $(wildcard crates/*/src/*.rt)
 	$(MAKE) all
 
-# `make test` leaves it.
+# `make test` builds it.
 $(SINKS)/out/memory_sinks: $(wildcard crates/*/src/*.rt)
 	cd $(SINKS) && rt run > /dev/null
 
-# Installs the program that `make` left, its man page, and completions for three shells.
+# Installs the program that `make` built, its man page, and completions for three shells.
 install:
 	@test -x bin/ninja-explain || \
 	{ echo "there is no bin/ninja-explain to install: prove and build it first, with 'make'" >&2; exit 1; }
@@ -92,7 +94,7 @@ install:
 	install -D -m 644 completions/_ninja-explain "$(INSTALLED_ZSH)"
 	install -D -m 644 completions/ninja-explain.fish "$(INSTALLED_FISH)"
 
-# Removes what `make install` with the same PREFIX and DESTDIR installed; folders stay.
+# Removes what `make install` with the same PREFIX and DESTDIR installed, except folders.
 uninstall:
 	rm -f "$(INSTALLED_PROGRAM)" "$(INSTALLED_PAGE)" "$(INSTALLED_BASH)" "$(INSTALLED_ZSH)" \
 	"$(INSTALLED_FISH)"

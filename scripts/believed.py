@@ -3,15 +3,15 @@
 
     believed.py [--most LINES]
 
-It starts at the contract (crates/nj_cli/src/run.rt), follows each name in it to its definition,
-each name in that, and so on. Definitions are those of crates/*/specs; in crates/*/src the value
-and the view of an `impl Model`, and of a trait the state and the calls that have a clause.
-Comments, empty lines, `use` and `pub mod` don't count, and neither does what the toolchain's crates
-define. A variable that has the name of a definition in its file counts as a use of it.
+It starts at the contract (crates/nj_cli/src/run.rt), and follows each name in it to its definition,
+each name in that definition, and so on. Definitions are those in crates/*/specs and, in
+crates/*/src, the value and the view of an `impl Model`, and the state of a trait and its functions
+with a clause. Comments, empty lines, `use` and `pub mod` do not count, nor do the definitions of
+the toolchain's crates. A variable with the name of a definition in its file counts as a use of it.
 
-Prints for each crate and file how many lines are reached, and of which names. The structs and enums
-of crates/*/src, which definitions speak of, are printed too, and summed apart. With --most the
-status is 1 if there are more LINES of definitions.
+Prints how many lines are reached in each crate and file, and the names of their definitions. The
+structs and enums of crates/*/src that definitions use are printed too, with a sum of their own.
+With --most the status is 1 if there are more than LINES lines of definitions.
 """
 
 import argparse
@@ -24,16 +24,16 @@ from pathlib import Path
 CRATES = Path(__file__).resolve().parent.parent / "crates"
 START = CRATES / "nj_cli/src/run.rt", "run_words"
 
-# A text; a name, with the fields after it; or a field of what is in parentheses.
+# A string; a name, with the fields after it; or a field of an expression in parentheses.
 TOKEN = re.compile(r'"(?:[^"\\]|\\.)*"|[^\s(){}\[\];,".]+(?:\.[^\s(){}\[\];,".]+)*|\.\w+')
 TYPE = re.compile(r"\b[A-Z]\w*")
 KEYWORDS = {"abbrev", "unfoldable", "pub", "record", "data"}
-# What of an `impl Model` must be believed: the value, and how the fields hold it.
+# The members of an `impl Model` that must be believed: the value, and how the fields represent it.
 MODEL = r"ghost (?:Value|view) ="
 
 
 class Definition:
-    """A definition, or a type of src: where it is, how many lines it has, and its text."""
+    """A definition, or a type in src: its module, its name, and its text."""
 
     def __init__(self, module, name, text, is_type=False):
         self.module, self.name, self.text, self.is_type = module, name, text, is_type
@@ -44,22 +44,22 @@ class Definition:
 
 
 class Module:
-    """A file: what it defines, which names it takes from where, and its names for other modules."""
+    """A file: what it defines, the names that it imports, and its names for other modules."""
 
     def __init__(self, file):
         self.file, self.defined, self.names, self.modules = file, {}, {}, {}
         self.crate, _, *path = file.relative_to(CRATES).parts
         self.path = "/".join([file.parent.relative_to(CRATES / self.crate).parts[0], *path])
 
-    def take_in(self, module, names):
-        """Takes in the names of a list such as `a, b as c`."""
+    def import_names(self, module, names):
+        """Imports the names of a list such as `a, b as c`."""
         for item in filter(None, (item.strip() for item in names.split(","))):
             self.names[item.split(" as ")[-1]] = module, item.split(" as ")[0]
 
     def use(self, line):
-        """Takes in what a `use` of definitions names."""
+        """Imports what a `use` of definitions names."""
         if found := re.match(r"(?:pub )?use (\S+?)\.\{(.*)\}", line, re.S):
-            self.take_in(found[1], found[2])
+            self.import_names(found[1], found[2])
         elif found := re.match(r"(?:pub )?use (\S+)(?: as (\S+))?", line):
             self.modules[found[2] or found[1].split(".")[-1]] = found[1]
 
@@ -68,8 +68,8 @@ class Module:
 
 
 def add_to(of, chunk, name):
-    """Adds a part of a file to what it defines: a definition, or an equation of the last one, whose
-    name this is. Returns the name of the definition."""
+    """Adds a part of a file to what the file defines: a new definition, or an equation of the last
+    one, which is called `name`. Returns the name of the definition."""
     words = chunk.split()
     head = [word for word in words if word not in KEYWORDS]
     if words[0] not in KEYWORDS and words[1] != ":":
@@ -84,7 +84,7 @@ def add_to(of, chunk, name):
 
 @cache
 def module(path):
-    """The file of definitions of `Rattle.CRATE.specs.A.B`; `None` if it is none of ours."""
+    """The file of definitions of `Rattle.CRATE.specs.A.B`, or `None` if it is not one of ours."""
     crate, _, *names = path.split(".")[1:]
     if not (CRATES / crate).is_dir():
         return None
@@ -103,8 +103,8 @@ def module(path):
 
 
 def defined_in(path, name):
-    """The definition of a name in a module, which may take it from another one, or in a crate;
-    `None` if it is none of ours."""
+    """The definition of a name in a module, which may import it, or in a crate; `None` if it is not
+    one of ours."""
     if "." not in path:
         return declared(path, name)
     if ".declared." in path:
@@ -120,7 +120,7 @@ def defined_in(path, name):
 
 
 def meaning(of, word):
-    """The definition that a word stands for in a file, if it is one of ours."""
+    """The definition that a word of a file refers to, if it is one of ours."""
     first, _, others = word.partition(".")
     if first in of.modules and others:
         return defined_in(of.modules[first], others.split(".")[0])
@@ -145,21 +145,21 @@ def block_at(text, start):
 
 @cache
 def rust(file):
-    """A file of Rust, and its text without comments and attributes. Of a type that it takes from
-    another file the module is the crate."""
+    """A file of Rust, and its text without comments and attributes. For a type that it imports, the
+    module is the crate."""
     of = Module(file)
     text = re.sub(r"(^|\s)//(.*)$|^\s*#\[.*\]$", "", file.read_text(), flags=re.M)
     for found in re.finditer(r"^\s*ghost (use [^;]*);", text, re.M):
         of.use(found[1])
     uses = r"^(?:pub )?use (\w+)(?:::\w+)*::(?:\{(.*?)\}|(\w+));"
     for found in re.finditer(uses, text, re.M | re.S):
-        of.take_in(of.crate if found[1] == "crate" else found[1], found[2] or found[3])
+        of.import_names(of.crate if found[1] == "crate" else found[1], found[2] or found[3])
     return of, text
 
 
 @cache
 def declared(crate, name):
-    """The type or trait of a name that a crate declares, or gives out from another one."""
+    """The type or trait with this name that a crate declares, or re-exports from another one."""
     for file in sorted((CRATES / crate).glob("src/**/*.rt")):
         of, text = rust(file)
         if found := re.search(rf"^pub (struct|enum|trait) {name}\b", text, re.M):
@@ -170,7 +170,7 @@ def declared(crate, name):
 
 
 def type_at(of, name, text, found):
-    """A type as contracts see it: its model if it has one, else its declaration."""
+    """A type as contracts see it: its model if it has one, or else its declaration."""
     whole = block_at(text, found.start())
     if model := re.search(rf"^impl\b.* Model for {name}\b", text, re.M):
         whole = members(block_at(text, model.start()), MODEL)
@@ -183,12 +183,12 @@ def type_at(of, name, text, found):
 
 
 def members(text, which):
-    """The members of a trait or an impl that begin so."""
+    """The members of a trait or an impl whose beginning matches `which`."""
     return "\n".join(block_at(text, member.start()) for member in re.finditer(which, text))
 
 
 def contract():
-    """The contract at which the walk starts."""
+    """The contract from which the walk starts."""
     file, name = START
     of, text = rust(file)
     start = text.index(f"pub fn {name}")
@@ -199,7 +199,7 @@ def contract():
 
 
 def named_in(definition):
-    """The definitions that are named in one."""
+    """The definitions that are named in a definition."""
     of, text = definition.module, definition.text
     words = TOKEN.findall(text) + [">>="] * bool(re.search(r"\bdo$", text, re.M))
     found = [] if definition.is_type else [meaning(of, word) for word in words]
@@ -211,11 +211,11 @@ def named_in(definition):
 
 def reached(starts):
     """All definitions that are reached from these, each once."""
-    found, waiting = [], list(starts)
-    while waiting:
-        if (definition := waiting.pop()) not in found:
+    found, pending = [], list(starts)
+    while pending:
+        if (definition := pending.pop()) not in found:
             found.append(definition)
-            waiting += named_in(definition)
+            pending += named_in(definition)
     return sorted(found, key=lambda it: (it.module.crate, it.module.path, it.is_type, it.name))
 
 
@@ -237,7 +237,7 @@ def main():
             lines = f"({count(group, True)})" if is_type else count(group)
             print(f"{lines:>9} {path}: {names}")
     print(f"{count(found):5} lines of definitions must be believed")
-    print(f"{f'({count(found, True)})':>9} lines of structs and enums that they speak of")
+    print(f"{f'({count(found, True)})':>9} lines of structs and enums that they use")
     return 1 if most is not None and count(found) > most else 0
 
 

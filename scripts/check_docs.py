@@ -1,8 +1,8 @@
 #!/usr/bin/env python3
-"""Compares the table of docs/ARCHITECTURE.md, "Where things are found", with the files of the crates.
+"""Compares the table "Where things are found" in docs/ARCHITECTURE.md with the files of the crates.
 
-Each definition file and module that it names has to exist, and each that exists has to be named.
-Prints what differs, and nothing else. The status is 1 if anything differs.
+Each definition file and module that it names has to exist, and it has to name each one that exists.
+Prints the differences. The status is 1 if there is one.
 """
 
 import re
@@ -11,19 +11,19 @@ from pathlib import Path
 
 ROOT = Path(__file__).resolve().parent.parent
 TABLE = ROOT / "docs/ARCHITECTURE.md"
-# modules that every crate may have, and whose names say nothing
+# Files that every crate may have, and that need no entry.
 PLAIN = {"src/lib.rt", "src/main.rt", "specs/Lib.antt", "specs/Inside.antt"}
 
 
 def named_files(cell, folder, ending):
-    """The files that a cell names in code marks; what stands in parentheses are functions."""
+    """The files that a cell names in backquotes. What is in parentheses are functions."""
     words = re.findall(r"`([^`]+)`", re.sub(r"\([^)]*\)", "", cell))
     plain = {word for word in words if "/" not in word or word.startswith("Inside/")}
     return {f"{folder}/{word}{ending}" for word in plain} | set(words) - plain
 
 
 def named():
-    """For each crate of the table the files that it names."""
+    """The files that the table names, for each crate."""
     files, crate = {}, None
     for line in TABLE.read_text().splitlines():
         cells = [cell.strip() for cell in line.strip().strip("|").split("|")]
@@ -39,7 +39,7 @@ def named():
 
 
 def test_modules(crate):
-    """The modules that are there for tests alone."""
+    """The modules that are only for tests."""
     found = set()
     for file in crate.glob("src/**/*.rt"):
         names = re.findall(r"#\[cfg\(test\)\]\s*mod (\w+);", file.read_text())
@@ -59,10 +59,11 @@ def main():
     if not table:
         faults.append("it has no table of crates")
     for crate in sorted((ROOT / "crates").iterdir()):
-        said = table.pop(crate.name, set())
+        listed = table.pop(crate.name, set())
         there = present(crate)
-        faults += [f"it does not name {crate.name}/{it}" for it in sorted(there - said)]
-        faults += [f"there is no {crate.name}/{it}" for it in sorted(said) if not (crate / it).is_file()]
+        faults += [f"it does not name {crate.name}/{it}" for it in sorted(there - listed)]
+        missing = (it for it in sorted(listed) if not (crate / it).is_file())
+        faults += [f"there is no {crate.name}/{it}" for it in missing]
     faults += [f"there is no crate {name}" for name in table]
     for fault in faults:
         print(f"{TABLE.relative_to(ROOT)}: {fault}")

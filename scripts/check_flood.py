@@ -1,15 +1,13 @@
 #!/usr/bin/env python3
-"""Looks whether names that collide where hashes start from 0 cost more than others:
+"""Checks that colliding names cost no more than other names: check_flood.py PROGRAM
 
-    check_flood.py PROGRAM
+The program has to draw the number from which the hashes of a run start; no contract can state this.
+For each table of names the program reads two manifests (from bench/flood.py): one whose names
+collide if the number is 0, as in `HashKeys::default`, and one of other names. The least processor
+time of several runs counts. The first manifest may take at most four times as long as the second.
 
-No contract says from which number the hashes of a run start: the program has to draw it. For each
-table of names the program reads a manifest of names that collide in it where the number is 0, as in
-`HashKeys::default`, and one of other names (bench/flood.py has both). What counts is the least
-processor time of some runs, and the first may take at most four times that of the second.
-
-Prints the tables where it takes more, and nothing else. The status is 1 if there is one. Where
-there is no `cc` to search the names with, nothing is looked at.
+Prints each table for which it takes longer. The status is 1 if there is one. Without `cc`, which is
+needed to find the names, nothing is checked.
 """
 
 import os
@@ -21,7 +19,7 @@ from pathlib import Path
 sys.path.insert(0, str(Path(__file__).resolve().parent.parent / "bench"))
 import flood  # noqa: E402
 
-# So many names have 512 groups, and are found in two seconds.
+# A table of this many names has 512 groups. They are found in two seconds.
 NAMES, BITS = 6000, 9
 ROUNDS = 10
 TIMES = 3

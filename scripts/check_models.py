@@ -1,8 +1,8 @@
 #!/usr/bin/env python3
-"""Looks whether each public struct with a private field has an `impl Model`, so that contracts, and
-the proofs of other crates, speak of its value and not of its fields.
+"""Checks that each public struct with a private field has an `impl Model`, so that contracts, and
+proofs of other crates, are about its value and not about its fields.
 
-Prints each that has none. The status is 1 if anything is printed.
+Prints each struct without one. The status is 1 if there is one.
 """
 
 import re

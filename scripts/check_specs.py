@@ -1,15 +1,12 @@
 #!/usr/bin/env python3
-"""Checks that in each library what must be believed and what is plumbing stand apart:
+"""Checks that each library keeps what must be believed apart from plumbing: check_specs.py
 
-    check_specs.py
+A definition must be believed if it is named in the contract of a public function, in the value of a
+public type, in what a type provides for a trait, or in another definition that must be believed. In
+crates/*/specs such definitions are in the files that Lib.antt lists, and all others are in the
+folder Inside. How fields represent a value (`view`) is plumbing.
 
-A definition must be believed if it is named in the contract of a public call, in the value of a
-public type or in what a type gives to a trait, or in another definition that must be believed. In
-crates/*/specs such definitions stand in the files that Lib.antt lists, and all others in the
-folder Inside, which holds no such definition. How fields hold a value (`view`) is plumbing.
-
-Prints each definition that stands on the wrong side. Nothing else is printed, and the status is 0,
-if there is none.
+Prints each definition on the wrong side. The status is 1 if there is one.
 """
 
 import re
@@ -28,8 +25,8 @@ def libraries():
     return sorted(root.parent.parent.name for root in roots if root.is_file())
 
 
-def given_out(crate):
-    """The names that a library gives out."""
+def exported(crate):
+    """The names that a library exports."""
     text = (CRATES / crate / "src/lib.rt").read_text()
     uses = re.findall(r"^pub use [\w:]+::(?:\{(.*?)\}|(\w+));", text, re.M | re.S)
     names = re.split(r"[,\s]+", " ".join(several + " " + one for several, one in uses))
@@ -52,9 +49,9 @@ def contract(text, start, indent):
 
 
 def contracts(crate):
-    """The contracts of the public calls of a library, its public types, and what they give to
-    traits."""
-    public = given_out(crate)
+    """The contracts of the public functions of a library, its public types, and what these provide
+    for traits."""
+    public = exported(crate)
     for file in sorted((CRATES / crate).glob("src/**/*.rt")):
         of, text = rust(file)
         impls = list(IMPL.finditer(text))
@@ -73,7 +70,7 @@ def contracts(crate):
 
 
 def definitions(crate):
-    """The definitions of a crate, and whether they stand under Inside."""
+    """The definitions of a crate, and whether each is below Inside."""
     specs = CRATES / crate / "specs"
     for file in sorted(specs.rglob("*.antt")):
         path = file.relative_to(specs).with_suffix("").parts

@@ -3,13 +3,13 @@
 
     check_words.py [PROGRAM]
 
-PROGRAM is the built program, else bin/ninja-explain. The options are those that
-crates/nj_args/specs/CommandLine.antt gives to `clap`; the tools, and the options that go with
-each, are the table TOOLS below. The program is asked for each tool and option whether it agrees.
-The completion of bash is run, where bash is; the other two are read. The page has to have the text
-of each fault too, as the definitions write it.
+PROGRAM is the built program, by default bin/ninja-explain. The options are those that
+crates/nj_args/specs/CommandLine.antt passes to `clap`. The table TOOLS below has the tools, and the
+options of each. Each tool and option is tried with the program. The bash completion is run, if bash
+is installed; the other two are read. The man page also has to have the text of each fault, as in
+the definitions.
 
-Prints what differs, and nothing else. The status is 1 if anything differs.
+Prints the differences. The status is 1 if there is one.
 """
 
 import os
@@ -28,7 +28,7 @@ COMMAND_LINE = ROOT / "crates/nj_args/specs/CommandLine.antt"
 PAGE = ROOT / "man/ninja-explain.1"
 ZSH = ROOT / "completions/_ninja-explain"
 
-# For each tool the options that go with it alone, and words that it takes.
+# The options of each tool that not every tool has, and words that it takes.
 TOOLS = {
     "commands": ({"-s", "--take", "--resume", "--validations"}, []),
     "inputs": ({"--validations", "--dependency-order", "--no-shell-escape", "--print0"}, []),
@@ -38,10 +38,10 @@ TOOLS = {
     "compdb": ({"-x", "--directory"}, []),
 }
 EVERY_TOOL = {"-t", "-f", "--stdin", "--dyndep"}
-# `--` ends the options, and is none itself.
+# `--` ends the options, and is not one itself.
 END = "--"
 VALUES = {"-f": "build.ninja", "--take": "1", "--resume": "start", "--directory": "here"}
-# The definitions that write texts of faults, from the first line of each group to an empty one.
+# The definitions with the texts of faults.
 FAULT_TEXTS = {
     "crates/nj_faults/specs/FaultLines.antt": ["cause_text"],
     "crates/nj_faults/specs/Versions.antt": ["reader_version_text"],
@@ -64,7 +64,7 @@ def report(where, fault):
 def compare(where, what, found, wanted):
     """Both are sets of words."""
     for word in sorted(found - wanted):
-        report(where, f"{what} {word} is none of the program")
+        report(where, f"the program does not have {what} {word}")
     for word in sorted(wanted - found):
         report(where, f"{what} {word} is missing")
 
@@ -74,9 +74,9 @@ def options_of(tool):
 
 
 def compare_options(where, found):
-    """`found` has a set of options for each tool, with or without those of every tool."""
+    """`found` has a set of options for each tool, which may include those of every tool."""
     for tool in sorted(found.keys() - TOOLS):
-        report(where, f"the tool {tool} is none of the program")
+        report(where, f"the program does not have the tool {tool}")
     for tool in TOOLS:
         own = found.get(tool, set()) - EVERY_TOOL
         compare(where, f"with {tool}, the option", own, options_of(tool))
@@ -86,14 +86,14 @@ def compare_options(where, found):
 
 
 def options_of_clap():
-    """The options that the definition gives to `clap`."""
+    """The options that the definition passes to `clap`."""
     kinds = r'(short|long)_(?:option|flag) \(codes "([\w-]+)"\)(?: (\d+))?'
     found = re.findall(kinds, COMMAND_LINE.read_text())
     return {f"-{chr(int(code))}" if kind == "short" else f"--{name}" for kind, name, code in found}
 
 
 def ask(folder, words):
-    """The status and the error output of the program, in a folder without files."""
+    """The status and the error output of the program, run in an empty folder."""
     how = {"cwd": folder, "stdin": subprocess.DEVNULL, "capture_output": True, "timeout": SECONDS}
     ran = subprocess.run([PROGRAM, *words], **how)
     return ran.returncode, ran.stderr
@@ -108,7 +108,7 @@ def ask_option(folder, tool, option):
         return
     foreign = f"ninja-explain: option {option} does not go with tool '{tool}'\n"
     if (status, error) != (USAGE, foreign.encode()):
-        report("the program", f"with {tool}, {option} is not refused as one of another tool")
+        report("the program", f"with {tool}, {option} is not refused as an option of another tool")
 
 
 def check_program(folder):
@@ -122,17 +122,17 @@ def check_program(folder):
         for option in sorted(options - {"-t"}):
             ask_option(folder, tool, option)
     if ask(folder, ["-t", "nothing"]) != (USAGE, b"ninja-explain: unknown tool 'nothing'\n"):
-        report("the program", "it knows the tool nothing")
+        report("the program", "it has a tool called nothing")
     for option in REFUSED:
         if ask(folder, [option, "-t", "commands"]) != (USAGE, UNREAD):
-            report("the program", f"it takes {option}")
+            report("the program", f"it accepts {option}")
 
 
 # ---- the man page
 
 
 def tagged(section):
-    """The tags of a section's paragraphs, without fonts and escapes."""
+    """The tags of a section's paragraphs, without fonts and escapes, and what follows each."""
     text = re.search(rf"^\.SH {section}\n(.*?)^\.SH ", PAGE.read_text(), re.M | re.S)[1]
     tags = re.findall(r'^\.TP\n\.B[IR]? (.*)\n((?:\.RB .*\n)?(?:(?:not with|and)\n.*\n|,\n)*)', text, re.M)
     return [(re.sub(r"\\f.", "", tag.replace("\\-", "-")), about) for tag, about in tags]
@@ -154,7 +154,7 @@ def check_page():
 
 
 def fault_texts(file, name):
-    """The texts between the names and paths of a definition's faults."""
+    """The fixed parts of the fault texts in a definition."""
     text = (ROOT / file).read_text()
     equations = re.search(rf"^abbrev pub {name} :.*\n((?:.+\n)+)", text, re.M)
     if not equations:
@@ -213,11 +213,11 @@ def check_fish():
         if not option:
             continue
         tools = re.search(r"-n '__ninja_explain_tool_is ([\w ]+)'", line)
-        said = f"-{option[1]}" if option[1] else f"--{option[2]}"
+        option_text = f"-{option[1]}" if option[1] else f"--{option[2]}"
         for tool in tools[1].split() if tools else []:
-            found.setdefault(tool, set()).add(said)
+            found.setdefault(tool, set()).add(option_text)
         if not tools:
-            every.add(said)
+            every.add(option_text)
     compare(where, "the option of every tool", every, EVERY_TOOL)
     compare_options(where, found)
 

@@ -1,10 +1,10 @@
 #!/usr/bin/env python3
-"""Compares what the tools write with what Ninja's write, on generated manifests.
+"""Compares the output of the tools with that of Ninja's tools, on generated manifests.
 
 A manifest has rules, pools, bindings, build statements, defaults, includes and subninjas, with
-escapes, references, joins and paths that are not clean. It is compared where both programs accept
-it. What is known to differ (the man page says it) is left out, or brought to one form first. Each
-difference is printed with the folder that is kept for it; the last line has the counts.
+escapes, references, joined lines and paths that are not clean. The outputs are compared if both
+programs accept the manifest. The known differences, which the man page lists, are left out or
+evened out first. Each difference is printed, and its folder is kept. The last line has the counts.
 """
 
 import argparse
@@ -154,7 +154,7 @@ class Manifest:
 
 
 def without_repeated_users(output):
-    """The lines of `query`, in which Ninja lists an edge once for each input that it names."""
+    """The lines of `query`, each user once: Ninja lists an edge for each input that it names."""
     kept, users = [], None
     for line in output.split(b"\n"):
         if not line.startswith(b"    "):
@@ -168,7 +168,7 @@ def without_repeated_users(output):
 
 
 def objects(output, phony):
-    """The objects of `compdb` but those of phony edges, without their folder."""
+    """The objects of `compdb` except those of phony edges, without their directory."""
     return [
         {key: value for key, value in each.items() if key != "directory"}
         for each in json.loads(output)
@@ -177,7 +177,7 @@ def objects(output, phony):
 
 
 class Comparison:
-    """The two programs, and what was counted."""
+    """The two programs, and the counts."""
 
     def __init__(self, program):
         self.program = str(pathlib.Path(program).resolve())
@@ -247,7 +247,7 @@ def main():
     parser = argparse.ArgumentParser(description=__doc__.split("\n")[0])
     parser.add_argument("program", help="the program ninja-explain")
     parser.add_argument("--manifests", type=int, default=1000, help="how many manifests")
-    parser.add_argument("--seed", type=int, default=0, help="the seed of the first one")
+    parser.add_argument("--seed", type=int, default=0, help="the seed of the first manifest")
     words = parser.parse_args()
     comparison = Comparison(words.program)
     found = sum(comparison.manifest(words.seed + i) for i in range(words.manifests))

@@ -1,14 +1,14 @@
 #!/usr/bin/env python3
-"""Compares which targets a change affects with what follows from Ninja's `query`:
+"""Compares the targets that a change affects with what follows from Ninja's `query`:
 
     compare_affected.py [--edges N] [--changes N] [--seed N] -- PROGRAM [WORD..]
 
-PROGRAM reads changed paths from standard input, and prints the targets that they affect, a line
-each, of build.ninja in the folder that it runs in: with its words it has to print all of them. It
-runs on manifests of the form that CMake writes and of LLVM's, of so many edges, and in each on so
-many changes, which are random files. What Ninja's `query` lists as outputs of a file are the
-outputs of the edges that have it as an input; so the affected targets are these, their outputs, and
-so on. Each difference is printed; the last line has the counts.
+PROGRAM, with its words, reads changed paths from standard input. It has to print all targets of
+build.ninja in its working directory that they affect, one per line. It runs on manifests like those
+of CMake and LLVM with N edges, and on each for N changes, which are random files. The outputs that
+Ninja's `query` lists for a file are those of the edges that have it as an input. So the affected
+targets are these, what `query` lists for these, and so on. Each difference is printed. The last
+line has the counts.
 """
 
 import argparse
@@ -26,20 +26,21 @@ from projects import write_project  # noqa: E402
 PER_QUERY = 2000
 
 
-def said(words, folder, given=b""):
-    """The lines that a run writes."""
+def lines_of(words, folder, given=b""):
+    """The lines that a run prints."""
     run = subprocess.run(words, cwd=folder, input=given, stdout=subprocess.PIPE, check=True)
     return run.stdout.decode().splitlines()
 
 
 def users(folder):
-    """For each file the outputs of the edges that have it as an input."""
-    targets = [line.rsplit(":", 1)[0] for line in said(["ninja", "-t", "targets", "all"], folder)]
-    files = sorted(set(targets + said(["ninja", "-t", "targets", "rule"], folder)))
+    """The outputs of the edges that have a file as an input, for each file."""
+    outputs = lines_of(["ninja", "-t", "targets", "all"], folder)
+    targets = [line.rsplit(":", 1)[0] for line in outputs]
+    files = sorted(set(targets + lines_of(["ninja", "-t", "targets", "rule"], folder)))
     found = {}
     for start in range(0, len(files), PER_QUERY):
         under = None
-        for line in said(["ninja", "-t", "query"] + files[start : start + PER_QUERY], folder):
+        for line in lines_of(["ninja", "-t", "query"] + files[start : start + PER_QUERY], folder):
             if not line.startswith(" "):
                 found[line[:-1]] = under = []
                 is_output = False
@@ -61,7 +62,7 @@ def reached(outputs, files):
 
 
 def compare(shape, folder, words):
-    """How many changes were tried, how many targets they affect, and how many differ."""
+    """Tries the changes on one manifest. Returns how many differ."""
     outputs = users(folder)
     chance = random.Random(f"{shape} {words.seed}")
     files = sorted(outputs)
@@ -70,7 +71,7 @@ def compare(shape, folder, words):
         changed = chance.sample(files, chance.randint(1, 3))
         wanted = reached(outputs, changed)
         given = "".join(path + "\n" for path in changed).encode()
-        found = said(words.program, folder, given)
+        found = lines_of(words.program, folder, given)
         affected += len(wanted)
         if sorted(found) != sorted(wanted):
             differences += 1

@@ -1,11 +1,11 @@
 #!/usr/bin/env python3
-"""Compares what dyndep files discover with what Ninja makes of them, on generated ones.
+"""Compares with Ninja what dyndep files discover, on generated files.
 
-Ninja's `query` loads the dyndep file of the edge that makes the file it is asked for, and lists the
-inputs of that edge. They are compared with those of `query --dyndep`; and where Ninja refuses the
+Ninja's `query` loads the dyndep file of the edge that makes the file in question, and lists the
+inputs of that edge. They are compared with those that `query --dyndep` lists. If Ninja refuses the
 dyndep file, ninja-explain has to refuse it too. Ninja's `query` does not look for cycles, so edges
-of graphs that have one are left out. Each difference is printed with the folder that is kept for
-it; the last line has the counts.
+of graphs with a cycle are left out. Each difference is printed, and its folder is kept. The last
+line has the counts.
 """
 
 import argparse
@@ -21,14 +21,14 @@ VERSIONS = ["1"] * 8 + ["1.0"] * 4 + ["2", "1.1", "0.9", "1.0-x", "$v"]
 
 
 def escaped(paths):
-    """The paths as words of a line, a blank before each."""
+    """The paths as words of a line, each after a space."""
     return "".join(
         " " + path.replace("$", "$$").replace(" ", "$ ").replace(":", "$:") for path in paths
     )
 
 
 class Project:
-    """A random manifest, whose edges are bound to the dyndep file `dd`, and that file."""
+    """A random manifest, with edges bound to the dyndep file `dd`, and that file."""
 
     def __init__(self, chance):
         self.chance = chance
@@ -62,7 +62,7 @@ class Project:
         return [f"ninja_dyndep_version = {self.chance.choice(VERSIONS)}"]
 
     def listed(self):
-        """The edges that have an entry: mostly those that are bound to the file."""
+        """The edges with an entry, which are mostly those that are bound to the file."""
         edges = list(self.bound)
         self.chance.shuffle(edges)
         kind = self.chance.random()
@@ -85,7 +85,7 @@ class Project:
 
 
 def query(program, options, path, folder):
-    """What the run complained of, and the lines before the users of the file."""
+    """The error output of a run, and the lines before the users of the file."""
     words = [program, "-t", "query", path] + options
     run = subprocess.run(words, cwd=folder, capture_output=True, check=False, timeout=60)
     return run.stderr, run.stdout.split(b"  outputs:")[0]
@@ -116,7 +116,7 @@ def main():
     parser = argparse.ArgumentParser(description=__doc__.split("\n")[0])
     parser.add_argument("program", help="the program ninja-explain")
     parser.add_argument("--projects", type=int, default=1000, help="how many projects")
-    parser.add_argument("--seed", type=int, default=0, help="the seed of the first one")
+    parser.add_argument("--seed", type=int, default=0, help="the seed of the first project")
     words = parser.parse_args()
     program = str(pathlib.Path(words.program).resolve())
     counts = collections.Counter()

@@ -30,7 +30,9 @@ WORDS = {
     "told": r"told",
     "a beginning of": r"a beginning of",
 }
-PATTERNS = {word: re.compile(rf"\b(?:{form})\b".replace(" ", r"\s+")) for word, form in WORDS.items()}
+PATTERNS = {
+    word: re.compile(rf"\b(?:{form})\b".replace(" ", r"\s+")) for word, form in WORDS.items()
+}
 
 # The files of each column. This file is not counted.
 COLUMNS = {

@@ -1,7 +1,7 @@
-/* For sweep_memory.py, which preloads it: the allocation of the number FAIL_ALLOC, counted from 1,
-   fails, and if FAIL_ALLOC_AFTER is set so does each after it. When the first one fails, the file
-   FAIL_ALLOC_TOLD is made. The program calls `malloc` and `realloc` alone; the others are here for
-   one that would not. */
+/* sweep_memory.py preloads this. The allocation with the number FAIL_ALLOC, counted from 1, fails;
+   if FAIL_ALLOC_AFTER is set, so does every later one. When the first one fails, the file
+   FAIL_ALLOC_REPORT is created. The program calls only `malloc` and `realloc`; the other functions
+   are here in case that changes. */
 #include <errno.h>
 #include <fcntl.h>
 #include <stddef.h>
@@ -18,10 +18,10 @@ extern void *__libc_memalign(size_t, size_t);
 static long count;
 static long first;
 
-/* By a call of the system itself, as `open` may be another library's that is preloaded. */
-static void tell(void) {
-    const char *told = getenv("FAIL_ALLOC_TOLD");
-    long file = told ? syscall(SYS_openat, AT_FDCWD, told, O_CREAT | O_WRONLY, 0600) : -1;
+/* This makes system calls itself, since `open` may belong to another preloaded library. */
+static void report(void) {
+    const char *name = getenv("FAIL_ALLOC_REPORT");
+    long file = name ? syscall(SYS_openat, AT_FDCWD, name, O_CREAT | O_WRONLY, 0600) : -1;
     if (file >= 0) {
         syscall(SYS_close, file);
     }
@@ -37,7 +37,7 @@ static int fails(void) {
     }
     count++;
     if (count == first) {
-        tell();
+        report();
     }
     if (count == first || (count > first && getenv("FAIL_ALLOC_AFTER"))) {
         errno = ENOMEM;

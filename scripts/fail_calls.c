@@ -1,10 +1,10 @@
-/* For sweep_calls.py, which preloads it. Of the calls of the kind FAIL_CALL the one of the number
-   FAIL_AT, counted from 1, fails with the error FAIL_ERRNO; or it takes at most FAIL_MOST bytes, if
-   that is set. If FAIL_AT is 0, each does. The kinds are `open`, `read`, `statx`, `close`,
-   `getentropy`, and `output` and `error`, which are the calls of `write` to these two.
+/* sweep_calls.py preloads this. Among the calls of the kind FAIL_CALL, the one with the number
+   FAIL_AT, counted from 1, fails with the error FAIL_ERRNO, or transfers at most FAIL_MOST bytes if
+   that is set. If FAIL_AT is 0, every call does so. The kinds are `open`, `read`, `statx`, `close`,
+   `getentropy`, and `output` and `error`, which are the calls of `write` to the two outputs.
 
-   When a call is first made to fail, the number of calls of `open` so far is written to the file
-   FAIL_TOLD. All is done by calls of the system itself. */
+   When a call fails for the first time, the number of calls of `open` so far is written to the file
+   FAIL_REPORT. Every function makes its system call directly. */
 #define _GNU_SOURCE
 #include <errno.h>
 #include <fcntl.h>
@@ -18,16 +18,16 @@
 static long calls;
 static long opened;
 
-static void tell(void) {
+static void report(void) {
     char line[32];
     int length = snprintf(line, sizeof line, "%ld\n", opened);
-    long file = syscall(SYS_openat, AT_FDCWD, getenv("FAIL_TOLD"), O_CREAT | O_WRONLY, 0600);
+    long file = syscall(SYS_openat, AT_FDCWD, getenv("FAIL_REPORT"), O_CREAT | O_WRONLY, 0600);
     syscall(SYS_write, file, line, length);
     syscall(SYS_close, file);
 }
 
-/* Whether this call, of the kind, is one that is meant. */
-static int is_meant(const char *kind) {
+/* Whether this call, which is of the kind, is to fail. */
+static int is_chosen(const char *kind) {
     const char *wanted = getenv("FAIL_CALL");
     if (!wanted || strcmp(wanted, kind) != 0) {
         return 0;
@@ -38,24 +38,24 @@ static int is_meant(const char *kind) {
         return 0;
     }
     if (number == calls || calls == 1) {
-        tell();
+        report();
     }
     return 1;
 }
 
-/* Whether this call fails; then `errno` is set. */
+/* Whether this call fails with an error; then `errno` is set. */
 static int fails(const char *kind) {
-    if (getenv("FAIL_MOST") || !is_meant(kind)) {
+    if (getenv("FAIL_MOST") || !is_chosen(kind)) {
         return 0;
     }
     errno = atoi(getenv("FAIL_ERRNO"));
     return 1;
 }
 
-/* How many of the bytes this call takes. */
-static size_t taken(const char *kind, size_t size) {
+/* How many bytes this call transfers. */
+static size_t limited(const char *kind, size_t size) {
     const char *text = getenv("FAIL_MOST");
-    if (!text || !is_meant(kind)) {
+    if (!text || !is_chosen(kind)) {
         return size;
     }
     size_t most = strtoul(text, NULL, 10);
@@ -68,7 +68,7 @@ int open(const char *path, int flags, ...) {
 }
 
 ssize_t read(int file, void *bytes, size_t size) {
-    return fails("read") ? -1 : syscall(SYS_read, file, bytes, taken("read", size));
+    return fails("read") ? -1 : syscall(SYS_read, file, bytes, limited("read", size));
 }
 
 ssize_t write(int file, const void *bytes, size_t size) {
@@ -76,7 +76,7 @@ ssize_t write(int file, const void *bytes, size_t size) {
     if (fails(kind)) {
         return -1;
     }
-    size_t most = taken(kind, size);
+    size_t most = limited(kind, size);
     return most == 0 ? 0 : syscall(SYS_write, file, bytes, most);
 }
 

@@ -1,9 +1,8 @@
 #!/usr/bin/env python3
 """Runs the built program on real files: smoke.py PROGRAM
 
-Prints what differs from what it should be, and nothing else. The status is 1 if anything differs.
-Where Ninja is installed, what the tools write of a project of 22 files is compared with what it
-writes.
+Prints each difference from what should happen. The status is 1 if there is one. If Ninja is
+installed, what the tools write for a project of 22 files is compared with what Ninja writes.
 """
 
 import json
@@ -30,8 +29,8 @@ cc hello.o greet.o -o hello
 COMMANDS = ["-t", "commands"]
 DONE, FAULT, USAGE, STOPPED, OUTPUT_FAILED = range(5)
 EDGES = 200_000
-# A mark in a chain has a number for each edge that is left, and a word of the command line has
-# 128 KB at most.
+# A mark in a chain has a number for each edge that is left, and a word of the command line has at
+# most 128 KiB.
 TAKEN = 150_000
 PAGE = 7
 MOST_BYTES = 1 << 30
@@ -41,7 +40,7 @@ failures = []
 
 
 def chain():
-    """A manifest in which every edge but the first needs the one before it, and its commands."""
+    """A manifest in which each edge but the first needs the one before it; and its commands."""
     lines = ["rule r\n  command = mk $in $out\nbuild e0: r s\n"]
     lines += [f"build e{i}: r e{i - 1}\n" for i in range(1, EDGES)]
     commands = ["mk s e0\n"] + [f"mk e{i - 1} e{i}\n" for i in range(1, EDGES)]
@@ -49,7 +48,7 @@ def chain():
 
 
 def tools_of_chain():
-    """What some tools write of the chain, by their words."""
+    """What some tools write for the chain, by their words."""
     outputs = [f"e{i}" for i in range(EDGES)]
     last = [f"{'  ' * level}e{EDGES - 1 - level}: r\n" for level in range(3)]
     return {
@@ -66,7 +65,7 @@ def shown(text):
 
 
 def expect(name, found, wanted):
-    """Both are the status, the output and the error output; an output that nobody read is None."""
+    """Compares status, output and error output. An output that was not read is None."""
     for part, f, w in zip(("status", "output", "error output"), found, wanted):
         if f != w:
             failures.append(f"{name}: the {part} is {f if part == 'status' else shown(f)!r}")
@@ -82,14 +81,14 @@ def run(folder, words, **streams):
 
 
 def run_by_shell(folder, words, before="", after=""):
-    """Runs the program by a shell, after a command and with redirections of its own."""
+    """Runs the program in a shell, after a command and with redirections."""
     shell = ["sh", "-c", f'{before} exec "$0" "$@" {after}', PROGRAM, *words]
     ran = subprocess.run(shell, cwd=folder, capture_output=True, timeout=SECONDS)
     return ran.returncode, ran.stdout, ran.stderr
 
 
-def run_to_deserter(folder):
-    """Runs the program with a reader that goes away after the first byte."""
+def run_to_closing_reader(folder):
+    """Runs the program with a reader that closes the pipe after the first byte."""
     pipes = {"stdout": subprocess.PIPE, "stderr": subprocess.PIPE}
     with subprocess.Popen([PROGRAM, *COMMANDS], cwd=folder, bufsize=0, **pipes) as program:
         first = program.stdout.read(1)
@@ -99,15 +98,15 @@ def run_to_deserter(folder):
 
 
 def run_page(folder, size, mark, *options):
-    """Runs the program for so many commands from a mark on. Gives how it ended, and the mark at
-    which it stopped, or None if it did not."""
+    """Runs the program for at most `size` commands after a mark. Returns how it ended, and the mark
+    at which it stopped, or None if it did not stop."""
     ran = run(folder, [*COMMANDS, *options, "--take", str(size), "--resume", mark])
-    told = ran[2].decode()
-    return ran, told.removeprefix("mark ").rstrip("\n") if ran[0] == STOPPED else None
+    line = ran[2].decode()
+    return ran, line.removeprefix("mark ").rstrip("\n") if ran[0] == STOPPED else None
 
 
 def run_pages(folder, size, start, *options):
-    """Runs the program page by page. Gives the pages, and how the last one ended."""
+    """Runs the program page by page. Returns the pages, and how the last run ended."""
     pages, mark = [], start
     while mark is not None:
         (status, output, error), mark = run_page(folder, size, mark, *options)
@@ -129,10 +128,10 @@ def try_outputs(folder):
 
 
 def try_tools(folder):
-    """The answers of each tool, also to a full output, and the examples of the man page."""
+    """What each tool writes, also to a full device, and the examples of the man page."""
     (folder / "build.ninja").write_text(smoke_tools.KINDS)
-    for place, answers in (PROJECT, smoke_tools.ANSWERS), (folder, smoke_tools.KINDS_ANSWERS):
-        for words, output in answers.items():
+    for place, outputs in (PROJECT, smoke_tools.OUTPUTS), (folder, smoke_tools.KINDS_OUTPUTS):
+        for words, output in outputs.items():
             expect(words, run(place, words.split()), (DONE, output.encode(), b""))
             if output:
                 with open("/dev/full", "wb") as full:
@@ -150,8 +149,8 @@ def try_usage(folder):
         expect(words, run(folder, words.split()), wanted)
 
 
-def try_text_that_is_none(folder):
-    """What of the output comes before the fault is a beginning of the array."""
+def try_invalid_text(folder):
+    """The output before the fault is a prefix of the array."""
     (folder / "build.ninja").write_bytes(smoke_tools.NOT_TEXT)
     status, output, error = run(folder, ["-t", "compdb"])
     expect("bytes in JSON", (status, None, error), (FAULT, None, smoke_tools.NOT_TEXT_FAULT))
@@ -201,22 +200,22 @@ def try_faults(folder):
     main.rmdir()
     with main.open("wb") as file:
         file.truncate(MOST_BYTES + 1)
-    small_room = run_by_shell(folder, COMMANDS, before="ulimit -v 100000;")
-    expect("file above the limit, in little room", small_room, no_file)
+    little_memory = run_by_shell(folder, COMMANDS, before="ulimit -v 100000;")
+    expect("file above the limit, in little memory", little_memory, no_file)
 
 
 def try_checks(folder):
-    """Checks that validate what is built, all at once and in pages, and the styles of inputs."""
+    """Validations, all at once and in pages, and the styles of `inputs` with them."""
     (folder / "build.ninja").write_text(smoke_checks.manifest())
     built, checks = smoke_checks.build_commands(), smoke_checks.check_commands()
     without = (DONE, "".join(built).encode(), b"")
-    expect("checks that are not asked for", run(folder, COMMANDS), without)
+    expect("checks without --validations", run(folder, COMMANDS), without)
     whole = "".join([*built, *checks]).encode()
     expect("checks", run(folder, [*COMMANDS, "--validations"]), (DONE, whole, b""))
     lines = whole.splitlines(keepends=True)
     wanted = [b"".join(lines[at : at + 3]) for at in range(0, len(lines), 3)]
     if run_pages(folder, 3, "vstart", "--validations") != (wanted, (DONE, b"")):
-        failures.append("checks: pages of 3 are not those of the whole")
+        failures.append("checks: pages of 3 are not parts of the whole")
     inputs = ["-t", "inputs", "--validations"]
     paths = smoke_checks.inputs()
     in_order = (DONE, "".join(f"{path}\n" for path in paths).encode(), b"")
@@ -226,18 +225,18 @@ def try_checks(folder):
 
 
 def try_styles(folder):
-    """The words of commands that are their inputs, each once, are the inputs."""
+    """The inputs are the words of the commands, each once, since each command is its inputs."""
     (folder / "build.ninja").write_text(smoke_checks.PLAIN)
     words = run(folder, COMMANDS)[1].split()
     wanted = b"".join(word + b"\n" for word in dict.fromkeys(words))
     style = ["-t", "inputs", "--dependency-order", "--no-shell-escape"]
     expect("inputs in order", run(folder, style), (DONE, wanted, b""))
     ended = run_by_shell(folder, [*style, "--print0"], after="| tr '\\0' '\\n'")
-    expect("inputs that are ended by 0", ended, (DONE, wanted, b""))
+    expect("inputs ended by zero bytes", ended, (DONE, wanted, b""))
 
 
 def try_project(folder):
-    """Ninja's answers count, and the pages are those of the whole answer."""
+    """Compares with Ninja, and pages with the whole output."""
     for name, text in project().items():
         (folder / name).parent.mkdir(exist_ok=True)
         (folder / name).write_text(text, newline="")
@@ -246,7 +245,7 @@ def try_project(folder):
     lines = whole.splitlines(keepends=True)
     wanted = [b"".join(lines[at : at + PAGE]) for at in range(0, len(lines), PAGE)]
     if run_pages(folder, PAGE, "start") != (wanted, (DONE, b"")):
-        failures.append(f"project: pages of {PAGE} are not those of the whole")
+        failures.append(f"project: pages of {PAGE} are not parts of the whole")
     if shutil.which("ninja"):
         compare_with_ninja(folder)
 
@@ -284,7 +283,7 @@ def compare_with_ninja(folder):
 
 
 def compare_databases(folder, words):
-    """Compilation databases are compared as JSON. Some versions of Ninja write phony edges too."""
+    """Compares compilation databases as JSON. Some versions of Ninja write phony edges too."""
     phony = set(ninja(folder, ["-t", "targets", "rule", "phony"]).decode().splitlines())
     theirs = json.loads(ninja(folder, ["-t", "compdb", *words]))
     wanted = [entry for entry in theirs if entry["output"] not in phony]
@@ -292,7 +291,7 @@ def compare_databases(folder, words):
     status, output, error = run(folder, ["-t", "compdb", *here, *words])
     expect(f"project, compdb {words}", (status, None, error), (DONE, None, b""))
     if json.loads(output or "[]") != wanted:
-        failures.append(f"project, compdb {words}: the objects are not those of Ninja")
+        failures.append(f"project, compdb {words}: Ninja writes other objects")
 
 
 def try_large(folder):
@@ -305,15 +304,16 @@ def try_large(folder):
     (status, first, _), mark = run_page(folder, TAKEN, "start")
     rest = run(folder, [*COMMANDS, "--resume", mark or "start"])
     expect("chain in two pages", (status, first + rest[1], rest[2]), (STOPPED, wanted, b""))
-    expect("reader that goes away", run_to_deserter(folder), (OUTPUT_FAILED, wanted[:1], b""))
+    closed = run_to_closing_reader(folder)
+    expect("reader that closes the pipe", closed, (OUTPUT_FAILED, wanted[:1], b""))
 
 
 def main():
     if not os.path.isfile(PROGRAM):
         print(f"smoke: there is no program {PROGRAM}")
         return 1
-    with tempfile.TemporaryDirectory() as room:
-        folder = Path(room)
+    with tempfile.TemporaryDirectory() as place:
+        folder = Path(place)
         try_usage(folder)
         try_faults(folder)
         (folder / "build.ninja").write_bytes(HELLO.read_bytes())
@@ -321,7 +321,7 @@ def main():
         try_stops(folder)
         try_names(folder)
         try_tools(folder)
-        try_text_that_is_none(folder)
+        try_invalid_text(folder)
         try_checks(folder)
         try_styles(folder)
         try_project(folder)

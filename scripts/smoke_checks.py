@@ -1,5 +1,5 @@
-"""A project in the manner of what CMake and Meson write, in which a linter checks each source: its
-stamp file is a validation of the source's object. And what the tools write of it."""
+"""A project like those that CMake and Meson write, and what the tools write for it. A linter checks
+each source; its stamp file is a validation of the source's object."""
 
 SOURCES = 7
 
@@ -57,7 +57,7 @@ def check_commands():
 
 
 def inputs():
-    """All inputs with the checks, in the order of the edges that need them."""
+    """The inputs with --validations, in the order of the edges that need them."""
     sources = [[f"../{name}.c"] for name in NAMES]
     sources[0].append("app.p/version.h")
     sources = [path for paths in sources for path in paths]
@@ -65,7 +65,7 @@ def inputs():
     return ["../version.in", *sources, *objects, "../lint.in", "lint.cfg"]
 
 
-# a rule whose command is the inputs, and edges with explicit inputs alone
+# A rule whose command is its inputs, and edges with explicit inputs only.
 PLAIN = """\
 rule list
   command = $in

@@ -1,8 +1,8 @@
-"""A project of 22 Ninja files, in the manner of what CMake and Meson write.
+"""A project of 22 Ninja files, like those that CMake and Meson write.
 
-The main file includes the rules, and reads ten libraries by `subninja`; each includes the list of
-its own sources. Among the paths are some with a space, a colon, a quote and a dollar. The lines of
-one file end in two bytes.
+The main file includes the rules, and reads ten libraries by `subninja`; each library includes the
+list of its sources. Some paths contain a space, a colon, a quote or a dollar sign. The lines of one
+file end in CR LF.
 """
 
 LIBRARIES = 10
@@ -20,7 +20,7 @@ ldflags = -Wl,--as-needed
 include CMakeFiles/rules.ninja
 
 #############################################
-# Files that are made before anything is compiled.
+# Files that are generated before anything is compiled.
 
 build generated/config.h | generated/config.stamp: CUSTOM_COMMAND ../config.h.in || generated
   COMMAND = cd ${workdir}generated && printf '%s\\n' "$$PATH" > config.h
@@ -61,7 +61,7 @@ rule REGENERATE
 """
 
 LIBRARY_RULE = """\
-# Some libraries are archived in their own way.
+# Some libraries have an archiver of their own.
 rule ARCHIVE
   command = ar crsT $flags $out $in
 
@@ -132,7 +132,7 @@ def sources_file(number):
 
 
 def project():
-    """The texts of the files by their names."""
+    """The files, as texts by name."""
     numbers = range(LIBRARIES)
     subninjas = "".join(f"subninja {library(number)}/build.ninja\n" for number in numbers)
     end = END.format(

@@ -1,12 +1,12 @@
-"""What each tool answers over examples/project, written by hand, and each fault of usage."""
+"""What each tool writes for examples/project, written by hand, and each usage fault."""
 
 import re
 from pathlib import Path
 
 PAGE = Path(__file__).resolve().parent.parent / "man/ninja-explain.1"
 
-# words, and the output; the words are split at spaces
-ANSWERS = {
+# Words, and the output. The words are split at spaces.
+OUTPUTS = {
     "-t commands -s out/count test": """\
 cc out/main.o out/libtext.a -o out/count
 ./out/words_test
@@ -161,7 +161,7 @@ phony
 """,
 }
 
-# edges with all that the project has not: inputs of each kind, validations, quotes, a response file
+# Edges with what the project lacks: inputs of each kind, validations, quotes, a response file.
 KINDS = """\
 rule cc
   command = cc @$out.rsp -c $in
@@ -175,7 +175,7 @@ build made: phony made.stamp
 build made.stamp made.h: cc a$ b.c
   flags = -DNAME="x"
 """
-KINDS_ANSWERS = {
+KINDS_OUTPUTS = {
     "-t inputs a.o": """\
 'a b.c'
 'it'\\''s.c'
@@ -270,7 +270,7 @@ phony
 NOT_TEXT = b"rule cc\n  command = cc $in\nbuild good: cc a\nbuild bad: cc \xff\n"
 NOT_TEXT_FAULT = b"build.ninja:4:1: text is not UTF-8\n"
 
-# words, and what is wrong with them
+# Words, and the fault in them.
 USAGE_FAULTS = {
     "-t": "cannot read the arguments",
     "inputs": "cannot read the arguments",
@@ -306,8 +306,8 @@ USAGE_FAULTS = {
 
 
 def page_examples():
-    """The examples of the man page: the folder, the words and what is written, for each that runs
-    the program alone, on files of examples/."""
+    """The examples of the man page that only run the program, on files in examples/: of each the
+    folder, the words and the output."""
     section = re.search(r"^\.SH EXAMPLES\n(.*?)^\.SH ", PAGE.read_text(), re.M | re.S)[1]
     folder, examples = None, []
     for part in re.split(r"^\.E[XE]\n", section, flags=re.M):

@@ -1,8 +1,8 @@
-"""Hostile manifests, with words for the program. Each is made of a number, its seed, alone.
+"""Hostile manifests, with words for the program. Each is determined by a number, its seed.
 
-Most change bytes and lines of real projects: they are deleted, doubled, swapped and spliced. Others
-read themselves, have long lines, deep and wide graphs, values that grow, dyndep files in which
-little is right, and names that collide where hashes start from 0.
+Most of them are real projects with bytes and lines that are deleted, doubled, swapped or spliced.
+Others include themselves, have long lines, deep or wide graphs, values that grow, dyndep files that
+are mostly wrong, or names that collide if hashes start from 0.
 """
 
 import random
@@ -18,7 +18,7 @@ sys.path.insert(0, str(sweeps.SCRIPTS.parent / "bench"))
 import flood  # noqa: E402
 
 COLLIDING, BITS = 400, 6
-# Bytes and words that mean something to the reader of a manifest.
+# Bytes and words that have a meaning in manifests.
 BYTES = [b"\0", b"\t", b"\r", b"\r\n", b"\n", b" ", b"  ", b"\xff", b"\xc3\xa9", b"\xef\xbb\xbf"]
 ESCAPES = [b"$", b"$\n", b"$\r\n  ", b"$$", b"$ ", b"$:", b"${", b"$in", b"${in_newline}", b"$x"]
 SIGNS = [b":", b"|", b"||", b"|@", b"|@@", b"=", b"#", b"}", b"/", b"..", b"./", b"'", b'"', b"^"]
@@ -54,7 +54,7 @@ rule mk
 x = $x$x$x
 ninja_required_version = 1.9.9
 ninja_dyndep_version = 1""".encode().split(b"\n")
-# Parts of which long lines are made, and what they are put into.
+# Parts that are repeated to make long lines, and what surrounds them.
 LONG = [b"a", b"/", b"../", b"a/../", b"$x", b"$ ", b"$$", b"a ", b"$\n", b"'"]
 AROUND_LONG = [
     b"build o: phony %s",
@@ -83,7 +83,7 @@ VIEWS = ["", "all", "rule", "rule mk", "depth", "depth 0", "depth 2", "depth 300
 
 
 def real_projects():
-    """The texts of real projects, by the names of their files."""
+    """Real projects, each as texts by file name."""
     found = [dict(each.files) for each in PROJECTS.values()]
     found.append(texts_below(EXAMPLES / "hello"))
     found.append({name: text.encode() for name, text in project().items()})
@@ -91,8 +91,8 @@ def real_projects():
 
 
 def colliding_names():
-    """For each table names that collide where hashes start from 0; others if there is no `cc` to
-    find them."""
+    """Names that collide in each table if hashes start from 0. Without `cc`, which finds them, other
+    names."""
     if not shutil.which("cc"):
         return dict.fromkeys(flood.TABLES, flood.other_names(COLLIDING))
     with tempfile.TemporaryDirectory() as folder:
@@ -100,7 +100,7 @@ def colliding_names():
 
 
 class Maker:
-    """Makes cases of their seeds."""
+    """Makes cases from their seeds."""
 
     def __init__(self):
         self.real, self.colliding = real_projects(), colliding_names()
@@ -108,8 +108,8 @@ class Maker:
         self.lines = [line for text in texts for line in text.split(b"\n")]
 
     def case(self, seed):
-        """The files, the words, and whether the run may take any time: a tree of targets may, and
-        what is expanded may grow without bound."""
+        """The files, the words, and whether the run may take any time: it may if it writes a tree
+        of targets, or if expanded values grow without bound."""
         self.chance = random.Random(seed)
         kinds = {
             self.changed: 40,
@@ -133,13 +133,13 @@ class Maker:
     def pick(self, choices):
         return self.chance.choice(choices)
 
-    # ---- changes of what is there
+    # ---- changes of existing files
 
     def changed(self):
         return self.change(self.pick(self.real))
 
     def change(self, files):
-        """The files with some places in them changed."""
+        """The files with some changes in them."""
         files = dict(files)
         for _ in range(self.pick([1, 1, 1, 2, 3, 5, 8])):
             name = self.pick(list(files))
@@ -148,7 +148,7 @@ class Maker:
         return files
 
     def change_bytes(self, text):
-        """Deletes, doubles, turns round or replaces some bytes, or puts others before them."""
+        """Deletes, doubles, reverses or replaces some bytes, or inserts others before them."""
         start = self.chance.randint(0, len(text))
         end = min(len(text), start + self.pick([0, 1, 1, 2, 5, 20]))
         part, piece = text[start:end], self.pick(PIECES)
@@ -156,8 +156,8 @@ class Maker:
         return text[:start] + made + text[end:]
 
     def change_lines(self, text):
-        """Deletes, doubles, swaps, moves or indents a line, cuts the text off before it, or puts a
-        line of another text before it."""
+        """Deletes, doubles, swaps, moves or indents a line, cuts the text off before it, or inserts
+        a line of another text before it."""
         lines = text.split(b"\n")
         at, other = self.chance.randrange(len(lines)), self.chance.randrange(len(lines))
         line = lines[at]
@@ -178,10 +178,10 @@ class Maker:
             lines.insert(at, self.pick(LINES if kind == "hostile" else self.lines))
         return b"\n".join(lines)
 
-    # ---- what is made anew
+    # ---- new files
 
     def of_pieces(self):
-        """Pieces of texts in any order."""
+        """Pieces in any order."""
         pieces = [*PIECES, *[b"\n", b" ", b"a", b"b", b"o"] * 3]
         text = b"".join(self.chance.choices(pieces, k=self.chance.randint(0, 60)))
         lines = b"\n".join(self.chance.choices(LINES, k=self.chance.randint(0, 12)))
@@ -189,7 +189,7 @@ class Maker:
         return {name: self.pick(texts) for name in (MAIN, "s", "dd")}
 
     def reading_itself(self):
-        """Files that read one another, in a ring or in a chain, and small ones many times."""
+        """Files that include one another in a ring or in a chain, small ones many times."""
         keyword, ends = self.pick([b"include", b"subninja"]), self.pick([True, False])
         size = self.pick([1, 2, 3, 31, 32, 33, 40])
         times = self.pick([1, 2, 3]) if size < 12 else 1
@@ -201,12 +201,12 @@ class Maker:
         return {name: text * times for name, text in zip(names, texts)}
 
     def with_a_long_line(self):
-        """A word, a name, a value or a join of many bytes."""
+        """A word, a name, a value or joined lines of many bytes."""
         long = self.pick(LONG) * self.pick([500, 5000, 50_000])
         return {MAIN: self.pick(AROUND_LONG) % long + self.pick([b"", b"\n"])}
 
     def deep(self):
-        """A chain of edges, the last of which may need one of them, or itself."""
+        """A chain of edges. The last one may need one of the others, or itself."""
         size = self.pick([100, 3000, 20_000])
         kind = self.pick([b"", b" |", b" ||", b" |@"])
         lines = [b"build e%d: mk%s e%d\n" % (i, kind, i + 1) for i in range(size - 1)]
@@ -215,7 +215,7 @@ class Maker:
         return {MAIN: b"rule mk\n  command = mk $out\n" + b"".join(lines)}
 
     def wide(self):
-        """A line of many words, and many edges that need one file."""
+        """A line of many words, and many edges that need the same file."""
         size = self.pick([100, 3000, 20_000])
         words = b" ".join(b"n%d" % number for number in range(size))
         users = [b"build u%d: phony n0\n" % number for number in range(size // 10)]
@@ -223,26 +223,26 @@ class Maker:
         return {MAIN: b"".join(self.pick([[form % words, *users], [*users, form % words]]))}
 
     def doubling(self):
-        """Edges of which each needs the one before it twice: their tree doubles at each level."""
+        """Edges that each need the one before twice, so that their tree doubles at each level."""
         form = self.pick([b"build e%d: mk e%d e%d\n", b"build e%d: mk e%d | ./e%d\n"])
         lines = [form % (i + 1, i, i) for i in range(self.pick([5, 30, 300]))]
         return {MAIN: b"rule mk\n  command = mk $in\nbuild e0: mk\n" + b"".join(lines)}
 
     def growing(self):
-        """Values of which each holds the one before it many times."""
+        """Values that each contain the one before many times."""
         size, times = self.pick([3, 20, 60]), self.pick([2, 3, 10])
         lines = [b"v%d = %s\n" % (i + 1, b"$v%d" % i * times) for i in range(size)]
         return {MAIN: b"v0 = x\n" + b"".join(lines) + self.pick(AROUND_GROWN) % size}
 
     def of_collisions(self):
-        """A table of names that collide."""
+        """Names that collide in one of the tables."""
         count = self.pick([50, COLLIDING])
         table, manifest = self.pick(list(flood.TABLES.items()))
         lines = manifest(self.colliding[table][:count], 2)
         return {MAIN: "".join(lines).encode(flood.ENCODING)}
 
     def bound_to_dyndeps(self):
-        """Edges that are bound to two dyndep files, in which little is right."""
+        """Edges that are bound to two dyndep files, which are mostly wrong."""
         count = self.pick([1, 2, 5])
         form = b"build o%d: mk i || d%d\n  dyndep = d%d\n"
         edges = b"".join(form % (i, i % 2, i % 2) for i in range(count))
@@ -273,13 +273,13 @@ class Maker:
         return ["-t", tool, *self.options(tool), *end, *words]
 
     def target(self, files):
-        """A word of the main file that may be a target, or a hostile one."""
+        """A word of the main file, which may be a target, or a hostile word."""
         found = files[MAIN][:20_000].decode("latin-1").split() + HOSTILE_WORDS[:1]
         word = self.pick(found if self.chance.random() < 0.8 else HOSTILE_WORDS)
         return word.strip(":|").replace("\0", "")[:100_000] + self.pick(["", "", "", "^"])
 
     def options(self, tool):
-        """Options of the tool, and now and then one that does not go with it."""
+        """Options of the tool, and sometimes one that it does not have."""
         own = {
             "commands": ["-s", f"--take={self.pick('01239x')}", f"--resume={self.pick(MARKS)}"],
             "inputs": ["--print0", "--no-shell-escape", "--dependency-order", "--validations"],

@@ -1,13 +1,13 @@
 #!/usr/bin/env python3
-"""Makes each call of the system that the program makes fail once: sweep_calls.py PROGRAM
+"""Makes each system call of the program fail once: sweep_calls.py PROGRAM
 
-In runs of every tool each `open`, `read`, `statx`, `close`, `getentropy` and `write` fails in turn,
-with each of some errors, or takes fewer bytes than it is asked to; in some runs each takes fewer
-(fail_calls.c, which is compiled with `cc`). What may then differ from the run without, and how, is
-said from `wanted_open` on.
+In runs of every tool, each `open`, `read`, `statx`, `close`, `getentropy` and `write` in turn fails
+with one of several errors, or transfers fewer bytes than asked for. In some runs every call
+transfers fewer bytes. (This is done by fail_calls.c, which is compiled with `cc`.) How such a run
+may differ from a normal one is in `wanted_open` and the functions after it.
 
-Prints in how many runs each call was made to fail, and each run that ends otherwise. The status is
-1 if there is one, or if a call was never made to fail.
+Prints in how many runs each call was made to fail, and each run that did not end as it should. The
+status is 1 if there is one, or if a call was never made to fail.
 """
 
 import errno
@@ -20,7 +20,7 @@ from pathlib import Path
 import sweeps
 from sweeps import FAULT, MAIN, OUTPUT_FAILED, STOPPED, Ending
 
-# The errors with which a call fails, and to how many bytes it is cut short.
+# The errors with which a call fails, and the numbers of bytes to which it is cut short.
 ERRORS = {
     "open": "ENOENT EINTR EACCES EIO EMFILE ENFILE ENOTDIR EISDIR ELOOP ENAMETOOLONG ENOMEM ENXIO",
     "read": "EINTR EIO EAGAIN EISDIR EBADF ENOMEM",
@@ -57,7 +57,7 @@ RUNS = {
 
 
 def ways():
-    """Each call with each way in which it can fail: an error by its name, or a number of bytes."""
+    """Each call with each way in which it can fail: the name of an error, or a number of bytes."""
     for call, names in ERRORS.items():
         for name in names.split():
             yield call, name
@@ -66,11 +66,11 @@ def ways():
             yield call, count
 
 
-# ---- what a run may answer
+# ---- how a run may end
 
 
 def fault_of_opening(project, words, number, text):
-    """The end of a run whose opening of this number, from 1, gave the fault."""
+    """How a run ends in which opening a file failed; its number counts from 1."""
     name, place = list(project.places.items())[number - 1]
     if number == 1 and "-f" in words:
         name = words[words.index("-f") + 1]
@@ -79,7 +79,8 @@ def fault_of_opening(project, words, number, text):
 
 
 def wanted_open(project, words, opened, way, usual):
-    """No such file is not found; an interrupted call is tried again; any other error is told."""
+    """A file that does not exist cannot be found. An interrupted call is tried again. After any
+    other error the file cannot be read."""
     if way == "EINTR":
         return usual
     text = "cannot find" if way == "ENOENT" else "cannot read"
@@ -87,14 +88,14 @@ def wanted_open(project, words, opened, way, usual):
 
 
 def wanted_read(project, words, opened, way, usual):
-    """Any error is told of the file that is read; fewer bytes change nothing."""
+    """After any error the file cannot be read. Fewer bytes change nothing."""
     if isinstance(way, int):
         return usual
     return fault_of_opening(project, words, max(opened, 1), "cannot read")
 
 
 def output_is_wrong(ran, way, usual):
-    """A beginning of the output, and nothing more; only fewer bytes change nothing."""
+    """After an error only a prefix of the output is written. Fewer bytes change nothing."""
     if isinstance(way, int) and way > 0:
         return ran != usual
     ended = (ran.status, ran.error) == (OUTPUT_FAILED, b"")
@@ -102,8 +103,8 @@ def output_is_wrong(ran, way, usual):
 
 
 def error_is_wrong(ran, way, usual):
-    """A beginning of the line, and the same output. A lost mark is a failed output, and a lost
-    fault keeps its status."""
+    """After an error only a prefix of the line is written, and the output is the same. If the line
+    is a mark, the status is that of a failed output. If it is a fault, the status is the same."""
     if isinstance(way, int) and way > 0:
         return ran != usual
     status = OUTPUT_FAILED if usual.status == STOPPED else usual.status
@@ -127,13 +128,13 @@ def is_wrong(project, words, call, way, opened, ran, usual):
 
 
 class Runs:
-    """Runs over one project with the same words."""
+    """Runs on one project with the same words."""
 
     def __init__(self, program, library, name, words, folder):
         self.program, self.library, self.words, self.folder = program, library, words, folder
         self.name, self.project = name, PROJECTS[name]
         self.project.write_to(folder)
-        self.told = Path(folder) / "told"
+        self.report = Path(folder) / "report"
         self.usual = self.run()
 
     def run(self, **fails):
@@ -141,17 +142,17 @@ class Runs:
         return self.program.run(self.words, self.folder, text, **fails)
 
     def run_failing(self, call, way, number):
-        """The end of a run, and how many files were opened before the call failed; `None` if it
-        made no call of this number."""
+        """How a run ends, and how many files were opened before the call failed. The latter is
+        `None` if there was no call with this number."""
         how = "FAIL_MOST" if isinstance(way, int) else "FAIL_ERRNO"
         value = way if isinstance(way, int) else getattr(errno, way)
         fails = {"FAIL_CALL": call, "FAIL_AT": str(number), how: str(value)}
-        self.told.unlink(missing_ok=True)
-        ran = self.run(LD_PRELOAD=self.library, FAIL_TOLD=str(self.told), **fails)
-        return ran, int(self.told.read_text()) if self.told.exists() else None
+        self.report.unlink(missing_ok=True)
+        ran = self.run(LD_PRELOAD=self.library, FAIL_REPORT=str(self.report), **fails)
+        return ran, int(self.report.read_text()) if self.report.exists() else None
 
     def failures_of(self, call, way):
-        """For each call of this kind in turn how the run ends in which it fails."""
+        """How a run ends in which a call of this kind fails, for each such call in turn."""
         number = 1
         while (failed := self.run_failing(call, way, number))[1] is not None:
             yield number, *failed
@@ -161,7 +162,7 @@ class Runs:
 
 
 def try_run(program, library, task):
-    """Makes each call of a run fail in each way. Gives the counts, and what is wrong."""
+    """Makes each call of a run fail in each way. Returns the counts, and what is wrong."""
     name, words = task
     counts, wrong = dict.fromkeys(ERRORS, 0), []
     with tempfile.TemporaryDirectory() as folder:
@@ -171,18 +172,18 @@ def try_run(program, library, task):
                 counts[call] += 1
                 if is_wrong(runs.project, words, call, way, opened, ran, runs.usual):
                     case = f"{name}, {words}, {call} {number} by {way}"
-                    wrong.append(f"{case}: it answers {sweeps.shown(ran)}")
+                    wrong.append(f"{case}: it ends with {sweeps.shown(ran)}")
     return counts, wrong
 
 
 def main():
     words = sweeps.parser_of(__doc__.split("\n")[0]).parse_args()
     if not shutil.which("cc"):
-        print("sweep_calls: left out, as there is no cc")
+        print("sweep_calls: skipped, since there is no cc")
         return 0
     program, sweep = sweeps.Program(words.program), sweeps.Sweep("sweep_calls")
-    with tempfile.TemporaryDirectory() as room:
-        library = sweeps.compiled("fail_calls", room)
+    with tempfile.TemporaryDirectory() as place:
+        library = sweeps.compiled("fail_calls", place)
         task = partial(try_run, program, library)
         sweeps.in_parallel(sweep, words.jobs, task, sweeps.runs_of(RUNS))
     never = [call for call in ERRORS if not sweep.counts[call]]

@@ -1,11 +1,12 @@
 #!/usr/bin/env python3
 """Runs every tool, with each of its options, over 100,000 edges: sweep_sizes.py PROGRAM
 
-In one manifest each edge needs the one before it; in one each edge has the next as its validation;
-in one a dyndep file tells for each edge that it needs the one before it. What each run has to write
-is said here by a few lines of Python, and comes from no run of the program.
+There are three manifests. In the first, each edge needs the one before it. In the second, the next
+edge is a validation of each edge. In the third, a dyndep file makes each edge need the one before
+it. What each run has to write is computed here, and not taken from a run of the program.
 
-Prints how many runs were tried, and each that ends otherwise. The status is 1 if there is one.
+Prints how many runs were tried, and each run that did not end as it should. The status is 1 if
+there is one.
 """
 
 import json
@@ -18,7 +19,7 @@ from sweeps import DONE, MAIN, STOPPED, Ending
 
 EDGES = 100_000
 HALF = EDGES // 2
-# With fewer commands taken a mark is longer than a word of the command line of Linux can be.
+# The mark after fewer commands is too long for one word of a Linux command line.
 FEWEST = 34_465
 LAST = f"e{EDGES - 1}"
 ALL = range(EDGES)
@@ -65,7 +66,7 @@ def sorted_paths(numbers, end="\n"):
 
 
 def database(commands, directory):
-    """What `compdb` writes of these commands, by the numbers of their edges."""
+    """What `compdb` writes for these commands, which are given by the numbers of their edges."""
     entries = (
         '\n  {\n    "directory": %s,\n    "command": %s,\n    "file": %s,\n    "output": %s\n  }'
         % tuple(json.dumps(text) for text in (directory, text, f"e{number - 1}", f"e{number}"))
@@ -79,12 +80,12 @@ def done(text):
 
 
 def chain_of_marks(number):
-    """The mark of the edge of this number in the chain: a step for each edge above it."""
+    """The mark of an edge of the chain: it has a number for each edge after it."""
     return "0" + ".0" * (EDGES - 1 - number)
 
 
 def of_chain():
-    """Words and what they answer over the chain."""
+    """Words, and how the run on the chain has to end."""
     whole, needed = commands(ALL), ALL[:-1]
     unexpanded = database({number: command(number) for number in ALL[1:]}, ".")
     expanded = {number: f"mk e{number} e{number - 1}" for number in ALL[1:]}
@@ -132,11 +133,11 @@ def of_chain():
 
 
 def pages(mark, target, sizes):
-    """Runs that stop after so many commands, and those that go on from their marks. `mark` gives
-    the mark of an edge by its number."""
+    """Runs that stop after some commands, and runs that continue from their marks. `mark` returns
+    the mark of an edge, given its number."""
     letters = {"": "", "--validations ": "v"}
     for options, letter in letters.items() if mark is chain_of_marks else [("--validations ", "v")]:
-        # The letter is one byte more of the word.
+        # The letter makes the word one byte longer.
         for taken in (size + len(letter) for size in sizes):
             text = letter + mark(taken - 1)
             first, rest = commands(ALL[:taken]), commands(ALL[taken:])
@@ -148,8 +149,8 @@ def pages(mark, target, sizes):
 
 
 def of_validations():
-    """Words and what they answer where each edge has the next as its validation: none needs
-    another one, and the targets grow by all that come after them."""
+    """The same for the manifest with validations. No edge needs another one, and the targets grow
+    by all edges that come after them."""
     yield "-t commands e0", done(commands([0]))
     yield "-t commands --validations e0", done(commands(ALL))
     yield f"-t commands --validations e{HALF}", done(commands(ALL[HALF:]))
@@ -169,7 +170,7 @@ def of_validations():
 
 
 def of_discovery():
-    """Words and what they answer where a dyndep file tells what is needed."""
+    """The same for the manifest with a dyndep file."""
     whole = commands(ALL)
     yield "-t commands e7", done(commands([7]))
     yield f"--dyndep -t commands {LAST}", done(whole)
@@ -189,11 +190,11 @@ def of_discovery():
     yield "--dyndep -t targets rule mk", done(sorted_paths(ALL))
 
 
-ANSWERS = {"a chain": of_chain, "validations": of_validations, "a dyndep file": of_discovery}
+MANIFESTS = {"a chain": of_chain, "validations": of_validations, "a dyndep file": of_discovery}
 
 
 def try_run(program, folders, task):
-    """Runs the program with the words. Gives the count, and what is wrong."""
+    """Runs the program with the words. Returns the count, and what is wrong."""
     name, words, (status, output, error) = task
     text = CHAIN.encode() if not words or "--stdin" in words else b""
     ran = program.run(words, folders[name], text)
@@ -205,9 +206,9 @@ def try_run(program, folders, task):
     return {"runs": 1}, [f"{name}, {about}: {', '.join(parts)} differ: {sweeps.shown(ran)}"]
 
 
-def tasks_of(answers):
-    """Each run as the name of its manifest, its words, and how it has to end."""
-    for name, of_manifest in answers.items():
+def tasks_of(manifests):
+    """Each run: the name of its manifest, its words, and how it has to end."""
+    for name, of_manifest in manifests.items():
         for line, wanted in of_manifest():
             yield name, line.split(), wanted
 
@@ -215,12 +216,12 @@ def tasks_of(answers):
 def main():
     words = sweeps.parser_of(__doc__.split("\n")[0]).parse_args()
     program, sweep = sweeps.Program(words.program), sweeps.Sweep("sweep_sizes")
-    with tempfile.TemporaryDirectory() as room:
-        folders = {name: f"{room}/{name}" for name in FILES}
+    with tempfile.TemporaryDirectory() as place:
+        folders = {name: f"{place}/{name}" for name in FILES}
         for name, files in FILES.items():
             sweeps.write_files(folders[name], {file: text.encode() for file, text in files.items()})
         task = partial(try_run, program, folders)
-        sweeps.in_parallel(sweep, words.jobs, task, tasks_of(ANSWERS))
+        sweeps.in_parallel(sweep, words.jobs, task, tasks_of(MANIFESTS))
     return sweep.end()
 
 

@@ -1,14 +1,14 @@
 #!/usr/bin/env python3
-"""Runs the program over hostile manifests: sweep_strangers.py [--cases N] [--seed S] PROGRAM
+"""Runs the program on hostile manifests: sweep_strangers.py [--cases N] [--seed S] PROGRAM
 
-The cases are those of the seeds S, S + 1 and so on (strangers.py makes them). Each run gets 256 MB,
-10 seconds, and an output that takes 16 MB; in one run of ten it takes nothing. The run has to end
-by itself, in one of the ways that the manual page tells; a fault has to be one of those that there
-are, and where it says that it is has to stand what such a fault is about. Trees of targets, and
-manifests of values that grow without bound, may run out of time.
+The cases have the seeds S, S + 1 and so on (strangers.py makes them). Each run gets 256 MB, 10
+seconds, and an output that takes 16 MB, or in one run of ten nothing. It has to end by itself, with
+a status of the man page. A fault has to be one that exists, and its place has to contain what such
+a fault is about. Only trees of targets, and manifests with values that grow without bound, may run
+out of time.
 
-Prints how many runs ended with which status, and each that ends otherwise, with its seed. The
-status is 1 if there is one.
+Prints how many runs ended with each status, and each run that did not end as it should, with its
+seed. The status is 1 if there is one.
 """
 
 import collections
@@ -21,15 +21,15 @@ import sweeps
 from strangers import Maker
 from sweeps import OUTPUT_FAILED
 
-ROOM = 256 << 20
+MOST_MEMORY = 256 << 20
 MOST_OUTPUT = 16 << 20
 SECONDS = 10
-# So many cases are one task.
+# The number of cases in a task.
 TASK = 250
 
 
 def try_case(program, case, folder, is_full):
-    """Runs the program over a case. Says how it ended, and what is wrong with that."""
+    """Runs the program on a case. Returns how it ended, and what is wrong with that."""
     files, words, may_take_any_time = case
     sweeps.write_files(folder, files)
     with open("/dev/full", "wb") as full:
@@ -38,13 +38,13 @@ def try_case(program, case, folder, is_full):
         return "ran out of time, as they may", None
     how = f"ended with {ran.status}"
     if ran.status == OUTPUT_FAILED and (is_full or len(ran.output) == MOST_OUTPUT):
-        return how, "the output failed, and more is told" if ran.error else None
+        return how, "the output failed, and there is an error line" if ran.error else None
     return how, sweeps.ending_is_wrong(ran, files)
 
 
 def try_cases(program, maker, seeds):
-    """Runs the program over some cases. Gives the counts, and what is wrong."""
-    resource.setrlimit(resource.RLIMIT_AS, (ROOM, resource.RLIM_INFINITY))
+    """Runs the program on some cases. Returns the counts, and what is wrong."""
+    resource.setrlimit(resource.RLIMIT_AS, (MOST_MEMORY, resource.RLIM_INFINITY))
     resource.setrlimit(resource.RLIMIT_FSIZE, (MOST_OUTPUT, resource.RLIM_INFINITY))
     counts, wrong = collections.Counter(), []
     for seed in seeds:

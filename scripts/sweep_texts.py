@@ -1,13 +1,13 @@
 #!/usr/bin/env python3
 """Changes each byte of small projects: sweep_texts.py PROGRAM
 
-Of two projects of two files, one of which has a dyndep file and the other lines that end in CR LF,
-each file is cut off after each of its bytes, and each byte is replaced in turn by NUL, a tab, CR
-and `$`. A run over the project has to give an answer, or one fault; and where the fault says that
-it is has to stand what such a fault is about, in that file or in the other one.
+There are two projects of two files: one with a dyndep file, and one with lines that end in CR LF.
+Each file is cut off after each of its bytes, and each byte is replaced in turn by NUL, a tab, CR
+and `$`. A run on the project has to succeed or to report one fault, and the place of the fault has
+to contain what such a fault is about.
 
-Prints how many texts and runs were tried, and each run that ends otherwise. The status is 1 if
-there is one.
+Prints how many texts and runs were tried, and each run that did not end as it should. The status is
+1 if there is one.
 """
 
 import sys
@@ -41,7 +41,7 @@ BAD_ESCAPE = b"build.ninja:1:5: bad $-escape (literal $ must be written as $$)\n
 
 
 def changed(text):
-    """Each text that is made of this one, with what was done."""
+    """Each change of a text: what was done, and the new text."""
     for size in range(len(text)):
         yield f"its first {size} bytes", text[:size]
     for name, byte in BYTES.items():
@@ -50,7 +50,7 @@ def changed(text):
 
 
 def try_file(program, task):
-    """Runs the program over each change of a file. Gives the counts, and what is wrong."""
+    """Runs the program on each change of a file. Returns the counts, and what is wrong."""
     name, changed_file = task
     files, tried, wrong = dict(PROJECTS[name].files), 0, []
     with tempfile.TemporaryDirectory() as folder:
@@ -63,7 +63,7 @@ def try_file(program, task):
                 if fault or ran.status > FAULT:
                     wrong.append(
                         f"{name}, {changed_file}, {what}, {words}: "
-                        f"{fault or 'it is neither'}: {sweeps.shown(ran)}"
+                        f"{fault or 'the status is wrong'}: {sweeps.shown(ran)}"
                     )
     return {"texts": tried, "runs": tried * len(WORDS[name])}, wrong
 
@@ -73,7 +73,7 @@ def try_last_dollar(program):
     with tempfile.TemporaryDirectory() as folder:
         sweeps.write_files(folder, {MAIN: b"x = $"})
         ran = program.run(["-t", "commands"], folder)
-    wrong = [] if ran == Ending(FAULT, b"", BAD_ESCAPE) else [f"x = $: it answers {ran}"]
+    wrong = [] if ran == Ending(FAULT, b"", BAD_ESCAPE) else [f"x = $: it ends with {ran}"]
     return {"texts": 1, "runs": 1}, wrong
 
 

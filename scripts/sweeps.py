@@ -1,7 +1,7 @@
-"""What the sweeps have in common: small projects, how the program is run over them, and its faults.
+"""What the sweeps share: small projects, how the program is run on them, and its faults.
 
-A sweep makes one thing fail after the other, or changes one byte after the other. It prints how
-many cases it tried and each that is wrong, and its status is 1 if there is one.
+A sweep makes one thing after another fail, or changes one byte after another. It prints how many
+cases it tried, and each one that is wrong. Its status is 1 if there is one.
 """
 
 import argparse
@@ -28,7 +28,7 @@ Ending = collections.namedtuple("Ending", "status output error")
 
 
 class Project:
-    """Files by their names, and for each the place to which a fault of opening it belongs."""
+    """Files by their names, and for each one the place of a fault in opening it."""
 
     def __init__(self, files, places):
         self.files = {name: as_bytes(text) for name, text in files.items()}
@@ -38,7 +38,7 @@ class Project:
         write_files(folder, self.files)
 
     def input_for(self, words):
-        """What the run with these words reads from standard input."""
+        """The standard input of a run with these words."""
         return self.files[MAIN] if not words or "--stdin" in words else b""
 
 
@@ -47,7 +47,7 @@ def as_bytes(text):
 
 
 def write_files(folder, files):
-    """Writes the texts of files, by their names, into a folder."""
+    """Writes files, given as texts by name, into a folder."""
     for name, text in files.items():
         path = Path(folder, name)
         path.parent.mkdir(parents=True, exist_ok=True)
@@ -131,17 +131,17 @@ rule L
 
 
 # An input that is the single byte FF.
-NO_TEXT = as_bytes(RESPONSE).replace(b" a b", b" \xff b")
+NOT_UTF8 = as_bytes(RESPONSE).replace(b" a b", b" \xff b")
 
 
 def texts_below(folder):
-    """The texts of the Ninja files in a folder, by their names."""
+    """The Ninja files in a folder and below, as texts by name."""
     files = sorted(folder.rglob("*.ninja"))
     return {str(file.relative_to(folder)): file.read_bytes() for file in files}
 
 
 def with_two_byte_ends(text):
-    """The text with CR LF in place of LF."""
+    """The text with CR LF instead of LF."""
     return text.replace("\n", "\r\n")
 
 
@@ -160,11 +160,11 @@ PROJECTS = {
         texts_below(EXAMPLES / "project"),
         {"rules.ninja": f"{MAIN}:7:9", "text/build.ninja": f"{MAIN}:8:10"},
     ),
-    "no text": Project({MAIN: NO_TEXT}, {}),
+    "not UTF-8": Project({MAIN: NOT_UTF8}, {}),
     "cycle": Project({MAIN: "rule c\n  command = c\nbuild a: c b\nbuild b: c a\n"}, {}),
 }
 
-# Runs of every tool, by the name of the project. The words are split at spaces; some are refused.
+# Runs of every tool, by project. The words are split at spaces; some of them are refused.
 RUNS = {
     "diamond": [
         "",
@@ -264,7 +264,7 @@ RUNS = {
         "-t rules -d",
         "-t compdb -x cc link",
     ],
-    "no text": ["-t compdb", "-t compdb -x", "-t commands"],
+    "not UTF-8": ["-t compdb", "-t compdb -x", "-t commands"],
     "cycle": ["-t commands", "-t targets all"],
 }
 
@@ -287,19 +287,19 @@ class Program:
         self.path = os.path.abspath(path)
 
     def run(self, words, folder, text=b"", seconds=SECONDS, output=None, **environment):
-        """Runs the program in the folder, with a text as standard input, and waits for its end. The
-        output goes to a file if one is given. The status is `None` if the time was over."""
+        """Runs the program in the folder to its end, with the text as its standard input. If a file
+        is given, the output goes there. The status is `None` if the time ran out."""
         with memory_file(text) as input, memory_file() as out, memory_file() as err:
             how = {"stdin": input, "stdout": output or out, "stderr": err, "cwd": folder}
-            # Signals that Python ignores stay ignored: a file that gets too large is an error of
-            # `write` then.
+            # Signals that Python ignores remain ignored. So `write` returns an error when a file
+            # gets too large.
             how |= {"env": {**os.environ, **environment}, "restore_signals": False}
             status = wait_for(subprocess.Popen([self.path, *words], **how), seconds)
             return Ending(status, all_bytes(out), all_bytes(err))
 
 
 def memory_file(text=b""):
-    """A file in memory that holds a text and is read from its front."""
+    """A file in memory with this text, to be read from its start."""
     file = open(os.memfd_create("sweep"), "wb+", buffering=0)
     if text:
         file.write(text)
@@ -312,7 +312,7 @@ def all_bytes(file):
 
 
 def wait_for(program, seconds):
-    """The status with which the program ends; `None` if it had to be killed."""
+    """The exit status of the program, or `None` if it had to be killed."""
     signal.signal(signal.SIGALRM, stop_waiting)
     signal.setitimer(signal.ITIMER_REAL, seconds)
     try:
@@ -325,9 +325,9 @@ def wait_for(program, seconds):
         signal.setitimer(signal.ITIMER_REAL, 0)
 
 
-def compiled(name, room):
-    """The library that is made of a file of C in this folder."""
-    library = Path(room) / f"{name}.so"
+def compiled(name, folder):
+    """Compiles a C file of this folder into a library in another one. Returns its path."""
+    library = Path(folder) / f"{name}.so"
     compiler = ["cc", "-O2", "-Wall", "-shared", "-fPIC", "-o", library, SCRIPTS / f"{name}.c"]
     subprocess.run(compiler, check=True)
     return str(library)
@@ -339,7 +339,8 @@ LINE_START = rb"(?<![^\n])"
 WORD = rb"[^ :|\n]"
 ANYTHING = rb""
 NAMED = None
-# The text of each fault that has a place, and what stands there: a pattern, or what it names.
+# The text of each fault with a place, and what has to be at that place: a pattern, or the name that
+# the fault quotes.
 PLACED_FAULTS = [
     (rb"unexpected byte", rb"\0|\r(?!\n)"),
     (rb"tabs are not allowed, use spaces", rb"\t"),
@@ -405,8 +406,8 @@ def is_one_of(text, patterns):
     return any(re.fullmatch(pattern, text, re.S) for pattern in patterns)
 
 
-def stands_at(text, line, column, pattern):
-    """Whether the place is in the text, and what stands there matches."""
+def matches_at(text, line, column, pattern):
+    """Whether the place is in the text, and the pattern matches there."""
     starts = [0, *(found.end() for found in re.finditer(rb"\n", text))]
     if not 1 <= line <= len(starts):
         return False
@@ -417,37 +418,37 @@ def stands_at(text, line, column, pattern):
 
 
 def placed_fault_is_wrong(name, place, files):
-    """What is wrong with the rest of a fault line after the name of its file, if anything is."""
+    """What is wrong, if anything, with the part of a fault line after the name of the file."""
     parts = re.fullmatch(rb":(\d+):(\d+): (.*)", place, re.S)
     if not parts:
-        return "it has no place"
+        return "it has no line and column"
     line, column, text = int(parts[1]), int(parts[2]), parts[3]
     for pattern, wanted in PLACED_FAULTS:
         if found := re.fullmatch(pattern, text, re.S):
             wanted = re.escape(found[1]) if wanted is NAMED else wanted
-            if stands_at(files.get(name, b""), line, column, wanted):
+            if matches_at(files.get(name, b""), line, column, wanted):
                 return None
     return "there is no such fault at this place"
 
 
 def fault_is_wrong(error, files):
-    """What is wrong with the error output of a run over these files that ended in a fault, if
-    anything is. A main file that is not there counts as an empty one."""
+    """What is wrong, if anything, with the error output of a run on these files that ended in a
+    fault. A main file that does not exist counts as empty."""
     if not error.endswith(b"\n"):
-        return "its last line has no end"
+        return "the last line has no line feed"
     fault = error[:-1]
     if fault.startswith(b"ninja-explain: "):
         known = is_one_of(fault.removeprefix(b"ninja-explain: "), PLACELESS_FAULTS)
         return None if known else "there is no such fault"
     named = [name for name in {MAIN, *files} if fault.startswith(name.encode() + b":")]
     if not named:
-        return "it is in no file of the run"
+        return "it is not in a file of the run"
     wrong = [placed_fault_is_wrong(name, fault[len(name.encode()) :], files) for name in named]
     return None if None in wrong else wrong[0]
 
 
 def ending_is_wrong(ending, files):
-    """What is wrong with the end of a run over these files whose output did not fail."""
+    """What is wrong, if anything, with how a run on these files ended. Its output did not fail."""
     status, output, error = ending
     if status == DONE:
         return "something is on the error output" if error else None
@@ -455,17 +456,17 @@ def ending_is_wrong(ending, files):
         return fault_is_wrong(error, files)
     if status == USAGE:
         known = is_one_of(error, [rb"ninja-explain: " + each + rb"\n" for each in USAGE_FAULTS])
-        return None if known and not output else "there is no such fault of usage"
+        return None if known and not output else "there is no such usage fault"
     if status == STOPPED:
         return None if MARK_LINE.fullmatch(error) else "it has no mark"
-    return "it ran out of time" if status is None else "it ended in no way of its own"
+    return "it ran out of time" if status is None else f"it ended with status {status}"
 
 
 # ---- what a sweep finds
 
 
 class Sweep:
-    """What a sweep tried, by kinds, and what of it is wrong."""
+    """What a sweep tried, by kind, and which cases are wrong."""
 
     def __init__(self, name):
         self.name, self.counts, self.wrong = name, collections.Counter(), []
@@ -475,21 +476,21 @@ class Sweep:
         self.wrong += wrong
 
     def wants(self, *kinds):
-        """Finds it wrong if one of these was never counted."""
+        """It is wrong if one of these kinds never occurred."""
         self.wrong += [f"no {kind}" for kind in kinds if not self.counts[kind]]
 
     def end(self):
-        """Prints what is wrong and then the counts; returns the status of the sweep."""
+        """Prints what is wrong, and then the counts. Returns the status of the sweep."""
         for case in self.wrong:
             print(f"{self.name}: {case}")
         counts = ", ".join(f"{count:,} {what}" for what, count in self.counts.items())
         print(f"{self.name}: {counts or 'nothing tried'}; {len(self.wrong)} wrong")
-        # A sweep that tried nothing found nothing out.
+        # A sweep that tried nothing shows nothing.
         return 1 if self.wrong or not self.counts.total() else 0
 
 
 def shown(ending):
-    """The end of a run, with at most 200 bytes of each output."""
+    """How a run ended, with at most 200 bytes of each output."""
     return tuple(
         part[:200] + b".." if isinstance(part, bytes) and len(part) > 200 else part
         for part in ending
@@ -497,19 +498,19 @@ def shown(ending):
 
 
 def in_parallel(sweep, jobs, function, tasks):
-    """Takes in the counts and the wrong cases that the function gives for each task."""
+    """Adds the counts and the wrong cases that the function returns for each task to the sweep."""
     with multiprocessing.get_context("fork").Pool(jobs) as pool:
         for counts, wrong in pool.imap(function, list(tasks)):
             sweep.take(counts, wrong)
 
 
 def runs_of(table):
-    """The runs of a table such as `RUNS`, each as a project's name and words."""
+    """The runs of a table such as `RUNS`, each as the name of a project and words."""
     return [(name, line.split()) for name, lines in table.items() for line in lines]
 
 
 def parser_of(description):
-    """The words that every sweep takes."""
+    """The arguments that every sweep takes."""
     parser = argparse.ArgumentParser(description=description)
     parser.add_argument("program", help="the built program")
     parser.add_argument("--jobs", type=int, default=os.cpu_count(), help="how many run at once")

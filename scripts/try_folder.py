@@ -41,8 +41,8 @@ def main():
             sys.stderr.write(line)
             met |= {limit for said, limit in LIMITS.items() if said in line}
     for limit in sorted(met):
-        print(f"This run {limit}, which 'rt try' does not allow. The program that 'make' proves and")
-        print("builds has no such limit.")
+        print(f"This run {limit}, which 'rt try' does not allow.")
+        print("The program that 'make' proves and builds has no such limit.")
     return run.returncode
 
 
