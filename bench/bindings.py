@@ -1,9 +1,10 @@
 #!/usr/bin/env python3
-"""Writes Ninja files that bind variables into a folder: bindings.py tree|near|far N FOLDER [--short]
+"""Writes Ninja files with many bindings into a folder: bindings.py tree|near|far N FOLDER [--short]
 
-`tree` makes N files of 100 bindings each, which build.ninja opens in groups of 25; `near` and `far` make build.ninja alone,
-with N bindings, which refer to bindings shortly before them or to any. A binding is as long as the flags of a compiler;
-with --short it is a path. The same N gives the same bytes.
+`tree` writes N files of 100 bindings each, which build.ninja includes in groups of 25. `near` and
+`far` write only build.ninja, with N bindings. They refer to bindings shortly before them, or to any
+earlier ones. A binding is as long as the flags of a compiler; with --short it is a path. The same N
+gives the same bytes.
 """
 
 import os
@@ -25,7 +26,8 @@ def opening(number, is_include):
 
 
 def opened_by(number):
-    """What a file of a group opens. Of two groups, one is a chain, 25 files deep; in the other the first file opens all."""
+    """The files that a file of a group includes. Every other group is a chain, 25 files deep. In
+    the others the first file includes all."""
     group, place = divmod(number, PER_GROUP)
     if group % 2 == 0:
         return [number + 1] if place < PER_GROUP - 1 else []
@@ -33,7 +35,7 @@ def opened_by(number):
 
 
 def file_binding(number, index, flags):
-    """Of ten bindings the first is a folder, of which the others speak."""
+    """The first of ten bindings is a folder, to which the others refer."""
     folder = index - index % PER_PLAIN
     if index == folder:
         return f"dir_{index} = modules/part_{number}/unit_{index}\n"
@@ -41,25 +43,26 @@ def file_binding(number, index, flags):
 
 
 def file_lines(number, flags):
-    """The bindings of a file, in the middle of which it opens others: each second one as a scope of its own."""
+    """The bindings of a file. In the middle it includes other files, every other one as a scope of
+    its own."""
     lines = [file_binding(number, index, flags) for index in range(PER_FILE)]
     lines[PER_FILE // 2 : PER_FILE // 2] = [opening(other, other % 2 == 0) for other in opened_by(number)]
     return lines
 
 
 def main_lines(count):
-    """Opens the groups: of four, two by `include`."""
+    """Includes the groups, two of four by `include`."""
     groups = range(count // PER_GROUP)
     return ["root = build\n", *(opening(group * PER_GROUP, group % 4 < 2) for group in groups)]
 
 
 def spread(index, count):
-    """A number below the count: those of many indexes are spread over all of these."""
+    """A number below the count. The numbers of many indexes are spread evenly."""
     return index * 2654435761 % 2**32 * count // 2**32
 
 
 def single_binding(index, reach, flags):
-    """Of ten bindings the first is plain. Each other one refers to that one, and to one of the last plain ones."""
+    """The first of ten bindings is plain. The others refer to it, and to an earlier plain one."""
     plain = index - index % PER_PLAIN
     if index == plain:
         return f"v{index} = {index}\n"
@@ -68,7 +71,7 @@ def single_binding(index, reach, flags):
 
 
 def write(folder, name, lines):
-    """Writes the lines into the file of the name. Gives the number of their bytes."""
+    """Writes the lines into a file. Returns the number of bytes."""
     path = os.path.join(folder, name)
     os.makedirs(os.path.dirname(path), exist_ok=True)
     with open(path, "w") as file:
@@ -77,18 +80,18 @@ def write(folder, name, lines):
 
 
 def write_tree(folder, count, flags=FLAGS):
-    """Writes the files, a multiple of 25, and build.ninja. Gives the number of their bytes."""
+    """Writes the files, whose number is a multiple of 25, and build.ninja. Returns their size."""
     size = sum(write(folder, file_name(number), file_lines(number, flags)) for number in range(count))
     return size + write(folder, "build.ninja", main_lines(count))
 
 
 def write_near(folder, count, flags=FLAGS):
-    """Writes build.ninja, whose bindings refer to two of the last hundred. Gives the number of its bytes."""
+    """Writes build.ninja, whose bindings refer to two of the last hundred. Returns its size."""
     return write(folder, "build.ninja", (single_binding(index, 10, flags) for index in range(count)))
 
 
 def write_far(folder, count, flags=FLAGS):
-    """Writes build.ninja, whose bindings refer to any before them. Gives the number of its bytes."""
+    """Writes build.ninja, whose bindings refer to any earlier ones. Returns its size."""
     return write(folder, "build.ninja", (single_binding(index, count, flags) for index in range(count)))
 
 

@@ -4,21 +4,21 @@
     commands.py PROGRAM [--edges OTHER] [--sizes N,M] [--chain N,M] [--inputs N,M]
                 [--references N,M] [--rounds N]
 
-In one run, on the same files, PROGRAM stands beside `ninja -t commands`. Both write to a file, and
-what they write has to be the same, byte for byte. OTHER, if it is given, writes the commands of all
-edges of build.ninja, as crates/command_bench does: the same lines in another order. Each is run
-three times in turn, or N times, and the best times count: by the clock, and of the processor; of
-memory the most. The files are made in a temporary folder.
+PROGRAM is compared with `ninja -t commands` on the same files. Both write to a file, and have to
+write the same bytes. OTHER, if it is given, writes the commands of all edges of build.ninja, as
+crates/command_bench does: the same lines in another order. Each program is run three times, or N
+times, in turn. The best times count, by the clock and of the processor, and the greatest memory.
+The files are in a temporary folder.
 
-The shapes are those of manifest.py at the sizes of --sizes, without their `default` line, whose
-target has no command; and of shapes.py a chain (--chain), in which Ninja calls itself for each edge
-and may run out of stack, one edge with many inputs (--inputs), and edges of a rule whose command
-has 1,000 references (--references).
+The manifests are the shapes of manifest.py with the numbers of edges in --sizes, without their
+`default` line, and three shapes of shapes.py: a chain (--chain), on which Ninja recurses for each
+edge and may run out of stack; one edge with many inputs (--inputs); and edges of a rule whose
+command has 1,000 references (--references).
 
-For the shapes of manifest.py the run is divided too: half of the commands by `--take`, and the rest
-by `--resume` from the mark at which that stopped. The rest should take no longer than the whole.
+On the shapes of manifest.py the run is also divided: half of the commands by `--take`, and the rest
+by `--resume` from the mark. The rest should take no longer than the whole.
 
-In the end the aims that were missed are listed.
+At the end the missed aims are listed.
 """
 
 import argparse
@@ -39,7 +39,7 @@ MEMORY_AIM = 0.9
 
 
 def programs_of(program, other, folder):
-    """What is run. Ninja is left out where it cannot walk so deep."""
+    """The words of what is run. Ninja is left out if it runs out of stack."""
     programs = {"program": [program, "-t", "commands"]}
     if other:
         programs["all edges"] = [other]
@@ -53,7 +53,7 @@ def programs_of(program, other, folder):
 
 
 def sum_of_lines(path):
-    """How many lines a file has, and a number that does not hang on their order."""
+    """The number of lines of a file, and a checksum that does not depend on their order."""
     count, total = 0, 0
     with open(path, "rb") as file:
         for line in file:
@@ -63,7 +63,7 @@ def sum_of_lines(path):
 
 
 def check(programs, folder):
-    """That all programs write the same. Gives the number of lines."""
+    """Checks that all programs write the same. Returns the number of lines."""
     for name, words in programs.items():
         Run(words, folder=folder, out=os.path.join(folder, name))
     ours = os.path.join(folder, "program")
@@ -76,7 +76,7 @@ def check(programs, folder):
 
 
 def divided(program, folder, lines, rounds):
-    """The figures of the whole, of the first half of the commands, and of the rest."""
+    """The figures of the whole run, of the first half of the commands, and of the rest."""
     out = os.path.join(folder, "out")
     whole = [program, "-t", "commands"]
     first = [*whole, "--take", str(lines // 2)]
@@ -91,7 +91,7 @@ def divided(program, folder, lines, rounds):
 
 
 def report(shape, count, size, lines, figures, before):
-    """Prints the figures of one size. Gives the aims that were missed."""
+    """Prints the figures of one size. Returns the missed aims."""
     print(f"{shape}: N = {count}, {size / MB:.1f} MB, {lines} commands")
     print_runs(figures, before)
     missed = []
@@ -108,7 +108,7 @@ def report(shape, count, size, lines, figures, before):
 
 
 def measure_size(words, shape, count, before):
-    """The figures of one size, and the aims that it missed."""
+    """The figures of one size, and the missed aims."""
     with tempfile.TemporaryDirectory() as folder:
         path = os.path.join(folder, "build.ninja")
         with open(path, "w") as file:
@@ -125,7 +125,7 @@ def measure_size(words, shape, count, before):
 
 
 def measure_shape(words, shape, counts):
-    """Measures one shape at these sizes. Gives the aims that were missed."""
+    """Measures one shape at these sizes. Returns the missed aims."""
     before, few, missed = {}, None, []
     for count in counts:
         figures, more = measure_size(words, shape, count, before)

@@ -1,13 +1,13 @@
 #!/usr/bin/env python3
-"""Measures what joining dyndep files costs beside loading:
+"""Measures how long it takes to join dyndep files, compared with loading:
 
     dyndeps.py PROGRAM [--sizes N,M] [--rounds N]
 
-The manifest has N edges, of which every other one is bound to a dyndep file. A dyndep file has the
-entries of 100 edges; each of them discovers an output and, but for the first, an input. `rules` is
-run with and without `--dyndep`, in turn, five times or N times, and the medians of the processor
-time count: what `--dyndep` takes more is the joining. The aim is half of the time of the run
-without it, and time and memory that grow no faster than N.
+The manifest has N edges, and every other one is bound to a dyndep file. A dyndep file has entries
+for 100 edges; each entry discovers an output and, except in the first, an input. `rules` is run
+with and without `--dyndep`, in turn, five times or N times, and the median processor times count.
+The difference is the time of joining. The aim is half of the time without `--dyndep`, and that time
+and memory grow no faster than N.
 """
 
 import argparse

@@ -1,11 +1,14 @@
 #!/usr/bin/env python3
-"""Measures what names cost that collide in a table whose hashes start from a known number: flood.py [--names N] PROGRAM [WORD..]
+"""Measures the cost of names that collide if hashes start from a known number:
 
-PROGRAM, with these words, loads build.ninja of the folder that it runs in, as crates/load_bench does. For each table of names it
-loads two files of the same size, which differ in their names alone: those of one are from collisions.c, which this program compiles
-with `cc`, and collide where the number is 0, those of the other were not chosen. Each is run five times in turn, and the best times count. Where hashes start from a
-number that is drawn for each run, the names that were chosen are names like others, and the times are close; the aim is at
-most 3.
+    flood.py [--names N] PROGRAM [WORD..]
+
+PROGRAM, with these words, loads build.ninja in its working directory, as crates/load_bench does.
+For each table of names it loads two files of the same size, which differ only in their names. The
+names of one collide if the number is 0; they are from collisions.c, which is compiled with `cc`.
+The names of the other are arbitrary. Each file is loaded five times in turn, and the best times
+count. If hashes start from a number that is drawn for each run, the chosen names are like any
+others, and the times are close. The aim is a ratio of at most 3.
 """
 
 import argparse
@@ -23,7 +26,8 @@ SOURCE = os.path.join(os.path.dirname(os.path.abspath(__file__)), "collisions.c"
 
 
 def colliding_names(folder, count, bits=12):
-    """For each table names that collide in it where hashes start from 0, where its groups have numbers of so many bits."""
+    """Names that collide in each table if hashes start from 0. The numbers of its groups have this
+    many bits."""
     program = os.path.join(folder, "collisions")
     subprocess.run(["cc", "-O2", "-o", program, SOURCE], check=True)
     names = words([program, str(count), "0", str(bits)])
@@ -31,7 +35,7 @@ def colliding_names(folder, count, bits=12):
 
 
 def words(command):
-    """The words that it prints; their bytes may be any."""
+    """The words that a command prints. They may contain any bytes."""
     output = subprocess.run(command, check=True, capture_output=True).stdout
     return [word.decode(ENCODING) for word in output.split(b"\n") if word]
 
@@ -40,8 +44,9 @@ def other_names(count, length=10):
     return [f"n{number:0{length - 1}}" for number in range(count)]
 
 
-# For each table a manifest that fills it with the names, and looks them up in so many rounds. An edge costs more than a look-up, so
-# those of rules and pools look up the last tenth alone, which the most names stand before.
+# Each function writes a manifest that fills a table with the names, and looks them up `rounds`
+# times. An edge costs more than a look-up, so for rules and pools only the last tenth of the names
+# is looked up, which has the most names before it.
 
 
 def of_bindings(names, rounds):
@@ -78,7 +83,7 @@ def write(folder, lines):
 
 
 def seconds(program, folder, chosen, rounds, times):
-    """For each table the processor time of the names that were chosen for it, and that of as many others."""
+    """The processor times of the chosen names and of as many others, for each table."""
     for table, manifest in TABLES.items():
         found = []
         other = other_names(len(chosen[table]), len(chosen[table][0]))

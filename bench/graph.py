@@ -1,19 +1,20 @@
 #!/usr/bin/env python3
-"""Measures what it takes to load whole manifests into a graph:
+"""Measures time and memory of loading whole manifests into a graph:
 
     graph.py PROGRAM [--before OLD] [--sizes N,M] [--hard N,M] [--shapes cmake,chain] [--rounds N]
              [--quick]
 
-PROGRAM loads build.ninja of the folder that it runs in, as crates/load_bench does. In one run, on
-the same files, it stands beside `ninja -t rules`, which builds its graph before it lists the rules,
-and beside another program of the same kind, which --before names. Each is run three times in turn,
-or N times, and the best times count: by the clock, and of the processor; of memory the most. The
-sizes of a shape are taken in turn too. The files are made in a temporary folder.
+PROGRAM loads build.ninja in its working directory, as crates/load_bench does. On the same files it
+is compared with `ninja -t rules`, which builds its graph before it lists the rules, and with OLD, a
+program of the same kind. Each program is run three times, or N times, in turn; the sizes of a shape
+are taken in turn too. The best times count, by the clock and of the processor, and the greatest
+memory. The files are in a temporary folder.
 
-The shapes are those of manifest.py, at the sizes of --sizes, and those of shapes.py, which hurt a
-careless reader, at the sizes of --hard. Where a file has a dependency cycle, the program has to say
-so, with the right place and path, and Ninja is left out: `ninja -t rules` looks for none. --quick
-takes smaller sizes and fewer rounds. In the end the aims that were missed are listed.
+The manifests are the shapes of manifest.py, with the numbers of edges in --sizes, and those of
+shapes.py, which are hard for a careless reader, with the numbers in --hard. If a file has a
+dependency cycle, the program has to report it with the right place and path. Ninja is then left
+out, since `ninja -t rules` does not look for cycles. --quick has smaller sizes and fewer rounds. At
+the end the missed aims are listed.
 """
 
 import argparse
@@ -32,7 +33,7 @@ QUICK_ROUNDS = 2
 QUICK_SIZES = [5_000, 20_000]
 QUICK_HARD = [10_000, 100_000]
 
-# Shapes with N edges of a rule that has N references, of which fewer are made.
+# By what the number of edges is divided in shapes with N edges of a rule that has N references.
 FEWER = {"bound": 10, "pool-line": 200}
 
 TIME_AIM = 0.45
@@ -40,7 +41,7 @@ MEMORY_AIM = 0.9
 
 
 def make(folder, shape, count):
-    """Writes build.ninja of the shape into a folder of its own. Gives this folder."""
+    """Writes build.ninja of the shape into a new folder. Returns this folder."""
     place = os.path.join(folder, str(count))
     os.mkdir(place)
     with open(os.path.join(place, "build.ninja"), "w") as file:
@@ -53,14 +54,14 @@ def make(folder, shape, count):
 
 def check(program, place, fault):
     run = Run([program], folder=place, status=1 if fault else 0)
-    said = run.errors if fault else run.output
+    written = run.errors if fault else run.output
     wanted = fault or "files 1\n"
-    if said != wanted.encode():
-        raise SystemExit(f"{program} said {said.decode(errors='replace')!r}, not {wanted!r}")
+    if written != wanted.encode():
+        raise SystemExit(f"{program} wrote {written.decode(errors='replace')!r}, not {wanted!r}")
 
 
 def figures_of(program, words, places, faults):
-    """The figures of the programs at each size. Ninja looks for no cycle, so it is left out there."""
+    """The figures of the programs at each size, without Ninja if there is a cycle."""
     cases = {}
     for count, place in places.items():
         ninja = None if faults[count] else ["ninja", "-t", "rules"]
@@ -71,7 +72,7 @@ def figures_of(program, words, places, faults):
 
 
 def report(shape, count, size, figures):
-    """Prints the figures of one size. Gives the aims that were missed."""
+    """Prints the figures of one size. Returns the missed aims."""
     print(f"{shape}: N = {count}, {size / MB:.1f} MB")
     for name, (seconds, processor, memory) in figures.items():
         print(
@@ -96,7 +97,7 @@ def report(shape, count, size, figures):
 
 
 def report_growth(shape, few, many, sizes, figures):
-    """Prints how the figures grow from one size to the next. Gives the aim, if it was missed."""
+    """Prints how the figures grow from one size to the next. Returns the missed aims."""
     missed = []
     for name in figures[many]:
         before, now = figures[few][name], figures[many][name]
@@ -111,7 +112,7 @@ def report_growth(shape, few, many, sizes, figures):
 
 
 def measure_shape(program, words, shape, counts):
-    """Measures one shape, and prints it. Gives the aims that were missed."""
+    """Measures one shape, and prints the figures. Returns the missed aims."""
     faults = {count: cycle_line(shape, count) for count in counts}
     with tempfile.TemporaryDirectory() as folder:
         places = {count: make(folder, shape, count) for count in counts}

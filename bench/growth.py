@@ -1,9 +1,12 @@
 #!/usr/bin/env python3
-"""Counts how a program's instructions grow with its manifest: growth.py PROGRAM [--shapes cmake,llvm,..] [--tools rules,..]
+"""Counts how a program's instructions grow with its manifest:
 
-Each shape is written at four sizes, each twice the one before, and each tool is run under `valgrind --tool=callgrind`, which
-counts instructions: they are the same in each run, however busy the machine is. A row has the count of the smallest size, and
-of each other size the ratio to the one before, in instructions and, in brackets, in bytes of the manifest.
+    growth.py PROGRAM [--shapes cmake,llvm,..] [--tools rules,..]
+
+Each shape is written at four sizes, each twice the one before, and each tool is run under `valgrind
+--tool=callgrind`, which counts instructions. The counts are the same in each run, however busy the
+machine is. A row has the count at the smallest size. For each other size it has the ratio to the
+size before, in instructions and, in brackets, in bytes of the manifest.
 """
 
 import argparse
@@ -15,7 +18,7 @@ import tempfile
 from ratios import TOOLS, manifest_of, project_of, words_of
 from runs import MB
 
-# For each shape the smallest size.
+# The smallest size of each shape.
 SHAPES = {"cmake": 2_500, "dense": 2_500, "llvm": 1_500, "folders": 25}
 SIZES = 4
 
@@ -36,7 +39,7 @@ def instructions(program, tool, folder):
 
 
 def figures_of(words, shape):
-    """Of each size the bytes, and the instructions of each tool."""
+    """The bytes of each size, and the instructions of each tool on it."""
     for step in range(SIZES):
         with tempfile.TemporaryDirectory() as folder:
             write(shape, SHAPES[shape] << step, folder)

@@ -3,11 +3,11 @@
 
     load.py PROGRAM [--files N,M] [--bindings N,M] [--before OLD] [--rounds N]
 
-PROGRAM loads build.ninja of the folder that it runs in, as crates/load_bench does. It loads trees of files and single files,
-as bindings.py writes them, each size beside half of it. In one run, on the same files, it stands beside `ninja -t rules`,
-which loads them and lists the rules, and beside another program of the same kind, which --before names. Each is run five
-times in turn, or N times, and the best times count: by the clock, and of the processor; of memory the most. The files are
-made in a temporary folder.
+PROGRAM loads build.ninja in its working directory, as crates/load_bench does: trees of files and
+single files, which bindings.py writes, at several sizes. On the same files it is compared with
+`ninja -t rules`, which loads them and lists the rules, and with OLD, a program of the same kind.
+Each program is run five times, or N times, in turn. The best times count, by the clock and of the
+processor, and the greatest memory. The files are in a temporary folder.
 """
 
 import argparse
@@ -33,7 +33,7 @@ def figures_of(program, words, folder):
 
 
 def ratio(now, before, place):
-    """How many times the figure of the size before; nothing where there is none."""
+    """The ratio of a figure to that of the size before, if there is one."""
     return f"x{now[place] / before[place]:4.2f}" if before else "     "
 
 
@@ -52,7 +52,8 @@ def report(count, size, figures, before):
 
 
 def series(program, words, title, write, counts, flags, files_of):
-    """Loads what `write` makes of each size, with these flags in the bindings; `files_of` tells how many files that are."""
+    """Loads what `write` makes at each size, with these flags in the bindings. `files_of` returns
+    the number of files."""
     print(title)
     before = {}
     for count in counts:

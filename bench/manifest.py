@@ -1,11 +1,13 @@
 #!/usr/bin/env python3
-"""Writes a large Ninja file to standard output: manifest.py N [SHAPE] has N build statements.
+"""Writes a large Ninja file with N build statements to standard output: manifest.py N [SHAPE]
 
-The shape `cmake` (the one without a word) is the form that CMake writes, with long values. The shape `dense` is that of
-generators which list what each file includes: long lists of short inputs, paths of about 34 bytes, and in each block five
-references and a join. The shape `headings` is `cmake` with the long comments that CMake writes above a target and above
-its statements. The same N and shape give the same bytes. In each of them a target is 20 statements: one for the order, 18
-compilations, and a link.
+    cmake     what CMake writes, with long values (the default)
+    dense     what generators write that list the includes of each file: long lists of short inputs,
+              paths of about 34 bytes, and in each block five references and a joined line
+    headings  `cmake` with the long comments that CMake writes above a target and its statements
+
+In each shape a target is 20 statements: one for the order, 18 compilations, and a link. The same N
+and shape give the same bytes.
 """
 
 import sys
@@ -48,7 +50,7 @@ REFERRING = "-I$root/modules/common/include $\n      -I${root}/build/include -is
 
 
 def source_name(number):
-    """Of each target one source has a space in its name, and one a colon."""
+    """One source of each target has a space in its name, and one a colon."""
     return {7: "with$ space_7.cpp", 12: "with$:colon_12.cpp"}.get(number, f"file_{number}.cpp")
 
 
@@ -76,7 +78,7 @@ build cmake_order_target_{target}: phony{before}
 
 
 def compilation(target, number):
-    """A compilation. Of each target one has references and a join in its block."""
+    """A compilation. One of each target has references and a joined line in its block."""
     path = object_file(target, number)
     include = REFERRING if number == 5 else INCLUDES
     return f"""\
@@ -142,7 +144,7 @@ def dense_object(target, number):
 
 
 def dense_header(target, number, place):
-    """A header of the target, or of one of the three before it."""
+    """A header of the target, or of one of the three targets before it."""
     return f"src/base_{max(target - place % 4, 0):05}/include/widget_{(number * 7 + place) % 40:02}.h"
 
 

@@ -3,10 +3,11 @@
 
     parse.py PROGRAM [--sizes N,M] [--shapes cmake,dense,headings] [--before OLD] [--rounds N]
 
-PROGRAM reads a Ninja file on standard input, as crates/parse_bench does. In one run, on the same files, it stands beside
-`wc -l`, which only counts line feeds, and `ninja -t rules`, which reads the file and lists its rules; and beside another
-program of the same kind, which --before names. Each is run three times in turn, or N times, and the best times count: by
-the clock, and of the processor. The files are made in a temporary folder, of each shape that manifest.py knows.
+PROGRAM reads a Ninja file on standard input, as crates/parse_bench does. On the same files it is
+compared with `wc -l`, which only counts line feeds, with `ninja -t rules`, which reads the file and
+lists its rules, and with OLD, a program of the same kind. Each program is run three times, or N
+times, in turn. The best times count, by the clock and of the processor. The files, one for each
+shape of manifest.py, are in a temporary folder.
 """
 
 import argparse

@@ -1,10 +1,11 @@
 #!/usr/bin/env python3
-"""Writes manifests of the size and form of real projects' into a folder: projects.py SHAPE FOLDER [N]
+"""Writes manifests like those of large projects into a folder: projects.py SHAPE FOLDER [N]
 
-    llvm       what CMake writes of LLVM: one file of N edges (44,570), 30 inputs each on average, most of which
-               many edges share, in words of 34 bytes on average; blocks whose values repeat those of the edge before
-    folders    what GN writes: build.ninja, and a `subninja` for each of N folders (1,500) with bindings, rules and
-               some 58 edges of its own
+    llvm       what CMake writes for LLVM: one file of N edges (44,570) with 30 inputs each on
+               average, most of which many edges share; words of 34 bytes on average; blocks whose
+               values are mostly those of the edge before
+    folders    what GN writes: build.ninja, and for each of N folders (1,500) a file, read by
+               `subninja`, with its own bindings, rules and some 58 edges
 
 The same shape and N give the same bytes.
 """
@@ -45,7 +46,7 @@ KINDS = ["Instructions", "Registers", "Intrinsics", "Schedule", "Operands", "Fea
 
 
 def table_source(number):
-    """A description that tables are made of; each stands in a hundred statements."""
+    """A file from which tables are generated. Each occurs in a hundred statements."""
     return f"../include/llvm/{AREAS[number % 8]}/{KINDS[number // 8 % 8]}{number % 401}.td"
 
 

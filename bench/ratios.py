@@ -3,10 +3,11 @@
 
     ratios.py PROGRAM [--before OLD] [--shapes llvm,cmake_100000,..] [--rounds N]
 
-Each row is a manifest, in the shape of a real project: LLVM's by CMake, CMake's and a dense one of 100,000 and 10,000
-statements (manifest.py), and many files by GN (projects.py). Each column is a tool. In one run, on the same files, PROGRAM
-stands beside ninja, and beside the program of an earlier commit where --before names it, all in turn, five times or N times;
-the medians count, of memory the most.
+Each row is a manifest like that of a large project: LLVM by CMake and many files by GN
+(projects.py), and 100,000 or 10,000 statements by CMake or in a dense form (manifest.py). Each
+column is a tool. PROGRAM is compared with ninja, and with OLD, the program of an earlier commit, on
+the same files. They are run in turn, five times or N times. The median times count, and the
+greatest memory.
 """
 
 import argparse
@@ -23,7 +24,7 @@ TOOLS = ["rules", "commands", "compdb", "inputs"]
 
 
 def manifest_of(shape, count):
-    """Writes a manifest without its `default` line, so that the tools speak of all its edges."""
+    """Writes a manifest without its `default` line, so that the tools write about all its edges."""
 
     def write(folder):
         with open(os.path.join(folder, "build.ninja"), "w") as file:
@@ -47,7 +48,7 @@ SHAPES = {
 
 
 def words_of(program, tool, folder):
-    """The words of a run. Ninja writes the folder in which it is run as `directory`."""
+    """The words of a run. Ninja writes its working directory as `directory`."""
     return [program, "-t", tool] + (["--directory", folder] if tool == "compdb" and program != "ninja" else [])
 
 

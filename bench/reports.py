@@ -1,4 +1,4 @@
-"""What the scripts that measure have in common: their words, and how they print what they measured."""
+"""What the measuring scripts share: how they read their arguments and print their results."""
 
 import contextlib
 import os
@@ -15,7 +15,7 @@ def numbers(text):
 
 @contextlib.contextmanager
 def load_shown():
-    """Prints the load of the machine before and after what is measured."""
+    """Prints the load of the machine before and after the measurements."""
     print(f"load before: {os.getloadavg()[0]:.2f} on {os.cpu_count()} processors")
     yield
     print(f"load after: {os.getloadavg()[0]:.2f}")
@@ -32,7 +32,7 @@ def print_runs(figures, before):
 
 
 def missed_beside_ninja(where, time, memory, time_aim, memory_aim):
-    """The aims that a run missed beside Ninja's."""
+    """The aims that a run missed, as ratios to Ninja's time and memory."""
     figures = ("time", time, time_aim), ("memory", memory, memory_aim)
     return [
         f"{where}: {ratio:.2f} of Ninja's {what}, aim {aim}"
@@ -42,7 +42,7 @@ def missed_beside_ninja(where, time, memory, time_aim, memory_aim):
 
 
 def missed_growth(where, growth, few, many):
-    """The aim that the time missed, if it grew by more than the manifest did."""
+    """The missed aim, if the time grew by more than the manifest did."""
     aim = GROWTH_AIM * many / few
     if growth <= aim:
         return []

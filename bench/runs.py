@@ -1,4 +1,4 @@
-"""Runs of programs that are measured: by the clock, by processor time, and by memory."""
+"""Runs programs, and measures their time by the clock, their processor time, and their memory."""
 
 import contextlib
 import os
@@ -10,23 +10,24 @@ import time
 
 MB = 1_000_000
 
-# A program that Python starts begins with Python's memory, and that counts for its peak. One that `time` starts does not.
+# A program that Python starts begins with the memory of Python, which counts in its peak. A program
+# that `time` starts does not.
 TIME = shutil.which("time")
 
 NINJA_RULES = "ninja -t rules"
 
 
 class Run:
-    """A run of a program in a folder, with a file as standard input; without one it has none. Its output goes to the file `out`,
-    or to a pipe from which it is read. It must end with the status."""
+    """A run of a program in a folder, with a file as its standard input. The output goes to the
+    file `out`, or else is kept. The program has to end with the status."""
 
     def __init__(self, words, stdin=os.devnull, folder=None, status=0, out=None):
         with contextlib.ExitStack() as files:
             file = files.enter_context(open(stdin, "rb"))
-            told = files.enter_context(tempfile.NamedTemporaryFile("r"))
+            peak = files.enter_context(tempfile.NamedTemporaryFile("r"))
             errors = files.enter_context(tempfile.TemporaryFile())
             stdout = files.enter_context(open(out, "wb")) if out else subprocess.PIPE
-            counting = [TIME, "-q", "-f", "%M", "-o", told.name] if TIME else []
+            counting = [TIME, "-q", "-f", "%M", "-o", peak.name] if TIME else []
             start = time.perf_counter()
             process = subprocess.Popen([*counting, *words], stdin=file, stdout=stdout, stderr=errors, cwd=folder)
             self.output = b"" if out else process.stdout.read()
@@ -38,11 +39,11 @@ class Run:
             if process.returncode != status:
                 raise SystemExit(f"{words[0]} ended with status {process.returncode}: {self.errors.decode(errors='replace')}")
             self.processor_seconds = usage.ru_utime + usage.ru_stime
-            self.memory = 1024 * int(told.read() if TIME else usage.ru_maxrss)
+            self.memory = 1024 * int(peak.read() if TIME else usage.ru_maxrss)
 
 
 def measure(programs, rounds, stdin=os.devnull, folder=None, status=0, out=None):
-    """The runs of each program, taken in turn."""
+    """Runs the programs in turn. Returns the runs of each."""
     runs = {name: [] for name in programs}
     for _ in range(rounds):
         for name, words in programs.items():
@@ -51,8 +52,8 @@ def measure(programs, rounds, stdin=os.devnull, folder=None, status=0, out=None)
 
 
 def measure_in_turn(cases, rounds):
-    """The best figures of each program in each case. A case is programs, and how they are run (the
-    words of `measure`). The cases are taken in turn, so that each meets the same load."""
+    """The best figures of each program in each case. A case is the programs, and further arguments
+    of `measure`. The cases are taken in turn, so that each meets the same load."""
     runs = {case: {} for case in cases}
     for _ in range(rounds):
         for case, (programs, how) in cases.items():
@@ -65,8 +66,8 @@ def measure_in_turn(cases, rounds):
 
 
 def programs_beside(program, before, ninja=None):
-    """The words of the program and of those that it is compared with: that of an earlier commit, if
-    there is one, and `ninja -t rules`, whose words are in `ninja`, if it is to be run."""
+    """The words of the program and of the programs with which it is compared: `before`, which is
+    from an earlier commit, and `ninja -t rules`, whose words are `ninja`. Both may be left out."""
     programs = {"program": [program]}
     if before:
         programs["before"] = [os.path.abspath(before)]
@@ -76,11 +77,11 @@ def programs_beside(program, before, ninja=None):
 
 
 def best(runs):
-    """The least time by the clock, the least of the processor, and the greatest memory."""
+    """The least time by the clock, the least processor time, and the greatest memory."""
     return min(run.seconds for run in runs), min(run.processor_seconds for run in runs), max(run.memory for run in runs)
 
 
 def middle(runs):
-    """The median time by the clock, that of the processor, and the greatest memory."""
+    """The median time by the clock, the median processor time, and the greatest memory."""
     seconds = statistics.median(run.seconds for run in runs)
     return seconds, statistics.median(run.processor_seconds for run in runs), max(run.memory for run in runs)

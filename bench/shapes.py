@@ -1,19 +1,20 @@
 #!/usr/bin/env python3
-"""Writes a Ninja file that hurts a careless reader to standard output: shapes.py SHAPE N
+"""Writes a Ninja file that is hard for a careless reader to standard output: shapes.py SHAPE N
 
     inputs      one edge with N inputs
     chain       N edges, each of which needs the next one: a walk from the first goes N deep
     shared      N edges that all use one file
     defaults    an edge with N outputs, and one `default` statement that names them all
     references  N edges of a rule whose command has 1,000 references and 10 KB
-    bound       N edges that bind a description; the rule's refers to the command, and that N
-                times back, which is no cycle for these edges alone
-    pool-line   N edges of a rule whose `pool` line has N references that say nothing
-    long-lines  an edge with N inputs, whose `pool` and `dyndep` lines have N references and more
-    cycles      N edges: cycles of two that are joined by chains of 998, and all of these come first
+    bound       N edges with their own description. That of the rule refers to the command, and the
+                command refers back N times, which is not a cycle for these edges
+    pool-line   N edges of a rule whose `pool` line has N references to an empty variable
+    long-lines  an edge with N inputs, whose `pool` and `dyndep` lines have at least N references
+    cycles      N edges: cycles of two, joined by chains of 998; the chains come first
     late-cycle  the chain, whose last two edges need each other
 
-The last two have a dependency cycle; `cycle_line` tells the fault. The same N gives the same bytes.
+The last two have a dependency cycle, and `cycle_line` returns its fault. The same N gives the same
+bytes.
 """
 
 import sys
@@ -90,7 +91,7 @@ def pool_line(count):
 
 
 def long_lines(count):
-    """The references say nothing; the `dyndep` path is the last input, with N times `./`."""
+    """The referenced variable is empty. The `dyndep` path is the last input, after N times `./`."""
     yield POOL + RULE
     yield f"build out/all: cc {' '.join(map(source, range(count)))}\n"
     yield f"  pool = {'$nothing' * count}few\n"
@@ -110,7 +111,7 @@ def in_cycle(cycle, step):
 
 
 def transit(cycle, cycles):
-    """A chain that needs the next cycle; the one after the last cycle needs a source."""
+    """A chain that needs the next cycle. The chain of the last cycle needs a source."""
     for step in range(TRANSIT - 1):
         yield f"build {in_transit(cycle, step)}: cc {in_transit(cycle, step + 1)}\n"
     end = in_cycle(cycle + 1, 0) if cycle + 1 < cycles else "src/first.c"
@@ -123,8 +124,8 @@ def cycle_and_way_out(cycle):
 
 
 def cycles(count):
-    """Each cycle needs a chain, and that the next cycle. All chains come first, then the cycles,
-    from the last one on."""
+    """Each cycle needs a chain, and the chain needs the next cycle. All chains come first, then the
+    cycles in reverse."""
     number = cycles_of(count)
     yield RULE
     for cycle in range(number):
@@ -155,7 +156,7 @@ SHAPES = {
 
 
 def cycle_line(shape, count):
-    """What is said of the least edge on a cycle, by its line; nothing of a shape without one."""
+    """The fault of the first edge on a cycle, or `None` if the shape has no cycle."""
     if shape == "cycles":
         number = cycles_of(count)
         before, output = number * TRANSIT, in_cycle(number - 1, 1)

@@ -1,21 +1,21 @@
 #!/usr/bin/env python3
-"""Measures whole runs of each tool of ninja-explain beside the same tool of Ninja:
+"""Compares whole runs of each tool of ninja-explain with the same tool of Ninja:
 
     tools.py PROGRAM [--sizes N,M] [--shapes cmake,dense] [--only TOOL,TOOL] [--rounds N]
 
-In one run, on the same files, `PROGRAM -t TOOL` stands beside `ninja -t TOOL`. Both write to a
-file, and what they write has to be the same: byte for byte, or for compdb the same objects, but for
-those of phony edges, which some versions of Ninja write too. Beside `inputs --dependency-order` and
-`inputs --no-shell-escape` stands Ninja's `inputs`, and both have to list the same paths; a program
-without such an option is not measured with it. Then all of them are run in turn, five
-times or N times, and the medians count, of memory the most. Ratios are those of processor time and
-of the greatest memory. Where there is no Ninja, the program is measured alone.
+`PROGRAM -t TOOL` and `ninja -t TOOL` run on the same files. Both write to a file, and have to write
+the same bytes. For compdb they have to write the same objects, except those of phony edges, which
+some versions of Ninja write too. `inputs --dependency-order` and `inputs --no-shell-escape` are
+compared with Ninja's `inputs`, and have to list the same paths; they are skipped if the program
+does not have the option. Then all of these are run in turn, five times or N times. The median times
+count, and the greatest memory. The ratios are of processor time and of memory. Without Ninja the
+program is measured alone.
 
-The manifests are those of manifest.py at the sizes of --sizes, without their `default` line and
-with a response file for each link. They are made in a temporary folder. `query many` asks for
-10,000 files, or fewer in a manifest that has fewer, and `compdb many rules` names 1,000 rules, of
-which the last is there. In the end it is listed what missed its aim (0.40 of Ninja's time, 0.90 of
-its memory), what wrote something else, and what grew by more than the manifest did.
+The manifests are the shapes of manifest.py with the numbers of edges in --sizes, without their
+`default` line and with a response file for each link. They are in a temporary folder. `query many`
+asks for 10,000 files, or fewer if the manifest has fewer. `compdb many rules` names 1,000 rules, of
+which only the last exists. At the end are listed: what missed its aim (0.40 of Ninja's time, 0.90
+of its memory), what wrote something else, and what grew by more than the manifest did.
 """
 
 import argparse
@@ -40,7 +40,7 @@ MEMORY_AIM = 0.90
 # The options of `inputs` that change how the list is written.
 STYLES = {"--dependency-order", "--no-shell-escape"}
 
-# For each shape the compiler's rule, and the command of its links with and without a response file.
+# The compiler's rule of each shape, and the command of its links without and with a response file.
 RULES = {
     "cmake": (
         "CXX_COMPILER",
@@ -65,7 +65,7 @@ def head_of(shape):
 
 
 def make(folder, shape, count):
-    """Writes build.ninja into a folder of its own. Gives this folder."""
+    """Writes build.ninja into a new folder. Returns this folder."""
     place = os.path.join(os.path.realpath(folder), str(count))
     os.mkdir(place)
     with open(os.path.join(place, "build.ninja"), "w") as file:
@@ -75,7 +75,7 @@ def make(folder, shape, count):
 
 
 def files_of(shape, count):
-    """Objects and sources from all over the manifest, but for paths that have to be escaped."""
+    """Objects and sources from everywhere in the manifest, except paths that need escapes."""
     targets = count // PER_TARGET
     for number in range(1, PER_TARGET - 1):
         for target in range(targets):
@@ -112,8 +112,8 @@ def tools_of(shape, count):
 
 
 def command_of(program, words, place):
-    """The words of a run. Ninja writes the folder in which it is run as `directory`, and its plain
-    list stands beside each style of `inputs`."""
+    """The words of a run. Ninja writes its working directory as `directory`, and runs `inputs`
+    without a style."""
     here = []
     if program == "ninja":
         words = [word for word in words if word not in STYLES]
@@ -123,7 +123,7 @@ def command_of(program, words, place):
 
 
 def objects_in(path):
-    """The objects of a compilation database as lists of lines, but for those without a command."""
+    """The objects of a compilation database as lists of lines, except those without a command."""
     members = []
     with open(path, "rb") as file:
         for line in file:
@@ -145,7 +145,7 @@ def inputs_in(path, quoted):
 
 
 def are_same_inputs(words, ours, theirs):
-    """Whether both list the same paths, in the order that the style asks for."""
+    """Whether both list the same paths, sorted or not, as the style requires."""
     listed = inputs_in(ours, "--no-shell-escape" not in words)
     if "--dependency-order" in words:
         listed.sort()
@@ -163,8 +163,8 @@ def is_same(words, ours, theirs):
 
 def commands_of(tool, words, program, place):
     """The words of the runs of a tool, by program, and whether both write the same. Ninja is left
-    out where it is not there, or does not end well, and the program where it does not know a style
-    of `inputs`."""
+    out if it is not installed or fails, and the tool if the program does not know a style of
+    `inputs`."""
     ours, theirs = os.path.join(place, "program"), os.path.join(place, "ninja")
     commands = {"program": command_of(program, words, place)}
     try:
@@ -200,7 +200,7 @@ def runs_of(words, shape, count, place):
 
 
 def report(shape, count, size, figures):
-    """Prints the figures of one size, tool by tool. Gives the aims that were missed."""
+    """Prints the figures of one size, tool by tool. Returns the missed aims."""
     print(f"{shape}: N = {count}, {size / MB:.1f} MB")
     missed = []
     for tool, of_tool in figures.items():
@@ -217,7 +217,7 @@ def report(shape, count, size, figures):
 
 
 def report_growth(shape, few, many, before, after):
-    """Prints how the program's figures grow with the size. Gives the aims that were missed."""
+    """Prints how the program's figures grow with the size. Returns the missed aims."""
     print(f"{shape}: from {few} to {many} statements, {many / few:.0f} times as many")
     missed = []
     for tool, old in before.items():
@@ -228,7 +228,7 @@ def report_growth(shape, few, many, before, after):
 
 
 def measure_size(words, shape, count):
-    """The figures of one size by tool and program, and the aims that were missed."""
+    """The figures of one size, by tool and program, and the missed aims."""
     with tempfile.TemporaryDirectory() as folder:
         place = make(folder, shape, count)
         size = os.path.getsize(os.path.join(place, "build.ninja"))
@@ -241,7 +241,7 @@ def measure_size(words, shape, count):
 
 
 def measure_shape(words, shape):
-    """Measures one shape at all sizes. Gives the aims that were missed."""
+    """Measures one shape at all sizes. Returns the missed aims."""
     before, few, missed = None, None, []
     for count in words.sizes:
         figures, more = measure_size(words, shape, count)

@@ -1,19 +1,19 @@
 #!/usr/bin/env python3
-"""Measures runs that follow validations beside runs that do not:
+"""Compares runs that follow validations with runs that do not:
 
     validations.py PROGRAM [--sizes N,M] [--rounds N]
 
-In one run, on the same files, `PROGRAM -t commands --validations` stands beside `PROGRAM -t
-commands`, and so for `inputs`. The files are made in a temporary folder:
+`PROGRAM -t commands --validations` is compared with `PROGRAM -t commands` on the same files, and so
+is `inputs`. The files are in a temporary folder:
 
-    chain   N edges, each of which is the validation of the one before: each round of validations
-            adds one edge, so what looks at the whole list in each round takes the square of N
-    tests   N edges: libraries of 18 sources; a test validates each library, and needs it
+    chain   N edges, each of which is the validation of the one before. Each round of validations
+            adds one edge, so code that looks at the whole list in each round takes time in N^2
+    tests   N edges: libraries of 18 sources, each with a test that validates it and needs it
 
-The target is the first edge of the chain; the tests have a `default` line that names all libraries.
-What is written is compared with what it has to be. Each is run three times in turn, or N times, and
-the best times count: by the clock, and of the processor; of memory the most. In the end it is
-listed what grew by more than the manifest did.
+The target of the chain is its first edge. In the tests a `default` line names all libraries. What
+the runs write is checked. Each is run three times, or N times, in turn. The best times count, by
+the clock and of the processor, and the greatest memory. At the end is listed what grew by more than
+the manifest did.
 """
 
 import argparse
@@ -72,7 +72,7 @@ SHAPES = {"chain": chain, "tests": tests}
 def check(words, folder, wanted):
     written = Run(words, folder=folder).output
     if written != "".join(wanted).encode():
-        raise SystemExit(f"{' '.join(words)} writes other commands than it has to")
+        raise SystemExit(f"{' '.join(words)} does not write the right commands")
 
 
 def measure_size(program, shape, count, rounds, before):
