@@ -9,7 +9,7 @@ FILES := $(shell cd $(PROJECT) && find * -type f)
 # the sweeps.
 JOBS ?= $(shell nproc)
 # The sweeps that `make smoke` runs too. docs/RELIABILITY.md describes them.
-SWEEPS := memory calls texts sizes
+SWEEPS := memory calls bytes sizes
 
 # Where `make install` puts things, with DESTDIR in front of every path.
 PREFIX ?= /usr/local

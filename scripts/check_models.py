@@ -27,8 +27,8 @@ def without_model(text):
 def main():
     faults = []
     for crate in sorted((ROOT / "crates").iterdir()):
-        texts = (file.read_text() for file in sorted(crate.glob("src/**/*.rt")))
-        found = {name for text in texts for name in without_model(text)}
+        sources = (file.read_text() for file in sorted(crate.glob("src/**/*.rt")))
+        found = {name for source in sources for name in without_model(source)}
         faults += [f"{crate.name}: {name} has no model" for name in sorted(found)]
     for fault in faults:
         print(fault)

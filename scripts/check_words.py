@@ -41,7 +41,7 @@ EVERY_TOOL = {"-t", "-f", "--stdin", "--dyndep"}
 # `--` ends the options, and is not one itself.
 END = "--"
 VALUES = {"-f": "build.ninja", "--take": "1", "--resume": "start", "--directory": "here"}
-# The definitions with the texts of faults.
+# The definitions of the fault lines.
 FAULT_TEXTS = {
     "crates/nj_faults/specs/FaultLines.antt": ["cause_text"],
     "crates/nj_faults/specs/Versions.antt": ["reader_version_text"],
@@ -160,8 +160,8 @@ def fault_texts(file, name):
     if not equations:
         report(file, f"there is no {name}")
         return []
-    texts = re.findall(r'codes "([^"]*)"', equations[1])
-    return [text.removeprefix("ninja-explain: ").strip() for text in texts if len(text) > 1]
+    parts = re.findall(r'codes "([^"]*)"', equations[1])
+    return [text.removeprefix("ninja-explain: ").strip() for text in parts if len(text) > 1]
 
 
 def check_faults():

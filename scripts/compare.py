@@ -27,7 +27,7 @@ COMMANDS = [
     "cc $in -o $out", "cc $flags -c $in", "$cc $in_newline > $out", "x @$rspfile $in",
     "echo $description",
 ]
-TEXTS = ["foo", "-O2", "bar baz", "  ", '"q"', "'", "|", ":", "#", "a/b", "=", "$$", "$ ", "$:"]
+PARTS = ["foo", "-O2", "bar baz", "  ", '"q"', "'", "|", ":", "#", "a/b", "=", "$$", "$ ", "$:"]
 
 
 class Manifest:
@@ -57,7 +57,7 @@ class Manifest:
         for _ in range(self.chance.randint(0, 4)):
             kind = self.chance.random()
             if kind < 0.5:
-                parts.append(self.chance.choice(TEXTS))
+                parts.append(self.chance.choice(PARTS))
             elif kind < 0.85:
                 parts.append(self.reference(names))
             else:

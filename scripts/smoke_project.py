@@ -132,7 +132,7 @@ def sources_file(number):
 
 
 def project():
-    """The files, as texts by name."""
+    """The content of each file, by name."""
     numbers = range(LIBRARIES)
     subninjas = "".join(f"subninja {library(number)}/build.ninja\n" for number in numbers)
     end = END.format(

@@ -12,7 +12,7 @@ import tempfile
 
 import sweeps
 from smoke_project import project
-from sweeps import EXAMPLES, MAIN, PROJECTS, texts_below
+from sweeps import EXAMPLES, MAIN, PROJECTS, files_below
 
 sys.path.insert(0, str(sweeps.SCRIPTS.parent / "bench"))
 import flood  # noqa: E402
@@ -83,9 +83,9 @@ VIEWS = ["", "all", "rule", "rule mk", "depth", "depth 0", "depth 2", "depth 300
 
 
 def real_projects():
-    """Real projects, each as texts by file name."""
+    """Real projects: of each the content of its files, by name."""
     found = [dict(each.files) for each in PROJECTS.values()]
-    found.append(texts_below(EXAMPLES / "hello"))
+    found.append(files_below(EXAMPLES / "hello"))
     found.append({name: text.encode() for name, text in project().items()})
     return found
 
@@ -104,8 +104,8 @@ class Maker:
 
     def __init__(self):
         self.real, self.colliding = real_projects(), colliding_names()
-        texts = [text for files in self.real for text in files.values()]
-        self.lines = [line for text in texts for line in text.split(b"\n")]
+        contents = [content for files in self.real for content in files.values()]
+        self.lines = [line for content in contents for line in content.split(b"\n")]
 
     def case(self, seed):
         """The files, the words, and whether the run may take any time: it may if it writes a tree
@@ -185,8 +185,8 @@ class Maker:
         pieces = [*PIECES, *[b"\n", b" ", b"a", b"b", b"o"] * 3]
         text = b"".join(self.chance.choices(pieces, k=self.chance.randint(0, 60)))
         lines = b"\n".join(self.chance.choices(LINES, k=self.chance.randint(0, 12)))
-        texts = [text, lines, lines + b"\n" + text]
-        return {name: self.pick(texts) for name in (MAIN, "s", "dd")}
+        contents = [text, lines, lines + b"\n" + text]
+        return {name: self.pick(contents) for name in (MAIN, "s", "dd")}
 
     def reading_itself(self):
         """Files that include one another in a ring or in a chain, small ones many times."""
@@ -195,10 +195,10 @@ class Maker:
         times = self.pick([1, 2, 3]) if size < 12 else 1
         names = [MAIN, *(f"f{number}" for number in range(1, size))]
         next_ones = [*names[1:], self.pick(names)]
-        texts = [keyword + b" " + name.encode() + b"\n" for name in next_ones]
+        contents = [keyword + b" " + name.encode() + b"\n" for name in next_ones]
         if ends:
-            texts[-1] = b"x = $x.\n"
-        return {name: text * times for name, text in zip(names, texts)}
+            contents[-1] = b"x = $x.\n"
+        return {name: content * times for name, content in zip(names, contents)}
 
     def with_a_long_line(self):
         """A word, a name, a value or joined lines of many bytes."""

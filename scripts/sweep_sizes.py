@@ -49,8 +49,8 @@ def command(number):
     return f"mk e{number} @e{number}.rsp"
 
 
-def lines(texts, end="\n"):
-    return "".join(f"{text}{end}" for text in texts)
+def lines(items, end="\n"):
+    return "".join(f"{item}{end}" for item in items)
 
 
 def commands(numbers):

@@ -47,7 +47,7 @@ def as_bytes(text):
 
 
 def write_files(folder, files):
-    """Writes files, given as texts by name, into a folder."""
+    """Writes files, given as contents by name, into a folder."""
     for name, text in files.items():
         path = Path(folder, name)
         path.parent.mkdir(parents=True, exist_ok=True)
@@ -134,8 +134,8 @@ rule L
 NOT_UTF8 = as_bytes(RESPONSE).replace(b" a b", b" \xff b")
 
 
-def texts_below(folder):
-    """The Ninja files in a folder and below, as texts by name."""
+def files_below(folder):
+    """The contents of the Ninja files in a folder and below, by name."""
     files = sorted(folder.rglob("*.ninja"))
     return {str(file.relative_to(folder)): file.read_bytes() for file in files}
 
@@ -157,7 +157,7 @@ PROJECTS = {
         {"r": f"{MAIN}:4:9"},
     ),
     "example": Project(
-        texts_below(EXAMPLES / "project"),
+        files_below(EXAMPLES / "project"),
         {"rules.ninja": f"{MAIN}:7:9", "text/build.ninja": f"{MAIN}:8:10"},
     ),
     "not UTF-8": Project({MAIN: NOT_UTF8}, {}),

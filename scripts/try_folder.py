@@ -5,8 +5,8 @@
 new folder with a copy of each `*.ninja` file in FOLDER and below it. It has no other files of
 FOLDER, such as dyndep files.
 
-`rt try` refuses runs that take more than a minute or write more than 1 MiB. If it does, this script
-says so. The status is that of `rt try`.
+`rt try` refuses runs that take more than a minute or write more than 1 MiB. This script then prints
+which of the two it was. It ends with the status of `rt try`.
 """
 
 import subprocess
@@ -14,7 +14,7 @@ import sys
 from pathlib import Path
 
 PROGRAM = Path(__file__).resolve().parent.parent / "crates/ninja_explain"
-# What `rt try` says of a run that it refuses, and in plain words.
+# Parts of the messages with which `rt try` refuses a run, and what they mean.
 LIMITS = {
     "did not end within the time limit": "takes more than a minute",
     "the program wrote more than 1048576 bytes": "writes more than 1 MiB",
@@ -39,7 +39,7 @@ def main():
         met = set()
         for line in run.stderr:
             sys.stderr.write(line)
-            met |= {limit for said, limit in LIMITS.items() if said in line}
+            met |= {limit for message, limit in LIMITS.items() if message in line}
     for limit in sorted(met):
         print(f"This run {limit}, which 'rt try' does not allow.")
         print("The program that 'make' proves and builds has no such limit.")

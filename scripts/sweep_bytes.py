@@ -1,12 +1,12 @@
 #!/usr/bin/env python3
-"""Changes each byte of small projects: sweep_texts.py PROGRAM
+"""Changes each byte of small projects: sweep_bytes.py PROGRAM
 
 There are two projects of two files: one with a dyndep file, and one with lines that end in CR LF.
 Each file is cut off after each of its bytes, and each byte is replaced in turn by NUL, a tab, CR
 and `$`. A run on the project has to succeed or to report one fault, and the place of the fault has
 to contain what such a fault is about.
 
-Prints how many texts and runs were tried, and each run that did not end as it should. The status is
+Prints how many changed files and runs were tried, and each run that did not end as it should. The status is
 1 if there is one.
 """
 
@@ -65,7 +65,7 @@ def try_file(program, task):
                         f"{name}, {changed_file}, {what}, {words}: "
                         f"{fault or 'the status is wrong'}: {sweeps.shown(ran)}"
                     )
-    return {"texts": tried, "runs": tried * len(WORDS[name])}, wrong
+    return {"changed files": tried, "runs": tried * len(WORDS[name])}, wrong
 
 
 def try_last_dollar(program):
@@ -74,12 +74,12 @@ def try_last_dollar(program):
         sweeps.write_files(folder, {MAIN: b"x = $"})
         ran = program.run(["-t", "commands"], folder)
     wrong = [] if ran == Ending(FAULT, b"", BAD_ESCAPE) else [f"x = $: it ends with {ran}"]
-    return {"texts": 1, "runs": 1}, wrong
+    return {"changed files": 1, "runs": 1}, wrong
 
 
 def main():
     words = sweeps.parser_of(__doc__.split("\n")[0]).parse_args()
-    program, sweep = sweeps.Program(words.program), sweeps.Sweep("sweep_texts")
+    program, sweep = sweeps.Program(words.program), sweeps.Sweep("sweep_bytes")
     tasks = [(name, file) for name in WORDS for file in PROJECTS[name].files]
     sweeps.in_parallel(sweep, words.jobs, partial(try_file, program), tasks)
     sweep.take(*try_last_dollar(program))
