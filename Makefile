@@ -3,6 +3,9 @@ PROGRAM := crates/ninja_explain
 BUILT := $(PROGRAM)/out/ninja_explain
 # The same with sinks in memory, which `make sweep` refuses room.
 SINKS := crates/memory_sinks
+# Two programs as clients write them.
+AFFECTED := crates/affected_tests/out/affected_tests
+DRAW := crates/draw_graph/out/draw_graph
 PROJECT := examples/project
 FILES := $(shell cd $(PROJECT) && find * -type f)
 # How many crates are proved side by side, each on one processor and in at most 3 GB, and how many
@@ -43,7 +46,7 @@ test:
 # each type with a private field has a model, what must be believed and what is plumbing stand apart,
 # the man page and the completions have every tool and option, and names that collide under a known
 # number cost no more than others. Last come the short sweeps.
-smoke: $(BUILT)
+smoke: $(BUILT) $(AFFECTED) $(DRAW)
 	@status=0; \
 	python3 scripts/check_docs.py || status=1; \
 	python3 scripts/check_models.py || status=1; \
@@ -51,6 +54,7 @@ smoke: $(BUILT)
 	python3 scripts/check_words.py $(BUILT) || status=1; \
 	python3 scripts/check_flood.py $(BUILT) || status=1; \
 	python3 scripts/smoke.py $(BUILT) || status=1; \
+	python3 scripts/smoke_reach.py $(AFFECTED) $(DRAW) || status=1; \
 	for sweep in $(SWEEPS); do \
 	python3 scripts/sweep_$$sweep.py --jobs $(JOBS) $(BUILT) || status=1; \
 	done; \
@@ -75,6 +79,10 @@ $(BUILT): $(wildcard crates/*/src/*.rt)
 # `make test` leaves it.
 $(SINKS)/out/memory_sinks: $(wildcard crates/*/src/*.rt)
 	cd $(SINKS) && rt run > /dev/null
+
+# `make test` leaves them.
+$(AFFECTED) $(DRAW): $(wildcard crates/*/src/*.rt)
+	cd $(dir $@).. && rt run -- -f /dev/null < /dev/null > /dev/null
 
 # Installs the program that `make` left, its man page, and completions for three shells.
 install:
