@@ -3,6 +3,9 @@ PROGRAM := crates/ninja_explain
 BUILT := $(PROGRAM)/out/ninja_explain
 # The same program with sinks in memory, to which `make sweep` refuses memory.
 SINKS := crates/memory_sinks
+# Two programs as clients write them.
+AFFECTED := crates/affected_tests/out/affected_tests
+DRAW := crates/draw_graph/out/draw_graph
 PROJECT := examples/project
 FILES := $(shell cd $(PROJECT) && find * -type f)
 # How many crates are proved at once, each on one processor and in at most 3 GB, and how many runs of
@@ -49,8 +52,8 @@ test:
 # docs/ARCHITECTURE.md names every module, that each type with a private field has a model, that what
 # must be believed is apart from plumbing, that the man page and the completions have every tool and
 # option, that the completions work, and that names which collide under a known number cost no more
-# than others.
-smoke: $(BUILT)
+# than others. The programs on the library are run too.
+smoke: $(BUILT) $(AFFECTED) $(DRAW)
 	@status=0; \
 	python3 scripts/check_docs.py || status=1; \
 	python3 scripts/check_models.py || status=1; \
@@ -59,6 +62,7 @@ smoke: $(BUILT)
 	python3 scripts/check_completions.py $(BUILT) || status=1; \
 	python3 scripts/check_flood.py $(BUILT) || status=1; \
 	python3 scripts/smoke.py $(BUILT) || status=1; \
+	python3 scripts/smoke_reach.py $(AFFECTED) $(DRAW) || status=1; \
 	for sweep in $(SWEEPS); do \
 	python3 scripts/sweep_$$sweep.py --jobs $(JOBS) $(BUILT) || status=1; \
 	done; \
@@ -83,6 +87,10 @@ $(BUILT): $(wildcard crates/*/src/*.rt)
 # `make test` builds it.
 $(SINKS)/out/memory_sinks: $(wildcard crates/*/src/*.rt)
 	cd $(SINKS) && rt run > /dev/null
+
+# `make test` leaves them.
+$(AFFECTED) $(DRAW): $(wildcard crates/*/src/*.rt)
+	cd $(dir $@).. && rt run -- -f /dev/null < /dev/null > /dev/null
 
 # Installs the program that `make` built, its man page, and completions for three shells.
 install:

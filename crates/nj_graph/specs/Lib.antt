@@ -11,3 +11,9 @@ pub mod Runs
 pub mod Targets
 -- how the code does that
 pub mod Inside
+-- what contracts cite of lower crates
+pub use Rattle.nj_text.specs.Paths
+pub use Rattle.nj_edges.specs.Changes
+pub use Rattle.nj_edges.specs.Edges
+pub use Rattle.nj_edges.specs.Files
+pub use Rattle.nj_statements.specs.Built
