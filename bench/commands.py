@@ -1,14 +1,11 @@
 #!/usr/bin/env python3
 """Measures whole runs of `ninja-explain -t commands`:
 
-    commands.py PROGRAM [--edges OTHER] [--sizes N,M] [--chain N,M] [--inputs N,M]
-                [--references N,M] [--rounds N]
+    commands.py PROGRAM [--sizes N,M] [--chain N,M] [--inputs N,M] [--references N,M] [--rounds N]
 
 PROGRAM is compared with `ninja -t commands` on the same files. Both write to a file, and have to
-write the same bytes. OTHER, if it is given, writes the commands of all edges of build.ninja, as
-crates/command_bench does: the same lines in another order. Each program is run three times, or N
-times, in turn. The best times count, by the clock and of the processor, and the greatest memory.
-The files are in a temporary folder.
+write the same bytes. Each program is run three times, or N times, in turn. The best times count, by
+the clock and of the processor, and the greatest memory. The files are in a temporary folder.
 
 The manifests are the shapes of manifest.py with the numbers of edges in --sizes, without their
 `default` line, and three shapes of shapes.py: a chain (--chain), on which Ninja recurses for each
@@ -38,11 +35,9 @@ TIME_AIM = 0.40
 MEMORY_AIM = 0.9
 
 
-def programs_of(program, other, folder):
+def programs_of(program, folder):
     """The words of what is run. Ninja is left out if it runs out of stack."""
     programs = {"program": [program, "-t", "commands"]}
-    if other:
-        programs["all edges"] = [other]
     if shutil.which("ninja"):
         try:
             Run(NINJA.split(), folder=folder, out=os.path.join(folder, NINJA))
@@ -52,14 +47,10 @@ def programs_of(program, other, folder):
     return programs
 
 
-def sum_of_lines(path):
-    """The number of lines of a file, and a checksum that does not depend on their order."""
-    count, total = 0, 0
+def lines_in(path):
+    """The number of lines of a file."""
     with open(path, "rb") as file:
-        for line in file:
-            count += 1
-            total += hash(line)
-    return count, total
+        return sum(1 for _ in file)
 
 
 def check(programs, folder):
@@ -67,12 +58,9 @@ def check(programs, folder):
     for name, words in programs.items():
         Run(words, folder=folder, out=os.path.join(folder, name))
     ours = os.path.join(folder, "program")
-    lines = sum_of_lines(ours)
     if NINJA in programs and not filecmp.cmp(ours, os.path.join(folder, NINJA), shallow=False):
         raise SystemExit("the program and Ninja write other commands")
-    if "all edges" in programs and sum_of_lines(os.path.join(folder, "all edges")) != lines:
-        raise SystemExit("the program writes other commands than all edges have")
-    return lines[0]
+    return lines_in(ours)
 
 
 def divided(program, folder, lines, rounds):
@@ -114,7 +102,7 @@ def measure_size(words, shape, count, before):
         with open(path, "w") as file:
             write = write_statements if shape in MANIFESTS else write_shape
             write(count, file, shape)
-        programs = programs_of(words.program, words.edges, folder)
+        programs = programs_of(words.program, folder)
         lines = check(programs, folder)
         out = os.path.join(folder, "out")
         runs = measure(programs, words.rounds, folder=folder, out=out)
@@ -140,7 +128,6 @@ def measure_shape(words, shape, counts):
 def main():
     parser = argparse.ArgumentParser()
     parser.add_argument("program", type=os.path.abspath)
-    parser.add_argument("--edges", type=os.path.abspath)
     parser.add_argument("--sizes", type=numbers, default="100000,1000000")
     parser.add_argument("--chain", type=numbers, default="100000,1000000")
     parser.add_argument("--inputs", type=numbers, default="100000,1000000")

@@ -3,8 +3,8 @@
 
     flood.py [--names N] PROGRAM [WORD..]
 
-PROGRAM, with these words, loads build.ninja in its working directory, as crates/load_bench does.
-For each table of names it loads two files of the same size, which differ only in their names. The
+PROGRAM, with these words, loads build.ninja in its working directory, as `ninja-explain -t rules`
+does. For each table of names it loads two files of the same size, which differ only in their names. The
 names of one collide if the number is 0; they are from collisions.c, which is compiled with `cc`.
 The names of the other are arbitrary. Each file is loaded five times in turn, and the best times
 count. If hashes start from a number that is drawn for each run, the chosen names are like any
