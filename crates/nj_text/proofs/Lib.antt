@@ -27,4 +27,5 @@ pub mod NamesSeen
 pub mod PathRows
 pub mod QuoteRows
 pub mod QuotedTexts
+pub mod PlainFronts
 pub mod LossyChunks

@@ -20,6 +20,7 @@ mod numbers;
 mod parts;
 mod path_laws;
 mod paths;
+mod plain;
 mod quote_laws;
 mod quotes;
 mod runs;

@@ -1,12 +1,13 @@
 //! Shell quotes of paths.
 
-ghost use Rattle.std.specs.Prelude.{◌≡◌, ◌++◌, ◌<◌, ◌≤◌, true, false, length, take, IfSome, OnOk, OnErr};
+ghost use Rattle.std.specs.Prelude.{◌≡◌, ◌++◌, ◌<◌, true, length, IfSome, OnOk, OnErr};
 ghost use Rattle.std.specs.Option.{option_copied};
 ghost use Rattle.std.specs.List.{list_all, flat_map};
 ghost use Rattle.nj_text.specs.Inside.Cleaning.{BeginsWith};
 ghost use Rattle.nj_text.specs.Quotes.{is_plain_byte, within_quotes, in_quotes, quoted};
 ghost use Rattle.nj_text.specs.Inside.Quoting.{after_run};
 
+use crate::plain::plain_front;
 use std::alloc::AllocError;
 
 /// Appends the shell quote of a path: a path of letters, digits and `_`, `+`, `-`, `.`, `/` alone
@@ -32,27 +33,6 @@ pub fn quote_into(out: &mut Vec<u8>, path: &[u8]) -> Result<(), AllocError>
         return Err(refused);
     }
     Ok(())
-}
-
-/// Whether a shell takes the byte as it is.
-fn is_plain_byte(byte: u8) -> bool
-    ensures { result ≡ is_plain_byte byte }
-{
-    matches!(byte, b'a'..=b'z' | b'A'..=b'Z' | b'0'..=b'9' | b'_' | b'+' | b'-' | b'.' | b'/')
-}
-
-/// How many plain bytes stand at the front.
-fn plain_front(path: &[u8]) -> usize
-    ensures within { result ≤ length path.now }
-    ensures front { list_all is_plain_byte (take result path.now) ≡ true }
-    ensures rest { result < length path.now → list_all is_plain_byte path.now ≡ false }
-{
-    for (end, byte) in path.iter().enumerate() {
-        if !is_plain_byte(*byte) {
-            return end;
-        }
-    }
-    path.len()
 }
 
 /// The bytes before the first `'`, and those after it; the whole text and `None` if there is none.

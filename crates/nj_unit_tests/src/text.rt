@@ -452,9 +452,19 @@ fn clean_paths_are_appended(rt: HostRuntime) {
 
 #[test]
 fn quotes(rt: HostRuntime) -> Result<(), Fail> {
-    let rows: [(&[u8], &[u8]); 9] = [
+    let rows: [(&[u8], &[u8]); 13] = [
         (b"", b""),
         (b"out/a-b_c+d.o", b"out/a-b_c+d.o"),
+        (
+            b"A-Z/0_9+lib/Target.dir/a.cpp.o",
+            b"A-Z/0_9+lib/Target.dir/a.cpp.o",
+        ),
+        (b"lib/Target.dir/a b.cpp.o", b"'lib/Target.dir/a b.cpp.o'"),
+        (
+            b"lib/Target.dir/a.cpp's.o",
+            b"'lib/Target.dir/a.cpp'\\''s.o'",
+        ),
+        (b"lib/Target.dir/a.cpp.o,", b"'lib/Target.dir/a.cpp.o,'"),
         (b"o 1", b"'o 1'"),
         (b"it's x", b"'it'\\''s x'"),
         (b"'", b"''\\'''"),
