@@ -2,6 +2,7 @@ pub mod Rows
 pub mod NumberRows
 pub mod Lists
 pub mod LaneRuns
+pub mod LookedUp
 pub mod ByteSearches
 pub mod Digits
 pub mod Cuts

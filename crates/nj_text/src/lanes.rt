@@ -5,7 +5,7 @@
 //! byte that ends a run, and the first lane with such a byte is where the run ends. Each test is
 //! that of a single byte, for all 256 bytes.
 
-ghost use Rattle.std.specs.Prelude.{◌≡◌, not, map};
+ghost use Rattle.std.specs.Prelude.{◌≡◌, not, map, bit_and, slice_index_or};
 ghost use Rattle.std.specs.Simd.Lanes.{mask_l};
 ghost use Rattle.nj_text.specs.Inside.Runs.{in_run, lane_run};
 
@@ -65,25 +65,33 @@ fn identifier_stops(lanes: u8x16) -> u64
         & lanes.simd_ne(u8x16::splat(b'.'))).to_bitmask()
 }
 
+// The bytes that end a run, each at the place of its low four bits. A place without one has a byte
+// that belongs to another place, or 0.
+const WORD_STOPS: [u8; 16] = [0, 0, 0, 0, b'$', 0, 0, 0, 0, 0, b'\n', 0, b'|', b'\r', 0, 0];
+
+const MORE_WORD_STOPS: [u8; 16] = [b' ', 0, 0, 0, 0, 0, 0, 0, 0, 0, b':', 0, 0, 0, 0, 0];
+
+const VALUE_STOPS: [u8; 16] = [0, 0, 0, 0, b'$', 0, 0, 0, 0, 0, b'\n', 0, 0, b'\r', 0, 0];
+
+/// For each lane the entry of the table at its low four bits.
+#[inline(always)]
+fn looked_up(table: [u8; 16], lanes: u8x16) -> u8x16
+    ensures { result ≡ map (λ b. slice_index_or table (bit_and b 15) 0) lanes }
+{
+    u8x16::from_array(table).swizzle_dyn_within::<16>(lanes & u8x16::splat(15))
+}
+
 #[inline(always)]
 fn word_stops(lanes: u8x16) -> u64
     ensures { result ≡ mask_l (map (λ b. not (in_run Run.Word b)) lanes) }
 {
-    (lanes.simd_eq(u8x16::splat(b'$'))
-        | lanes.simd_eq(u8x16::splat(b'\n'))
-        | lanes.simd_eq(u8x16::splat(b'\r'))
-        | lanes.simd_eq(u8x16::splat(0))
-        | lanes.simd_eq(u8x16::splat(b' '))
-        | lanes.simd_eq(u8x16::splat(b':'))
-        | lanes.simd_eq(u8x16::splat(b'|'))).to_bitmask()
+    (looked_up(WORD_STOPS, lanes).simd_eq(lanes)
+        | looked_up(MORE_WORD_STOPS, lanes).simd_eq(lanes)).to_bitmask()
 }
 
 #[inline(always)]
 fn value_stops(lanes: u8x16) -> u64
     ensures { result ≡ mask_l (map (λ b. not (in_run Run.Value b)) lanes) }
 {
-    (lanes.simd_eq(u8x16::splat(b'$'))
-        | lanes.simd_eq(u8x16::splat(b'\n'))
-        | lanes.simd_eq(u8x16::splat(b'\r'))
-        | lanes.simd_eq(u8x16::splat(0))).to_bitmask()
+    looked_up(VALUE_STOPS, lanes).simd_eq(lanes).to_bitmask()
 }
