@@ -50,7 +50,8 @@ test:
 
 # Runs the built program on real files, and the short sweeps. It also checks that
 # docs/ARCHITECTURE.md names every module, that each type with a private field has a model, that what
-# must be believed is apart from plumbing, that the man page and the completions have every tool and
+# must be believed is apart from plumbing, that the code in README.md and docs/LIBRARY.md is that of
+# library_example, that the man page and the completions have every tool and
 # option, that the completions work, and that names which collide under a known number cost no more
 # than others. The programs on the library are run too.
 smoke: $(BUILT) $(AFFECTED) $(DRAW)
@@ -58,6 +59,7 @@ smoke: $(BUILT) $(AFFECTED) $(DRAW)
 	python3 scripts/check_docs.py || status=1; \
 	python3 scripts/check_models.py || status=1; \
 	python3 scripts/check_specs.py || status=1; \
+	python3 scripts/check_snippets.py || status=1; \
 	python3 scripts/check_words.py $(BUILT) || status=1; \
 	python3 scripts/check_completions.py $(BUILT) || status=1; \
 	python3 scripts/check_flood.py $(BUILT) || status=1; \

@@ -1,0 +1,190 @@
+//! Calls each function that docs/LIBRARY.md shows, over the project in `data/` or over short texts,
+//! and writes what it has to say.
+
+ghost use Rattle.std.specs.Prelude.{◌<◌, length};
+ghost use Rattle.nj_graph.specs.Graph.{files_of};
+
+mod changes;
+mod declared;
+mod dyndeps;
+mod edges;
+mod errors;
+mod lines;
+mod loading;
+mod sources;
+mod targets;
+mod variables;
+mod walks;
+mod writers;
+
+use changes::append_affected;
+use declared::{append_build_folders, append_pools, append_rules};
+use dyndeps::load_joined;
+use edges::{append_edges, append_sources};
+use errors::{is_of_words, log_line};
+use lines::append_line;
+use loading::{load_folder, load_text};
+use nj_disk::DiskFiles;
+use nj_graph::{FileNo, Graph, pick_target};
+use nj_tools::{Error, WriteSink, write_whole};
+use sources::FolderFiles;
+use std::alloc::{AllocError, Global};
+use targets::{append_defaults, append_target};
+use variables::{append_assigned, append_commands, append_whole_commands};
+use walks::{append_order, write_page};
+use writers::write_lists;
+
+/// Writes what all of them have to say.
+pub fn run(rt: HostRuntime) -> Result<(), Error> {
+    show_files(rt)?;
+    show_joined_files(rt)?;
+    show_faults(rt)?;
+    write_text(rt, b"== README.md\n")
+}
+
+/// Writes a text to the output.
+fn write_text(rt: HostRuntime, text: &[u8]) -> Result<(), Error> {
+    write_whole(&mut WriteSink::new(rt.stdout()), text)?;
+    Ok(())
+}
+
+/// Shows the files of the working folder.
+fn show_files(rt: HostRuntime) -> Result<(), Error> {
+    let loaded = load_folder(rt)?;
+    show_graph(rt, loaded.graph())
+}
+
+/// Shows a graph.
+fn show_graph(rt: HostRuntime, graph: &Graph) -> Result<(), Error> {
+    let mut text = Vec::new(rt.alloc());
+    append_edges_and_targets(rt.alloc(), &mut text, graph)?;
+    append_variables(rt.alloc(), &mut text, graph)?;
+    append_declared(rt.alloc(), &mut text, graph)?;
+    write_text(rt, &text)?;
+    show_target(rt, graph, pick_target(rt.alloc(), graph, b"hello")?)
+}
+
+/// Appends what a graph has of edges, files and targets.
+fn append_edges_and_targets(
+    alloc: Global,
+    text: &mut Vec<u8>,
+    graph: &Graph,
+) -> Result<(), nj_graph::Error> {
+    append_line(text, &[b"== edges and files"])?;
+    append_sources(text, graph)?;
+    append_edges(alloc, text, graph)?;
+    append_line(text, &[b"== targets"])?;
+    append_target(alloc, text, graph, b"./hello.c^")?;
+    append_defaults(text, graph)?;
+    append_line(text, &[b"== what a change reaches"])?;
+    append_affected(alloc, text, graph, b"./greet.h")
+}
+
+/// Appends what variables say for the edges of a graph.
+fn append_variables(alloc: Global, text: &mut Vec<u8>, graph: &Graph) -> Result<(), AllocError> {
+    append_line(text, &[b"== variables"])?;
+    append_commands(text, graph)?;
+    append_whole_commands(alloc, text, graph)?;
+    append_assigned(text, graph)
+}
+
+/// Appends what the files of a graph declare.
+fn append_declared(alloc: Global, text: &mut Vec<u8>, graph: &Graph) -> Result<(), AllocError> {
+    append_line(text, &[b"== rules, pools and scopes"])?;
+    append_rules(alloc, text, graph)?;
+    append_pools(text, graph)?;
+    append_build_folders(text, graph)
+}
+
+/// Writes the order of what a target needs, its commands page by page, and lists.
+fn show_target(rt: HostRuntime, graph: &Graph, target: FileNo) -> Result<(), Error>
+    requires { target.0 < length (files_of graph.now) }
+{
+    let mut text = Vec::new(rt.alloc());
+    append_line(&mut text, &[b"== a walk"])?;
+    append_order(rt.alloc(), &mut text, graph, target)?;
+    write_text(rt, &text)?;
+    show_page(rt, graph, target, "start")?;
+    show_page(rt, graph, target, "0.1")?;
+    write_text(rt, b"== lists\n")?;
+    let mut out = WriteSink::new(rt.stdout());
+    write_lists(rt.alloc(), graph, target, &mut out)?;
+    Ok(())
+}
+
+/// Writes a page of commands, and the mark of the next one.
+fn show_page(rt: HostRuntime, graph: &Graph, target: FileNo, mark: &str) -> Result<(), Error>
+    requires { target.0 < length (files_of graph.now) }
+{
+    let mut out = WriteSink::new(rt.stdout());
+    let next = write_page(rt.alloc(), graph, target, mark, &mut out)?;
+    let next = next.as_deref().unwrap_or("none");
+    let line = format!(in rt.alloc(); "next mark: {next}\n")?;
+    write_text(rt, line.as_bytes())
+}
+
+/// Writes what a change of `greet.h` reaches once dyndep files are joined.
+fn show_joined_files(rt: HostRuntime) -> Result<(), Error> {
+    let source = DiskFiles::new(rt, rt.alloc(), None)?;
+    let mut files = FolderFiles { source };
+    let joined = load_joined(rt.alloc(), &mut files, "build.ninja")?;
+    show_joined_graph(rt, joined.graph())
+}
+
+/// The same in a graph to which they were joined.
+fn show_joined_graph(rt: HostRuntime, graph: &Graph) -> Result<(), Error> {
+    let mut text = Vec::new(rt.alloc());
+    append_line(&mut text, &[b"== with dyndep files"])?;
+    append_affected(rt.alloc(), &mut text, graph, b"greet.h")?;
+    write_text(rt, &text)
+}
+
+/// Writes what is wrong with two manifests, and with a word.
+fn show_faults(rt: HostRuntime) -> Result<(), Error> {
+    let mut text = Vec::new(rt.alloc());
+    append_line(&mut text, &[b"== errors"])?;
+    append_fault(rt.alloc(), &mut text, b"rule cc\n  depth = 1\n", b"a")?;
+    append_fault(
+        rt.alloc(),
+        &mut text,
+        b"build a: phony b\nbuild b: phony a\n",
+        b"a",
+    )?;
+    append_fault(rt.alloc(), &mut text, b"build a: phony\n", b"b")?;
+    write_text(rt, &text)
+}
+
+/// Appends the line of the error of a manifest, or of a word that is asked of its graph.
+fn append_fault(
+    alloc: Global,
+    text: &mut Vec<u8>,
+    manifest: &[u8],
+    word: &[u8],
+) -> Result<(), AllocError> {
+    match ask(alloc, manifest, word) {
+        Ok(()) => Ok(()),
+        Err(error) => append_error(alloc, text, &error),
+    }
+}
+
+/// Appends what an error is of, and its line.
+fn append_error(alloc: Global, text: &mut Vec<u8>, error: &Error) -> Result<(), AllocError> {
+    let line = log_line(alloc, error)?;
+    append_line(text, &[blamed(error), &line])
+}
+
+/// What an error is of.
+fn blamed(error: &Error) -> &'static [u8] {
+    if is_of_words(error) {
+        b"of words: "
+    } else {
+        b"of files: "
+    }
+}
+
+/// Asks for the target that a word means in the graph of a manifest.
+fn ask(alloc: Global, manifest: &[u8], word: &[u8]) -> Result<(), Error> {
+    let loaded = load_text(alloc, manifest)?;
+    pick_target(alloc, loaded.graph(), word)?;
+    Ok(())
+}

@@ -1,0 +1,26 @@
+//! How errors are shown, and told apart.
+
+use nj_graph::Cause;
+use nj_tools::Error;
+use std::alloc::{AllocError, Global};
+
+/// The line of an error for the log of a program `indexer`. Names are in it as they are, whether
+/// they are UTF-8 or not.
+pub fn log_line(alloc: Global, error: &Error) -> Result<Vec<u8>, AllocError> {
+    match error {
+        Error::Graph(fault) => fault.line_for(alloc, "indexer"),
+        other => Ok(format!(in alloc; "indexer: {other}")?.into_bytes()),
+    }
+}
+
+/// Whether a word of the user is to blame, and not a file: it means no target, or is no mark.
+pub fn is_of_words(error: &Error) -> bool {
+    match error {
+        Error::Graph(fault) => matches!(
+            &fault.cause,
+            Cause::EmptyPath | Cause::UnknownTarget(_) | Cause::NoOutEdge(_)
+        ),
+        Error::EmptyPath | Error::BadMark | Error::MarkOutOfRange => true,
+        _ => false,
+    }
+}

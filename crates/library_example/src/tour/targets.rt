@@ -1,0 +1,30 @@
+//! Targets, as words of a user name them.
+
+use crate::tour::edges::append_inputs;
+use crate::tour::lines::append_line;
+use nj_graph::{Error, Graph, pick_target};
+use std::alloc::{AllocError, Global};
+
+/// Appends the inputs of the edge that makes what a word means: a path, or `PATH^` for the first
+/// output that is made of it.
+pub fn append_target(
+    alloc: Global,
+    text: &mut Vec<u8>,
+    graph: &Graph,
+    word: &[u8],
+) -> Result<(), Error> {
+    let target = pick_target(alloc, graph, word)?;
+    append_line(text, &[b"target ", graph.path(target)])?;
+    if let Some(edge) = graph.maker(target) {
+        append_inputs(text, graph, edge)?;
+    }
+    Ok(())
+}
+
+/// Appends the targets of a run without words: those of the `default` lines, or the roots.
+pub fn append_defaults(text: &mut Vec<u8>, graph: &Graph) -> Result<(), AllocError> {
+    for target in graph.defaults() {
+        append_line(text, &[b"default ", graph.path(*target)])?;
+    }
+    Ok(())
+}

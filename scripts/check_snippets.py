@@ -1,0 +1,79 @@
+#!/usr/bin/env python3
+"""Compares the Rattle code in README.md and docs/LIBRARY.md with the crate library_example.
+
+README.md has to show the whole of its `main.rt`, but for the lines that say they are not in it, and
+each block of docs/LIBRARY.md lines of one of its files that follow one another, indented or not. The
+crates that docs/LIBRARY.md copies have to be those that the client's calls need, by crates.txt.
+Prints what differs, and nothing else. The status is 1 if anything differs.
+"""
+
+import re
+import sys
+import textwrap
+from pathlib import Path
+
+ROOT = Path(__file__).resolve().parent.parent
+SOURCES = ROOT / "crates/library_example/src"
+# what a client may name in its own crates.txt
+NAMED = ["nj_graph", "nj_needs", "nj_tools", "nj_disk"]
+HIDDEN = "// not in README.md"
+
+
+def plain(text):
+    """The text without common indentation, trailing blanks and hidden lines, at most one blank line
+    in a row."""
+    lines = [line.rstrip() for line in text.splitlines() if not line.rstrip().endswith(HIDDEN)]
+    return re.sub(r"\n{3,}", "\n\n", textwrap.dedent("\n".join(lines))).strip("\n")
+
+
+def blocks(page):
+    """The blocks of Rattle code in a page, each with the number of its first line."""
+    text = page.read_text()
+    for block in re.finditer(r"^```rust\n(.*?)^```$", text, re.M | re.S):
+        yield text.count("\n", 0, block.start()) + 2, plain(block[1])
+
+
+def has(source, block):
+    """Whether lines of a source that follow one another are this block."""
+    lines, count = plain(source).splitlines(), block.count("\n") + 1
+    return any(
+        plain("\n".join(lines[at : at + count])) == block for at in range(len(lines) - count + 1)
+    )
+
+
+def needed(names):
+    """These crates of the repository and those that they stand on."""
+    uses = {}
+    for line in (ROOT / "crates.txt").read_text().splitlines():
+        name, _, rest = line.partition(":")
+        uses[name] = rest.split()
+    found, left = set(), list(names)
+    while left:
+        name = left.pop()
+        if name in uses and name not in found:
+            found.add(name)
+            left += uses[name]
+    return found
+
+
+def main():
+    faults = []
+    sources = [file.read_text() for file in sorted(SOURCES.glob("**/*.rt"))]
+    shown = [block for _, block in blocks(ROOT / "README.md")]
+    if shown != [plain((SOURCES / "main.rt").read_text())]:
+        faults.append("README.md: its block is not the whole of library_example/src/main.rt")
+    page = ROOT / "docs/LIBRARY.md"
+    for line, block in blocks(page):
+        if not any(has(source, block) for source in sources):
+            faults.append(f"docs/LIBRARY.md:{line}: no file of library_example has this block")
+    copied = re.search(r"^for name in ([^;]*);", page.read_text().replace("\\\n", ""), re.M)
+    if not copied or set(copied[1].split()) != needed(NAMED):
+        wanted = " ".join(sorted(needed(NAMED)))
+        faults.append(f"docs/LIBRARY.md: a client has to copy these crates: {wanted}")
+    for fault in faults:
+        print(fault)
+    return 1 if faults else 0
+
+
+if __name__ == "__main__":
+    sys.exit(main())
