@@ -49,6 +49,13 @@ impl Loaded {
     {
         &self.files
     }
+
+    /// The graph alone, without the files that were read.
+    pub fn into_graph(self) -> Graph
+        ensures { result ≡ self.graph }
+    {
+        self.graph
+    }
 }
 
 /// Reads the main file and all files that it includes ("Ninja file reference" in the Ninja manual).
