@@ -50,6 +50,7 @@ abbrev graph : GraphText
 graph = record {
   declarations = record { scopes = []; rules = phony_rule ∷ quiet_rule ∷ cc_rule ∷ []; pools = [] };
   built = record { graph = record { files = []; edges = [] }; details = []; blocks = record { values = []; last = 0 }; defaults = []; assigned = []; pending = [] };
+  origins = record { rules = []; pools = []; openings = [] };
 }
 
 first_is_cc : main_rule_at graph 0 ≡ cc_rule

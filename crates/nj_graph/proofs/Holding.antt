@@ -1,8 +1,9 @@
 -- What a reader holds after one statement more.
-use Rattle.std.proofs.Common.{◌≡◌, ℕ, ◌+◌, ◌==◌, ◌&&◌, if◌then◌else◌, Bool, true, false, not, cond, inl, inr, Option, Some, None, option_map, Result, Ok, Err, List, [], ◌∷◌, find, refl, sym, ap, subst, ◌∙◌, add-zero, true≢false, arith}
+use Rattle.std.proofs.Common.{◌≡◌, ℕ, ◌==◌, ◌&&◌, if◌then◌else◌, Bool, true, false, not, cond, Some, None, option_map, option_and_then, unwrap_or, Result, Ok, Err, List, [], ◌∷◌, length, slice_get, ◌-◌, find, refl, sym, ap, subst, ◌∙◌, true≢false, arith}
 use Rattle.std.specs.Option.{option_or}
 use mathlib.Core.Path.{fun_ext}
 use Rattle.nj_text.specs.declared.spot.Spot.{Spot}
+use Rattle.nj_text.specs.Numbers.{leading_number_of}
 use Rattle.nj_text.specs.Words.{WordText}
 use Rattle.nj_manifest.specs.LineSteps.{NameText}
 use Rattle.nj_manifest.specs.Statements.{LineText, StatementText}
@@ -11,7 +12,7 @@ use Rattle.nj_scope.specs.Scopes.{Bounds, value_in, expanded, rule_at}
 use Rattle.nj_scope.specs.Declarations.{DeclarationsText, DeclaredBy, SameScopes}
 use Rattle.nj_scope.specs.Limits.{is_depth}
 use Rattle.nj_scope.specs.Pools.{is_pool}
-use Rattle.nj_scope.specs.ReadingList.{ReadStatement, scope_of, binds, bounds, files_opened, opens_file, rules, is_declared, pools}
+use Rattle.nj_scope.specs.ReadingList.{ReadStatement, scope_of, binds, bounds, rules, is_declared, pools}
 use Rattle.nj_faults.specs.declared.fault.GraphFault.{GraphFault}
 use Rattle.nj_faults.specs.declared.fault.PlaceRef.{PlaceRef}
 use Rattle.nj_graph.specs.declared.reader.OpenFile.{OpenFile}
@@ -21,17 +22,19 @@ use Rattle.nj_faults.specs.Faults.{fault_at}
 use Rattle.nj_graph.specs.Reading.{entry_at, expanded_in, fault_if, rule_fault, depth_fault, pool_fault, own_fault, path_named, with_all_new, paths_read}
 use Rattle.nj_statements.specs.Answers.{HoldsEdges, ReadsStatement, entry_at_place}
 use Rattle.nj_graph.specs.Graph.{IsOpenScope}
+use Rattle.nj_graph.specs.Origins.{place_text, depth_of}
+use Rattle.nj_graph.specs.Inside.OriginsHeld.{origins_with}
 use Rattle.nj_graph.proofs.OpenScopes.{open-next}
-use Rattle.nj_graph.specs.Inside.ReaderContracts.{Holds, Grows, Checks, Declares, site_of}
+use Rattle.nj_graph.specs.Inside.ReaderContracts.{Holds, Grows, Declares, site_of}
 
 -- a statement that names no file
-pub holds-next : (main : List ℕ) (old held : Reader) (entries : List ReadStatement) (e : ReadStatement) → Holds main old entries → DeclaredBy held.declarations (e ∷ entries) → held.opened ≡ old.opened → held.files ≡ old.files
-    → opens_file e.item ≡ 0 → path_named e entries e.item ≡ [] → HoldsEdges held.building (e ∷ entries) → Grows old.declarations.scopes held.declarations.scopes → IsOpenScope old.declarations.scopes e.number e.around → Holds main held (e ∷ entries)
-holds-next main old held entries e holds follows opened files none names edges grows inside = record {
+pub holds-next : (main : List ℕ) (old held : Reader) (entries : List ReadStatement) (e : ReadStatement) → Holds main old entries → DeclaredBy held.declarations (e ∷ entries) → held.origins ≡ origins_with e entries old.origins → held.files ≡ old.files
+    → path_named e entries e.item ≡ [] → HoldsEdges held.building (e ∷ entries) → Grows old.declarations.scopes held.declarations.scopes → IsOpenScope old.declarations.scopes e.number e.around → Holds main held (e ∷ entries)
+holds-next main old held entries e holds follows origins files names edges grows inside = record {
   declares = follows;
   edges = edges;
   scopes = open-next old.declarations.scopes held.declarations.scopes e entries grows inside holds.scopes;
-  opened = opened ∙ holds.opened ∙ sym (add-zero (files_opened entries)) ∙ ap (λ n. files_opened entries + n) (sym none);
+  origins = origins ∙ ap (origins_with e entries) holds.origins;
   paths_are = ap paths_of files ∙ holds.paths_are ∙ ap (with_all_new (paths_read main entries)) (sym names);
   once = subst EachPathOnce (sym files) holds.once;
 }
@@ -91,11 +94,10 @@ depths-same file e entries nothing scope (l ∷ lines) =
     by true others = refl
     by false others = others
 
--- a pool whose depths were checked
-pub pool-declares : (main : List ℕ) (held : Reader) (e : ReadStatement) (depths : Option GraphFault) (entries : List ReadStatement) (result : Result (Unit {0}) GraphFault) → own_fault e entries ≡ depths → Checks depths result → Holds main held (e ∷ entries) → Declares main held e entries result
-pool-declares main held e depths entries (Ok done) same checks holds = (same ∙ checks, holds)
-pool-declares main held e depths entries (Err fault) same (inl no_memory) holds = inl no_memory
-pool-declares main held e depths entries (Err fault) same (inr told) holds = inr (same ∙ told)
+-- the depth of a pool
+pub depth-same : (e : ReadStatement) (entries : List ReadStatement) → ((value : List ℕ → List ℕ) (x : List ℕ) → binds value e.item x ≡ None) → (scope : List ℕ) (lines : List LineText) → depth_of scope (e ∷ entries) lines ≡ depth_of scope entries lines
+depth-same e entries nothing scope lines =
+    ap (λ (bound : Bounds). unwrap_or (option_and_then (λ (l : LineText). leading_number_of (expanded (value_in bound scope) l.value.parts)) (slice_get lines (length lines - 1))) 0) (fun_ext (λ n. fun_ext (λ x. bounds-same e entries nothing n x)))
 
 -- ---- scopes that stay
 
@@ -112,11 +114,16 @@ placed-entry file place spot around depth item file_is spot_is =
     ap (λ (name : List ℕ). entry_at (record { file = name; depth = depth; number = file.scope; around = around }) (record { spot = place.spot; item = item })) file_is
     ∙ ap (λ (s : Spot). entry_at (site_of file around depth) (record { spot = s; item = item })) spot_is
 
+-- and the place itself
+pub placed-text : (place : PlaceRef) (file : List ℕ) (spot : Spot) → place.file.now ≡ file → place.spot ≡ spot → place_text place ≡ record { file = file; spot = spot }
+placed-text place file spot file_is spot_is =
+    ap (λ (name : List ℕ). record { file = name; spot = place.spot }) file_is ∙ ap (λ (s : Spot). record { file = file; spot = s }) spot_is
+
 -- a statement by which the declarations stay, and the edges are those of one statement more
 pub built-declares : (main : List ℕ) (old held : Reader) (entries : List ReadStatement) (e : ReadStatement) (result : Result (Unit {0}) GraphFault) → Holds main old entries
-    → DeclaredBy held.declarations (e ∷ entries) → held.opened ≡ old.opened → held.files ≡ old.files → opens_file e.item ≡ 0 → path_named e entries e.item ≡ []
+    → DeclaredBy held.declarations (e ∷ entries) → held.origins ≡ origins_with e entries old.origins → held.files ≡ old.files → path_named e entries e.item ≡ []
     → Grows old.declarations.scopes held.declarations.scopes → IsOpenScope old.declarations.scopes e.number e.around
     → ReadsStatement held.building (own_fault e entries) e entries result → Declares main held e entries result
-built-declares main old held entries e (Ok done) holds follows opened files none names grows inside reads =
-    (reads.0, holds-next main old held entries e holds follows opened files none names reads.1 grows inside)
-built-declares main old held entries e (Err fault) holds follows opened files none names grows inside reads = reads
+built-declares main old held entries e (Ok done) holds follows origins files names grows inside reads =
+    (reads.0, holds-next main old held entries e holds follows origins files names reads.1 grows inside)
+built-declares main old held entries e (Err fault) holds follows origins files names grows inside reads = reads

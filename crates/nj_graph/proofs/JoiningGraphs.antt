@@ -17,6 +17,7 @@ use Rattle.nj_statements.specs.JoiningHeld.{JoiningText, has_pending}
 use Rattle.nj_statements.proofs.DiscoverLemmas.{declared-discover, all-discover}
 use Rattle.nj_statements.proofs.DiscoverEdges.{all_edges-discover}
 use Rattle.nj_graph.specs.Reading.{Whole, with_all_new}
+use Rattle.nj_graph.specs.Origins.{origins_read, main_of}
 use Rattle.nj_graph.specs.Graph.{GraphText, IsOpenScope, HasRule, IsGraphOf}
 use Rattle.nj_graph.specs.Inside.GraphHeld.{IsKnown, IsGraph}
 use Rattle.nj_graph.specs.Runs.{ReachedText}
@@ -25,6 +26,7 @@ use Rattle.nj_graph.specs.Joining.{all_joined, joined_after, Joins}
 use Rattle.nj_graph.specs.Inside.JoiningContracts.{FilesJoined, FilesStop}
 use Rattle.nj_graph.proofs.Comes.{prefix-self, prefix-named}
 use Rattle.nj_graph.proofs.Tables.{read-nothing}
+use Rattle.nj_graph.proofs.OriginLemmas.{origins-discover}
 use Rattle.nj_graph.proofs.JoiningWaits.{kept-by-all, none-waits, nothing-joined}
 
 -- ---- nothing is read
@@ -95,16 +97,17 @@ module _ (stated : List ReadStatement) (before after : SourceState) (old : List 
           stays (λ entries. AllByRecursion (HasRule g.declarations.rules) (edges_read entries))
           (all_edges-discover (HasRule g.declarations.rules) (λ e outs ins h. record { rule = h.rule; rule_is = h.rule_is; phony_is = h.phony_is })) is.rules
 
-      pub joined-graph : IsGraphOf (record { declarations = g.declarations; built = built }) f.now
+      pub joined-graph : IsGraphOf (record { declarations = g.declarations; built = built; origins = g.origins }) f.now
       joined-graph = record {
         declares = stays (DeclaredBy g.declarations) (declared-discover g.declarations) is.declares;
         scopes = stays (AllByRecursion (λ e. IsOpenScope g.declarations.scopes e.number e.around)) (all-discover (λ e. IsOpenScope g.declarations.scopes e.number e.around) (λ e d h. h)) is.scopes;
         built = comes.0;
         rules = has-rules;
         acyclic = subst (λ es. IsAcyclic (makers_of_inputs es) (length es)) (sym comes.0.paths) (subst (λ n. IsAcyclic (makers_of_inputs (paths_of_edges (edges_read f.now))) n) (sym (length-map (edges_read f.now) (λ e. e.paths))) comes.1);
+        origins = stays (λ entries. g.origins ≡ origins_read (main_of g.origins) entries) (λ edge found entries same. same ∙ sym (origins-discover (main_of g.origins) edge found entries)) is.origins;
       }
 
-      pub joins-graph : (loaded : LoadedText) → loaded ≡ record { files = table; graph = record { declarations = g.declarations; built = built } } → Joins stated old before after (Ok loaded)
+      pub joins-graph : (loaded : LoadedText) → loaded ≡ record { files = table; graph = record { declarations = g.declarations; built = built; origins = g.origins } } → Joins stated old before after (Ok loaded)
       joins-graph loaded same = (
         f.files,
         f.reads.reads,

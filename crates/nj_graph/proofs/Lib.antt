@@ -20,6 +20,8 @@ pub mod NameLemmas
 pub mod Naming
 pub mod Openings
 pub mod OpenScopes
+pub mod OriginLemmas
+pub mod OriginRows
 pub mod OtherFiles
 pub mod ReadingLaws
 pub mod ReadingRows

@@ -19,9 +19,11 @@ use Rattle.nj_edges.specs.Needs.{makers_of_inputs}
 use Rattle.nj_statements.specs.EdgeList.{edges_read, paths_of_edges}
 use Rattle.nj_statements.specs.Answers.{HoldsEdges}
 use Rattle.nj_statements.specs.Built.{BuiltText, IsBuiltOf, ComesTo, detail_of}
+use Rattle.nj_graph.specs.Origins.{main_of}
 use Rattle.nj_graph.specs.Graph.{IsOpenScope, HasRule, IsGraphOf}
 use Rattle.nj_graph.specs.Inside.GraphHeld.{IsKnown}
 use Rattle.nj_graph.specs.Laws.{Faultless}
+use Rattle.nj_graph.proofs.OriginLemmas.{origins-of_main, main-named}
 use Rattle.nj_graph.proofs.EdgeRules.{edges-have, edges-open, known-details}
 use Rattle.nj_graph.proofs.ReadingLaws.{read_is_faultless}
 use Rattle.nj_graph.specs.Runs.{IsRead}
@@ -98,20 +100,20 @@ module _ (main : List ℕ) (before after : SourceState) (fault : GraphFault) whe
 -- ---- the main file is there
 
 -- its scope
-pub main-stands : (held : Reader) → IsNew held → IsOpenScope held.declarations.scopes 0 []
-main-stands held new = record { within = outermost new.outermost; there = (rw new.declares.scopes (omega arith), tt) }
+pub main-stands : (main : List ℕ) (held : Reader) → IsNew main held → IsOpenScope held.declarations.scopes 0 []
+main-stands main held new = record { within = outermost new.outermost; there = (rw new.declares.scopes (omega arith), tt) }
 
-module _ (main : List ℕ) (before mid after : SourceState) (old opened held : Reader) (text : List ℕ) (new : IsNew old) (found : FindsText before mid old.files opened.files main text) where
+module _ (main : List ℕ) (before mid after : SourceState) (old opened held : Reader) (text : List ℕ) (new : IsNew main old) (found : FindsText before mid old.files opened.files main text) where
   is-text : (all : List Reading) → IsPrefix found.files all → main_read all main ≡ text_read (opened_in all most_within) (main_site main) text []
   unfolding main_read
   is-text all ext = ap (λ r. answer_read main (main_place main) [] (λ t. text_read (opened_in all most_within) (main_site main) t []) r) (reading-kept main (record { path = main; bytes = Some text }) all found.files ext found.found)
 
-  pub main-holds : opened.declarations ≡ old.declarations → opened.building ≡ old.building → opened.opened ≡ old.opened → Holds main opened []
-  main-holds declared building count = record {
+  pub main-holds : opened.declarations ≡ old.declarations → opened.building ≡ old.building → opened.origins ≡ old.origins → Holds main opened []
+  main-holds declared building origins = record {
     declares = subst (λ d. DeclaredBy d []) (sym declared) new.declares;
     edges = subst (λ b. HoldsEdges b []) (sym building) new.edges;
     scopes = tt;
-    opened = count ∙ new.opened;
+    origins = origins ∙ new.origins;
     paths_are = ap paths_of found.reads.held_is ∙ found.came_to ∙ ap (λ fs. with_new (paths_of fs) main) new.files;
     once = subst EachPathOnce (sym found.reads.held_is) found.reads.reads.once;
   }
@@ -165,7 +167,7 @@ module _ (main : List ℕ) (before after : SourceState) (old held : Reader) (r :
       ap length is.details ∙ length-map (edges_read r.entries) detail_of ∙ sym (ap length is.paths ∙ length-map (edges_read r.entries) (λ e. e.paths))
 
   -- and the graph has what was declared and built
-  pub is-loaded : (loaded : LoadedText) (built : BuiltText) → old.files ≡ [] → loaded.files ≡ held.files → loaded.graph ≡ record { declarations = held.declarations; built = built }
+  pub is-loaded : (loaded : LoadedText) (built : BuiltText) → old.files ≡ [] → loaded.files ≡ held.files → loaded.graph ≡ record { declarations = held.declarations; built = built; origins = held.origins }
       → ComesTo r.entries (Ok built) → Loads main before after (Ok loaded)
   is-loaded loaded built none same_files same_graph comes = (
     r.files,
@@ -180,9 +182,14 @@ module _ (main : List ℕ) (before after : SourceState) (old held : Reader) (r :
         built = comes.0;
         rules = has-rules;
         acyclic = subst (λ es. IsAcyclic (makers_of_inputs es) (length es)) (sym comes.0.paths) (subst (λ n. IsAcyclic (makers_of_inputs (paths_of_edges (edges_read r.entries))) n) (sym (length-map (edges_read r.entries) (λ e. e.paths))) comes.1);
+        origins = origins-of_main held.origins main r.entries r.holds.origins;
       });
     },
   )
+
+  -- the main file is that of the run
+  pub main-is : main_of held.origins ≡ main
+  main-is = ap main_of r.holds.origins ∙ main-named main r.entries
 
   -- and the edges could not be finished
   pub built-fault : (fault : GraphFault) → old.files ≡ [] → ComesTo r.entries (Err fault) → Loads main before after (Err fault)

@@ -1,5 +1,5 @@
 -- What is read of a statement, where it has a fault of its own, and where it names a file.
-use Rattle.std.proofs.Common.{◌≡◌, ℕ, suc, ◌+◌, ◌<◌, Result, Ok, Err, IfOk, OnOk, length, arith, Bool, true, false, inl, inr, Option, Some, None, option_map, List, [], ◌∷◌, ◌++◌, refl, sym, ap, subst, ◌∙◌, add-one}
+use Rattle.std.proofs.Common.{◌≡◌, ℕ, ◌+◌, ◌<◌, Result, Ok, Err, IfOk, OnOk, length, arith, Bool, true, false, inl, inr, Option, Some, None, option_map, List, [], ◌∷◌, ◌++◌, refl, sym, ap, subst, ◌∙◌}
 use Rattle.std.specs.Option.{option_or}
 use Rattle.nj_text.specs.declared.spot.Spot.{Spot}
 use Rattle.nj_text.specs.Words.{WordText}
@@ -9,7 +9,7 @@ use Rattle.nj_manifest.specs.Statements.{StatementText, BindingText, RuleText, P
 use Rattle.nj_scope.specs.Readings.{Reading, EachPathOnce, IsPrefix, paths_of}
 use Rattle.nj_scope.specs.Scopes.{child, parent_at}
 use Rattle.nj_scope.specs.Declarations.{DeclarationsText, DeclaredBy, TakesIn}
-use Rattle.nj_scope.specs.ReadingList.{ReadStatement, scope_of, value_after, files_opened, opens_file}
+use Rattle.nj_scope.specs.ReadingList.{ReadStatement, scope_of, value_after}
 use Rattle.nj_scope.specs.Sources.{SourceState}
 use Rattle.nj_faults.specs.declared.fault.GraphFault.{GraphFault}
 use Rattle.nj_graph.specs.declared.opening.Naming.{Naming}
@@ -30,6 +30,8 @@ use Rattle.nj_statements.proofs.Holding.{names_files, holds-other}
 use Rattle.nj_graph.specs.Runs.{IsRead, Stops}
 use Rattle.nj_graph.specs.Loads.{reached_from}
 use Rattle.nj_graph.specs.Graph.{IsOpenScope}
+use Rattle.nj_graph.specs.Origins.{OriginsText, place_of}
+use Rattle.nj_graph.specs.Inside.OriginsHeld.{origins_with}
 use Rattle.nj_graph.specs.Inside.ReaderContracts.{named_item, named_site, site_of, EntersScope, Holds, Grows, IsOpenIn, ReadsOne, StopsAt, OpensText, OpensNamed}
 use Rattle.nj_graph.proofs.Comes.{item-comes, statements-come}
 use Rattle.nj_graph.proofs.Tables.{read-nothing}
@@ -121,8 +123,15 @@ module _ (kind : Naming) (site : Site) (start : Spot) (entries : List ReadStatem
   pub named-file : (named_site kind names entries word).file ≡ expanded_in (site_scope site) entries word
   named-file = elim kind as (λ k. (named_site k names entries word).file ≡ expanded_in (site_scope site) entries word) [ naming.Include ↦ refl | naming.Subninja ↦ refl ]
 
-  pub named-opens : opens_file names.item ≡ 1
-  named-opens = elim kind as (λ k. opens_file (named_item k word) ≡ 1) [ naming.Include ↦ refl | naming.Subninja ↦ refl ]
+  -- where it is opened from
+  pub named-origins : (o : OriginsText) → origins_with names entries o ≡ record o {
+    openings = o.openings ++ record { path = expanded_in (site_scope site) entries word; named_at = Some (place_of names); scope = (named_site kind names entries word).number } ∷ [];
+  }
+  named-origins o =
+      elim kind as (λ k. origins_with (entry_at site (record { spot = start; item = named_item k word })) entries o ≡ record o {
+        openings = o.openings ++ record { path = expanded_in (site_scope site) entries word; named_at = Some (place_of (entry_at site (record { spot = start; item = named_item k word }))); scope = (named_site k (entry_at site (record { spot = start; item = named_item k word })) entries word).number } ∷ [];
+      })
+      [ naming.Include ↦ refl | naming.Subninja ↦ refl ]
 
   pub named-builds : names_files names.item ≡ false
   named-builds = elim kind as (λ k. names_files (named_item k word) ≡ false) [ naming.Include ↦ refl | naming.Subninja ↦ refl ]
@@ -139,7 +148,7 @@ pub enters-new : {X : Type 0} (old : Reader) (new : DeclarationsText) (file : Op
     → IfOk result (λ n. n ≡ length old.declarations.scopes) → OnOk result (parent_at new.scopes (length old.declarations.scopes) ≡ Some file.scope)
     → ((n : ℕ) → n < length old.declarations.scopes → parent_at new.scopes n ≡ parent_at old.declarations.scopes n) → OnOk result (length new.scopes ≡ length old.declarations.scopes + 1)
     → OnOk result (TakesIn old.declarations new file.scope around (SubninjaText word)) → DeclaredBy old.declarations entries → IsOpenIn old file around
-    → IfOk result (λ n. EntersScope (record { declarations = new; building = old.building; files = old.files; opened = old.opened }) n
+    → IfOk result (λ n. EntersScope (record { declarations = new; building = old.building; files = old.files; origins = old.origins }) n
     (named_site naming.Subninja (entry_at (site_of file around depth) (record { spot = start; item = SubninjaText word })) entries word) (entry_at (site_of file around depth) (record { spot = start; item = SubninjaText word })) entries)
 enters-new old new file start word entries around depth (Err e) number within others count opened declares inside = tt
 enters-new old new file start word entries around depth (Ok n) number within others count opened declares inside =
@@ -204,18 +213,18 @@ module _ (main : List ℕ) (before after : SourceState) (old : Reader) (entries 
 -- ---- a file that is named
 
 module _ (main : List ℕ) (before after : SourceState) (old mid held : Reader) (left : ℕ) (place : Place) (path : List ℕ) (e : ReadStatement) (entries : List ReadStatement) (text : List ℕ) where
-  pub opens-file : (inner : Site) → Holds main old entries → OpensText main before after old mid left place path entries text → held.files ≡ mid.files → held.opened ≡ suc old.opened → held.building ≡ old.building → names_files e.item ≡ false → Grows old.declarations.scopes held.declarations.scopes → IsOpenScope old.declarations.scopes e.number e.around
-      → DeclaredBy held.declarations (e ∷ entries) → opens_file e.item ≡ 1 → inner.file ≡ path → path_named e entries e.item ≡ path ∷ []
+  pub opens-file : (inner : Site) → Holds main old entries → OpensText main before after old mid left place path entries text → held.files ≡ mid.files → held.origins ≡ origins_with e entries old.origins → held.building ≡ old.building → names_files e.item ≡ false → Grows old.declarations.scopes held.declarations.scopes → IsOpenScope old.declarations.scopes e.number e.around
+      → DeclaredBy held.declarations (e ∷ entries) → inner.file ≡ path → path_named e entries e.item ≡ path ∷ []
       → ((opens : Opens) → statement_read opens e entries ≡ opens inner place e entries)
       → OpensNamed main before after old held left inner text e entries
-  opens-file inner holds o files opened building builds grows inside declares one is names read = record {
+  opens-file inner holds o files origins building builds grows inside declares is names read = record {
     files = o.files;
     reads = record { reads = o.reads.reads; held_is = files ∙ o.reads.held_is; failures = o.reads.failures };
     holds = record {
       declares = declares;
       edges = subst (λ b. HoldsEdges b (e ∷ entries)) (sym building) (holds-other old.building e entries builds holds.edges);
       scopes = open-next old.declarations.scopes held.declarations.scopes e entries grows inside holds.scopes;
-      opened = opened ∙ ap suc holds.opened ∙ sym (add-one (files_opened entries)) ∙ ap (λ n. files_opened entries + n) (sym one);
+      origins = origins ∙ ap (origins_with e entries) holds.origins;
       paths_are = ap paths_of (files ∙ o.reads.held_is) ∙ o.came_to ∙ ap (λ ps. with_new ps path) holds.paths_are ∙ ap (with_all_new (paths_read main entries)) (sym names);
       once = subst EachPathOnce (sym (files ∙ o.reads.held_is)) o.reads.reads.once;
     };

@@ -1,7 +1,7 @@
 -- A path that a statement names, and how its file is opened.
 use Rattle.std.proofs.Common.{inl, inr, ◌≡◌, ◌⊎◌, ℕ, zero, suc, ◌<◌, ◌≤◌, true, false, Option, Some, None, is_some, Result, Ok, Err, List, [], ◌∷◌, refl, sym, ap, subst, ◌∙◌, true≢false}
 use Rattle.std.specs.Global.{Global}
-use Rattle.std.specs.Result.{IsErrAnd}
+use Rattle.std.specs.Rc.{rc_slice_items}
 use Rattle.std.specs.declared.rc.RcSlice.{RcSlice}
 use Rattle.std.proofs.lemmas.Bool.{lt-ltb, le-ltb}
 use Rattle.nj_scope.specs.Readings.{Reading, EachPathOnce, reading_of, is_read, IsPrefix, paths_of}
@@ -14,10 +14,10 @@ use Rattle.nj_faults.specs.declared.fault.Cause.{Cause}
 use Rattle.nj_faults.specs.declared.fault.Cause.TheVariants.{Missing, TooDeep, TooManyOpenings}
 use Rattle.nj_faults.specs.Faults.{no_memory}
 use Rattle.nj_graph.specs.Reading.{Site, Lacking, most_opened, stopped, text_read, answer_read, if_room, opened_in, path_named, with_new, with_all_new, paths_read, path_at_fault, paths_come_to}
-use Rattle.nj_graph.specs.Inside.ReaderContracts.{StopsAt, OpensText, OpensPath}
+use Rattle.nj_graph.specs.Inside.ReaderContracts.{StopsAt, AnswersText, OpensText, OpensPath}
 use Rattle.nj_graph.specs.Runs.{IsRead}
 use Rattle.nj_graph.specs.Loads.{reached_from}
-use Rattle.nj_graph.proofs.Found.{FindsText, FindsNone, CannotTell, HasNoMemory}
+use Rattle.nj_graph.proofs.Found.{FindsText, FindsNone, CannotTell, HasNoMemory, found-text, unfound}
 use Rattle.nj_graph.proofs.Tables.{reading-kept, with_new-other, read-nothing}
 use Rattle.nj_graph.proofs.Comes.{opened-comes, opened-names}
 
@@ -161,14 +161,11 @@ opens-text main before after old held left within place path entries text left_i
       ∙ opened-answered all inner place e entries within _ room (ap (reading_of all) same ∙ reading-kept path _ all found.files is found.found);
 }
 
--- what is answered where the run stops
-module _ (main : List ℕ) (before after : SourceState) (old held : Reader) (left : ℕ) (place : Place) (path : List ℕ) (entries : List ReadStatement) where
-  pub opens-fault : (result : Result (RcSlice ℕ Global) GraphFault) (P : GraphFault → Type 0)
-      → IsErrAnd result P → ((f : GraphFault) → P f → StopsHere main before after old.files place path entries left f) → OpensPath main before after old held left place path entries result
-  opens-fault (Ok text) P h stops = absurd h
-  opens-fault (Err f) P h stops = stops f h
-
-  pub opens-same_fault : (result : Result (RcSlice ℕ Global) GraphFault) (fault : GraphFault)
-      → IsErrAnd result (λ f. f ≡ fault) → StopsHere main before after old.files place path entries left fault → OpensPath main before after old held left place path entries result
-  opens-same_fault result fault h stops =
-      opens-fault result (λ f. f ≡ fault) h (λ f same. subst (λ x. StopsHere main before after old.files place path entries left x) (sym same) stops)
+-- by the answer of the table
+pub opens-answered : (main : List ℕ) (before after : SourceState) (old held : Reader) (left within : ℕ) (place : Place) (path : List ℕ) (entries : List ReadStatement)
+    → paths_of old.files ≡ paths_read main entries → left ≡ suc within → files_opened entries < most_opened → EachPathOnce old.files → (result : Result (RcSlice ℕ Global) GraphFault)
+    → AnswersText before after old.files held.files place path result → OpensPath main before after old held left place path entries result
+opens-answered main before after old held left within place path entries paths_are left_is room once (Ok text) answers =
+    opens-text main before after old held left within place path entries (rc_slice_items text) left_is room (found-text before after old.files held.files path once place text answers)
+opens-answered main before after old held left within place path entries paths_are left_is room once (Err fault) answers =
+    stops-unfound main before after old.files place path entries paths_are left within left_is room fault (unfound before after old.files held.files path once place fault answers)

@@ -17,11 +17,14 @@ use Rattle.nj_edges.specs.Needs.{makers_of_inputs}
 use Rattle.nj_edge_env.specs.LateTexts.{asked_text}
 use Rattle.nj_statements.specs.EdgeList.{EdgeText, edges_read, names_of_edge}
 use Rattle.nj_statements.specs.Built.{BuiltText, IsBuiltOf, EdgeDetail, detail_at, detail_of}
+use Rattle.nj_graph.specs.Origins.{OriginsText, origins_read, main_of}
 
--- what the statements of its files declare, after all reading, and the edges and defaults that they yield
+-- What the statements of its files declare, after all reading, the edges and defaults that they yield, and where rules, pools and files
+-- come from.
 pub record GraphText : Type 0 where
   pub declarations : DeclarationsText
   pub built : BuiltText
+  pub origins : OriginsText
 
 -- its edges, by their paths
 abbrev pub edges_of : GraphText → List EdgePaths
@@ -43,13 +46,14 @@ pub record HasRule (rules : List RuleText) (e : EdgeText) : Type 0 where
   pub phony_is : bytes_eq rule.name phony ≡ e.paths.is_phony
 
 -- The graph is what the statements say: what they declare, in which scopes, and their edges and defaults; each edge has a rule, and none
--- needs itself by a chain.
+-- needs itself by a chain. Rules, pools and files come from where the statements are, after the main file was opened.
 pub record IsGraphOf (g : GraphText) (entries : List ReadStatement) : Type 0 where
   pub declares : DeclaredBy g.declarations entries
   pub scopes : AllByRecursion (λ e. IsOpenScope g.declarations.scopes e.number e.around) entries
   pub built : IsBuiltOf g.built entries
   pub rules : AllByRecursion (HasRule g.declarations.rules) (edges_read entries)
   pub acyclic : IsAcyclic (makers_of_inputs (edges_of g)) (length (edges_of g))
+  pub origins : g.origins ≡ origins_read (main_of g.origins) entries
 
 -- ---- late texts
 

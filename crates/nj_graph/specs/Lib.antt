@@ -4,6 +4,7 @@ pub mod Graph
 pub mod Joining
 pub mod Laws
 pub mod Loads
+pub mod Origins
 pub mod Parsed
 pub mod Reading
 pub mod ResponseFiles

@@ -1,19 +1,19 @@
 //! The statements that declare something: bindings, rules and pools.
 
-ghost use Rattle.std.specs.Prelude.{◌≡◌, ◌<◌, length, OnOk};
-ghost use Rattle.nj_text.specs.declared.spot.Spot.{Spot};
+ghost use Rattle.std.specs.Prelude.{◌≡◌, ◌<◌, length, IfOk, OnOk};
 ghost use Rattle.nj_text.specs.Words.{word_text};
 ghost use Rattle.nj_manifest.specs.Statements.{BindingText};
 ghost use Rattle.nj_manifest.specs.Contents.{rule_text, pool_text, lines_text};
 ghost use Rattle.nj_graph.specs.Reading.{entry_at, depth_fault};
-ghost use Rattle.nj_graph.specs.Inside.ReaderContracts.{site_scope};
-ghost use Rattle.nj_graph.specs.Inside.ReaderContracts.{InFile, ScopesGrow, Checks, Declares};
+ghost use Rattle.nj_graph.specs.Origins.{depth_of};
+ghost use Rattle.nj_graph.specs.Inside.ReaderContracts.{InFile, InScope, ScopesGrow, Checks, Declares};
 
 use crate::reader::{OpenFile, Reader};
 use nj_faults::{Cause, GraphFault, Name, is_newer};
 use nj_manifest::{Line, Pool, Rule, Spot, Word};
 use nj_scope::is_depth;
-use std::alloc::Global;
+use nj_text::leading_number;
+use std::alloc::{AllocError, Global};
 
 impl Reader {
     /// Reads a binding.
@@ -44,16 +44,17 @@ impl Reader {
         Ok(())
     }
 
-    /// Reads a rule.
+    /// Reads a rule, whose statement is at this place.
     pub(crate) fn declare_rule(
         &mut self,
         alloc: Global,
         file: OpenFile<'_>,
+        spot: Spot,
         rule: &Rule<'_>,
     ) -> Result<(), GraphFault>
         requires { file.scope < length self.old.declarations.scopes }
-        ensures declares { (start : Spot) → InFile self.old file.entry (λ main site entries.
-            let e = entry_at site (record { spot = start; item = rule_text rule.now }) in
+        ensures declares { InFile self.old file.entry (λ main site entries.
+            let e = entry_at site (record { spot = spot; item = rule_text rule.now }) in
             Declares main self.new e entries result) }
         ensures files { self.new.files ≡ self.old.files }
         ensures grows { OnOk result (ScopesGrow self.old self.new) }
@@ -62,22 +63,24 @@ impl Reader {
             .declarations
             .declare_rule(alloc, file.scope, rule.name, &rule.lines)?
         {
+            self.origins.add_rule(file.place(spot))?;
             return Ok(());
         }
         let cause = Cause::DuplicateRule(Name::new(alloc, rule.name)?);
         Err(file.fault(alloc, rule.name_spot, cause))
     }
 
-    /// Reads a pool.
+    /// Reads a pool, whose statement is at this place.
     pub(crate) fn declare_pool(
         &mut self,
         alloc: Global,
         file: OpenFile<'_>,
+        spot: Spot,
         pool: &Pool<'_>,
     ) -> Result<(), GraphFault>
         requires { file.scope < length self.old.declarations.scopes }
-        ensures declares { (start : Spot) → InFile self.old file.entry (λ main site entries.
-            let e = entry_at site (record { spot = start; item = pool_text pool.now }) in
+        ensures declares { InFile self.old file.entry (λ main site entries.
+            let e = entry_at site (record { spot = spot; item = pool_text pool.now }) in
             Declares main self.new e entries result) }
         ensures files { self.new.files ≡ self.old.files }
         ensures grows { OnOk result (ScopesGrow self.old self.new) }
@@ -86,7 +89,10 @@ impl Reader {
             let cause = Cause::DuplicatePool(Name::new(alloc, pool.name)?);
             return Err(file.fault(alloc, pool.name_spot, cause));
         }
-        self.check_depths(alloc, file, &pool.lines)
+        self.check_depths(alloc, file, &pool.lines)?;
+        let depth = self.depth(alloc, file, &pool.lines)?;
+        self.origins.add_pool(file.place(spot), depth)?;
+        Ok(())
     }
 
     // Checks each depth of a pool's block.
@@ -97,9 +103,8 @@ impl Reader {
         lines: &[Line<'_>],
     ) -> Result<(), GraphFault>
         requires { file.scope < length self.now.declarations.scopes }
-        ensures { InFile self.now file.entry (λ main site entries.
-            let expected = depth_fault site.file (site_scope site) entries (lines_text lines.now) in
-            Checks expected result) }
+        ensures { InScope self.now file.entry (λ scope entries.
+            Checks (depth_fault file.entry.name.now scope entries (lines_text lines.now)) result) }
     {
         'lines: for line in lines {
             let depth = self.declarations.expand(alloc, file.scope, &line.value)?;
@@ -108,5 +113,23 @@ impl Reader {
             }
         }
         Ok(())
+    }
+
+    // The depth of a pool: what the last line of its block says.
+    fn depth(
+        &self,
+        alloc: Global,
+        file: OpenFile<'_>,
+        lines: &[Line<'_>],
+    ) -> Result<u64, AllocError>
+        requires { file.scope < length self.now.declarations.scopes }
+        ensures { InScope self.now file.entry (λ scope entries.
+            IfOk result (λ depth. depth ≡ depth_of scope entries (lines_text lines.now))) }
+    {
+        let Some(line) = lines.last() else {
+            return Ok(0);
+        };
+        let depth = self.declarations.expand(alloc, file.scope, &line.value)?;
+        Ok(leading_number(&depth).unwrap_or(0))
     }
 }

@@ -6,6 +6,7 @@ ghost use Rattle.nj_graph.specs.Graph.{main_rules, main_rule_at, rule_name, desc
 ghost use Rattle.std.specs.List.{AllByRecursion};
 ghost use Rattle.nj_graph.specs.Inside.GraphHeld.{HoldsMainRules, IsKnown};
 
+use crate::origins::Origins;
 use nj_scope::{Declarations, LateValue, MAIN_SCOPE, Rule};
 use nj_statements::Built;
 use std::alloc::{AllocError, Global};
@@ -17,6 +18,7 @@ use std::marker::Model;
 pub struct Graph {
     pub(crate) declarations: Declarations,
     pub(crate) built: Built,
+    pub(crate) origins: Origins,
     // The numbers of the rules that are listed.
     pub(crate) main_rules: Vec<usize>,
 }
@@ -27,7 +29,11 @@ impl Model for Graph {
 
     ghost Value = { GraphText };
 
-    ghost view = { λ g. record { declarations = g.declarations; built = g.built } };
+    ghost view = { λ g. record {
+      declarations = g.declarations;
+      built = g.built;
+      origins = g.origins;
+    } };
 
     ghost invariant = { λ g. IsGraph g.declarations g.built g.main_rules.items };
 }
@@ -38,16 +44,22 @@ impl Graph {
         alloc: Global,
         declarations: Declarations,
         built: Built,
+        origins: Origins,
     ) -> Result<Graph, AllocError>
         requires outermost { parent_at declarations.scopes 0 ≡ None }
         requires count { length built.details ≡ length built.graph.edges }
         requires known { AllByRecursion (IsKnown declarations) built.details }
-        ensures { IfOk result (λ g. g ≡ record { declarations = declarations; built = built }) }
+        ensures { IfOk result (λ g. g ≡ record {
+          declarations = declarations;
+          built = built;
+          origins = origins;
+        }) }
     {
         let main_rules = rules_of_main(alloc, declarations.rules())?;
         Ok(Graph {
             declarations,
             built,
+            origins,
             main_rules,
         })
     }

@@ -1,6 +1,6 @@
 //! Joins dyndep files to the graph of a run.
 
-ghost use Rattle.std.specs.Prelude.{◌≡◌, ◌<◌, List, Some, length, slice_get, OnOk};
+ghost use Rattle.std.specs.Prelude.{◌≡◌, ◌<◌, List, Some, length, slice_get, IfOk, OnOk};
 ghost use Rattle.nj_scope.specs.Readings.{EachPathOnce, IsPrefix};
 ghost use Rattle.nj_scope.specs.ReadingList.{ReadStatement};
 ghost use Rattle.nj_statements.specs.EdgeList.{Pending};
@@ -35,19 +35,22 @@ pub fn join_dyndeps<S: FileSource>(
     loaded: Loaded,
     source: &mut S,
 ) -> Result<Loaded, GraphFault>
-    ensures { (stated : List ReadStatement) → IsGraphOf loaded.graph stated
+    ensures joins { (stated : List ReadStatement) → IsGraphOf loaded.graph stated
         → Joins stated loaded.files (S.state source.old) (S.state source.new) result }
+    ensures origins { IfOk result (λ joined. joined.graph.origins ≡ loaded.graph.origins) }
 {
     let Loaded { mut files, graph } = loaded;
     let Graph {
         declarations,
         built,
+        origins,
         main_rules,
     } = graph;
     if !built.has_pending() {
         let graph = Graph {
             declarations,
             built,
+            origins,
             main_rules,
         };
         return Ok(Loaded { files, graph });
@@ -58,6 +61,7 @@ pub fn join_dyndeps<S: FileSource>(
     let graph = Graph {
         declarations,
         built,
+        origins,
         main_rules,
     };
     Ok(Loaded { files, graph })

@@ -11,7 +11,9 @@ mod joining;
 mod late;
 mod laws;
 mod loading;
+mod opened_files;
 mod opening;
+mod origins;
 mod pools;
 mod reader;
 mod response;
@@ -34,4 +36,5 @@ pub use nj_scope::{
     FileSource, FileTable, HashKeys, LateValue, MAIN_SCOPE, MemoryFiles, Rule, SourceFault,
 };
 pub use nj_text::{TextFault, clean_path, quote_into};
+pub use origins::Opening;
 pub use targets::pick_target;

@@ -1,7 +1,8 @@
 //! Loads the files of a run.
 
-ghost use Rattle.std.specs.Prelude.{◌≡◌};
+ghost use Rattle.std.specs.Prelude.{◌≡◌, IfOk};
 ghost use Rattle.nj_graph.specs.Loads.{Loads};
+ghost use Rattle.nj_graph.specs.Origins.{main_of};
 
 use crate::graph::Graph;
 use crate::reader::Reader;
@@ -48,6 +49,13 @@ impl Loaded {
     {
         &self.files
     }
+
+    /// The graph alone, without the files that were read.
+    pub fn into_graph(self) -> Graph
+        ensures { result ≡ self.graph }
+    {
+        self.graph
+    }
 }
 
 /// Reads the main file and all files that it includes ("Ninja file reference" in the Ninja manual).
@@ -60,12 +68,13 @@ impl Loaded {
 /// failed allocation, ends the reading where it happens. Where the source fails at a file, that is
 /// the fault, at the place of the word that names the file; the file is not tried again.
 pub fn load<S: FileSource>(alloc: Global, source: &mut S, main: &str) -> Result<Loaded, GraphFault>
-    ensures { Loads main.now (S.state source.old) (S.state source.new) result }
+    ensures loads { Loads main.now (S.state source.old) (S.state source.new) result }
+    ensures main { IfOk result (λ loaded. main_of loaded.graph.origins ≡ main.now) }
 {
-    let mut reader = Reader::new(alloc, source.hash_keys())?;
+    let mut reader = Reader::new(alloc, source.hash_keys(), main)?;
     reader.read_main(alloc, source, main)?;
     let built = reader.building.finish(alloc)?;
-    let graph = Graph::new(alloc, reader.declarations, built)?;
+    let graph = Graph::new(alloc, reader.declarations, built, reader.origins)?;
     Ok(Loaded {
         files: reader.files,
         graph,

@@ -1,6 +1,6 @@
 //! The statements that name a file, and how it is opened.
 
-ghost use Rattle.std.specs.Prelude.{◌≡◌, ℕ, ◌<◌, List, length, suc, IfOk, OnOk};
+ghost use Rattle.std.specs.Prelude.{◌≡◌, ℕ, ◌<◌, List, length, IfOk, OnOk};
 ghost use Rattle.nj_text.specs.declared.spot.Spot.{Spot};
 ghost use Rattle.nj_text.specs.Words.{WordText, word_text};
 ghost use Rattle.nj_scope.specs.Declarations.{DeclaredBy};
@@ -28,20 +28,21 @@ pub(crate) enum Naming {
 }
 
 impl Reader {
-    /// Opens the file that the word of a statement names.
+    /// Opens the file that the word of a statement names; the statement is at this place.
     pub(crate) fn open_named<S: FileSource>(
         &mut self,
         alloc: Global,
         source: &mut S,
         file: OpenFile<'_>,
+        spot: Spot,
         naming: Naming,
         word: &Word<'_>,
     ) -> Result<Opened, GraphFault>
         requires { file.scope < length self.old.declarations.scopes }
-        ensures opens { (start : Spot) → InFile self.old file.entry (λ main site entries.
+        ensures opens { InFile self.old file.entry (λ main site entries.
             let item = named_item naming (word_text word.now) in
             OpensOrStops main (S.state source.old) (S.state source.new) self.old self.new
-            file.entry.left (entry_at site (record { spot = start; item = item })) entries result) }
+            file.entry.left (entry_at site (record { spot = spot; item = item })) entries result) }
         ensures left { OnOk result (0 < file.entry.left) }
         ensures there { IfOk result (λ o. o.scope < length self.new.declarations.scopes) }
         ensures grows { OnOk result (ScopesGrow self.old self.new) }
@@ -49,6 +50,7 @@ impl Reader {
         let path = self.path(alloc, file, word)?;
         let text = self.open_file(alloc, source, file, word.spot, &path)?;
         let scope = self.scope_for(file, naming)?;
+        self.origins.add_opening(file.place(spot), &path, scope)?;
         Ok(Opened { path, scope, text })
     }
 
@@ -84,17 +86,15 @@ impl Reader {
         ensures left { OnOk result (0 < file.entry.left) }
         ensures declarations { self.new.declarations ≡ self.old.declarations }
         ensures building { self.new.building ≡ self.old.building }
-        ensures opened { OnOk result (self.new.opened ≡ suc self.old.opened) }
+        ensures origins { self.new.origins ≡ self.old.origins }
     {
         if file.left == 0 {
             return Err(file.fault(alloc, spot, Cause::TooDeep));
         }
-        if self.opened >= MOST_OPENED {
+        if self.origins.opening_count() >= MOST_OPENED {
             return Err(file.fault(alloc, spot, Cause::TooManyOpenings));
         }
-        let text = text_at(alloc, source, &mut self.files, file.place(spot), path)?;
-        self.opened += 1;
-        Ok(text)
+        text_at(alloc, source, &mut self.files, file.place(spot), path)
     }
 
     // The number of the scope in which the statements of a named file stand.
@@ -110,7 +110,7 @@ impl Reader {
         ensures grows { OnOk result (ScopesGrow self.old self.new) }
         ensures building { self.new.building ≡ self.old.building }
         ensures files { self.new.files ≡ self.old.files }
-        ensures opened { self.new.opened ≡ self.old.opened }
+        ensures origins { self.new.origins ≡ self.old.origins }
     {
         match naming {
             Naming::Include => Ok(file.scope),

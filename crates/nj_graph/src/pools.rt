@@ -1,10 +1,12 @@
-//! The pools that were declared.
+//! The pools that were declared, with their places and depths.
 
-ghost use Rattle.std.specs.Prelude.{◌≡◌, List, length, slice_get, option_copied};
+ghost use Rattle.std.specs.Prelude.{◌≡◌, List, length, slice_get, option_copied, option_map};
 ghost use Rattle.nj_scope.specs.ReadingList.{ReadStatement, pools};
+ghost use Rattle.nj_graph.specs.Origins.{place_text, pool_details};
 ghost use Rattle.nj_graph.specs.Graph.{IsGraphOf};
 
 use crate::graph::Graph;
+use nj_faults::PlaceRef;
 
 impl Graph {
     /// How many pools were declared ("Pools" in the Ninja manual). `console`, which is always there
@@ -25,5 +27,30 @@ impl Graph {
             → option_copied result ≡ slice_get (pools entries) index }
     {
         self.declarations.pool_name(index)
+    }
+
+    /// The place of the `pool` statement that declares the pool at this index, as for `pool_name`:
+    /// its file, by the name under which it was opened, and its first byte there. `None` past the
+    /// last pool.
+    pub fn pool_place(&self, index: usize) -> Option<PlaceRef<'_>>
+        ensures held { option_map place_text result
+            ≡ option_map (λ p. p.place) (slice_get self.now.origins.pools index) }
+        ensures stated { (entries : List ReadStatement) → IsGraphOf self.now entries
+            → option_map place_text result
+            ≡ option_map (λ p. p.place) (slice_get (pool_details entries) index) }
+    {
+        self.origins.pool_place(index)
+    }
+
+    /// The depth of the pool at this index, as for `pool_name`: how many commands of its edges may
+    /// run at once, by the last `depth` line of its block ("Pools" in the Ninja manual). It is at
+    /// most 2147483647, since a greater one is a fault when it is read; 0 is no limit. `None` past
+    /// the last pool.
+    pub fn pool_depth(&self, index: usize) -> Option<u64>
+        ensures held { result ≡ option_map (λ p. p.depth) (slice_get self.now.origins.pools index) }
+        ensures stated { (entries : List ReadStatement) → IsGraphOf self.now entries
+            → result ≡ option_map (λ p. p.depth) (slice_get (pool_details entries) index) }
+    {
+        self.origins.pool_depth(index)
     }
 }

@@ -8,6 +8,7 @@ ghost use Rattle.nj_graph.specs.Reading.{entry_at, opened_in, text_read, stateme
 ghost use Rattle.nj_graph.specs.Inside.ReaderContracts.{IsNew, InFile, ScopesGrow, ReadsItem, ReadsOrStops, NextIs};
 
 use crate::opening::{Naming, text_at};
+use crate::origins::Origins;
 use nj_faults::{Cause, GraphFault, PlaceRef};
 use nj_manifest::{Parser, Placed, Spot, Statement};
 use nj_scope::{Declarations, FileSource, FileTable, HashKeys};
@@ -62,20 +63,19 @@ pub(crate) struct Reader {
     pub(crate) declarations: Declarations,
     pub(crate) building: Building,
     pub(crate) files: FileTable,
-    // How many files were opened.
-    pub(crate) opened: usize,
+    pub(crate) origins: Origins,
 }
 
 impl Reader {
-    /// Nothing is read yet. Names and paths are hashed by these keys.
-    pub(crate) fn new(alloc: Global, keys: HashKeys) -> Result<Reader, AllocError>
-        ensures { IfOk result (λ r. IsNew r) }
+    /// Nothing is read yet of the main file. Names and paths are hashed by these keys.
+    pub(crate) fn new(alloc: Global, keys: HashKeys, main: &str) -> Result<Reader, AllocError>
+        ensures { IfOk result (λ r. IsNew main.now r) }
     {
         Ok(Reader {
             declarations: Declarations::new(alloc, keys)?,
             building: Building::new(alloc, keys),
             files: FileTable::new(alloc, keys),
-            opened: 1,
+            origins: Origins::new(alloc, keys, main)?,
         })
     }
 
@@ -86,7 +86,7 @@ impl Reader {
         source: &mut S,
         main: &str,
     ) -> Result<(), GraphFault>
-        requires { IsNew self.old }
+        requires { IsNew main.now self.old }
         ensures reads { ReadsOrStops main.now (S.state source.old) (S.state source.new)
             self.old self.new (λ files. main_read files main.now) result }
         ensures outermost { OnOk result (parent_at self.new.declarations.scopes 0 ≡ None) }
@@ -179,11 +179,11 @@ impl Reader {
                 Ok(None)
             }
             Statement::Rule(rule) => {
-                self.declare_rule(alloc, file, rule)?;
+                self.declare_rule(alloc, file, statement.spot, rule)?;
                 Ok(None)
             }
             Statement::Pool(pool) => {
-                self.declare_pool(alloc, file, pool)?;
+                self.declare_pool(alloc, file, statement.spot, pool)?;
                 Ok(None)
             }
             Statement::Build(build) => {
@@ -195,11 +195,13 @@ impl Reader {
                 Ok(None)
             }
             Statement::Include { word } => {
-                let named = self.open_named(alloc, source, file, Naming::Include, word)?;
+                let spot = statement.spot;
+                let named = self.open_named(alloc, source, file, spot, Naming::Include, word)?;
                 Ok(Some(named))
             }
             Statement::Subninja { word } => {
-                let named = self.open_named(alloc, source, file, Naming::Subninja, word)?;
+                let spot = statement.spot;
+                let named = self.open_named(alloc, source, file, spot, Naming::Subninja, word)?;
                 Ok(Some(named))
             }
         }

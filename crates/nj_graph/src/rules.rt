@@ -1,12 +1,14 @@
-//! The rules of all scopes, and those of edges.
+//! The rules of all scopes with their places, and those of edges.
 
-ghost use Rattle.std.specs.Prelude.{◌≡◌, ◌<◌, List, length};
+ghost use Rattle.std.specs.Prelude.{◌≡◌, ◌<◌, List, length, option_map};
 ghost use Rattle.nj_scope.specs.ReadingList.{ReadStatement, rule_texts};
 ghost use Rattle.nj_statements.specs.Built.{detail_at};
+ghost use Rattle.nj_graph.specs.Origins.{place_text, rule_place_at, rule_places};
 ghost use Rattle.nj_graph.specs.Graph.{edges_of, IsGraphOf, rule_number_at};
 
 use crate::graph::Graph;
 use nj_edges::EdgeNo;
+use nj_faults::PlaceRef;
 use nj_scope::Rule;
 
 impl Graph {
@@ -20,6 +22,17 @@ impl Graph {
             → result.now ≡ rule_texts entries }
     {
         self.declarations.rules()
+    }
+
+    /// The place of the `rule` statement that declares the rule of this number, as in `rules`: its
+    /// file, by the name under which it was opened, and its first byte there. `None` for `phony`,
+    /// which no statement declares, and past the last rule.
+    pub fn rule_place(&self, rule: usize) -> Option<PlaceRef<'_>>
+        ensures held { option_map place_text result ≡ rule_place_at self.now.origins.rules rule }
+        ensures stated { (entries : List ReadStatement) → IsGraphOf self.now entries
+            → option_map place_text result ≡ rule_place_at (rule_places entries) rule }
+    {
+        self.origins.rule_place(rule)
     }
 
     /// The number of the rule of an edge, by which it is found in `rules`: of the rule that was in

@@ -3,7 +3,7 @@
 ghost use Rattle.std.specs.Prelude.{◌<◌, length, All};
 ghost use Rattle.nj_graph.specs.Graph.{edges_of, files_of};
 
-use nj_graph::{EdgeNo, FileNo, Graph, Kind, pick_target};
+use nj_graph::{EdgeNo, FileNo, Graph, Kind, PlaceRef, pick_target};
 use std::alloc::{AllocError, Global};
 
 /// Appends what a row of this kind asks a graph for.
@@ -24,6 +24,8 @@ pub fn put_of_graph(
         "with-response-files" => put_with_response_files(alloc, text, graph),
         "rules" => put_rules(alloc, text, graph),
         "assigned" => put_assigned(text, graph),
+        "declared" => put_declared(alloc, text, graph),
+        "openings" => put_openings(alloc, text, graph),
         _ => text.extend_from_slice(b"no row is of this kind\n"),
     }
 }
@@ -91,13 +93,24 @@ fn put_edges(alloc: Global, text: &mut Vec<u8>, graph: &Graph) -> Result<(), All
     Ok(())
 }
 
+/// Appends a place and a line end; `-` is there for none.
+fn put_place(
+    alloc: Global,
+    text: &mut Vec<u8>,
+    place: Option<PlaceRef<'_>>,
+) -> Result<(), AllocError> {
+    let Some(place) = place else {
+        return text.extend_from_slice(b"-\n");
+    };
+    text.extend_from_slice(place.file)?;
+    let at = format!(in alloc; ":{}:{}\n", place.spot.line, place.spot.column)?;
+    text.extend_from_slice(at.as_bytes())
+}
+
 /// Appends the places of the edges, a line each.
 fn put_places(alloc: Global, text: &mut Vec<u8>, graph: &Graph) -> Result<(), AllocError> {
     'edges: for number in 0..graph.edge_count() {
-        let place = graph.edge_place(EdgeNo(number));
-        text.extend_from_slice(place.file)?;
-        let at = format!(in alloc; ":{}:{}\n", place.spot.line, place.spot.column)?;
-        text.extend_from_slice(at.as_bytes())?;
+        put_place(alloc, text, Some(graph.edge_place(EdgeNo(number))))?;
     }
     Ok(())
 }
@@ -195,6 +208,41 @@ fn put_assigned(text: &mut Vec<u8>, graph: &Graph) -> Result<(), AllocError> {
         text.push(b' ')?;
         text.extend_from_slice(graph.dyndep(edge).unwrap_or(b"-".as_slice()))?;
         text.push(b'\n')?;
+    }
+    Ok(())
+}
+
+/// Appends the rules with their places, a line each, and then the pools.
+fn put_declared(alloc: Global, text: &mut Vec<u8>, graph: &Graph) -> Result<(), AllocError> {
+    'rules: for (number, rule) in graph.rules().iter().enumerate() {
+        text.extend_from_slice(rule.name())?;
+        text.push(b' ')?;
+        put_place(alloc, text, graph.rule_place(number))?;
+    }
+    put_pools(alloc, text, graph)
+}
+
+/// Appends the pools with their depths and places, a line each.
+fn put_pools(alloc: Global, text: &mut Vec<u8>, graph: &Graph) -> Result<(), AllocError> {
+    'pools: for index in 0..graph.pool_count() {
+        text.extend_from_slice(graph.pool_name(index).unwrap_or(b"-".as_slice()))?;
+        let depth = graph.pool_depth(index).unwrap_or(0);
+        text.extend_from_slice(format!(in alloc; " of {depth} ")?.as_bytes())?;
+        put_place(alloc, text, graph.pool_place(index))?;
+    }
+    Ok(())
+}
+
+/// Appends the files that were opened, a line each: their paths, the numbers of their scopes, and
+/// the places of the statements that name them.
+fn put_openings(alloc: Global, text: &mut Vec<u8>, graph: &Graph) -> Result<(), AllocError> {
+    'openings: for index in 0..graph.opening_count() {
+        if let Some(opening) = graph.opening(index) {
+            text.extend_from_slice(opening.path)?;
+            let scope = opening.scope;
+            text.extend_from_slice(format!(in alloc; " in {scope} ")?.as_bytes())?;
+            put_place(alloc, text, opening.named_at)?;
+        }
     }
     Ok(())
 }

@@ -18,7 +18,7 @@ use Rattle.nj_scope.specs.Sources.{SourceState}
 use Rattle.nj_scope.specs.Opening as table
 use Rattle.nj_scope.specs.Scopes.{ScopeText, parent_at}
 use Rattle.nj_scope.specs.Declarations.{DeclaredBy}
-use Rattle.nj_scope.specs.ReadingList.{ReadStatement, scope_of, scopes_opened, files_opened}
+use Rattle.nj_scope.specs.ReadingList.{ReadStatement, scope_of, scopes_opened}
 use Rattle.nj_faults.specs.declared.fault.Place.{Place}
 use Rattle.nj_faults.specs.declared.fault.GraphFault.{GraphFault}
 use Rattle.nj_faults.specs.declared.fault.Cause.TheVariants.{Missing, Io}
@@ -31,6 +31,7 @@ use Rattle.nj_faults.specs.Faults.{IsFault, fault_in, no_memory}
 use Rattle.nj_statements.specs.Answers.{HoldsEdges}
 pub use Rattle.nj_statements.specs.Answers.{Checks}
 use Rattle.nj_graph.specs.Graph.{IsOpenScope}
+use Rattle.nj_graph.specs.Origins.{origins_read}
 use Rattle.nj_graph.specs.Reading.{Site, opened_site, own_fault, Whole, ReadingText, Opens, opened_in, statement_read}
 use Rattle.nj_graph.specs.Reading.{text_read, path_named, with_new, paths_read}
 use Rattle.nj_graph.specs.Runs.{IsRead, Stops}
@@ -41,20 +42,20 @@ site_scope site = site.number ∷ site.around
 
 -- ---- what is held
 
--- nothing was read
-pub record IsNew (held : Reader) : Type 0 where
+-- nothing was read of the main file
+pub record IsNew (main : List ℕ) (held : Reader) : Type 0 where
   pub declares : DeclaredBy held.declarations []
   pub outermost : parent_at held.declarations.scopes 0 ≡ None
   pub edges : HoldsEdges held.building []
   pub files : held.files ≡ []
-  pub opened : held.opened ≡ 1
+  pub origins : held.origins ≡ origins_read main []
 
 -- It holds what these statements say, of which the last read stands first.
 pub record Holds (main : List ℕ) (held : Reader) (entries : List ReadStatement) : Type 0 where
   pub declares : DeclaredBy held.declarations entries
   pub edges : HoldsEdges held.building entries
   pub scopes : AllByRecursion (λ e. IsOpenScope held.declarations.scopes e.number e.around) entries
-  pub opened : held.opened ≡ files_opened entries
+  pub origins : held.origins ≡ origins_read main entries
   pub paths_are : paths_of held.files ≡ paths_read main entries
   pub once : EachPathOnce held.files
 
@@ -78,6 +79,12 @@ abbrev pub InFile : Reader → OpenFile → ((main : List ℕ) → Site → List
 InFile held file P =
     (main : List ℕ) (entries : List ReadStatement) (around : List ℕ) (depth : ℕ) → Holds main held entries → IsOpenIn held file around
     → P main (site_of file around depth) entries
+
+-- The property holds of the scope of the file and of the statements that are declared, whichever they are.
+abbrev pub InScope : Reader → OpenFile → ((scope : List ℕ) → List ReadStatement → Type 0) → Type 0
+InScope held file P =
+    (entries : List ReadStatement) (around : List ℕ) → DeclaredBy held.declarations entries → IsOpenIn held file around
+    → P (file.scope ∷ around) entries
 
 -- ---- a statement that names no file
 

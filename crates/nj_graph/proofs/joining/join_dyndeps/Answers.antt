@@ -7,28 +7,28 @@ use Rattle.nj_manifest.proofs.Handed.{handed, handed-as}
 use Rattle.nj_graph.proofs.JoiningGraphs.{joins-nothing, joins-memory, joins-stop, none-pending-then, joins-fault, joined-graph, joins-graph, joined-held}
 use Rattle.nj_graph.proofs.joining.join_dyndeps.Goals as goal
 
-pub returns-then-not-has_pending : goal.returns-then-not-has_pending
-returns-then-not-has_pending g c = λ stated is.
+pub returns-then-not-has_pending-clause-joins : goal.returns-then-not-has_pending-clause-joins
+returns-then-not-has_pending-clause-joins g c = λ stated is.
     let told = g.S.FileSource.state c.args.source.now in
-    let graph : GraphText = record { declarations = c.graph.inside.declarations; built = c.graph.inside.built } in
+    let graph : GraphText = record { declarations = c.graph.inside.declarations; built = c.graph.inside.built; origins = c.graph.inside.origins } in
     let at : c.args.loaded.graph ≡ graph = ap (λ l. l.graph) (sym c.loaded.view_is) ∙ sym c.graph.view_is in
     let files : c.loaded.inside.files ≡ c.args.loaded.files = ap (λ l. l.files) c.loaded.view_is in
     subst (λ fs. Joins stated fs told told (Ok (record { files = c.loaded.inside.files; graph = graph }))) files
     (joins-nothing stated told c.loaded.inside.files c.loaded.invariant.0 (record { files = c.loaded.inside.files; graph = graph }) graph refl (subst (λ x. IsGraphOf x stated) at is)
     (sym c.has_pending.ensures ∙ c.if-not-has_pending.true))
 
-pub returns-in_err-joining : goal.returns-in_err-joining
-returns-in_err-joining g c = λ stated is.
+pub returns-in_err-joining-clause-joins : goal.returns-in_err-joining-clause-joins
+returns-in_err-joining-clause-joins g c = λ stated is.
     let told = g.S.FileSource.state c.args.source.now in
     let files : c.loaded.inside.files ≡ c.args.loaded.files = ap (λ l. l.files) c.loaded.view_is in
     let fault = handed-as (λ e. e ≡ no_memory) c.from_residual.result c.from_residual.ensures in
     rw fault.1 (subst (λ fs. Joins stated fs told told (Err fault.0)) files (joins-memory stated told c.loaded.inside.files c.loaded.invariant.0 fault.0 fault.2))
 
-pub returns-in_err-join_files : goal.returns-in_err-join_files
-returns-in_err-join_files g c = λ stated is.
+pub returns-in_err-join_files-clause-joins : goal.returns-in_err-join_files-clause-joins
+returns-in_err-join_files-clause-joins g c = λ stated is.
     let before = g.S.FileSource.state c.args.source.now in
     let after = g.S.FileSource.state c.join_files.new.source in
-    let graph : GraphText = record { declarations = c.graph.inside.declarations; built = c.graph.inside.built } in
+    let graph : GraphText = record { declarations = c.graph.inside.declarations; built = c.graph.inside.built; origins = c.graph.inside.origins } in
     let at : c.args.loaded.graph ≡ graph = ap (λ l. l.graph) (sym c.loaded.view_is) ∙ sym c.graph.view_is in
     let files : c.loaded.inside.files ≡ c.args.loaded.files = ap (λ l. l.files) c.loaded.view_is in
     let fault = c.in_err-join_files.field-0.0 in
@@ -42,11 +42,11 @@ finish-requires g c =
     let is = subst (λ x. IsGraphOf x entries) (sym c.graph.view_is) c.loaded.invariant.1.1 in
     (c.in_ok-join_files.ensures.joins entries (c.in_ok-joining.ensures entries is.built)).holds.none_open
 
-pub returns-in_err-built : goal.returns-in_err-built
-returns-in_err-built g c = λ stated is.
+pub returns-in_err-built-clause-joins : goal.returns-in_err-built-clause-joins
+returns-in_err-built-clause-joins g c = λ stated is.
     let before = g.S.FileSource.state c.args.source.now in
     let after = g.S.FileSource.state c.join_files.new.source in
-    let graph : GraphText = record { declarations = c.graph.inside.declarations; built = c.graph.inside.built } in
+    let graph : GraphText = record { declarations = c.graph.inside.declarations; built = c.graph.inside.built; origins = c.graph.inside.origins } in
     let at : c.args.loaded.graph ≡ graph = ap (λ l. l.graph) (sym c.loaded.view_is) ∙ sym c.graph.view_is in
     let files : c.loaded.inside.files ≡ c.args.loaded.files = ap (λ l. l.files) c.loaded.view_is in
     let fault = c.in_err-built.field-0.0 in
@@ -62,7 +62,7 @@ pub invariant_of-graph-2 : goal.invariant_of-graph-2
 invariant_of-graph-2 g c =
     let before = g.S.FileSource.state c.args.source.now in
     let after = g.S.FileSource.state c.join_files.new.source in
-    let graph : GraphText = record { declarations = c.graph.inside.declarations; built = c.graph.inside.built } in
+    let graph : GraphText = record { declarations = c.graph.inside.declarations; built = c.graph.inside.built; origins = c.graph.inside.origins } in
     let stated = c.loaded.invariant.1.0 in
     let is = subst (λ x. IsGraphOf x stated) (sym c.graph.view_is) c.loaded.invariant.1.1 in
     let f = c.in_ok-join_files.ensures.joins stated (c.in_ok-joining.ensures stated is.built) in
@@ -75,7 +75,7 @@ pub invariant_of-result-2 : goal.invariant_of-result-2
 invariant_of-result-2 g c =
     let before = g.S.FileSource.state c.args.source.now in
     let after = g.S.FileSource.state c.join_files.new.source in
-    let graph : GraphText = record { declarations = c.graph.inside.declarations; built = c.graph.inside.built } in
+    let graph : GraphText = record { declarations = c.graph.inside.declarations; built = c.graph.inside.built; origins = c.graph.inside.origins } in
     let stated = c.loaded.invariant.1.0 in
     let is = subst (λ x. IsGraphOf x stated) (sym c.graph.view_is) c.loaded.invariant.1.1 in
     let f = c.in_ok-join_files.ensures.joins stated (c.in_ok-joining.ensures stated is.built) in
@@ -84,11 +84,11 @@ invariant_of-result-2 g c =
     let held = c.join_files.new.joining in
     (subst EachPathOnce (sym f.reads.held_is) f.reads.reads.once, (f.now, joined-graph stated before after old table held f graph is c.in_ok-built.built (c.in_ok-built.ensures stated f.now f.holds (none-pending-then stated before after old table held f))))
 
-pub returns : goal.returns
-returns g c = λ stated is.
+pub returns-clause-joins : goal.returns-clause-joins
+returns-clause-joins g c = λ stated is.
     let before = g.S.FileSource.state c.args.source.now in
     let after = g.S.FileSource.state c.join_files.new.source in
-    let graph : GraphText = record { declarations = c.graph.inside.declarations; built = c.graph.inside.built } in
+    let graph : GraphText = record { declarations = c.graph.inside.declarations; built = c.graph.inside.built; origins = c.graph.inside.origins } in
     let at : c.args.loaded.graph ≡ graph = ap (λ l. l.graph) (sym c.loaded.view_is) ∙ sym c.graph.view_is in
     let files : c.loaded.inside.files ≡ c.args.loaded.files = ap (λ l. l.files) c.loaded.view_is in
     let here = subst (λ x. IsGraphOf x stated) at is in
@@ -97,6 +97,6 @@ returns g c = λ stated is.
     let table = c.join_files.new.files in
     let held = c.join_files.new.joining in
     let built = c.in_ok-built.built in
-    subst (λ fs. Joins stated fs before after (Ok (record { files = table; graph = record { declarations = c.graph.inside.declarations; built = built } }))) files
+    subst (λ fs. Joins stated fs before after (Ok (record { files = table; graph = record { declarations = c.graph.inside.declarations; built = built; origins = c.graph.inside.origins } }))) files
     (joins-graph stated before after old table held f graph here built (c.in_ok-built.ensures stated f.now f.holds (none-pending-then stated before after old table held f))
-    (record { files = table; graph = record { declarations = c.graph.inside.declarations; built = built } }) refl)
+    (record { files = table; graph = record { declarations = c.graph.inside.declarations; built = built; origins = c.graph.inside.origins } }) refl)

@@ -14,12 +14,12 @@ use Rattle.nj_graph.proofs.reader.Reader.bind.Goals.{then-eq+in_ok-version+else-
 pub returns-clause-declares : goal.returns-clause-declares
 returns-clause-declares c = λ main entries around depth holds inside.
     let e : ReadStatement = entry_at (site_of c.args.file around depth) (record { spot = c.args.spot; item = BindingText c.args.name.now (word_text c.args.value.now) }) in
-    let held : Reader = record { declarations = c.bind.new.self; building = c.args.self.now.building; files = c.args.self.now.files; opened = c.args.self.now.opened } in
+    let held : Reader = record { declarations = c.bind.new.self; building = c.args.self.now.building; files = c.args.self.now.files; origins = c.args.self.now.origins } in
     let takes = c.in_ok-bind.ensures.bound around inside.within entries c.args.file.name.now c.args.spot depth holds.declares in (
       elim c.if-eq.branch [
         | then-eq+in_ok-version+else-is_newer w ↦
             version-accepted _ _ _ (sym (w.is_newer.ensures ∙ ap is_newer (w.deref.ensures.value ∙ w.in_ok-version.ensures entries around holds.declares inside.within)) ∙ w.if-is_newer.false)
         | else-eq w ↦ name-is-other _ _ _ (ap (bytes_eq c.args.name.now) (sym c.as_slice.ensures) ∙ sym w.if-eq.ensures)
       ],
-      holds-next main c.args.self.now held entries e holds takes refl refl refl refl (holds-other c.args.self.now.building e entries refl holds.edges) (same-grows c.args.self.now.declarations held.declarations c.in_ok-bind.ensures.scopes) inside,
+      holds-next main c.args.self.now held entries e holds takes refl refl refl (holds-other c.args.self.now.building e entries refl holds.edges) (same-grows c.args.self.now.declarations held.declarations c.in_ok-bind.ensures.scopes) inside,
     )

@@ -1,11 +1,12 @@
 use Rattle.std.proofs.Common.{◌≡◌, ℕ, List, ◌∷◌, drop}
 use Rattle.nj_manifest.specs.Contents.{lines_text}
+use Rattle.nj_scope.specs.Declarations.{DeclaredBy}
 use Rattle.nj_scope.specs.ReadingList.{ReadStatement}
 use Rattle.nj_graph.specs.Reading.{depth_fault}
-use Rattle.nj_graph.specs.Inside.ReaderContracts.{Holds, IsOpenIn}
+use Rattle.nj_graph.specs.Inside.ReaderContracts.{IsOpenIn}
 use Rattle.nj_graph.proofs.reader.Reader.check_depths.Given as goal
 
 abbrev pub invariant-lines : goal.invariant-lines
 invariant-lines l =
-    (main : List ℕ) (entries : List ReadStatement) (around : List ℕ) (depth : ℕ) → Holds main l.self entries → IsOpenIn l.self l.file around
+    (entries : List ReadStatement) (around : List ℕ) → DeclaredBy l.self.declarations entries → IsOpenIn l.self l.file around
     → depth_fault l.file.name.now (l.file.scope ∷ around) entries (lines_text l.lines) ≡ depth_fault l.file.name.now (l.file.scope ∷ around) entries (lines_text (drop l.line-index l.lines))

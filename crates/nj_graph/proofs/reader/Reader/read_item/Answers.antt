@@ -27,7 +27,7 @@ returns-in_err-declare_rule-in-Rule-clause-reads g c = λ main entries around de
     let source = g.S.FileSource.state c.args.source.now in
     let fault = c.in_err-declare_rule-in-Rule.field-0.0 in
     rw (handed fault c.from_residual-in_err-declare_rule-in-Rule.result c.from_residual-in_err-declare_rule-in-Rule.ensures)
-    (stops-item main source source c.args.self.now entries holds refl c.args.file.left (site_of c.args.file around depth) c.args.statement.now.spot _ (rule_text c.in-Rule.rule) fault (ap statement_text c.in-Rule.is) (c.in_err-declare_rule-in-Rule.ensures.declares start main entries around depth holds inside))
+    (stops-item main source source c.args.self.now entries holds refl c.args.file.left (site_of c.args.file around depth) c.args.statement.now.spot _ (rule_text c.in-Rule.rule) fault (ap statement_text c.in-Rule.is) (c.in_err-declare_rule-in-Rule.ensures.declares main entries around depth holds inside))
 
 pub returns-in_err-declare_pool-in-Pool-clause-reads : goal.returns-in_err-declare_pool-in-Pool-clause-reads
 returns-in_err-declare_pool-in-Pool-clause-reads g c = λ main entries around depth holds inside.
@@ -37,14 +37,14 @@ returns-in_err-declare_pool-in-Pool-clause-reads g c = λ main entries around de
     let fault = c.in_err-declare_pool-in-Pool.field-0.0 in
     rw (handed fault c.from_residual-in_err-declare_pool-in-Pool.result c.from_residual-in_err-declare_pool-in-Pool.ensures)
     (stops-item main source source c.args.self.now entries holds refl c.args.file.left (site_of c.args.file around depth) c.args.statement.now.spot _ (pool_text c.in-Pool.pool) fault (ap statement_text c.in-Pool.is)
-    (c.in_err-declare_pool-in-Pool.ensures.declares start main entries around depth holds inside))
+    (c.in_err-declare_pool-in-Pool.ensures.declares main entries around depth holds inside))
 
 pub returns-in_ok-declare_rule-in-Rule-clause-reads : goal.returns-in_ok-declare_rule-in-Rule-clause-reads
 returns-in_ok-declare_rule-in-Rule-clause-reads g c = λ main entries around depth holds inside.
     let start = c.args.statement.now.spot in
     let e : ReadStatement = entry_at (site_of c.args.file around depth) (record { spot = start; item = rule_text c.in-Rule.rule }) in
     let source = g.S.FileSource.state c.args.source.now in
-    let declares = c.in_ok-declare_rule-in-Rule.ensures.declares start main entries around depth holds inside in
+    let declares = c.in_ok-declare_rule-in-Rule.ensures.declares main entries around depth holds inside in
     rw (ap statement_text c.in-Rule.is)
     (reads-one main source c.args.self.now c.declare_rule.new.self e entries
     holds declares.1 declares.0 c.in_ok-declare_rule-in-Rule.ensures.files (λ opens. refl))
@@ -86,11 +86,11 @@ returns-in_ok-add_defaults-in-Default-clause-reads g c = λ main entries around 
 
 pub returns-in_ok-named-in-Include-clause-reads : goal.returns-in_ok-named-in-Include-clause-reads
 returns-in_ok-named-in-Include-clause-reads g c = λ main entries around depth holds inside.
-    rw (ap statement_text c.in-Include.is) (c.in_ok-named-in-Include.ensures.opens c.args.statement.now.spot main entries around depth holds inside)
+    rw (ap statement_text c.in-Include.is) (c.in_ok-named-in-Include.ensures.opens main entries around depth holds inside)
 
 pub returns-in_ok-named-in-Subninja-clause-reads : goal.returns-in_ok-named-in-Subninja-clause-reads
 returns-in_ok-named-in-Subninja-clause-reads g c = λ main entries around depth holds inside.
-    rw (ap statement_text c.in-Subninja.is) (c.in_ok-named-in-Subninja.ensures.opens c.args.statement.now.spot main entries around depth holds inside)
+    rw (ap statement_text c.in-Subninja.is) (c.in_ok-named-in-Subninja.ensures.opens main entries around depth holds inside)
 
 pub returns-in_ok-bind-in-Binding-clause-reads : goal.returns-in_ok-bind-in-Binding-clause-reads
 returns-in_ok-bind-in-Binding-clause-reads g c = λ main entries around depth holds inside.
@@ -104,6 +104,6 @@ pub returns-in_ok-declare_pool-in-Pool-clause-reads : goal.returns-in_ok-declare
 returns-in_ok-declare_pool-in-Pool-clause-reads g c = λ main entries around depth holds inside.
     let start = c.args.statement.now.spot in
     let e : ReadStatement = entry_at (site_of c.args.file around depth) (record { spot = start; item = pool_text c.in-Pool.pool }) in
-    let declares = c.in_ok-declare_pool-in-Pool.ensures.declares start main entries around depth holds inside in
+    let declares = c.in_ok-declare_pool-in-Pool.ensures.declares main entries around depth holds inside in
     rw (ap statement_text c.in-Pool.is)
     (reads-one main (g.S.FileSource.state c.args.source.now) c.args.self.now c.declare_pool.new.self e entries holds declares.1 declares.0 c.in_ok-declare_pool-in-Pool.ensures.files (λ opens. refl))

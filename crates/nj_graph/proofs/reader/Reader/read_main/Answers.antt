@@ -26,10 +26,10 @@ returns-clause-reads g c =
     let before = g.S.FileSource.state c.args.source.now in
     let mid = g.S.FileSource.state c.text_at.new.source in
     let after = g.S.FileSource.state c.read_text.new.source in
-    let opened : Reader = record { declarations = c.args.self.now.declarations; building = c.args.self.now.building; files = c.text_at.new.files; opened = c.args.self.now.opened } in
+    let opened : Reader = record { declarations = c.args.self.now.declarations; building = c.args.self.now.building; files = c.text_at.new.files; origins = c.args.self.now.origins } in
     let found = found-text before mid c.args.self.now.files c.text_at.new.files main (subst EachPathOnce (sym c.requires.files) tt) (main_place main) c.in_ok-text.text c.in_ok-text.ensures in
     let text = rc_slice_items c.in_ok-text.text in
     let holds = main-holds main before mid after c.args.self.now opened c.read_text.new.self text c.requires found refl refl refl in
-    let nested = c.read_text.ensures.reads main [] [] 0 holds (main-stands c.args.self.now c.requires) in
+    let nested = c.read_text.ensures.reads main [] [] 0 holds (main-stands main c.args.self.now c.requires) in
     main-reads main before mid after c.args.self.now opened c.read_text.new.self text c.requires found c.read_text.result
     (subst (λ t. ReadsOrStops main mid after opened c.read_text.new.self (λ all. text_read (opened_in all most_within) (main_site main) t []) c.read_text.result) c.as_slice.ensures.value nested)

@@ -1,0 +1,215 @@
+-- Where rules, pools and files come from: how that is held, and what of it the statements say.
+use Rattle.std.proofs.Common.{◌≡◌, ℕ, ◌+◌, ◌-◌, ◌<◌, ◌&&◌, ◌==◌, Bool, true, false, if◌then◌else◌, Option, Some, None, option_map, option_and_then, unwrap_or, IfSome, List, [], ◌∷◌, ◌++◌, length, map, slice_get, refl, sym, ap, ◌∙◌, arith, add-zero, length-append}
+use Rattle.std.specs.List.{AllByRecursion}
+use Rattle.std.proofs.lemmas.List.{map-append}
+use Rattle.std.proofs.lemmas.Option.{slice_get-get_or}
+use Rattle.nj_text.specs.Numbers.{leading_number_of}
+use Rattle.nj_manifest.specs.Statements.{LineText, StatementText, BindingText, RuleText, PoolText, BuildText, DefaultText, IncludeText, SubninjaText}
+use Rattle.nj_scope.specs.Readings.{IsPrefix}
+use Rattle.nj_scope.specs.Scopes.{expanded}
+use Rattle.nj_scope.specs.ReadingList.{Discovered, ReadStatement, scope_of, value_after, scopes_opened, files_opened, opens_file}
+use Rattle.nj_edges.specs.declared.files.FileNo.{FileNo}
+use Rattle.nj_edges.specs.Files.{path_at}
+use Rattle.nj_faults.specs.declared.fault.Place.{Place}
+use Rattle.nj_statements.specs.EdgeList.{edges_read}
+use Rattle.nj_statements.specs.Joining.{is_build, discover}
+use Rattle.nj_statements.proofs.DiscoverLemmas.{value_after-discover, scopes_opened-discover}
+use Rattle.nj_graph.specs.declared.origins.HeldPlace.{HeldPlace}
+use Rattle.nj_graph.specs.declared.origins.HeldPool.{HeldPool}
+use Rattle.nj_graph.specs.declared.origins.HeldOpening.{HeldOpening}
+use Rattle.nj_graph.specs.Origins.{place_of, PoolDetail, OpeningText, OriginsText, rule_places, with_pool_detail, pool_details, opening_by, with_opening, main_opening, openings_read, origins_read, path_opened, main_of}
+use Rattle.nj_graph.specs.Inside.OriginsHeld.{place_held, pool_held, opening_held, origins_held, AreNamed, origins_with}
+use Rattle.nj_graph.proofs.JoiningTables.{get-prefix, path-is}
+
+-- ---- names of files are added
+
+module _ (names later : List (List ℕ)) (grows : IsPrefix names later) where
+  path-grown : (file : FileNo) → file.0 < length names → path_at later file ≡ path_at names file
+  path-grown file below =
+      let at = slice_get-get_or names file.0 [] below in
+      path-is later file _ (get-prefix names later file.0 _ grows at) ∙ sym (path-is names file _ at)
+
+  pub place-grown : (p : HeldPlace) → p.file.0 < length names → place_held later p ≡ place_held names p
+  place-grown p below = ap (λ (f : List ℕ). record { file = f; spot = p.spot }) (path-grown p.file below)
+
+  pub below-grown : (n : ℕ) → n < length names → n < length later
+  below-grown n below = let count = ap length grows.1 ∙ length-append names grows.0 in omega (arith, below, count)
+
+map-same : {A B : Type 0} (f g : A → B) (P : A → Type 0) → ((x : A) → P x → f x ≡ g x) → (xs : List A) → AllByRecursion P xs → map f xs ≡ map g xs
+map-same f g P same [] all = refl
+map-same f g P same (x ∷ xs) all = ap (λ y. y ∷ map f xs) (same x all.0) ∙ ap (λ ys. g x ∷ ys) (map-same f g P same xs all.1)
+
+all-then : {A : Type 0} (P Q : A → Type 0) → ((x : A) → P x → Q x) → (xs : List A) → AllByRecursion P xs → AllByRecursion Q xs
+all-then P Q so [] all = tt
+all-then P Q so (x ∷ xs) all = (so x all.0, all-then P Q so xs all.1)
+
+all-more : {A : Type 0} (P : A → Type 0) (xs : List A) (y : A) → AllByRecursion P xs → P y → AllByRecursion P (xs ++ y ∷ [])
+all-more P [] y all last = (last, tt)
+all-more P (x ∷ xs) y all last = (all.0, all-more P xs y all.1 last)
+
+abbrev Below : (count : ℕ) → HeldPlace → Type 0
+Below count p = p.file.0 < count
+
+abbrev PoolBelow : (count : ℕ) → HeldPool → Type 0
+PoolBelow count p = p.place.file.0 < count
+
+abbrev OpeningBelow : (count : ℕ) → HeldOpening → Type 0
+OpeningBelow count o = (o.file.0 < count) × IfSome o.named_at (λ (p : HeldPlace). p.file.0 < count)
+
+module _ (names later : List (List ℕ)) (grows : IsPrefix names later) (rules : List HeldPlace) (pools : List HeldPool) (openings : List HeldOpening) (named : AreNamed names rules pools openings) where
+  some-named : (o : Option HeldPlace) → IfSome o (λ (p : HeldPlace). p.file.0 < length names) → IfSome o (λ (p : HeldPlace). p.file.0 < length later)
+  some-named None is = tt
+  some-named (Some p) is = below-grown names later grows p.file.0 is
+
+  some-same : (o : Option HeldPlace) → IfSome o (λ (p : HeldPlace). p.file.0 < length names) → option_map (place_held later) o ≡ option_map (place_held names) o
+  some-same None is = refl
+  some-same (Some p) is = ap Some (place-grown names later grows p is)
+
+  pub named-grown : AreNamed later rules pools openings
+  named-grown = record {
+    rules_named = all-then (Below (length names)) (Below (length later)) (λ p is. below-grown names later grows p.file.0 is) rules named.rules_named;
+    pools_named = all-then (PoolBelow (length names)) (PoolBelow (length later)) (λ p is. below-grown names later grows p.place.file.0 is) pools named.pools_named;
+    openings_named = all-then (OpeningBelow (length names)) (OpeningBelow (length later)) (λ o is. (below-grown names later grows o.file.0 is.0, some-named o.named_at is.1)) openings named.openings_named;
+  }
+
+  opening-same : (o : HeldOpening) → OpeningBelow (length names) o → opening_held later o ≡ opening_held names o
+  opening-same o is =
+      ap (λ (path : List ℕ). record { path = path; named_at = option_map (place_held later) o.named_at; scope = o.scope }) (path-grown names later grows o.file is.0)
+      ∙ ap (λ (at : Option Place). record { path = path_at names o.file; named_at = at; scope = o.scope }) (some-same o.named_at is.1)
+
+  pub origins-grown : origins_held later rules pools openings ≡ origins_held names rules pools openings
+  origins-grown =
+      ap (λ (rs : List (Option Place)). record { rules = None ∷ rs; pools = map (pool_held later) pools; openings = map (opening_held later) openings })
+      (map-same (λ p. Some (place_held later p)) (λ p. Some (place_held names p)) (Below (length names)) (λ p is. ap Some (place-grown names later grows p is)) rules named.rules_named)
+      ∙ ap (λ (ps : List PoolDetail). record { rules = None ∷ map (λ p. Some (place_held names p)) rules; pools = ps; openings = map (opening_held later) openings })
+      (map-same (pool_held later) (pool_held names) (PoolBelow (length names)) (λ p is. ap (λ (at : Place). record { place = at; depth = p.depth }) (place-grown names later grows p.place is)) pools named.pools_named)
+      ∙ ap (λ (os : List OpeningText). record { rules = None ∷ map (λ p. Some (place_held names p)) rules; pools = map (pool_held names) pools; openings = os })
+      (map-same (opening_held later) (opening_held names) (OpeningBelow (length names)) opening-same openings named.openings_named)
+
+  -- ---- one more
+
+  module _ (p : HeldPlace) (place : Place) (is : place_held later p ≡ place) (below : p.file.0 < length later) where
+    abbrev held : OriginsText
+    held = origins_held names rules pools openings
+
+    pub rule-added : origins_held later (rules ++ p ∷ []) pools openings ≡ record held { rules = held.rules ++ Some place ∷ [] }
+    rule-added =
+        ap (λ (rs : List (Option Place)). record { rules = None ∷ rs; pools = map (pool_held later) pools; openings = map (opening_held later) openings }) (map-append (λ q. Some (place_held later q)) rules (p ∷ []))
+        ∙ ap (λ (o : OriginsText). record o { rules = o.rules ++ Some (place_held later p) ∷ [] }) origins-grown
+        ∙ ap (λ (at : Place). record held { rules = held.rules ++ Some at ∷ [] }) is
+
+    pub rule-named : AreNamed later (rules ++ p ∷ []) pools openings
+    rule-named = record {
+      rules_named = all-more (Below (length later)) rules p named-grown.rules_named below;
+      pools_named = named-grown.pools_named;
+      openings_named = named-grown.openings_named;
+    }
+
+    pub pool-added : (depth : ℕ) → origins_held later rules (pools ++ record { place = p; depth = depth } ∷ []) openings ≡ record held { pools = held.pools ++ record { place = place; depth = depth } ∷ [] }
+    pool-added depth =
+        ap (λ (ps : List PoolDetail). record { rules = None ∷ map (λ q. Some (place_held later q)) rules; pools = ps; openings = map (opening_held later) openings }) (map-append (pool_held later) pools (record { place = p; depth = depth } ∷ []))
+        ∙ ap (λ (o : OriginsText). record o { pools = o.pools ++ record { place = place_held later p; depth = depth } ∷ [] }) origins-grown
+        ∙ ap (λ (at : Place). record held { pools = held.pools ++ record { place = at; depth = depth } ∷ [] }) is
+
+    pub pool-named : (depth : ℕ) → AreNamed later rules (pools ++ record { place = p; depth = depth } ∷ []) openings
+    pool-named depth = record {
+      rules_named = named-grown.rules_named;
+      pools_named = all-more (PoolBelow (length later)) pools (record { place = p; depth = depth }) named-grown.pools_named below;
+      openings_named = named-grown.openings_named;
+    }
+
+    module _ (file : FileNo) (path : List ℕ) (says : path_at later file ≡ path) (there : file.0 < length later) (scope : ℕ) where
+      abbrev opened : HeldOpening
+      opened = record { file = file; named_at = Some p; scope = scope }
+
+      pub opening-added : origins_held later rules pools (openings ++ opened ∷ []) ≡ record held { openings = held.openings ++ record { path = path; named_at = Some place; scope = scope } ∷ [] }
+      opening-added =
+          ap (λ (os : List OpeningText). record { rules = None ∷ map (λ q. Some (place_held later q)) rules; pools = map (pool_held later) pools; openings = os }) (map-append (opening_held later) openings (opened ∷ []))
+          ∙ ap (λ (o : OriginsText). record o { openings = o.openings ++ record { path = path_at later file; named_at = Some (place_held later p); scope = scope } ∷ [] }) origins-grown
+          ∙ ap (λ (at : Place). record held { openings = held.openings ++ record { path = path_at later file; named_at = Some at; scope = scope } ∷ [] }) is
+          ∙ ap (λ (text : List ℕ). record held { openings = held.openings ++ record { path = text; named_at = Some place; scope = scope } ∷ [] }) says
+
+      pub opening-named : AreNamed later rules pools (openings ++ opened ∷ [])
+      opening-named = record {
+        rules_named = named-grown.rules_named;
+        pools_named = named-grown.pools_named;
+        openings_named = all-more (OpeningBelow (length later)) openings opened named-grown.openings_named (there, below);
+      }
+
+-- ---- by the statements
+
+-- as many files are opened as the statements open
+counted : (main : List ℕ) (e : ReadStatement) (before : List ReadStatement) (item : StatementText) (others : List OpeningText) → length (with_opening e before item others) ≡ length others + opens_file item
+counted main e before (IncludeText word) others = length-append others _
+counted main e before (SubninjaText word) others = length-append others _
+counted main e before (BindingText name word) others = sym (add-zero (length others))
+counted main e before (RuleText name lines) others = sym (add-zero (length others))
+counted main e before (PoolText name lines) others = sym (add-zero (length others))
+counted main e before (BuildText outputs rule inputs lines) others = sym (add-zero (length others))
+counted main e before (DefaultText words) others = sym (add-zero (length others))
+
+pub openings-count : (main : List ℕ) (entries : List ReadStatement) → length (openings_read main entries) ≡ files_opened entries
+openings-count main [] = refl
+openings-count main (e ∷ before) = counted main e before e.item (openings_read main before) ∙ ap (λ n. n + opens_file e.item) (openings-count main before)
+
+-- the main file is opened first
+first-kept : (main : List ℕ) (e : ReadStatement) (before : List ReadStatement) (item : StatementText) (others : List OpeningText)
+    → (rest : List OpeningText) × (others ≡ main_opening main ∷ rest) → (rest : List OpeningText) × (with_opening e before item others ≡ main_opening main ∷ rest)
+first-kept main e before (IncludeText word) others first = let last = opening_by e before word e.number in (first.0 ++ last ∷ [], ap (λ os. os ++ last ∷ []) first.1)
+first-kept main e before (SubninjaText word) others first = let last = opening_by e before word (scopes_opened before) in (first.0 ++ last ∷ [], ap (λ os. os ++ last ∷ []) first.1)
+first-kept main e before (BindingText name word) others first = first
+first-kept main e before (RuleText name lines) others first = first
+first-kept main e before (PoolText name lines) others first = first
+first-kept main e before (BuildText outputs rule inputs lines) others first = first
+first-kept main e before (DefaultText words) others first = first
+
+main-first : (main : List ℕ) (entries : List ReadStatement) → (rest : List OpeningText) × (openings_read main entries ≡ main_opening main ∷ rest)
+main-first main [] = ([], refl)
+main-first main (e ∷ before) = first-kept main e before e.item (openings_read main before) (main-first main before)
+
+pub main-named : (main : List ℕ) (entries : List ReadStatement) → main_of (origins_read main entries) ≡ main
+main-named main entries = ap (λ (os : List OpeningText). path_opened (slice_get os 0)) (main-first main entries).1
+
+-- what is held of the statements after a main file says which file that is
+pub origins-of_main : (o : OriginsText) (main : List ℕ) (entries : List ReadStatement) → o ≡ origins_read main entries → o ≡ origins_read (main_of o) entries
+origins-of_main o main entries is = is ∙ ap (λ m. origins_read m entries) (sym (ap main_of is ∙ main-named main entries))
+
+-- ---- what is discovered changes nothing of it
+
+pool-by : (e : ReadStatement) (before other : List ReadStatement) → value_after other ≡ value_after before → (item : StatementText) (others : List PoolDetail) → with_pool_detail e other item others ≡ with_pool_detail e before item others
+pool-by e before other same (PoolText name lines) others =
+    ap (λ (values : List ℕ → List ℕ → List ℕ). others ++ record { place = place_of e; depth = unwrap_or (option_and_then (λ (l : LineText). leading_number_of (expanded (values (scope_of e)) l.value.parts)) (slice_get lines (length lines - 1))) 0 } ∷ []) same
+pool-by e before other same (BindingText name word) others = refl
+pool-by e before other same (RuleText name lines) others = refl
+pool-by e before other same (BuildText outputs rule inputs lines) others = refl
+pool-by e before other same (DefaultText words) others = refl
+pool-by e before other same (IncludeText word) others = refl
+pool-by e before other same (SubninjaText word) others = refl
+
+opening-by : (e : ReadStatement) (before other : List ReadStatement) → value_after other ≡ value_after before → scopes_opened other ≡ scopes_opened before → (item : StatementText) (others : List OpeningText) → with_opening e other item others ≡ with_opening e before item others
+opening-by e before other same count (IncludeText word) others =
+    ap (λ (values : List ℕ → List ℕ → List ℕ). others ++ record { path = expanded (values (scope_of e)) word.parts; named_at = Some (place_of e); scope = e.number } ∷ []) same
+opening-by e before other same count (SubninjaText word) others =
+    ap (λ (values : List ℕ → List ℕ → List ℕ). others ++ record { path = expanded (values (scope_of e)) word.parts; named_at = Some (place_of e); scope = scopes_opened other } ∷ []) same
+    ∙ ap (λ (n : ℕ). others ++ record { path = expanded (value_after before (scope_of e)) word.parts; named_at = Some (place_of e); scope = n } ∷ []) count
+opening-by e before other same count (BindingText name word) others = refl
+opening-by e before other same count (RuleText name lines) others = refl
+opening-by e before other same count (PoolText name lines) others = refl
+opening-by e before other same count (BuildText outputs rule inputs lines) others = refl
+opening-by e before other same count (DefaultText words) others = refl
+
+module _ (main : List ℕ) (edge : ℕ) (found : Discovered) where
+  pub origins-discover : (entries : List ReadStatement) → origins_read main (discover edge found entries) ≡ origins_read main entries
+  unfolding discover
+  origins-discover [] = refl
+  origins-discover (e ∷ before) = by (is_build e.item && length (edges_read before) == edge) (origins-discover before)
+    where
+      by : (b : Bool) → origins_read main (discover edge found before) ≡ origins_read main before
+          → origins_read main (if b then record e { discovered = Some found } ∷ before else e ∷ discover edge found before) ≡ origins_read main (e ∷ before)
+      by true rest = refl
+      by false rest =
+          ap (λ (ps : List PoolDetail). record { rules = rule_places (e ∷ discover edge found before); pools = ps; openings = openings_read main (e ∷ discover edge found before) })
+          (pool-by e before (discover edge found before) (value_after-discover edge found before) e.item (pool_details (discover edge found before)))
+          ∙ ap (λ (os : List OpeningText). record { rules = rule_places (e ∷ discover edge found before); pools = with_pool_detail e before e.item (pool_details (discover edge found before)); openings = os })
+          (opening-by e before (discover edge found before) (value_after-discover edge found before) (scopes_opened-discover edge found before) e.item (openings_read main (discover edge found before)))
+          ∙ ap (origins_with e before) rest

@@ -1,0 +1,46 @@
+-- How the places of declarations and the openings of files are held: by the numbers of file names.
+use Rattle.std.specs.Prelude.{ℕ, ◌<◌, Some, None, option_map, List, ◌∷◌, map, length, IfSome}
+use Rattle.std.specs.List.{AllByRecursion}
+use Rattle.nj_scope.specs.ReadingList.{ReadStatement}
+use Rattle.nj_edges.specs.Files.{path_at}
+use Rattle.nj_faults.specs.declared.fault.Place.{Place}
+use Rattle.nj_graph.specs.declared.origins.HeldPlace.{HeldPlace}
+use Rattle.nj_graph.specs.declared.origins.HeldPool.{HeldPool}
+use Rattle.nj_graph.specs.declared.origins.HeldOpening.{HeldOpening}
+use Rattle.nj_graph.specs.Origins.{PoolDetail, OpeningText, OriginsText, with_rule_place, with_pool_detail, with_opening}
+
+-- by these names of files
+
+abbrev pub place_held : (names : List (List ℕ)) → HeldPlace → Place
+place_held names p = record { file = path_at names p.file; spot = p.spot }
+
+abbrev pub pool_held : (names : List (List ℕ)) → HeldPool → PoolDetail
+pool_held names p = record { place = place_held names p.place; depth = p.depth }
+
+abbrev pub opening_held : (names : List (List ℕ)) → HeldOpening → OpeningText
+opening_held names o = record { path = path_at names o.file; named_at = option_map (place_held names) o.named_at; scope = o.scope }
+
+abbrev pub origins_held : (names : List (List ℕ)) → List HeldPlace → List HeldPool → List HeldOpening → OriginsText
+origins_held names rules pools openings = record {
+  rules = None ∷ map (λ p. Some (place_held names p)) rules;
+  pools = map (pool_held names) pools;
+  openings = map (opening_held names) openings;
+}
+
+abbrev pub IsNamed : (names : List (List ℕ)) → HeldPlace → Type 0
+IsNamed names p = p.file.0 < length names
+
+-- all names are there
+pub record AreNamed (names : List (List ℕ)) (rules : List HeldPlace) (pools : List HeldPool) (openings : List HeldOpening)
+    : Type 0 where
+  pub rules_named : AllByRecursion (IsNamed names) rules
+  pub pools_named : AllByRecursion (λ (p : HeldPool). IsNamed names p.place) pools
+  pub openings_named : AllByRecursion (λ (o : HeldOpening). (o.file.0 < length names) × IfSome o.named_at (IsNamed names)) openings
+
+-- what is held after one statement more
+abbrev pub origins_with : ReadStatement → (before : List ReadStatement) → OriginsText → OriginsText
+origins_with e before o = record {
+  rules = with_rule_place e e.item o.rules;
+  pools = with_pool_detail e before e.item o.pools;
+  openings = with_opening e before e.item o.openings;
+}

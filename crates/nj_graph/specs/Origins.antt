@@ -1,0 +1,107 @@
+-- Where rules and pools are declared, and which statements open which files.
+use Rattle.std.specs.Prelude.{ℕ, ◌-◌, Option, Some, None, option_map, option_and_then, unwrap_or, List, [], ◌∷◌, ◌++◌, length, slice_get, slice_index_or}
+use Rattle.nj_text.specs.Numbers.{leading_number_of}
+use Rattle.nj_text.specs.Words.{WordText}
+use Rattle.nj_manifest.specs.Statements.{LineText, StatementText, RuleText, PoolText, IncludeText, SubninjaText}
+use Rattle.nj_scope.specs.ReadingList.{ReadStatement, scope_of, scopes_opened}
+use Rattle.nj_faults.specs.declared.fault.Place.{Place}
+use Rattle.nj_faults.specs.declared.fault.PlaceRef.{PlaceRef}
+use Rattle.nj_graph.specs.declared.origins.Opening.{Opening}
+use Rattle.nj_graph.specs.Reading.{expanded_in, place_at}
+
+-- the place of a statement: that of its first byte
+abbrev pub place_of : ReadStatement → Place
+place_of e = place_at e e.spot
+
+-- a place whose file name is lent
+abbrev pub place_text : PlaceRef → Place
+place_text p = record { file = p.file.now; spot = p.spot }
+
+-- ---- rules
+
+abbrev pub with_rule_place : ReadStatement → StatementText → List (Option Place) → List (Option Place)
+with_rule_place e (RuleText name lines) places = places ++ Some (place_of e) ∷ []
+with_rule_place e item places = places
+
+-- the place of the statement that declares each rule, by number; no statement declares `phony`
+abbrev pub rule_places : List ReadStatement → List (Option Place)
+rule_places [] = None ∷ []
+rule_places (e ∷ before) = with_rule_place e e.item (rule_places before)
+
+-- that of the rule of a number; past the last rule there is none
+abbrev pub rule_place_at : (places : List (Option Place)) → (number : ℕ) → Option Place
+rule_place_at places number = slice_index_or places number None
+
+-- ---- pools
+
+-- the place of its statement, and its depth
+pub record PoolDetail : Type 0 where
+  pub place : Place
+  pub depth : ℕ
+
+-- The depth of a pool: the number at the front of what the last line of its block says. Each line there is a `depth` line, and a pool has
+-- one at least.
+abbrev pub depth_of : (scope : List ℕ) → (before : List ReadStatement) → List LineText → ℕ
+depth_of scope before lines =
+    unwrap_or (option_and_then (λ l. leading_number_of (expanded_in scope before l.value)) (slice_get lines (length lines - 1))) 0
+
+abbrev pub with_pool_detail : ReadStatement → (before : List ReadStatement) → StatementText → List PoolDetail → List PoolDetail
+with_pool_detail e before (PoolText name lines) pools =
+    pools ++ record { place = place_of e; depth = depth_of (scope_of e) before lines } ∷ []
+with_pool_detail e before item pools = pools
+
+-- those of the pools in the order in which they were declared
+abbrev pub pool_details : List ReadStatement → List PoolDetail
+pool_details [] = []
+pool_details (e ∷ before) = with_pool_detail e before e.item (pool_details before)
+
+-- ---- openings
+
+-- A file that was opened.
+pub record OpeningText : Type 0 where
+  -- the path as it was opened
+  pub path : List ℕ
+  -- the place of the statement that names it; no statement names the main file
+  pub named_at : Option Place
+  -- the number of the scope in which its statements stand
+  pub scope : ℕ
+
+-- an opening whose texts are lent
+abbrev pub opening_text : Opening → OpeningText
+opening_text o = record { path = o.path.now; named_at = option_map place_text o.named_at; scope = o.scope }
+
+abbrev pub opening_by : ReadStatement → (before : List ReadStatement) → WordText → (scope : ℕ) → OpeningText
+opening_by e before word scope = record { path = expanded_in (scope_of e) before word; named_at = Some (place_of e); scope = scope }
+
+abbrev pub with_opening : ReadStatement → (before : List ReadStatement) → StatementText → List OpeningText → List OpeningText
+with_opening e before (IncludeText word) others = others ++ opening_by e before word e.number ∷ []
+with_opening e before (SubninjaText word) others = others ++ opening_by e before word (scopes_opened before) ∷ []
+with_opening e before item others = others
+
+abbrev pub main_opening : (main : List ℕ) → OpeningText
+main_opening main = record { path = main; named_at = None; scope = 0 }
+
+-- the main file, and each file that a statement opens, in reading order; a file that is opened again is there again
+abbrev pub openings_read : (main : List ℕ) → List ReadStatement → List OpeningText
+openings_read main [] = main_opening main ∷ []
+openings_read main (e ∷ before) = with_opening e before e.item (openings_read main before)
+
+-- ---- all of them
+
+pub record OriginsText : Type 0 where
+  pub rules : List (Option Place)
+  pub pools : List PoolDetail
+  pub openings : List OpeningText
+
+abbrev pub origins_read : (main : List ℕ) → List ReadStatement → OriginsText
+origins_read main entries =
+    record { rules = rule_places entries; pools = pool_details entries; openings = openings_read main entries }
+
+-- the path of an opening, if there is one
+abbrev pub path_opened : Option OpeningText → List ℕ
+path_opened (Some opening) = opening.path
+path_opened None = []
+
+-- the main file: the one that is opened first
+abbrev pub main_of : OriginsText → List ℕ
+main_of origins = path_opened (slice_get origins.openings 0)

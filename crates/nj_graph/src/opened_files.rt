@@ -1,0 +1,32 @@
+//! The files that were opened.
+
+ghost use Rattle.std.specs.Prelude.{◌≡◌, List, length, option_map, slice_get};
+ghost use Rattle.nj_scope.specs.ReadingList.{ReadStatement, files_opened};
+ghost use Rattle.nj_graph.specs.Origins.{main_of, opening_text, openings_read};
+ghost use Rattle.nj_graph.specs.Graph.{IsGraphOf};
+
+use crate::graph::Graph;
+use crate::origins::Opening;
+
+impl Graph {
+    /// How many files were opened: the main file, and one more for each `include` and `subninja`
+    /// statement, also where it opens a file again ("Ninja file reference" in the Ninja manual).
+    pub fn opening_count(&self) -> usize
+        ensures held { result ≡ length self.now.origins.openings }
+        ensures stated { (entries : List ReadStatement) → IsGraphOf self.now entries
+            → result ≡ files_opened entries }
+    {
+        self.origins.opening_count()
+    }
+
+    /// The file that was opened at this index, in reading order; the main file is the first one.
+    /// `None` past the last one.
+    pub fn opening(&self, index: usize) -> Option<Opening<'_>>
+        ensures held { option_map opening_text result ≡ slice_get self.now.origins.openings index }
+        ensures stated { (entries : List ReadStatement) → IsGraphOf self.now entries
+            → option_map opening_text result
+            ≡ slice_get (openings_read (main_of self.now.origins) entries) index }
+    {
+        self.origins.opening(index)
+    }
+}

@@ -1,0 +1,209 @@
+//! Where what was read comes from: the places of rules and pools, and the files that were opened.
+
+ghost use Rattle.std.specs.Prelude.{◌≡◌, ◌<◌, [], ◌∷◌, ◌++◌, Some, None, length, option_map, slice_get, IfOk, OnOk};
+ghost use Rattle.nj_scope.specs.Readings.{IsPrefix};
+ghost use Rattle.nj_graph.specs.Origins.{place_text, rule_place_at, opening_text, origins_read};
+ghost use Rattle.nj_graph.specs.Inside.OriginsHeld.{place_held};
+
+use nj_edges::{FileNo, Files};
+use nj_faults::PlaceRef;
+use nj_scope::{HashKeys, MAIN_SCOPE};
+use nj_text::Spot;
+use std::alloc::{AllocError, Global};
+use std::marker::Model;
+
+/// A file that was opened. One that is opened again counts again.
+#[derive(Clone, Copy, Debug, PartialEq, Eq)]
+pub struct Opening<'a> {
+    /// The path as it was opened: the main file's as given, another's as the statement that names
+    /// it says.
+    pub path: &'a [u8],
+    /// The place of the `include` or `subninja` that names it; `None` for the main file.
+    pub named_at: Option<PlaceRef<'a>>,
+    /// The number of the scope in which its statements stand.
+    pub scope: usize,
+}
+
+// A place in a file whose name has a number.
+#[derive(Clone, Copy)]
+pub(crate) struct HeldPlace {
+    pub(crate) file: FileNo,
+    pub(crate) spot: Spot,
+}
+
+// A pool, without its name.
+#[derive(Clone, Copy)]
+pub(crate) struct HeldPool {
+    pub(crate) place: HeldPlace,
+    pub(crate) depth: u64,
+}
+
+// A file that was opened, whose name has a number.
+#[derive(Clone, Copy)]
+pub(crate) struct HeldOpening {
+    pub(crate) file: FileNo,
+    pub(crate) named_at: Option<HeldPlace>,
+    pub(crate) scope: usize,
+}
+
+/// Where the rules and the pools were declared that were read so far, and which statements opened
+/// which files.
+#[derive(Drop)]
+pub(crate) struct Origins {
+    // The names under which files were opened, each once.
+    names: Files,
+    // The rules but `phony`.
+    rules: Vec<HeldPlace>,
+    pools: Vec<HeldPool>,
+    openings: Vec<HeldOpening>,
+}
+
+impl Model for Origins {
+    ghost use Rattle.nj_graph.specs.Origins.{OriginsText};
+    ghost use Rattle.nj_graph.specs.Inside.OriginsHeld.{origins_held, AreNamed};
+
+    ghost Value = { OriginsText };
+
+    ghost view = { λ o. origins_held o.names o.rules.items o.pools.items o.openings.items };
+
+    ghost invariant = { λ o. AreNamed o.names o.rules.items o.pools.items o.openings.items };
+}
+
+impl Origins {
+    /// The main file is opened, and nothing is read of it yet. Names are hashed by these keys.
+    pub(crate) fn new(alloc: Global, keys: HashKeys, main: &str) -> Result<Origins, AllocError>
+        ensures { IfOk result (λ o. o ≡ origins_read main.now []) }
+    {
+        let mut names = Files::new(alloc, keys);
+        let file = names.name(main.as_bytes())?;
+        let mut openings = Vec::new(alloc);
+        openings.push(HeldOpening {
+            file,
+            named_at: None,
+            scope: MAIN_SCOPE,
+        })?;
+        Ok(Origins {
+            names,
+            rules: Vec::new(alloc),
+            pools: Vec::new(alloc),
+            openings,
+        })
+    }
+
+    /// A rule is declared by the statement at this place.
+    pub(crate) fn add_rule(&mut self, place: PlaceRef<'_>) -> Result<(), AllocError>
+        ensures { OnOk result (self.new ≡ record self.old {
+          rules = self.old.rules ++ Some (place_text place.entry) ∷ [];
+        }) }
+    {
+        let place = hold_place(&mut self.names, place)?;
+        self.rules.push(place)?;
+        Ok(())
+    }
+
+    /// A pool of this depth is declared by the statement at this place.
+    pub(crate) fn add_pool(&mut self, place: PlaceRef<'_>, depth: u64) -> Result<(), AllocError>
+        ensures { OnOk result (self.new ≡ record self.old {
+          pools = self.old.pools
+              ++ record { place = place_text place.entry; depth = depth } ∷ [];
+        }) }
+    {
+        let place = hold_place(&mut self.names, place)?;
+        self.pools.push(HeldPool { place, depth })?;
+        Ok(())
+    }
+
+    /// The statement at this place opens the file at the path, whose statements stand in the scope
+    /// of this number.
+    pub(crate) fn add_opening(
+        &mut self,
+        place: PlaceRef<'_>,
+        path: &str,
+        scope: usize,
+    ) -> Result<(), AllocError>
+        ensures { OnOk result (self.new ≡ record self.old {
+          openings = self.old.openings
+              ++ record { path = path.now; named_at = Some (place_text place.entry); scope = scope }
+              ∷ [];
+        }) }
+    {
+        let place = hold_place(&mut self.names, place)?;
+        let file = self.names.name(path.as_bytes())?;
+        self.openings.push(HeldOpening {
+            file,
+            named_at: Some(place),
+            scope,
+        })?;
+        Ok(())
+    }
+
+    /// The place of the statement that declares the rule of this number.
+    pub(crate) fn rule_place(&self, rule: usize) -> Option<PlaceRef<'_>>
+        ensures { option_map place_text result ≡ rule_place_at self.now.rules rule }
+    {
+        let place = self.rules.get(rule.checked_sub(1)?)?;
+        Some(lend_place(&self.names, *place))
+    }
+
+    /// The place of the statement that declares the pool at this index.
+    pub(crate) fn pool_place(&self, index: usize) -> Option<PlaceRef<'_>>
+        ensures { option_map place_text result
+            ≡ option_map (λ p. p.place) (slice_get self.now.pools index) }
+    {
+        let pool = self.pools.get(index)?;
+        Some(lend_place(&self.names, pool.place))
+    }
+
+    /// The depth of the pool at this index.
+    pub(crate) fn pool_depth(&self, index: usize) -> Option<u64>
+        ensures { result ≡ option_map (λ p. p.depth) (slice_get self.now.pools index) }
+    {
+        let pool = self.pools.get(index)?;
+        Some(pool.depth)
+    }
+
+    /// How many files were opened.
+    pub(crate) fn opening_count(&self) -> usize
+        ensures { result ≡ length self.now.openings }
+    {
+        self.openings.len()
+    }
+
+    /// The file that was opened at this index.
+    pub(crate) fn opening(&self, index: usize) -> Option<Opening<'_>>
+        ensures { option_map opening_text result ≡ slice_get self.now.openings index }
+    {
+        let opening = self.openings.get(index)?;
+        Some(Opening {
+            path: self.names.path(opening.file),
+            named_at: match opening.named_at {
+                Some(place) => Some(lend_place(&self.names, place)),
+                None => None,
+            },
+            scope: opening.scope,
+        })
+    }
+}
+
+// The place, whose file gets a number.
+fn hold_place(names: &mut Files, place: PlaceRef<'_>) -> Result<HeldPlace, AllocError>
+    ensures held { IfOk result (λ held. place_held names.new held ≡ place_text place.entry) }
+    ensures known { IfOk result (λ held. held.file.0 < length names.new) }
+    ensures grows { IsPrefix names.old names.new }
+{
+    Ok(HeldPlace {
+        file: names.name(place.file)?,
+        spot: place.spot,
+    })
+}
+
+// The place, with the name of its file.
+fn lend_place(names: &Files, place: HeldPlace) -> PlaceRef<'_>
+    requires { place.file.0 < length names.now }
+    ensures { place_text result ≡ place_held names.now place }
+{
+    PlaceRef {
+        file: names.path(place.file),
+        spot: place.spot,
+    }
+}
