@@ -1,92 +1,200 @@
 -- Lemmas on the values of all names.
-use Rattle.std.proofs.Common.{◌≡◌, ℕ, ◌≤◌, nat_eq, Bool, true, false, cond, ◌&&◌, Option, Some, None, is_some, option_map, option_and_then, List, [], ◌∷◌, length, map, bytes_eq, refl, sym, ap, subst, ◌∙◌, true≢false}
+use Rattle.std.proofs.Common.{◌≡◌, ℕ, zero, suc, ◌+◌, ◌<◌, ◌≤◌, nat_eq, Bool, true, false, cond, not, ◌&&◌, ◌||◌, ◌⊎◌, inl, inr, Option, Some, None, is_some, option_map, option_and_then, List, [], ◌∷◌, ◌++◌, length, map, get_or, set, bytes_eq, arith, refl, sym, ap, subst, ◌∙◌, true≢false}
+use Rattle.std.specs.Prelude.{position, slice_get}
 use Rattle.std.specs.Global.{Vec}
-use Rattle.std.specs.Map.{lookup, set_value}
-use Rattle.std.specs.List.{slice_range}
-use Rattle.std.proofs.lemmas.Option.{same_Some}
+use Rattle.std.specs.Map.{lookup}
+use Rattle.std.specs.List.{AllByRecursion, list_any, slice_range}
+use Rattle.std.proofs.lemmas.List.{map-append, length-append, length-set, get_or_append_left}
+use Rattle.std.proofs.lemmas.List.Quantifiers.{position-Some}
+use Rattle.std.proofs.lemmas.Option.{get_or_from_slice_get}
 use Rattle.std.proofs.lemmas.Slice.Eq.{bytes_eq-Decides}
-use Rattle.indexmap.specs.IndexMap.{insert_entry}
-use Rattle.nj_scope.proofs.ScopeLemmas.{lookup-inserted, lookup-text}
 use Rattle.nj_edge_env.specs.declared.bounds.Bound.{Bound}
-use Rattle.nj_edge_env.specs.Blocks.{bound_in}
-use Rattle.nj_edge_env.specs.Inside.BlocksHeld.{bound_of, values_of, blocks_of, BoundsAreHeld, BlocksAreHeld, BeginsWith}
-use Rattle.nj_edge_env.proofs.MapLemmas.{lookup-set}
-use Rattle.nj_edge_env.proofs.BoundLemmas.{values_at, values_kept, longer, bounds_grow}
-
-abbrev pub Entries : Type 0
-Entries = List (Vec ℕ × Vec Bound)
-
-abbrev pub is_key : List ℕ → Vec ℕ → Bool
-is_key name k = bytes_eq name k.items
-
-abbrev pub texts : (text : List ℕ) → Entries → List (List ℕ × List (ℕ × List ℕ))
-texts text entries = map (λ e. (e.0.items, values_of text e.1.items)) entries
-
--- ---- what is held
-
-pub texts_kept : (text new : List ℕ) (last : ℕ) (es : Entries) → BeginsWith text new → BlocksAreHeld (length text) last es → texts new es ≡ texts text es
-texts_kept text new last [] grew held = refl
-texts_kept text new last (e ∷ es) grew held =
-    ap (λ vs. (e.0.items, vs) ∷ texts new es) (values_kept text new last e.1.items grew held.0.parts)
-    ∙ ap (λ rest. (e.0.items, values_of text e.1.items) ∷ rest) (texts_kept text new last es grew held.1)
-
-pub held-grow : (len more last : ℕ) (es : Entries) → len ≤ more → BlocksAreHeld len last es → BlocksAreHeld more last es
-held-grow len more last [] h held = tt
-held-grow len more last (e ∷ es) h held = (bounds_grow len more last e.1.items h held.0, held-grow len more last es h held.1)
-
-pub held-at : (len last : ℕ) (es : Entries) (name : List ℕ) (v : Vec Bound) → BlocksAreHeld len last es → lookup (is_key name) es ≡ Some v → BoundsAreHeld len last v.items
-held-at len last [] name v held h = absurd (true≢false (sym (ap is_some h)))
-held-at len last (e ∷ es) name v held h = by (is_key name e.0) h (held-at len last es name v held.1)
-  where
-    by : (t : Bool) → cond t (Some e.1) (lookup (is_key name) es) ≡ Some v → (lookup (is_key name) es ≡ Some v → BoundsAreHeld len last v.items) → BoundsAreHeld len last v.items
-    by true is rest = subst (λ (w : Vec Bound). BoundsAreHeld len last w.items) (same_Some e.1 v is) held.0
-    by false is rest = rest is
-
-pub held-set : (len last : ℕ) (es : Entries) (name : List ℕ) (v : Vec Bound) → BlocksAreHeld len last es → BoundsAreHeld len last v.items → BlocksAreHeld len last (set_value (is_key name) es v)
-held-set len last [] name v held h = tt
-held-set len last (e ∷ es) name v held h = by (is_key name e.0) (held-set len last es name v held.1 h)
-  where
-    by : (t : Bool) → BlocksAreHeld len last (set_value (is_key name) es v) → BlocksAreHeld len last (cond t ((e.0, v) ∷ es) (e ∷ set_value (is_key name) es v))
-    by true rest = (h, held.1)
-    by false rest = (held.0, rest)
-
-abbrev pub same_key : Vec ℕ → Vec ℕ → Bool
-same_key k q = bytes_eq k.items q.items
-
-pub held-insert : (len last : ℕ) (es : Entries) (k : Vec ℕ) (v : Vec Bound) → BlocksAreHeld len last es → BoundsAreHeld len last v.items → BlocksAreHeld len last (insert_entry same_key es k v)
-held-insert len last [] k v held h = (h, tt)
-held-insert len last (e ∷ es) k v held h = by (same_key k e.0) (held-insert len last es k v held.1 h)
-  where
-    by : (t : Bool) → BlocksAreHeld len last (insert_entry same_key es k v) → BlocksAreHeld len last (cond t ((e.0, v) ∷ es) (e ∷ insert_entry same_key es k v))
-    by true rest = (h, held.1)
-    by false rest = (held.0, rest)
-
--- ---- look-ups
-
-pub texts-at : (text : List ℕ) (es : Entries) (name : List ℕ) → lookup (bytes_eq name) (texts text es) ≡ option_map (λ v. values_of text v.items) (lookup (is_key name) es)
-texts-at text es name = lookup-text (λ (v : Vec Bound). values_of text v.items) es name
+use Rattle.nj_edge_env.specs.Inside.BlocksHeld.{bound_of, values_of, values_by_name, names_of, bounds_of, list_at, IsPart, BoundsAreHeld, BlocksAreHeld, BeginsWith, IsFirstAt, IsNumberOf}
+use Rattle.nj_edge_env.proofs.BoundLemmas.{values_at, values_kept, longer, bounds_grow, swapped}
 
 abbrev pub Rows : Type 0
 Rows = List (ℕ × List ℕ)
 
+abbrev pub All-bounds : Type 0
+All-bounds = List (List Bound)
+
+abbrev pub rows_of : (all : List (List ℕ × Rows)) → (name : List ℕ) → Option Rows
+rows_of all name = lookup (bytes_eq name) all
+
 -- the value of an edge among the values of all names
 abbrev pub value_of : List (List ℕ × Rows) → ℕ → List ℕ → Option (List ℕ)
-value_of all e x = option_and_then (lookup (λ n. nat_eq e n)) (lookup (bytes_eq x) all)
+value_of all e x = option_and_then (lookup (λ n. nat_eq e n)) (rows_of all x)
 
--- the value in the block of an edge, by the parts of the text
-pub value-found : (text : List ℕ) (es : Entries) (last edge : ℕ) (name : List ℕ) (v : Vec Bound) → lookup (is_key name) es ≡ Some v
-    → option_map (λ b. slice_range text b.start b.end) (bound_of v.items edge) ≡ bound_in (blocks_of text es last) edge name
-value-found text es last edge name v was =
-    sym (values_at text v.items edge)
-    ∙ sym (ap (option_and_then (lookup (λ n. nat_eq edge n))) (texts-at text es name ∙ ap (option_map (λ (v : Vec Bound). values_of text v.items)) was))
+-- ---- the number of a name
+
+first-from : (name : List ℕ) (names : List (List ℕ)) (n : ℕ) → n < length names → bytes_eq name (get_or names n []) ≡ true
+    → ((k : ℕ) → k < n → bytes_eq name (get_or names k []) ≡ false) → IsFirstAt name names n
+first-from name [] n inside here before = absurd (omega arith)
+first-from name (m ∷ names) zero inside here before = here
+first-from name (m ∷ names) (suc n) inside here before = (before 0 (omega arith), first-from name names n (omega arith) here (λ k less. before (suc k) (omega arith)))
+
+pub first-position : (name : List ℕ) (names : List (List ℕ)) (n : ℕ) → position (bytes_eq name) names ≡ Some n → IsFirstAt name names n
+first-position name names n h = let p = position-Some (bytes_eq name) names n [] h in first-from name names n p.0 p.1 p.2
+
+pub first-new : (name : List ℕ) (names : List (List ℕ)) → list_any (bytes_eq name) names ≡ false → IsFirstAt name (names ++ name ∷ []) (length names)
+first-new name [] absent = (bytes_eq-Decides name name).1 refl
+first-new name (m ∷ names) absent = by (bytes_eq name m) refl (first-new name names) absent
+  where
+    by : (b : Bool) → bytes_eq name m ≡ b → (list_any (bytes_eq name) names ≡ false → IsFirstAt name (names ++ name ∷ []) (length names)) → (b || list_any (bytes_eq name) names) ≡ false
+        → IsFirstAt name ((m ∷ names) ++ name ∷ []) (length (m ∷ names))
+    by true same rest none = absurd (true≢false none)
+    by false other rest none = (other, rest none)
+
+pub first-within : (name : List ℕ) (names : List (List ℕ)) (n : ℕ) → IsFirstAt name names n → n < length names
+first-within name [] n h = absurd h
+first-within name (m ∷ names) zero h = omega arith
+first-within name (m ∷ names) (suc n) h = let rest = first-within name names n h.1 in omega (arith, rest)
+
+pub first-is : (name : List ℕ) (names : List (List ℕ)) (n : ℕ) → IsFirstAt name names n → get_or names n [] ≡ name
+first-is name [] n h = absurd h
+first-is name (m ∷ names) zero h = sym ((bytes_eq-Decides name m).0 h)
+first-is name (m ∷ names) (suc n) h = first-is name names n h.1
+
+-- ---- look-ups
+
+pub rows-first : (text : List ℕ) (names : List (List ℕ)) (bounds : All-bounds) (name : List ℕ) (n : ℕ) → length bounds ≡ length names → IsFirstAt name names n
+    → rows_of (values_by_name text names bounds) name ≡ Some (values_of text (get_or bounds n []))
+rows-first text [] bounds name n many h = absurd h
+rows-first text (m ∷ names) [] name n many h = absurd (omega (arith, many))
+rows-first text (m ∷ names) (bs ∷ bounds) name zero many h = ap (λ b. cond b (Some (values_of text bs)) (rows_of (values_by_name text names bounds) name)) h
+rows-first text (m ∷ names) (bs ∷ bounds) name (suc n) many h =
+    ap (λ b. cond b (Some (values_of text bs)) (rows_of (values_by_name text names bounds) name)) h.0 ∙ rows-first text names bounds name n (omega (arith, many)) h.1
+
+pub rows-absent : (text : List ℕ) (names : List (List ℕ)) (bounds : All-bounds) (name : List ℕ) → list_any (bytes_eq name) names ≡ false → rows_of (values_by_name text names bounds) name ≡ None
+rows-absent text [] bounds name absent = refl
+rows-absent text (m ∷ names) [] name absent = refl
+rows-absent text (m ∷ names) (bs ∷ bounds) name absent = by (bytes_eq name m) (rows-absent text names bounds name) absent
+  where
+    by : (b : Bool) → (list_any (bytes_eq name) names ≡ false → rows_of (values_by_name text names bounds) name ≡ None) → (b || list_any (bytes_eq name) names) ≡ false
+        → cond b (Some (values_of text bs)) (rows_of (values_by_name text names bounds) name) ≡ None
+    by true rest none = absurd (true≢false none)
+    by false rest none = rest none
+
+-- the value in the block of an edge, by the bounds of its name
+pub value-first : (text : List ℕ) (names : List (List ℕ)) (bounds : All-bounds) (name : List ℕ) (n edge : ℕ) → length bounds ≡ length names → IsFirstAt name names n
+    → value_of (values_by_name text names bounds) edge name ≡ option_map (λ b. slice_range text b.start b.end) (bound_of (get_or bounds n []) edge)
+value-first text names bounds name n edge many h =
+    ap (option_and_then (lookup (λ k. nat_eq edge k))) (rows-first text names bounds name n many h) ∙ values_at text (get_or bounds n []) edge
+
+-- ---- changes
+
+abbrev value_in : ℕ → Option Rows → Option (List ℕ)
+value_in e rows = option_and_then (lookup (λ n. nat_eq e n)) rows
+
+-- a name without values binds nothing
+value-appended : (text : List ℕ) (names : List (List ℕ)) (bounds : All-bounds) (name : List ℕ) (e : ℕ) (x : List ℕ) → length bounds ≡ length names
+    → value_of (values_by_name text (names ++ name ∷ []) (bounds ++ [] ∷ [])) e x ≡ value_of (values_by_name text names bounds) e x
+value-appended text [] [] name e x many = by (bytes_eq x name)
+  where
+    by : (b : Bool) → value_in e (cond b (Some []) None) ≡ None
+    by true = refl
+    by false = refl
+value-appended text [] (bs ∷ bounds) name e x many = absurd (omega (arith, many))
+value-appended text (m ∷ names) [] name e x many = absurd (omega (arith, many))
+value-appended text (m ∷ names) (bs ∷ bounds) name e x many = by (bytes_eq x m) (value-appended text names bounds name e x (omega (arith, many)))
+  where
+    by : (b : Bool) → value_of (values_by_name text (names ++ name ∷ []) (bounds ++ [] ∷ [])) e x ≡ value_of (values_by_name text names bounds) e x
+        → option_and_then (lookup (λ n. nat_eq e n)) (cond b (Some (values_of text bs)) (rows_of (values_by_name text (names ++ name ∷ []) (bounds ++ [] ∷ [])) x))
+        ≡ option_and_then (lookup (λ n. nat_eq e n)) (cond b (Some (values_of text bs)) (rows_of (values_by_name text names bounds) x))
+    by true rest = refl
+    by false rest = rest
+
+-- other bounds of one name
+rows-set : (text : List ℕ) (names : List (List ℕ)) (bounds : All-bounds) (name : List ℕ) (n : ℕ) (bs : List Bound) (x : List ℕ) → length bounds ≡ length names → IsFirstAt name names n
+    → rows_of (values_by_name text names (set bounds n bs)) x ≡ cond (bytes_eq x name) (Some (values_of text bs)) (rows_of (values_by_name text names bounds) x)
+rows-set text [] bounds name n bs x many h = absurd h
+rows-set text (m ∷ names) [] name n bs x many h = absurd (omega (arith, many))
+rows-set text (m ∷ names) (cs ∷ bounds) name zero bs x many h = hidden (bytes_eq x m) (bytes_eq x name) (ap (bytes_eq x) (sym ((bytes_eq-Decides name m).0 h)))
+  where
+    hidden : (s t : Bool) → s ≡ t → cond s (Some (values_of text bs)) (rows_of (values_by_name text names bounds) x)
+        ≡ cond t (Some (values_of text bs)) (cond s (Some (values_of text cs)) (rows_of (values_by_name text names bounds) x))
+    hidden true true same = refl
+    hidden true false same = absurd (true≢false same)
+    hidden false true same = absurd (true≢false (sym same))
+    hidden false false same = refl
+rows-set text (m ∷ names) (cs ∷ bounds) name (suc n) bs x many h =
+    ap (cond (bytes_eq x m) (Some (values_of text cs))) (rows-set text names bounds name n bs x (omega (arith, many)) h.1)
+    ∙ swapped (bytes_eq x m) (bytes_eq x name) (Some (values_of text cs)) (Some (values_of text bs)) (rows_of (values_by_name text names bounds) x)
+    (λ p q. true≢false (sym ((bytes_eq-Decides name m).1 (sym ((bytes_eq-Decides x name).0 q) ∙ (bytes_eq-Decides x m).0 p)) ∙ h.0))
+
+values-kept : (text new : List ℕ) (last : ℕ) (names : List (List ℕ)) (bounds : All-bounds) → BeginsWith text new → AllByRecursion (BoundsAreHeld (length text) last) bounds
+    → values_by_name new names bounds ≡ values_by_name text names bounds
+values-kept text new last [] bounds grew held = refl
+values-kept text new last (m ∷ names) [] grew held = refl
+values-kept text new last (m ∷ names) (bs ∷ bounds) grew held =
+    ap (λ vs. (m, vs) ∷ values_by_name new names bounds) (values_kept text new last bs grew held.0.parts)
+    ∙ ap (λ rest. (m, values_of text bs) ∷ rest) (values-kept text new last names bounds grew held.1)
+
+-- ---- what is held
+
+all-grow : (len more last : ℕ) (bounds : All-bounds) → len ≤ more → AllByRecursion (BoundsAreHeld len last) bounds → AllByRecursion (BoundsAreHeld more last) bounds
+all-grow len more last [] h held = tt
+all-grow len more last (bs ∷ bounds) h held = (bounds_grow len more last bs h held.0, all-grow len more last bounds h held.1)
+
+pub all-at : (P : List Bound → Type 0) (bounds : All-bounds) (n : ℕ) → n < length bounds → AllByRecursion P bounds → P (get_or bounds n [])
+all-at P [] n inside all = absurd (omega arith)
+all-at P (bs ∷ bounds) zero inside all = all.0
+all-at P (bs ∷ bounds) (suc n) inside all = all-at P bounds n (omega arith) all.1
+
+all-set : (P : List Bound → Type 0) (bounds : All-bounds) (n : ℕ) (bs : List Bound) → P bs → AllByRecursion P bounds → AllByRecursion P (set bounds n bs)
+all-set P [] n bs h all = tt
+all-set P (cs ∷ bounds) zero bs h all = (h, all.1)
+all-set P (cs ∷ bounds) (suc n) bs h all = (all.0, all-set P bounds n bs h all.1)
+
+all-push : (P : List Bound → Type 0) (bounds : All-bounds) (bs : List Bound) → P bs → AllByRecursion P bounds → AllByRecursion P (bounds ++ bs ∷ [])
+all-push P [] bs h all = (h, tt)
+all-push P (cs ∷ bounds) bs h all = (all.0, all-push P bounds bs h all.1)
+
+pub bounds-at : (vs : List (Vec Bound)) (n : ℕ) (v : Vec Bound) → n < length (bounds_of vs) → v ≡ get_or vs n v → get_or (bounds_of vs) n [] ≡ v.items
+bounds-at [] n v inside is = absurd (omega arith)
+bounds-at (w ∷ vs) zero v inside is = ap (λ (x : Vec Bound). x.items) (sym is)
+bounds-at (w ∷ vs) (suc n) v inside is = bounds-at vs n v (omega arith) is
+
+-- ---- names that are listed
+
+pub names-at : (names : List (List ℕ)) (lists : List (List ℕ)) (e : ℕ) → get_or (map (names_of names) lists) e [] ≡ names_of names (list_at lists e)
+names-at names [] e = refl
+names-at names (l ∷ lists) zero = refl
+names-at names (l ∷ lists) (suc e) = names-at names lists e
+
+pub name-some : (names : List (List ℕ)) (numbers : List ℕ) (i n : ℕ) (path : List ℕ) → i < length numbers → n ≡ get_or numbers i n → slice_get names n ≡ Some path → Some path ≡ slice_get (names_of names numbers) i
+name-some names [] i n path inside is got = absurd (omega arith)
+name-some names (m ∷ numbers) zero n path inside is got = ap Some (sym (get_or_from_slice_get names n path [] got) ∙ ap (λ k. get_or names k []) is)
+name-some names (m ∷ numbers) (suc i) n path inside is got = name-some names numbers i n path (omega arith) is got
+
+pub name-none : (names : List (List ℕ)) (numbers : List ℕ) (i : ℕ) → length numbers ≤ i → None ≡ slice_get (names_of names numbers) i
+name-none names [] i past = refl
+name-none names (m ∷ numbers) zero past = absurd (omega arith)
+name-none names (m ∷ numbers) (suc i) past = name-none names numbers i (omega arith)
+
+names-kept : (names : List (List ℕ)) (name : List ℕ) (numbers : List ℕ) → AllByRecursion (λ number. number < length names) numbers → names_of (names ++ name ∷ []) numbers ≡ names_of names numbers
+names-kept names name [] known = refl
+names-kept names name (n ∷ numbers) known =
+    ap (λ x. x ∷ names_of (names ++ name ∷ []) numbers) (get_or_append_left names (name ∷ []) [] n known.0)
+    ∙ ap (λ xs. get_or names n [] ∷ xs) (names-kept names name numbers known.1)
+
+known-more : (count more : ℕ) (numbers : List ℕ) → count ≤ more → AllByRecursion (λ number. number < count) numbers → AllByRecursion (λ number. number < more) numbers
+known-more count more [] le known = tt
+known-more count more (n ∷ numbers) le known = (omega (arith, known.0), known-more count more numbers le known.1)
+
+known-push : (count : ℕ) (numbers : List ℕ) (n : ℕ) → n < count → AllByRecursion (λ number. number < count) numbers → AllByRecursion (λ number. number < count) (numbers ++ n ∷ [])
+known-push count [] n h known = (h, tt)
+known-push count (m ∷ numbers) n h known = (known.0, known-push count numbers n h known.1)
+
+-- ---- one name is bound
 
 -- other values of one name
-pub value-bound : (old new : List (List ℕ × Rows)) (name : List ℕ) (rows : Rows) (edge : ℕ) (value : List ℕ)
-    → ((x : List ℕ) → lookup (bytes_eq x) new ≡ cond (bytes_eq x name) (Some rows) (lookup (bytes_eq x) old))
+value-bound : (old new : List (List ℕ × Rows)) (name : List ℕ) (rows : Rows) (edge : ℕ) (value : List ℕ)
+    → ((x : List ℕ) → rows_of new x ≡ cond (bytes_eq x name) (Some rows) (rows_of old x))
     → ((e : ℕ) → lookup (λ n. nat_eq e n) rows ≡ cond (nat_eq e edge) (Some value) (value_of old e name))
     → (e : ℕ) (x : List ℕ) → value_of new e x ≡ cond (nat_eq e edge && bytes_eq x name) (Some value) (value_of old e x)
-value-bound old new name rows edge value set bound e x =
-    ap (option_and_then (lookup (λ n. nat_eq e n))) (set x) ∙ by (bytes_eq x name) (bytes_eq-Decides x name).0
+value-bound old new name rows edge value now bound e x =
+    ap (option_and_then (lookup (λ n. nat_eq e n))) (now x) ∙ by (bytes_eq x name) (bytes_eq-Decides x name).0
   where
     other : (s : Bool) → value_of old e x ≡ cond (s && false) (Some value) (value_of old e x)
     other true = refl
@@ -96,70 +204,147 @@ value-bound old new name rows edge value set bound e x =
     here true = refl
     here false = refl
 
-    by : (t : Bool) → (t ≡ true → x ≡ name) → option_and_then (lookup (λ n. nat_eq e n)) (cond t (Some rows) (lookup (bytes_eq x) old)) ≡ cond (nat_eq e edge && t) (Some value) (value_of old e x)
+    by : (t : Bool) → (t ≡ true → x ≡ name) → option_and_then (lookup (λ n. nat_eq e n)) (cond t (Some rows) (rows_of old x)) ≡ cond (nat_eq e edge && t) (Some value) (value_of old e x)
     by true same = bound e ∙ ap (λ y. cond (nat_eq e edge) (Some value) (value_of old e y)) (sym (same refl)) ∙ here (nat_eq e edge)
     by false same = other (nat_eq e edge)
 
 -- the same values of one name again
-pub lookups-same : (old new : List (List ℕ × Rows)) (name : List ℕ) (rows : Rows)
-    → ((x : List ℕ) → lookup (bytes_eq x) new ≡ cond (bytes_eq x name) (Some rows) (lookup (bytes_eq x) old))
-    → lookup (bytes_eq name) old ≡ Some rows → (x : List ℕ) → lookup (bytes_eq x) new ≡ lookup (bytes_eq x) old
-lookups-same old new name rows set was x = set x ∙ by (bytes_eq x name) (bytes_eq-Decides x name).0
+rows-same : (old new : List (List ℕ × Rows)) (name : List ℕ) (rows : Rows)
+    → ((x : List ℕ) → rows_of new x ≡ cond (bytes_eq x name) (Some rows) (rows_of old x))
+    → rows_of old name ≡ Some rows → (x : List ℕ) → rows_of new x ≡ rows_of old x
+rows-same old new name rows now was x = now x ∙ by (bytes_eq x name) (bytes_eq-Decides x name).0
   where
-    by : (t : Bool) → (t ≡ true → x ≡ name) → cond t (Some rows) (lookup (bytes_eq x) old) ≡ lookup (bytes_eq x) old
-    by true same = sym (ap (λ y. lookup (bytes_eq y) old) (same refl) ∙ was)
+    by : (t : Bool) → (t ≡ true → x ≡ name) → cond t (Some rows) (rows_of old x) ≡ rows_of old x
+    by true same = sym (ap (λ y. rows_of old y) (same refl) ∙ was)
     by false same = refl
 
--- ---- one name is bound
+parts-later : (len last edge : ℕ) (bounds : List Bound) → last ≤ edge → AllByRecursion (IsPart len last) bounds → AllByRecursion (IsPart len edge) bounds
+parts-later len last edge [] from parts = tt
+parts-later len last edge (b ∷ bounds) from parts = (record { edge = omega (arith, parts.0.edge); rises = parts.0.rises; ends = parts.0.ends }, parts-later len last edge bounds from parts.1)
+
+all-later : (len last edge : ℕ) (bounds : All-bounds) → last ≤ edge → AllByRecursion (BoundsAreHeld len last) bounds → AllByRecursion (BoundsAreHeld len edge) bounds
+all-later len last edge [] from held = tt
+all-later len last edge (bs ∷ bounds) from held = (record { parts = parts-later len last edge bs from held.0.parts; rising = held.0.rising }, all-later len last edge bounds from held.1)
+
+pub later : (len last edge : ℕ) (names : List (List ℕ)) (bounds : All-bounds) (lists : List (List ℕ)) → last ≤ edge → BlocksAreHeld len last names bounds lists → BlocksAreHeld len edge names bounds lists
+later len last edge names bounds lists from held = record {
+  as_many = held.as_many;
+  values = all-later len last edge bounds from held.values;
+  listed = held.listed;
+  lists_end = omega (arith, held.lists_end);
+}
 
 abbrev pub Bound-now : (text new : List ℕ) (edge : ℕ) (value : List ℕ) (before after : List Bound) → Type 0
 Bound-now text new edge value before after =
     (e : ℕ) → lookup (λ n. nat_eq e n) (values_of new after) ≡ cond (nat_eq e edge) (Some value) (lookup (λ n. nat_eq e n) (values_of text before))
 
-module _ (text new : List ℕ) (edge : ℕ) (es : Entries) (grew : BeginsWith text new) (held : BlocksAreHeld (length text) edge es) where
-  pub unchanged : (e : ℕ) (x : List ℕ) → value_of (texts new es) e x ≡ value_of (texts text es) e x
-  unchanged e x = ap (λ all. value_of all e x) (texts_kept text new edge es grew held)
+module _ (text : List ℕ) (names : List (List ℕ)) (bounds : All-bounds) (lists : List (List ℕ)) (edge : ℕ) (held : BlocksAreHeld (length text) edge names bounds lists)
+    (name : List ℕ) (names1 : List (List ℕ)) (bounds1 : All-bounds) (n : ℕ) (is : IsNumberOf name names bounds names1 bounds1 n) where
+  abbrev Grows : Type 0
+  Grows = ((names1 ≡ names) × (bounds1 ≡ bounds)) ⊎ ((names1 ≡ names ++ name ∷ []) × (bounds1 ≡ bounds ++ [] ∷ []))
 
-  pub held-grown : BlocksAreHeld (length new) edge es
-  held-grown = held-grow (length text) (length new) edge es (longer text new grew) held
+  same-values : (e : ℕ) (x : List ℕ) → value_of (values_by_name text names1 bounds1) e x ≡ value_of (values_by_name text names bounds) e x
+  same-values e x = by is.grows
+    where
+      by : Grows → value_of (values_by_name text names1 bounds1) e x ≡ value_of (values_by_name text names bounds) e x
+      by (inl (a, b)) = ap (λ ns. value_of (values_by_name text ns bounds1) e x) a ∙ ap (λ bs. value_of (values_by_name text names bs) e x) b
+      by (inr (a, b)) = ap (λ ns. value_of (values_by_name text ns bounds1) e x) a ∙ ap (λ bs. value_of (values_by_name text (names ++ name ∷ []) bs) e x) b
+          ∙ value-appended text names bounds name e x held.as_many
 
-  module _ (name value : List ℕ) where
-    -- a name that was bound
-    module _ (v w : Vec Bound) (was : lookup (is_key name) es ≡ Some v) where
-      was_text : lookup (bytes_eq name) (texts text es) ≡ Some (values_of text v.items)
-      was_text = texts-at text es name ∙ ap (option_map (λ (v : Vec Bound). values_of text v.items)) was
+  same-names : (e : ℕ) → names_of names1 (list_at lists e) ≡ names_of names (list_at lists e)
+  same-names e = by is.grows
+    where
+      by : Grows → names_of names1 (list_at lists e) ≡ names_of names (list_at lists e)
+      by (inl (a, b)) = ap (λ ns. names_of ns (list_at lists e)) a
+      by (inr (a, b)) = ap (λ ns. names_of ns (list_at lists e)) a ∙ names-kept names name (list_at lists e) (held.listed e)
 
-      set_text : (x : List ℕ) → lookup (bytes_eq x) (texts new (set_value (is_key name) es w)) ≡ cond (bytes_eq x name) (Some (values_of new w.items)) (lookup (bytes_eq x) (texts text es))
-      set_text x = lookup-set (λ (v : Vec Bound). values_of new v.items) es name w x (ap is_some was)
-          ∙ ap (λ all. cond (bytes_eq x name) (Some (values_of new w.items)) (lookup (bytes_eq x) all)) (texts_kept text new edge es grew held)
+  pub numbered : BlocksAreHeld (length text) edge names1 bounds1 lists
+  numbered = by is.grows
+    where
+      by : Grows → BlocksAreHeld (length text) edge names1 bounds1 lists
+      by (inl (a, b)) = record {
+        as_many = ap length b ∙ held.as_many ∙ ap length (sym a);
+        values = subst (AllByRecursion (BoundsAreHeld (length text) edge)) (sym b) held.values;
+        listed = λ e. subst (λ (ns : List (List ℕ)). AllByRecursion (λ number. number < length ns) (list_at lists e)) (sym a) (held.listed e);
+        lists_end = held.lists_end;
+      }
+      by (inr (a, b)) = record {
+        as_many = ap length b ∙ length-append bounds ([] ∷ []) ∙ ap (λ m. m + 1) held.as_many ∙ sym (length-append names (name ∷ [])) ∙ ap length (sym a);
+        values = subst (AllByRecursion (BoundsAreHeld (length text) edge)) (sym b) (all-push (BoundsAreHeld (length text) edge) bounds [] (record { parts = tt; rising = tt }) held.values);
+        listed = λ e. subst (λ (ns : List (List ℕ)). AllByRecursion (λ number. number < length ns) (list_at lists e)) (sym a)
+            (known-more (length names) (length (names ++ name ∷ [])) (list_at lists e) (omega (arith, length-append names (name ∷ []))) (held.listed e));
+        lists_end = held.lists_end;
+      }
 
-      pub set-bound : Bound-now text new edge value v.items w.items
-          → (e : ℕ) (x : List ℕ) → value_of (texts new (set_value (is_key name) es w)) e x ≡ cond (nat_eq e edge && bytes_eq x name) (Some value) (value_of (texts text es) e x)
-      set-bound bound = value-bound (texts text es) (texts new (set_value (is_key name) es w)) name (values_of new w.items) edge value set_text
-          (λ e. bound e ∙ ap (λ o. cond (nat_eq e edge) (Some value) (option_and_then (lookup (λ n. nat_eq e n)) o)) (sym was_text))
+  pub number-within : n < length bounds1
+  number-within = let inside = first-within name names1 n is.at in omega (arith, inside, numbered.as_many)
 
-      pub set-same : values_of new w.items ≡ values_of text v.items
-          → (e : ℕ) (x : List ℕ) → value_of (texts new (set_value (is_key name) es w)) e x ≡ value_of (texts text es) e x
-      set-same same e x = ap (option_and_then (lookup (λ n. nat_eq e n)))
-          (lookups-same (texts text es) (texts new (set_value (is_key name) es w)) name (values_of new w.items) set_text (was_text ∙ ap Some (sym same)) x)
+  pub held-here : BoundsAreHeld (length text) edge (get_or bounds1 n [])
+  held-here = all-at (BoundsAreHeld (length text) edge) bounds1 n number-within numbered.values
 
-      pub held-value : BoundsAreHeld (length text) edge v.items
-      held-value = held-at (length text) edge es name v held was
+  was_here : rows_of (values_by_name text names1 bounds1) name ≡ Some (values_of text (get_or bounds1 n []))
+  was_here = rows-first text names1 bounds1 name n numbered.as_many is.at
 
-      pub set-held : BoundsAreHeld (length new) edge w.items → BlocksAreHeld (length new) edge (set_value (is_key name) es w)
-      set-held = held-set (length new) edge es name w held-grown
+  -- whether it was bound, by its bounds
+  pub bound-here : is_some (bound_of (get_or bounds1 n []) edge) ≡ is_some (value_of (values_by_name text names bounds) edge name)
+  bound-here = by (bound_of (get_or bounds1 n []) edge) ∙ sym (ap is_some (value-first text names1 bounds1 name n edge numbered.as_many is.at)) ∙ ap is_some (same-values edge name)
+    where
+      by : (o : Option Bound) → is_some o ≡ is_some (option_map (λ b. slice_range text b.start b.end) o)
+      by None = refl
+      by (Some b) = refl
 
-    -- a name that was not
-    module _ (k : Vec ℕ) (w : Vec Bound) (was : lookup (is_key name) es ≡ None) (key : k.items ≡ name) where
-      insert_text : (x : List ℕ) → lookup (bytes_eq x) (texts new (insert_entry same_key es k w)) ≡ cond (bytes_eq x name) (Some (values_of new w.items)) (lookup (bytes_eq x) (texts text es))
-      insert_text x = lookup-inserted (λ (v : Vec Bound). values_of new v.items) es k w x
-          ∙ ap (λ y. cond (bytes_eq x y) (Some (values_of new w.items)) (lookup (bytes_eq x) (texts new es))) key
-          ∙ ap (λ all. cond (bytes_eq x name) (Some (values_of new w.items)) (lookup (bytes_eq x) all)) (texts_kept text new edge es grew held)
+  module _ (new : List ℕ) (bs : List Bound) (lists1 : List (List ℕ)) (grew : BeginsWith text new) where
+    set_rows : (x : List ℕ) → rows_of (values_by_name new names1 (set bounds1 n bs)) x ≡ cond (bytes_eq x name) (Some (values_of new bs)) (rows_of (values_by_name text names1 bounds1) x)
+    set_rows x = rows-set new names1 bounds1 name n bs x numbered.as_many is.at
+        ∙ ap (λ all. cond (bytes_eq x name) (Some (values_of new bs)) (rows_of all x)) (values-kept text new edge names1 bounds1 grew numbered.values)
 
-      pub insert-bound : Bound-now text new edge value [] w.items
-          → (e : ℕ) (x : List ℕ) → value_of (texts new (insert_entry same_key es k w)) e x ≡ cond (nat_eq e edge && bytes_eq x name) (Some value) (value_of (texts text es) e x)
-      insert-bound bound = value-bound (texts text es) (texts new (insert_entry same_key es k w)) name (values_of new w.items) edge value insert_text
-          (λ e. bound e ∙ ap (λ o. cond (nat_eq e edge) (Some value) (option_and_then (lookup (λ n. nat_eq e n)) o)) (sym (texts-at text es name ∙ ap (option_map (λ (v : Vec Bound). values_of text v.items)) was)))
+    pub set-bound : (value : List ℕ) → Bound-now text new edge value (get_or bounds1 n []) bs
+        → (e : ℕ) (x : List ℕ) → value_of (values_by_name new names1 (set bounds1 n bs)) e x ≡ cond (nat_eq e edge && bytes_eq x name) (Some value) (value_of (values_by_name text names bounds) e x)
+    set-bound value bound e x =
+        value-bound (values_by_name text names1 bounds1) (values_by_name new names1 (set bounds1 n bs)) name (values_of new bs) edge value set_rows
+        (λ k. bound k ∙ ap (λ o. cond (nat_eq k edge) (Some value) (option_and_then (lookup (λ n. nat_eq k n)) o)) (sym was_here)) e x
+        ∙ ap (cond (nat_eq e edge && bytes_eq x name) (Some value)) (same-values e x)
 
-      pub insert-held : BoundsAreHeld (length new) edge w.items → BlocksAreHeld (length new) edge (insert_entry same_key es k w)
-      insert-held = held-insert (length new) edge es k w held-grown
+    pub set-same : values_of new bs ≡ values_of text (get_or bounds1 n [])
+        → (e : ℕ) (x : List ℕ) → value_of (values_by_name new names1 (set bounds1 n bs)) e x ≡ value_of (values_by_name text names bounds) e x
+    set-same same e x =
+        ap (option_and_then (lookup (λ n. nat_eq e n)))
+        (rows-same (values_by_name text names1 bounds1) (values_by_name new names1 (set bounds1 n bs)) name (values_of new bs) set_rows (was_here ∙ ap Some (sym same)) x)
+        ∙ same-values e x
+
+    abbrev pub Listed : Type 0
+    Listed = (e : ℕ) → list_at lists1 e ≡ cond (nat_eq e edge && not (is_some (bound_of (get_or bounds1 n []) edge))) (list_at lists e ++ n ∷ []) (list_at lists e)
+
+    pub names-bound : Listed → (e : ℕ) → get_or (map (names_of names1) lists1) e []
+        ≡ cond (nat_eq e edge && not (is_some (value_of (values_by_name text names bounds) edge name))) (get_or (map (names_of names) lists) e [] ++ name ∷ []) (get_or (map (names_of names) lists) e [])
+    names-bound listed e =
+        names-at names1 lists1 e ∙ ap (names_of names1) (listed e) ∙ by (nat_eq e edge && not (is_some (bound_of (get_or bounds1 n []) edge)))
+        ∙ ap (λ t. cond (nat_eq e edge && not t) (names_of names (list_at lists e) ++ name ∷ []) (names_of names (list_at lists e))) bound-here
+        ∙ ap (λ xs. cond (nat_eq e edge && not (is_some (value_of (values_by_name text names bounds) edge name))) (xs ++ name ∷ []) xs) (sym (names-at names lists e))
+      where
+        by : (t : Bool) → names_of names1 (cond t (list_at lists e ++ n ∷ []) (list_at lists e)) ≡ cond t (names_of names (list_at lists e) ++ name ∷ []) (names_of names (list_at lists e))
+        by true = map-append (λ number. get_or names1 number []) (list_at lists e) (n ∷ []) ∙ ap (λ xs. xs ++ get_or names1 n [] ∷ []) (same-names e)
+            ∙ ap (λ x. names_of names (list_at lists e) ++ x ∷ []) (first-is name names1 n is.at)
+        by false = same-names e
+
+    pub names-same : ((e : ℕ) → list_at lists1 e ≡ list_at lists e) → (e : ℕ) → get_or (map (names_of names1) lists1) e [] ≡ get_or (map (names_of names) lists) e []
+    names-same same e = names-at names1 lists1 e ∙ ap (names_of names1) (same e) ∙ same-names e ∙ sym (names-at names lists e)
+
+    held-after : BoundsAreHeld (length new) edge bs → ((e : ℕ) → AllByRecursion (λ number. number < length names1) (list_at lists1 e)) → length lists1 ≤ edge + 1
+        → BlocksAreHeld (length new) edge names1 (set bounds1 n bs) lists1
+    held-after now known ends = record {
+      as_many = length-set bounds1 n bs ∙ numbered.as_many;
+      values = all-set (BoundsAreHeld (length new) edge) bounds1 n bs now (all-grow (length text) (length new) edge bounds1 (longer text new grew) numbered.values);
+      listed = known;
+      lists_end = ends;
+    }
+
+    pub held-bound : BoundsAreHeld (length new) edge bs → Listed → length lists1 ≤ edge + 1 → BlocksAreHeld (length new) edge names1 (set bounds1 n bs) lists1
+    held-bound now listed ends = held-after now (λ e. subst (AllByRecursion (λ number. number < length names1)) (sym (listed e)) (by e (nat_eq e edge && not (is_some (bound_of (get_or bounds1 n []) edge))))) ends
+      where
+        by : (e : ℕ) (t : Bool) → AllByRecursion (λ number. number < length names1) (cond t (list_at lists e ++ n ∷ []) (list_at lists e))
+        by e true = known-push (length names1) (list_at lists e) n (first-within name names1 n is.at) (numbered.listed e)
+        by e false = numbered.listed e
+
+    pub held-same : BoundsAreHeld (length new) edge bs → ((e : ℕ) → list_at lists1 e ≡ list_at lists e) → length lists1 ≤ edge + 1 → BlocksAreHeld (length new) edge names1 (set bounds1 n bs) lists1
+    held-same now same ends = held-after now (λ e. subst (AllByRecursion (λ number. number < length names1)) (sym (same e)) (numbered.listed e)) ends

@@ -1,5 +1,5 @@
 -- Lemmas on the values of one name.
-use Rattle.std.proofs.Common.{◌≡◌, ◌≢◌, ℕ, zero, suc, ◌+◌, ◌-◌, ◌<◌, ◌≤◌, nat_eq, Bool, true, false, cond, ◌⊎◌, inl, inr, ltb, Some, None, Result, Ok, Err, option_map, List, [], ◌∷◌, ◌++◌, length, take, drop, get_or, slice_set, refl, sym, ap, subst, ◌∙◌, arith, true≢false, length-drop, length-append}
+use Rattle.std.proofs.Common.{◌≡◌, ◌≢◌, ℕ, zero, suc, ◌+◌, ◌-◌, ◌<◌, ◌≤◌, nat_eq, Bool, true, false, cond, not, ◌&&◌, ◌⊎◌, inl, inr, ltb, Some, None, is_some, Result, Ok, Err, option_map, List, [], ◌∷◌, ◌++◌, length, take, drop, get_or, slice_set, refl, sym, ap, subst, ◌∙◌, arith, true≢false, length-drop, length-append}
 use Rattle.std.proofs.lemmas.Bool.{ltb-true, ltb-false}
 use Rattle.std.proofs.lemmas.List.Sorted.{IsPartitionedBy-ltb}
 use Rattle.std.specs.List.{AllByRecursion, slice_range}
@@ -11,7 +11,7 @@ use Rattle.std.proofs.lemmas.List.{take-append-le, drop-append-le}
 use Rattle.std.proofs.lemmas.List.Elements.{All-from_recursion}
 use Rattle.std.proofs.lemmas.Option.{same_Some}
 use Rattle.nj_edge_env.specs.declared.bounds.Bound.{Bound}
-use Rattle.nj_edge_env.specs.Inside.BlocksHeld.{values_of, AreRising, IsPart, BoundsAreHeld, IsBoundTo, BeginsWith, with_bound, bound_of}
+use Rattle.nj_edge_env.specs.Inside.BlocksHeld.{values_of, AreRising, IsPart, BoundsAreHeld, IsBoundTo, BeginsWith, with_bound, ends_at, bound_of}
 
 -- ---- tests
 
@@ -45,6 +45,17 @@ swapped true true x y z apart = absurd (apart refl refl)
 swapped true false x y z apart = refl
 swapped false t x y z apart = refl
 
+-- what is done unless something holds
+pub listed-before : {X : Type 0} (s t : Bool) (x y : X) → t ≡ true → y ≡ cond (s && not t) x y
+listed-before true true x y h = refl
+listed-before false true x y h = refl
+listed-before s false x y h = absurd (true≢false (sym h))
+
+pub listed-now : {X : Type 0} (s t : Bool) (x y : X) → t ≡ false → cond s x y ≡ cond (s && not t) x y
+listed-now true false x y h = refl
+listed-now false false x y h = refl
+listed-now s true x y h = absurd (true≢false h)
+
 pub at_ok : {X Y P Q : Type 0} (r : Result X Y) → OnOk r P → (P → Q) → OnOk r Q
 at_ok (Ok x) h then_so = then_so h
 at_ok (Err e) h then_so = tt
@@ -63,7 +74,7 @@ on_err (Err e) h = h
 
 -- ---- a text that grew
 
-slice_kept : (xs ys : List ℕ) (a b : ℕ) → a ≤ b → b ≤ length xs → slice_range (xs ++ ys) a b ≡ slice_range xs a b
+pub slice_kept : (xs ys : List ℕ) (a b : ℕ) → a ≤ b → b ≤ length xs → slice_range (xs ++ ys) a b ≡ slice_range xs a b
 slice_kept xs ys a b rises ends =
     ap (take (b - a)) (drop-append-le a xs ys (omega arith)) ∙ take-append-le (b - a) (drop a xs) ys (omega (arith, length-drop a xs))
 
@@ -223,6 +234,31 @@ rising_with (c ∷ []) len b rising parts = by (eqb_tells c.edge b.edge)
     by (inr (f, apart)) = subst (λ t. AreRising (cond t (b ∷ []) (c ∷ b ∷ []))) (sym f) ((omega (arith, apart, parts.0.edge), tt), (tt, tt))
 rising_with (c ∷ d ∷ bounds) len b rising parts =
     (all_with (λ x. c.edge < x.edge) (d ∷ bounds) b rising.0 (omega (arith, rising.0.0, parts.1.0.edge)), rising_with (d ∷ bounds) len b rising.1 parts.1)
+
+-- ---- whether the last one is of an edge
+
+pub ends_at-nil : (bounds : List Bound) (edge : ℕ) → (0 < length bounds → ⊥) → ends_at bounds edge ≡ false
+ends_at-nil [] edge h = refl
+ends_at-nil (c ∷ bounds) edge h = absurd (h (omega arith))
+
+pub ends_at-last : (bounds : List Bound) (i edge : ℕ) (last : Bound) → i + 1 ≡ length bounds → last ≡ get_or bounds i last → ends_at bounds edge ≡ nat_eq last.edge edge
+ends_at-last [] i edge last n is = absurd (omega arith)
+ends_at-last (c ∷ []) zero edge last n is = ap (λ (x : Bound). nat_eq x.edge edge) (sym is)
+ends_at-last (c ∷ []) (suc i) edge last n is = absurd (omega arith)
+ends_at-last (c ∷ d ∷ bounds) zero edge last n is = absurd (omega arith)
+ends_at-last (c ∷ d ∷ bounds) (suc i) edge last n is = ends_at-last (d ∷ bounds) i edge last (omega arith) is
+
+-- no bound is of a later edge
+pub ends-bound : (bounds : List Bound) (len edge : ℕ) → AreRising bounds → AllByRecursion (IsPart len edge) bounds → is_some (bound_of bounds edge) ≡ ends_at bounds edge
+ends-bound [] len edge rising parts = refl
+ends-bound (c ∷ []) len edge rising parts = by (eqb_tells c.edge edge)
+  where
+    by : Told c.edge edge → is_some (cond (nat_eq edge c.edge) (Some c) None) ≡ nat_eq c.edge edge
+    by (inl (t, same)) = ap (λ b. is_some (cond b (Some c) None)) (test-from_same edge c.edge (sym same)) ∙ sym t
+    by (inr (f, apart)) = ap (λ b. is_some (cond b (Some c) None)) (test-from_apart edge c.edge (λ same. apart (sym same))) ∙ sym f
+ends-bound (c ∷ d ∷ bounds) len edge rising parts =
+    ap (λ b. is_some (cond b (Some c) (bound_of (d ∷ bounds) edge))) (test-from_apart edge c.edge (λ same. omega (arith, same, rising.0.0, parts.1.0.edge)))
+    ∙ ends-bound (d ∷ bounds) len edge rising.1 parts.1
 
 -- ---- a value that is bound
 

@@ -9,4 +9,4 @@ pub mod TextLemmas
 pub mod MemoLemmas
 pub mod BoundLemmas
 pub mod BlockLemmas
-pub mod MapLemmas
+pub mod ListLemmas

@@ -1,11 +1,12 @@
 //! The values that the blocks of edges bind.
 
-ghost use Rattle.std.specs.Prelude.{◌≡◌, ℕ, ◌≤◌, ◌==◌, ◌&&◌, if◌then◌else◌, List, Some, None, length, option_copied, bytes_eq, OnOk, OnErr};
-ghost use Rattle.nj_edge_env.specs.Blocks.{bound_in};
-ghost use Rattle.nj_edge_env.specs.Inside.BlocksHeld.{blocks_of, BlocksAreHeld};
+ghost use Rattle.std.specs.Prelude.{◌≡◌, ℕ, ◌≤◌, ◌==◌, ◌&&◌, not, if◌then◌else◌, List, [], ◌∷◌, ◌++◌, Some, None, length, slice_get, is_some, option_copied, bytes_eq, IfOk, OnOk, OnErr};
+ghost use Rattle.nj_edge_env.specs.Blocks.{bound_in, names_in};
+ghost use Rattle.nj_edge_env.specs.Inside.BlocksHeld.{blocks_of, bounds_of, BlocksAreHeld, IsNumberOf};
 
 use crate::bounds::{Bound, bind_value, bound_of, value_at};
-use indexmap::IndexMap;
+use crate::lists::NumberLists;
+use nj_edges::{FileNo, Files};
 use nj_scope::HashKeys;
 use std::alloc::{AllocError, Global};
 use std::marker::Model;
@@ -15,33 +16,42 @@ use std::marker::Model;
 #[derive(Drop)]
 pub struct Blocks {
     alloc: Global,
-    values: IndexMap<Vec<u8>, Vec<Bound>, HashKeys>,
+    // names by their numbers, as paths of files are kept
+    names: Files,
+    // the values of each name
+    values: Vec<Vec<Bound>>,
     text: Vec<u8>,
+    // the numbers of the names that each block binds
+    lists: NumberLists,
     last: usize,
 }
 
 impl Model for Blocks {
     ghost use Rattle.std.specs.Prelude.{length};
     ghost use Rattle.nj_edge_env.specs.Blocks.{BlocksText};
-    ghost use Rattle.nj_edge_env.specs.Inside.BlocksHeld.{blocks_of, BlocksAreHeld};
+    ghost use Rattle.nj_edge_env.specs.Inside.BlocksHeld.{blocks_of, bounds_of, BlocksAreHeld};
 
     ghost Value = { BlocksText };
 
-    ghost view = { λ b. blocks_of b.text.items b.values.entries b.last };
+    ghost view = { λ b. blocks_of b.text.items b.names (bounds_of b.values.items) b.lists b.last };
 
-    ghost invariant = { λ b. BlocksAreHeld (length b.text.items) b.last b.values.entries };
+    ghost invariant = { λ b. BlocksAreHeld (length b.text.items) b.last b.names
+        (bounds_of b.values.items) b.lists };
 }
 
 impl Blocks {
     /// Blocks that bind nothing. It allocates nothing.
     pub fn new(alloc: Global, keys: HashKeys) -> Blocks
         ensures nothing { (edge : ℕ) (name : List ℕ) → bound_in result edge name ≡ None }
+        ensures no_names { (edge : ℕ) → names_in result edge ≡ [] }
         ensures last { result.last ≡ 0 }
     {
         Blocks {
             alloc,
-            values: IndexMap::with_hasher(alloc, keys),
+            names: Files::new(alloc, keys),
+            values: Vec::new(alloc),
             text: Vec::new(alloc),
+            lists: NumberLists::new(alloc),
             last: 0,
         }
     }
@@ -59,15 +69,21 @@ impl Blocks {
             then Some value.now else bound_in self.old e x)) }
         ensures refused { OnErr result ((e : ℕ) (x : List ℕ)
             → bound_in self.new e x ≡ bound_in self.old e x) }
+        ensures names { OnOk result ((e : ℕ) → names_in self.new e
+            ≡ (if e == edge && not (is_some (bound_in self.old edge name.now))
+            then names_in self.old e ++ name.now ∷ [] else names_in self.old e)) }
+        ensures same_names { OnErr result ((e : ℕ)
+            → names_in self.new e ≡ names_in self.old e) }
         ensures last { self.new.last ≡ edge }
     {
         self.last = edge;
-        bind_name(
-            self.alloc,
-            &mut self.values,
+        let number = name_number(self.alloc, &mut self.names, &mut self.values, name)?;
+        bind_value(
+            &mut self.values[number],
             &mut self.text,
+            &mut self.lists,
             edge,
-            name,
+            number,
             value,
         )
     }
@@ -76,8 +92,8 @@ impl Blocks {
     pub fn value(&self, edge: usize, name: &[u8]) -> Option<&[u8]>
         ensures { option_copied result ≡ bound_in self.now edge name.now }
     {
-        let bounds = match self.values.get(name) {
-            Some(bounds) => bounds.as_slice(),
+        let bounds = match self.names.number(name) {
+            Some(file) => self.values[file.0].as_slice(),
             None => return None,
         };
         match bound_of(bounds, edge) {
@@ -85,33 +101,45 @@ impl Blocks {
             None => None,
         }
     }
+
+    /// How many names the block of this edge binds.
+    pub fn name_count(&self, edge: usize) -> usize
+        ensures { result ≡ length (names_in self.now edge) }
+    {
+        self.lists.list(edge).len()
+    }
+
+    /// The name at this index among those that the block of this edge binds, each once, in the
+    /// order in which they were first bound; `None` past the last one.
+    pub fn name(&self, edge: usize, index: usize) -> Option<&[u8]>
+        ensures { option_copied result ≡ slice_get (names_in self.now edge) index }
+    {
+        match self.lists.list(edge).get(index) {
+            Some(number) => Some(self.names.path(FileNo(*number as usize))),
+            None => None,
+        }
+    }
 }
 
-// Binds the name in the block of this edge. A name that is bound somewhere keeps its key.
-fn bind_name(
+// The number of the name. A name that no block bound yet gets one, and has no values.
+fn name_number(
     alloc: Global,
-    values: &mut IndexMap<Vec<u8>, Vec<Bound>, HashKeys>,
-    text: &mut Vec<u8>,
-    edge: usize,
+    names: &mut Files,
+    values: &mut Vec<Vec<Bound>>,
     name: &[u8],
-    value: &[u8],
-) -> Result<(), AllocError>
-    requires { BlocksAreHeld (length text.old.items) edge values.old.entries }
-    ensures bound { OnOk result ((e : ℕ) (x : List ℕ)
-        → bound_in (blocks_of text.new.items values.new.entries edge) e x
-        ≡ (if e == edge && bytes_eq x name.now then Some value.now
-        else bound_in (blocks_of text.old.items values.old.entries edge) e x)) }
-    ensures refused { OnErr result ((e : ℕ) (x : List ℕ)
-        → bound_in (blocks_of text.new.items values.new.entries edge) e x
-        ≡ bound_in (blocks_of text.old.items values.old.entries edge) e x) }
-    ensures held { BlocksAreHeld (length text.new.items) edge values.new.entries }
+) -> Result<usize, AllocError>
+    requires { length values.old.items ≡ length names.old }
+    ensures number { IfOk result (λ number. IsNumberOf name.now names.old
+        (bounds_of values.old.items) names.new (bounds_of values.new.items) number) }
+    ensures names { OnErr result (names.new ≡ names.old) }
+    ensures values { OnErr result (values.new.items ≡ values.old.items) }
 {
-    if let Some(bounds) = values.get_mut(name) {
-        return bind_value(bounds, text, edge, value);
+    if let Some(file) = names.number(name) {
+        return Ok(file.0);
     }
-    let mut bounds = Vec::new(alloc);
-    bind_value(&mut bounds, text, edge, value)?;
-    let key = Vec::from_slice(alloc, name)?;
-    values.insert(key, bounds)?;
-    Ok(())
+    let number = values.as_slice().len();
+    values.reserve(1)?;
+    names.name(name)?;
+    values.push_reserved(Vec::new(alloc));
+    Ok(number)
 }

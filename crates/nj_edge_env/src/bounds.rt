@@ -1,10 +1,11 @@
 //! The values of one name, by edge: parts of one text.
 
-ghost use Rattle.std.specs.Prelude.{◌≡◌, ℕ, ◌≤◌, ◌<◌, ◌==◌, if◌then◌else◌, Some, length, slice_range, IfOk, OnOk, OnErr};
+ghost use Rattle.std.specs.Prelude.{◌≡◌, ℕ, ◌+◌, ◌≤◌, ◌<◌, ◌==◌, ◌&&◌, not, if◌then◌else◌, Some, [], ◌∷◌, ◌++◌, length, slice_range, is_some, IfOk, OnOk, OnErr};
 ghost use Rattle.std.specs.List.{AllByRecursion};
 ghost use Rattle.std.specs.Map.{lookup};
-ghost use Rattle.nj_edge_env.specs.Inside.BlocksHeld.{values_of, AreRising, IsPart, BoundsAreHeld, IsBoundTo, BeginsWith, with_bound, bound_of};
+ghost use Rattle.nj_edge_env.specs.Inside.BlocksHeld.{values_of, AreRising, IsPart, BoundsAreHeld, IsBoundTo, BeginsWith, with_bound, ends_at, bound_of, list_at};
 
+use crate::lists::{NumberLists, short_number};
 use std::alloc::AllocError;
 
 // The value of a name in the block of an edge: a part of the text of all values. There are many of
@@ -56,14 +57,18 @@ fn searched(bounds: &[Bound], edge: usize) -> Option<Bound>
     }
 }
 
-// Binds the name in the block of this edge, in place of what the block bound it to before.
+// Binds the name of this number in the block of this edge, in place of what the block bound it to
+// before; a name that the block did not bind yet is listed.
 pub(crate) fn bind_value(
     bounds: &mut Vec<Bound>,
     text: &mut Vec<u8>,
+    lists: &mut NumberLists,
     edge: usize,
+    number: usize,
     value: &[u8],
 ) -> Result<(), AllocError>
-    requires { BoundsAreHeld (length text.old.items) edge bounds.old.items }
+    requires held { BoundsAreHeld (length text.old.items) edge bounds.old.items }
+    requires lists { length lists.old ≤ edge + 1 }
     ensures bound { OnOk result ((e : ℕ)
         → lookup (λ x. e == x) (values_of text.new.items bounds.new.items)
         ≡ (if e == edge then Some value.now
@@ -72,9 +77,14 @@ pub(crate) fn bind_value(
         ≡ values_of text.old.items bounds.old.items) }
     ensures held { BoundsAreHeld (length text.new.items) edge bounds.new.items }
     ensures text { BeginsWith text.old.items text.new.items }
+    ensures listed { OnOk result ((e : ℕ) → list_at lists.new e
+        ≡ (if e == edge && not (is_some (bound_of bounds.old.items edge))
+        then list_at lists.old e ++ number ∷ [] else list_at lists.old e)) }
+    ensures unlisted { OnErr result ((e : ℕ) → list_at lists.new e ≡ list_at lists.old e) }
+    ensures lists_end { length lists.new ≤ edge + 1 }
 {
     let bound = bound_to(bounds.as_slice(), text, edge, value)?;
-    set_bound(bounds, bound)
+    set_bound(bounds, lists, number, bound)
 }
 
 // Where the value is in the text: where that of the last bound is, if it is the same; else at the
@@ -110,20 +120,22 @@ fn push_value(text: &mut Vec<u8>, edge: usize, value: &[u8]) -> Result<Bound, Al
     Ok(Bound { edge, start, end })
 }
 
-// A number in 32 bits. One that does not fit is refused as if there were no memory for it.
-fn short_number(number: usize) -> Result<u32, AllocError>
-    ensures { IfOk result (λ short. short ≡ number) }
-{
-    match u32::try_from(number) {
-        Ok(short) => Ok(short),
-        Err(_) => Err(AllocError),
-    }
-}
-
-// Appends the bound, or replaces the last one if that is of the same edge.
-fn set_bound(bounds: &mut Vec<Bound>, bound: Bound) -> Result<(), AllocError>
+// Appends the bound, and lists the name of this number for its edge; or replaces the last bound if
+// that is of the same edge, which then has the name in its list.
+fn set_bound(
+    bounds: &mut Vec<Bound>,
+    lists: &mut NumberLists,
+    number: usize,
+    bound: Bound,
+) -> Result<(), AllocError>
+    requires { length lists.old ≤ bound.edge + 1 }
     ensures set { OnOk result (bounds.new.items ≡ with_bound bounds.old.items bound) }
     ensures refused { OnErr result (bounds.new.items ≡ bounds.old.items) }
+    ensures listed { OnOk result ((e : ℕ) → list_at lists.new e
+        ≡ (if e == bound.edge && not (ends_at bounds.old.items bound.edge)
+        then list_at lists.old e ++ number ∷ [] else list_at lists.old e)) }
+    ensures unlisted { OnErr result ((e : ℕ) → list_at lists.new e ≡ list_at lists.old e) }
+    ensures lists_end { length lists.new ≤ bound.edge + 1 }
 {
     if let Some(last) = bounds.last_mut() {
         if last.edge == bound.edge {
@@ -131,6 +143,8 @@ fn set_bound(bounds: &mut Vec<Bound>, bound: Bound) -> Result<(), AllocError>
             return Ok(());
         }
     }
-    bounds.push(bound)?;
+    bounds.reserve(1)?;
+    lists.push(bound.edge, number)?;
+    bounds.push_reserved(bound);
     Ok(())
 }

@@ -7,6 +7,7 @@ mod bounds;
 mod cycles;
 mod edge;
 mod laws;
+mod lists;
 mod memo;
 mod names;
 mod paths;

@@ -49,7 +49,7 @@ not_of_a_child = refl
 abbrev graph : GraphText
 graph = record {
   declarations = record { scopes = []; rules = phony_rule ∷ quiet_rule ∷ cc_rule ∷ []; pools = [] };
-  built = record { graph = record { files = []; edges = [] }; details = []; blocks = record { values = []; last = 0 }; defaults = []; assigned = []; pending = [] };
+  built = record { graph = record { files = []; edges = [] }; details = []; blocks = record { values = []; names = []; last = 0 }; defaults = []; assigned = []; pending = [] };
   origins = record { rules = []; pools = []; openings = [] };
 }
 

@@ -1,5 +1,5 @@
 -- What is discovered for an edge: which edges change by it, and which ones wait from then on.
-use Rattle.std.proofs.Common.{◌≡◌, ◌≢◌, ◌⊎◌, inl, inr, ℕ, zero, suc, ◌+◌, ◌<◌, ◌≤◌, ◌==◌, ◌||◌, Bool, true, false, not, cond, true≢false, if◌then◌else◌, List, [], ◌∷◌, ◌++◌, length, map, Option, Some, None, unwrap_or, slice_get, bytes_eq, is_some, refl, sym, ap, ◌∙◌, subst, arith}
+use Rattle.std.proofs.Common.{slice_index_or, ◌≡◌, ◌≢◌, ◌⊎◌, inl, inr, ℕ, zero, suc, ◌+◌, ◌<◌, ◌≤◌, ◌==◌, ◌||◌, Bool, true, false, not, cond, true≢false, if◌then◌else◌, List, [], ◌∷◌, ◌++◌, length, map, Option, Some, None, unwrap_or, slice_get, bytes_eq, is_some, refl, sym, ap, ◌∙◌, subst, arith}
 use Rattle.std.specs.Option.{option_or}
 use Rattle.std.specs.Prelude.{codes, filter, ◌&&◌}
 use Rattle.std.specs.List.{AllByRecursion, AllZip, list_any}
@@ -18,7 +18,7 @@ use Rattle.nj_faults.specs.declared.fault.GraphFault.{GraphFault}
 use Rattle.nj_faults.specs.declared.fault.Cause.TheVariants.{DyndepExtra, DyndepTwice}
 use Rattle.nj_faults.specs.Faults.{fault_at}
 use Rattle.nj_edge_env.specs.LateTexts.{LateNames, asked_text}
-use Rattle.nj_statements.specs.EdgeList.{EdgeText, Pending, path_said, block_of, on_line, stated_paths, edge_paths, with_discovered, edge_of_build, edges_read, paths_of_edges, block_of_edge, block_at}
+use Rattle.nj_statements.specs.EdgeList.{EdgeText, Pending, path_said, block_of, names_bound, block_names_at, on_line, stated_paths, edge_paths, with_discovered, edge_of_build, edges_read, paths_of_edges, block_of_edge, block_at}
 use Rattle.nj_statements.specs.EdgeList.{file_said, name_said, dyndep_of, pending_at, pending_read, assigned_of, assigned_read}
 use Rattle.nj_statements.specs.Joining.{no_values, discover, discovered_by, edge_meant, discover_for, waits_for, meaning_fault}
 use Rattle.nj_statements.specs.BuildFaults.{fault_if, first_fault, empty_path, outputs_fault}
@@ -62,6 +62,7 @@ edge_by e bound own outputs rule inputs lines = record {
   around = e.around;
   rule = number_by e own rule;
   block = block_of (value_in bound (scope_of e)) lines;
+  block_names = names_bound lines;
   paths = with_discovered e.discovered
       (edge_paths (stated_paths (on_line (value_in bound (scope_of e)) (block_of (value_in bound (scope_of e)) lines)) outputs inputs (number_by e own rule == 0)));
 }
@@ -159,6 +160,9 @@ block-same (suc n) name (e ∷ edges) (o ∷ others) same = block-same n name ed
 
 pub block_at-discover : (edge : ℕ) (found : Discovered) (entries : List ReadStatement) (n : ℕ) (name : List ℕ) → block_at (edges_read (discover edge found entries)) n name ≡ block_at (edges_read entries) n name
 block_at-discover edge found entries n name = block-same n name (edges_read entries) (edges_read (discover edge found entries)) (same-edges edge found entries)
+
+pub block_names_at-discover : (edge : ℕ) (found : Discovered) (entries : List ReadStatement) (n : ℕ) → block_names_at (edges_read (discover edge found entries)) n ≡ block_names_at (edges_read entries) n
+block_names_at-discover edge found entries n = ap (λ all. slice_index_or all n []) (map-discover (λ (e : EdgeText). e.block_names) (λ e outs ins. refl) edge found entries)
 
 all-same : (P : EdgeText → Type 0) → ((e : EdgeText) (outs ins : List (List ℕ)) → P e → P (record e { paths = record e.paths { implicit_outputs = outs; implicit_inputs = ins } }))
     → (edges others : List EdgeText) → AllZip SameEdge edges others → AllByRecursion P edges → AllByRecursion P others

@@ -212,6 +212,7 @@ module _ (held : BuildingText) (entries : List ReadStatement) (holds : HoldsEdge
         paths = ap (λ (v : EdgeGraph). v.edges) is ∙ holds.edges;
         details = details-named held.names ds (edges_read entries) all-details;
         blocks = holds.blocks;
+        block_names = holds.block_names;
         defaults = ap (λ (v : EdgeGraph). paths_at v.files held.defaults) is ∙ files-paths held.table.files held.defaults (defaults_read entries) holds.defaults;
         pending = ap (λ (v : EdgeGraph). map (pending_named v.files) held.dyndeps) is ∙ pending-named held.table.files held.dyndeps (pending_read entries) holds.dyndeps.edges_are holds.dyndeps.files_are;
         assigned = assigned-named held.names ds (assigned_read entries) all-assigned;

@@ -1,7 +1,7 @@
 -- What is held of no statement, and of one statement more.
 use Rattle.std.proofs.Common.{◌≡◌, ◌⊎◌, inl, inr, take, ℕ, ◌+◌, ◌<◌, ◌≤◌, ◌==◌, Bool, true, false, true≢false, if◌then◌else◌, List, [], ◌∷◌, ◌++◌, length, get_or, Option, Some, None, is_some, unwrap_or, Result, Ok, Err, OnOk, OnErr, IsErrAnd, map, slice_get, refl, sym, ap, subst, ◌∙◌, arith, ◌≢◌, suc}
 use Rattle.std.specs.Option.{option_or}
-use Rattle.std.proofs.lemmas.List.{append_assoc, append-nil, length-append, map-append, take_more}
+use Rattle.std.proofs.lemmas.List.{append_assoc, append-nil, length-append, length-map, get_or_past, map-append, take_more}
 use Rattle.std.proofs.lemmas.Bool.{cases_lt}
 use Rattle.std.proofs.lemmas.Bool.Decides.{eqb_tells}
 use Rattle.std.proofs.Math.Seq.{get_or-append_seam}
@@ -15,13 +15,13 @@ use Rattle.nj_manifest.specs.Statements.{LineText, OutputsText, InputsText, Stat
 use Rattle.nj_scope.specs.Rules.{line_kept}
 use Rattle.nj_scope.specs.Readings.{IsPrefix}
 use Rattle.nj_scope.specs.ReadingList.{ReadStatement, scope_of, value_after, rule_texts}
-use Rattle.nj_edge_env.specs.Blocks.{BlocksText, bound_in}
+use Rattle.nj_edge_env.specs.Blocks.{BlocksText, bound_in, names_in}
 use Rattle.nj_edges.specs.declared.files.FileNo.{FileNo}
 use Rattle.nj_edges.specs.EdgeTables.{no_files}
 use Rattle.nj_edges.specs.Files.{AreFiles}
 use Rattle.nj_faults.specs.declared.fault.GraphFault.{GraphFault}
 use Rattle.nj_faults.specs.Faults.{IsFault}
-use Rattle.nj_statements.specs.EdgeList.{Values, Block, EdgeText, Pending, build_block, path_said, paths_said, edge_of_build, edges_read, defaults_read, dyndep_of, pending_at, pending_read, block_at, block_of_edge, assigned_of, assigned_read}
+use Rattle.nj_statements.specs.EdgeList.{Values, Block, EdgeText, Pending, build_block, path_said, paths_said, edge_of_build, edges_read, defaults_read, dyndep_of, pending_at, pending_read, block_at, block_names_at, names_bound, block_of_edge, assigned_of, assigned_read}
 use Rattle.nj_statements.specs.declared.building.DyndepEdge.{DyndepEdge}
 use Rattle.nj_statements.specs.Answers.{BuildingText, ArePending, HoldsEdges, DetailText, IsDetail, AreDetails, IsAssigned, AreAssigned, ReadsStatement, HoldsReferences}
 use Rattle.nj_statements.specs.Inside.EdgeSteps.{IsFileSaid, with_dyndep, AddsEdge, AddsTargets}
@@ -30,12 +30,13 @@ use Rattle.nj_statements.proofs.Lists.{get-longer}
 use Rattle.nj_statements.proofs.ReferenceLemmas.{references-none, references-longer}
 
 pub holds-none : (held : BuildingText) → held.table ≡ record { files = []; edges = []; «open» = no_files }
-    → ((edge : ℕ) (name : List ℕ) → bound_in held.blocks edge name ≡ None) → held.details ≡ [] → held.defaults ≡ [] → held.dyndeps ≡ [] → held.references ≡ [] → HoldsEdges held []
+    → ((edge : ℕ) (name : List ℕ) → bound_in held.blocks edge name ≡ None) → ((edge : ℕ) → names_in held.blocks edge ≡ []) → held.details ≡ [] → held.defaults ≡ [] → held.dyndeps ≡ [] → held.references ≡ [] → HoldsEdges held []
 unfolding edges_read defaults_read pending_read assigned_read
-holds-none held table blocks details defaults dyndeps references = record {
+holds-none held table blocks block_names details defaults dyndeps references = record {
   edges = ap (λ t. t.edges) table;
   none_open = ap (λ t. t.«open») table;
   blocks = blocks;
+  block_names = block_names;
   details = subst (λ ds. AreDetails held.names ds []) (sym details) tt;
   assigned = subst (λ ds. AreAssigned held.names ds []) (sym details) tt;
   defaults = subst (λ ds. AreFiles held.table.files ds []) (sym defaults) refl;
@@ -112,6 +113,7 @@ holds-default old new e before words holds table blocks names details adds dynde
   edges = ap (λ t. t.edges) table ∙ holds.edges;
   none_open = ap (λ t. t.«open») table ∙ holds.none_open;
   blocks = λ number name. ap (λ b. bound_in b number name) blocks ∙ holds.blocks number name;
+  block_names = λ number. ap (λ b. names_in b number) blocks ∙ holds.block_names number;
   details = subst (λ ns. AreDetails ns new.details (edges_read before)) (sym names) (subst (λ ds. AreDetails old.names ds (edges_read before)) (sym details) holds.details);
   assigned = subst (λ ns. AreAssigned ns new.details (assigned_read before)) (sym names) (subst (λ ds. AreAssigned old.names ds (assigned_read before)) (sym details) holds.assigned);
   defaults = subst (λ t. AreFiles t.files new.defaults (defaults_read before ++ paths_said (value_after before (scope_of e)) words)) (sym table)
@@ -166,6 +168,33 @@ block-more edges e n name = by (eqb_tells n (length edges)) (cases_lt n (length 
         ap (λ b. if b then option_or (e.block name) (block_at edges n name) else block_at edges n name) other
         ∙ ap (λ o. bound-by o name) (slice_get_past edges n above ∙ sym (slice_get_past (edges ++ e ∷ []) n (omega (arith, above, apart, whole))))
 
+-- the names of one block more
+names-more : (edges : List EdgeText) (e : EdgeText) (n : ℕ) → (new old : List (List ℕ)) → old ≡ block_names_at edges n
+    → (n ≡ length edges → new ≡ e.block_names) → ((n == length edges) ≡ false → new ≡ old) → new ≡ block_names_at (edges ++ e ∷ []) n
+names-more edges e n new old was here others = by (eqb_tells n (length edges)) (cases_lt n (length edges))
+  where
+    all : List (List (List ℕ))
+    all = map (λ (x : EdgeText). x.block_names) edges
+
+    one : List (List (List ℕ))
+    one = e.block_names ∷ []
+
+    count : length all ≡ length edges
+    count = length-map edges (λ (x : EdgeText). x.block_names)
+
+    whole : length (all ++ one) ≡ length all + 1
+    whole = length-append all one
+
+    appended : block_names_at (edges ++ e ∷ []) n ≡ get_or (all ++ one) n []
+    appended = ap (λ xs. get_or xs n []) (map-append (λ (x : EdgeText). x.block_names) edges (e ∷ []))
+
+    by : ((n == length edges) ≡ true × (n ≡ length edges)) ⊎ ((n == length edges) ≡ false × (n ≢ length edges)) → (n < length edges) ⊎ (length edges ≤ n) → new ≡ block_names_at (edges ++ e ∷ []) n
+    by (inl (same, is)) h =
+        here is ∙ sym (ap (λ m. get_or (all ++ one) m []) (is ∙ sym count) ∙ get_or-append_seam all e.block_names [] []) ∙ sym appended
+    by (inr (other, apart)) (inl below) = others other ∙ was ∙ sym (get_or-append all one [] n (omega (arith, below, count))) ∙ sym appended
+    by (inr (other, apart)) (inr above) =
+        others other ∙ was ∙ get_or_past all n [] (omega (arith, above, count)) ∙ sym (get_or_past (all ++ one) n [] (omega (arith, above, apart, whole, count))) ∙ sym appended
+
 -- what waits with one edge more
 pending-more : (files longer : List (List ℕ)) (held : List DyndepEdge) (expected : List Pending) (edge : ℕ) (number : Option FileNo) (file : Option (List ℕ))
     → IsPrefix files longer → ArePending files held expected → IsFileSaid longer number file → ArePending longer (with_dyndep edge number held) (expected ++ pending_at edge None file)
@@ -195,11 +224,12 @@ fresh e = record e { discovered = None }
 pub holds-build : (old new : BuildingText) (e : ReadStatement) (before : List ReadStatement) (outputs : OutputsText) (rule : NameText) (inputs : InputsText) (lines : List LineText) (d : DetailText) (dyndep : Option FileNo) → HoldsEdges old before
     → AddsEdge old.table new.table (edge_of_build (fresh e) before outputs rule inputs lines).paths
     → ((n : ℕ) (name : List ℕ) → bound_in new.blocks n name ≡ (if n == length old.details then option_or (build_block e before lines name) (bound_in old.blocks n name) else bound_in old.blocks n name))
+    → ((n : ℕ) → n ≡ length old.details → names_in new.blocks n ≡ names_bound lines) → ((n : ℕ) → (n == length old.details) ≡ false → names_in new.blocks n ≡ names_in old.blocks n)
     → IsPrefix old.names new.names → new.details ≡ old.details ++ d ∷ [] → IsDetail new.names d (edge_of_build (fresh e) before outputs rule inputs lines) → IsAssigned new.names d (assigned_of before (edge_of_build (fresh e) before outputs rule inputs lines)) → new.defaults ≡ old.defaults
     → new.dyndeps ≡ with_dyndep (length old.details) dyndep old.dyndeps → IsFileSaid new.table.files dyndep (dyndep_of before (edge_of_build (fresh e) before outputs rule inputs lines))
     → HoldsReferences new.references (rule_texts before) → HoldsEdges new (record e { item = BuildText outputs rule inputs lines; discovered = None } ∷ before)
 unfolding edges_read defaults_read pending_read assigned_read
-holds-build old new e before outputs rule inputs lines d dyndep holds adds blocks names details is assigned defaults dyndeps said references = record {
+holds-build old new e before outputs rule inputs lines d dyndep holds adds blocks own_names other_names names details is assigned defaults dyndeps said references = record {
   edges = adds.edges ∙ ap (λ es. es ++ edge.paths ∷ []) holds.edges ∙ sym (map-append (λ (x : EdgeText). x.paths) (edges_read before) (edge ∷ []));
   none_open = adds.none_open;
   blocks = λ n name.
@@ -207,6 +237,9 @@ holds-build old new e before outputs rule inputs lines d dyndep holds adds block
       ∙ ap (λ count. if n == count then option_or (edge.block name) (bound_in old.blocks n name) else bound_in old.blocks n name) (details-count old.names old.details (edges_read before) holds.details)
       ∙ ap (λ o. if n == length (edges_read before) then option_or (edge.block name) o else o) (holds.blocks n name)
       ∙ block-more (edges_read before) edge n name;
+  block_names = λ n. names-more (edges_read before) edge n (names_in new.blocks n) (names_in old.blocks n) (holds.block_names n)
+      (λ is. own_names n (is ∙ sym (details-count old.names old.details (edges_read before) holds.details)))
+      (λ other. other_names n (ap (λ count. n == count) (details-count old.names old.details (edges_read before) holds.details) ∙ other));
   details = subst (λ ds. AreDetails new.names ds (edges_read before ++ edge ∷ [])) (sym details) (details-more old.names new.names old.details (edges_read before) d edge names holds.details is);
   assigned = subst (λ ds. AreAssigned new.names ds (assigned_read before ++ assigned_of before edge ∷ [])) (sym details) (assigned-more old.names new.names old.details (assigned_read before) d (assigned_of before edge) names holds.assigned assigned);
   defaults = subst (λ ns. AreFiles new.table.files ns (defaults_read before)) (sym defaults) (files-longer old.table.files new.table.files old.defaults (defaults_read before) adds.files holds.defaults);
@@ -225,6 +258,9 @@ no-block held before edge holds is name = holds.blocks edge name ∙ ap (λ o. b
   where
     count : length held.details ≡ length (edges_read before)
     count = details-count held.names held.details (edges_read before) holds.details
+
+pub no-names : (held : BuildingText) (before : List ReadStatement) (edge : ℕ) → HoldsEdges held before → edge ≡ length held.details → names_in held.blocks edge ≡ []
+no-names held before edge holds is = holds.block_names edge ∙ get_or_past (map (λ (x : EdgeText). x.block_names) (edges_read before)) edge [] (omega (arith, is, details-count held.names held.details (edges_read before) holds.details, length-map (edges_read before) (λ (x : EdgeText). x.block_names)))
 
 -- what the block of the edge that is being read binds
 pub open-block : (old : BuildingText) (before : List ReadStatement) (block : Block) (new : BlocksText) (edge : ℕ) → HoldsEdges old before → edge ≡ length old.details
@@ -254,14 +290,14 @@ names_files item = false
 
 holds-item : (held : BuildingText) (e : ReadStatement) (before : List ReadStatement) (item : StatementText) → names_files item ≡ false → HoldsEdges held before → HoldsEdges held (record e { item = item } ∷ before)
 unfolding edges_read defaults_read pending_read assigned_read
-holds-item held e before (BindingText bound word) other holds = record { edges = holds.edges; none_open = holds.none_open; blocks = holds.blocks; details = holds.details; assigned = holds.assigned; defaults = holds.defaults; dyndeps = holds.dyndeps; references = holds.references }
+holds-item held e before (BindingText bound word) other holds = record { edges = holds.edges; none_open = holds.none_open; blocks = holds.blocks; block_names = holds.block_names; details = holds.details; assigned = holds.assigned; defaults = holds.defaults; dyndeps = holds.dyndeps; references = holds.references }
 holds-item held e before (RuleText declared lines) other holds =
-    record { edges = holds.edges; none_open = holds.none_open; blocks = holds.blocks; details = holds.details; assigned = holds.assigned; defaults = holds.defaults; dyndeps = holds.dyndeps; references = references-longer held.references (rule_texts before) (record { scope = e.number; name = declared.name; lines = map line_kept lines } ∷ []) holds.references }
-holds-item held e before (PoolText declared lines) other holds = record { edges = holds.edges; none_open = holds.none_open; blocks = holds.blocks; details = holds.details; assigned = holds.assigned; defaults = holds.defaults; dyndeps = holds.dyndeps; references = holds.references }
+    record { edges = holds.edges; none_open = holds.none_open; blocks = holds.blocks; block_names = holds.block_names; details = holds.details; assigned = holds.assigned; defaults = holds.defaults; dyndeps = holds.dyndeps; references = references-longer held.references (rule_texts before) (record { scope = e.number; name = declared.name; lines = map line_kept lines } ∷ []) holds.references }
+holds-item held e before (PoolText declared lines) other holds = record { edges = holds.edges; none_open = holds.none_open; blocks = holds.blocks; block_names = holds.block_names; details = holds.details; assigned = holds.assigned; defaults = holds.defaults; dyndeps = holds.dyndeps; references = holds.references }
 holds-item held e before (BuildText outputs rule inputs lines) other holds = absurd (true≢false other)
 holds-item held e before (DefaultText words) other holds = absurd (true≢false other)
-holds-item held e before (IncludeText word) other holds = record { edges = holds.edges; none_open = holds.none_open; blocks = holds.blocks; details = holds.details; assigned = holds.assigned; defaults = holds.defaults; dyndeps = holds.dyndeps; references = holds.references }
-holds-item held e before (SubninjaText word) other holds = record { edges = holds.edges; none_open = holds.none_open; blocks = holds.blocks; details = holds.details; assigned = holds.assigned; defaults = holds.defaults; dyndeps = holds.dyndeps; references = holds.references }
+holds-item held e before (IncludeText word) other holds = record { edges = holds.edges; none_open = holds.none_open; blocks = holds.blocks; block_names = holds.block_names; details = holds.details; assigned = holds.assigned; defaults = holds.defaults; dyndeps = holds.dyndeps; references = holds.references }
+holds-item held e before (SubninjaText word) other holds = record { edges = holds.edges; none_open = holds.none_open; blocks = holds.blocks; block_names = holds.block_names; details = holds.details; assigned = holds.assigned; defaults = holds.defaults; dyndeps = holds.dyndeps; references = holds.references }
 
 -- What is held is held still after a statement that names no files.
 pub holds-other : (held : BuildingText) (e : ReadStatement) (before : List ReadStatement) → names_files e.item ≡ false → HoldsEdges held before → HoldsEdges held (e ∷ before)

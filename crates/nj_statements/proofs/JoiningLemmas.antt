@@ -31,7 +31,7 @@ use Rattle.nj_statements.specs.Inside.JoiningSteps.{is_bound_to, count_waiting, 
 use Rattle.nj_statements.proofs.Lists.{get-longer}
 use Rattle.nj_statements.proofs.WaitingLemmas.{is_path, find-first, find-none, none-first, first-passes, still-at, still-length, still-map, still-changed, waits-at, without-one, count-removed, count-less}
 use Rattle.nj_statements.proofs.DiscoverLemmas.{defaults_read-discover}
-use Rattle.nj_statements.proofs.DiscoverEdges.{details-discover, assigned-discover, block_at-discover, pending-discover, paths-discover, is_pending-from_waits}
+use Rattle.nj_statements.proofs.DiscoverEdges.{details-discover, assigned-discover, block_at-discover, block_names_at-discover, pending-discover, paths-discover, is_pending-from_waits}
 
 -- ---- answers
 
@@ -493,6 +493,7 @@ module _ (table : JoinTable) (blocks : BlocksText) (names : List (List ℕ)) (de
             stated_details = holds.stated_details;
             details = holds.details ∙ sym (details-discover edge found joined);
             blocks = λ number name. holds.blocks number name ∙ sym (block_at-discover edge found joined number name);
+            block_names = λ number. holds.block_names number ∙ sym (block_names_at-discover edge found joined number);
             defaults = same-defaults after keeps ∙ holds.defaults ∙ sym (defaults_read-discover edge found joined);
             dyndep_files = same-firsts after keeps ∙ holds.dyndep_files;
             bound = holds.bound ∙ ap (pending_from 0) (sym (same-bound after keeps));

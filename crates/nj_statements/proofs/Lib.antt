@@ -23,3 +23,5 @@ pub mod JoiningLemmas
 pub mod StartLemmas
 pub mod JoiningRows
 pub mod AssignedLemmas
+pub mod OnceLemmas
+pub mod BlockNames

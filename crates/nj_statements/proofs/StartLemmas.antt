@@ -130,6 +130,7 @@ module _ (graph : EdgeGraph) (blocks : BlocksText) (names : List (List ℕ)) (de
       stated_details = is.details;
       details = is.details;
       blocks = is.blocks;
+      block_names = is.block_names;
       defaults = is.defaults;
       dyndep_files = firsts-named graph.files once dyndeps held.dyndep_files_known ∙ ap dyndep_files is.pending;
       bound = (awaited stated).1.are ∙ ap (pending_from 0) (sym named);
@@ -157,6 +158,7 @@ module _ (table : JoinTable) (blocks : BlocksText) (names : List (List ℕ)) (de
       paths = ap (λ (v : EdgeGraph). v.edges) finishes.0 ∙ holds.joined_paths;
       details = holds.details;
       blocks = holds.blocks;
+      block_names = holds.block_names;
       defaults = ap (λ (v : EdgeGraph). paths_at v.files defaults) finishes.0 ∙ holds.defaults;
       pending = ap (map (pending_named g.files)) empty ∙ sym none;
       assigned = holds.assigned;

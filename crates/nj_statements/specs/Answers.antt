@@ -6,7 +6,7 @@ use Rattle.nj_manifest.specs.Statements.{StatementText}
 use Rattle.nj_scope.specs.Rules.{RuleText}
 use Rattle.nj_scope.specs.Readings.{IsPrefix}
 use Rattle.nj_scope.specs.ReadingList.{ReadStatement, rule_texts}
-use Rattle.nj_edge_env.specs.Blocks.{BlocksText, bound_in}
+use Rattle.nj_edge_env.specs.Blocks.{BlocksText, bound_in, names_in}
 use Rattle.nj_edges.specs.declared.files.FileNo.{FileNo}
 use Rattle.nj_edges.specs.EdgeTables.{EdgeTable, no_files}
 use Rattle.nj_edges.specs.Files.{AreFiles}
@@ -15,7 +15,7 @@ use Rattle.nj_faults.specs.declared.fault.PlaceRef.{PlaceRef}
 use Rattle.nj_faults.specs.Faults.{IsFault}
 use Rattle.nj_edge_env.specs.ReferencesHeld.{ReferringKeyText, TellsCycles}
 use Rattle.nj_statements.specs.declared.building.DyndepEdge.{DyndepEdge}
-use Rattle.nj_statements.specs.EdgeList.{EdgeText, Pending, AssignedText, edges_read, paths_of_edges, defaults_read, pending_read, block_at, assigned_read}
+use Rattle.nj_statements.specs.EdgeList.{EdgeText, Pending, AssignedText, edges_read, paths_of_edges, defaults_read, pending_read, block_at, block_names_at, assigned_read}
 
 -- ---- faults
 
@@ -100,6 +100,7 @@ pub record HoldsEdges (held : BuildingText) (entries : List ReadStatement) : Typ
   pub edges : held.table.edges ≡ paths_of_edges (edges_read entries)
   pub none_open : held.table.«open» ≡ no_files
   pub blocks : (number : ℕ) (name : List ℕ) → bound_in held.blocks number name ≡ block_at (edges_read entries) number name
+  pub block_names : (number : ℕ) → names_in held.blocks number ≡ block_names_at (edges_read entries) number
   pub details : AreDetails held.names held.details (edges_read entries)
   pub assigned : AreAssigned held.names held.details (assigned_read entries)
   pub defaults : AreFiles held.table.files held.defaults (defaults_read entries)
@@ -112,6 +113,7 @@ pub record AddsNothing (before after : BuildingText) : Type 0 where
   pub edges : KeepsRead before.table after.table
   pub blocks : (number : ℕ) (name : List ℕ) → number < length before.details
       → bound_in after.blocks number name ≡ bound_in before.blocks number name
+  pub block_names : (number : ℕ) → number < length before.details → names_in after.blocks number ≡ names_in before.blocks number
   pub names : IsPrefix before.names after.names
   pub details : after.details ≡ before.details
   pub defaults : after.defaults ≡ before.defaults

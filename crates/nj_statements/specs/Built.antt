@@ -2,7 +2,7 @@
 use Rattle.std.specs.Prelude.{◌≡◌, ◌⊎◌, ℕ, Some, Result, Ok, Err, List, [], ◌∷◌, map, length, slice_get, slice_index_or}
 use Rattle.nj_text.specs.declared.spot.Spot.{Spot}
 use Rattle.nj_scope.specs.ReadingList.{ReadStatement}
-use Rattle.nj_edge_env.specs.Blocks.{BlocksText, bound_in}
+use Rattle.nj_edge_env.specs.Blocks.{BlocksText, bound_in, names_in}
 use Rattle.nj_cycles.specs.Cycles.{IsAcyclic, IsLeastOnCycle}
 use Rattle.nj_edges.specs.EdgeGraphs.{EdgeGraph}
 use Rattle.nj_edges.specs.Edges.{EdgePaths, first_output, roots_of}
@@ -10,7 +10,7 @@ use Rattle.nj_edges.specs.Needs.{makers_of_inputs}
 use Rattle.nj_faults.specs.declared.fault.GraphFault.{GraphFault}
 use Rattle.nj_faults.specs.declared.fault.Cause.TheVariants.{Cycle}
 use Rattle.nj_faults.specs.Faults.{fault_at, no_memory}
-use Rattle.nj_statements.specs.EdgeList.{EdgeText, Pending, AssignedText, edges_read, paths_of_edges, defaults_read, pending_read, block_at, assigned_read}
+use Rattle.nj_statements.specs.EdgeList.{EdgeText, Pending, AssignedText, edges_read, paths_of_edges, defaults_read, pending_read, block_at, block_names_at, assigned_read}
 
 -- An edge without its paths and its block: the file of its build statement, by the name under which it was opened, the place
 -- of its first byte there, the number of its scope, and that of its rule.
@@ -53,6 +53,7 @@ pub record IsBuiltOf (built : BuiltText) (entries : List ReadStatement) : Type 0
   pub paths : built.graph.edges ≡ paths_of_edges (edges_read entries)
   pub details : built.details ≡ map detail_of (edges_read entries)
   pub blocks : (number : ℕ) (name : List ℕ) → bound_in built.blocks number name ≡ block_at (edges_read entries) number name
+  pub block_names : (number : ℕ) → names_in built.blocks number ≡ block_names_at (edges_read entries) number
   pub defaults : built.defaults ≡ defaults_read entries
   pub pending : built.pending ≡ pending_read entries
   pub assigned : built.assigned ≡ assigned_read entries

@@ -1,6 +1,6 @@
 -- The edges of a run: one for each build statement, in reading order.
 use Rattle.std.specs.Prelude.{ℕ, ◌==◌, Bool, ◌&&◌, not, if◌then◌else◌, Option, option_map, unwrap_or, Some, None, List}
-use Rattle.std.specs.Prelude.{[], ◌∷◌, ◌++◌, map, length, slice_get, slice_index_or, codes}
+use Rattle.std.specs.Prelude.{[], ◌∷◌, ◌++◌, map, length, slice_get, slice_index_or, codes, bytes_eq}
 use Rattle.std.specs.List.{filter}
 use Rattle.nj_text.specs.declared.spot.Spot.{Spot}
 use Rattle.nj_text.specs.Words.{WordText}
@@ -32,6 +32,15 @@ no_block name = None
 abbrev pub block_of : Values → List LineText → Block
 block_of values lines name = option_map (λ l. expanded values l.value.parts) (last_line (λ l. l.name) lines name)
 
+-- the list without its repeats: of each text the first is kept
+abbrev pub each_once : List (List ℕ) → List (List ℕ)
+each_once [] = []
+each_once (text ∷ texts) = text ∷ filter (λ other. not (bytes_eq other text)) (each_once texts)
+
+-- the names that a block binds, each once, in the order of their first lines
+abbrev pub names_bound : List LineText → List (List ℕ)
+names_bound lines = each_once (map (λ l. l.name) lines)
+
 -- A name on a build line is the block's, else the scope's.
 abbrev pub on_line : Values → Block → Values
 on_line values block name = unwrap_or (block name) (values name)
@@ -55,6 +64,8 @@ pub record EdgeText : Type 0 where
   -- the number of its rule: that which is in force before the statement; `phony` is 0
   pub rule : ℕ
   pub block : Block
+  -- the names that its block binds
+  pub block_names : List (List ℕ)
   pub paths : EdgePaths
 
 -- the files that a build statement names
@@ -111,6 +122,7 @@ edge_of_build e before outputs rule inputs lines = record {
   around = e.around;
   rule = rule_number e before rule;
   block = build_block e before lines;
+  block_names = names_bound lines;
   paths = with_discovered e.discovered
       (edge_paths (stated_paths (line_values e before lines) outputs inputs (rule_number e before rule == 0)));
 }
@@ -131,6 +143,10 @@ block_of_edge (Some e) = e.block
 
 abbrev pub block_at : List EdgeText → (number : ℕ) → Block
 block_at edges number = block_of_edge (slice_get edges number)
+
+-- the names that the block of the edge of a number binds; past the last edge there are none
+abbrev pub block_names_at : List EdgeText → (number : ℕ) → List (List ℕ)
+block_names_at edges number = slice_index_or (map (λ e. e.block_names) edges) number []
 
 abbrev pub paths_of_edges : List EdgeText → List EdgePaths
 paths_of_edges edges = map (λ e. e.paths) edges

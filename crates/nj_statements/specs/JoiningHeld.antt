@@ -4,10 +4,10 @@ use Rattle.std.specs.Prelude.{Result, Ok, Err, List, [], ◌∷◌, ◌++◌, ma
 use Rattle.std.specs.List.{IsDistinct}
 use Rattle.nj_scope.specs.Readings.{IsPrefix}
 use Rattle.nj_scope.specs.ReadingList.{ReadStatement}
-use Rattle.nj_edge_env.specs.Blocks.{BlocksText, bound_in}
+use Rattle.nj_edge_env.specs.Blocks.{BlocksText, bound_in, names_in}
 use Rattle.nj_edges.specs.Joining.{JoinTable, none_added}
 use Rattle.nj_faults.specs.declared.fault.GraphFault.{GraphFault}
-use Rattle.nj_statements.specs.EdgeList.{Pending, AssignedText, edges_read, paths_of_edges, defaults_read, pending_read, block_at, assigned_read}
+use Rattle.nj_statements.specs.EdgeList.{Pending, AssignedText, edges_read, paths_of_edges, defaults_read, pending_read, block_at, block_names_at, assigned_read}
 use Rattle.nj_statements.specs.Built.{EdgeDetail, detail_of}
 use Rattle.nj_statements.specs.Joining.{dyndep_files}
 use Rattle.nj_faults.specs.Faults.{IsFault}
@@ -76,6 +76,7 @@ pub record HoldsJoined (held : JoiningText) (stated joined : List ReadStatement)
   pub stated_details : held.details ≡ map detail_of (edges_read stated)
   pub details : held.details ≡ map detail_of (edges_read joined)
   pub blocks : (number : ℕ) (name : List ℕ) → bound_in held.blocks number name ≡ block_at (edges_read joined) number name
+  pub block_names : (number : ℕ) → names_in held.blocks number ≡ block_names_at (edges_read joined) number
   pub defaults : held.defaults ≡ defaults_read joined
   pub dyndep_files : held.dyndep_files ≡ dyndep_files (pending_read stated)
   pub bound : pending_read stated ≡ pending_from 0 held.bound

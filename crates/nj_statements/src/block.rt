@@ -1,13 +1,13 @@
 //! The blocks of build statements.
 
-ghost use Rattle.std.specs.Prelude.{◌≡◌, ℕ, ◌<◌, ◌≤◌, ◌==◌, if◌then◌else◌, List, ◌∷◌, length, OnOk};
+ghost use Rattle.std.specs.Prelude.{◌≡◌, ℕ, ◌<◌, ◌≤◌, ◌==◌, if◌then◌else◌, false, List, [], ◌∷◌, None, length, OnOk};
 ghost use Rattle.std.specs.Option.{option_or};
 ghost use Rattle.nj_manifest.specs.Contents.{lines_text};
 ghost use Rattle.nj_scope.specs.Scopes.{IsScope, parent_at};
 ghost use Rattle.nj_scope.specs.Declarations.{DeclaredBy};
 ghost use Rattle.nj_scope.specs.ReadingList.{ReadStatement, value_after};
-ghost use Rattle.nj_edge_env.specs.Blocks.{bound_in};
-ghost use Rattle.nj_statements.specs.EdgeList.{block_of};
+ghost use Rattle.nj_edge_env.specs.Blocks.{bound_in, names_in};
+ghost use Rattle.nj_statements.specs.EdgeList.{block_of, names_bound};
 
 use nj_edge_env::Blocks;
 use nj_manifest::Line;
@@ -34,6 +34,11 @@ pub(crate) fn bind_block(
         else bound_in blocks.old e name)) }
     ensures others { (e : ℕ) (name : List ℕ) → e < edge
         → bound_in blocks.new e name ≡ bound_in blocks.old e name }
+    ensures names { ((name : List ℕ) → bound_in blocks.old edge name ≡ None)
+        → names_in blocks.old edge ≡ []
+        → OnOk result (names_in blocks.new edge ≡ names_bound (lines_text lines.now)) }
+    ensures other_names { (e : ℕ) → (e == edge) ≡ false
+        → names_in blocks.new e ≡ names_in blocks.old e }
     ensures last { blocks.new.last ≤ edge }
 {
     'lines: for line in lines {

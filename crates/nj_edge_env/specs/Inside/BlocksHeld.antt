@@ -1,16 +1,51 @@
--- How the values of blocks are held: as parts of one text. Nothing here has to be believed.
-use Rattle.std.specs.Prelude.{◌≡◌, ℕ, ◌<◌, ◌≤◌, ◌==◌, if◌then◌else◌, Option, Some, None, List, [], ◌∷◌, ◌++◌, map, length, slice_range}
+-- How the values of blocks are held: as parts of one text, by the numbers of names. Nothing here has to be believed.
+use Rattle.std.specs.Prelude.{◌≡◌, ◌⊎◌, ℕ, zero, suc, ◌+◌, ◌<◌, ◌≤◌, ◌==◌, Bool, true, false, if◌then◌else◌, Option, Some, None, List, [], ◌∷◌, ◌++◌, map, length, drop, bytes_eq, slice_index_or, slice_range}
 use Rattle.std.specs.Global.{Vec}
 use Rattle.std.specs.List.{AllByRecursion}
 use Rattle.nj_edge_env.specs.declared.bounds.Bound.{Bound}
 use Rattle.nj_edge_env.specs.Blocks.{BlocksText}
 
+-- ---- lists of numbers
+
+abbrev pub list_at : List (List ℕ) → (edge : ℕ) → List ℕ
+list_at lists edge = slice_index_or lists edge []
+
+-- lists that follow one another in one list, by where each starts
+abbrev pub lists_of : (numbers starts : List ℕ) → List (List ℕ)
+lists_of numbers [] = []
+lists_of numbers (start ∷ []) = drop start numbers ∷ []
+lists_of numbers (start ∷ next ∷ starts) = slice_range numbers start next ∷ lists_of numbers (next ∷ starts)
+
+abbrev pub AreStarts : (len : ℕ) → (starts : List ℕ) → Type 0
+AreStarts len [] = Unit {0}
+AreStarts len (start ∷ []) = start ≤ len
+AreStarts len (start ∷ next ∷ starts) = (start ≤ next) × AreStarts len (next ∷ starts)
+
+-- ---- values
+
 -- the values of one name, by edge
 abbrev pub values_of : (text : List ℕ) → List Bound → List (ℕ × List ℕ)
 values_of text bounds = map (λ b. (b.edge, slice_range text b.start b.end)) bounds
 
-abbrev pub blocks_of : (text : List ℕ) → List (Vec ℕ × Vec Bound) → (last : ℕ) → BlocksText
-blocks_of text entries last = record { values = map (λ e. (e.0.items, values_of text e.1.items)) entries; last = last }
+-- the values of these names, which are held in their order
+abbrev pub values_by_name : (text : List ℕ) → (names : List (List ℕ)) → List (List Bound) → List (List ℕ × List (ℕ × List ℕ))
+values_by_name text [] bounds = []
+values_by_name text (name ∷ names) [] = []
+values_by_name text (name ∷ names) (bs ∷ bounds) = (name, values_of text bs) ∷ values_by_name text names bounds
+
+abbrev pub bounds_of : List (Vec Bound) → List (List Bound)
+bounds_of values = map (λ v. v.items) values
+
+-- the names of these numbers
+abbrev pub names_of : (names : List (List ℕ)) → (numbers : List ℕ) → List (List ℕ)
+names_of names numbers = map (λ number. slice_index_or names number []) numbers
+
+abbrev pub blocks_of : (text : List ℕ) → (names : List (List ℕ)) → List (List Bound) → (lists : List (List ℕ)) → (last : ℕ) → BlocksText
+blocks_of text names bounds lists last = record {
+  values = values_by_name text names bounds;
+  names = map (names_of names) lists;
+  last = last;
+}
 
 -- each edge comes after those before it
 abbrev pub AreRising : List Bound → Type 0
@@ -27,8 +62,24 @@ pub record BoundsAreHeld (len last : ℕ) (bounds : List Bound) : Type 0 where
   pub parts : AllByRecursion (IsPart len last) bounds
   pub rising : AreRising bounds
 
-abbrev pub BlocksAreHeld : (len last : ℕ) → List (Vec ℕ × Vec Bound) → Type 0
-BlocksAreHeld len last entries = AllByRecursion (λ e. BoundsAreHeld len last e.1.items) entries
+-- Each name has its values, in a text of this length, and names that are listed are there; no list is of an edge after the last.
+pub record BlocksAreHeld (len last : ℕ) (names : List (List ℕ)) (bounds : List (List Bound)) (lists : List (List ℕ)) : Type 0 where
+  pub as_many : length bounds ≡ length names
+  pub values : AllByRecursion (BoundsAreHeld len last) bounds
+  pub listed : (edge : ℕ) → AllByRecursion (λ number. number < length names) (list_at lists edge)
+  pub lists_end : length lists ≤ last + 1
+
+-- the index of the first one that is this name
+abbrev pub IsFirstAt : (name : List ℕ) → (names : List (List ℕ)) → (number : ℕ) → Type 0
+IsFirstAt name [] number = ⊥
+IsFirstAt name (other ∷ names) zero = bytes_eq name other ≡ true
+IsFirstAt name (other ∷ names) (suc number) = (bytes_eq name other ≡ false) × IsFirstAt name names number
+
+-- This is the number of a name: it is there already, or it is new, and has no values.
+pub record IsNumberOf (name : List ℕ) (names : List (List ℕ)) (bounds : List (List Bound)) (new : List (List ℕ)) (after : List (List Bound))
+    (number : ℕ) : Type 0 where
+  pub at : IsFirstAt name new number
+  pub grows : ((new ≡ names) × (after ≡ bounds)) ⊎ ((new ≡ names ++ name ∷ []) × (after ≡ bounds ++ [] ∷ []))
 
 -- the part of a text that is this value of the edge
 pub record IsBoundTo (text : List ℕ) (of : ℕ) (value : List ℕ) (b : Bound) : Type 0 where
@@ -46,6 +97,12 @@ abbrev pub with_bound : List Bound → Bound → List Bound
 with_bound [] b = b ∷ []
 with_bound (c ∷ []) b = if c.edge == b.edge then b ∷ [] else c ∷ b ∷ []
 with_bound (c ∷ d ∷ bounds) b = c ∷ with_bound (d ∷ bounds) b
+
+-- whether the last one is of this edge
+abbrev pub ends_at : List Bound → (edge : ℕ) → Bool
+ends_at [] edge = false
+ends_at (b ∷ []) edge = b.edge == edge
+ends_at (b ∷ c ∷ bounds) edge = ends_at (c ∷ bounds) edge
 
 -- the one of this edge
 abbrev pub bound_of : List Bound → (edge : ℕ) → Option Bound

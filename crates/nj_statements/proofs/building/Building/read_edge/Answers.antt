@@ -1,17 +1,17 @@
-use Rattle.std.proofs.Common.{◌≡◌, ◌<◌, ◌==◌, if◌then◌else◌, List, ◌∷◌, ◌++◌, [], ℕ, Option, None, unwrap_or, Some, slice_get, length, map, codes, refl, sym, ap, subst, ◌∙◌}
+use Rattle.std.proofs.Common.{◌≡◌, ◌<◌, ◌==◌, if◌then◌else◌, List, ◌∷◌, ◌++◌, [], ℕ, Option, None, unwrap_or, Some, slice_get, length, map, codes, arith, refl, sym, ap, subst, ◌∙◌}
 use Rattle.std.specs.Option.{option_or}
 use Rattle.std.specs.Prelude.{slice_index_or}
 use Rattle.std.proofs.lemmas.List.{length-map, map-append}
+use Rattle.std.proofs.lemmas.Bool.{ne_eqb}
 use Rattle.nj_manifest.specs.LineSteps.{NameText}
 use Rattle.nj_manifest.specs.Contents.{outputs_text, used_rule, inputs_text, lines_text, build_text}
-use Rattle.nj_scope.specs.Readings.{IsPrefix}
 use Rattle.nj_scope.specs.Rules.{RuleText}
 use Rattle.nj_scope.specs.ReadingList.{value_after, rule_texts, pools}
-use Rattle.nj_edge_env.specs.Blocks.{bound_in}
+use Rattle.nj_edge_env.specs.Blocks.{bound_in, names_in}
 use Rattle.nj_edges.specs.Edges.{inputs_of}
 use Rattle.nj_faults.specs.Faults.{IsFault}
 use Rattle.nj_statements.specs.declared.detail.Detail.{Detail}
-use Rattle.nj_statements.specs.EdgeList.{Values, Block, block_of, on_line, edges_read, edge_of_build, file_said, paths_of_edges, stated_paths, edge_paths}
+use Rattle.nj_statements.specs.EdgeList.{Values, Block, block_of, names_bound, on_line, edges_read, edge_of_build, file_said, paths_of_edges, stated_paths, edge_paths}
 use Rattle.nj_statements.specs.BuildFaults.{paths_fault, names_fault, late_fault}
 use Rattle.nj_statements.specs.Answers.{BuildingText, HoldsEdges, AddsNothing, entry_at_place}
 use Rattle.nj_statements.specs.Inside.EdgeSteps.{Sees, AddsEdge, names_read, detail_text, IsFileSaid, assigned_by, with_dyndep}
@@ -23,7 +23,7 @@ use Rattle.nj_statements.proofs.LateLemmas.{names-of-edge, late-fault}
 use Rattle.nj_statements.specs.Inside.Details.{AreNumbersOf}
 use Rattle.nj_statements.proofs.AssignedLemmas.{assigned-numbers}
 use Rattle.nj_statements.proofs.Tables.{prefix-trans}
-use Rattle.nj_statements.proofs.Holding.{on-err, reads-err, open-block, holds-build, get-prefix}
+use Rattle.nj_statements.proofs.Holding.{on-err, reads-err, open-block, no-block, no-names, holds-build, get-prefix}
 use Rattle.nj_statements.proofs.building.Building.read_edge.Goals as goal
 
 pub returns-in_err-assigned-clause-reads : goal.returns-in_err-assigned-clause-reads
@@ -91,6 +91,8 @@ returns-clause-reads c = λ entries around depth by within rule_is there holds.
       holds-build old new e entries outputs rule_text inputs lines (detail_text detail) c.in_ok-assigned.assigned.file held
           (subst (λ b. AddsEdge old.table new.table (edge_paths (stated_paths values outputs inputs b))) (ap (λ (o : Option ℕ). unwrap_or o 0 == 0) (sym rule_is)) (c.in_ok-assigned.ensures.added values sees held.none_open))
           (λ n name. bound n name ∙ ap (λ edge. if n == edge then option_or (block name) (bound_in old.blocks n name) else bound_in old.blocks n name) count)
+          (λ n is. ap (names_in c.bind_block.new.blocks) (is ∙ sym count) ∙ subst (λ ls. names_in c.bind_block.new.blocks edge ≡ names_bound (lines_text ls)) c.as_slice.ensures.value (c.in_ok-bind_block.ensures.names (no-block old entries edge held count) (no-names old entries edge held count)))
+          (λ n other. c.in_ok-bind_block.ensures.other_names n (ap (λ edge. n == edge) count ∙ other))
           (prefix-trans old.names c.file.new.self new.names c.in_ok-file.ensures.grows grows)
           (ap (map detail_text) (c.push_reserved.ensures.items ∙ ap (λ (d : Detail). c.reserve.new.self.items ++ d ∷ []) c.with.ensures ∙ ap (λ (ds : List Detail). ds ++ detail ∷ []) c.in_ok-reserve.ensures.items) ∙ map-append detail_text c.self.inside.details.items (detail ∷ []))
           (record { file = get-prefix c.file.new.self new.names detail.file c.args.place.file.now grows (subst (λ n. slice_get c.file.new.self n ≡ Some c.args.place.file.now) (sym kept_as.file_is) c.in_ok-file.ensures.number); spot = kept_as.spot_is; scope = kept_as.scope_is; rule = kept_as.rule_is ∙ ap (λ (o : Option ℕ). unwrap_or o 0) (sym rule_is) })
@@ -111,6 +113,7 @@ returns-in_err-keep_references-clause-refused c =
     on-err c.from_residual-in_err-keep_references.result (subst (λ b. AddsNothing b new) c.self.view_is (record {
       edges = keeps_none old.table;
       blocks = λ number name below. refl;
+      block_names = λ number below. refl;
       names = c.in_ok-file.ensures.grows;
       details = ap (map detail_text) c.in_ok-reserve.ensures.items;
       defaults = refl;
@@ -126,6 +129,7 @@ returns-in_err-bind_block-clause-refused c =
     on-err c.from_residual-in_err-bind_block.result (subst (λ b. AddsNothing b new) c.self.view_is (record {
       edges = keeps_none old.table;
       blocks = λ number name below. c.in_err-bind_block.ensures.others number name (subst (λ n. number < n) (sym count) below);
+      block_names = λ number below. c.in_err-bind_block.ensures.other_names number (ne_eqb number edge (λ is. omega (arith, is, below, count)));
       names = c.in_ok-file.ensures.grows;
       details = ap (map detail_text) c.in_ok-reserve.ensures.items;
       defaults = refl;
@@ -141,6 +145,7 @@ returns-in_err-assigned-clause-refused c =
     on-err c.from_residual-in_err-assigned.result (subst (λ b. AddsNothing b new) c.self.view_is (record {
       edges = c.in_err-assigned.ensures.refused;
       blocks = λ number name below. c.in_ok-bind_block.ensures.others number name (subst (λ n. number < n) (sym count) below);
+      block_names = λ number below. c.in_ok-bind_block.ensures.other_names number (ne_eqb number edge (λ is. omega (arith, is, below, count)));
       names = prefix-trans old.names c.file.new.self c.add_edge.new.texts c.in_ok-file.ensures.grows c.in_err-assigned.ensures.grows;
       details = ap (map detail_text) c.in_ok-reserve.ensures.items;
       defaults = refl;

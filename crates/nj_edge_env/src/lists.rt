@@ -1,0 +1,113 @@
+//! Lists of numbers, by edge: parts of one list.
+
+ghost use Rattle.std.specs.Prelude.{◌≡◌, ℕ, ◌+◌, ◌-◌, ◌≤◌, ◌==◌, if◌then◌else◌, [], ◌∷◌, ◌++◌, length, replicate, slice_index_or, slice_range, IfOk, OnOk, OnErr};
+ghost use Rattle.nj_edge_env.specs.Inside.BlocksHeld.{list_at, lists_of, AreStarts};
+
+use std::alloc::{AllocError, Global};
+use std::marker::Model;
+
+/// A list of numbers for each edge, up to the last that has any. The lists follow one another in one
+/// list of numbers, which has 32 bits for each, and 32 bits say where that of an edge starts.
+#[derive(Drop)]
+pub(crate) struct NumberLists {
+    numbers: Vec<u32>,
+    starts: Vec<u32>,
+}
+
+impl Model for NumberLists {
+    ghost use Rattle.std.specs.Prelude.{List, ℕ, length};
+    ghost use Rattle.nj_edge_env.specs.Inside.BlocksHeld.{lists_of, AreStarts};
+
+    ghost Value = { List (List ℕ) };
+
+    ghost view = { λ l. lists_of l.numbers.items l.starts.items };
+
+    ghost invariant = { λ l. AreStarts (length l.numbers.items) l.starts.items };
+}
+
+impl NumberLists {
+    /// No edge has any number. It allocates nothing.
+    pub(crate) fn new(alloc: Global) -> NumberLists
+        ensures { result ≡ [] }
+    {
+        NumberLists {
+            numbers: Vec::new(alloc),
+            starts: Vec::new(alloc),
+        }
+    }
+
+    /// The numbers of this edge.
+    pub(crate) fn list(&self, edge: usize) -> &[u32]
+        ensures { result.now ≡ list_at self.now edge }
+    {
+        part_from(self.numbers.as_slice(), self.starts.as_slice(), edge)
+    }
+
+    /// Appends a number to the list of this edge, where no edge after it has a list.
+    pub(crate) fn push(&mut self, edge: u32, number: usize) -> Result<(), AllocError>
+        requires { length self.old ≤ edge + 1 }
+        ensures pushed { OnOk result ((e : ℕ) → list_at self.new e
+            ≡ (if e == edge then list_at self.old e ++ number ∷ [] else list_at self.old e)) }
+        ensures refused { OnErr result ((e : ℕ) → list_at self.new e ≡ list_at self.old e) }
+        ensures count { length self.new ≤ edge + 1 }
+    {
+        let number = short_number(number)?;
+        let start = short_number(self.numbers.as_slice().len())?;
+        self.numbers.reserve(1)?;
+        pad(&mut self.starts, edge as usize + 1, start)?;
+        self.numbers.push_reserved(number);
+        Ok(())
+    }
+}
+
+// Appends this start until there are so many.
+fn pad(starts: &mut Vec<u32>, count: usize, start: u32) -> Result<(), AllocError>
+    requires { length starts.old.items ≤ count }
+    ensures padded { OnOk result (starts.new.items
+        ≡ starts.old.items ++ replicate (count - length starts.old.items) start) }
+    ensures refused { OnErr result (starts.new.items ≡ starts.old.items) }
+{
+    starts.resize(count, start)
+}
+
+// The part of the numbers that starts where this index says, and ends where the next one does.
+fn part_from<'a>(numbers: &'a [u32], starts: &[u32], index: usize) -> &'a [u32]
+    requires { AreStarts (length numbers.now) starts.now }
+    ensures { result.now ≡ list_at (lists_of numbers.now starts.now) index }
+{
+    if index >= starts.len() {
+        return &[];
+    }
+    let start = start_at(starts, index, numbers.len());
+    let end = start_at(starts, index + 1, numbers.len());
+    part(numbers, start, end)
+}
+
+// Where the part of this index starts; after the last index all parts are past.
+fn start_at(starts: &[u32], index: usize, past: usize) -> usize
+    ensures { result ≡ slice_index_or starts.now index past }
+{
+    match starts.get(index) {
+        Some(start) => *start as usize,
+        None => past,
+    }
+}
+
+// The numbers between these indices.
+fn part(numbers: &[u32], start: usize, end: usize) -> &[u32]
+    requires rises { start ≤ end }
+    requires within { end ≤ length numbers.now }
+    ensures { result.now ≡ slice_range numbers.now start end }
+{
+    &numbers[start..end]
+}
+
+/// A number in 32 bits. One that does not fit is refused as if there were no memory for it.
+pub(crate) fn short_number(number: usize) -> Result<u32, AllocError>
+    ensures { IfOk result (λ short. short ≡ number) }
+{
+    match u32::try_from(number) {
+        Ok(short) => Ok(short),
+        Err(_) => Err(AllocError),
+    }
+}
