@@ -2,6 +2,7 @@
 #![tactic(auto)]
 
 mod assigned;
+mod bindings;
 mod building;
 mod declaring;
 mod edges;

@@ -26,6 +26,7 @@ pub fn put_of_graph(
         "assigned" => put_assigned(text, graph),
         "declared" => put_declared(alloc, text, graph),
         "openings" => put_openings(alloc, text, graph),
+        "blocks" => put_blocks(text, graph),
         _ => text.extend_from_slice(b"no row is of this kind\n"),
     }
 }
@@ -243,6 +244,28 @@ fn put_openings(alloc: Global, text: &mut Vec<u8>, graph: &Graph) -> Result<(), 
             text.extend_from_slice(format!(in alloc; " in {scope} ")?.as_bytes())?;
             put_place(alloc, text, opening.named_at)?;
         }
+    }
+    Ok(())
+}
+
+/// Appends what the block of each edge binds, a line each.
+fn put_blocks(text: &mut Vec<u8>, graph: &Graph) -> Result<(), AllocError> {
+    'edges: for number in 0..graph.edge_count() {
+        put_block(text, graph, EdgeNo(number))?;
+        text.push(b'\n')?;
+    }
+    Ok(())
+}
+
+/// Appends the names that the block of an edge binds, with their values; `;` ends each.
+fn put_block(text: &mut Vec<u8>, graph: &Graph, edge: EdgeNo) -> Result<(), AllocError> {
+    let count = graph.block_name_count(edge);
+    'names: for index in 0..count {
+        let name = graph.block_name(edge, index).unwrap_or(b"?".as_slice());
+        text.extend_from_slice(name)?;
+        text.push(b'=')?;
+        text.extend_from_slice(graph.block_value(edge, name).unwrap_or(b"?".as_slice()))?;
+        text.push(b';')?;
     }
     Ok(())
 }

@@ -13,6 +13,7 @@ use Rattle.nj_edges.specs.Needs.{makers_of_inputs}
 use Rattle.nj_needs.specs.Graphs.{row_of_paths, is_phony_in}
 use Rattle.nj_needs.specs.Order.{needed_commands}
 use Rattle.nj_statements.specs.EdgeList.{edges_read, paths_of_edges}
+pub use Rattle.nj_statements.specs.EdgeList.{each_once}
 use Rattle.nj_graph.specs.Graph.{sorted_by, is_before, rule_name_of, rule_name_at}
 use Rattle.nj_tools.specs.Lines.{line, lines}
 use Rattle.nj_tools.specs.declared.style.InputsStyle.{InputsStyle}
@@ -20,11 +21,6 @@ use Rattle.nj_tools.specs.declared.view.TargetsView.{TargetsView}
 use Rattle.nj_tools.specs.declared.view.TargetsView.TheVariants.{OfRule, Sources, Depth, All}
 
 -- ---- lists of paths
-
--- the list without its repeats: of each path the first is kept
-abbrev pub each_once : List (List ℕ) → List (List ℕ)
-each_once [] = []
-each_once (path ∷ paths) = path ∷ filter (λ other. not (bytes_eq other path)) (each_once paths)
 
 -- in byte order
 abbrev pub sorted : List (List ℕ) → List (List ℕ)
