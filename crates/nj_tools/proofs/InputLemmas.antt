@@ -14,7 +14,7 @@ use Rattle.nj_tools.specs.Listings.{each_once}
 use Rattle.nj_tools.specs.Sinks.{SinkState}
 use Rattle.nj_tools.specs.Texts.{StopsWithin}
 use Rattle.nj_tools.proofs.BlockLemmas.{StopsWithin-whole, puts-then, puts-stop, puts-with}
-use Rattle.nj_tools.proofs.CollectedLemmas.{once-front}
+use Rattle.nj_statements.proofs.OnceLemmas.{once-front}
 use Rattle.nj_tools.proofs.ItemLemmas.{flat_map-map}
 use Rattle.nj_tools.proofs.ListingLemmas.{AreOf-row}
 
