@@ -56,32 +56,3 @@ fn edges_of_one_name_are_found(rt: HostRuntime) -> Result<(), Fail> {
     }
     Ok(())
 }
-
-fn lists_the_names(rt: &impl Abort, blocks: &mut Blocks) -> Result<(), Fail>
-    requires { blocks.old.last ≡ 0 }
-{
-    assert_eq!(rt; blocks.name_count(0), 0);
-    blocks.bind(1, b"flags", b"-O2")?;
-    blocks.bind(1, b"pool", b"link")?;
-    blocks.bind(1, b"flags", b"-g")?;
-    blocks.bind(4, b"pool", b"")?;
-    blocks.bind(4, b"depfile", b"d")?;
-    assert_eq!(rt; blocks.name_count(0), 0);
-    assert_eq!(rt; blocks.name_count(1), 2);
-    assert_eq!(rt; blocks.name(1, 0), Some(b"flags".as_slice()));
-    assert_eq!(rt; blocks.name(1, 1), Some(b"pool".as_slice()));
-    assert_eq!(rt; blocks.name(1, 2), None);
-    assert_eq!(rt; blocks.name_count(3), 0);
-    assert_eq!(rt; blocks.name_count(4), 2);
-    assert_eq!(rt; blocks.name(4, 0), Some(b"pool".as_slice()));
-    assert_eq!(rt; blocks.name(4, 1), Some(b"depfile".as_slice()));
-    assert_eq!(rt; blocks.name_count(usize::MAX), 0);
-    assert_eq!(rt; blocks.name(5, 0), None);
-    Ok(())
-}
-
-#[test]
-fn a_block_lists_each_name_once(rt: HostRuntime) -> Result<(), Fail> {
-    let mut blocks = Blocks::new(rt.alloc(), HashKeys::default());
-    lists_the_names(&rt, &mut blocks)
-}
