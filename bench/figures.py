@@ -212,7 +212,7 @@ def machine():
     ninja = subprocess.run(["ninja", "--version"], capture_output=True, text=True, check=True).stdout.strip()
     kit = subprocess.run(["rt", "version"], capture_output=True, text=True, check=True).stdout.strip()
     name = model[1] if model else platform.machine()
-    return f"{os.cpu_count()} processors ({name}), Ninja {ninja}, `{kit}`; the load was {os.getloadavg()[0]:.1f} at the end."
+    return f"{os.cpu_count()} processors ({name}), Ninja {ninja},\n`{kit}`; the load was {os.getloadavg()[0]:.1f} at the end."
 
 
 def main():
