@@ -216,9 +216,9 @@ module _ (edges : List EdgePaths) (files : List (List ℕ)) where
     closed = λ i e below. absurd (omega (arith, below));
   }
 
-  pub finding-goes-on : (old new : Found) (place : ℕ) → place < length (numbers_of old) → FindsNeeded edges files old place
+  pub finding-continues : (old new : Found) (place : ℕ) → place < length (numbers_of old) → FindsNeeded edges files old place
       → FindsMore (MakesOneOf edges (inputs_of (edge_at edges (slice_index (numbers_of old) place)))) old new → FindsNeeded edges files new (place + 1)
-  finding-goes-on old new place below held finds = record {
+  finding-continues old new place below held finds = record {
     count = finds.count ∙ held.count;
     listed = finds.listed held.listed;
     within = omega (arith, below, finds.longer);

@@ -23,10 +23,10 @@ fn run(rt: HostRuntime) -> Result<(), Error> {
     tour::run(rt)?; // not in README.md
     let mut files = DiskFiles::new(rt, rt.alloc(), None)?;
     let loaded = load(rt.alloc(), &mut files, "build.ninja")?;
-    answer(rt, loaded.graph())
+    describe(rt, loaded.graph())
 }
 
-fn answer(rt: HostRuntime, graph: &Graph) -> Result<(), Error> {
+fn describe(rt: HostRuntime, graph: &Graph) -> Result<(), Error> {
     let file = pick_target(rt.alloc(), graph, b"greet.c")?;
     let mut out = WriteSink::new(rt.stdout());
     write_query(rt.alloc(), graph, &[file], &mut out)?;

@@ -6,26 +6,26 @@ use Rattle.clap.specs.Words.{Row, matched_of, matches_of, raw_values, rows_of}
 use Rattle.clap.specs.declared.parser.matches.Found.{Found}
 use Rattle.clap.proofs.WalkLemmas.{raw_values-rows}
 use Rattle.nj_args.specs.CommandLine.{command}
-use Rattle.nj_args.specs.Fields.{FieldTexts, fields_in, is_refused, words_in}
-use Rattle.nj_args.specs.Inside.Held.{word_texts}
+use Rattle.nj_args.specs.Fields.{FieldStrings, fields_in, is_refused, words_in}
+use Rattle.nj_args.specs.Inside.Held.{word_strings}
 use Rattle.nj_args.specs.Requests.{RequestText, given_request, request_in, request_of, wordless, ◌>>=◌}
 use Rattle.nj_args.specs.declared.faults.UsageFault.{UsageFault}
 use Rattle.nj_args.specs.declared.faults.UsageFault.TheVariants.{Unparsed, OutOfMemory}
 
 -- the words of the matches
 pub words_held : (words : Option (Bor (List (Bor (List ℕ))))) (found : Found)
-    → option_map (λ texts. map (λ text. text.now) texts.now) words ≡ option_map raw_values (matched_of found (codes "words"))
-    → word_texts words ≡ words_in (rows_of found)
-words_held words found e = ap (λ texts. unwrap_or texts []) (e ∙ raw_values-rows found (codes "words"))
+    → option_map (λ strings. map (λ text. text.now) strings.now) words ≡ option_map raw_values (matched_of found (codes "words"))
+    → word_strings words ≡ words_in (rows_of found)
+words_held words found e = ap (λ strings. unwrap_or strings []) (e ∙ raw_values-rows found (codes "words"))
 
-abbrev asked_of : (refused : Bool) → FieldTexts → Result RequestText UsageFault
+abbrev asked_of : (refused : Bool) → FieldStrings → Result RequestText UsageFault
 asked_of refused fields = ok_or (if refused then None else Some fields) Unparsed >>= request_in
 
-not_refused : (refused : Bool) (fields : FieldTexts) → refused ≡ false → asked_of refused fields ≡ request_in fields
+not_refused : (refused : Bool) (fields : FieldStrings) → refused ≡ false → asked_of refused fields ≡ request_in fields
 not_refused false fields e = refl
 not_refused true fields e = absurd (cc)
 
-is_unparsed : (refused : Bool) (fields : FieldTexts) → refused ≡ true → asked_of refused fields ≡ Err Unparsed
+is_unparsed : (refused : Bool) (fields : FieldStrings) → refused ≡ true → asked_of refused fields ≡ Err Unparsed
 is_unparsed true fields e = refl
 is_unparsed false fields e = absurd (cc)
 
@@ -55,7 +55,7 @@ of_some [] h = absurd (omega arith)
 of_some (word ∷ words) h = refl
 
 -- the same fault of what is equal
-pub same_fault : (asked said : Result RequestText UsageFault) (fault : UsageFault) → asked ≡ said
-    → (fault ≡ OutOfMemory) ⊎ (said ≡ Err fault) → (fault ≡ OutOfMemory) ⊎ (asked ≡ Err fault)
-same_fault asked said fault e (inl memory) = inl memory
-same_fault asked said fault e (inr told) = inr (e ∙ told)
+pub same_fault : (asked meant : Result RequestText UsageFault) (fault : UsageFault) → asked ≡ meant
+    → (fault ≡ OutOfMemory) ⊎ (meant ≡ Err fault) → (fault ≡ OutOfMemory) ⊎ (asked ≡ Err fault)
+same_fault asked meant fault e (inl memory) = inl memory
+same_fault asked meant fault e (inr reported) = inr (e ∙ reported)

@@ -3,12 +3,12 @@ use Rattle.std.proofs.Common.{◌≡◌, [], ◌∷◌, false, Some, None, refl}
 use Rattle.std.specs.Prelude.{codes}
 use Rattle.clap.proofs.OnLiterals.{clap_on_literals}
 use Rattle.nj_args.specs.CommandLine.{command}
-use Rattle.nj_args.specs.Fields.{FieldTexts, fields_of}
+use Rattle.nj_args.specs.Fields.{FieldStrings, fields_of}
 use Rattle.nj_args.specs.FirstFaults.{HasMistake, unknown_tool, bad_take, bad_depth, unknown, no_number, no_depth, TakesWords, levels}
 use Rattle.nj_args.specs.declared.faults.UsageFault.TheVariants.{UnknownTool, BadNumber}
 use Rattle.nj_args.specs.declared.tools.Tool.TheVariants.{Targets}
 
-abbrev nothing_given : FieldTexts
+abbrev nothing_given : FieldStrings
 nothing_given = record {
   tool = None;
   file = None;
@@ -29,7 +29,7 @@ nothing_given = record {
 
 -- ---- `-t graph --take x`
 
-abbrev of_graph : FieldTexts
+abbrev of_graph : FieldStrings
 of_graph = record nothing_given { tool = Some (codes "graph"); take = Some (codes "x") }
 
 graph_row : fields_of (codes "-t" ∷ codes "graph" ∷ codes "--take" ∷ codes "x" ∷ []) ≡ Some of_graph
@@ -44,7 +44,7 @@ graph_take_row = no_number (codes "x") refl refl
 
 -- ---- `-t targets depth x`
 
-abbrev of_depth : FieldTexts
+abbrev of_depth : FieldStrings
 of_depth = record nothing_given { tool = Some (codes "targets"); words = codes "depth" ∷ codes "x" ∷ [] }
 
 depth_words_row : TakesWords Targets of_depth.words

@@ -1,7 +1,7 @@
 -- Mistakes in what is read in the words, and computations that end with the fault of the first.
 use Rattle.std.proofs.Common.{◌≡◌, ◌≢◌, ℕ, Bool, true, false, cond, List, [], ◌∷◌, ◌++◌, map, take, drop, Option, Some, None, Result, Ok, Err, refl, sym, ap, subst, ◌∙◌}
 use Rattle.std.specs.Prelude.{⊤, codes, not, ◌&&◌, is_some, find}
-use Rattle.nj_args.specs.Fields.{FieldTexts}
+use Rattle.nj_args.specs.Fields.{FieldStrings}
 use Rattle.nj_args.specs.FirstFaults.{Mistake, foreign_option, bad_take, bad_mark, bad_words, bad_depth, TakesWords, NamesTool, HasMistake, toolless, unknown, foreign, no_number, no_mark, wrong_words, no_depth, Lacks, IsFirstOf, first, later}
 use Rattle.nj_args.specs.Requests.{◌>>=◌}
 use Rattle.nj_args.specs.Tools.{tool_named, is_foreign, first_foreign, all_options}
@@ -15,7 +15,7 @@ use Rattle.nj_args.specs.declared.tools.Tool.TheVariants.{Targets}
 -- ---- one fault for a mistake, one first fault
 
 -- one tool is named
-same_tool : {fields : FieldTexts} {name other : List ℕ} {tool another : Tool} → NamesTool fields name tool → NamesTool fields other another
+same_tool : {fields : FieldStrings} {name other : List ℕ} {tool another : Tool} → NamesTool fields name tool → NamesTool fields other another
     → (name ≡ other) × (tool ≡ another)
 same_tool {fields} {name} {other} {tool} {another} one two =
     let names : Some name ≡ Some other = sym one.asked ∙ two.asked in
@@ -24,7 +24,7 @@ same_tool {fields} {name} {other} {tool} {another} one two =
     (same, cc)
 
 -- a mistake is reported by one fault
-one_fault : {fields : FieldTexts} {mistake : Mistake} {fault other : UsageFault} → HasMistake fields mistake fault
+one_fault : {fields : FieldStrings} {mistake : Mistake} {fault other : UsageFault} → HasMistake fields mistake fault
     → HasMistake fields mistake other → fault ≡ other
 one_fault (toolless e) (toolless f) = refl
 one_fault (unknown name e k) (unknown other f l) = let same : Some name ≡ Some other = sym e ∙ f in cc
@@ -37,7 +37,7 @@ one_fault (no_depth name text one e k) (no_depth other text' two f l) =
     cc
 
 -- of some mistakes one is the first
-one_first : {fields : FieldTexts} {mistakes : List Mistake} {fault other : UsageFault} → IsFirstOf fields mistakes fault
+one_first : {fields : FieldStrings} {mistakes : List Mistake} {fault other : UsageFault} → IsFirstOf fields mistakes fault
     → IsFirstOf fields mistakes other → fault ≡ other
 one_first (first h) (first k) = one_fault h k
 one_first (first h) (later lacks k) = absurd (lacks _ h)
@@ -46,49 +46,49 @@ one_first (later lacks h) (later lacks' k) = one_first h k
 
 -- ---- a computation ends in its first fault
 
-abbrev pub LacksAll : FieldTexts → List Mistake → Type 0
+abbrev pub LacksAll : FieldStrings → List Mistake → Type 0
 LacksAll fields [] = ⊤
 LacksAll fields (mistake ∷ mistakes) = Lacks fields mistake × LacksAll fields mistakes
 
 -- it ends with a value where there is none of the mistakes; else with the fault of the first
-pub data Ends {A : Type 0} (fields : FieldTexts) (mistakes : List Mistake) : Result A UsageFault → Type 0 where
+pub data Ends {A : Type 0} (fields : FieldStrings) (mistakes : List Mistake) : Result A UsageFault → Type 0 where
   in_value : {x : A} → LacksAll fields mistakes → Ends fields mistakes (Ok x)
   in_fault : {fault : UsageFault} → IsFirstOf fields mistakes fault → Ends fields mistakes (Err fault)
 
 -- one more mistake is not there
-pub skip : {A : Type 0} {fields : FieldTexts} {mistake : Mistake} {mistakes : List Mistake} {result : Result A UsageFault}
+pub skip : {A : Type 0} {fields : FieldStrings} {mistake : Mistake} {mistakes : List Mistake} {result : Result A UsageFault}
     → Lacks fields mistake → Ends fields mistakes result → Ends fields (mistake ∷ mistakes) result
 skip lacks (in_value none) = in_value (lacks, none)
 skip lacks (in_fault h) = in_fault (later lacks h)
 
 -- the value is made into another
-pub mapped : {A B : Type 0} {fields : FieldTexts} {mistakes : List Mistake} {result : Result A UsageFault} (f : A → B)
+pub mapped : {A B : Type 0} {fields : FieldStrings} {mistakes : List Mistake} {result : Result A UsageFault} (f : A → B)
     → Ends fields mistakes result → Ends fields mistakes (result >>= (λ x. Ok (f x)))
 mapped f (in_value none) = in_value none
 mapped f (in_fault h) = in_fault h
 
 -- one mistake is looked for, then others
-pub bound : {A B : Type 0} {fields : FieldTexts} {mistake : Mistake} {mistakes : List Mistake} {result : Result A UsageFault}
+pub bound : {A B : Type 0} {fields : FieldStrings} {mistake : Mistake} {mistakes : List Mistake} {result : Result A UsageFault}
     (f : A → Result B UsageFault) → Ends fields (mistake ∷ []) result → ((x : A) → Ends fields mistakes (f x))
     → Ends fields (mistake ∷ mistakes) (result >>= f)
 bound f (in_value {x} none) next = skip none.0 (next x)
 bound f (in_fault (first h)) next = in_fault (first h)
 bound f (in_fault (later lacks h)) next = elim h [ ]
 
-no_first : {fields : FieldTexts} {mistakes : List Mistake} {fault : UsageFault} → LacksAll fields mistakes
+no_first : {fields : FieldStrings} {mistakes : List Mistake} {fault : UsageFault} → LacksAll fields mistakes
     → ¬ IsFirstOf fields mistakes fault
 no_first none (first h) = none.0 _ h
 no_first none (later lacks h) = no_first none.1 h
 
 -- what ends so has a fault exactly where it is the first
-pub told : {A : Type 0} {fields : FieldTexts} {mistakes : List Mistake} {fault : UsageFault} {result : Result A UsageFault}
+pub reported : {A : Type 0} {fields : FieldStrings} {mistakes : List Mistake} {fault : UsageFault} {result : Result A UsageFault}
     → Ends fields mistakes result → IsFirstOf fields mistakes fault → result ≡ Err fault
-told (in_value none) h = absurd (no_first none h)
-told (in_fault k) h = ap Err (one_first k h)
+reported (in_value none) h = absurd (no_first none h)
+reported (in_fault k) h = ap Err (one_first k h)
 
 -- ---- options that do not go with the tool
 
-module _ (fields : FieldTexts) (name : List ℕ) (tool : Tool) (names : NamesTool fields name tool) where
+module _ (fields : FieldStrings) (name : List ℕ) (tool : Tool) (names : NamesTool fields name tool) where
   goes : (option : ToolOption) → is_foreign tool fields option ≡ false → Lacks fields (foreign_option option)
   goes option e fault (foreign other another option' two f) =
       let same : tool ≡ another = (same_tool names two).1 in
@@ -135,11 +135,11 @@ passed_over p (y ∷ before) x after e = by_test (p y) e (passed_over p before x
     by_test true e others = absurd (cc)
     by_test false e others = others e
 
-pub record NotForeign (tool : Tool) (fields : FieldTexts) : Type 0 where
+pub record NotForeign (tool : Tool) (fields : FieldStrings) : Type 0 where
   pub take : is_foreign tool fields option.Take ≡ false
   pub resume : is_foreign tool fields option.Resume ≡ false
 
-pub not_foreign : (tool : Tool) (fields : FieldTexts) → first_foreign tool fields ≡ None → NotForeign tool fields
+pub not_foreign : (tool : Tool) (fields : FieldStrings) → first_foreign tool fields ≡ None → NotForeign tool fields
 not_foreign tool fields e = record {
   take = passed_over (is_foreign tool fields) (take 4 all_options) option.Take (drop 5 all_options) e;
   resume = passed_over (is_foreign tool fields) (take 5 all_options) option.Resume (drop 6 all_options) e;
@@ -151,15 +151,15 @@ not_given None goes e f = refl
 not_given (Some x) true e f = absurd (cc)
 not_given (Some x) false e f = absurd (cc)
 
-pub lacks_bad_take : (fields : FieldTexts) → fields.take ≡ None → Lacks fields bad_take
+pub lacks_bad_take : (fields : FieldStrings) → fields.take ≡ None → Lacks fields bad_take
 lacks_bad_take fields e fault (no_number text f k) = absurd (cc)
 
-pub lacks_bad_mark : (fields : FieldTexts) → fields.resume ≡ None → Lacks fields bad_mark
+pub lacks_bad_mark : (fields : FieldStrings) → fields.resume ≡ None → Lacks fields bad_mark
 lacks_bad_mark fields e fault (no_mark text f k) = absurd (cc)
 
 -- ---- the words of a tool
 
-module _ (fields : FieldTexts) (name : List ℕ) (tool : Tool) (names : NamesTool fields name tool) where
+module _ (fields : FieldStrings) (name : List ℕ) (tool : Tool) (names : NamesTool fields name tool) where
   pub lacks_bad_words : TakesWords tool fields.words → Lacks fields bad_words
   lacks_bad_words takes fault (wrong_words other another two wrong) =
       absurd (wrong (subst (λ t. TakesWords t fields.words) (same_tool names two).1 takes))

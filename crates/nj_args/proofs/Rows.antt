@@ -2,7 +2,7 @@
 use Rattle.std.proofs.Common.{◌≡◌, [], ◌∷◌, true, false, Some, None, Result, Ok, Err, refl}
 use Rattle.std.specs.Prelude.{codes}
 use Rattle.clap.proofs.OnLiterals.{clap_on_literals}
-use Rattle.nj_marks.specs.Marks.{said_mark}
+use Rattle.nj_marks.specs.Marks.{given_mark}
 use Rattle.nj_tools.specs.declared.style.InputsStyle.{InputsStyle}
 use Rattle.nj_args.specs.CommandLine.{command}
 use Rattle.nj_args.specs.FaultLines.{fault_line}
@@ -55,20 +55,20 @@ take_row = refl
 
 resume_row : request_of (codes "-t" ∷ codes "commands" ∷ codes "--resume" ∷ codes "0.1" ∷ codes "d" ∷ [])
     ≡ asks (commands (codes "d" ∷ []) false None (0 ∷ 1 ∷ []))
-unfolding request_of command clap_on_literals said_mark
+unfolding request_of command clap_on_literals given_mark
 resume_row = refl
 
 start_row : request_of (codes "-t" ∷ codes "commands" ∷ codes "--resume=start" ∷ []) ≡ asks (commands ([]) false None [])
-unfolding request_of command clap_on_literals said_mark
+unfolding request_of command clap_on_literals given_mark
 start_row = refl
 
 validated_row : request_of (codes "-t" ∷ codes "commands" ∷ codes "--validations" ∷ codes "--resume" ∷ codes "v0.1" ∷ codes "d" ∷ [])
     ≡ asks (commands (codes "d" ∷ []) true None (0 ∷ 1 ∷ []))
-unfolding request_of command clap_on_literals said_mark
+unfolding request_of command clap_on_literals given_mark
 validated_row = refl
 
 validated_start_row : request_of (codes "-t" ∷ codes "commands" ∷ codes "--validations" ∷ codes "--resume=vstart" ∷ []) ≡ asks (commands ([]) true None [])
-unfolding request_of command clap_on_literals said_mark
+unfolding request_of command clap_on_literals given_mark
 validated_start_row = refl
 
 single_row : request_of (codes "-t" ∷ codes "commands" ∷ codes "-s" ∷ codes "d" ∷ codes "e" ∷ [])
@@ -219,36 +219,36 @@ unfolding request_of command clap_on_literals
 empty_number_row = refl
 
 mark_row : request_of (codes "-t" ∷ codes "commands" ∷ codes "--resume" ∷ codes "00" ∷ codes "d" ∷ []) ≡ Err (BadMark (codes "00"))
-unfolding request_of command clap_on_literals said_mark
+unfolding request_of command clap_on_literals given_mark
 mark_row = refl
 
 empty_mark_row : request_of (codes "-t" ∷ codes "commands" ∷ codes "--resume=" ∷ []) ≡ Err (BadMark [])
-unfolding request_of command clap_on_literals said_mark
+unfolding request_of command clap_on_literals given_mark
 empty_mark_row = refl
 
 validated_mark_row : request_of (codes "-t" ∷ codes "commands" ∷ codes "--resume" ∷ codes "v0" ∷ []) ≡ Err (BadMark (codes "v0"))
-unfolding request_of command clap_on_literals said_mark
+unfolding request_of command clap_on_literals given_mark
 validated_mark_row = refl
 
 mark_without_letter_row : request_of (codes "-t" ∷ codes "commands" ∷ codes "--validations" ∷ codes "--resume" ∷ codes "0" ∷ []) ≡ Err (BadMark (codes "0"))
-unfolding request_of command clap_on_literals said_mark
+unfolding request_of command clap_on_literals given_mark
 mark_without_letter_row = refl
 
 letter_alone_row : request_of (codes "-t" ∷ codes "commands" ∷ codes "--validations" ∷ codes "--resume=v" ∷ []) ≡ Err (BadMark (codes "v"))
-unfolding request_of command clap_on_literals said_mark
+unfolding request_of command clap_on_literals given_mark
 letter_alone_row = refl
 
 two_letters_row : request_of (codes "-t" ∷ codes "commands" ∷ codes "--validations" ∷ codes "--resume=vv0" ∷ []) ≡ Err (BadMark (codes "vv0"))
-unfolding request_of command clap_on_literals said_mark
+unfolding request_of command clap_on_literals given_mark
 two_letters_row = refl
 
 letter_and_zero_row : request_of (codes "-t" ∷ codes "commands" ∷ codes "--validations" ∷ codes "--resume=v01" ∷ []) ≡ Err (BadMark (codes "v01"))
-unfolding request_of command clap_on_literals said_mark
+unfolding request_of command clap_on_literals given_mark
 letter_and_zero_row = refl
 
 number_before_mark_row : request_of (codes "-t" ∷ codes "commands" ∷ codes "--resume=x" ∷ codes "--take=y" ∷ [])
     ≡ Err (BadNumber (codes "y"))
-unfolding request_of command clap_on_literals said_mark
+unfolding request_of command clap_on_literals given_mark
 number_before_mark_row = refl
 
 tool_row : request_of (codes "-t" ∷ codes "graph" ∷ []) ≡ Err (UnknownTool (codes "graph"))
@@ -274,12 +274,12 @@ foreign_row = refl
 
 foreign_mark_row : request_of (codes "-t" ∷ codes "commands" ∷ codes "-s" ∷ codes "--resume" ∷ codes "x" ∷ [])
     ≡ Err (ForeignOption Resume (codes "commands"))
-unfolding request_of command clap_on_literals said_mark
+unfolding request_of command clap_on_literals given_mark
 foreign_mark_row = refl
 
 take_named_first_row : request_of (codes "-t" ∷ codes "commands" ∷ codes "--resume" ∷ codes "x" ∷ codes "--take" ∷ codes "x" ∷ codes "-s" ∷ [])
     ≡ Err (ForeignOption Take (codes "commands"))
-unfolding request_of command clap_on_literals said_mark
+unfolding request_of command clap_on_literals given_mark
 take_named_first_row = refl
 
 foreign_validations_row : request_of (codes "-t" ∷ codes "commands" ∷ codes "-s" ∷ codes "--validations" ∷ codes "t" ∷ [])

@@ -5,11 +5,11 @@ use Rattle.std.specs.Borrow.{Bor}
 use Rattle.std.proofs.lemmas.Bool.Decides.{nat_tests}
 use Rattle.std.specs.List.{slice_split, onto_first}
 use Rattle.std.proofs.lemmas.List.Splits.{slice_split-cons_no}
-use Rattle.nj_marks.specs.Marks.{said_mark, number_of, and_then, numbers_in, is_dot, ReadsBack}
-use Rattle.nj_args.specs.RunMarks.{run_mark_text, said_run_mark, RunMarksAreApart}
+use Rattle.nj_marks.specs.Marks.{given_mark, number_of, and_then, numbers_in, is_dot, ReadsBack}
+use Rattle.nj_args.specs.RunMarks.{run_mark_text, given_run_mark, RunMarksAreApart}
 
 -- a mark that reads back from its text reads back as the mark of a run, of either kind
-pub run-mark_reads_back : (validations : Bool) (mark : List ℕ) → ReadsBack mark → said_run_mark validations (run_mark_text validations mark) ≡ Some mark
+pub run-mark_reads_back : (validations : Bool) (mark : List ℕ) → ReadsBack mark → given_run_mark validations (run_mark_text validations mark) ≡ Some mark
 run-mark_reads_back false mark back = back
 run-mark_reads_back true mark back = back
 
@@ -23,34 +23,34 @@ no_numbers : (parts : List (List ℕ)) → numbers_in (onto_first 118 parts) ≡
 no_numbers [] = refl
 no_numbers (part ∷ parts) = ap (λ (n : Option ℕ). and_then n (numbers_in parts)) (no_number part)
 
-pub no_mark : (text : List ℕ) → said_mark (118 ∷ text) ≡ None
-unfolding said_mark
+pub no_mark : (text : List ℕ) → given_mark (118 ∷ text) ≡ None
+unfolding given_mark
 no_mark text = ap numbers_in (slice_split-cons_no is_dot 118 text refl) ∙ no_numbers (slice_split is_dot text)
 
 -- ---- and the text of a mark is what comes after the `v`
 
 by_letter : (letter : ℕ) (b : Bool) (text : List ℕ) → (letter == 118) ≡ b → ((rest : List ℕ) → (letter ∷ text) ≢ (118 ∷ rest))
-    → (if b then said_mark text else None) ≡ None
+    → (if b then given_mark text else None) ≡ None
 by_letter letter true text is other =
     let same : letter ≡ 118 = grind (arith, nat_tests, is) in
     absurd (other text (ap (λ (l : ℕ). l ∷ text) same))
 by_letter letter false text is other = refl
 
-without_letter : (text : List ℕ) → ((rest : List ℕ) → text ≢ (118 ∷ rest)) → said_run_mark true text ≡ None
+without_letter : (text : List ℕ) → ((rest : List ℕ) → text ≢ (118 ∷ rest)) → given_run_mark true text ≡ None
 without_letter [] other = refl
 without_letter (letter ∷ text) other = by_letter letter (letter == 118) text refl other
 
 pub no_mark-without_letter : (validations : Bool) (text : List ℕ) (result : Option (Bor (List ℕ))) → validations ≡ true
-    → MatchOption result ((rest : List ℕ) → text ≢ (118 ∷ rest)) (λ x. text ≡ 118 ∷ x.now) → IfNone result (said_run_mark validations text ≡ None)
+    → MatchOption result ((rest : List ℕ) → text ≢ (118 ∷ rest)) (λ x. text ≡ 118 ∷ x.now) → IfNone result (given_run_mark validations text ≡ None)
 no_mark-without_letter true text None is other = without_letter text other
 no_mark-without_letter true text (Some mark) is other = tt
 no_mark-without_letter false text result is other = absurd cc
 
-apart-from : (letter : ℕ) (b : Bool) (text mark other : List ℕ) → (letter == 118) ≡ b → (if b then said_mark text else None) ≡ Some mark
-    → said_mark (letter ∷ text) ≡ Some other → ⊥
+apart-from : (letter : ℕ) (b : Bool) (text mark other : List ℕ) → (letter == 118) ≡ b → (if b then given_mark text else None) ≡ Some mark
+    → given_mark (letter ∷ text) ≡ Some other → ⊥
 apart-from letter true text mark other is followed plain =
     let same : letter ≡ 118 = grind (arith, nat_tests, is) in
-    let none : None ≡ Some other = sym (no_mark text) ∙ ap (λ (l : ℕ). said_mark (l ∷ text)) (sym same) ∙ plain in
+    let none : None ≡ Some other = sym (no_mark text) ∙ ap (λ (l : ℕ). given_mark (l ∷ text)) (sym same) ∙ plain in
     absurd cc
 apart-from letter false text mark other is followed plain = absurd cc
 

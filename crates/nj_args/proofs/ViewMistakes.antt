@@ -3,9 +3,9 @@ use Rattle.std.proofs.Common.{◌≡◌, ◌≢◌, ℕ, Bool, true, false, List
 use Rattle.std.specs.Prelude.{codes, ok_or, option_map, if◌then◌else◌}
 use Rattle.std.specs.Str.{bytes_eq}
 use Rattle.std.proofs.lemmas.Slice.Eq.{bytes_eq-Decides}
-use Rattle.nj_args.specs.Fields.{FieldTexts}
+use Rattle.nj_args.specs.Fields.{FieldStrings}
 use Rattle.nj_args.specs.FirstFaults.{bad_words, bad_depth, IsView, roots, one_level, levels, all_outputs, sources, of_rule, NamesTool, no_depth, Lacks, first, later}
-use Rattle.nj_args.specs.Numbers.{said_depth}
+use Rattle.nj_args.specs.Numbers.{given_depth}
 use Rattle.nj_args.specs.Requests.{view_of, view_of_word, view_of_pair, depth_of}
 use Rattle.nj_args.specs.declared.faults.UsageFault.TheVariants.{BadNumber, BadWords}
 use Rattle.nj_args.specs.declared.tools.Tool.TheVariants.{Targets}
@@ -19,7 +19,7 @@ same_text text other e = (bytes_eq-Decides text other).0 e
 other_text : (text other : List ℕ) → bytes_eq text other ≡ false → text ≢ other
 other_text text other e = λ same. let d = (bytes_eq-Decides text other).1 same in cc
 
-module _ (fields : FieldTexts) (name : List ℕ) (names : NamesTool fields name Targets) where
+module _ (fields : FieldStrings) (name : List ℕ) (names : NamesTool fields name Targets) where
   viewed : (view : TargetsView) → IsView fields.words → ((depth : List ℕ) → fields.words ≢ codes "depth" ∷ depth ∷ [])
       → Ends fields (bad_words ∷ bad_depth ∷ []) (Ok view)
   viewed view is no_levels = in_value (lacks_bad_words fields name Targets names is, (without, tt))
@@ -63,22 +63,22 @@ module _ (fields : FieldTexts) (name : List ℕ) (names : NamesTool fields name 
       by_tests false false false a b c = no_view (wrong a b c)
 
   depth_ends : (text : List ℕ) → fields.words ≡ codes "depth" ∷ text ∷ [] → Ends fields (bad_words ∷ bad_depth ∷ []) (depth_of text)
-  depth_ends text e = by_number (said_depth text) refl
+  depth_ends text e = by_number (given_depth text) refl
     where
       right : Lacks fields bad_words
       right = lacks_bad_words fields name Targets names (levels text e)
 
-      said : (number : ℕ) → said_depth text ≡ Some number → Lacks fields bad_depth
-      said number k fault (no_depth name' other two f none) =
+      meant : (number : ℕ) → given_depth text ≡ Some number → Lacks fields bad_depth
+      meant number k fault (no_depth name' other two f none) =
           let words : codes "depth" ∷ text ∷ [] ≡ codes "depth" ∷ other ∷ [] = sym e ∙ f in
           let same : text ≡ other = cc in
-          let both : Some number ≡ None = sym k ∙ ap said_depth same ∙ none in
+          let both : Some number ≡ None = sym k ∙ ap given_depth same ∙ none in
           absurd (cc)
 
-      by_number : (number : Option ℕ) → said_depth text ≡ number
+      by_number : (number : Option ℕ) → given_depth text ≡ number
           → Ends fields (bad_words ∷ bad_depth ∷ []) (ok_or (option_map Depth number) (BadNumber text))
       by_number None k = in_fault (later right (first (no_depth name text names e k)))
-      by_number (Some number) k = in_value (right, (said number k, tt))
+      by_number (Some number) k = in_value (right, (meant number k, tt))
 
   pair_ends : (word value : List ℕ) → fields.words ≡ word ∷ value ∷ []
       → Ends fields (bad_words ∷ bad_depth ∷ []) (view_of_pair name word value)

@@ -7,7 +7,7 @@ use Rattle.clap.specs.Walk.{is_empty}
 use Rattle.nj_args.specs.CommandLine.{command}
 
 -- the values of the options, whether the flags were given, and the words that are not options
-pub record FieldTexts : Type 0 where
+pub record FieldStrings : Type 0 where
   pub tool : Option (List ℕ)
   pub file : Option (List ℕ)
   pub take : Option (List ℕ)
@@ -32,7 +32,7 @@ is_on id rows = option_map_or (λ text. bytes_eq text (codes "true")) (first_of 
 abbrev pub words_in : List Row → List (List ℕ)
 words_in rows = unwrap_or (all_of (codes "words") rows) []
 
-abbrev pub fields_in : List Row → FieldTexts
+abbrev pub fields_in : List Row → FieldStrings
 fields_in rows = record {
   tool = first_of (codes "tool") rows;
   file = first_of (codes "file") rows;
@@ -56,5 +56,5 @@ abbrev pub is_refused : (words : List (List ℕ)) → Bool
 is_refused words = not (is_empty (fault_of command words))
 
 -- what the words give, where `clap` does not refuse them
-abbrev pub fields_of : (words : List (List ℕ)) → Option FieldTexts
+abbrev pub fields_of : (words : List (List ℕ)) → Option FieldStrings
 fields_of words = if is_refused words then None else Some (fields_in (matches_of command words))

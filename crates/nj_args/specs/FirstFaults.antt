@@ -1,9 +1,9 @@
 -- Which fault of a command line is reported: that of its first mistake, in a fixed order.
 use Rattle.std.specs.Prelude.{◌≡◌, ◌≢◌, ◌↔◌, ⊤, IsTrue, IsOk, MatchOption, ℕ, List, [], ◌∷◌, ◌++◌, map, codes, Some, None, Err}
-use Rattle.nj_args.specs.Fields.{FieldTexts, fields_of}
-use Rattle.nj_args.specs.Numbers.{said_number, said_depth}
+use Rattle.nj_args.specs.Fields.{FieldStrings, fields_of}
+use Rattle.nj_args.specs.Numbers.{given_number, given_depth}
 use Rattle.nj_args.specs.Requests.{request_of}
-use Rattle.nj_args.specs.RunMarks.{said_run_mark}
+use Rattle.nj_args.specs.RunMarks.{given_run_mark}
 use Rattle.nj_args.specs.Tools.{tool_named, is_foreign, all_options}
 use Rattle.nj_args.specs.declared.faults.ToolOption.{ToolOption}
 use Rattle.nj_args.specs.declared.faults.UsageFault.{UsageFault}
@@ -44,32 +44,32 @@ TakesWords Rules words = words ≡ []
 TakesWords Compdb words = ⊤
 
 -- the fields ask for this tool, by its name
-pub record NamesTool (fields : FieldTexts) (name : List ℕ) (tool : Tool) : Type 0 where
+pub record NamesTool (fields : FieldStrings) (name : List ℕ) (tool : Tool) : Type 0 where
   pub asked : fields.tool ≡ Some name
   pub known : tool_named name ≡ Some tool
 
 -- the fields have this mistake, whatever else is wrong with them, and the fault reports it
-pub data HasMistake (fields : FieldTexts) : Mistake → UsageFault → Type 0 where
+pub data HasMistake (fields : FieldStrings) : Mistake → UsageFault → Type 0 where
   toolless : fields.tool ≡ None → HasMistake fields no_tool Unparsed
   unknown : (name : List ℕ) → fields.tool ≡ Some name → tool_named name ≡ None → HasMistake fields unknown_tool (UnknownTool name)
   foreign : (name : List ℕ) (tool : Tool) (option : ToolOption) → NamesTool fields name tool → IsTrue (is_foreign tool fields option)
       → HasMistake fields (foreign_option option) (ForeignOption option name)
-  no_number : (text : List ℕ) → fields.take ≡ Some text → said_number text ≡ None → HasMistake fields bad_take (BadNumber text)
-  no_mark : (text : List ℕ) → fields.resume ≡ Some text → said_run_mark fields.validations text ≡ None
+  no_number : (text : List ℕ) → fields.take ≡ Some text → given_number text ≡ None → HasMistake fields bad_take (BadNumber text)
+  no_mark : (text : List ℕ) → fields.resume ≡ Some text → given_run_mark fields.validations text ≡ None
       → HasMistake fields bad_mark (BadMark text)
   wrong_words : (name : List ℕ) (tool : Tool) → NamesTool fields name tool → ¬ TakesWords tool fields.words
       → HasMistake fields bad_words (BadWords name)
-  no_depth : (name text : List ℕ) → NamesTool fields name Targets → fields.words ≡ codes "depth" ∷ text ∷ [] → said_depth text ≡ None
+  no_depth : (name text : List ℕ) → NamesTool fields name Targets → fields.words ≡ codes "depth" ∷ text ∷ [] → given_depth text ≡ None
       → HasMistake fields bad_depth (BadNumber text)
 
-abbrev pub Lacks : FieldTexts → Mistake → Type 0
+abbrev pub Lacks : FieldStrings → Mistake → Type 0
 Lacks fields mistake = (fault : UsageFault) → ¬ HasMistake fields mistake fault
 
-abbrev pub HasNoMistake : FieldTexts → Type 0
+abbrev pub HasNoMistake : FieldStrings → Type 0
 HasNoMistake fields = (mistake : Mistake) → Lacks fields mistake
 
 -- the fault reports the first of these mistakes that the fields have
-pub data IsFirstOf (fields : FieldTexts) : List Mistake → UsageFault → Type 0 where
+pub data IsFirstOf (fields : FieldStrings) : List Mistake → UsageFault → Type 0 where
   first : {mistake : Mistake} {mistakes : List Mistake} {fault : UsageFault} → HasMistake fields mistake fault
       → IsFirstOf fields (mistake ∷ mistakes) fault
   later : {mistake : Mistake} {mistakes : List Mistake} {fault : UsageFault} → Lacks fields mistake → IsFirstOf fields mistakes fault

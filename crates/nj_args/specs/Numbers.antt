@@ -9,13 +9,13 @@ is_digits [] = false
 is_digits (digit ∷ digits) = all_ascii_digits (digit ∷ digits)
 
 -- the number that decimal digits say, with or without leading zeros, up to a greatest one
-abbrev pub said_up_to : (greatest : ℕ) → List ℕ → Option ℕ
-said_up_to greatest text = if is_digits text && nat_le (digits_value 10 text) greatest then Some (digits_value 10 text) else None
+abbrev pub given_up_to : (greatest : ℕ) → List ℕ → Option ℕ
+given_up_to greatest text = if is_digits text && nat_le (digits_value 10 text) greatest then Some (digits_value 10 text) else None
 
 -- the greatest of 64 bits
-abbrev pub said_number : List ℕ → Option ℕ
-said_number = said_up_to 18446744073709551615
+abbrev pub given_number : List ℕ → Option ℕ
+given_number = given_up_to 18446744073709551615
 
 -- the greatest that Ninja reads as the number of levels
-abbrev pub said_depth : List ℕ → Option ℕ
-said_depth = said_up_to 2147483647
+abbrev pub given_depth : List ℕ → Option ℕ
+given_depth = given_up_to 2147483647

@@ -6,9 +6,9 @@ use Rattle.std.specs.Str.{bytes_eq}
 use Rattle.nj_tools.specs.declared.style.InputsStyle.{InputsStyle}
 use Rattle.nj_tools.specs.declared.view.TargetsView.{TargetsView}
 use Rattle.nj_tools.specs.declared.view.TargetsView.TheVariants.{OfRule, Sources, Depth, All}
-use Rattle.nj_args.specs.Fields.{FieldTexts, fields_of}
-use Rattle.nj_args.specs.Numbers.{said_number, said_depth}
-use Rattle.nj_args.specs.RunMarks.{said_run_mark}
+use Rattle.nj_args.specs.Fields.{FieldStrings, fields_of}
+use Rattle.nj_args.specs.Numbers.{given_number, given_depth}
+use Rattle.nj_args.specs.RunMarks.{given_run_mark}
 use Rattle.nj_args.specs.Tools.{tool_named, first_foreign}
 use Rattle.nj_args.specs.declared.faults.UsageFault.{UsageFault}
 use Rattle.nj_args.specs.declared.faults.UsageFault.TheVariants.{Unparsed, UnknownTool, ForeignOption, BadNumber, BadMark, BadWords}
@@ -62,14 +62,14 @@ abbrev pub ◌>>=◌ : {A B : Type 0} → Result A UsageFault → (A → Result 
 
 abbrev pub take_of : Option (List ℕ) → Result (Option ℕ) UsageFault
 take_of None = Ok None
-take_of (Some text) = ok_or (option_map Some (said_number text)) (BadNumber text)
+take_of (Some text) = ok_or (option_map Some (given_number text)) (BadNumber text)
 
 abbrev pub start_of : (validations : Bool) → Option (List ℕ) → Result (List ℕ) UsageFault
 start_of validations None = Ok []
-start_of validations (Some text) = ok_or (said_run_mark validations text) (BadMark text)
+start_of validations (Some text) = ok_or (given_run_mark validations text) (BadMark text)
 
 -- the commands of the edges that the targets need, from a mark on, up to a limit; or with `-s` those of the edges that make them
-abbrev pub commands_of : FieldTexts → Result ActionText UsageFault
+abbrev pub commands_of : FieldStrings → Result ActionText UsageFault
 commands_of fields = if fields.is_single then Ok (single_commands fields.words) else do
   take ← take_of fields.take
   start ← start_of fields.validations fields.resume
@@ -87,7 +87,7 @@ view_of_word name word =
 
 -- this many levels
 abbrev pub depth_of : (text : List ℕ) → Result TargetsView UsageFault
-depth_of text = ok_or (option_map Depth (said_depth text)) (BadNumber text)
+depth_of text = ok_or (option_map Depth (given_depth text)) (BadNumber text)
 
 -- `depth N` or `rule NAME`
 abbrev pub view_of_pair : (name word value : List ℕ) → Result TargetsView UsageFault
@@ -103,7 +103,7 @@ view_of name (word ∷ []) = view_of_word name word
 view_of name (word ∷ value ∷ []) = view_of_pair name word value
 view_of name (word ∷ value ∷ more ∷ words) = Err (BadWords name)
 
-abbrev pub targets_of : (name : List ℕ) → FieldTexts → Result ActionText UsageFault
+abbrev pub targets_of : (name : List ℕ) → FieldStrings → Result ActionText UsageFault
 targets_of name fields = do
   view ← view_of name fields.words
   Ok (targets view)
@@ -111,7 +111,7 @@ targets_of name fields = do
 -- ---- the other tools
 
 -- the list is sorted and quoted for a shell, a line each, unless an option says otherwise
-abbrev pub style_of : FieldTexts → InputsStyle
+abbrev pub style_of : FieldStrings → InputsStyle
 style_of fields = record {
   dependency_order = fields.dependency_order;
   shell_escape = not fields.no_shell_escape;
@@ -119,7 +119,7 @@ style_of fields = record {
 }
 
 -- any number of targets
-abbrev pub inputs_of : FieldTexts → Result ActionText UsageFault
+abbrev pub inputs_of : FieldStrings → Result ActionText UsageFault
 inputs_of fields = Ok (inputs fields.words fields.validations (style_of fields))
 
 -- one file or more
@@ -137,13 +137,13 @@ abbrev pub here : List ℕ
 here = codes "."
 
 -- any number of rules
-abbrev pub compdb_of : FieldTexts → Result ActionText UsageFault
+abbrev pub compdb_of : FieldStrings → Result ActionText UsageFault
 compdb_of fields = Ok (compdb fields.words (unwrap_or fields.directory here) fields.expand)
 
 -- ---- the request
 
 -- what the tool of this name is asked for, by options that go with it
-abbrev pub asked_of : Tool → (name : List ℕ) → FieldTexts → Result ActionText UsageFault
+abbrev pub asked_of : Tool → (name : List ℕ) → FieldStrings → Result ActionText UsageFault
 asked_of tool.Commands name fields = commands_of fields
 asked_of tool.Inputs name fields = inputs_of fields
 asked_of tool.Targets name fields = targets_of name fields
@@ -152,7 +152,7 @@ asked_of tool.Rules name fields = rules_of name fields.descriptions fields.words
 asked_of tool.Compdb name fields = compdb_of fields
 
 -- an option that does not go with the tool is a fault
-abbrev pub action_of : (name : List ℕ) → FieldTexts → Result ActionText UsageFault
+abbrev pub action_of : (name : List ℕ) → FieldStrings → Result ActionText UsageFault
 action_of name fields = do
   tool ← ok_or (tool_named name) (UnknownTool name)
   option_map_or (λ option. Err (ForeignOption option name)) (first_foreign tool fields) (asked_of tool name fields)
@@ -161,7 +161,7 @@ abbrev pub main_file : List ℕ
 main_file = codes "build.ninja"
 
 -- a tool is required
-abbrev pub request_in : FieldTexts → Result RequestText UsageFault
+abbrev pub request_in : FieldStrings → Result RequestText UsageFault
 request_in fields = do
   name ← ok_or fields.tool Unparsed
   action ← action_of name fields

@@ -1,7 +1,7 @@
 -- The tools, and which options go with which.
 use Rattle.std.specs.Prelude.{ℕ, ◌&&◌, Bool, true, false, not, if◌then◌else◌, List, [], ◌∷◌, find, codes, Option, Some, None, is_some}
 use Rattle.std.specs.Str.{bytes_eq}
-use Rattle.nj_args.specs.Fields.{FieldTexts}
+use Rattle.nj_args.specs.Fields.{FieldStrings}
 use Rattle.nj_args.specs.declared.faults.ToolOption.{ToolOption}
 use Rattle.nj_args.specs.declared.faults.ToolOption.TheVariants.{Single, Descriptions, Expand, Directory, Take, Resume, Validations, DependencyOrder, NoShellEscape, Print0}
 use Rattle.nj_args.specs.declared.tools.Tool.{Tool}
@@ -32,7 +32,7 @@ goes_with Compdb is_single Expand = true
 goes_with Compdb is_single Directory = true
 goes_with _ _ _ = false
 
-abbrev pub is_given : FieldTexts → ToolOption → Bool
+abbrev pub is_given : FieldStrings → ToolOption → Bool
 is_given fields Single = fields.is_single
 is_given fields Descriptions = fields.descriptions
 is_given fields Expand = fields.expand
@@ -44,7 +44,7 @@ is_given fields DependencyOrder = fields.dependency_order
 is_given fields NoShellEscape = fields.no_shell_escape
 is_given fields Print0 = fields.print0
 
-abbrev pub is_foreign : Tool → FieldTexts → ToolOption → Bool
+abbrev pub is_foreign : Tool → FieldStrings → ToolOption → Bool
 is_foreign tool fields option = is_given fields option && not (goes_with tool fields.is_single option)
 
 -- in the order in which they are reported
@@ -54,5 +54,5 @@ all_options =
     ∷ DependencyOrder ∷ NoShellEscape ∷ Print0 ∷ []
 
 -- the first option that was given and does not go with the tool
-abbrev pub first_foreign : Tool → FieldTexts → Option ToolOption
+abbrev pub first_foreign : Tool → FieldStrings → Option ToolOption
 first_foreign tool fields = find (is_foreign tool fields) all_options

@@ -5,7 +5,7 @@ ghost use Rattle.std.specs.Option.{option_copied};
 ghost use Rattle.clap.specs.Words.{found_of, rows_of, first_of, fault_of, matches_of};
 ghost use Rattle.nj_args.specs.CommandLine.{command};
 ghost use Rattle.nj_args.specs.Fields.{is_on, fields_in, is_refused};
-ghost use Rattle.nj_args.specs.Inside.Held.{field_texts, refusal};
+ghost use Rattle.nj_args.specs.Inside.Held.{field_strings, refusal};
 ghost use Rattle.nj_args.specs.declared.faults.UsageFault.TheVariants.{Unparsed, OutOfMemory};
 
 use crate::command::command;
@@ -61,7 +61,7 @@ fn refusal(kind: ErrorKind) -> UsageFault
 
 /// What the matches give.
 pub fn fields_in<'m, 'w>(matches: &'m ArgMatches<'w>) -> Fields<'m, 'w>
-    ensures { field_texts result ≡ fields_in (rows_of (found_of matches.entry.now)) }
+    ensures { field_strings result ≡ fields_in (rows_of (found_of matches.entry.now)) }
 {
     Fields {
         tool: text_of(matches, "tool"),

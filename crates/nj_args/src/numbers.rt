@@ -1,14 +1,14 @@
 //! The numbers of a command line.
 
 ghost use Rattle.std.specs.Prelude.{◌≡◌};
-ghost use Rattle.nj_args.specs.Numbers.{said_number, said_depth};
+ghost use Rattle.nj_args.specs.Numbers.{given_number, given_depth};
 ghost use Rattle.nj_args.specs.Inside.Held.{begins_with_plus};
 
 const GREATEST_DEPTH: u64 = 2_147_483_647;
 
 /// The number that decimal digits say, with or without leading zeros.
 pub fn number_in(text: &str) -> Option<u64>
-    ensures { result ≡ said_number text.now }
+    ensures { result ≡ given_number text.now }
 {
     if has_plus(text.as_bytes()) {
         return None;
@@ -21,7 +21,7 @@ pub fn number_in(text: &str) -> Option<u64>
 
 /// The number of levels that decimal digits say, in the same way.
 pub fn depth_in(text: &str) -> Option<u32>
-    ensures { result ≡ said_depth text.now }
+    ensures { result ≡ given_depth text.now }
 {
     match number_in(text) {
         Some(depth) if depth <= GREATEST_DEPTH => Some(depth as u32),

@@ -1,7 +1,7 @@
 //! Requests: what the words of a command line ask for.
 
 ghost use Rattle.std.specs.Prelude.{◌≡◌, ◌⊎◌, None, Ok, Err, IfOk, IfErr, IfSome, IfNone, map, string_bytes};
-ghost use Rattle.nj_marks.specs.Marks.{said_mark};
+ghost use Rattle.nj_marks.specs.Marks.{given_mark};
 ghost use Rattle.std.specs.Option.{option_copied};
 ghost use Rattle.nj_args.specs.Requests.{
   request_of,
@@ -27,8 +27,8 @@ ghost use Rattle.nj_args.specs.Requests.{
   main_file,
   wordless,
 };
-ghost use Rattle.nj_args.specs.Inside.Held.{field_texts, word_texts};
-ghost use Rattle.nj_args.specs.RunMarks.{said_run_mark};
+ghost use Rattle.nj_args.specs.Inside.Held.{field_strings, word_strings};
+ghost use Rattle.nj_args.specs.RunMarks.{given_run_mark};
 ghost use Rattle.nj_args.specs.declared.faults.UsageFault.TheVariants.{OutOfMemory};
 
 use crate::faults::{UsageFault, Word};
@@ -160,9 +160,9 @@ fn given_request(alloc: Global, words: &[String]) -> Result<Request, UsageFault>
 // What the fields ask for.
 fn request_in(alloc: Global, fields: &Fields<'_, '_>) -> Result<Request, UsageFault>
     ensures ok { IfOk result (λ request.
-        request_in (field_texts fields.now) ≡ Ok (request_text request)) }
+        request_in (field_strings fields.now) ≡ Ok (request_text request)) }
     ensures err { IfErr result (λ fault. (fault ≡ OutOfMemory)
-        ⊎ (request_in (field_texts fields.now) ≡ Err fault)) }
+        ⊎ (request_in (field_strings fields.now) ≡ Err fault)) }
 {
     let Some(name) = fields.tool else {
         return Err(UsageFault::Unparsed);
@@ -179,9 +179,9 @@ fn request_in(alloc: Global, fields: &Fields<'_, '_>) -> Result<Request, UsageFa
 // What the tool of this name is asked for.
 fn action_of(alloc: Global, name: &str, fields: &Fields<'_, '_>) -> Result<Action, UsageFault>
     ensures ok { IfOk result (λ action.
-        action_of name.now (field_texts fields.now) ≡ Ok (action_text action)) }
+        action_of name.now (field_strings fields.now) ≡ Ok (action_text action)) }
     ensures err { IfErr result (λ fault. (fault ≡ OutOfMemory)
-        ⊎ (action_of name.now (field_texts fields.now) ≡ Err fault)) }
+        ⊎ (action_of name.now (field_strings fields.now) ≡ Err fault)) }
 {
     let Some(tool) = tool_named(name) else {
         return Err(UsageFault::UnknownTool(Word::new(alloc, name)?));
@@ -203,9 +203,9 @@ fn asked_of(
     fields: &Fields<'_, '_>,
 ) -> Result<Action, UsageFault>
     ensures ok { IfOk result (λ action.
-        asked_of tool name.now (field_texts fields.now) ≡ Ok (action_text action)) }
+        asked_of tool name.now (field_strings fields.now) ≡ Ok (action_text action)) }
     ensures err { IfErr result (λ fault. (fault ≡ OutOfMemory)
-        ⊎ (asked_of tool name.now (field_texts fields.now) ≡ Err fault)) }
+        ⊎ (asked_of tool name.now (field_strings fields.now) ≡ Err fault)) }
 {
     match tool {
         Tool::Commands => commands_of(alloc, fields),
@@ -220,9 +220,9 @@ fn asked_of(
 // The action of `commands`.
 fn commands_of(alloc: Global, fields: &Fields<'_, '_>) -> Result<Action, UsageFault>
     ensures ok { IfOk result (λ action.
-        commands_of (field_texts fields.now) ≡ Ok (action_text action)) }
+        commands_of (field_strings fields.now) ≡ Ok (action_text action)) }
     ensures err { IfErr result (λ fault. (fault ≡ OutOfMemory)
-        ⊎ (commands_of (field_texts fields.now) ≡ Err fault)) }
+        ⊎ (commands_of (field_strings fields.now) ≡ Err fault)) }
 {
     if fields.is_single {
         let targets = owned(alloc, fields.words)?;
@@ -277,8 +277,8 @@ fn start_of(alloc: Global, validations: bool, text: Option<&str>) -> Result<Mark
 // validations.
 fn mark_in(validations: bool, text: &str) -> Option<&str>
     ensures some { IfSome result (λ mark.
-        said_run_mark validations text.now ≡ said_mark mark.now) }
-    ensures none { IfNone result (said_run_mark validations text.now ≡ None) }
+        given_run_mark validations text.now ≡ given_mark mark.now) }
+    ensures none { IfNone result (given_run_mark validations text.now ≡ None) }
 {
     if validations {
         text.strip_prefix('v')
@@ -290,7 +290,7 @@ fn mark_in(validations: bool, text: &str) -> Option<&str>
 // The action of `inputs`.
 fn inputs_of(alloc: Global, fields: &Fields<'_, '_>) -> Result<Action, UsageFault>
     ensures ok { IfOk result (λ action.
-        inputs_of (field_texts fields.now) ≡ Ok (action_text action)) }
+        inputs_of (field_strings fields.now) ≡ Ok (action_text action)) }
     ensures err { IfErr result (λ fault. fault ≡ OutOfMemory) }
 {
     Ok(Action::Inputs {
@@ -302,7 +302,7 @@ fn inputs_of(alloc: Global, fields: &Fields<'_, '_>) -> Result<Action, UsageFaul
 
 // How `inputs` writes its list.
 fn style_of(fields: &Fields<'_, '_>) -> InputsStyle
-    ensures { result ≡ style_of (field_texts fields.now) }
+    ensures { result ≡ style_of (field_strings fields.now) }
 {
     InputsStyle {
         dependency_order: fields.dependency_order,
@@ -314,9 +314,9 @@ fn style_of(fields: &Fields<'_, '_>) -> InputsStyle
 // The action of `targets`.
 fn targets_of(alloc: Global, name: &str, fields: &Fields<'_, '_>) -> Result<Action, UsageFault>
     ensures ok { IfOk result (λ action.
-        targets_of name.now (field_texts fields.now) ≡ Ok (action_text action)) }
+        targets_of name.now (field_strings fields.now) ≡ Ok (action_text action)) }
     ensures err { IfErr result (λ fault. (fault ≡ OutOfMemory)
-        ⊎ (targets_of name.now (field_texts fields.now) ≡ Err fault)) }
+        ⊎ (targets_of name.now (field_strings fields.now) ≡ Err fault)) }
 {
     Ok(Action::Targets {
         view: view_of(alloc, name, fields.words)?,
@@ -325,9 +325,9 @@ fn targets_of(alloc: Global, name: &str, fields: &Fields<'_, '_>) -> Result<Acti
 
 // What `targets` lists by its words.
 fn view_of(alloc: Global, name: &str, words: Option<&[&str]>) -> Result<TargetsView, UsageFault>
-    ensures ok { IfOk result (λ view. view_of name.now (word_texts words.entry) ≡ Ok view) }
+    ensures ok { IfOk result (λ view. view_of name.now (word_strings words.entry) ≡ Ok view) }
     ensures err { IfErr result (λ fault. (fault ≡ OutOfMemory)
-        ⊎ (view_of name.now (word_texts words.entry) ≡ Err fault)) }
+        ⊎ (view_of name.now (word_strings words.entry) ≡ Err fault)) }
 {
     match words {
         None | Some([]) => Ok(TargetsView::Depth(1)),
@@ -384,9 +384,9 @@ fn depth_of(alloc: Global, text: &str) -> Result<TargetsView, UsageFault>
 // The action of `query`.
 fn query_of(alloc: Global, name: &str, words: Option<&[&str]>) -> Result<Action, UsageFault>
     ensures ok { IfOk result (λ action.
-        query_of name.now (word_texts words.entry) ≡ Ok (action_text action)) }
+        query_of name.now (word_strings words.entry) ≡ Ok (action_text action)) }
     ensures err { IfErr result (λ fault. (fault ≡ OutOfMemory)
-        ⊎ (query_of name.now (word_texts words.entry) ≡ Err fault)) }
+        ⊎ (query_of name.now (word_strings words.entry) ≡ Err fault)) }
 {
     match words {
         None | Some([]) => Err(UsageFault::BadWords(Word::new(alloc, name)?)),
@@ -399,10 +399,10 @@ fn query_of(alloc: Global, name: &str, words: Option<&[&str]>) -> Result<Action,
 // The action of `rules`.
 fn rules_of(alloc: Global, name: &str, fields: &Fields<'_, '_>) -> Result<Action, UsageFault>
     ensures ok { IfOk result (λ action.
-        rules_of name.now fields.now.descriptions (word_texts fields.now.words)
+        rules_of name.now fields.now.descriptions (word_strings fields.now.words)
         ≡ Ok (action_text action)) }
     ensures err { IfErr result (λ fault. (fault ≡ OutOfMemory)
-        ⊎ (rules_of name.now fields.now.descriptions (word_texts fields.now.words) ≡ Err fault)) }
+        ⊎ (rules_of name.now fields.now.descriptions (word_strings fields.now.words) ≡ Err fault)) }
 {
     let descriptions = fields.descriptions;
     match fields.words {
@@ -414,7 +414,7 @@ fn rules_of(alloc: Global, name: &str, fields: &Fields<'_, '_>) -> Result<Action
 // The action of `compdb`.
 fn compdb_of(alloc: Global, fields: &Fields<'_, '_>) -> Result<Action, UsageFault>
     ensures ok { IfOk result (λ action.
-        compdb_of (field_texts fields.now) ≡ Ok (action_text action)) }
+        compdb_of (field_strings fields.now) ≡ Ok (action_text action)) }
     ensures err { IfErr result (λ fault. fault ≡ OutOfMemory) }
 {
     Ok(Action::Compdb {
@@ -426,14 +426,14 @@ fn compdb_of(alloc: Global, fields: &Fields<'_, '_>) -> Result<Action, UsageFaul
 
 // The words, as owned strings.
 fn owned(alloc: Global, words: Option<&[&str]>) -> Result<Vec<String>, AllocError>
-    ensures { IfOk result (λ texts. map string_bytes texts.items ≡ word_texts words.entry) }
+    ensures { IfOk result (λ strings. map string_bytes strings.items ≡ word_strings words.entry) }
 {
-    let mut texts = Vec::new(alloc);
+    let mut strings = Vec::new(alloc);
     let Some(words) = words else {
-        return Ok(texts);
+        return Ok(strings);
     };
     'words: for word in words {
-        texts.push(String::from_str(alloc, word)?)?;
+        strings.push(String::from_str(alloc, word)?)?;
     }
-    Ok(texts)
+    Ok(strings)
 }

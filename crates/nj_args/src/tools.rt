@@ -1,7 +1,7 @@
 //! The tools, and which options go with which.
 
 ghost use Rattle.std.specs.Prelude.{◌≡◌, find};
-ghost use Rattle.nj_args.specs.Inside.Held.{field_texts};
+ghost use Rattle.nj_args.specs.Inside.Held.{field_strings};
 ghost use Rattle.nj_args.specs.Tools.{
   tool_named,
   goes_with,
@@ -41,7 +41,7 @@ pub fn tool_named(name: &str) -> Option<Tool>
 
 /// The first option, in the order of [`ToolOption`], that was given and does not go with the tool.
 pub fn first_foreign(tool: Tool, fields: &Fields<'_, '_>) -> Option<ToolOption>
-    ensures { result ≡ first_foreign tool (field_texts fields.now) }
+    ensures { result ≡ first_foreign tool (field_strings fields.now) }
 {
     let options = [
         ToolOption::Single,
@@ -64,7 +64,7 @@ fn first_foreign_of(
     tool: Tool,
     fields: &Fields<'_, '_>,
 ) -> Option<ToolOption>
-    ensures { result ≡ find (is_foreign tool (field_texts fields.now)) options.now }
+    ensures { result ≡ find (is_foreign tool (field_strings fields.now)) options.now }
 {
     options
         .iter()
@@ -74,14 +74,14 @@ fn first_foreign_of(
 
 // Whether an option was given and does not go with the tool.
 fn is_foreign(tool: Tool, fields: &Fields<'_, '_>, option: ToolOption) -> bool
-    ensures { result ≡ is_foreign tool (field_texts fields.now) option }
+    ensures { result ≡ is_foreign tool (field_strings fields.now) option }
 {
     is_given(fields, option) && !goes_with(tool, fields.is_single, option)
 }
 
 // Whether an option was given.
 fn is_given(fields: &Fields<'_, '_>, option: ToolOption) -> bool
-    ensures { result ≡ is_given (field_texts fields.now) option }
+    ensures { result ≡ is_given (field_strings fields.now) option }
 {
     match option {
         ToolOption::Single => fields.is_single,

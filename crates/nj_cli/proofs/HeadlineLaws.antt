@@ -26,10 +26,10 @@ use Rattle.nj_args.specs.RunMarks.{run_mark_text}
 use Rattle.nj_args.proofs.RunMarks.{run-mark_reads_back}
 use Rattle.nj_args.specs.declared.faults.UsageFault.TheVariants.{BadMark}
 use Rattle.nj_tools.specs.Compdb.{unheld_edge}
-use Rattle.nj_tools.specs.CommandTexts.{command_line, command_lines, written}
+use Rattle.nj_tools.specs.CommandStrings.{command_line, command_lines, written}
 use Rattle.nj_cli.specs.Answers.{leads, commands_left, IsMarkOf, commands_text, output_of, Ending, finished, stopped, faulty, out_of_range, PageEnds, EndsFrom, CommandsEnd, TargetsEnd, CompdbEnds, EndsWith}
-use Rattle.nj_cli.specs.Headline.{AreNeeded, WritesTheNeeded, IsRun, ArePageTexts, PageTextsJoin, StoppedRunsGoOn, OneEnding}
-use Rattle.nj_cli.specs.Headline.ArePageTexts.{no_runs, finishes, stops}
+use Rattle.nj_cli.specs.Headline.{AreNeeded, WritesTheNeeded, IsRun, ArePageStrings, PageStringsJoin, StoppedRunsContinue, OneEnding}
+use Rattle.nj_cli.specs.Headline.ArePageStrings.{no_runs, finishes, stops}
 use Rattle.nj_cli.specs.Targets.{edges_by_path, NoEdgeNeedsItself, targets_named, targets_of}
 
 -- ---- the targets and the mark of a run that is not refused
@@ -116,14 +116,14 @@ same-targets entries words validations targets others one other = let e : Ok oth
 -- what was asked for is one run
 run-is : (words : List (List ℕ)) (validations : Bool) (limit : Option ℕ) (resume : Option (List ℕ)) (run : ActionText) (start : List ℕ) → start_of validations resume ≡ Ok start → IsRun words validations limit resume run
     → run ≡ commands words validations limit start
-run-is words validations limit resume run start said (other, said_too, is) =
-    let e : Ok other ≡ Ok start = sym said_too ∙ said in
+run-is words validations limit resume run start meant (other, given_too, is) =
+    let e : Ok other ≡ Ok start = sym given_too ∙ meant in
     let same : other ≡ start = cc in is ∙ ap (commands words validations limit) same
 
 -- a mark that reads back is that of its text
-start-said : (validations : Bool) (mark : List ℕ) → ReadsBack mark → start_of validations (Some (run_mark_text validations mark)) ≡ Ok mark
-start-said validations mark back =
-    ap (λ (said : Option (List ℕ)). ok_or said (BadMark (run_mark_text validations mark))) (run-mark_reads_back validations mark back)
+start-meant : (validations : Bool) (mark : List ℕ) → ReadsBack mark → start_of validations (Some (run_mark_text validations mark)) ≡ Ok mark
+start-meant validations mark back =
+    ap (λ (meant : Option (List ℕ)). ok_or meant (BadMark (run_mark_text validations mark))) (run-mark_reads_back validations mark back)
 
 module _ (entries : List ReadStatement) (words : List (List ℕ)) (validations : Bool) (targets : List (List ℕ)) (named : targets_of entries validations words ≡ Ok targets) (none : NoEdgeNeedsItself (edges_by_path entries)) where
   -- after a page: the mark leads to an edge, and the rest is left there
@@ -141,10 +141,10 @@ module _ (entries : List ReadStatement) (words : List (List ℕ)) (validations :
       ap (command_lines entries) (sym (take-append-drop count numbers)) ∙ flat_map-append (command_line entries) (take count numbers) (drop count numbers)
 
   join : (resume : Option (List ℕ)) (start : List ℕ) → start_of validations resume ≡ Ok start → (takes : List ℕ) (outputs : List (List ℕ)) (rest : List ℕ) → leads entries targets start ≡ true
-      → ArePageTexts entries words validations resume takes outputs rest → output_of entries (commands words validations None start) ≡ concat outputs ++ rest
-  join resume start said _ _ rest leads_so (no_runs run asked is) = ap (output_of entries) (sym (run-is words validations None resume run start said asked)) ∙ is
-  join resume start said _ _ _ leads_so (finishes {take = count} {output = output} run asked ends_so is) =
-      let run_is = run-is words validations (Some count) resume run start said asked in
+      → ArePageStrings entries words validations resume takes outputs rest → output_of entries (commands words validations None start) ≡ concat outputs ++ rest
+  join resume start meant _ _ rest leads_so (no_runs run asked is) = ap (output_of entries) (sym (run-is words validations None resume run start meant asked)) ∙ is
+  join resume start meant _ _ _ leads_so (finishes {take = count} {output = output} run asked ends_so is) =
+      let run_is = run-is words validations (Some count) resume run start meant asked in
       let p = page entries (Some count) start words validations finished tt (subst (λ (a : ActionText). EndsWith entries a finished) run_is ends_so) in
       let left = commands_left entries targets start in
       let none_left : drop count left ≡ [] = subst (λ (ts : List (List ℕ)). drop count (commands_left entries ts start) ≡ []) (same-targets entries words validations targets p.targets named p.named) p.ends_so in
@@ -153,8 +153,8 @@ module _ (entries : List ReadStatement) (words : List (List ℕ)) (validations :
       ∙ ap (λ (es : List ℕ). command_lines entries (take count left) ++ command_lines entries es) none_left
       ∙ ap (λ (t : List ℕ). t ++ []) (sym (output-is entries (Some count) start words validations targets named leads_so) ∙ ap (output_of entries) (sym run_is) ∙ is)
       ∙ ap (λ (t : List ℕ). t ++ []) (sym (append-nil output))
-  join resume start said _ _ rest leads_so (stops {takes = takes} {output = output} {take = count} {outputs = outputs} run mark asked ends_so is more) =
-      let run_is = run-is words validations (Some count) resume run start said asked in
+  join resume start meant _ _ rest leads_so (stops {takes = takes} {output = output} {take = count} {outputs = outputs} run mark asked ends_so is more) =
+      let run_is = run-is words validations (Some count) resume run start meant asked in
       let p = page entries (Some count) start words validations (stopped mark) tt (subst (λ (a : ActionText). EndsWith entries a (stopped mark)) run_is ends_so) in
       let left = commands_left entries targets start in
       let marked : IsMarkOf entries targets start (written (Some count) left) mark =
@@ -162,24 +162,24 @@ module _ (entries : List ReadStatement) (words : List (List ℕ)) (validations :
       let (leads_on, left_on) = after-page start count mark leads_so marked in
       let on : command_lines entries (drop count left) ≡ concat outputs ++ rest =
       ap (command_lines entries) (sym left_on) ∙ sym (output-is entries None mark words validations targets named leads_on)
-      ∙ join (Some (run_mark_text validations mark)) mark (start-said validations mark p.ends_so.2) takes outputs rest leads_on more in
+      ∙ join (Some (run_mark_text validations mark)) mark (start-meant validations mark p.ends_so.2) takes outputs rest leads_on more in
       output-is entries None start words validations targets named leads_so
       ∙ lines-split count left
       ∙ ap (λ (t : List ℕ). t ++ command_lines entries (drop count left)) (sym (output-is entries (Some count) start words validations targets named leads_so) ∙ ap (output_of entries) (sym run_is) ∙ is)
       ∙ ap (λ (t : List ℕ). output ++ t) on
       ∙ sym (append_assoc output (concat outputs) rest)
 
-pub pages-join : PageTextsJoin
-pages-join entries words validations none resume whole (start, said, whole_is) ends_so takes outputs rest pages =
+pub pages-join : PageStringsJoin
+pages-join entries words validations none resume whole (start, meant, whole_is) ends_so takes outputs rest pages =
     let p = page entries None start words validations finished tt (subst (λ (a : ActionText). EndsWith entries a finished) whole_is ends_so) in
-    ap (output_of entries) whole_is ∙ join entries words validations p.targets p.named none resume start said takes outputs rest p.leads_so pages
+    ap (output_of entries) whole_is ∙ join entries words validations p.targets p.named none resume start meant takes outputs rest p.leads_so pages
 
-pub stopped-go_on : StoppedRunsGoOn
-stopped-go_on entries words validations none None start mark ends_so = let p = page entries None start words validations (stopped mark) tt ends_so in absurd (p.ends_so.0 refl)
-stopped-go_on entries words validations none (Some count) start mark ends_so =
+pub stopped-continued : StoppedRunsContinue
+stopped-continued entries words validations none None start mark ends_so = let p = page entries None start words validations (stopped mark) tt ends_so in absurd (p.ends_so.0 refl)
+stopped-continued entries words validations none (Some count) start mark ends_so =
     let p = page entries (Some count) start words validations (stopped mark) tt ends_so in
     let leads_on = (after-page entries words validations p.targets p.named none start count mark p.leads_so p.ends_so.1).0 in
-    (commands words validations None mark, (mark, start-said validations mark p.ends_so.2, refl), finishes-unlimited entries mark words validations p.targets p.named leads_on)
+    (commands words validations None mark, (mark, start-meant validations mark p.ends_so.2, refl), finishes-unlimited entries mark words validations p.targets p.named leads_on)
 
 -- ---- one ending
 

@@ -11,7 +11,7 @@ use Rattle.nj_graph.proofs.Tables.{reads-then}
 use Rattle.nj_args.specs.Requests.{RequestText}
 use Rattle.nj_cli.specs.Inside.RunSteps.{GraphOr, ReadsGraph}
 use Rattle.nj_cli.specs.Runs.{ReadsMore, AreStatements, HaveFault}
-use Rattle.nj_cli.proofs.AnswerLemmas.{NoEdgeNeedsItself-stated}
+use Rattle.nj_cli.proofs.ReturnLemmas.{NoEdgeNeedsItself-stated}
 
 statements-joined : (main : List ℕ) (dyndep : Bool) (before after : SourceState) (files : List Reading) (entries : List ReadStatement) → dyndep ≡ true
     → (more : ReadsMore main before after files) → IsWhole more.between after files (joined_after more.read more.stated) entries

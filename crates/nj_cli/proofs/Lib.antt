@@ -1,4 +1,4 @@
-pub mod AnswerLemmas
+pub mod ReturnLemmas
 pub mod CyclicRuns
 pub mod HeadlineLaws
 pub mod JoinedRuns

@@ -16,13 +16,13 @@ use Rattle.nj_cli.specs.declared.status.Status.TheVariants.{Fault, Usage}
 pub ReportsMisuse-other : (old new : SinkState) (fault : UsageFault) (status : Status) → fault ≢ usage.OutOfMemory
     → (Reported old new (lines.fault_line fault) × (status ≡ Usage)) ⊎ (Reported old new (with_line_end out_of_memory) × (status ≡ Fault))
     → ReportsMisuse old new fault status
-ReportsMisuse-other old new usage.OutOfMemory status other told = absurd (other refl)
-ReportsMisuse-other old new usage.Unparsed status other told = told
-ReportsMisuse-other old new (usage.UnknownTool tool) status other told = told
-ReportsMisuse-other old new (usage.ForeignOption option tool) status other told = told
-ReportsMisuse-other old new (usage.BadNumber text) status other told = told
-ReportsMisuse-other old new (usage.BadMark text) status other told = told
-ReportsMisuse-other old new (usage.BadWords tool) status other told = told
+ReportsMisuse-other old new usage.OutOfMemory status other known = absurd (other refl)
+ReportsMisuse-other old new usage.Unparsed status other known = known
+ReportsMisuse-other old new (usage.UnknownTool tool) status other known = known
+ReportsMisuse-other old new (usage.ForeignOption option tool) status other known = known
+ReportsMisuse-other old new (usage.BadNumber text) status other known = known
+ReportsMisuse-other old new (usage.BadMark text) status other known = known
+ReportsMisuse-other old new (usage.BadWords tool) status other known = known
 
 module _ (words : List (List ℕ)) (old new : Around) (source : new.source ≡ old.source) (output : new.output ≡ old.output) where
   early : (status : Status) → Reported old.error new.error (with_line_end out_of_memory) → status ≡ Fault → RunsWords words old new status
@@ -31,24 +31,24 @@ module _ (words : List (List ℕ)) (old new : Around) (source : new.source ≡ o
   misused : (fault : UsageFault) (status : Status) → request_of words ≡ Err fault
       → (Reported old.error new.error (lines.fault_line fault) × (status ≡ Usage)) ⊎ (Reported old.error new.error (with_line_end out_of_memory) × (status ≡ Fault))
       → RunsWords words old new status
-  misused fault status why (inl told) =
-      inl (subst (λ (r : Result RequestText UsageFault). RunsWith r old new status) (sym why) (record { source = source; output = output; error = told.0; status_is = told.1 }))
-  misused fault status why (inr told) = early status told.0 told.1
+  misused fault status why (inl known) =
+      inl (subst (λ (r : Result RequestText UsageFault). RunsWith r old new status) (sym why) (record { source = source; output = output; error = known.0; status_is = known.1 }))
+  misused fault status why (inr known) = early status known.0 known.1
 
   by_fault : (fault : UsageFault) (status : Status) → request_of words ≡ Err fault → ReportsMisuse old.error new.error fault status → RunsWords words old new status
-  by_fault usage.OutOfMemory status why told = early status told.0 told.1
-  by_fault usage.Unparsed status why told = misused usage.Unparsed status why told
-  by_fault (usage.UnknownTool tool) status why told = misused (usage.UnknownTool tool) status why told
-  by_fault (usage.ForeignOption option tool) status why told = misused (usage.ForeignOption option tool) status why told
-  by_fault (usage.BadNumber text) status why told = misused (usage.BadNumber text) status why told
-  by_fault (usage.BadMark text) status why told = misused (usage.BadMark text) status why told
-  by_fault (usage.BadWords tool) status why told = misused (usage.BadWords tool) status why told
+  by_fault usage.OutOfMemory status why known = early status known.0 known.1
+  by_fault usage.Unparsed status why known = misused usage.Unparsed status why known
+  by_fault (usage.UnknownTool tool) status why known = misused (usage.UnknownTool tool) status why known
+  by_fault (usage.ForeignOption option tool) status why known = misused (usage.ForeignOption option tool) status why known
+  by_fault (usage.BadNumber text) status why known = misused (usage.BadNumber text) status why known
+  by_fault (usage.BadMark text) status why known = misused (usage.BadMark text) status why known
+  by_fault (usage.BadWords tool) status why known = misused (usage.BadWords tool) status why known
 
 -- what a run does whose words ask for nothing
 pub RunsWords-misused : (words : List (List ℕ)) (old new : Around) (fault : UsageFault) (status : Status)
     → (fault ≡ usage.OutOfMemory) ⊎ (request_of words ≡ Err fault) → new.source ≡ old.source → new.output ≡ old.output
     → ReportsMisuse old.error new.error fault status → RunsWords words old new status
-RunsWords-misused words old new fault status (inl is) source output told =
-    let lacks = subst (λ (f : UsageFault). ReportsMisuse old.error new.error f status) is told in
+RunsWords-misused words old new fault status (inl is) source output known =
+    let lacks = subst (λ (f : UsageFault). ReportsMisuse old.error new.error f status) is known in
     early words old new source output status lacks.0 lacks.1
-RunsWords-misused words old new fault status (inr why) source output told = by_fault words old new source output fault status why told
+RunsWords-misused words old new fault status (inr why) source output known = by_fault words old new source output fault status why known

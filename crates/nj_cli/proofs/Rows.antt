@@ -10,13 +10,13 @@ use Rattle.nj_manifest.proofs.StatementRows.{at}
 use Rattle.nj_scope.specs.ReadingList.{ReadStatement}
 use Rattle.nj_statements.specs.EdgeList.{defaults_read}
 use Rattle.nj_graph.proofs.ReadingRows.{main_file, on_files, read_of}
-use Rattle.nj_marks.specs.Marks.{said_mark, ReadsBack}
+use Rattle.nj_marks.specs.Marks.{given_mark, ReadsBack}
 use Rattle.nj_args.specs.Requests.{ActionText, commands, single_commands}
 use Rattle.nj_args.specs.RunMarks.{run_mark_text}
 use Rattle.nj_cli.specs.declared.status.Status.TheVariants.{Done, Fault, Stopped}
 use Rattle.nj_cli.specs.Answers.{output_of, Ending, finished, stopped, faulty, EndsWith, error_of, status_of}
-use Rattle.nj_cli.specs.Headline.{IsRun, ArePageTexts}
-use Rattle.nj_cli.specs.Headline.ArePageTexts.{no_runs, finishes, stops}
+use Rattle.nj_cli.specs.Headline.{IsRun, ArePageStrings}
+use Rattle.nj_cli.specs.Headline.ArePageStrings.{no_runs, finishes, stops}
 
 -- ---- the file
 
@@ -106,19 +106,19 @@ wordless_ends = refl
 -- ---- marks read back
 
 reads_start : ReadsBack []
-unfolding digits said_mark
+unfolding digits given_mark
 reads_start = refl
 
 reads_0 : ReadsBack (0 ∷ [])
-unfolding digits said_mark
+unfolding digits given_mark
 reads_0 = refl
 
 reads_0_0 : ReadsBack (0 ∷ 0 ∷ [])
-unfolding digits said_mark
+unfolding digits given_mark
 reads_0_0 = refl
 
 reads_0_1 : ReadsBack (0 ∷ 1 ∷ [])
-unfolding digits said_mark
+unfolding digits given_mark
 reads_0_1 = refl
 
 -- ---- at most so many
@@ -217,20 +217,20 @@ from_start : IsRun d false (Some 2) None (commands d false (Some 2) [])
 from_start = ([], refl, refl)
 
 five_from_text : IsRun d false (Some 5) (Some (run_mark_text false (0 ∷ 0 ∷ []))) (commands d false (Some 5) (0 ∷ 0 ∷ []))
-unfolding digits said_mark
+unfolding digits given_mark
 five_from_text = (0 ∷ 0 ∷ [], refl, refl)
 
 rest_from_text : IsRun d false None (Some (run_mark_text false (0 ∷ 0 ∷ []))) (commands d false None (0 ∷ 0 ∷ []))
-unfolding digits said_mark
+unfolding digits given_mark
 rest_from_text = (0 ∷ 0 ∷ [], refl, refl)
 
-two_and_five : ArePageTexts entries d false None (2 ∷ 5 ∷ []) (codes "mk a\nmk b1\n" ∷ codes "mk b2\nmk d\n" ∷ []) []
+two_and_five : ArePageStrings entries d false None (2 ∷ 5 ∷ []) (codes "mk a\nmk b1\n" ∷ codes "mk b2\nmk d\n" ∷ []) []
 two_and_five =
     stops (commands d false (Some 2) []) (0 ∷ 0 ∷ []) from_start two_stops two
     (finishes (commands d false (Some 5) (0 ∷ 0 ∷ [])) five_from_text five_from_0_0_ends five_from_0_0)
 
 -- and one run of two edges, before all that is left
-two_and_rest : ArePageTexts entries d false None (2 ∷ []) (codes "mk a\nmk b1\n" ∷ []) (codes "mk b2\nmk d\n")
+two_and_rest : ArePageStrings entries d false None (2 ∷ []) (codes "mk a\nmk b1\n" ∷ []) (codes "mk b2\nmk d\n")
 two_and_rest =
     stops (commands d false (Some 2) []) (0 ∷ 0 ∷ []) from_start two_stops two
     (no_runs (commands d false None (0 ∷ 0 ∷ [])) rest_from_text from_0_0)

@@ -12,14 +12,14 @@ use Rattle.nj_tools.specs.Sinks.{SinkState, Takes}
 use Rattle.nj_tools.specs.Texts.{TakesFront}
 use Rattle.nj_cli.specs.Answers.{output_of, finished, stopped, faulty, out_of_range, EndsWith, with_line_end, follows_validations}
 use Rattle.nj_cli.specs.Reported.{Reported}
-use Rattle.nj_cli.specs.Inside.RunSteps.{AnswersTo, ReportsMark, Concludes}
+use Rattle.nj_cli.specs.Inside.RunSteps.{ReturnsFor, ReportsMark, Concludes}
 use Rattle.nj_cli.specs.Runs.{Around, out_of_memory, RunEnds, AreStatements, IsAnswered}
-use Rattle.nj_cli.specs.Runs.RunEnds.{told, untold, output_failed, memory_failed}
+use Rattle.nj_cli.specs.Runs.RunEnds.{known, untold, output_failed, memory_failed}
 use Rattle.nj_cli.specs.declared.fault.RunFault.{RunFault}
 use Rattle.nj_cli.specs.declared.fault.RunFault.TheVariants as fault
 use Rattle.nj_cli.specs.declared.status.Status.{Status}
 use Rattle.nj_cli.specs.declared.status.Status.TheVariants.{Done, Fault, Usage, Stopped, OutputFailed}
-use Rattle.nj_cli.proofs.AnswerLemmas.{NoEdgeNeedsItself-stated, TakesFront-none}
+use Rattle.nj_cli.proofs.ReturnLemmas.{NoEdgeNeedsItself-stated, TakesFront-none}
 
 -- ---- faults
 
@@ -37,7 +37,7 @@ module _ (entries : List ReadStatement) (action : ActionText) (old new : Around)
   -- the line of a fault was reported
   reported-fault : (text : List ℕ) → EndsWith entries action (faulty text) → Takes old.output new.output (output_of entries action)
       → Reported old.error new.error (with_line_end text) → RunEnds entries action old new Fault
-  reported-fault text ends took (inl told_so) = told (record { ending = faulty text; ends = ends; output = took; error = told_so; status_is = refl })
+  reported-fault text ends took (inl reported_so) = known (record { ending = faulty text; ends = ends; output = took; error = reported_so; status_is = refl })
   reported-fault text ends took (inr failed) = untold (record { ending = faulty text; ends = ends; output = took; error = failed; status_is = refl })
 
   -- there was no room for the line of a fault
@@ -55,31 +55,31 @@ module _ (entries : List ReadStatement) (action : ActionText) (old new : Around)
 
   stopped-at : (mark : List ℕ) (status : Status) → EndsWith entries action (stopped mark) → Takes old.output new.output (output_of entries action)
       → ReportsMark (follows_validations action) old.error new.error mark status → RunEnds entries action old new status
-  stopped-at mark Stopped ends took reported = told (record { ending = stopped mark; ends = ends; output = took; error = reported; status_is = refl })
+  stopped-at mark Stopped ends took reported = known (record { ending = stopped mark; ends = ends; output = took; error = reported; status_is = refl })
   stopped-at mark OutputFailed ends took reported = untold (record { ending = stopped mark; ends = ends; output = took; error = reported; status_is = refl })
   stopped-at mark Fault ends took reported = late took reported
   stopped-at mark Done ends took reported = absurd reported
   stopped-at mark Usage ends took reported = absurd reported
 
-  pub Answers-from : (status : Status) (result : Result (Option (List ℕ)) RunFault) → AnswersTo entries action old.output new.output result
+  pub Answers-from : (status : Status) (result : Result (Option (List ℕ)) RunFault) → ReturnsFor entries action old.output new.output result
       → Concludes (follows_validations action) old.error new.error result status → RunEnds entries action old new status
-  Answers-from status (Ok None) answers concludes =
-      told (record { ending = finished; ends = answers.0; output = answers.1; error = concludes.0; status_is = concludes.1 })
-  Answers-from status (Ok (Some mark)) answers concludes = stopped-at mark status answers.0 answers.1 concludes
-  Answers-from status (Err (fault.Graph f)) answers concludes =
-      subst (RunEnds entries action old new) (sym concludes.1) (graph-fault f answers concludes.0)
-  Answers-from status (Err fault.MarkOutOfRange) answers concludes =
-      subst (RunEnds entries action old new) (sym concludes.1) (reported-fault out_of_range answers.0 answers.1 concludes.0)
-  Answers-from status (Err fault.Write) answers concludes = output_failed (record { output = answers; error = concludes.0; status_is = concludes.1 })
-  Answers-from status (Err fault.OutOfMemory) answers concludes = memory_failed (record { output = answers; error = concludes.0; status_is = concludes.1 })
+  Answers-from status (Ok None) outcomes concludes =
+      known (record { ending = finished; ends = outcomes.0; output = outcomes.1; error = concludes.0; status_is = concludes.1 })
+  Answers-from status (Ok (Some mark)) outcomes concludes = stopped-at mark status outcomes.0 outcomes.1 concludes
+  Answers-from status (Err (fault.Graph f)) outcomes concludes =
+      subst (RunEnds entries action old new) (sym concludes.1) (graph-fault f outcomes concludes.0)
+  Answers-from status (Err fault.MarkOutOfRange) outcomes concludes =
+      subst (RunEnds entries action old new) (sym concludes.1) (reported-fault out_of_range outcomes.0 outcomes.1 concludes.0)
+  Answers-from status (Err fault.Write) outcomes concludes = output_failed (record { output = outcomes; error = concludes.0; status_is = concludes.1 })
+  Answers-from status (Err fault.OutOfMemory) outcomes concludes = memory_failed (record { output = outcomes; error = concludes.0; status_is = concludes.1 })
 
 -- all files were read, and this is the graph of their statements
 pub IsAnswered-from : (request : RequestText) (files : List Reading) (old new : Around) (graph : GraphText) (entries : List ReadStatement) (status : Status)
     → AreStatements request.file request.dyndep old.source new.source files entries → IsGraphOf graph entries
     → RunEnds entries request.action old new status → IsAnswered request files old new status
-IsAnswered-from request files old new graph entries status statements graph_is answers = record {
+IsAnswered-from request files old new graph entries status statements graph_is outcomes = record {
   entries = entries;
   statements = statements;
   acyclic = NoEdgeNeedsItself-stated entries graph graph_is;
-  answers = answers;
+  outcomes = outcomes;
 }

@@ -6,12 +6,12 @@ use Rattle.nj_cycles.specs.Cycles.{NeedsByChain}
 use Rattle.nj_edges.specs.Edges.{EdgePaths}
 use Rattle.nj_edges.specs.Needs.{makers_of_inputs}
 use Rattle.nj_needs.specs.Graphs.{row_of_paths, is_phony_in}
-use Rattle.nj_needs.specs.Laws.{StandsBefore}
+use Rattle.nj_needs.specs.Laws.{ComesBefore}
 use Rattle.nj_needs.specs.Needs.{Reached}
 use Rattle.nj_needs.specs.Order.{needed_commands}
 use Rattle.nj_args.specs.Requests.{ActionText, commands, start_of}
 use Rattle.nj_args.specs.RunMarks.{run_mark_text}
-use Rattle.nj_tools.specs.CommandTexts.{command_lines}
+use Rattle.nj_tools.specs.CommandStrings.{command_lines}
 use Rattle.nj_cli.specs.Answers.{output_of, Ending, finished, stopped, EndsWith}
 use Rattle.nj_cli.specs.Targets.{edges_by_path, NoEdgeNeedsItself, targets_of}
 
@@ -21,7 +21,7 @@ use Rattle.nj_cli.specs.Targets.{edges_by_path, NoEdgeNeedsItself, targets_of}
 pub record AreNeeded (edges : List EdgePaths) (targets : List (List ℕ)) (numbers : List ℕ) : Type 0 where
   pub reached : (e : ℕ) → Contains numbers e ↔ (Reached (makers_of_inputs edges) (row_of_paths edges targets) e × (is_phony_in edges e ≡ false))
   pub once : IsDistinct nat_eq numbers
-  pub after : (e f : ℕ) → Contains numbers e → NeedsByChain (makers_of_inputs edges) e f → is_phony_in edges f ≡ false → StandsBefore numbers f e
+  pub after : (e f : ℕ) → Contains numbers e → NeedsByChain (makers_of_inputs edges) e f → is_phony_in edges f ≡ false → ComesBefore numbers f e
   pub order : numbers ≡ needed_commands (makers_of_inputs edges) (length edges) (is_phony_in edges) (row_of_paths edges targets)
 
 -- A run from the start that finishes writes a line for each of the needed edges: its command. If it follows validations, the targets are
@@ -40,28 +40,28 @@ IsRun words validations take resume run =
 
 -- Runs with these words, one after another: each takes at most the number of edges in `takes`, and resumes at the text that the one before
 -- wrote after `mark `. Their outputs, and the output of a run without a limit from the last mark; that is empty if a run finished.
-pub data ArePageTexts (entries : List ReadStatement) (words : List (List ℕ)) (validations : Bool)
+pub data ArePageStrings (entries : List ReadStatement) (words : List (List ℕ)) (validations : Bool)
     : (resume : Option (List ℕ)) → (takes : List ℕ) → (outputs : List (List ℕ)) → (rest : List ℕ) → Type 0 where
   no_runs : {resume : Option (List ℕ)} {rest : List ℕ} (run : ActionText) → IsRun words validations None resume run
-      → output_of entries run ≡ rest → ArePageTexts entries words validations resume [] [] rest
+      → output_of entries run ≡ rest → ArePageStrings entries words validations resume [] [] rest
   finishes : {resume : Option (List ℕ)} {take : ℕ} {output : List ℕ} (run : ActionText) → IsRun words validations (Some take) resume run
       → EndsWith entries run finished → output_of entries run ≡ output
-      → ArePageTexts entries words validations resume (take ∷ []) (output ∷ []) []
+      → ArePageStrings entries words validations resume (take ∷ []) (output ∷ []) []
   stops : {resume : Option (List ℕ)} {takes output rest : List ℕ} {take : ℕ} {outputs : List (List ℕ)} (run : ActionText) (mark : List ℕ)
       → IsRun words validations (Some take) resume run → EndsWith entries run (stopped mark) → output_of entries run ≡ output
-      → ArePageTexts entries words validations (Some (run_mark_text validations mark)) takes outputs rest
-      → ArePageTexts entries words validations resume (take ∷ takes) (output ∷ outputs) rest
+      → ArePageStrings entries words validations (Some (run_mark_text validations mark)) takes outputs rest
+      → ArePageStrings entries words validations resume (take ∷ takes) (output ∷ outputs) rest
 
 -- The pages, followed by the rest, are the output of one run without a limit.
-abbrev pub PageTextsJoin : Type 0
-PageTextsJoin = (entries : List ReadStatement) (words : List (List ℕ)) (validations : Bool) → NoEdgeNeedsItself (edges_by_path entries)
+abbrev pub PageStringsJoin : Type 0
+PageStringsJoin = (entries : List ReadStatement) (words : List (List ℕ)) (validations : Bool) → NoEdgeNeedsItself (edges_by_path entries)
     → (resume : Option (List ℕ)) (whole : ActionText) → IsRun words validations None resume whole → EndsWith entries whole finished
-    → (takes : List ℕ) (outputs : List (List ℕ)) (rest : List ℕ) → ArePageTexts entries words validations resume takes outputs rest
+    → (takes : List ℕ) (outputs : List (List ℕ)) (rest : List ℕ) → ArePageStrings entries words validations resume takes outputs rest
     → output_of entries whole ≡ concat outputs ++ rest
 
 -- A run that stopped can go on: what it wrote after `mark ` is a text for `--resume`, and a run without a limit from there finishes.
-abbrev pub StoppedRunsGoOn : Type 0
-StoppedRunsGoOn = (entries : List ReadStatement) (words : List (List ℕ)) (validations : Bool) → NoEdgeNeedsItself (edges_by_path entries)
+abbrev pub StoppedRunsContinue : Type 0
+StoppedRunsContinue = (entries : List ReadStatement) (words : List (List ℕ)) (validations : Bool) → NoEdgeNeedsItself (edges_by_path entries)
     → (take : Option ℕ) (start mark : List ℕ) → EndsWith entries (commands words validations take start) (stopped mark)
     → (next : ActionText) × IsRun words validations None (Some (run_mark_text validations mark)) next × EndsWith entries next finished
 

@@ -35,7 +35,7 @@ out_of_memory = fault_line no_memory
 -- ---- by the statements of its files
 
 -- all was output and reported
-pub record IsTold (entries : List ReadStatement) (action : ActionText) (old new : Around) (status : Status) : Type 0 where
+pub record IsReported (entries : List ReadStatement) (action : ActionText) (old new : Around) (status : Status) : Type 0 where
   pub ending : Ending
   pub ends : EndsWith entries action ending
   pub output : Takes old.output new.output (output_of entries action)
@@ -63,7 +63,7 @@ pub record MemoryFails (entries : List ReadStatement) (action : ActionText) (old
   pub status_is : status ≡ Fault
 
 pub data RunEnds (entries : List ReadStatement) (action : ActionText) (old new : Around) (status : Status) : Type 0 where
-  told : IsTold entries action old new status → RunEnds entries action old new status
+  reported : IsReported entries action old new status → RunEnds entries action old new status
   untold : IsUntold entries action old new status → RunEnds entries action old new status
   output_failed : OutputFails entries action old new status → RunEnds entries action old new status
   memory_failed : MemoryFails entries action old new status → RunEnds entries action old new status
@@ -110,7 +110,7 @@ pub record IsAnswered (request : RequestText) (files : List Reading) (old new : 
   pub entries : List ReadStatement
   pub statements : AreStatements request.file request.dyndep old.source new.source files entries
   pub acyclic : NoEdgeNeedsItself (edges_by_path entries)
-  pub answers : RunEnds entries request.action old new status
+  pub outcomes : RunEnds entries request.action old new status
 
 -- ---- the run
 

@@ -50,7 +50,7 @@ impl From<ToolFault> for RunFault {
 
     fn from(f: ToolFault) -> RunFault {
         match f {
-            // Only `compdb` reports this, and `answer_compdb` knows its place.
+            // Only `compdb` reports this, and `run_compdb` knows its place.
             ToolFault::TextNotUtf8(_edge) => RunFault::Graph(GraphFault::unplaced(
                 Cause::TextNotUtf8,
             )),

@@ -1,6 +1,6 @@
 //! What a run of `commands` is for.
 
-ghost use Rattle.nj_cli.specs.Headline.{WritesTheNeeded, PageTextsJoin, StoppedRunsGoOn, OneEnding};
+ghost use Rattle.nj_cli.specs.Headline.{WritesTheNeeded, PageStringsJoin, StoppedRunsContinue, OneEnding};
 
 /// A run of `commands` from the start that ends has written the commands of exactly the edges that
 /// are not phony and that the targets need through any chain of inputs, each once, after those of
@@ -9,7 +9,7 @@ ghost use Rattle.nj_cli.specs.Headline.{WritesTheNeeded, PageTextsJoin, StoppedR
 /// rest: the outputs of such runs, one after another, are the output of one that was not stopped.
 pub fn commands_law()
     ensures needed { WritesTheNeeded }
-    ensures pages { PageTextsJoin }
-    ensures goes_on { StoppedRunsGoOn }
+    ensures pages { PageStringsJoin }
+    ensures continues { StoppedRunsContinue }
     ensures ending { OneEnding }
 {}

@@ -1,9 +1,9 @@
 //! A run of `ninja-explain`: from its words and the files of a build to what it writes.
 #![tactic(auto)]
 
-mod answer;
 mod fault;
 mod laws;
+mod perform;
 mod report;
 mod run;
 mod status;

@@ -29,11 +29,11 @@ pub(crate) fn conclude<E: Sink>(
     alloc: Global,
     err: &mut E,
     validations: bool,
-    answer: Result<Option<Mark>, RunFault>,
+    outcome: Result<Option<Mark>, RunFault>,
 ) -> Status
-    ensures { Concludes validations (E.state err.old) (E.state err.new) answer result }
+    ensures { Concludes validations (E.state err.old) (E.state err.new) outcome result }
 {
-    match answer {
+    match outcome {
         Ok(None) => Status::Done,
         Ok(Some(mark)) => report_mark(alloc, err, validations, &mark),
         Err(RunFault::Graph(fault)) => report_fault(alloc, err, &fault),

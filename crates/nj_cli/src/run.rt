@@ -5,7 +5,7 @@ ghost use Rattle.nj_args.specs.Requests.{request_text};
 ghost use Rattle.nj_cli.specs.Inside.RunSteps.{ReadsGraph};
 ghost use Rattle.nj_cli.specs.Runs.{RunsAs, RunsWords, around};
 
-use crate::answer::{answer, follows_validations};
+use crate::perform::{follows_validations, perform};
 use crate::report::{conclude, report_fault, report_misuse};
 use crate::status::Status;
 use nj_args::{Request, read_words};
@@ -97,8 +97,8 @@ fn run_tool_and_keep<S: FileSource, O: Sink, E: Sink>(
             };
         }
     };
-    let answer = answer(alloc, loaded.graph(), &request.action, out);
-    let status = conclude(alloc, err, follows_validations(&request.action), answer);
+    let outcome = perform(alloc, loaded.graph(), &request.action, out);
+    let status = conclude(alloc, err, follows_validations(&request.action), outcome);
     Ended {
         status,
         loaded: Some(loaded),

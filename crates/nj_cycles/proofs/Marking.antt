@@ -78,9 +78,9 @@ marking_begins makers edges flags edge m = record {
   ];
 }
 
-pub marking_goes_on : (makers : ℕ → List (Option ℕ)) (edges : List ℕ) (old new : Marks) (before : List ℕ) (w : ℕ) → before ≡ old.pending.items ++ w ∷ [] → Marking makers edges old.flags.items before
+pub marking_continues : (makers : ℕ → List (Option ℕ)) (edges : List ℕ) (old new : Marks) (before : List ℕ) (w : ℕ) → before ≡ old.pending.items ++ w ∷ [] → Marking makers edges old.flags.items before
     → MarksMore (λ e. Needs makers e w) old new → ((e : ℕ) → Needs makers e w → IsMarked new.flags.items e) → Marking makers edges new.flags.items new.pending.items
-marking_goes_on makers edges old new before w is s grows users = record {
+marking_continues makers edges old new before w is s grows users = record {
   sound = λ e h. elim (grows.fresh e h) [ inl o ↦ s.sound e o | inr q ↦ needs_w e q.0 ];
   pending_sound = λ e c. elim (grows.pending_fresh e c) [
     | inl o ↦ s.pending_sound e (subst (λ xs. Contains xs e) (sym is) (Contains-append_left old.pending.items (w ∷ []) e o))

@@ -6,11 +6,11 @@ use Rattle.std.proofs.lemmas.Bool.{cases_lt}
 use Rattle.std.proofs.lemmas.List.{length-map, length-set, length_push, get_or_append_left, get_or_past, get_or_push, get_or-map}
 use Rattle.std.proofs.lemmas.List.Elements.{Contains-append_left, Contains-push, Contains-push_cases}
 use Rattle.nj_cycles.specs.Cycles.{Needs, AreEdges}
-use Rattle.nj_cycles.specs.Inside.Users.{HoldUsers, NeedsSoFar, lists_of, users_of, with_user}
+use Rattle.nj_cycles.specs.Inside.Users.{HaveUsers, NeedsSoFar, lists_of, users_of, with_user}
 use Rattle.nj_cycles.specs.Inside.Users.NeedsSoFar.{before, here}
 use Rattle.nj_cycles.proofs.Places.{at_set, maker_got, needs_got}
 
-pub same_users : (count : ℕ) (P Q : ℕ → ℕ → Type 0) (users : List (Vec ℕ)) → ((e m : ℕ) → P e m → Q e m) → ((e m : ℕ) → Q e m → P e m) → HoldUsers count P users → HoldUsers count Q users
+pub same_users : (count : ℕ) (P Q : ℕ → ℕ → Type 0) (users : List (Vec ℕ)) → ((e m : ℕ) → P e m → Q e m) → ((e m : ℕ) → Q e m → P e m) → HaveUsers count P users → HaveUsers count Q users
 same_users count P Q users to from h = record {
   len = h.len;
   sound = λ m e lt c. to e m (h.sound m e lt c);
@@ -27,17 +27,17 @@ pub items_at : (users : List (Vec ℕ)) (e : ℕ) (list : Vec ℕ) → e < lengt
 items_at users e list lt is = ap (λ (v : Vec ℕ). v.items) is ∙ sym (get_or-map (λ (v : Vec ℕ). v.items) users e list [] lt)
 
 -- users are edges
-pub users_known : (users : List (Vec ℕ)) (P : ℕ → ℕ → Type 0) (count : ℕ) → HoldUsers count P users → ((e m : ℕ) → P e m → e < count) → (m e : ℕ) → Contains (users_of users m) e → e < length users
+pub users_known : (users : List (Vec ℕ)) (P : ℕ → ℕ → Type 0) (count : ℕ) → HaveUsers count P users → ((e m : ℕ) → P e m → e < count) → (m e : ℕ) → Contains (users_of users m) e → e < length users
 users_known users P count h known m e c = elim (cases_lt m count) [
   | inl lt ↦ omega (arith, h.len, known e m (h.sound m e lt c))
   | inr le ↦ absurd (no_member e (subst (λ us. Contains us e) (get_or_past (lists_of users) m [] (omega (arith, le, h.len, length_lists users))) c))
 ]
 
-pub no_users_begin : (users : List (Vec ℕ)) → length users ≡ 0 → HoldUsers 0 (λ e m. ⊥) users
+pub no_users_begin : (users : List (Vec ℕ)) → length users ≡ 0 → HaveUsers 0 (λ e m. ⊥) users
 no_users_begin users len = record { len = len; sound = λ m e lt c. omega (arith, lt); all = λ m e lt none. absurd none }
 
 -- an edge without users more
-pub none_more : (count : ℕ) (old new : List (Vec ℕ)) → HoldUsers count (λ e m. ⊥) old → lists_of new ≡ lists_of old ++ [] ∷ [] → HoldUsers (count + 1) (λ e m. ⊥) new
+pub none_more : (count : ℕ) (old new : List (Vec ℕ)) → HaveUsers count (λ e m. ⊥) old → lists_of new ≡ lists_of old ++ [] ∷ [] → HaveUsers (count + 1) (λ e m. ⊥) new
 none_more count old new h is = record {
   len = omega (arith, length_lists new, ap length is, length_push (lists_of old) [], length_lists old, h.len);
   sound = λ m e lt c. elim (cases_lt m count) [
@@ -51,8 +51,8 @@ none_more count old new h is = record {
     new_at m e c = subst (λ (ls : List (List ℕ)). Contains (slice_index_or ls m []) e) is c
 
 -- a user more
-pub more_users : (count : ℕ) (P : ℕ → ℕ → Type 0) (old new : List (Vec ℕ)) (m user : ℕ) → m < count → lists_of new ≡ with_user (lists_of old) (Some m) user → HoldUsers count P old
-    → HoldUsers count (λ e x. P e x ⊎ ((e ≡ user) × (x ≡ m))) new
+pub more_users : (count : ℕ) (P : ℕ → ℕ → Type 0) (old new : List (Vec ℕ)) (m user : ℕ) → m < count → lists_of new ≡ with_user (lists_of old) (Some m) user → HaveUsers count P old
+    → HaveUsers count (λ e x. P e x ⊎ ((e ≡ user) × (x ≡ m))) new
 more_users count P old new m user lt is h = record {
   len = omega (arith, length_lists new, ap length is, length-set (lists_of old) m (users_of old m ++ user ∷ []), length_lists old, h.len);
   sound = λ x e x_in c. elim (at x) [
@@ -62,12 +62,12 @@ more_users count P old new m user lt is h = record {
     ]
     | inr q ↦ inl (h.sound x e x_in (subst (λ us. Contains us e) q.1 c))
   ];
-  all = λ x e x_in holds. elim (at x) [
-    | inl q ↦ subst (λ us. Contains us e) (sym q.1) (elim holds [
+  all = λ x e x_in has. elim (at x) [
+    | inl q ↦ subst (λ us. Contains us e) (sym q.1) (elim has [
       | inl p ↦ Contains-append_left (users_of old m) (user ∷ []) e (h.all m e lt (subst (P e) q.0 p))
       | inr new ↦ subst (Contains (users_of old m ++ user ∷ [])) (sym new.0) (Contains-push (users_of old m) user)
     ])
-    | inr q ↦ subst (λ us. Contains us e) (sym q.1) (elim holds [ inl p ↦ h.all x e x_in p | inr new ↦ absurd (q.0 new.1) ])
+    | inr q ↦ subst (λ us. Contains us e) (sym q.1) (elim has [ inl p ↦ h.all x e x_in p | inr new ↦ absurd (q.0 new.1) ])
   ];
 }
   where
@@ -81,7 +81,7 @@ more_users count P old new m user lt is h = record {
 
 module _ (makers : ℕ → List (Option ℕ)) (count : ℕ) where
   -- the first edge begins with nothing before it
-  pub begins_with_none : (users : List (Vec ℕ)) → HoldUsers count (λ e m. ⊥) users → HoldUsers count (NeedsSoFar makers 0 0) users
+  pub begins_with_none : (users : List (Vec ℕ)) → HaveUsers count (λ e m. ⊥) users → HaveUsers count (NeedsSoFar makers 0 0) users
   begins_with_none users h = same_users count (λ e m. ⊥) (NeedsSoFar makers 0 0) users (λ e m none. absurd none) none h
     where
       none : (e m : ℕ) → NeedsSoFar makers 0 0 e m → ⊥
@@ -105,9 +105,9 @@ module _ (makers : ℕ → List (Option ℕ)) (count : ℕ) where
 
     -- an input is passed
     pub passed_input : (o : Option ℕ) (old new : List (Vec ℕ)) → AreEdges makers count → slice_get (makers edge) index ≡ Some o → lists_of new ≡ with_user (lists_of old) o edge
-        → HoldUsers count (NeedsSoFar makers edge index) old → HoldUsers count (NeedsSoFar makers edge (index + 1)) new
+        → HaveUsers count (NeedsSoFar makers edge index) old → HaveUsers count (NeedsSoFar makers edge (index + 1)) new
     passed_input None old new edges got is h =
-        let same : HoldUsers count (NeedsSoFar makers edge index) new = record {
+        let same : HaveUsers count (NeedsSoFar makers edge index) new = record {
           len = omega (arith, length_lists new, ap length is, length_lists old, h.len);
           sound = λ m e lt c. h.sound m e lt (subst (λ (ls : List (List ℕ)). Contains (slice_index_or ls m []) e) is c);
           all = λ m e lt p. subst (λ (ls : List (List ℕ)). Contains (slice_index_or ls m []) e) (sym is) (h.all m e lt p);
@@ -120,7 +120,7 @@ module _ (makers : ℕ → List (Option ℕ)) (count : ℕ) where
         (more_users count (NeedsSoFar makers edge index) old new m edge (edges edge m (needs_got makers edge index m got)).1 is h)
 
   -- all inputs of an edge are passed
-  pub next_edge : (edge index : ℕ) (users : List (Vec ℕ)) → length (makers edge) ≤ index → HoldUsers count (NeedsSoFar makers edge index) users → HoldUsers count (NeedsSoFar makers (edge + 1) 0) users
+  pub next_edge : (edge index : ℕ) (users : List (Vec ℕ)) → length (makers edge) ≤ index → HaveUsers count (NeedsSoFar makers edge index) users → HaveUsers count (NeedsSoFar makers (edge + 1) 0) users
   next_edge edge index users past h = same_users count (NeedsSoFar makers edge index) (NeedsSoFar makers (edge + 1) 0) users to from h
     where
       to : (e m : ℕ) → NeedsSoFar makers edge index e m → NeedsSoFar makers (edge + 1) 0 e m
@@ -138,7 +138,7 @@ module _ (makers : ℕ → List (Option ℕ)) (count : ℕ) where
       from e m (here i lt made) = absurd (omega (arith, lt))
 
   -- all edges are passed
-  pub all_edges : (users : List (Vec ℕ)) → AreEdges makers count → HoldUsers count (NeedsSoFar makers count 0) users → HoldUsers count (Needs makers) users
+  pub all_edges : (users : List (Vec ℕ)) → AreEdges makers count → HaveUsers count (NeedsSoFar makers count 0) users → HaveUsers count (Needs makers) users
   all_edges users edges h = same_users count (NeedsSoFar makers count 0) (Needs makers) users to (λ e m needs. before (edges e m needs).0 needs) h
     where
       to : (e m : ℕ) → NeedsSoFar makers count 0 e m → Needs makers e m

@@ -3,7 +3,7 @@ ghost use Rattle.std.specs.Prelude.{◌≡◌, ℕ, ◌<◌, Bool, true, false, 
 ghost use Rattle.std.specs.Global.{Vec};
 ghost use Rattle.nj_cycles.specs.Cycles.{Needs};
 ghost use Rattle.nj_cycles.specs.Inside.Walks.{Walked};
-ghost use Rattle.nj_cycles.specs.Inside.Users.{HoldUsers, users_of};
+ghost use Rattle.nj_cycles.specs.Inside.Users.{HaveUsers, users_of};
 ghost use Rattle.nj_cycles.specs.Inside.Marks.{IsMarked, AreMarks, MarksMore, IsLeastOf};
 
 use crate::inputs::EdgeInputs;
@@ -68,7 +68,7 @@ impl Marks {
         ensures len_after { OnOk result (vec_len self.new.flags ≡ length users.now) }
         ensures pending_after { OnOk result (self.new.pending.items ≡ []) }
         ensures marks { OnOk result ((makers : ℕ → List (Option ℕ)) (edges : List ℕ)
-            → HoldUsers (length users.now) (Needs makers) users.now
+            → HaveUsers (length users.now) (Needs makers) users.now
             → AreMarks makers edges self.old.flags.items
             → AreMarks makers (edge ∷ edges) self.new.flags.items) }
     {
@@ -99,7 +99,7 @@ pub(crate) fn least_on_cycle<I: EdgeInputs>(
     users: &[Vec<usize>],
     order: &[usize],
 ) -> Result<Option<usize>, AllocError>
-    requires users { HoldUsers (I.count inputs.now) (Needs (I.makers inputs.now)) users.now }
+    requires users { HaveUsers (I.count inputs.now) (Needs (I.makers inputs.now)) users.now }
     requires walked { Walked (I.makers inputs.now) (I.count inputs.now) order.now }
     ensures { IfOk result (λ least. IsLeastOf (I.makers inputs.now) order.now least) }
 {

@@ -1,7 +1,7 @@
 //! The users of edges: which edges need an edge directly.
 ghost use Rattle.std.specs.Prelude.{◌≡◌, ◌+◌, ◌<◌, length, IfOk, IfSome, OnOk};
 ghost use Rattle.nj_cycles.specs.Cycles.{AreEdges, Needs};
-ghost use Rattle.nj_cycles.specs.Inside.Users.{HoldUsers, NeedsSoFar, lists_of, users_of, with_user};
+ghost use Rattle.nj_cycles.specs.Inside.Users.{HaveUsers, NeedsSoFar, lists_of, users_of, with_user};
 
 use crate::inputs::EdgeInputs;
 use std::alloc::{AllocError, Global};
@@ -12,7 +12,7 @@ pub(crate) fn users_of_edges<I: EdgeInputs>(
     inputs: &I,
 ) -> Result<Vec<Vec<usize>>, AllocError>
     ensures { IfOk result (λ users.
-        HoldUsers (I.count inputs.now) (Needs (I.makers inputs.now)) users.items) }
+        HaveUsers (I.count inputs.now) (Needs (I.makers inputs.now)) users.items) }
 {
     let mut users = no_users(alloc, inputs.edge_count())?;
     'edges: for edge in 0..inputs.edge_count() {
@@ -23,7 +23,7 @@ pub(crate) fn users_of_edges<I: EdgeInputs>(
 
 /// No users for each of `count` edges.
 fn no_users(alloc: Global, count: usize) -> Result<Vec<Vec<usize>>, AllocError>
-    ensures { IfOk result (λ users. HoldUsers count (λ e m. ⊥) users.items) }
+    ensures { IfOk result (λ users. HaveUsers count (λ e m. ⊥) users.items) }
 {
     let mut users = Vec::with_capacity(alloc, count)?;
     'edges: for _ in 0..count {
@@ -40,9 +40,9 @@ fn add_edge<I: EdgeInputs>(
 ) -> Result<(), AllocError>
     requires edges { AreEdges (I.makers inputs.now) (I.count inputs.now) }
     requires edge_in { edge < I.count inputs.now }
-    requires users { HoldUsers (I.count inputs.now)
+    requires users { HaveUsers (I.count inputs.now)
         (NeedsSoFar (I.makers inputs.now) edge 0) users.old.items }
-    ensures { OnOk result (HoldUsers (I.count inputs.now)
+    ensures { OnOk result (HaveUsers (I.count inputs.now)
         (NeedsSoFar (I.makers inputs.now) (edge + 1) 0) users.new.items) }
 {
     let mut index = 0;

@@ -5,9 +5,9 @@ use Rattle.std.proofs.Math.Seq.{take-add}
 use Rattle.std.specs.Io.KnownBytes.{Consumes}
 
 -- the reader's first bytes stand at the front of the room
-pub record IsFilled (first now : Option (List ℕ)) (room : List ℕ) (filled : ℕ) : Type 0 where
-  pub read : Consumes first now (take filled room)
-  pub in_room : filled ≤ length room
+pub record IsFilled (first now : Option (List ℕ)) (capacity : List ℕ) (filled : ℕ) : Type 0 where
+  pub read : Consumes first now (take filled capacity)
+  pub in_capacity : filled ≤ length capacity
   pub within : filled ≤ 1073741824
 
 -- one piece more

@@ -18,7 +18,7 @@ const MOST_BYTES: usize = 1_073_741_824;
 const MOST_READS: u32 = 1_073_741_825;
 
 /// The room that is made for a file beyond its stated size.
-const MORE_ROOM: usize = 16_384;
+const MORE_CAPACITY: usize = 16_384;
 
 /// How many bytes are read at most once the room is full: most files end there.
 const BEYOND: usize = 64;
@@ -81,7 +81,7 @@ fn drawn_keys<R: RandomSource>(rt: &R) -> HashKeys {
 
 impl<R: Files + Input + Drop> DiskFiles<R> {
     // The bytes of the file, or of standard input if its name stands for that.
-    fn answer(&self, alloc: Global, path: &str) -> Result<Option<Vec<u8>>, SourceFault> {
+    fn outcome(&self, alloc: Global, path: &str) -> Result<Option<Vec<u8>>, SourceFault> {
         if self.is_input(path) {
             return Ok(Some(read_whole(alloc, &mut self.rt.reader(), 0)?));
         }
@@ -112,11 +112,11 @@ impl<R: Files + Input + Drop> FileSource for DiskFiles<R> {
     ghost state = { disk_state };
 
     fn read(&mut self, alloc: Global, path: &str) -> Result<Option<Vec<u8>>, SourceFault> {
-        let answer = self.answer(alloc, path);
-        if let Err(SourceFault::Io) = answer {
+        let outcome = self.outcome(alloc, path);
+        if let Err(SourceFault::Io) = outcome {
             self.failed = self.failed.saturating_add(1);
         }
-        answer
+        outcome
     }
 
     fn hash_keys(&self) -> HashKeys {
@@ -133,7 +133,7 @@ fn read_whole<R: Read>(alloc: Global, reader: &mut R, stated: u64) -> Result<Vec
     ensures within { IfOk result (λ bytes. vec_len bytes ≤ MOST_BYTES) }
     ensures too_large { MOST_BYTES < stated → result ≡ Err SourceFault.Io }
 {
-    let mut bytes = room_for(alloc, stated)?;
+    let mut bytes = capacity_for(alloc, stated)?;
     let mut filled = 0;
     'reads: for _ in 0..MOST_READS {
         let count = read_piece(reader, &mut bytes, filled)?;
@@ -150,7 +150,7 @@ fn read_whole<R: Read>(alloc: Global, reader: &mut R, stated: u64) -> Result<Vec
 }
 
 /// Room for as many bytes as a file says it has.
-fn room_for(alloc: Global, stated: u64) -> Result<Vec<u8>, SourceFault>
+fn capacity_for(alloc: Global, stated: u64) -> Result<Vec<u8>, SourceFault>
     ensures empty { IfOk result (λ bytes. bytes.items ≡ []) }
     ensures too_large { MOST_BYTES < stated → result ≡ Err SourceFault.Io }
 {
@@ -196,7 +196,7 @@ fn read_beyond<R: Read>(reader: &mut R, bytes: &mut Vec<u8>) -> Result<usize, So
     let mut beyond = [0; BEYOND];
     let count = read_at(reader, &mut beyond, 0)?;
     if count > 0 {
-        bytes.reserve(MORE_ROOM)?;
+        bytes.reserve(MORE_CAPACITY)?;
     }
     bytes.extend_from_slice(&beyond[..count])?;
     Ok(count)
@@ -208,8 +208,8 @@ fn lengthen(bytes: &mut Vec<u8>) -> Result<(), SourceFault>
     ensures front { OnOk result (take (vec_len bytes.old) bytes.new.items ≡ bytes.old.items) }
     ensures longer { OnOk result (vec_len bytes.old < vec_len bytes.new) }
 {
-    let room = bytes.capacity() - bytes.len();
-    bytes.resize(bytes.len() + room.min(PIECE), 0)?;
+    let spare = bytes.capacity() - bytes.len();
+    bytes.resize(bytes.len() + spare.min(PIECE), 0)?;
     Ok(())
 }
 

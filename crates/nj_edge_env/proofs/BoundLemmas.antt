@@ -15,27 +15,27 @@ use Rattle.nj_edge_env.specs.Inside.BlocksHeld.{values_of, AreRising, IsPart, Bo
 
 -- ---- tests
 
-abbrev pub Told : ℕ → ℕ → Type 0
-Told n m = ((nat_eq n m ≡ true) × (n ≡ m)) ⊎ ((nat_eq n m ≡ false) × (n ≢ m))
+abbrev pub Compared : ℕ → ℕ → Type 0
+Compared n m = ((nat_eq n m ≡ true) × (n ≡ m)) ⊎ ((nat_eq n m ≡ false) × (n ≢ m))
 
 pub same-from_test : (n m : ℕ) → nat_eq n m ≡ true → n ≡ m
 same-from_test n m h = by (eqb_tells n m)
   where
-    by : Told n m → n ≡ m
+    by : Compared n m → n ≡ m
     by (inl (t, e)) = e
     by (inr (f, apart)) = absurd (true≢false (sym h ∙ f))
 
 pub test-from_apart : (n m : ℕ) → n ≢ m → nat_eq n m ≡ false
 test-from_apart n m apart = by (eqb_tells n m)
   where
-    by : Told n m → nat_eq n m ≡ false
+    by : Compared n m → nat_eq n m ≡ false
     by (inl (t, e)) = absurd (apart e)
     by (inr (f, other)) = f
 
 pub test-from_same : (n m : ℕ) → n ≡ m → nat_eq n m ≡ true
 test-from_same n m e = by (eqb_tells n m)
   where
-    by : Told n m → nat_eq n m ≡ true
+    by : Compared n m → nat_eq n m ≡ true
     by (inl (t, other)) = t
     by (inr (f, apart)) = absurd (apart e)
 
@@ -132,7 +132,7 @@ rising-at (b ∷ bounds) (suc i) (suc j) d rising less h = rising-at bounds i j 
 pub rising-up_to : (bounds : List Bound) (i j : ℕ) (d : Bound) → AreRising bounds → i ≤ j → j < length bounds → (get_or bounds i d).edge ≤ (get_or bounds j d).edge
 rising-up_to bounds i j d rising h within = by (eqb_tells i j)
   where
-    by : Told i j → (get_or bounds i d).edge ≤ (get_or bounds j d).edge
+    by : Compared i j → (get_or bounds i d).edge ≤ (get_or bounds j d).edge
     by (inl (t, same)) = rw same (omega arith)
     by (inr (f, apart)) = let less = rising-at bounds i j d rising (omega arith) within in omega (arith, less)
 
@@ -207,7 +207,7 @@ bound_of-with (c ∷ []) len b rising parts e = by (eqb_tells c.edge b.edge)
     hidden false true same = refl
     hidden false false same = refl
 
-    by : Told c.edge b.edge → bound_of (cond (nat_eq c.edge b.edge) (b ∷ []) (c ∷ b ∷ [])) e ≡ cond (nat_eq e b.edge) (Some b) (cond (nat_eq e c.edge) (Some c) None)
+    by : Compared c.edge b.edge → bound_of (cond (nat_eq c.edge b.edge) (b ∷ []) (c ∷ b ∷ [])) e ≡ cond (nat_eq e b.edge) (Some b) (cond (nat_eq e c.edge) (Some c) None)
     by (inl (t, same)) = ap (λ t. bound_of (cond t (b ∷ []) (c ∷ b ∷ [])) e) t ∙ hidden (nat_eq e c.edge) (nat_eq e b.edge) (ap (nat_eq e) same)
     by (inr (f, apart)) = ap (λ t. bound_of (cond t (b ∷ []) (c ∷ b ∷ [])) e) f
         ∙ swapped (nat_eq e c.edge) (nat_eq e b.edge) (Some c) (Some b) None (λ p q. apart (sym (same-from_test e c.edge p) ∙ same-from_test e b.edge q))
@@ -229,7 +229,7 @@ rising_with : (bounds : List Bound) (len : ℕ) (b : Bound) → AreRising bounds
 rising_with [] len b rising parts = (tt, tt)
 rising_with (c ∷ []) len b rising parts = by (eqb_tells c.edge b.edge)
   where
-    by : Told c.edge b.edge → AreRising (cond (nat_eq c.edge b.edge) (b ∷ []) (c ∷ b ∷ []))
+    by : Compared c.edge b.edge → AreRising (cond (nat_eq c.edge b.edge) (b ∷ []) (c ∷ b ∷ []))
     by (inl (t, same)) = subst (λ t. AreRising (cond t (b ∷ []) (c ∷ b ∷ []))) (sym t) (tt, tt)
     by (inr (f, apart)) = subst (λ t. AreRising (cond t (b ∷ []) (c ∷ b ∷ []))) (sym f) ((omega (arith, apart, parts.0.edge), tt), (tt, tt))
 rising_with (c ∷ d ∷ bounds) len b rising parts =
@@ -253,7 +253,7 @@ pub ends-bound : (bounds : List Bound) (len edge : ℕ) → AreRising bounds →
 ends-bound [] len edge rising parts = refl
 ends-bound (c ∷ []) len edge rising parts = by (eqb_tells c.edge edge)
   where
-    by : Told c.edge edge → is_some (cond (nat_eq edge c.edge) (Some c) None) ≡ nat_eq c.edge edge
+    by : Compared c.edge edge → is_some (cond (nat_eq edge c.edge) (Some c) None) ≡ nat_eq c.edge edge
     by (inl (t, same)) = ap (λ b. is_some (cond b (Some c) None)) (test-from_same edge c.edge (sym same)) ∙ sym t
     by (inr (f, apart)) = ap (λ b. is_some (cond b (Some c) None)) (test-from_apart edge c.edge (λ same. apart (sym same))) ∙ sym f
 ends-bound (c ∷ d ∷ bounds) len edge rising parts =

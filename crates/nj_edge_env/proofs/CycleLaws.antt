@@ -9,10 +9,10 @@ use Rattle.std.proofs.lemmas.List.{length-map}
 use Rattle.nj_text.specs.Words.{PartText}
 use Rattle.nj_scope.specs.Rules.{RuleLineText}
 use Rattle.nj_scope.specs.RulesHeld.{has_key}
-use Rattle.nj_edge_env.specs.LateTexts.{is_one_of, rule_value, refers}
+use Rattle.nj_edge_env.specs.LateStrings.{is_one_of, rule_value, refers}
 use Rattle.nj_edge_env.specs.VariableCycles.{RefersTo, Reaches, IsOnCycle, IsCycleFound, keys_of, referring, reaching, keys_on_cycles, variable_cycle_of}
 use Rattle.nj_cycles.specs.Cycles.Chain.{one, more}
-use Rattle.nj_edge_env.proofs.SaidLemmas.{same_name, own_name, counts_in_line}
+use Rattle.nj_edge_env.proofs.GivenLemmas.{same_name, own_name, counts_in_line}
 
 -- ---- names in lists
 
@@ -307,7 +307,7 @@ same_text : (x y : List ℕ) → order x y ≡ Equal → x ≡ y
 same_text x y e = same_name x y (texts_ties x y ∙ ap is_eq e)
 
 -- there is one answer
-one_found : (block : List ℕ → Option (List ℕ)) (lines : List RuleLineText) (answer other : Option (List ℕ)) → IsCycleFound block lines answer → IsCycleFound block lines other → answer ≡ other
+one_found : (block : List ℕ → Option (List ℕ)) (lines : List RuleLineText) (outcome other : Option (List ℕ)) → IsCycleFound block lines outcome → IsCycleFound block lines other → outcome ≡ other
 one_found block lines None None p q = refl
 one_found block lines None (Some y) p q = absurd (p y q.0)
 one_found block lines (Some x) None p q = absurd (q x p.0)
@@ -319,5 +319,5 @@ one_found block lines (Some x) (Some y) p q = ap Some (by (order x y) refl)
     by Greater e = absurd (p.1 y q.0 (turned x y Greater e))
 
 -- so what is found is what is computed
-pub is_computed : (block : List ℕ → Option (List ℕ)) (lines : List RuleLineText) (answer : Option (List ℕ)) → IsCycleFound block lines answer → answer ≡ variable_cycle_of block lines
-is_computed block lines answer found = one_found block lines answer (variable_cycle_of block lines) found (computed_found block lines)
+pub is_computed : (block : List ℕ → Option (List ℕ)) (lines : List RuleLineText) (outcome : Option (List ℕ)) → IsCycleFound block lines outcome → outcome ≡ variable_cycle_of block lines
+is_computed block lines outcome found = one_found block lines outcome (variable_cycle_of block lines) found (computed_found block lines)

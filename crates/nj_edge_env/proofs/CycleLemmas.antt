@@ -8,12 +8,12 @@ use Rattle.nj_text.specs.Words.{PartText}
 use Rattle.nj_scope.specs.Rules.{RuleLineText}
 use Rattle.nj_scope.specs.RulesHeld.{key_count, key_at}
 use Rattle.nj_scope.proofs.KeyLemmas.{keys_are_numbered}
-use Rattle.nj_edge_env.specs.LateTexts.{rule_value, refers}
+use Rattle.nj_edge_env.specs.LateStrings.{rule_value, refers}
 use Rattle.nj_edge_env.specs.VariableCycles.{RefersTo, Reaches, IsOnCycle, IsCycleFound, variable_cycle_of}
 use Rattle.nj_edge_env.specs.ReferencesHeld.{ReferringKeyText, AreReferences, TellsCycles, name_at, row_at, unbound}
 use Rattle.nj_edge_env.specs.Inside.CyclesHeld.{IsMarked, AreCounted, Refers, LeadsTo, IsOnLoop, IsLeastLoop}
 use Rattle.nj_cycles.specs.Cycles.Chain.{one, more}
-use Rattle.nj_edge_env.proofs.SaidLemmas.{rule_value_is, rule_value_of, given_at}
+use Rattle.nj_edge_env.proofs.GivenLemmas.{rule_value_is, rule_value_of, given_at}
 use Rattle.nj_edge_env.proofs.LoopLemmas.{marked_within}
 use Rattle.nj_edge_env.proofs.CycleLaws.{is_computed}
 
@@ -148,8 +148,8 @@ copied_some None p e = ap is_some e
 copied_some (Some x) p e = ap is_some e
 
 -- what is held of a rule tells the key that is computed
-pub told : (block : List ℕ → Option (List ℕ)) (lines : List RuleLineText) (keys : List ReferringKeyText) (counts : List Bool) (least : Option ℕ) → TellsCycles lines keys → AreCounted block keys counts
+pub reported : (block : List ℕ → Option (List ℕ)) (lines : List RuleLineText) (keys : List ReferringKeyText) (counts : List Bool) (least : Option ℕ) → TellsCycles lines keys → AreCounted block keys counts
     → IsLeastLoop keys counts least → option_map (name_at keys) least ≡ variable_cycle_of block lines
-told block lines keys counts least (inl are) counted so = least_computed block lines keys counts are counted least so
-told block lines keys counts None (inr (none, never)) counted so = sym (never block)
-told block lines keys counts (Some n) (inr (none, never)) counted so = let below : n < length keys = so.0 in absurd (let empty = ap length none in omega (arith, below, empty))
+reported block lines keys counts least (inl are) counted so = least_computed block lines keys counts are counted least so
+reported block lines keys counts None (inr (none, never)) counted so = sym (never block)
+reported block lines keys counts (Some n) (inr (none, never)) counted so = let below : n < length keys = so.0 in absurd (let empty = ap length none in omega (arith, below, empty))

@@ -1,4 +1,4 @@
-pub mod SaidLemmas
+pub mod GivenLemmas
 pub mod CycleLaws
 pub mod LoopLemmas
 pub mod ReferenceLemmas

@@ -6,7 +6,7 @@ use Rattle.std.proofs.lemmas.Bool.Decides.{eqb_tells}
 use Rattle.std.specs.List.{slice_range}
 use Rattle.std.specs.Result.{OnOk, OnErr}
 use Rattle.nj_edge_env.specs.Inside.BlocksHeld.{list_at, lists_of, AreStarts}
-use Rattle.nj_edge_env.proofs.BoundLemmas.{Told, slice_kept}
+use Rattle.nj_edge_env.proofs.BoundLemmas.{Compared, slice_kept}
 
 -- ---- where lists start
 
@@ -145,7 +145,7 @@ pushed numbers starts n e i held many = by (eqb_tells i e)
         let beyond : length starts ≤ i = omega (arith, past, many, apart) in
         list-past (numbers ++ one) starts i beyond ∙ sym (list-past numbers starts i beyond)
 
-    by : Told i e → list_at (lists_of (numbers ++ one) starts) i ≡ cond (nat_eq i e) (list_at (lists_of numbers starts) i ++ one) (list_at (lists_of numbers starts) i)
+    by : Compared i e → list_at (lists_of (numbers ++ one) starts) i ≡ cond (nat_eq i e) (list_at (lists_of numbers starts) i ++ one) (list_at (lists_of numbers starts) i)
     by (inl (t, same)) = here (omega (arith, same, many)) ∙ ap (λ b. cond b (list_at (lists_of numbers starts) i ++ one) (list_at (lists_of numbers starts) i)) (sym t)
     by (inr (f, apart)) = other (cases_lt (suc i) (length starts)) apart ∙ ap (λ b. cond b (list_at (lists_of numbers starts) i ++ one) (list_at (lists_of numbers starts) i)) (sym f)
 

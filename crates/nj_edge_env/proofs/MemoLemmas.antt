@@ -16,9 +16,9 @@ use Rattle.nj_edge_env.specs.declared.edge.LateEdge.{LateEdge}
 use Rattle.nj_edge_env.specs.declared.memo.KeyText.{KeyText}
 use Rattle.nj_scope.specs.ReadingList.{value_after}
 use Rattle.nj_edge_env.specs.LateEdges.{late_names}
-use Rattle.nj_edge_env.specs.LateTexts.{LateNames, late_in, rule_value, refers, refers_in}
-use Rattle.nj_edge_env.specs.Inside.TextsHeld.{Settles, ForEdge, SettlesIn, IsKeyText, AreKeyTexts, no_higher, text_known, taller, with_text, AppendsPlain, AppendsLate}
-use Rattle.nj_edge_env.proofs.SaidLemmas.{same_name, rule_value_is, given_at, of_paths, of_block, of_rule, of_file, way, once_paths, once_block, once_rule, once_file, expanded_same}
+use Rattle.nj_edge_env.specs.LateStrings.{LateNames, late_in, rule_value, refers, refers_in}
+use Rattle.nj_edge_env.specs.Inside.StringsHeld.{Settles, ForEdge, SettlesIn, IsKeyText, AreKeyStrings, no_higher, text_known, taller, with_text, AppendsPlain, AppendsLate}
+use Rattle.nj_edge_env.proofs.GivenLemmas.{same_name, rule_value_is, given_at, of_paths, of_block, of_rule, of_file, way, once_paths, once_block, once_rule, once_file, expanded_same}
 use Rattle.nj_edge_env.proofs.TextLemmas.{text_turn, name_turn, none_turn}
 
 -- ---- depth
@@ -71,8 +71,8 @@ module _ (quoting : Bool) (e : LateEdge) where
     text = λ entries around by scope. ap (λ bytes. slice_range bytes t.start t.end) same ∙ range_kept old more t.start t.end is.from is.to ∙ is.text entries around by scope;
   }
 
-  pub key_texts_kept : (known : List (Option KeyText)) (old new : List ℕ) → IsPrefix old new → AreKeyTexts quoting e known old → AreKeyTexts quoting e known new
-  key_texts_kept known old new grows are number t at = key_text_kept number t old new grows (are number t at)
+  pub key_strings_kept : (known : List (Option KeyText)) (old new : List ℕ) → IsPrefix old new → AreKeyStrings quoting e known old → AreKeyStrings quoting e known new
+  key_strings_kept known old new grows are number t at = key_text_kept number t old new grows (are number t at)
 
   -- a text that is known
   known_at : (known : List (Option KeyText)) (number depth : ℕ) (t : KeyText) → text_known known number depth ≡ Some t → (slice_get known number ≡ Some (Some t)) × (t.height ≤ depth)
@@ -94,7 +94,7 @@ module _ (quoting : Bool) (e : LateEdge) where
 pub record PartsSoFar (quoting : Bool) (e : LateEdge) (depth : ℕ) (parts : List PartText) (old : List ℕ) (known : List (Option KeyText)) (new : List ℕ) (height : Option ℕ) : Type 0 where
   pub grows : IsPrefix old new
   pub text : ForEdge e (λ n. new ≡ old ++ expanded (late_in depth quoting n) parts)
-  pub texts : AreKeyTexts quoting e known new
+  pub strings : AreKeyStrings quoting e known new
   pub settles : IfSome height (λ d. (d ≤ depth) × ((other : List ℕ) → refers parts other ≡ true → SettlesIn e d other))
 
 set_at : {X : Type 0} (xs : List X) (i j : ℕ) (x y : X) → slice_get (slice_set xs i x) j ≡ Some y → ((j ≡ i) × (x ≡ y)) ⊎ (slice_get xs j ≡ Some y)
@@ -110,15 +110,15 @@ module _ (quoting : Bool) (e : LateEdge) (depth : ℕ) (old : List ℕ) where
   none_settles : (name : List ℕ) → rule_value (bound_in e.blocks.now e.edge) e.rule.now.lines name ≡ None → (d : ℕ) → SettlesIn e (suc d) name
   none_settles name none d = λ other r. let h = sym none ∙ r.1 in absurd cc
 
-  pub plain_appended : (name : List ℕ) (known : List (Option KeyText)) (new : List ℕ) → AreKeyTexts quoting e known old → AppendsPlain quoting e name old new None → AppendsLate quoting e depth name old known new (Some 0)
+  pub plain_appended : (name : List ℕ) (known : List (Option KeyText)) (new : List ℕ) → AreKeyStrings quoting e known old → AppendsPlain quoting e name old new None → AppendsLate quoting e depth name old known new (Some 0)
   plain_appended name known new are plain = record {
     grows = plain.1;
     text = λ entries around by scope. plain.2 entries around by scope depth;
-    texts = key_texts_kept quoting e known old new plain.1 are;
+    strings = key_strings_kept quoting e known old new plain.1 are;
     settles = (omega arith, none_settles name plain.0 0);
   }
 
-  pub known_appended : (name : List ℕ) (known : List (Option KeyText)) (number : ℕ) (t : KeyText) (bytes new : List ℕ) → bytes ≡ old → AreKeyTexts quoting e known old → IsNumber e.rule.now.lines name number
+  pub known_appended : (name : List ℕ) (known : List (Option KeyText)) (number : ℕ) (t : KeyText) (bytes new : List ℕ) → bytes ≡ old → AreKeyStrings quoting e known old → IsNumber e.rule.now.lines name number
       → text_known known number depth ≡ Some t → new ≡ bytes ++ slice_range bytes t.start t.end → AppendsLate quoting e depth name old known new (Some t.height)
   known_appended name known number t bytes new same are is at more =
       let k = known_at quoting e known number depth t at in
@@ -130,17 +130,17 @@ module _ (quoting : Bool) (e : LateEdge) (depth : ℕ) (old : List ℕ) where
         text = λ entries around by scope.
             let n = late_names e (value_after entries (e.scope ∷ around)) in
             now ∙ ap (λ xs. old ++ xs) (text.text entries around by scope ∙ ap (late_in (suc t.height) quoting n) is.is ∙ sym (late_settled quoting n (suc t.height) (suc depth) name (omega (arith, k.1)) settled));
-        texts = key_texts_kept quoting e known old new (slice_range old t.start t.end, now) are;
+        strings = key_strings_kept quoting e known old new (slice_range old t.start t.end, now) are;
         settles = (k.1, settled);
       }
 
   -- ---- a line of the rule
 
-  pub parts_none : (value : List PartText) (known : List (Option KeyText)) (new : List ℕ) → AreKeyTexts quoting e known old → new ≡ old → PartsSoFar quoting e depth (take 0 value) old known new (Some 0)
+  pub parts_none : (value : List PartText) (known : List (Option KeyText)) (new : List ℕ) → AreKeyStrings quoting e known old → new ≡ old → PartsSoFar quoting e depth (take 0 value) old known new (Some 0)
   parts_none value known new are same = record {
     grows = ([], same ∙ sym (append-nil old));
     text = λ entries around by scope. same ∙ sym (append-nil old);
-    texts = subst (AreKeyTexts quoting e known) (sym same) are;
+    strings = subst (AreKeyStrings quoting e known) (sym same) are;
     settles = (omega arith, λ other r. absurd (true≢false (sym r)));
   }
 
@@ -156,7 +156,7 @@ module _ (quoting : Bool) (e : LateEdge) (depth : ℕ) (old : List ℕ) where
     text = λ entries around by scope.
         let n = late_names e (value_after entries (e.scope ∷ around)) in
         text_turn (late_in depth quoting n) value i part bytes old before after here is (so.text entries around by scope) more;
-    texts = key_texts_kept quoting e known before after (bytes, more) so.texts;
+    strings = key_strings_kept quoting e known before after (bytes, more) so.strings;
     settles = by height so.settles;
   }
     where
@@ -179,7 +179,7 @@ module _ (quoting : Bool) (e : LateEdge) (depth : ℕ) (old : List ℕ) where
     text = λ entries around by scope.
         let n = late_names e (value_after entries (e.scope ∷ around)) in
         name_turn depth quoting n value i part name old before after low here is (so.text entries around by scope) (more.text entries around by scope);
-    texts = more.texts;
+    strings = more.strings;
     settles = by height below so.settles more.settles;
   }
     where
@@ -211,7 +211,7 @@ module _ (quoting : Bool) (e : LateEdge) (depth : ℕ) (old : List ℕ) where
     text = λ entries around by scope.
         let n = late_names e (value_after entries (e.scope ∷ around)) in
         none_turn depth quoting n value i part name old before after low here is (so.text entries around by scope) same;
-    texts = subst (AreKeyTexts quoting e known) (sym same) so.texts;
+    strings = subst (AreKeyStrings quoting e known) (sym same) so.strings;
     settles = tt;
   }
 
@@ -233,7 +233,7 @@ module _ (quoting : Bool) (e : LateEdge) (depth : ℕ) (old : List ℕ) where
   line_appended name number value i plain known new height start end kept called at high low so starts ends is = record {
     grows = so.grows;
     text = text;
-    texts = subst (λ known. AreKeyTexts quoting e known new) (sym is) (texts height refl);
+    strings = subst (λ known. AreKeyStrings quoting e known new) (sym is) (strings height refl);
     settles = settles height so.settles;
   }
     where
@@ -275,11 +275,11 @@ module _ (quoting : Bool) (e : LateEdge) (depth : ℕ) (old : List ℕ) where
                 ∙ ap (late_in (suc d) quoting n) (sym called.1.is);
           }
 
-      texts : (o : Option ℕ) → height ≡ o → AreKeyTexts quoting e (with_text known number start end o) new
-      texts None u = so.texts
-      texts (Some d) u = λ k t there. elim (set_at known number k (Some (record { start = start; end = end; height = d })) (Some t) there) [
+      strings : (o : Option ℕ) → height ≡ o → AreKeyStrings quoting e (with_text known number start end o) new
+      strings None u = so.strings
+      strings (Some d) u = λ k t there. elim (set_at known number k (Some (record { start = start; end = end; height = d })) (Some t) there) [
         | inl here ↦
             let same : record { start = start; end = end; height = d } ≡ t = cc in
             subst (λ v. IsKeyText quoting e k v new) same (subst (λ m. IsKeyText quoting e m (record { start = start; end = end; height = d }) new) (sym here.0) (its_text d u))
-        | inr before ↦ so.texts k t before
+        | inr before ↦ so.strings k t before
       ]

@@ -9,7 +9,7 @@ use Rattle.nj_text.specs.Quotes.{quoted}
 use Rattle.nj_scope.specs.Readings.{IsPrefix}
 use Rattle.nj_edges.specs.declared.files.FileNo.{FileNo}
 use Rattle.nj_edges.specs.Files.{path_at}
-use Rattle.nj_edge_env.specs.LateTexts.{joined, paths_text}
+use Rattle.nj_edge_env.specs.LateStrings.{joined, paths_text}
 
 joined_last : (separator : ℕ) (x : List ℕ) (xs : List (List ℕ)) (t : List ℕ) → joined separator (x ∷ (xs ++ t ∷ [])) ≡ joined separator (x ∷ xs) ++ (separator ∷ t)
 joined_last separator x xs t =

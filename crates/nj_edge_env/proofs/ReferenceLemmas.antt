@@ -11,10 +11,10 @@ use Rattle.nj_text.specs.Words.{PartText, Name}
 use Rattle.nj_scope.specs.Rules.{RuleLineText, given}
 use Rattle.nj_scope.specs.RulesHeld.{last_lines, key_count, key_at, IsNumber}
 use Rattle.nj_scope.proofs.KeyLemmas.{numbers_differ, given_of_line}
-use Rattle.nj_edge_env.specs.LateTexts.{names_paths, is_of_command, unless_empty, rule_value, value_given, refers, refers_in}
+use Rattle.nj_edge_env.specs.LateStrings.{names_paths, is_of_command, unless_empty, rule_value, value_given, refers, refers_in}
 use Rattle.nj_edge_env.specs.ReferencesHeld.{ReferringKeyText, IsRow, AreFirstKeys, name_at, row_at, unbound}
 use Rattle.nj_edge_env.specs.Inside.CyclesHeld.{IsKeyNamed}
-use Rattle.nj_edge_env.proofs.SaidLemmas.{same_name, own_name, rule_value_is, given_at}
+use Rattle.nj_edge_env.proofs.GivenLemmas.{same_name, own_name, rule_value_is, given_at}
 
 -- the value of a number's key
 pub value_at : (lines : List RuleLineText) (n : ℕ) → n < key_count lines → (value : List PartText) × (given lines (key_at lines n) ≡ Some value)

@@ -9,7 +9,7 @@ use Rattle.nj_text.specs.Words.{PartText, Text, Name}
 use Rattle.nj_scope.specs.Scopes.{part_expanded, expanded}
 use Rattle.nj_scope.specs.Rules.{RuleLineText, given}
 use Rattle.nj_scope.specs.RulesHeld.{key_at, IsNumber}
-use Rattle.nj_edge_env.specs.LateTexts.{LateNames, late_in, is_of_command, unless_empty, value_given}
+use Rattle.nj_edge_env.specs.LateStrings.{LateNames, late_in, is_of_command, unless_empty, value_given}
 use Rattle.nj_edge_env.proofs.ReferenceLemmas.{value_at}
 
 part_turn : (f : List ℕ → List ℕ) (parts : List PartText) (i : ℕ) (p : PartText) (start before after : List ℕ) → slice_get parts i ≡ Some p

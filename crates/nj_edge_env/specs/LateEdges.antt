@@ -4,7 +4,7 @@ use Rattle.nj_edges.specs.Files.{path_at}
 use Rattle.nj_scope.specs.Rules.{phony}
 use Rattle.nj_edge_env.specs.Blocks.{bound_in}
 use Rattle.nj_edge_env.specs.declared.edge.LateEdge.{LateEdge}
-use Rattle.nj_edge_env.specs.LateTexts.{LateNames}
+use Rattle.nj_edge_env.specs.LateStrings.{LateNames}
 
 abbrev pub late_names : LateEdge → (file : List ℕ → List ℕ) → LateNames
 late_names e file = record {

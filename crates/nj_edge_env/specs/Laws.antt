@@ -3,22 +3,22 @@ use Rattle.std.specs.Prelude.{◌≡◌, ℕ, Bool, false, Option, Some, None, L
 use Rattle.nj_text.specs.Words.{PartText}
 use Rattle.nj_scope.specs.Scopes.{expanded}
 use Rattle.nj_scope.specs.Rules.{RuleLineText}
-use Rattle.nj_edge_env.specs.LateTexts.{LateNames, Says, late_text, names_paths, value_given, file_value}
+use Rattle.nj_edge_env.specs.LateStrings.{LateNames, Denotes, late_text, names_paths, value_given, file_value}
 use Rattle.nj_edge_env.specs.VariableCycles.{IsOnCycle, HasNoCycle, IsCycleFound, variable_cycle_of}
 
 -- Where no variable of the rule refers back to itself, each name says its late text.
-abbrev pub LateTextIsSaid : Type 0
-LateTextIsSaid = (quoting : Bool) (n : LateNames) (name : List ℕ) → HasNoCycle n.block n.lines
-    → Says quoting n name (late_text quoting n name)
+abbrev pub LateTextIsGiven : Type 0
+LateTextIsGiven = (quoting : Bool) (n : LateNames) (name : List ℕ) → HasNoCycle n.block n.lines
+    → Denotes quoting n name (late_text quoting n name)
 
 -- A name says one text at most.
-abbrev pub OneTextIsSaid : Type 0
-OneTextIsSaid = (quoting : Bool) (n : LateNames) (name text other : List ℕ) → Says quoting n name text → Says quoting n name other
+abbrev pub OneTextIsGiven : Type 0
+OneTextIsGiven = (quoting : Bool) (n : LateNames) (name text other : List ℕ) → Denotes quoting n name text → Denotes quoting n name other
     → text ≡ other
 
 -- A variable on a cycle says nothing.
-abbrev pub CycleSaysNothing : Type 0
-CycleSaysNothing = (quoting : Bool) (n : LateNames) (key text : List ℕ) → IsOnCycle n.block n.lines key → ¬ Says quoting n key text
+abbrev pub CycleGivesNothing : Type 0
+CycleGivesNothing = (quoting : Bool) (n : LateNames) (key text : List ℕ) → IsOnCycle n.block n.lines key → ¬ Denotes quoting n key text
 
 -- What the block binds wins over the rule.
 abbrev pub BlockWins : Type 0

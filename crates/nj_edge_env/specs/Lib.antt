@@ -1,6 +1,6 @@
 -- what must be believed
 pub mod Blocks
-pub mod LateTexts
+pub mod LateStrings
 pub mod Laws
 pub mod LateEdges
 pub mod VariableCycles

@@ -5,7 +5,7 @@ use Rattle.nj_text.specs.Words.{PartText}
 use Rattle.nj_scope.specs.Rules.{RuleLineText}
 use Rattle.nj_scope.specs.RulesHeld.{key_count, key_at}
 use Rattle.nj_edge_env.specs.declared.references.ReferringKey.{ReferringKey}
-use Rattle.nj_edge_env.specs.LateTexts.{rule_value, refers, refers_in}
+use Rattle.nj_edge_env.specs.LateStrings.{rule_value, refers, refers_in}
 use Rattle.nj_edge_env.specs.VariableCycles.{variable_cycle_of}
 
 pub record ReferringKeyText : Type 0 where

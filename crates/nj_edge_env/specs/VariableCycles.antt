@@ -7,7 +7,7 @@ use Rattle.std.specs.Cmp.Lexicographic.{slice_cmp}
 use Rattle.nj_text.specs.Words.{PartText}
 use Rattle.nj_cycles.specs.Cycles.{Chain}
 use Rattle.nj_scope.specs.Rules.{RuleLineText}
-use Rattle.nj_edge_env.specs.LateTexts.{rule_value, refers, is_one_of}
+use Rattle.nj_edge_env.specs.LateStrings.{rule_value, refers, is_one_of}
 
 -- the rule's value of this key counts, since the block does not bind it, and a part of it is a reference to the other name
 abbrev pub RefersTo : (block : List ℕ → Option (List ℕ)) → List RuleLineText → (key other : List ℕ) → Type 0

@@ -1,14 +1,14 @@
 //! Laws of late texts. A law is a theorem, stated as a function with an empty body.
 
-ghost use Rattle.nj_edge_env.specs.Laws.{LateTextIsSaid, OneTextIsSaid, CycleSaysNothing, BlockWins, RuleWins, FileIsLast, ComputedCycleIsFound};
+ghost use Rattle.nj_edge_env.specs.Laws.{LateTextIsGiven, OneTextIsGiven, CycleGivesNothing, BlockWins, RuleWins, FileIsLast, ComputedCycleIsFound};
 
 /// What the names of an edge say, in no order of evaluation: where the variables of the rule do not
 /// refer to each other in a cycle, each name says its late text, and no other; a variable on a
 /// cycle says nothing ("Rule variables" in the Ninja manual).
-pub fn late_texts_are_said()
-    ensures said { LateTextIsSaid }
-    ensures one { OneTextIsSaid }
-    ensures cycle { CycleSaysNothing }
+pub fn late_strings_are_given()
+    ensures meant { LateTextIsGiven }
+    ensures one { OneTextIsGiven }
+    ensures cycle { CycleGivesNothing }
 {}
 
 /// What the block of an edge binds counts before the rule's line, and that before the file's value

@@ -12,9 +12,9 @@ mod memo;
 mod names;
 mod paths;
 mod references;
-mod texts;
+mod strings;
 
 pub use blocks::Blocks;
 pub use edge::LateEdge;
-pub use laws::{block_before_rule_before_file, computed_cycle_is_found, late_texts_are_said};
+pub use laws::{block_before_rule_before_file, computed_cycle_is_found, late_strings_are_given};
 pub use references::KeyReferences;

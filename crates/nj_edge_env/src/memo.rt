@@ -1,7 +1,7 @@
 //! Texts of a rule's keys that were appended already.
 
 ghost use Rattle.std.specs.Prelude.{◌≡◌, ◌<◌, IfSome};
-ghost use Rattle.nj_edge_env.specs.Inside.TextsHeld.{text_known, taller, with_text};
+ghost use Rattle.nj_edge_env.specs.Inside.StringsHeld.{text_known, taller, with_text};
 
 // Where the text of a key is, and its height: how many lines of the rule are nested below the key's
 // own.

@@ -1,7 +1,7 @@
 //! Names that say something of their own.
 
 ghost use Rattle.std.specs.Prelude.{◌≡◌};
-ghost use Rattle.nj_edge_env.specs.LateTexts.{names_paths, is_of_command, is_quoted};
+ghost use Rattle.nj_edge_env.specs.LateStrings.{names_paths, is_of_command, is_quoted};
 
 /// Whether the name stands for paths of an edge.
 pub(crate) fn names_paths(name: &[u8]) -> bool

@@ -4,7 +4,7 @@ ghost use Rattle.std.specs.Prelude.{◌≡◌, ◌<◌, ◌++◌, Some, map, len
 ghost use Rattle.nj_scope.specs.Readings.{IsPrefix};
 ghost use Rattle.nj_text.specs.Quotes.{quoted};
 ghost use Rattle.nj_edges.specs.Files.{path_at};
-ghost use Rattle.nj_edge_env.specs.LateTexts.{paths_text};
+ghost use Rattle.nj_edge_env.specs.LateStrings.{paths_text};
 
 use nj_edges::{FileNo, Files};
 use nj_text::quote_into;

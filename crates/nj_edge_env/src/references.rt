@@ -3,7 +3,7 @@
 ghost use Rattle.std.specs.Prelude.{◌≡◌, ◌<◌, false, length, IfOk, is_some, slice_index_or};
 ghost use Rattle.nj_text.specs.Words.{part_text};
 ghost use Rattle.nj_scope.specs.RulesHeld.{key_count, key_at};
-ghost use Rattle.nj_edge_env.specs.LateTexts.{rule_value};
+ghost use Rattle.nj_edge_env.specs.LateStrings.{rule_value};
 ghost use Rattle.nj_edge_env.specs.ReferencesHeld.{AreReferences, TellsCycles, IsRow, name_at, row_at, unbound};
 ghost use Rattle.nj_edge_env.specs.Inside.CyclesHeld.{IsKeyNamed};
 

@@ -256,9 +256,9 @@ module _ (edges : List EdgePaths) (files : List (List ℕ)) where
     closed = λ i e below. absurd (omega (arith, below));
   }
 
-  pub finding-goes-on : (old new : Affected) (place : ℕ) → place < length old.numbers.items → FindsAffected edges files old place
+  pub finding-continues : (old new : Affected) (place : ℕ) → place < length old.numbers.items → FindsAffected edges files old place
       → FindsMore (HasInputOf edges (outputs_of (edge_at edges (slice_index old.numbers.items place)))) old new → FindsAffected edges files new (place + 1)
-  finding-goes-on old new place below held finds = record {
+  finding-continues old new place below held finds = record {
     count = finds.count ∙ held.count;
     listed = finds.listed held.listed;
     within = omega (arith, below, finds.longer);

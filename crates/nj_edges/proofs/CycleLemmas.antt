@@ -28,7 +28,7 @@ first-passes {E = E} test (e ∷ es) n h = by (test e) refl (first_edge test es)
 
     by : (b : Bool) → test e ≡ b → (o : Option ℕ) → ((m : ℕ) → o ≡ Some m → (x : E) × (slice_get es m ≡ Some x) × (test x ≡ true)) → cond b (Some 0) (option_map (λ m. m + 1) o) ≡ Some n
         → (x : E) × (slice_get (e ∷ es) n ≡ Some x) × (test x ≡ true)
-    by true holds o later found = (e, ap (slice_get (e ∷ es)) (sym (number 0 found)), holds)
+    by true has o later found = (e, ap (slice_get (e ∷ es)) (sym (number 0 found)), has)
     by false fails None later found = absurd (true≢false (sym (ap is_some found)))
     by false fails (Some m) later found =
         let rest = later m refl in

@@ -13,7 +13,7 @@ use Rattle.nj_edges.specs.declared.edges.EdgeRow.{EdgeRow}
 use Rattle.nj_edges.specs.declared.edges.OpenStarts.{OpenStarts}
 use Rattle.nj_edges.specs.declared.edges.KindEnds.{KindEnds}
 use Rattle.nj_edges.specs.Edges.{first_edge, maker_of, is_among, outputs_of}
-use Rattle.nj_edges.specs.Inside.EdgesHeld.{paths_at, within, edge_of, edges_of, table_of, row_between, has_number, AreNumbers, IsWithin, RowIsWithin, output_rows, HoldMakers, AreJoined, EdgesAreHeld}
+use Rattle.nj_edges.specs.Inside.EdgesHeld.{paths_at, within, edge_of, edges_of, table_of, row_between, has_number, AreNumbers, IsWithin, RowIsWithin, output_rows, HaveMakers, AreJoined, EdgesAreHeld}
 use Rattle.nj_edges.specs.EdgeTables.{edge_read, EdgeTable, naming, plus_output, plus_input, plus_validation, is_made, no_files, EndWithin}
 use Rattle.nj_edges.specs.Files.{with_path, path_at}
 use Rattle.nj_edges.proofs.ListLemmas.{slice_range-append, slice_range-rest}
@@ -215,7 +215,7 @@ pub no-maker : (n : ℕ) (outputs : List FileNo) (start : ℕ) (rows : List Edge
 no-maker n outputs start rows are = first-none (has_number n) (output_rows outputs start rows) (all-of (AreNumbers n) (λ ns. has_number n ns ≡ false) (none-has n) (output_rows outputs start rows) (rows-numbers n outputs start rows are))
 
 -- a file more, without a maker
-pub makers-push : (rows : List (List FileNo)) (makers : List (Option ℕ)) → first_edge (has_number (length makers)) rows ≡ None → HoldMakers rows makers → HoldMakers rows (makers ++ None ∷ [])
+pub makers-push : (rows : List (List FileNo)) (makers : List (Option ℕ)) → first_edge (has_number (length makers)) rows ≡ None → HaveMakers rows makers → HaveMakers rows (makers ++ None ∷ [])
 makers-push rows makers none held n below = by (eqb_tells n (length makers))
   where
     by : ((n == length makers) ≡ true × (n ≡ length makers)) ⊎ ((n == length makers) ≡ false × (n ≢ length makers)) → slice_get (makers ++ None ∷ []) n ≡ Some (first_edge (has_number n) rows)
@@ -553,15 +553,15 @@ module _ (files : List (List ℕ)) (makers : List (Option ℕ)) (outputs inputs 
   rows-output = rw (rows-same rows held.rows_are, drop-append-le starts.outputs outputs (f ∷ []) held.outputs_start) refl
 
   makers-output : f.0 < length makers → first_edge (has_number f.0) (output_rows outputs starts.outputs rows) ≡ None
-      → HoldMakers (closed_rows ++ (drop starts.outputs outputs ++ f ∷ []) ∷ []) (set makers f.0 (Some (length rows)))
-  makers-output room none m below = by (eqb_tells m f.0)
+      → HaveMakers (closed_rows ++ (drop starts.outputs outputs ++ f ∷ []) ∷ []) (set makers f.0 (Some (length rows)))
+  makers-output capacity none m below = by (eqb_tells m f.0)
     where
       by : ((m == f.0) ≡ true × (m ≡ f.0)) ⊎ ((m == f.0) ≡ false × (m ≢ f.0)) → slice_get (set makers f.0 (Some (length rows))) m ≡ Some (first_edge (has_number m) (closed_rows ++ (drop starts.outputs outputs ++ f ∷ []) ∷ []))
       by (inl same) =
           let count : length closed_rows ≡ length rows = length-map rows (λ (row : EdgeRow). within outputs row.outputs) in
           let none' : first_edge (has_number m) closed_rows ≡ None = none-front (has_number m) closed_rows (drop starts.outputs outputs) (ap (λ k. first_edge (has_number k) (output_rows outputs starts.outputs rows)) same.1 ∙ none) in
           let has : has_number m (drop starts.outputs outputs ++ f ∷ []) ≡ true = has-push m (drop starts.outputs outputs) f ∙ ap (λ b. has_number m (drop starts.outputs outputs) || b) same.0 ∙ or-true (has_number m (drop starts.outputs outputs)) in
-          ap (slice_get (set makers f.0 (Some (length rows)))) same.1 ∙ get-set_same makers f.0 (Some (length rows)) room
+          ap (slice_get (set makers f.0 (Some (length rows)))) same.1 ∙ get-set_same makers f.0 (Some (length rows)) capacity
           ∙ ap Some (ap Some (sym count) ∙ sym (first-last (has_number m) closed_rows (drop starts.outputs outputs ++ f ∷ []) none' has))
       by (inr apart) =
           let small : m < length makers = subst (λ k. m < k) (length-set makers f.0 (Some (length rows))) below in
@@ -570,11 +570,11 @@ module _ (files : List (List ℕ)) (makers : List (Option ℕ)) (outputs inputs 
 
   pub held-output : f.0 < length files → first_edge (has_number f.0) (output_rows outputs starts.outputs rows) ≡ None
       → EdgesAreHeld files (set makers f.0 (Some (length rows))) (outputs ++ f ∷ []) inputs validations rows starts
-  held-output room none = record {
+  held-output capacity none = record {
     distinct = held.distinct;
     makers_count = length-set makers f.0 (Some (length rows)) ∙ held.makers_count;
-    makers_are = subst (λ rs. HoldMakers rs (set makers f.0 (Some (length rows)))) (sym rows-output) (makers-output (subst (λ n. f.0 < n) (sym held.makers_count) room) none);
-    outputs_are = all-push (λ g. g.0 < length files) outputs f held.outputs_are room;
+    makers_are = subst (λ rs. HaveMakers rs (set makers f.0 (Some (length rows)))) (sym rows-output) (makers-output (subst (λ n. f.0 < n) (sym held.makers_count) capacity) none);
+    outputs_are = all-push (λ g. g.0 < length files) outputs f held.outputs_are capacity;
     inputs_are = held.inputs_are;
     validations_are = held.validations_are;
     rows_are = held.rows_are;
@@ -588,18 +588,18 @@ module _ (files : List (List ℕ)) (makers : List (Option ℕ)) (outputs inputs 
 
   -- a file whose maker is none is made by none
   pub unmade : (found : Option ℕ) → f.0 < length files → found ≡ get_or makers f.0 None → is_some found ≡ false → first_edge (has_number f.0) (output_rows outputs starts.outputs rows) ≡ None
-  unmade found room is none =
-      let below : f.0 < length makers = subst (λ n. f.0 < n) (sym held.makers_count) room in
+  unmade found capacity is none =
+      let below : f.0 < length makers = subst (λ n. f.0 < n) (sym held.makers_count) capacity in
       let same = is ∙ get_or_from_slice_get makers f.0 (first_edge (has_number f.0) (output_rows outputs starts.outputs rows)) None (held.makers_are f.0 below) in
       sym same ∙ absent found none
 
   pub held-input : f.0 < length files → EdgesAreHeld files makers outputs (inputs ++ f ∷ []) validations rows starts
-  held-input room = record {
+  held-input capacity = record {
     distinct = held.distinct;
     makers_count = held.makers_count;
     makers_are = held.makers_are;
     outputs_are = held.outputs_are;
-    inputs_are = all-push (λ g. g.0 < length files) inputs f held.inputs_are room;
+    inputs_are = all-push (λ g. g.0 < length files) inputs f held.inputs_are capacity;
     validations_are = held.validations_are;
     rows_are = held.rows_are;
     outputs_joined = held.outputs_joined;
@@ -611,13 +611,13 @@ module _ (files : List (List ℕ)) (makers : List (Option ℕ)) (outputs inputs 
   }
 
   pub held-validation : f.0 < length files → EdgesAreHeld files makers outputs inputs (validations ++ f ∷ []) rows starts
-  held-validation room = record {
+  held-validation capacity = record {
     distinct = held.distinct;
     makers_count = held.makers_count;
     makers_are = held.makers_are;
     outputs_are = held.outputs_are;
     inputs_are = held.inputs_are;
-    validations_are = all-push (λ g. g.0 < length files) validations f held.validations_are room;
+    validations_are = all-push (λ g. g.0 < length files) validations f held.validations_are capacity;
     rows_are = held.rows_are;
     outputs_joined = held.outputs_joined;
     inputs_joined = held.inputs_joined;

@@ -8,11 +8,11 @@ use Rattle.nj_edges.specs.declared.files.FileNo.{FileNo}
 use Rattle.nj_edges.specs.declared.edges.EdgeRow.{EdgeRow}
 use Rattle.nj_edges.specs.declared.joining.AddedSpans.{AddedSpans}
 use Rattle.nj_edges.specs.Edges.{EdgePaths, first_edge}
-use Rattle.nj_edges.specs.Inside.EdgesHeld.{AreNumbers, HoldMakers, edge_of, edges_of, has_number, paths_at, within}
+use Rattle.nj_edges.specs.Inside.EdgesHeld.{AreNumbers, HaveMakers, edge_of, edges_of, has_number, paths_at, within}
 use Rattle.nj_edges.specs.Joining.{AddedFiles, JoinTable, changed_at, with_added, with_joined}
 use Rattle.nj_edges.specs.Inside.JoiningHeld.{AddedInputsAreWithin, AddedOutputsAreWithin, AreApart, AreSet, JoinIsHeld, NextAreNew, added_at, added_input_rows, added_inputs_of, added_output_rows, added_outputs_of, is_in_rows, join_held, joined_by, stated_rows, with_found}
 use Rattle.nj_edges.proofs.EdgeLemmas.{first-last, first-more, no-more, within-numbers}
-use Rattle.nj_edges.proofs.JoiningLemmas.{added-at, hold-from, in-rows-last}
+use Rattle.nj_edges.proofs.JoiningLemmas.{added-at, have-from, in-rows-last}
 use Rattle.nj_edges.proofs.ListLemmas.{slice_range-rest}
 
 -- ---- a row that was empty
@@ -77,8 +77,8 @@ module _ (closed : List (List FileNo)) (next : List FileNo) (edge : ℕ) (here :
         by true has h = apart n (length closed) (first-last (has_number n) closed next (new n has) has)
         by false none h = apart n e h
 
-    pub makers-ended : (old makers : List (Option ℕ)) → AreSet next edge old makers → ((n : ℕ) → n < length old → get_or old n None ≡ first_edge (has_number n) (closed ++ next ∷ [])) → HoldMakers (set closed edge next ++ [] ∷ []) makers
-    makers-ended old makers are-set held = hold-from (set closed edge next ++ [] ∷ []) makers (λ n below.
+    pub makers-ended : (old makers : List (Option ℕ)) → AreSet next edge old makers → ((n : ℕ) → n < length old → get_or old n None ≡ first_edge (has_number n) (closed ++ next ∷ [])) → HaveMakers (set closed edge next ++ [] ∷ []) makers
+    makers-ended old makers are-set held = have-from (set closed edge next ++ [] ∷ []) makers (λ n below.
         are-set.1 n ∙ ap (λ o. cond (has_number n next) (Some edge) o) (held n (subst (λ k. n < k) are-set.0 below)) ∙ sym (first-ended n))
 
 -- ---- all edges
@@ -202,7 +202,7 @@ module _ (files : List (List ℕ)) (makers : List (Option ℕ)) (outputs inputs 
           lists_are = record {
             stated_are = lists.stated_are;
             makers_count = are-set.0 ∙ lists.makers_count;
-            makers_are = subst (λ rs. HoldMakers rs new_makers) (sym output-rows) (makers-ended closed next edge no-output lists.next_are_new added_makers new_makers are-set old);
+            makers_are = subst (λ rs. HaveMakers rs new_makers) (sym output-rows) (makers-ended closed next edge no-output lists.next_are_new added_makers new_makers are-set old);
             apart = subst (AreApart (stated_rows outputs rows)) (sym output-rows) (apart-ended closed next edge no-output lists.next_are_new (stated_rows outputs rows) lists.apart);
             next_are_new = λ n has. absurd (true≢false (sym has ∙ ap (has_number n) (drop-length added_outputs)));
             outputs_are = lists.outputs_are;

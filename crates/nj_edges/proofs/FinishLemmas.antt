@@ -16,7 +16,7 @@ use Rattle.nj_edges.specs.Joining.{JoinTable, none_added}
 use Rattle.nj_edges.specs.Inside.JoiningHeld.{AreJoinedMakers, InputsAreWithin, JoinIsHeld, added_input_rows, added_inputs_of, added_output_rows, added_outputs_of, flat, is_in_rows, join_held, joined_inputs, joined_outputs, joined_rows, joined_with, needed_inputs, option_or, order_only_inputs, stated_rows}
 use Rattle.nj_edges.proofs.EdgeLemmas.{all-append, all-of, first-more, length-open, no-more, within-numbers}
 use Rattle.nj_edges.proofs.JoinedLists.{AreJoinedRows, all-inputs, needed-end, rows-from}
-use Rattle.nj_edges.proofs.JoiningLemmas.{added-at, hold-from, in-rows-last, or-cross, stated-at}
+use Rattle.nj_edges.proofs.JoiningLemmas.{added-at, have-from, in-rows-last, or-cross, stated-at}
 
 -- ---- rows one after the other
 
@@ -190,7 +190,7 @@ module _ (files : List (List ℕ)) (makers : List (Option ℕ)) (outputs inputs 
         record {
           distinct = stated.distinct;
           makers_count = count;
-          makers_are = hold-from (output_rows new_outputs (length new_outputs) new_rows) new_makers (λ n below.
+          makers_are = have-from (output_rows new_outputs (length new_outputs) new_rows) new_makers (λ n below.
               maker-at n (subst (λ k. n < k) count below)
               ∙ sym (first-more (has_number n) (map (λ (row : EdgeRow). within new_outputs row.outputs) new_rows) (drop (length new_outputs) new_outputs) (ap (has_number n) (drop-length new_outputs))));
           outputs_are = subst (AreNumbers (length files)) (sym outputs-are) (output-numbers (length files) outputs inputs added_outputs added_inputs stated.outputs_are held.lists_are.outputs_are rows added);

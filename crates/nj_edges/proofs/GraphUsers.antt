@@ -12,7 +12,7 @@ use Rattle.nj_edges.specs.EdgeGraphs.{EdgeGraph}
 use Rattle.nj_edges.specs.Edges.{EdgePaths, edges_from, inputs_of, is_among, users_of, validation_users_of}
 use Rattle.nj_edges.specs.Inside.EdgesHeld.{has_number, paths_at, within, edge_of, edges_of, RowIsWithin, EdgesAreHeld}
 use Rattle.nj_edges.specs.Files.{path_at}
-use Rattle.nj_edges.specs.Inside.UsersHeld.{AreParts, HoldUsers, numbers_of, using_edges}
+use Rattle.nj_edges.specs.Inside.UsersHeld.{AreParts, HaveUsers, numbers_of, using_edges}
 use Rattle.nj_edges.proofs.EdgeLemmas.{all-of, get-path, has-among, within-numbers}
 use Rattle.nj_edges.proofs.GraphLemmas.{kinds-joined}
 
@@ -69,12 +69,12 @@ module _ (files : List (List ℕ)) (makers : List (Option ℕ)) (outputs inputs 
         rows held.rows_are
         ∙ sym (edges-map 0 (λ (e : EdgePaths). is_among e.validations (path_at files f)) edge rows) ∙ ap (λ (v : EdgeGraph). validation_users_of v.edges (path_at v.files f)) is
 
-    pub starts-below : (starts numbers : List ℕ) (uses : ℕ → List ℕ) → HoldUsers (length files) starts numbers uses → f.0 + 1 < length starts
+    pub starts-below : (starts numbers : List ℕ) (uses : ℕ → List ℕ) → HaveUsers (length files) starts numbers uses → f.0 + 1 < length starts
     starts-below starts numbers uses users = let count : length starts ≡ length files + 1 = users.count_is in let less = below in omega (arith, count, less)
 
 -- the parts, as they are lent
-pub parts-lent : (count : ℕ) (starts ss : List ℕ) (edges es : List EdgeNo) (uses : ℕ → List ℕ) → ss ≡ starts → es ≡ edges → HoldUsers count starts (numbers_of edges) uses → AreParts ss (numbers_of es) uses
+pub parts-lent : (count : ℕ) (starts ss : List ℕ) (edges es : List EdgeNo) (uses : ℕ → List ℕ) → ss ≡ starts → es ≡ edges → HaveUsers count starts (numbers_of edges) uses → AreParts ss (numbers_of es) uses
 parts-lent count starts ss edges es uses s e held = rw (s, e) held.parts_are
 
-pub held-users : (count n : ℕ) (starts numbers : List ℕ) (part : RowPart) (fs files : List FileNo) (rows : List EdgeRow) → count ≡ n → fs ≡ files → HoldUsers count starts numbers (using_edges fs part 0 rows) → HoldUsers n starts numbers (using_edges files part 0 rows)
+pub held-users : (count n : ℕ) (starts numbers : List ℕ) (part : RowPart) (fs files : List FileNo) (rows : List EdgeRow) → count ≡ n → fs ≡ files → HaveUsers count starts numbers (using_edges fs part 0 rows) → HaveUsers n starts numbers (using_edges files part 0 rows)
 held-users count n starts numbers part fs files rows c f held = rw (← c, ← f) held

@@ -12,7 +12,7 @@ use Rattle.nj_edges.specs.declared.files.FileNo.{FileNo}
 use Rattle.nj_edges.specs.declared.edges.EdgeRow.{EdgeRow}
 use Rattle.nj_edges.specs.declared.joining.AddedSpans.{AddedSpans}
 use Rattle.nj_edges.specs.Edges.{EdgePaths, first_edge, is_among, maker_of, outputs_of}
-use Rattle.nj_edges.specs.Inside.EdgesHeld.{AreNumbers, HoldMakers, edge_of, edges_of, has_number, paths_at, with_maker, within}
+use Rattle.nj_edges.specs.Inside.EdgesHeld.{AreNumbers, HaveMakers, edge_of, edges_of, has_number, paths_at, with_maker, within}
 use Rattle.nj_edges.specs.Files.{with_path}
 use Rattle.nj_edges.specs.Inside.GraphHeld.{ends_of}
 use Rattle.nj_edges.specs.Joining.{JoinTable, is_made_so_far, with_added_input, with_added_output}
@@ -56,11 +56,11 @@ some-in test (e ∷ es) = by (test e) (first_edge test es) (some-in test es)
     by false (Some n) same = same
 
 -- the makers, as lists of options
-maker-get : (rows : List (List FileNo)) (makers : List (Option ℕ)) → HoldMakers rows makers → (n : ℕ) → n < length makers → get_or makers n None ≡ first_edge (has_number n) rows
+maker-get : (rows : List (List FileNo)) (makers : List (Option ℕ)) → HaveMakers rows makers → (n : ℕ) → n < length makers → get_or makers n None ≡ first_edge (has_number n) rows
 maker-get rows makers held n below = get_or_from_slice_get makers n (first_edge (has_number n) rows) None (held n below)
 
-pub hold-from : (rows : List (List FileNo)) (makers : List (Option ℕ)) → ((n : ℕ) → n < length makers → get_or makers n None ≡ first_edge (has_number n) rows) → HoldMakers rows makers
-hold-from rows makers are n below = slice_get-get_or makers n None below ∙ ap Some (are n below)
+pub have-from : (rows : List (List FileNo)) (makers : List (Option ℕ)) → ((n : ℕ) → n < length makers → get_or makers n None ≡ first_edge (has_number n) rows) → HaveMakers rows makers
+have-from rows makers are n below = slice_get-get_or makers n None below ∙ ap Some (are n below)
 
 -- ---- an output more in the last row
 
@@ -78,13 +78,13 @@ module _ (closed : List (List FileNo)) (next : List FileNo) (f : FileNo) where
     none-closed : (m : ℕ) → m ≡ f.0 → first_edge (has_number m) closed ≡ None
     none-closed m same = subst (λ k. first_edge (has_number k) closed ≡ None) (sym same) (none-front (has_number f.0) closed next none)
 
-    pub makers-last : (makers : List (Option ℕ)) → f.0 < length makers → HoldMakers (closed ++ next ∷ []) makers → HoldMakers (closed ++ (next ++ f ∷ []) ∷ []) (set makers f.0 (Some (length closed)))
-    makers-last makers room held = hold-from (closed ++ (next ++ f ∷ []) ∷ []) (set makers f.0 (Some (length closed))) (λ m below. by m (subst (λ k. m < k) (length-set makers f.0 (Some (length closed))) below) (eqb_tells m f.0))
+    pub makers-last : (makers : List (Option ℕ)) → f.0 < length makers → HaveMakers (closed ++ next ∷ []) makers → HaveMakers (closed ++ (next ++ f ∷ []) ∷ []) (set makers f.0 (Some (length closed)))
+    makers-last makers capacity held = have-from (closed ++ (next ++ f ∷ []) ∷ []) (set makers f.0 (Some (length closed))) (λ m below. by m (subst (λ k. m < k) (length-set makers f.0 (Some (length closed))) below) (eqb_tells m f.0))
       where
         by : (m : ℕ) → m < length makers → ((m == f.0) ≡ true × (m ≡ f.0)) ⊎ ((m == f.0) ≡ false × (m ≢ f.0))
             → get_or (set makers f.0 (Some (length closed))) m None ≡ first_edge (has_number m) (closed ++ (next ++ f ∷ []) ∷ [])
         by m below (inl same) =
-            ap (λ k. get_or (set makers f.0 (Some (length closed))) k None) same.1 ∙ get_or-set_same makers f.0 (Some (length closed)) None room
+            ap (λ k. get_or (set makers f.0 (Some (length closed))) k None) same.1 ∙ get_or-set_same makers f.0 (Some (length closed)) None capacity
             ∙ sym (first-last (has_number m) closed (next ++ f ∷ []) (none-closed m same.1) (has-own m same.0))
         by m below (inr apart) =
             get_or-set_other makers f.0 m (Some (length closed)) None apart.1 ∙ maker-get (closed ++ next ∷ []) makers held m below ∙ sym (first-same-last m apart.0)
@@ -291,13 +291,13 @@ module _ (files : List (List ℕ)) (makers : List (Option ℕ)) (outputs inputs 
     module _ (unstated : first_edge (has_number f.0) (stated_rows outputs rows) ≡ None) (unmade : first_edge (has_number f.0) (added_output_rows added_outputs added open_outputs) ≡ None) where
       pub lists-output : JoinListsAreHeld files makers outputs inputs validations rows (set added_makers f.0 (Some (length rows))) (added_outputs ++ f ∷ []) added_inputs added open_outputs open_inputs
       lists-output =
-          let room : f.0 < length added_makers = subst (λ n. f.0 < n) (sym held.makers_count) below in
+          let capacity : f.0 < length added_makers = subst (λ n. f.0 < n) (sym held.makers_count) below in
           let count : length closed ≡ length rows = length-map added (added_outputs_of added_outputs) ∙ held.added_count in
           record {
             stated_are = held.stated_are;
             makers_count = length-set added_makers f.0 (Some (length rows)) ∙ held.makers_count;
-            makers_are = subst (λ n. HoldMakers (added_output_rows (added_outputs ++ f ∷ []) added open_outputs) (set added_makers f.0 (Some n))) count
-                (subst (λ rs. HoldMakers rs (set added_makers f.0 (Some (length closed)))) (sym output-rows) (makers-last closed next f unmade added_makers room held.makers_are));
+            makers_are = subst (λ n. HaveMakers (added_output_rows (added_outputs ++ f ∷ []) added open_outputs) (set added_makers f.0 (Some n))) count
+                (subst (λ rs. HaveMakers rs (set added_makers f.0 (Some (length closed)))) (sym output-rows) (makers-last closed next f unmade added_makers capacity held.makers_are));
             apart = subst (AreApart (stated_rows outputs rows)) (sym output-rows) (apart-last closed next f unmade (stated_rows outputs rows) unstated held.apart);
             next_are_new = rw (outputs-stay added_outputs f open_outputs held.outputs_start added held.outputs_within, drop-append-le open_outputs added_outputs (f ∷ []) held.outputs_start) (new-last closed next f unmade held.next_are_new);
             outputs_are = all-push (λ g. g.0 < length files) added_outputs f held.outputs_are below;

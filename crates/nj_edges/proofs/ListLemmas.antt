@@ -8,8 +8,8 @@ use Rattle.std.proofs.Math.Seq.{take-length}
 pub slice_range-append : {A : Type 0} (items others : List A) (start end : ℕ) → start ≤ end → end ≤ length items → slice_range (items ++ others) start end ≡ slice_range items start end
 slice_range-append items others start end rise within =
     let below : start ≤ length items = omega arith in
-    let room : end - start ≤ length (drop start items) = simp length-drop (omega arith) in
-    rw (drop-append-le start items others below) (take-append-le (end - start) (drop start items) others room)
+    let capacity : end - start ≤ length (drop start items) = simp length-drop (omega arith) in
+    rw (drop-append-le start items others below) (take-append-le (end - start) (drop start items) others capacity)
 
 -- all that is after the start
 pub slice_range-rest : {A : Type 0} (items : List A) (start : ℕ) → start ≤ length items → slice_range items start (length items) ≡ drop start items

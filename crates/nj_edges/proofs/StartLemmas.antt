@@ -11,7 +11,7 @@ use Rattle.nj_edges.specs.Inside.EdgesHeld.{AreNamed, EdgesAreHeld, edges_of, ha
 use Rattle.nj_edges.specs.Inside.GraphHeld.{ends_of}
 use Rattle.nj_edges.specs.Joining.{join_of}
 use Rattle.nj_edges.specs.Inside.JoiningHeld.{AddedInputsAreWithin, AddedOutputsAreWithin, JoinIsHeld, added_input_rows, added_output_rows, is_in_rows, join_held, joined_by, with_found}
-use Rattle.nj_edges.proofs.JoiningLemmas.{hold-from}
+use Rattle.nj_edges.proofs.JoiningLemmas.{have-from}
 
 -- for each of so many edges nothing
 abbrev pub IsNothing : Option AddedSpans → Type 0
@@ -74,7 +74,7 @@ module _ (files : List (List ℕ)) (makers : List (Option ℕ)) (outputs inputs 
     lists_are = record {
       stated_are = held;
       makers_count = length-replicate (length files) None;
-      makers_are = hold-from (added_output_rows [] nothing 0) no_maker (λ n below. get_or-replicate (length files) n None None (subst (λ k. n < k) (length-replicate (length files) None) below) ∙ sym (none-first n nothing (all-nothing (length rows))));
+      makers_are = have-from (added_output_rows [] nothing 0) no_maker (λ n below. get_or-replicate (length files) n None None (subst (λ k. n < k) (length-replicate (length files) None) below) ∙ sym (none-first n nothing (all-nothing (length rows))));
       apart = λ n e is. absurd (true≢false (ap is_some (sym is ∙ none-first n nothing (all-nothing (length rows)))));
       next_are_new = λ n has. absurd (true≢false (sym has));
       outputs_are = tt;

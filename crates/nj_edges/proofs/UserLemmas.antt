@@ -10,7 +10,7 @@ use Rattle.nj_edges.specs.declared.edges.EdgeRow.{EdgeRow}
 use Rattle.nj_edges.specs.declared.users.RowPart.{RowPart}
 use Rattle.nj_edges.specs.Edges.{edges_from}
 use Rattle.nj_edges.specs.Inside.EdgesHeld.{has_number, within}
-use Rattle.nj_edges.specs.Inside.UsersHeld.{AreMarks, AreParts, ArePlaced, HaveRoom, IsPart, number_at, numbers_of, plus_use, plus_uses, span_of, starts_with, users_before, using_edges, with_front}
+use Rattle.nj_edges.specs.Inside.UsersHeld.{AreMarks, AreParts, ArePlaced, HaveCapacity, IsPart, number_at, numbers_of, plus_use, plus_uses, span_of, starts_with, users_before, using_edges, with_front}
 use Rattle.nj_edges.proofs.AddLemmas.{same-number}
 use Rattle.nj_edges.proofs.EdgeLemmas.{has-push}
 
@@ -68,12 +68,12 @@ front-longer edge xs = by (starts_with edge xs)
     by false = omega arith
 
 -- some of the files of an edge have no more uses than all of them
-room-some : (all uses : ℕ → List ℕ) (files : List FileNo) (i edge : ℕ) → HaveRoom all (plus_uses files edge uses) → HaveRoom all (plus_uses (take i files) edge uses)
-room-some all uses files i edge room n =
+capacity-some : (all uses : ℕ → List ℕ) (files : List FileNo) (i edge : ℕ) → HaveCapacity all (plus_uses files edge uses) → HaveCapacity all (plus_uses (take i files) edge uses)
+capacity-some all uses files i edge capacity n =
     let fewer = by (has_number n (take i files)) (has_number n (drop i files)) (front-longer edge (uses n)) in
     let whole : has_number n files ≡ (has_number n (take i files) || has_number n (drop i files)) = ap (has_number n) (sym (take-append-drop i files)) ∙ has-append n (take i files) (drop i files) in
     let most : length (cond (has_number n (take i files) || has_number n (drop i files)) (with_front edge (uses n)) (uses n)) ≤ length (all n) =
-    subst (λ b. length (cond b (with_front edge (uses n)) (uses n)) ≤ length (all n)) whole (room n) in
+    subst (λ b. length (cond b (with_front edge (uses n)) (uses n)) ≤ length (all n)) whole (capacity n) in
     omega (arith, fewer, most)
   where
     by : (a b : Bool) → length (uses n) ≤ length (with_front edge (uses n)) → length (cond a (with_front edge (uses n)) (uses n)) ≤ length (cond (a || b) (with_front edge (uses n)) (uses n))
@@ -81,8 +81,8 @@ room-some all uses files i edge room n =
     by false true more = more
     by false false more = omega arith
 
-pub room-next : (all uses : ℕ → List ℕ) (files : List FileNo) (i : ℕ) (d : FileNo) (edge : ℕ) → i < length files → HaveRoom all (plus_uses files edge uses) → HaveRoom all (plus_use (get_or files i d).0 edge (plus_uses (take i files) edge uses))
-room-next all uses files i d edge below room = subst (HaveRoom all) (sym (plus-next files i d edge uses below)) (room-some all uses files (i + 1) edge room)
+pub capacity-next : (all uses : ℕ → List ℕ) (files : List FileNo) (i : ℕ) (d : FileNo) (edge : ℕ) → i < length files → HaveCapacity all (plus_uses files edge uses) → HaveCapacity all (plus_use (get_or files i d).0 edge (plus_uses (take i files) edge uses))
+capacity-next all uses files i d edge below capacity = subst (HaveCapacity all) (sym (plus-next files i d edge uses below)) (capacity-some all uses files (i + 1) edge capacity)
 
 -- ---- the edges from the last one on
 
@@ -128,8 +128,8 @@ edges-fewer k (suc j) test (x ∷ xs) = by (test x) (subst (λ m. length (edges_
     by false fewer = fewer
 
 -- the edges from a later one on have no more uses than all edges
-pub rows-room : (files : List FileNo) (part : RowPart) (rows : List EdgeRow) (e : ℕ) → HaveRoom (using_edges files part 0 rows) (using_edges files part e (drop e rows))
-rows-room files part rows e n =
+pub rows-capacity : (files : List FileNo) (part : RowPart) (rows : List EdgeRow) (e : ℕ) → HaveCapacity (using_edges files part 0 rows) (using_edges files part e (drop e rows))
+rows-capacity files part rows e n =
     let same : 0 + e ≡ e = omega arith in
     subst (λ m. length (using_edges files part m (drop e rows) n) ≤ length (using_edges files part 0 rows n)) same (edges-fewer 0 e (λ (r : EdgeRow). has_number n (within files (span_of part r))) rows)
 
@@ -150,9 +150,9 @@ before-next uses n = ap (users_before uses) (add-one n)
 
 module _ (all uses : ℕ → List ℕ) (places marks : List ℕ) (edges : List EdgeNo) (f edge : ℕ) (placed : ArePlaced all uses places marks edges) (inside : f < length places) where
   -- there is a place for another edge of a file
-  module _ (other : starts_with edge (uses f) ≡ false) (room : HaveRoom all (plus_use f edge uses)) where
+  module _ (other : starts_with edge (uses f) ≡ false) (capacity : HaveCapacity all (plus_use f edge uses)) where
     more : suc (length (uses f)) ≤ length (all f)
-    more = subst (λ es. length es ≤ length (all f)) (plus-here f edge uses other f refl) (room f)
+    more = subst (λ es. length es ≤ length (all f)) (plus-here f edge uses other f refl) (capacity f)
 
     place-before : suc (users_before all f) ≤ get_or places f 0
     place-before =
@@ -219,7 +219,7 @@ module _ (all uses : ℕ → List ℕ) (places marks : List ℕ) (edges : List E
         count_is = length-set edges place (record { 0 = edge }) ∙ placed.count_is ∙ ap (users_before all) (sym place-count);
         starts_are = λ n below. starts n (below-old n below) (eqb_tells n f);
         ends_are = λ n below. ends n (below-old n below) (eqb_tells n f);
-        edges_are = λ n i below i-below. stand n i (below-old n below) i-below (eqb_tells n f);
+        edges_are = λ n i below i-below. comes n i (below-old n below) i-below (eqb_tells n f);
         marks_are = marked;
       }
         where
@@ -246,11 +246,11 @@ module _ (all uses : ℕ → List ℕ) (places marks : List ℕ) (edges : List E
               let differs : place + suc j ≢ place = λ (h : place + suc j ≡ place). omega arith in
               ap (λ (e : EdgeNo). e.0) (get_or-set_other edges place (place + suc j) (record { 0 = edge }) (record { 0 = 0 }) differs) ∙ ap (number_at edges) at-is ∙ placed.edges_are n j below (omega arith)
 
-          stand : (n i : ℕ) → n < length places → i < length (plus_use f edge uses n) → ((n == f) ≡ true × (n ≡ f)) ⊎ ((n == f) ≡ false × (n ≢ f)) → number_at edges' (get_or places' n 0 + i) ≡ get_or (plus_use f edge uses n) i 0
-          stand n i below i-below (inl same) =
+          comes : (n i : ℕ) → n < length places → i < length (plus_use f edge uses n) → ((n == f) ≡ true × (n ≡ f)) ⊎ ((n == f) ≡ false × (n ≢ f)) → number_at edges' (get_or places' n 0 + i) ≡ get_or (plus_use f edge uses n) i 0
+          comes n i below i-below (inl same) =
               let are = plus-here f edge uses other n same.1 in
               ap (λ p. number_at edges' (p + i)) (here-is n same.1) ∙ behind n i below same.1 (subst (λ es. i < length es) are i-below) ∙ ap (λ es. get_or es i 0) (sym are)
-          stand n i below i-below (inr apart) =
+          comes n i below i-below (inr apart) =
               let are = plus-other f edge uses n apart.1 in
               let i-old : i < length (uses n) = subst (λ es. i < length es) are i-below in
               ap (λ p. number_at edges' (p + i)) (other-is n apart.1)

@@ -3,7 +3,7 @@
 ghost use Rattle.std.specs.Prelude.{◌≡◌, ℕ, List, ◌+◌, ◌<◌, ◌≤◌, ◌^◌, Some, length, slice_get, slice_index_or, IfOk, OnOk};
 ghost use Rattle.std.specs.List.{AllByRecursion};
 ghost use Rattle.nj_edges.specs.Inside.EdgesHeld.{AreNumbers, IsWithin, within};
-ghost use Rattle.nj_edges.specs.Inside.UsersHeld.{AreCounted, AreCounts, AreEnds, AreMarks, AreParts, ArePlaced, HaveRoom, HoldUsers, numbers_of, plus_use, plus_uses, span_of, starts_with, users_before, using_edges};
+ghost use Rattle.nj_edges.specs.Inside.UsersHeld.{AreCounted, AreCounts, AreEnds, AreMarks, AreParts, ArePlaced, HaveCapacity, HaveUsers, numbers_of, plus_use, plus_uses, span_of, starts_with, users_before, using_edges};
 
 use crate::edges::{EdgeNo, EdgeRow, Span};
 use crate::files::FileNo;
@@ -40,7 +40,7 @@ pub(crate) fn users_of_files(
     requires files { AreNumbers file_count files.now }
     requires rows { AllByRecursion (λ row. IsWithin (span_of row_part row) (length files.now))
         rows.now }
-    ensures { IfOk result (λ users. HoldUsers file_count users.starts.items
+    ensures { IfOk result (λ users. HaveUsers file_count users.starts.items
         (numbers_of users.edges.items) (using_edges files.now row_part 0 rows.now)) }
 {
     let start_count = file_count.checked_add(1).ok_or(AllocError)?;
@@ -242,12 +242,12 @@ fn place_uses(
     requires files { AreNumbers (length places.old) files.now }
     requires marks { length marks.old ≡ length places.old }
     requires fits { edge + 1 < 2 ^ 32 }
-    requires room { (all uses : ℕ → List ℕ)
+    requires capacity { (all uses : ℕ → List ℕ)
         × ArePlaced all uses places.old marks.old edges.old
-        × HaveRoom all (plus_uses files.now edge uses) }
+        × HaveCapacity all (plus_uses files.now edge uses) }
     ensures { (all uses : ℕ → List ℕ)
         → ArePlaced all uses places.old marks.old edges.old
-        → HaveRoom all (plus_uses files.now edge uses)
+        → HaveCapacity all (plus_uses files.now edge uses)
         → ArePlaced all (plus_uses files.now edge uses) places.new marks.new edges.new }
 {
     'files: for file in files {
@@ -260,12 +260,12 @@ fn place_use(places: &mut [u32], marks: &mut [u32], edges: &mut [EdgeNo], file: 
     requires file { file.0 < length places.old }
     requires marks { length marks.old ≡ length places.old }
     requires fits { edge + 1 < 2 ^ 32 }
-    requires room { (all uses : ℕ → List ℕ)
+    requires capacity { (all uses : ℕ → List ℕ)
         × ArePlaced all uses places.old marks.old edges.old
-        × HaveRoom all (plus_use file.0 edge uses) }
+        × HaveCapacity all (plus_use file.0 edge uses) }
     ensures { (all uses : ℕ → List ℕ)
         → ArePlaced all uses places.old marks.old edges.old
-        → HaveRoom all (plus_use file.0 edge uses)
+        → HaveCapacity all (plus_use file.0 edge uses)
         → ArePlaced all (plus_use file.0 edge uses) places.new marks.new edges.new }
 {
     if mark(marks, file, edge) {

@@ -20,18 +20,18 @@ abbrev at : (line column : ℕ) → Cause → GraphFault
 at line column cause = fault_at (codes "build.ninja") (spot line column) cause
 
 -- what the parser reports in the file `build.ninja`
-abbrev told : Fault → GraphFault
-told fault = fault_in (codes "build.ninja") fault
+abbrev reported : Fault → GraphFault
+reported fault = fault_in (codes "build.ninja") fault
 
-byte_row : fault_line (told (Bad (unit.Tab (spot 1 3)))) ≡ codes "build.ninja:1:3: tabs are not allowed, use spaces"
+byte_row : fault_line (reported (Bad (unit.Tab (spot 1 3)))) ≡ codes "build.ninja:1:3: tabs are not allowed, use spaces"
 unfolding digits
 byte_row = refl
 
-wanted_row : fault_line (told (Expected (spot 1 2) wanted.Equals)) ≡ codes "build.ninja:1:2: expected '='"
+wanted_row : fault_line (reported (Expected (spot 1 2) wanted.Equals)) ≡ codes "build.ninja:1:2: expected '='"
 unfolding digits
 wanted_row = refl
 
-key_row : fault_line (told (UnknownKey (spot 3 3) (codes "depth"))) ≡ codes "build.ninja:3:3: unexpected variable 'depth'"
+key_row : fault_line (reported (UnknownKey (spot 3 3) (codes "depth"))) ≡ codes "build.ninja:3:3: unexpected variable 'depth'"
 unfolding digits
 key_row = refl
 
@@ -118,8 +118,8 @@ use_row = refl
 memory_row : fault_line no_memory ≡ codes "ninja-explain: out of memory"
 memory_row = refl
 
-told_memory_row : told OutOfMemory ≡ no_memory
-told_memory_row = refl
+reported_memory_row : reported OutOfMemory ≡ no_memory
+reported_memory_row = refl
 
 -- for another program, and for none
 program_row : fault_line_for (codes "audit") (unplaced (NoOutEdge (codes "a"))) ≡ codes "audit: 'a' has no out edge"

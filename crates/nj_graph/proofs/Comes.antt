@@ -11,7 +11,7 @@ use Rattle.nj_faults.specs.declared.fault.Place.{Place}
 use Rattle.nj_faults.specs.declared.fault.GraphFault.{GraphFault}
 use Rattle.nj_faults.specs.Faults.{fault_in}
 use Rattle.nj_graph.specs.Parsed.{parsed}
-use Rattle.nj_graph.specs.Reading.{Site, entry_at, own_fault, End, Whole, Refused, Lacking, ReadingText, go_on, and_then, Opens, item_read, unless_fault, statement_read, end_by, statements_read, text_read, most_opened, most_within, found_read, answer_read, if_room, opened_in, main_site, main_read, path_named, with_new, with_all_new, paths_read, path_at_end, paths_come_to}
+use Rattle.nj_graph.specs.Reading.{Site, entry_at, own_fault, End, Whole, Refused, Lacking, ReadingText, continued, and_then, Opens, item_read, unless_fault, statement_read, end_by, statements_read, text_read, most_opened, most_within, found_read, outcome_read, if_capacity, opened_in, main_site, main_read, path_named, with_new, with_all_new, paths_read, path_at_end, paths_come_to}
 
 -- ---- paths before others
 
@@ -41,7 +41,7 @@ pub and_then-comes : (main : List ℕ) (front : List (List ℕ)) (r : ReadingTex
     → IsPrefix front (paths_come_to main (and_then r k))
 and_then-comes main front r k comes others = by_end r.end comes
   where
-    by_end : (end : End) → IsPrefix front (with_all_new (paths_read main r.entries) (path_at_end end)) → IsPrefix front (paths_come_to main (go_on end r.entries k))
+    by_end : (end : End) → IsPrefix front (with_all_new (paths_read main r.entries) (path_at_end end)) → IsPrefix front (paths_come_to main (continued end r.entries k))
     by_end Whole p = prefix-then front (paths_read main r.entries) (paths_come_to main (k r.entries)) p (others r.entries)
     by_end (Refused fault) p = p
     by_end (Lacking path place) p = p
@@ -86,18 +86,18 @@ found_read-comes main within comes site place entries before more None = prefix-
 found_read-comes main within comes site place entries before more (Some text) =
     prefix-then (paths_read main before) (paths_read main entries) _ more (statements_read-come main within comes site (parsed text).items (parsed text).fault entries)
 
-answer_read-comes : (main : List ℕ) (within : Opens) → OpensCome main within → (site : Site) (place : Place) (entries before : List ReadStatement) → IsPrefix (paths_read main before) (paths_read main entries) → (r : Option table.Reading) → ComesTo main before (answer_read site.file place before (λ t. text_read within site t entries) r)
-answer_read-comes main within comes site place entries before more None = prefix-new (paths_read main before) site.file
-answer_read-comes main within comes site place entries before more (Some r) = found_read-comes main within comes site place entries before more r.bytes
+outcome_read-comes : (main : List ℕ) (within : Opens) → OpensCome main within → (site : Site) (place : Place) (entries before : List ReadStatement) → IsPrefix (paths_read main before) (paths_read main entries) → (r : Option table.Reading) → ComesTo main before (outcome_read site.file place before (λ t. text_read within site t entries) r)
+outcome_read-comes main within comes site place entries before more None = prefix-new (paths_read main before) site.file
+outcome_read-comes main within comes site place entries before more (Some r) = found_read-comes main within comes site place entries before more r.bytes
 
 pub opened-comes : (main : List ℕ) (files : List table.Reading) (left : ℕ) (site : Site) (place : Place) (e : ReadStatement) (before : List ReadStatement) → IsPrefix (paths_read main before) (paths_come_to main (opened_in files left site place e before))
 unfolding opened_in
 opened-comes main files zero site place e before = prefix-self (paths_read main before)
-opened-comes main files (suc left) site place e before = by_room (nat_lt (files_opened before) most_opened) (opened-comes main files left)
+opened-comes main files (suc left) site place e before = by_capacity (nat_lt (files_opened before) most_opened) (opened-comes main files left)
   where
-    by_room : (room : Bool) → OpensCome main (opened_in files left) → ComesTo main before (if_room room (opened_in files left) files site place e before)
-    by_room false comes = prefix-self (paths_read main before)
-    by_room true comes = answer_read-comes main (opened_in files left) comes site place (e ∷ before) before (prefix-named (paths_read main before) (path_named e before e.item)) (reading_of files site.file)
+    by_capacity : (capacity : Bool) → OpensCome main (opened_in files left) → ComesTo main before (if_capacity capacity (opened_in files left) files site place e before)
+    by_capacity false comes = prefix-self (paths_read main before)
+    by_capacity true comes = outcome_read-comes main (opened_in files left) comes site place (e ∷ before) before (prefix-named (paths_read main before) (path_named e before e.item)) (reading_of files site.file)
 
 pub item-comes : (main : List ℕ) (files : List table.Reading) (left : ℕ) (e : ReadStatement) (before : List ReadStatement) → IsPrefix (paths_read main before) (paths_come_to main (statement_read (opened_in files left) e before))
 item-comes main files left = statement_read-comes main (opened_in files left) (opened-comes main files left)
@@ -113,8 +113,8 @@ pub opened-names : (main : List ℕ) (files : List table.Reading) (left : ℕ) (
     → nat_lt (files_opened before) most_opened ≡ true
     → IsPrefix (with_new (paths_read main before) site.file) (paths_come_to main (opened_in files (suc left) site place e before))
 unfolding opened_in
-opened-names main files left site place e before names room =
-    subst (λ t. Front (if_room t (opened_in files left) files site place e before)) (sym room) (by_answer (reading_of files site.file))
+opened-names main files left site place e before names capacity =
+    subst (λ t. Front (if_capacity t (opened_in files left) files site place e before)) (sym capacity) (by_outcome (reading_of files site.file))
   where
     front : List (List ℕ)
     front = with_new (paths_read main before) site.file
@@ -132,11 +132,11 @@ opened-names main files left site place e before names room =
     by_text None = prefix-self front
     by_text (Some text) = subst (λ paths. IsPrefix paths (paths_come_to main (found_read site.file place before reads (Some text)))) named (statements-come main files left site (parsed text).items (parsed text).fault (e ∷ before))
 
-    by_answer : (r : Option table.Reading) → Front (answer_read site.file place before reads r)
-    by_answer None = prefix-self front
-    by_answer (Some r) = by_text r.bytes
+    by_outcome : (r : Option table.Reading) → Front (outcome_read site.file place before reads r)
+    by_outcome None = prefix-self front
+    by_outcome (Some r) = by_text r.bytes
 
 -- The main file comes first.
 pub main-comes : (main : List ℕ) (files : List table.Reading) → IsPrefix (main ∷ []) (paths_come_to main (main_read files main))
 unfolding main_read
-main-comes main files = answer_read-comes main (opened_in files most_within) (opened-comes main files most_within) (main_site main) _ [] [] (prefix-self (main ∷ [])) (reading_of files main)
+main-comes main files = outcome_read-comes main (opened_in files most_within) (opened-comes main files most_within) (main_site main) _ [] [] (prefix-self (main ∷ [])) (reading_of files main)

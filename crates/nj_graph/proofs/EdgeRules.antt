@@ -8,7 +8,7 @@ use Rattle.nj_manifest.specs.Statements.{StatementText, BindingText, RuleText, P
 use Rattle.nj_scope.specs.Rules as kept
 use Rattle.nj_scope.specs.Scopes.{ScopeText}
 use Rattle.nj_scope.specs.Declarations.{DeclarationsText}
-use Rattle.nj_scope.specs.ReadingList.{Discovered, ReadStatement, scope_of, rule_in_force, rule_texts, with_rule}
+use Rattle.nj_scope.specs.ReadingList.{Discovered, ReadStatement, scope_of, rule_in_force, rules_read, with_rule}
 use Rattle.nj_scope.proofs.InForce.{in_force}
 use Rattle.nj_faults.specs.declared.fault.GraphFault.{GraphFault}
 use Rattle.nj_faults.specs.declared.fault.Cause.TheVariants.{UnknownRule}
@@ -55,7 +55,7 @@ module _ (e : ReadStatement) (before : List ReadStatement) (outputs : OutputsTex
   edge = edge_of_build e before outputs rule inputs lines
 
   -- a rule that is known
-  by-rule : (found : Option ℕ) → rule_in_force before (scope_of e) rule.name ≡ found → fault_if (not (is_some found)) (fault_at e.file rule.spot (UnknownRule rule.name)) ≡ None → HasRule (rule_texts before) edge
+  by-rule : (found : Option ℕ) → rule_in_force before (scope_of e) rule.name ≡ found → fault_if (not (is_some found)) (fault_at e.file rule.spot (UnknownRule rule.name)) ≡ None → HasRule (rules_read before) edge
   by-rule None is h = absurd cc
   by-rule (Some number) is h =
       let (text, at, its, others) = in_force before (scope_of e) rule.name number is in
@@ -63,24 +63,24 @@ module _ (e : ReadStatement) (before : List ReadStatement) (outputs : OutputsTex
       let stated = stated_paths (line_values e before lines) outputs inputs (edge.rule == 0) in
       record {
         rule = text;
-        rule_is = ap (slice_get (rule_texts before)) same ∙ at;
+        rule_is = ap (slice_get (rules_read before)) same ∙ at;
         phony_is = is-phony before (scope_of e) rule.name number text is at ∙ ap (λ n. n == 0) (sym same) ∙ sym (kept-phony stated) ∙ sym (discovered-phony e.discovered (edge_paths stated));
       }
 
-  new-rule : item_fault e before (BuildText outputs rule inputs lines) ≡ None → HasRule (rule_texts before) edge
+  new-rule : item_fault e before (BuildText outputs rule inputs lines) ≡ None → HasRule (rules_read before) edge
   new-rule none = by-rule (rule_in_force before (scope_of e) rule.name) refl (first-none (unknown_rule e before rule) _ none)
 
-pub edges-have : (entries : List ReadStatement) → Faultless entries → AllByRecursion (HasRule (rule_texts entries)) (edges_read entries)
+pub edges-have : (entries : List ReadStatement) → Faultless entries → AllByRecursion (HasRule (rules_read entries)) (edges_read entries)
 unfolding edges_read
 edges-have [] faultless = tt
 edges-have (e ∷ before) faultless = by e.item faultless.0 (edges-have before faultless.1)
   where
-    by : (item : StatementText) → item_fault e before item ≡ None → AllByRecursion (HasRule (rule_texts before)) (edges_read before)
-        → AllByRecursion (HasRule (with_rule e.number item (rule_texts before))) (with_edge e before item (edges_read before))
+    by : (item : StatementText) → item_fault e before item ≡ None → AllByRecursion (HasRule (rules_read before)) (edges_read before)
+        → AllByRecursion (HasRule (with_rule e.number item (rules_read before))) (with_edge e before item (edges_read before))
     by (BindingText name value) none all = all
-    by (RuleText name lines) none all = all-map (HasRule (rule_texts before)) (HasRule (rule_texts before ++ _)) (λ x. has-longer (rule_texts before) _ x) (edges_read before) all
+    by (RuleText name lines) none all = all-map (HasRule (rules_read before)) (HasRule (rules_read before ++ _)) (λ x. has-longer (rules_read before) _ x) (edges_read before) all
     by (PoolText name lines) none all = all
-    by (BuildText outputs rule inputs lines) none all = all-and (HasRule (rule_texts before)) (edge_of_build e before outputs rule inputs lines) (edges_read before) all (new-rule e before outputs rule inputs lines none)
+    by (BuildText outputs rule inputs lines) none all = all-and (HasRule (rules_read before)) (edge_of_build e before outputs rule inputs lines) (edges_read before) all (new-rule e before outputs rule inputs lines none)
     by (DefaultText words) none all = all
     by (IncludeText word) none all = all
     by (SubninjaText word) none all = all

@@ -16,7 +16,7 @@ use Rattle.nj_faults.specs.declared.fault.Cause.TheVariants.{Missing, Io}
 use Rattle.nj_faults.specs.Faults.{no_memory}
 use Rattle.nj_graph.specs.Reading.{with_new}
 use Rattle.nj_graph.specs.Runs.{IsRead}
-use Rattle.nj_graph.specs.Inside.ReaderContracts.{ReadsAll, AnswersText}
+use Rattle.nj_graph.specs.Inside.ReaderContracts.{ReadsAll, ReturnsText}
 use Rattle.nj_graph.proofs.Tables.{reading-at, with_new-known, paths-one_more, read-nothing, read-one}
 
 -- a text that is found at a path
@@ -51,11 +51,11 @@ pub record HasNoMemory (before after : SourceState) (old : List Reading) (path :
   pub answered : fault ≡ no_memory
 
 -- a fault is that of the word, where its file has this name
-pub answers-named : (before after : SourceState) (old held : List Reading) (name file : List ℕ) (at spot : Spot) (path : List ℕ) (fault : GraphFault) → name ≡ file → at ≡ spot
-    → AnswersText before after old held (record { file = name; spot = at }) path (Err fault) → AnswersText before after old held (record { file = file; spot = spot }) path (Err fault)
-answers-named before after old held name file at spot path fault is there answers =
-    subst (λ f. AnswersText before after old held (record { file = f; spot = spot }) path (Err fault)) is
-    (subst (λ s. AnswersText before after old held (record { file = name; spot = s }) path (Err fault)) there answers)
+pub outcomes-named : (before after : SourceState) (old held : List Reading) (name file : List ℕ) (at spot : Spot) (path : List ℕ) (fault : GraphFault) → name ≡ file → at ≡ spot
+    → ReturnsText before after old held (record { file = name; spot = at }) path (Err fault) → ReturnsText before after old held (record { file = file; spot = spot }) path (Err fault)
+outcomes-named before after old held name file at spot path fault is there outcomes =
+    subst (λ f. ReturnsText before after old held (record { file = f; spot = spot }) path (Err fault)) is
+    (subst (λ s. ReturnsText before after old held (record { file = name; spot = s }) path (Err fault)) there outcomes)
 
 module _ (before after : SourceState) (old held : List Reading) (path : List ℕ) (once : EachPathOnce old) where
   -- the path was known, or was read now
@@ -78,31 +78,31 @@ module _ (before after : SourceState) (old held : List Reading) (path : List ℕ
   )
 
   -- what is in the table then
-  opened-holds : (found : Option (RcSlice ℕ Global)) → table.OpensFile before after old held path (Ok found) → reading_of held path ≡ Some (record { path = path; bytes = shared_bytes found })
-  opened-holds found opens =
+  opened-has : (found : Option (RcSlice ℕ Global)) → table.OpensFile before after old held path (Ok found) → reading_of held path ≡ Some (record { path = path; bytes = shared_bytes found })
+  opened-has found opens =
       reading-at path held (opened-is_read before after old held path found opens) ∙ ap (λ bytes. Some (record { path = path; bytes = bytes })) (sym (opened-found before after old held path found opens))
 
-  pub found-text : (place : Place) (text : RcSlice ℕ Global) → AnswersText before after old held place path (Ok text) → FindsText before after old held path (rc_slice_items text)
+  pub found-text : (place : Place) (text : RcSlice ℕ Global) → ReturnsText before after old held place path (Ok text) → FindsText before after old held path (rc_slice_items text)
   found-text place text opens = record {
     files = held;
     reads = (opened-reads (Some text) opens).0;
-    found = opened-holds (Some text) opens;
+    found = opened-has (Some text) opens;
     came_to = (opened-reads (Some text) opens).1;
   }
 
-  pub unfound : (place : Place) (fault : GraphFault) → AnswersText before after old held place path (Err fault)
+  pub unfound : (place : Place) (fault : GraphFault) → ReturnsText before after old held place path (Err fault)
       → HasNoMemory before after old path fault ⊎ (CannotTell before after old place path fault ⊎ FindsNone before after old place path fault)
-  unfound place fault (inl (answered, lacks)) = inl (lacks-room lacks.readings lacks.at_most_one lacks.read)
+  unfound place fault (inl (answered, lacks)) = inl (lacks-capacity lacks.readings lacks.at_most_one lacks.read)
     where
-      lacks-room : (readings : List Reading) → AtMostOneReading old path readings → HasRead before after readings → HasNoMemory before after old path fault
-      lacks-room [] one read = record {
+      lacks-capacity : (readings : List Reading) → AtMostOneReading old path readings → HasRead before after readings → HasNoMemory before after old path fault
+      lacks-capacity [] one read = record {
         files = old;
         reads = record { readings = []; added = sym (append-nil old); read = read; once = once };
         failures = lacks.failures;
         came_to = inl refl;
         answered = answered;
       }
-      lacks-room (r ∷ []) (same, new) read =
+      lacks-capacity (r ∷ []) (same, new) read =
           let readings : List Reading = old ++ record { path = path; bytes = r.bytes } ∷ [] in
           record {
             files = readings;
@@ -111,7 +111,7 @@ module _ (before after : SourceState) (old held : List Reading) (path : List ℕ
             came_to = inr (paths-one_more path r.bytes old new, is_read-push_new old (record { path = path; bytes = r.bytes }) new);
             answered = answered;
           }
-      lacks-room (r ∷ s ∷ others) one read = absurd one
+      lacks-capacity (r ∷ s ∷ others) one read = absurd one
   unfound place fault (inr (inl (answered, failed))) = inr (inl (record {
     reads = record { readings = []; added = sym (append-nil old); read = failed.read; once = once };
     failures = failed.failures;
@@ -122,7 +122,7 @@ module _ (before after : SourceState) (old held : List Reading) (path : List ℕ
     files = held;
     reads = (opened-reads None opens).0.reads;
     failures = (opened-reads None opens).0.failures;
-    found = opened-holds None opens;
+    found = opened-has None opens;
     came_to = (opened-reads None opens).1;
     answered = answered;
   }))

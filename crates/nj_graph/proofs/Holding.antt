@@ -20,23 +20,23 @@ use Rattle.nj_graph.specs.declared.reader.Reader.{Reader}
 use Rattle.nj_faults.specs.declared.fault.Cause.TheVariants.{BadDepth, DuplicateRule, DuplicatePool}
 use Rattle.nj_faults.specs.Faults.{fault_at}
 use Rattle.nj_graph.specs.Reading.{entry_at, expanded_in, fault_if, rule_fault, depth_fault, pool_fault, own_fault, path_named, with_all_new, paths_read}
-use Rattle.nj_statements.specs.Answers.{HoldsEdges, ReadsStatement, entry_at_place}
+use Rattle.nj_statements.specs.Answers.{HasEdges, ReadsStatement, entry_at_place}
 use Rattle.nj_graph.specs.Graph.{IsOpenScope}
 use Rattle.nj_graph.specs.Origins.{place_text, depth_of}
 use Rattle.nj_graph.specs.Inside.OriginsHeld.{origins_with}
 use Rattle.nj_graph.proofs.OpenScopes.{open-next}
-use Rattle.nj_graph.specs.Inside.ReaderContracts.{Holds, Grows, Declares, site_of}
+use Rattle.nj_graph.specs.Inside.ReaderContracts.{Has, Grows, Declares, site_of}
 
 -- a statement that names no file
-pub holds-next : (main : List ℕ) (old held : Reader) (entries : List ReadStatement) (e : ReadStatement) → Holds main old entries → DeclaredBy held.declarations (e ∷ entries) → held.origins ≡ origins_with e entries old.origins → held.files ≡ old.files
-    → path_named e entries e.item ≡ [] → HoldsEdges held.building (e ∷ entries) → Grows old.declarations.scopes held.declarations.scopes → IsOpenScope old.declarations.scopes e.number e.around → Holds main held (e ∷ entries)
-holds-next main old held entries e holds follows origins files names edges grows inside = record {
+pub has-next : (main : List ℕ) (old held : Reader) (entries : List ReadStatement) (e : ReadStatement) → Has main old entries → DeclaredBy held.declarations (e ∷ entries) → held.origins ≡ origins_with e entries old.origins → held.files ≡ old.files
+    → path_named e entries e.item ≡ [] → HasEdges held.building (e ∷ entries) → Grows old.declarations.scopes held.declarations.scopes → IsOpenScope old.declarations.scopes e.number e.around → Has main held (e ∷ entries)
+has-next main old held entries e has follows origins files names edges grows inside = record {
   declares = follows;
   edges = edges;
-  scopes = open-next old.declarations.scopes held.declarations.scopes e entries grows inside holds.scopes;
-  origins = origins ∙ ap (origins_with e entries) holds.origins;
-  paths_are = ap paths_of files ∙ holds.paths_are ∙ ap (with_all_new (paths_read main entries)) (sym names);
-  once = subst EachPathOnce (sym files) holds.once;
+  scopes = open-next old.declarations.scopes held.declarations.scopes e entries grows inside has.scopes;
+  origins = origins ∙ ap (origins_with e entries) has.origins;
+  paths_are = ap paths_of files ∙ has.paths_are ∙ ap (with_all_new (paths_read main entries)) (sym names);
+  once = subst EachPathOnce (sym files) has.once;
 }
 
 fault-unless : (b : Bool) (fault : GraphFault) → true ≡ not b → fault_if b fault ≡ None
@@ -54,17 +54,17 @@ name-is-other true newer fault h = absurd (true≢false h)
 name-is-other false newer fault h = refl
 
 -- a rule that is new
-pub rule-new : (main : List ℕ) (held : Reader) (entries : List ReadStatement) (file : List ℕ) (number : ℕ) (name : NameText) → Holds main held entries
+pub rule-new : (main : List ℕ) (held : Reader) (entries : List ReadStatement) (file : List ℕ) (number : ℕ) (name : NameText) → Has main held entries
     → true ≡ not (is_declared (rule_at held.declarations.scopes number name.name) name.name) → rule_fault file number entries name ≡ None
-rule-new main held entries file number name holds new =
+rule-new main held entries file number name has new =
     fault-unless (is_declared (rules entries number name.name) name.name) (fault_at file name.spot (DuplicateRule name.name))
-    (new ∙ ap (λ r. not (is_declared r name.name)) (holds.declares.declared number name.name))
+    (new ∙ ap (λ r. not (is_declared r name.name)) (has.declares.declared number name.name))
 
 -- a pool that is new
-pub pool-new : (main : List ℕ) (held : Reader) (entries : List ReadStatement) (file scope : List ℕ) (name : NameText) (lines : List LineText) → Holds main held entries
+pub pool-new : (main : List ℕ) (held : Reader) (entries : List ReadStatement) (file scope : List ℕ) (name : NameText) (lines : List LineText) → Has main held entries
     → true ≡ not (is_pool held.declarations.pools name.name) → pool_fault file scope entries name lines ≡ depth_fault file scope entries lines
-pool-new main held entries file scope name lines holds new =
-    ap (λ f. option_or f (depth_fault file scope entries lines)) (fault-unless (is_pool (pools entries) name.name) (fault_at file name.spot (DuplicatePool name.name)) (new ∙ ap (λ ps. not (is_pool ps name.name)) holds.declares.pools))
+pool-new main held entries file scope name lines has new =
+    ap (λ f. option_or f (depth_fault file scope entries lines)) (fault-unless (is_pool (pools entries) name.name) (fault_at file name.spot (DuplicatePool name.name)) (new ∙ ap (λ ps. not (is_pool ps name.name)) has.declares.pools))
 
 -- ---- depths
 
@@ -84,13 +84,13 @@ expanded-kept e entries nothing scope word =
 pub depths-same : (file : List ℕ) (e : ReadStatement) (entries : List ReadStatement) → ((value : List ℕ → List ℕ) (x : List ℕ) → binds value e.item x ≡ None) → (scope : List ℕ) (lines : List LineText) → depth_fault file scope (e ∷ entries) lines ≡ depth_fault file scope entries lines
 depths-same file e entries nothing scope [] = refl
 depths-same file e entries nothing scope (l ∷ lines) =
-    ap (λ says. option_map told (cond (not (is_depth says)) (Some l) (find (λ m. not (is_depth (expanded_in scope (e ∷ entries) m.value))) lines))) (expanded-kept e entries nothing scope l.value)
+    ap (λ gives. option_map reported (cond (not (is_depth gives)) (Some l) (find (λ m. not (is_depth (expanded_in scope (e ∷ entries) m.value))) lines))) (expanded-kept e entries nothing scope l.value)
     ∙ by (not (is_depth (expanded_in scope entries l.value))) (depths-same file e entries nothing scope lines)
   where
-    told : LineText → GraphFault
-    told m = fault_at file m.spot BadDepth
+    reported : LineText → GraphFault
+    reported m = fault_at file m.spot BadDepth
 
-    by : (b : Bool) → depth_fault file scope (e ∷ entries) lines ≡ depth_fault file scope entries lines → option_map told (cond b (Some l) (find (λ m. not (is_depth (expanded_in scope (e ∷ entries) m.value))) lines)) ≡ option_map told (cond b (Some l) (find (λ m. not (is_depth (expanded_in scope entries m.value))) lines))
+    by : (b : Bool) → depth_fault file scope (e ∷ entries) lines ≡ depth_fault file scope entries lines → option_map reported (cond b (Some l) (find (λ m. not (is_depth (expanded_in scope (e ∷ entries) m.value))) lines)) ≡ option_map reported (cond b (Some l) (find (λ m. not (is_depth (expanded_in scope entries m.value))) lines))
     by true others = refl
     by false others = others
 
@@ -120,10 +120,10 @@ placed-text place file spot file_is spot_is =
     ap (λ (name : List ℕ). record { file = name; spot = place.spot }) file_is ∙ ap (λ (s : Spot). record { file = file; spot = s }) spot_is
 
 -- a statement by which the declarations stay, and the edges are those of one statement more
-pub built-declares : (main : List ℕ) (old held : Reader) (entries : List ReadStatement) (e : ReadStatement) (result : Result (Unit {0}) GraphFault) → Holds main old entries
+pub built-declares : (main : List ℕ) (old held : Reader) (entries : List ReadStatement) (e : ReadStatement) (result : Result (Unit {0}) GraphFault) → Has main old entries
     → DeclaredBy held.declarations (e ∷ entries) → held.origins ≡ origins_with e entries old.origins → held.files ≡ old.files → path_named e entries e.item ≡ []
     → Grows old.declarations.scopes held.declarations.scopes → IsOpenScope old.declarations.scopes e.number e.around
     → ReadsStatement held.building (own_fault e entries) e entries result → Declares main held e entries result
-built-declares main old held entries e (Ok done) holds follows origins files names grows inside reads =
-    (reads.0, holds-next main old held entries e holds follows origins files names reads.1 grows inside)
-built-declares main old held entries e (Err fault) holds follows origins files names grows inside reads = reads
+built-declares main old held entries e (Ok done) has follows origins files names grows inside reads =
+    (reads.0, has-next main old held entries e has follows origins files names reads.1 grows inside)
+built-declares main old held entries e (Err fault) has follows origins files names grows inside reads = reads

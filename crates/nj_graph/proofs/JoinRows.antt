@@ -10,7 +10,7 @@ use Rattle.nj_manifest.specs.LineSteps.{name_next, expect_sign, words_within, wo
 use Rattle.nj_manifest.specs.Statements.{equals_value}
 use Rattle.nj_manifest.specs.Openings.{opening}
 use Rattle.nj_manifest.specs.Dyndeps.{version_line, version_next, word_of_form, no_path, no_section, output_next, added_inputs, entry_line, restat_line, line_too_many, restat_block, entry_at, next_entry}
-use Rattle.nj_manifest.proofs.StatementRows.{on_texts, at}
+use Rattle.nj_manifest.proofs.StatementRows.{on_strings, at}
 use Rattle.nj_scope.specs.Readings.{Reading}
 use Rattle.nj_scope.specs.ReadingList.{bounds}
 use Rattle.nj_edge_env.specs.VariableCycles.{variable_cycle_of}
@@ -27,7 +27,7 @@ use Rattle.nj_graph.proofs.ReadingRows.{main_file, file, missing, read_of}
 
 -- what a row unfolds to compute on its files
 unfoldable pub on_dyndeps : ⊤
-unfolding on_texts value_of_digits is_utf8 chars encode_utf8 bounds clean_path_of without_leftmost_pair edges_read pending_read discover variable_cycle_of parsed_in statements_read opened_in main_read cut opening next_entry entry_at restat_block line_too_many restat_line entry_line added_inputs output_next no_section no_path word_of_form version_next version_line equals_value name_next expect_sign words_next words_within section_next entries_of entries_joined file_joined files_joined all_joined
+unfolding on_strings value_of_digits is_utf8 chars encode_utf8 bounds clean_path_of without_leftmost_pair edges_read pending_read discover variable_cycle_of parsed_in statements_read opened_in main_read cut opening next_entry entry_at restat_block line_too_many restat_line entry_line added_inputs output_next no_section no_path word_of_form version_next version_line equals_value name_next expect_sign words_next words_within section_next entries_of entries_joined file_joined files_joined all_joined
 on_dyndeps = tt
 
 -- ---- what a row shows
@@ -81,9 +81,9 @@ unfolding on_dyndeps
 accepted_paths = refl
 
 -- then no edge waits
-accepted_waits : pending_read (joined_by one_edge (codes "build o: dyndep\n")).read.entries ≡ []
+accepted_is_pending : pending_read (joined_by one_edge (codes "build o: dyndep\n")).read.entries ≡ []
 unfolding on_dyndeps
-accepted_waits = refl
+accepted_is_pending = refl
 
 -- ---- no file
 
@@ -92,13 +92,13 @@ unfolding on_dyndeps
 no_file = refl
 
 -- it is not in the table
-not_told : (joined_of one_edge []).read.end ≡ Lacking (codes "dd") (record { file = main_file; spot = at 1 1 })
+not_reported : (joined_of one_edge []).read.end ≡ Lacking (codes "dd") (record { file = main_file; spot = at 1 1 })
 unfolding on_dyndeps
-not_told = refl
+not_reported = refl
 
-not_told_paths : (joined_of one_edge []).paths ≡ codes "dd" ∷ []
+not_reported_paths : (joined_of one_edge []).paths ≡ codes "dd" ∷ []
 unfolding on_dyndeps
-not_told_paths = refl
+not_reported_paths = refl
 
 -- nor is it where the path is not UTF-8
 not_text : (joined_of (codes "build o: phony || " ++ 255 ∷ codes "\n  dyndep = " ++ 255 ∷ codes "\n") []).read.end ≡ Refused (fault_at main_file (at 1 1) PathNotText)

@@ -14,7 +14,7 @@ use Rattle.nj_statements.specs.Built.{EdgeDetail, detail_at, detail_of}
 use Rattle.nj_statements.specs.Answers.{Checks}
 use Rattle.nj_statements.specs.Joining.{lacking_fault}
 use Rattle.nj_statements.specs.JoiningHeld.{JoiningText}
-use Rattle.nj_graph.specs.Reading.{Refused, Lacking, ReadingText, end_by, with_new, stopped, answer_read, with_all_new}
+use Rattle.nj_graph.specs.Reading.{Refused, Lacking, ReadingText, end_by, with_new, stopped, outcome_read, with_all_new}
 use Rattle.nj_graph.specs.Joining.{statement_place, text_joined, path_asked, file_joined}
 use Rattle.nj_graph.specs.Inside.JoiningContracts.{TextJoined, TextRefused, FileJoined, FileStops, JoinsFile}
 use Rattle.nj_graph.proofs.Comes.{prefix-self, prefix-named}
@@ -33,13 +33,13 @@ module _ (stated joined : List ReadStatement) (p : Pending) where
   abbrev reads : (text : List ℕ) → ReadingText
   reads text = text_joined p.file stated text joined
 
-  named : is_utf8 p.file ≡ true → (all : List Reading) → file_joined all stated p joined ≡ answer_read p.file at_statement joined reads (reading_of all p.file)
+  named : is_utf8 p.file ≡ true → (all : List Reading) → file_joined all stated p joined ≡ outcome_read p.file at_statement joined reads (reading_of all p.file)
   unfolding file_joined
-  named utf8 all = ap (λ b. cond b (answer_read p.file at_statement joined reads (reading_of all p.file)) (stopped joined at_statement PathNotText)) utf8
+  named utf8 all = ap (λ b. cond b (outcome_read p.file at_statement joined reads (reading_of all p.file)) (stopped joined at_statement PathNotText)) utf8
 
   not-named : is_utf8 p.file ≡ false → (all : List Reading) → file_joined all stated p joined ≡ stopped joined at_statement PathNotText
   unfolding file_joined
-  not-named bad all = ap (λ b. cond b (answer_read p.file at_statement joined reads (reading_of all p.file)) (stopped joined at_statement PathNotText)) bad
+  not-named bad all = ap (λ b. cond b (outcome_read p.file at_statement joined reads (reading_of all p.file)) (stopped joined at_statement PathNotText)) bad
 
   comes : (old : List Reading) → is_utf8 p.file ≡ true → with_all_new (paths_of old) (path_asked p) ≡ with_new (paths_of old) p.file
   comes old utf8 = ap (with_all_new (paths_of old)) (asked-named p utf8)
@@ -96,7 +96,7 @@ module _ (stated joined : List ReadStatement) (p : Pending) where
         now = joined;
         end = Lacking p.file at_statement;
         answered = (h.answered, h.failures);
-        joins = λ all ext lacks. named utf8 all ∙ ap (λ r. answer_read p.file at_statement joined reads r) (absent (reading_of all p.file) lacks);
+        joins = λ all ext lacks. named utf8 all ∙ ap (λ r. outcome_read p.file at_statement joined reads r) (absent (reading_of all p.file) lacks);
         came_to = comes old utf8 ∙ with_new-other p.file old h.lacking;
       });
     }
@@ -109,7 +109,7 @@ module _ (stated joined : List ReadStatement) (p : Pending) where
         now = joined;
         end = Refused (record { place = Some at_statement; cause = Missing p.file });
         answered = (h.answered, h.failures);
-        joins = λ all ext lacks. named utf8 all ∙ ap (λ r. answer_read p.file at_statement joined reads r) (reading-kept p.file (record { path = p.file; bytes = None }) all h.files ext h.found);
+        joins = λ all ext lacks. named utf8 all ∙ ap (λ r. outcome_read p.file at_statement joined reads r) (reading-kept p.file (record { path = p.file; bytes = None }) all h.files ext h.found);
         came_to = comes old utf8 ∙ sym h.came_to;
       });
     }
@@ -124,7 +124,7 @@ module _ (stated joined : List ReadStatement) (p : Pending) where
 
     module _ (table : List Reading) (text : List ℕ) (found : FindsText before after old table p.file text) where
       is-text : (all : List Reading) → IsPrefix found.files all → file_joined all stated p joined ≡ text_joined p.file stated text joined
-      is-text all ext = named utf8 all ∙ ap (λ r. answer_read p.file at_statement joined reads r) (reading-kept p.file (record { path = p.file; bytes = Some text }) all found.files ext found.found)
+      is-text all ext = named utf8 all ∙ ap (λ r. outcome_read p.file at_statement joined reads r) (reading-kept p.file (record { path = p.file; bytes = Some text }) all found.files ext found.found)
 
       came : with_all_new (paths_of old) (path_asked p) ≡ paths_of found.files
       came = comes old utf8 ∙ sym found.came_to
@@ -146,9 +146,9 @@ module _ (stated joined : List ReadStatement) (p : Pending) where
 
       module _ (held : JoiningText) (t : TextJoined p.file stated text joined held) where
         -- an edge waits for it
-        stops-waiting : (fault : GraphFault) → IsFault (lacking_fault p.file t.now) fault → FileStops stated joined p before after old fault
-        stops-waiting fault (inl none) = stops-text fault (inl none)
-        stops-waiting fault (inr is) = stops-refused fault (record { now = t.now; joins = t.joins ∙ ap (λ f. record { entries = t.now; end = end_by f }) is })
+        stops-unjoined : (fault : GraphFault) → IsFault (lacking_fault p.file t.now) fault → FileStops stated joined p before after old fault
+        stops-unjoined fault (inl none) = stops-text fault (inl none)
+        stops-unjoined fault (inr is) = stops-refused fault (record { now = t.now; joins = t.joins ∙ ap (λ f. record { entries = t.now; end = end_by f }) is })
 
         joins-file : lacking_fault p.file t.now ≡ None → FileJoined stated joined p before after old table held
         joins-file none = record {
@@ -156,10 +156,10 @@ module _ (stated joined : List ReadStatement) (p : Pending) where
           reads = found.reads;
           came_to = came;
           now = t.now;
-          holds = t.holds;
+          has = t.has;
           joins = λ all ext. is-text all ext ∙ t.joins ∙ ap (λ f. record { entries = t.now; end = end_by f }) none;
         }
 
         pub ends-file : (result : Result (Unit {0}) GraphFault) → Checks (lacking_fault p.file t.now) result → JoinsFile stated joined p before after old table held result
         ends-file (Ok done) h = joins-file h
-        ends-file (Err fault) h = stops-waiting fault h
+        ends-file (Err fault) h = stops-unjoined fault h

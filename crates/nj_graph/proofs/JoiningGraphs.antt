@@ -27,7 +27,7 @@ use Rattle.nj_graph.specs.Inside.JoiningContracts.{FilesJoined, FilesStop}
 use Rattle.nj_graph.proofs.Comes.{prefix-self, prefix-named}
 use Rattle.nj_graph.proofs.Tables.{read-nothing}
 use Rattle.nj_graph.proofs.OriginLemmas.{origins-discover}
-use Rattle.nj_graph.proofs.JoiningWaits.{kept-by-all, none-waits, nothing-joined}
+use Rattle.nj_graph.proofs.JoiningPending.{kept-by-all, none-unjoined, nothing-joined}
 
 -- ---- nothing is read
 
@@ -71,7 +71,7 @@ module _ (stated : List ReadStatement) (before after : SourceState) (old : List 
     whole = record { read = ap (λ (j : ReachedText). j.read) joins; came_to = ap (λ (j : ReachedText). with_all_new (paths_of old) j.paths) joins ∙ f.came_to; failures = f.reads.failures }
 
     pub none-pending-then : pending_read f.now ≡ []
-    none-pending-then = subst (λ (j : ReachedText). pending_read j.read.entries ≡ []) joins (none-waits f.files stated (ap (λ (j : ReachedText). j.read.end) joins))
+    none-pending-then = subst (λ (j : ReachedText). pending_read j.read.entries ≡ []) joins (none-unjoined f.files stated (ap (λ (j : ReachedText). j.read.end) joins))
 
     -- what stays of the statements
     stays : (P : List ReadStatement → Type 0) → ((edge : ℕ) (found : Discovered) (entries : List ReadStatement) → P entries → P (discover edge found entries)) → P stated → P f.now
@@ -120,7 +120,7 @@ module _ (stated : List ReadStatement) (before after : SourceState) (old : List 
       )
 
       details-same : built.details ≡ g.built.details
-      details-same = comes.0.details ∙ sym f.holds.details ∙ f.holds.stated_details ∙ sym is.built.details
+      details-same = comes.0.details ∙ sym f.has.details ∙ f.has.stated_details ∙ sym is.built.details
 
       -- and it holds what a graph holds
       pub joined-held : (numbers : List ℕ) → IsGraph g.declarations g.built numbers → IsGraph g.declarations built numbers

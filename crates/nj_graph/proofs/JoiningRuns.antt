@@ -7,11 +7,11 @@ use Rattle.nj_scope.specs.Sources.{SourceState, Rises}
 use Rattle.nj_faults.specs.declared.fault.GraphFault.{GraphFault}
 use Rattle.nj_statements.specs.EdgeList.{Pending, pending_read}
 use Rattle.nj_statements.specs.Joining.{dyndep_files}
-use Rattle.nj_statements.specs.JoiningHeld.{JoiningText, HoldsJoined}
+use Rattle.nj_statements.specs.JoiningHeld.{JoiningText, HasJoined}
 use Rattle.nj_graph.specs.Reading.{End, Whole, Refused, Lacking, ReadingText, with_all_new}
 use Rattle.nj_graph.specs.Runs.{IsRead, IsEnd, paths_with, ReachedText, Stops}
 use Rattle.nj_graph.specs.Inside.ReaderContracts.{ReadsAll}
-use Rattle.nj_graph.specs.Joining.{go_on, path_asked, file_joined, files_joined, all_joined, reached_after, joined_after}
+use Rattle.nj_graph.specs.Joining.{continued, path_asked, file_joined, files_joined, all_joined, reached_after, joined_after}
 use Rattle.nj_graph.specs.Inside.JoiningContracts.{FileJoined, FileLacksMemory, FileEnds, FileStops, FilesJoined, FilesStop}
 use Rattle.nj_graph.proofs.Comes.{prefix-then, prefix-named}
 use Rattle.nj_graph.proofs.Tables.{extends-trans, read-extends, reads-then, reads-all-nothing, reads-all-then}
@@ -35,7 +35,7 @@ end-before before mid after Whole fault same h = h
 end-before before mid after (Refused expected) fault same h = (h.0, h.1 ∙ same)
 end-before before mid after (Lacking path place) fault same h = (h.0, subst (λ n. Rises n after.failures) same h.1)
 
-stays : (end : End) (p : Pending) (entries : List ReadStatement) (others : List ReadStatement → ReachedText) → IsStopped end → go_on end p entries others ≡ record { read = record { entries = entries; end = end }; paths = path_asked p }
+stays : (end : End) (p : Pending) (entries : List ReadStatement) (others : List ReadStatement → ReachedText) → IsStopped end → continued end p entries others ≡ record { read = record { entries = entries; end = end }; paths = path_asked p }
 stays Whole p entries others h = absurd h
 stays (Refused fault) p entries others h = refl
 stays (Lacking path place) p entries others h = refl
@@ -51,15 +51,15 @@ pub record FilesUnderway (stated : List ReadStatement) (before after : SourceSta
   pub files : List Reading
   pub reads : ReadsAll before after old files table
   pub now : List ReadStatement
-  pub holds : HoldsJoined held stated now
+  pub has : HasJoined held stated now
   pub paths : List (List ℕ)
   pub came_to : with_all_new (paths_of old) paths ≡ paths_of files
-  pub goes_on : (all : List Reading) → IsPrefix files all → all_joined all stated ≡ remainder paths (files_joined all stated left now)
+  pub continues : (all : List Reading) → IsPrefix files all → all_joined all stated ≡ remainder paths (files_joined all stated left now)
 
 module _ (stated : List ReadStatement) (before : SourceState) (old : List Reading) where
-  pub files-at-first : (held : JoiningText) → EachPathOnce old → HoldsJoined held stated stated → FilesUnderway stated before before old old held (dyndep_files (pending_read stated))
+  pub files-at-first : (held : JoiningText) → EachPathOnce old → HasJoined held stated stated → FilesUnderway stated before before old old held (dyndep_files (pending_read stated))
   unfolding all_joined
-  files-at-first held once holds = record { files = old; reads = reads-all-nothing before old once; now = stated; holds = holds; paths = []; came_to = refl; goes_on = λ all ext. refl }
+  files-at-first held once has = record { files = old; reads = reads-all-nothing before old once; now = stated; has = has; paths = []; came_to = refl; continues = λ all ext. refl }
 
   module _ (mid : SourceState) (table : List Reading) (held : JoiningText) where
     pub files-end : FilesUnderway stated before mid old table held [] → FilesJoined stated before mid old table held
@@ -68,17 +68,17 @@ module _ (stated : List ReadStatement) (before : SourceState) (old : List Readin
       files = u.files;
       reads = u.reads;
       now = u.now;
-      holds = u.holds;
+      has = u.has;
       paths = u.paths;
       came_to = u.came_to;
-      joins = λ all ext. u.goes_on all ext ∙ ap (λ ps. record { read = record { entries = u.now; end = Whole }; paths = ps }) (append-nil u.paths);
+      joins = λ all ext. u.continues all ext ∙ ap (λ ps. record { read = record { entries = u.now; end = Whole }; paths = ps }) (append-nil u.paths);
     }
 
     module _ (p : Pending) (others : List Pending) (u : FilesUnderway stated before mid old table held (p ∷ others)) where
       -- the next file
-      next : (all : List Reading) → IsPrefix u.files all → (r : ReadingText) → file_joined all stated p u.now ≡ r → all_joined all stated ≡ remainder u.paths (go_on r.end p r.entries (files_joined all stated others))
+      next : (all : List Reading) → IsPrefix u.files all → (r : ReadingText) → file_joined all stated p u.now ≡ r → all_joined all stated ≡ remainder u.paths (continued r.end p r.entries (files_joined all stated others))
       unfolding files_joined
-      next all ext r is = u.goes_on all ext ∙ ap (λ (x : ReadingText). remainder u.paths (go_on x.end p x.entries (files_joined all stated others))) is
+      next all ext r is = u.continues all ext ∙ ap (λ (x : ReadingText). remainder u.paths (continued x.end p x.entries (files_joined all stated others))) is
 
       came : with_all_new (paths_of old) (u.paths ++ path_asked p) ≡ with_all_new (paths_of u.files) (path_asked p)
       came = all_new-append (paths_of old) u.paths (path_asked p) ∙ ap (λ ps. with_all_new ps (path_asked p)) u.came_to
@@ -88,10 +88,10 @@ module _ (stated : List ReadStatement) (before : SourceState) (old : List Readin
         files = f.files;
         reads = reads-all-then before mid after old u.files f.files table later_table u.reads there;
         now = f.now;
-        holds = f.holds;
+        has = f.has;
         paths = u.paths ++ path_asked p;
         came_to = came ∙ subst (λ fs. with_all_new (paths_of fs) (path_asked p) ≡ paths_of f.files) u.reads.held_is f.came_to;
-        goes_on = λ all ext. next all (extends-trans all f.files u.files ext (read-extends mid after u.files f.files there.reads)) (record { entries = f.now; end = Whole }) (f.joins all ext)
+        continues = λ all ext. next all (extends-trans all f.files u.files ext (read-extends mid after u.files f.files there.reads)) (record { entries = f.now; end = Whole }) (f.joins all ext)
             ∙ ap (λ ps. record { read = (files_joined all stated others f.now).read; paths = ps }) (sym (append_assoc u.paths (path_asked p) (files_joined all stated others f.now).paths));
       }
         where
@@ -99,7 +99,7 @@ module _ (stated : List ReadStatement) (before : SourceState) (old : List Readin
           there = subst (λ fs. ReadsAll mid after fs f.files later_table) u.reads.held_is f.reads
 
       -- the paths begin with that of the file
-      first-asked : (end : End) (entries : List ReadStatement) (k : List ReadStatement → ReachedText) → (more : List (List ℕ)) × ((go_on end p entries k).paths ≡ path_asked p ++ more)
+      first-asked : (end : End) (entries : List ReadStatement) (k : List ReadStatement → ReachedText) → (more : List (List ℕ)) × ((continued end p entries k).paths ≡ path_asked p ++ more)
       first-asked Whole entries k = ((k entries).paths, refl)
       first-asked (Refused fault) entries k = ([], sym (append-nil (path_asked p)))
       first-asked (Lacking path place) entries k = ([], sym (append-nil (path_asked p)))

@@ -1,6 +1,6 @@
 pub mod Comes
 pub mod EdgeRules
-pub mod EdgeTexts
+pub mod EdgeStrings
 pub mod Faultless
 pub mod FirstPositions
 pub mod Found
@@ -11,8 +11,8 @@ pub mod JoiningFiles
 pub mod JoiningGraphs
 pub mod JoiningRuns
 pub mod JoiningTables
-pub mod JoiningTexts
-pub mod JoiningWaits
+pub mod JoiningStrings
+pub mod JoiningPending
 pub mod LaterBindings
 pub mod ListedLemmas
 pub mod MainFiles
@@ -33,5 +33,5 @@ pub mod Stated
 pub mod TargetLaws
 pub mod TargetRows
 pub mod Tables
-pub mod Told
+pub mod Compared
 pub mod Turns

@@ -9,7 +9,7 @@ use Rattle.std.proofs.lemmas.List.Sorted.{ranks_by}
 use Rattle.std.proofs.lemmas.Option.{slice_get-get_or}
 use Rattle.nj_scope.specs.Rules.{RuleText, phony_rule, rules_in}
 use Rattle.nj_graph.specs.Graph.{is_before, sorted_by, main_rules_of, name_of, rule_name}
-use Rattle.nj_graph.specs.Inside.GraphHeld.{HoldsMainRules}
+use Rattle.nj_graph.specs.Inside.GraphHeld.{HasMainRules}
 use Rattle.nj_graph.proofs.SortLemmas.{sorted_by-map, stable_sort-is}
 
 abbrev some_rule : RuleText → Option RuleText
@@ -46,7 +46,7 @@ module _ (rules : List RuleText) where
   abbrev by_name : Option RuleText → Option RuleText → Bool
   by_name r s = is_before (name_of r) (name_of s)
 
-  pub sorted-held : (numbers sorted : List ℕ) → map (slice_get rules) numbers ≡ map some_rule (rules_in rules 0) → IsSortedBy comes_before sorted → IsStableBy comes_before numbers sorted → HoldsMainRules rules sorted
+  pub sorted-held : (numbers sorted : List ℕ) → map (slice_get rules) numbers ≡ map some_rule (rules_in rules 0) → IsSortedBy comes_before sorted → IsStableBy comes_before numbers sorted → HasMainRules rules sorted
   unfolding main_rules_of
   sorted-held numbers sorted all up stable =
       ap (map (slice_get rules)) (stable_sort-is comes_before (ranks_by nat_list_cmp_total (rule_name rules)) numbers sorted up stable)

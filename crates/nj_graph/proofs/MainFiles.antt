@@ -12,12 +12,12 @@ use Rattle.nj_faults.specs.declared.fault.GraphFault.{GraphFault}
 use Rattle.nj_graph.specs.declared.reader.Reader.{Reader}
 use Rattle.nj_faults.specs.declared.fault.Cause.TheVariants.{Missing}
 use Rattle.nj_faults.specs.Faults.{no_memory}
-use Rattle.nj_graph.specs.Reading.{Refused, Lacking, ReadingText, opened_in, text_read, answer_read, most_within, main_site, main_place, main_read, with_new, paths_come_to}
-use Rattle.nj_graph.specs.Inside.ReaderContracts.{IsNew, Holds, ReadsAll, ReadsText, ReadsOrStops, StopsAt}
+use Rattle.nj_graph.specs.Reading.{Refused, Lacking, ReadingText, opened_in, text_read, outcome_read, most_within, main_site, main_place, main_read, with_new, paths_come_to}
+use Rattle.nj_graph.specs.Inside.ReaderContracts.{IsNew, Has, ReadsAll, ReadsText, ReadsOrStops, StopsAt}
 use Rattle.nj_cycles.specs.Cycles.{IsAcyclic}
 use Rattle.nj_edges.specs.Needs.{makers_of_inputs}
 use Rattle.nj_statements.specs.EdgeList.{edges_read, paths_of_edges}
-use Rattle.nj_statements.specs.Answers.{HoldsEdges}
+use Rattle.nj_statements.specs.Answers.{HasEdges}
 use Rattle.nj_statements.specs.Built.{BuiltText, IsBuiltOf, ComesTo, detail_of}
 use Rattle.nj_graph.specs.Origins.{main_of}
 use Rattle.nj_graph.specs.Graph.{IsOpenScope, HasRule, IsGraphOf}
@@ -66,7 +66,7 @@ module _ (main : List ℕ) (before after : SourceState) (fault : GraphFault) whe
     stops = inr (record {
       reached = reached_from main (record { entries = []; end = Lacking main (main_place main) });
       answered = (h.answered, h.failures);
-      read = λ all ext lacks. ap (λ r. reached_from main (answer_read main (main_place main) [] (λ t. text_read (opened_in all most_within) (main_site main) t []) r)) (none (reading_of all main) lacks);
+      read = λ all ext lacks. ap (λ r. reached_from main (outcome_read main (main_place main) [] (λ t. text_read (opened_in all most_within) (main_site main) t []) r)) (none (reading_of all main) lacks);
       came_to = itself main;
     });
   }
@@ -83,7 +83,7 @@ module _ (main : List ℕ) (before after : SourceState) (fault : GraphFault) whe
     stops = inr (record {
       reached = reached_from main (record { entries = []; end = Refused (record { place = Some (main_place main); cause = Missing main }) });
       answered = (h.answered, h.failures);
-      read = λ all ext lacks. ap (λ r. reached_from main (answer_read main (main_place main) [] (λ t. text_read (opened_in all most_within) (main_site main) t []) r)) (reading-kept main (record { path = main; bytes = None }) all h.files ext h.found);
+      read = λ all ext lacks. ap (λ r. reached_from main (outcome_read main (main_place main) [] (λ t. text_read (opened_in all most_within) (main_site main) t []) r)) (reading-kept main (record { path = main; bytes = None }) all h.files ext h.found);
       came_to = itself main ∙ sym h.came_to;
     });
   }
@@ -100,18 +100,18 @@ module _ (main : List ℕ) (before after : SourceState) (fault : GraphFault) whe
 -- ---- the main file is there
 
 -- its scope
-pub main-stands : (main : List ℕ) (held : Reader) → IsNew main held → IsOpenScope held.declarations.scopes 0 []
-main-stands main held new = record { within = outermost new.outermost; there = (rw new.declares.scopes (omega arith), tt) }
+pub main-placed : (main : List ℕ) (held : Reader) → IsNew main held → IsOpenScope held.declarations.scopes 0 []
+main-placed main held new = record { within = outermost new.outermost; there = (rw new.declares.scopes (omega arith), tt) }
 
 module _ (main : List ℕ) (before mid after : SourceState) (old opened held : Reader) (text : List ℕ) (new : IsNew main old) (found : FindsText before mid old.files opened.files main text) where
   is-text : (all : List Reading) → IsPrefix found.files all → main_read all main ≡ text_read (opened_in all most_within) (main_site main) text []
   unfolding main_read
-  is-text all ext = ap (λ r. answer_read main (main_place main) [] (λ t. text_read (opened_in all most_within) (main_site main) t []) r) (reading-kept main (record { path = main; bytes = Some text }) all found.files ext found.found)
+  is-text all ext = ap (λ r. outcome_read main (main_place main) [] (λ t. text_read (opened_in all most_within) (main_site main) t []) r) (reading-kept main (record { path = main; bytes = Some text }) all found.files ext found.found)
 
-  pub main-holds : opened.declarations ≡ old.declarations → opened.building ≡ old.building → opened.origins ≡ old.origins → Holds main opened []
-  main-holds declared building origins = record {
+  pub main-has : opened.declarations ≡ old.declarations → opened.building ≡ old.building → opened.origins ≡ old.origins → Has main opened []
+  main-has declared building origins = record {
     declares = subst (λ d. DeclaredBy d []) (sym declared) new.declares;
-    edges = subst (λ b. HoldsEdges b []) (sym building) new.edges;
+    edges = subst (λ b. HasEdges b []) (sym building) new.edges;
     scopes = tt;
     origins = origins ∙ new.origins;
     paths_are = ap paths_of found.reads.held_is ∙ found.came_to ∙ ap (λ fs. with_new (paths_of fs) main) new.files;
@@ -123,7 +123,7 @@ module _ (main : List ℕ) (before mid after : SourceState) (old opened held : R
     files = r.files;
     reads = reads-all-then before mid after old.files found.files r.files opened.files held.files found.reads there;
     entries = r.entries;
-    holds = r.holds;
+    has = r.has;
     read = λ all ext. is-text all (extends-trans all r.files found.files ext (read-extends mid after found.files r.files there.reads)) ∙ r.read all ext;
   }
     where
@@ -140,7 +140,7 @@ pub reads-memory : (main : List ℕ) (before after : SourceState) (old held : Re
 reads-memory main before after old held fault r none = record {
   files = r.files;
   reads = r.reads.reads;
-  stops = inl (record { answered = none; failures = r.reads.failures; came_to = λ all ext. ([], ap (paths_come_to main) (r.read all ext) ∙ sym r.holds.paths_are ∙ ap paths_of r.reads.held_is ∙ sym (append-nil (paths_of r.files))) });
+  stops = inl (record { answered = none; failures = r.reads.failures; came_to = λ all ext. ([], ap (paths_come_to main) (r.read all ext) ∙ sym r.has.paths_are ∙ ap paths_of r.reads.held_is ∙ sym (append-nil (paths_of r.files))) });
 }
 
 -- ---- all was read
@@ -149,18 +149,18 @@ module _ (main : List ℕ) (before after : SourceState) (old held : Reader) (r :
   is-whole : IsWhole before after r.files (main_reached main) r.entries
   is-whole = record {
     read = r.read r.files ([], sym (append-nil r.files));
-    came_to = ap (paths_come_to main) (r.read r.files ([], sym (append-nil r.files))) ∙ sym r.holds.paths_are ∙ ap paths_of r.reads.held_is;
+    came_to = ap (paths_come_to main) (r.read r.files ([], sym (append-nil r.files))) ∙ sym r.has.paths_are ∙ ap paths_of r.reads.held_is;
     failures = r.reads.failures;
   }
 
   -- each edge has a rule, since no statement has a fault
   has-rules : AllByRecursion (HasRule held.declarations.rules) (edges_read r.entries)
-  has-rules = subst (λ rules. AllByRecursion (HasRule rules) (edges_read r.entries)) (sym r.holds.declares.rules) (edges-have r.entries (subst (λ (x : ReadingText). Faultless x.entries) is-whole.read (read_is_faultless r.files main)))
+  has-rules = subst (λ rules. AllByRecursion (HasRule rules) (edges_read r.entries)) (sym r.has.declares.rules) (edges-have r.entries (subst (λ (x : ReadingText). Faultless x.entries) is-whole.read (read_is_faultless r.files main)))
 
   -- its scope and its rule are there
   pub details-known : (built : BuiltText) → IsBuiltOf built r.entries → AllByRecursion (IsKnown held.declarations) built.details
   details-known built is =
-      subst (AllByRecursion (IsKnown held.declarations)) (sym is.details) (known-details held.declarations (edges_read r.entries) (edges-open held.declarations.scopes r.entries r.holds.scopes) has-rules)
+      subst (AllByRecursion (IsKnown held.declarations)) (sym is.details) (known-details held.declarations (edges_read r.entries) (edges-open held.declarations.scopes r.entries r.has.scopes) has-rules)
 
   pub details-count : (built : BuiltText) → IsBuiltOf built r.entries → length built.details ≡ length built.graph.edges
   details-count built is =
@@ -177,19 +177,19 @@ module _ (main : List ℕ) (before after : SourceState) (old held : Reader) (r :
       entries = r.entries;
       whole = is-whole;
       graph_is = subst (λ g. IsGraphOf g r.entries) (sym same_graph) (record {
-        declares = r.holds.declares;
-        scopes = r.holds.scopes;
+        declares = r.has.declares;
+        scopes = r.has.scopes;
         built = comes.0;
         rules = has-rules;
         acyclic = subst (λ es. IsAcyclic (makers_of_inputs es) (length es)) (sym comes.0.paths) (subst (λ n. IsAcyclic (makers_of_inputs (paths_of_edges (edges_read r.entries))) n) (sym (length-map (edges_read r.entries) (λ e. e.paths))) comes.1);
-        origins = origins-of_main held.origins main r.entries r.holds.origins;
+        origins = origins-of_main held.origins main r.entries r.has.origins;
       });
     },
   )
 
   -- the main file is that of the run
   pub main-is : main_of held.origins ≡ main
-  main-is = ap main_of r.holds.origins ∙ main-named main r.entries
+  main-is = ap main_of r.has.origins ∙ main-named main r.entries
 
   -- and the edges could not be finished
   pub built-fault : (fault : GraphFault) → old.files ≡ [] → ComesTo r.entries (Err fault) → Loads main before after (Err fault)

@@ -9,7 +9,7 @@ use Rattle.std.proofs.lemmas.List.Elements.{All-contains, All-filter, All-contai
 use Rattle.std.proofs.lemmas.List.Sorted.{IsPermutation-refl, IsPermutation-cons, IsPermutation-trans, IsPermutation-sym, IsPermutation-middle, Contains-permutation}
 use Rattle.std.proofs.lemmas.Map.Text.{is_eq-slice_cmp}
 use Rattle.nj_scope.specs.Rules.{RuleText, rules_in, rule_names}
-use Rattle.nj_scope.specs.ReadingList.{ReadStatement, rule_texts}
+use Rattle.nj_scope.specs.ReadingList.{ReadStatement, rules_read}
 use Rattle.nj_scope.proofs.NewRules.{EachRuleIsNew}
 use Rattle.nj_scope.proofs.RuleNames.{names-distinct}
 use Rattle.nj_graph.specs.Graph.{insert_by, sorted_by, is_before, main_rules_of, NamesRise, ListsMainRules}
@@ -47,8 +47,8 @@ unfolding main_rules_of
 names_rise rules distinct = subst (IsStrictlySortedBy order) (sym (sorted_by-map (λ r. r.name) is_before (rules_in rules 0))) (strict-sorted (rule_names rules 0) distinct)
 
 -- they rise in a reading in which each rule was new as it was declared
-pub names_rise-read : (entries : List ReadStatement) → EachRuleIsNew entries → IsStrictlySortedBy (slice_cmp nat_cmp) (map (λ r. r.name) (main_rules_of (rule_texts entries)))
-names_rise-read entries new = names_rise (rule_texts entries) (names-distinct entries new 0)
+pub names_rise-read : (entries : List ReadStatement) → EachRuleIsNew entries → IsStrictlySortedBy (slice_cmp nat_cmp) (map (λ r. r.name) (main_rules_of (rules_read entries)))
+names_rise-read entries new = names_rise (rules_read entries) (names-distinct entries new 0)
 
 -- ---- which they are
 

@@ -23,16 +23,16 @@ use Rattle.nj_graph.specs.Reading.{Site, entry_at, expanded_in, place_at, path_f
 use Rattle.nj_graph.specs.Inside.ReaderContracts.{site_scope}
 use Rattle.nj_edges.specs.Edges.{EdgePaths}
 use Rattle.nj_faults.specs.declared.fault.Cause.TheVariants.{RuleVariableCycle}
-use Rattle.nj_statements.specs.EdgeList.{Values, EdgeText, path_said, line_values, edges_read, paths_of_edges, edge_of_build, names_of_edge}
+use Rattle.nj_statements.specs.EdgeList.{Values, EdgeText, path_given, line_values, edges_read, paths_of_edges, edge_of_build, names_of_edge}
 use Rattle.nj_statements.specs.BuildFaults.{first_fault, empty_path, unknown_rule, two_makers, outputs_fault, paths_fault, variable_cycle_fault, late_fault, target_fault}
-use Rattle.nj_statements.specs.Answers.{HoldsEdges}
-use Rattle.nj_statements.proofs.Holding.{names_files, holds-other}
+use Rattle.nj_statements.specs.Answers.{HasEdges}
+use Rattle.nj_statements.proofs.Holding.{names_files, kept-other}
 use Rattle.nj_graph.specs.Runs.{IsRead, Stops}
 use Rattle.nj_graph.specs.Loads.{reached_from}
 use Rattle.nj_graph.specs.Graph.{IsOpenScope}
 use Rattle.nj_graph.specs.Origins.{OriginsText, place_of}
 use Rattle.nj_graph.specs.Inside.OriginsHeld.{origins_with}
-use Rattle.nj_graph.specs.Inside.ReaderContracts.{named_item, named_site, site_of, EntersScope, Holds, Grows, IsOpenIn, ReadsOne, StopsAt, OpensText, OpensNamed}
+use Rattle.nj_graph.specs.Inside.ReaderContracts.{named_item, named_site, site_of, EntersScope, Has, Grows, IsOpenIn, ReadsOne, StopsAt, OpensText, OpensNamed}
 use Rattle.nj_graph.proofs.Comes.{item-comes, statements-come}
 use Rattle.nj_graph.proofs.Tables.{read-nothing}
 use Rattle.nj_graph.proofs.OpenScopes.{open-grown, open-next}
@@ -72,7 +72,7 @@ outputs-name file values edges left [] = λ fault h. absurd cc
 outputs-name file values edges left (word ∷ words) =
     or-names (option_or (empty_path file values word) (two_makers file values edges left word)) _
     (or-names (empty_path file values word) _ (empty-names file values word) (if-names _ file word.spot _ refl))
-    (outputs-name file values edges (left ++ path_said values word ∷ []) words)
+    (outputs-name file values edges (left ++ path_given values word ∷ []) words)
 
 paths-name : (file : List ℕ) (values : Values) (edges : List EdgePaths) (outputs : OutputsText) (inputs : InputsText) → NamesNone (paths_fault file values edges outputs inputs)
 paths-name file values edges outputs inputs =
@@ -172,9 +172,9 @@ stops-same main before after old first second fault same s = record { files = s.
     by (inl m) = inl (record { answered = m.answered; failures = m.failures; came_to = λ all e. subst (λ r. IsPrefix (paths_of s.files) (paths_come_to main r)) (sym (same all)) (m.came_to all e) })
     by (inr e) = inr (record { reached = e.reached; answered = e.answered; read = λ all ext lacks. ap (reached_from main) (same all) ∙ e.read all ext lacks; came_to = e.came_to })
 
-module _ (main : List ℕ) (before after : SourceState) (old : Reader) (entries : List ReadStatement) (holds : Holds main old entries) (same : after ≡ before) where
+module _ (main : List ℕ) (before after : SourceState) (old : Reader) (entries : List ReadStatement) (has : Has main old entries) (same : after ≡ before) where
   read-no_more : IsRead before after old.files old.files
-  read-no_more = subst (λ source. IsRead before source old.files old.files) (sym same) (read-nothing before old.files holds.once)
+  read-no_more = subst (λ source. IsRead before source old.files old.files) (sym same) (read-nothing before old.files has.once)
 
   -- there was no memory, and nothing more was read
   pub stops-memory : (reading : List Reading → ReadingText) (fault : GraphFault) → ((all : List Reading) → IsPrefix (paths_read main entries) (paths_come_to main (reading all))) → fault ≡ no_memory
@@ -182,50 +182,50 @@ module _ (main : List ℕ) (before after : SourceState) (old : Reader) (entries 
   stops-memory reading fault comes none = record {
     files = old.files;
     reads = read-no_more;
-    stops = inl (record { answered = none; failures = ap (λ source. source.failures) same; came_to = λ all e. subst (λ ps. IsPrefix ps (paths_come_to main (reading all))) (sym holds.paths_are) (comes all) });
+    stops = inl (record { answered = none; failures = ap (λ source. source.failures) same; came_to = λ all e. subst (λ ps. IsPrefix ps (paths_come_to main (reading all))) (sym has.paths_are) (comes all) });
   }
 
   -- a fault before which nothing more was read
   pub stops-refused : (reading : List Reading → ReadingText) (fault : GraphFault) (expected : GraphFault) → ((all : List Reading) → reading all ≡ record { entries = entries; end = Refused expected }) → path_at_fault expected.cause ≡ [] → fault ≡ expected
       → StopsAt main before after old.files reading fault
-  stops-refused reading fault expected is none told = record {
+  stops-refused reading fault expected is none reported = record {
     files = old.files;
     reads = read-no_more;
-    stops = inr (record { reached = reached_from main (record { entries = entries; end = Refused expected }); answered = (told, ap (λ source. source.failures) same); read = λ all e lacks. ap (reached_from main) (is all); came_to = ap (with_all_new (paths_read main entries)) none ∙ sym holds.paths_are });
+    stops = inr (record { reached = reached_from main (record { entries = entries; end = Refused expected }); answered = (reported, ap (λ source. source.failures) same); read = λ all e lacks. ap (reached_from main) (is all); came_to = ap (with_all_new (paths_read main entries)) none ∙ sym has.paths_are });
   }
 
   -- a fault of a statement by itself
   pub stops-own : (left : ℕ) (e : ReadStatement) (fault : GraphFault) → IsFault (own_fault e entries) fault
       → StopsAt main before after old.files (λ all. statement_read (opened_in all left) e entries) fault
   stops-own left e fault (inl none) = stops-memory (λ all. statement_read (opened_in all left) e entries) fault (λ all. item-comes main all left e entries) none
-  stops-own left e fault (inr told) =
-      stops-refused (λ all. statement_read (opened_in all left) e entries) fault fault (λ all. ap (λ f. unless_fault f entries (item_read (opened_in all left) e entries e.item)) told)
-      (item-names e entries e.item fault told) refl
+  stops-own left e fault (inr reported) =
+      stops-refused (λ all. statement_read (opened_in all left) e entries) fault fault (λ all. ap (λ f. unless_fault f entries (item_read (opened_in all left) e entries e.item)) reported)
+      (item-names e entries e.item fault reported) refl
 
   -- the same where this is what the statement says
-  pub stops-item : (left : ℕ) (site : Site) (spot : Spot) (item said : StatementText) (fault : GraphFault) → item ≡ said
-      → IsFault (own_fault (entry_at site (record { spot = spot; item = said })) entries) fault
+  pub stops-item : (left : ℕ) (site : Site) (spot : Spot) (item meant : StatementText) (fault : GraphFault) → item ≡ meant
+      → IsFault (own_fault (entry_at site (record { spot = spot; item = meant })) entries) fault
       → StopsAt main before after old.files (λ all. statement_read (opened_in all left) (entry_at site (record { spot = spot; item = item })) entries) fault
-  stops-item left site spot item said fault is told =
+  stops-item left site spot item meant fault is reported =
       subst (λ i. StopsAt main before after old.files (λ all. statement_read (opened_in all left) (entry_at site (record { spot = spot; item = i })) entries) fault) (sym is)
-      (stops-own left (entry_at site (record { spot = spot; item = said })) fault told)
+      (stops-own left (entry_at site (record { spot = spot; item = meant })) fault reported)
 
 -- ---- a file that is named
 
 module _ (main : List ℕ) (before after : SourceState) (old mid held : Reader) (left : ℕ) (place : Place) (path : List ℕ) (e : ReadStatement) (entries : List ReadStatement) (text : List ℕ) where
-  pub opens-file : (inner : Site) → Holds main old entries → OpensText main before after old mid left place path entries text → held.files ≡ mid.files → held.origins ≡ origins_with e entries old.origins → held.building ≡ old.building → names_files e.item ≡ false → Grows old.declarations.scopes held.declarations.scopes → IsOpenScope old.declarations.scopes e.number e.around
+  pub opens-file : (inner : Site) → Has main old entries → OpensText main before after old mid left place path entries text → held.files ≡ mid.files → held.origins ≡ origins_with e entries old.origins → held.building ≡ old.building → names_files e.item ≡ false → Grows old.declarations.scopes held.declarations.scopes → IsOpenScope old.declarations.scopes e.number e.around
       → DeclaredBy held.declarations (e ∷ entries) → inner.file ≡ path → path_named e entries e.item ≡ path ∷ []
       → ((opens : Opens) → statement_read opens e entries ≡ opens inner place e entries)
       → OpensNamed main before after old held left inner text e entries
-  opens-file inner holds o files origins building builds grows inside declares is names read = record {
+  opens-file inner has o files origins building builds grows inside declares is names read = record {
     files = o.files;
     reads = record { reads = o.reads.reads; held_is = files ∙ o.reads.held_is; failures = o.reads.failures };
-    holds = record {
+    has = record {
       declares = declares;
-      edges = subst (λ b. HoldsEdges b (e ∷ entries)) (sym building) (holds-other old.building e entries builds holds.edges);
-      scopes = open-next old.declarations.scopes held.declarations.scopes e entries grows inside holds.scopes;
-      origins = origins ∙ ap (origins_with e entries) holds.origins;
-      paths_are = ap paths_of (files ∙ o.reads.held_is) ∙ o.came_to ∙ ap (λ ps. with_new ps path) holds.paths_are ∙ ap (with_all_new (paths_read main entries)) (sym names);
+      edges = subst (λ b. HasEdges b (e ∷ entries)) (sym building) (kept-other old.building e entries builds has.edges);
+      scopes = open-next old.declarations.scopes held.declarations.scopes e entries grows inside has.scopes;
+      origins = origins ∙ ap (origins_with e entries) has.origins;
+      paths_are = ap paths_of (files ∙ o.reads.held_is) ∙ o.came_to ∙ ap (λ ps. with_new ps path) has.paths_are ∙ ap (with_all_new (paths_read main entries)) (sym names);
       once = subst EachPathOnce (sym (files ∙ o.reads.held_is)) o.reads.reads.once;
     };
     within = o.within;
@@ -234,19 +234,19 @@ module _ (main : List ℕ) (before after : SourceState) (old mid held : Reader) 
   }
 
   -- there was no memory for the scope of a file that is open
-  pub stops-open : (inner : Site) (fault : GraphFault) → Holds main old entries → OpensText main before after old mid left place path entries text
+  pub stops-open : (inner : Site) (fault : GraphFault) → Has main old entries → OpensText main before after old mid left place path entries text
       → inner.file ≡ path → path_named e entries e.item ≡ path ∷ []
       → ((opens : Opens) → statement_read opens e entries ≡ opens inner place e entries)
       → fault ≡ no_memory
       → StopsAt main before after old.files (λ all. statement_read (opened_in all left) e entries) fault
-  stops-open inner fault holds o is names read none = record {
+  stops-open inner fault has o is names read none = record {
     files = o.files;
     reads = o.reads.reads;
     stops = inl (record { answered = none; failures = o.reads.failures; came_to = λ all ext. subst (λ r. IsPrefix (paths_of o.files) (paths_come_to main r)) (sym (read (opened_in all left) ∙ o.read inner e all is ext)) (comes all) });
   }
     where
       listed : paths_read main (e ∷ entries) ≡ paths_of o.files
-      listed = ap (with_all_new (paths_read main entries)) names ∙ ap (λ ps. with_new ps path) (sym holds.paths_are) ∙ sym o.came_to
+      listed = ap (with_all_new (paths_read main entries)) names ∙ ap (λ ps. with_new ps path) (sym has.paths_are) ∙ sym o.came_to
 
       comes : (all : List Reading) → IsPrefix (paths_of o.files) (paths_come_to main (text_read (opened_in all o.within) inner text (e ∷ entries)))
       comes all = subst (λ ps. IsPrefix ps (paths_come_to main (text_read (opened_in all o.within) inner text (e ∷ entries)))) listed (statements-come main all o.within inner _ _ (e ∷ entries))
@@ -254,11 +254,11 @@ module _ (main : List ℕ) (before after : SourceState) (old mid held : Reader) 
 -- ---- a statement that names none
 
 pub reads-one : (main : List ℕ) (source : SourceState) (old held : Reader) (e : ReadStatement) (entries : List ReadStatement)
-    → Holds main old entries → Holds main held (e ∷ entries) → own_fault e entries ≡ None → held.files ≡ old.files
+    → Has main old entries → Has main held (e ∷ entries) → own_fault e entries ≡ None → held.files ≡ old.files
     → ((opens : Opens) → item_read opens e entries e.item ≡ record { entries = e ∷ entries; end = Whole })
     → ReadsOne main source source old held e entries
-reads-one main source old held e entries holds after none files reads = record {
-  reads = record { reads = read-nothing source old.files holds.once; held_is = files; failures = refl };
-  holds = after;
+reads-one main source old held e entries has after none files reads = record {
+  reads = record { reads = read-nothing source old.files has.once; held_is = files; failures = refl };
+  has = after;
   read = λ opens. ap (λ f. unless_fault f entries (item_read opens e entries e.item)) none ∙ reads opens;
 }

@@ -24,9 +24,9 @@ still-there before after more [] there = tt
 still-there before after more (n ∷ ns) there = (omega (arith, more, there.0), still-there before after more ns there.1)
 
 pub open-grown : (before after : List ScopeText) (number : ℕ) (around : List ℕ) → Grows before after → IsOpenScope before number around → IsOpenScope after number around
-open-grown before after number around grows stands = record {
-  within = scope-kept (parent_at before) (parent_at after) (length before) grows.parents number (number ∷ around) stands.within stands.there;
-  there = still-there (length before) (length after) grows.count (number ∷ around) stands.there;
+open-grown before after number around grows comes = record {
+  within = scope-kept (parent_at before) (parent_at after) (length before) grows.parents number (number ∷ around) comes.within comes.there;
+  there = still-there (length before) (length after) grows.count (number ∷ around) comes.there;
 }
 
 -- the scopes in which statements stand

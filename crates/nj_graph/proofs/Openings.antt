@@ -13,8 +13,8 @@ use Rattle.nj_faults.specs.declared.fault.Place.{Place}
 use Rattle.nj_faults.specs.declared.fault.Cause.{Cause}
 use Rattle.nj_faults.specs.declared.fault.Cause.TheVariants.{Missing, TooDeep, TooManyOpenings}
 use Rattle.nj_faults.specs.Faults.{no_memory}
-use Rattle.nj_graph.specs.Reading.{Site, Lacking, most_opened, stopped, text_read, answer_read, if_room, opened_in, path_named, with_new, with_all_new, paths_read, path_at_fault, paths_come_to}
-use Rattle.nj_graph.specs.Inside.ReaderContracts.{StopsAt, AnswersText, OpensText, OpensPath}
+use Rattle.nj_graph.specs.Reading.{Site, Lacking, most_opened, stopped, text_read, outcome_read, if_capacity, opened_in, path_named, with_new, with_all_new, paths_read, path_at_fault, paths_come_to}
+use Rattle.nj_graph.specs.Inside.ReaderContracts.{StopsAt, ReturnsText, OpensText, OpensPath}
 use Rattle.nj_graph.specs.Runs.{IsRead}
 use Rattle.nj_graph.specs.Loads.{reached_from}
 use Rattle.nj_graph.proofs.Found.{FindsText, FindsNone, CannotTell, HasNoMemory, found-text, unfound}
@@ -35,13 +35,13 @@ module _ (all : List Reading) (inner : Site) (place : Place) (e : ReadStatement)
   module _ (within : ℕ) where
     opened-full : most_opened ≤ files_opened entries → opened_in all (suc within) inner place e entries ≡ stopped entries place TooManyOpenings
     unfolding opened_in
-    opened-full h = ap (λ room. if_room room (opened_in all within) all inner place e entries) (le-ltb (files_opened entries) most_opened h)
+    opened-full h = ap (λ capacity. if_capacity capacity (opened_in all within) all inner place e entries) (le-ltb (files_opened entries) most_opened h)
 
-    opened-answered : (answer : Option Reading) → files_opened entries < most_opened → reading_of all inner.file ≡ answer → opened_in all (suc within) inner place e entries ≡ answer_read inner.file place entries (λ t. text_read (opened_in all within) inner t (e ∷ entries)) answer
+    opened-answered : (outcome : Option Reading) → files_opened entries < most_opened → reading_of all inner.file ≡ outcome → opened_in all (suc within) inner place e entries ≡ outcome_read inner.file place entries (λ t. text_read (opened_in all within) inner t (e ∷ entries)) outcome
     unfolding opened_in
-    opened-answered answer h is =
-        ap (λ room. if_room room (opened_in all within) all inner place e entries) (lt-ltb (files_opened entries) most_opened h)
-        ∙ ap (answer_read inner.file place entries (λ t. text_read (opened_in all within) inner t (e ∷ entries))) is
+    opened-answered outcome h is =
+        ap (λ capacity. if_capacity capacity (opened_in all within) all inner place e entries) (lt-ltb (files_opened entries) most_opened h)
+        ∙ ap (outcome_read inner.file place entries (λ t. text_read (opened_in all within) inner t (e ∷ entries))) is
 
 -- ---- how a run stops there
 
@@ -57,10 +57,10 @@ module _ (main : List ℕ) (before after : SourceState) (old : List Reading) (pl
 
     names : (files : List Reading) → paths_of files ≡ with_new (paths_of old) path → (all : List Reading) (within : ℕ) (inner : Site) (e : ReadStatement) → inner.file ≡ path → path_named e entries e.item ≡ path ∷ [] → files_opened entries < most_opened
         → IsPrefix (paths_of files) (paths_come_to main (opened_in all (suc within) inner place e entries))
-    names files came_to all within inner e same named room =
+    names files came_to all within inner e same named capacity =
         subst (λ front. IsPrefix front (paths_come_to main (opened_in all (suc within) inner place e entries)))
         (ap (with_new (paths_read main entries)) same ∙ ap (λ before. with_new before path) (sym paths_are) ∙ sym came_to)
-        (opened-names main all within inner place e entries (named ∙ ap (λ p. p ∷ []) (sym same)) (lt-ltb (files_opened entries) most_opened room))
+        (opened-names main all within inner place e entries (named ∙ ap (λ p. p ∷ []) (sym same)) (lt-ltb (files_opened entries) most_opened capacity))
 
     -- there is no memory for the answer
     pub stops-lacking : (left : ℕ) → EachPathOnce old → after ≡ before → (f : GraphFault) → f ≡ no_memory → StopsHere left f
@@ -96,7 +96,7 @@ module _ (main : List ℕ) (before after : SourceState) (old : List Reading) (pl
       pub stops-full : most_opened ≤ files_opened entries → EachPathOnce old → after ≡ before → (f : GraphFault) → f ≡ record { place = Some place; cause = TooManyOpenings } → StopsHere left f
       stops-full full = stops-refused left TooManyOpenings (λ before. refl) (λ all inner e. at_left all inner e ∙ opened-full all inner place e entries within full)
 
-      module _ (room : files_opened entries < most_opened) where
+      module _ (capacity : files_opened entries < most_opened) where
         -- there was no memory to find the file
         stops-no_memory : (f : GraphFault) → HasNoMemory before after old path f → StopsHere left f
         stops-no_memory f lacks inner e same named = record {
@@ -107,7 +107,7 @@ module _ (main : List ℕ) (before after : SourceState) (old : List Reading) (pl
           where
             by_paths : (all : List Reading) → (paths_of lacks.files ≡ paths_of old) ⊎ ((paths_of lacks.files ≡ with_new (paths_of old) path) × (is_read lacks.files path ≡ true)) → IsPrefix (paths_of lacks.files) (paths_come_to main (opened_in all left inner place e entries))
             by_paths all (inl old_paths) = comes lacks.files old_paths all left inner e
-            by_paths all (inr new) = subst (λ n. IsPrefix (paths_of lacks.files) (paths_come_to main (opened_in all n inner place e entries))) (sym left_is) (names lacks.files new.0 all within inner e same named room)
+            by_paths all (inr new) = subst (λ n. IsPrefix (paths_of lacks.files) (paths_come_to main (opened_in all n inner place e entries))) (sym left_is) (names lacks.files new.0 all within inner e same named capacity)
 
         -- the source failed
         stops-cannot_tell : (f : GraphFault) → CannotTell before after old place path f → StopsHere left f
@@ -119,7 +119,7 @@ module _ (main : List ℕ) (before after : SourceState) (old : List Reading) (pl
             answered = (failed.answered, failed.failures);
             read = λ all is lacking.
                 ap (reached_from main) (at_left all inner e
-                ∙ opened-answered all inner place e entries within None room (ap (reading_of all) same ∙ absent (reading_of all path) lacking)
+                ∙ opened-answered all inner place e entries within None capacity (ap (reading_of all) same ∙ absent (reading_of all path) lacking)
                 ∙ ap (λ p. record { entries = entries; end = Lacking p place }) same);
             came_to = ap (λ before. with_new before path) (sym paths_are) ∙ with_new-other path old failed.lacking;
           });
@@ -135,7 +135,7 @@ module _ (main : List ℕ) (before after : SourceState) (old : List Reading) (pl
             answered = (none.answered, none.failures);
             read = λ all is lacking.
                 ap (reached_from main) (at_left all inner e
-                ∙ opened-answered all inner place e entries within _ room (ap (reading_of all) same ∙ reading-kept path _ all none.files is none.found)
+                ∙ opened-answered all inner place e entries within _ capacity (ap (reading_of all) same ∙ reading-kept path _ all none.files is none.found)
                 ∙ ap (λ p. stopped entries place (Missing p)) same);
             came_to = ap (λ before. with_new before path) (sym paths_are) ∙ sym none.came_to;
           });
@@ -150,7 +150,7 @@ module _ (main : List ℕ) (before after : SourceState) (old : List Reading) (pl
 
 pub opens-text : (main : List ℕ) (before after : SourceState) (old held : Reader) (left within : ℕ) (place : Place) (path : List ℕ) (entries : List ReadStatement) (text : List ℕ) → left ≡ suc within → files_opened entries < most_opened
     → FindsText before after old.files held.files path text → OpensText main before after old held left place path entries text
-opens-text main before after old held left within place path entries text left_is room found = record {
+opens-text main before after old held left within place path entries text left_is capacity found = record {
   files = found.files;
   reads = found.reads;
   came_to = found.came_to;
@@ -158,14 +158,14 @@ opens-text main before after old held left within place path entries text left_i
   left_is = left_is;
   read = λ inner e all same is.
       ap (λ n. opened_in all n inner place e entries) left_is
-      ∙ opened-answered all inner place e entries within _ room (ap (reading_of all) same ∙ reading-kept path _ all found.files is found.found);
+      ∙ opened-answered all inner place e entries within _ capacity (ap (reading_of all) same ∙ reading-kept path _ all found.files is found.found);
 }
 
 -- by the answer of the table
 pub opens-answered : (main : List ℕ) (before after : SourceState) (old held : Reader) (left within : ℕ) (place : Place) (path : List ℕ) (entries : List ReadStatement)
     → paths_of old.files ≡ paths_read main entries → left ≡ suc within → files_opened entries < most_opened → EachPathOnce old.files → (result : Result (RcSlice ℕ Global) GraphFault)
-    → AnswersText before after old.files held.files place path result → OpensPath main before after old held left place path entries result
-opens-answered main before after old held left within place path entries paths_are left_is room once (Ok text) answers =
-    opens-text main before after old held left within place path entries (rc_slice_items text) left_is room (found-text before after old.files held.files path once place text answers)
-opens-answered main before after old held left within place path entries paths_are left_is room once (Err fault) answers =
-    stops-unfound main before after old.files place path entries paths_are left within left_is room fault (unfound before after old.files held.files path once place fault answers)
+    → ReturnsText before after old.files held.files place path result → OpensPath main before after old held left place path entries result
+opens-answered main before after old held left within place path entries paths_are left_is capacity once (Ok text) outcomes =
+    opens-text main before after old held left within place path entries (rc_slice_items text) left_is capacity (found-text before after old.files held.files path once place text outcomes)
+opens-answered main before after old held left within place path entries paths_are left_is capacity once (Err fault) outcomes =
+    stops-unfound main before after old.files place path entries paths_are left within left_is capacity fault (unfound before after old.files held.files path once place fault outcomes)

@@ -118,7 +118,7 @@ module _ (names later : List (List ℕ)) (grows : IsPrefix names later) (rules :
       openings_named = named-grown.openings_named;
     }
 
-    module _ (file : FileNo) (path : List ℕ) (says : path_at later file ≡ path) (there : file.0 < length later) (scope : ℕ) where
+    module _ (file : FileNo) (path : List ℕ) (gives : path_at later file ≡ path) (there : file.0 < length later) (scope : ℕ) where
       abbrev opened : HeldOpening
       opened = record { file = file; named_at = Some p; scope = scope }
 
@@ -127,7 +127,7 @@ module _ (names later : List (List ℕ)) (grows : IsPrefix names later) (rules :
           ap (λ (os : List OpeningText). record { rules = None ∷ map (λ q. Some (place_held later q)) rules; pools = map (pool_held later) pools; openings = os }) (map-append (opening_held later) openings (opened ∷ []))
           ∙ ap (λ (o : OriginsText). record o { openings = o.openings ++ record { path = path_at later file; named_at = Some (place_held later p); scope = scope } ∷ [] }) origins-grown
           ∙ ap (λ (at : Place). record held { openings = held.openings ++ record { path = path_at later file; named_at = Some at; scope = scope } ∷ [] }) is
-          ∙ ap (λ (text : List ℕ). record held { openings = held.openings ++ record { path = text; named_at = Some place; scope = scope } ∷ [] }) says
+          ∙ ap (λ (text : List ℕ). record held { openings = held.openings ++ record { path = text; named_at = Some place; scope = scope } ∷ [] }) gives
 
       pub opening-named : AreNamed later rules pools (openings ++ opened ∷ [])
       opening-named = record {

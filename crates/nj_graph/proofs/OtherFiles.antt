@@ -8,7 +8,7 @@ use Rattle.nj_scope.specs.ReadingList.{ReadStatement, files_opened}
 use Rattle.nj_faults.specs.declared.fault.Place.{Place}
 use Rattle.nj_faults.specs.declared.fault.GraphFault.{GraphFault}
 use Rattle.nj_graph.specs.Parsed.{parsed}
-use Rattle.nj_graph.specs.Reading.{Site, entry_at, own_fault, End, Whole, Refused, Lacking, ReadingText, and_then, Opens, item_read, unless_fault, statement_read, statements_read, text_read, found_read, answer_read, if_room, most_opened, most_within, opened_in, main_site, main_read}
+use Rattle.nj_graph.specs.Reading.{Site, entry_at, own_fault, End, Whole, Refused, Lacking, ReadingText, and_then, Opens, item_read, unless_fault, statement_read, statements_read, text_read, found_read, outcome_read, if_capacity, most_opened, most_within, opened_in, main_site, main_read}
 use Rattle.nj_graph.specs.Runs.{IsLacking}
 use Rattle.nj_graph.specs.Laws.{OthersAreNotRead}
 use Rattle.nj_graph.proofs.Tables.{reading-kept}
@@ -58,9 +58,9 @@ statements-same all few more same site (s ∷ others) fault before =
     and_then-same all (statement_read few (entry_at site s) before) (statement_read more (entry_at site s) before) (λ entries. statements_read few site others fault entries) (λ entries. statements_read more site others fault entries)
     (statement-same all few more same (entry_at site s) before) (statements-same all few more same site others fault)
 
-answer-same : (files all : List table.Reading) (few more : Opens) → IsPrefix files all → SameOpens all few more → (site : Site) (place : Place) (entries before : List ReadStatement)
-    → SameReading all (answer_read site.file place before (λ t. text_read few site t entries) (reading_of files site.file)) (answer_read site.file place before (λ t. text_read more site t entries) (reading_of all site.file))
-answer-same files all few more extends same site place entries before = by (reading_of files site.file) refl
+outcome-same : (files all : List table.Reading) (few more : Opens) → IsPrefix files all → SameOpens all few more → (site : Site) (place : Place) (entries before : List ReadStatement)
+    → SameReading all (outcome_read site.file place before (λ t. text_read few site t entries) (reading_of files site.file)) (outcome_read site.file place before (λ t. text_read more site t entries) (reading_of all site.file))
+outcome-same files all few more extends same site place entries before = by (reading_of files site.file) refl
   where
     none : (r : Option table.Reading) → is_some r ≡ false → r ≡ None
     none None e = refl
@@ -70,20 +70,20 @@ answer-same files all few more extends same site place entries before = by (read
     found None = λ lacks. refl
     found (Some text) = statements-same all few more same site (parsed text).items (parsed text).fault entries
 
-    by : (r : Option table.Reading) → reading_of files site.file ≡ r → SameReading all (answer_read site.file place before (λ t. text_read few site t entries) r) (answer_read site.file place before (λ t. text_read more site t entries) (reading_of all site.file))
-    by None is = λ lacks. ap (λ r. answer_read site.file place before (λ t. text_read more site t entries) r) (none (reading_of all site.file) lacks)
-    by (Some r) is = λ lacks. ap (λ r. answer_read site.file place before (λ t. text_read more site t entries) r) (reading-kept site.file r all files extends is) ∙ found r.bytes lacks
+    by : (r : Option table.Reading) → reading_of files site.file ≡ r → SameReading all (outcome_read site.file place before (λ t. text_read few site t entries) r) (outcome_read site.file place before (λ t. text_read more site t entries) (reading_of all site.file))
+    by None is = λ lacks. ap (λ r. outcome_read site.file place before (λ t. text_read more site t entries) r) (none (reading_of all site.file) lacks)
+    by (Some r) is = λ lacks. ap (λ r. outcome_read site.file place before (λ t. text_read more site t entries) r) (reading-kept site.file r all files extends is) ∙ found r.bytes lacks
 
 opened-same : (files all : List table.Reading) → IsPrefix files all → (left : ℕ) → SameOpens all (opened_in files left) (opened_in all left)
 unfolding opened_in
 opened-same files all extends zero = λ site place e before lacks. refl
 opened-same files all extends (suc left) = λ site place e before. by site place e before (nat_lt (files_opened before) most_opened) (opened-same files all extends left)
   where
-    by : (site : Site) (place : Place) (e : ReadStatement) (before : List ReadStatement) (room : Bool) → SameOpens all (opened_in files left) (opened_in all left)
-        → SameReading all (if_room room (opened_in files left) files site place e before) (if_room room (opened_in all left) all site place e before)
+    by : (site : Site) (place : Place) (e : ReadStatement) (before : List ReadStatement) (capacity : Bool) → SameOpens all (opened_in files left) (opened_in all left)
+        → SameReading all (if_capacity capacity (opened_in files left) files site place e before) (if_capacity capacity (opened_in all left) all site place e before)
     by site place e before false same = λ lacks. refl
-    by site place e before true same = answer-same files all (opened_in files left) (opened_in all left) extends same site place (e ∷ before) before
+    by site place e before true same = outcome-same files all (opened_in files left) (opened_in all left) extends same site place (e ∷ before) before
 
 pub others_are_not_read : OthersAreNotRead
 unfolding main_read
-others_are_not_read files all main extends = answer-same files all (opened_in files most_within) (opened_in all most_within) extends (opened-same files all extends most_within) (main_site main) _ [] []
+others_are_not_read files all main extends = outcome-same files all (opened_in files most_within) (opened_in all most_within) extends (opened-same files all extends most_within) (main_site main) _ [] []

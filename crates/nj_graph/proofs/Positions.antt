@@ -12,8 +12,8 @@ module _ (part : List ℕ) where
   starts : (text : List ℕ) → OccursAt text part 0 → starts_with nat_eq text part ≡ true
   starts text occurs = (bytes_eq-Decides part (take (length part) text)).1 (sym (OccursAt-part text part 0 occurs))
 
-  stands : (text : List ℕ) → starts_with nat_eq text part ≡ true → OccursAt text part 0
-  stands text h =
+  comes : (text : List ℕ) → starts_with nat_eq text part ≡ true → OccursAt text part 0
+  comes text h =
       let same : part ≡ take (length part) text = (bytes_eq-Decides part (take (length part) text)).0 h in
       let wide = ap length same ∙ length-take (length part) text in
       OccursAt-from_part text part 0 (omega (arith, wide)) (sym same)
@@ -34,7 +34,7 @@ module _ (part : List ℕ) where
   by-start : (text : List ℕ) (r other : Option ℕ) → FindsNeedle text part 0 r → (starts_with nat_eq text part ≡ false → r ≡ other)
       → r ≡ (if starts_with nat_eq text part then Some 0 else other)
   by-start text r other h elsewhere =
-      ⊎_elim (λ t. at-start text r h (stands text t) ∙ sym (cond-true _ _ _ t)) (λ f. elsewhere f ∙ sym (cond-false _ _ _ f)) (cases_Bool (starts_with nat_eq text part))
+      ⊎_elim (λ t. at-start text r h (comes text t) ∙ sym (cond-true _ _ _ t)) (λ f. elsewhere f ∙ sym (cond-false _ _ _ f)) (cases_Bool (starts_with nat_eq text part))
 
   not-start : (text : List ℕ) → starts_with nat_eq text part ≡ false → OccursAt text part 0 → ⊥
   not-start text f occurs = false≢true (sym f ∙ starts text occurs)

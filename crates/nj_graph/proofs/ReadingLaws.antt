@@ -13,19 +13,19 @@ use Rattle.nj_faults.specs.declared.fault.GraphFault.{GraphFault}
 use Rattle.nj_faults.specs.declared.fault.Cause.TheVariants.{DuplicateRule}
 use Rattle.nj_faults.specs.Faults.{fault_at}
 use Rattle.nj_graph.specs.Parsed.{parsed}
-use Rattle.nj_graph.specs.Reading.{Site, entry_at, fault_if, item_fault, own_fault, End, Whole, Refused, Lacking, ReadingText, go_on, and_then, Opens, item_read, unless_fault, statement_read, statements_read, text_read, found_read, answer_read, if_room, most_opened, most_within, opened_in, main_site, main_read}
+use Rattle.nj_graph.specs.Reading.{Site, entry_at, fault_if, item_fault, own_fault, End, Whole, Refused, Lacking, ReadingText, continued, and_then, Opens, item_read, unless_fault, statement_read, statements_read, text_read, found_read, outcome_read, if_capacity, most_opened, most_within, opened_in, main_site, main_read}
 use Rattle.nj_graph.specs.Laws.{Faultless, ReadIsFaultless, OpenFilesAreBounded, OpeningsAreBounded, MainRulesRise}
 use Rattle.nj_graph.proofs.NameLemmas.{names_rise-read}
 
 -- there is room for a file that the statement names
-abbrev pub HasRoom : StatementText → (before : List ReadStatement) → Type 0
-HasRoom item before = opens_file item ≡ 1 → nat_lt (files_opened before) most_opened ≡ true
+abbrev pub HasCapacity : StatementText → (before : List ReadStatement) → Type 0
+HasCapacity item before = opens_file item ≡ 1 → nat_lt (files_opened before) most_opened ≡ true
 
 opens-none : ◌≡◌ {A = ℕ} 0 1 → ⊥
 opens-none e = omega (arith, e)
 
 -- What holds of no statement, and of one more that is read, holds of all that are read.
-module _ (P : List ReadStatement → Type 0) (next : (e : ReadStatement) (before : List ReadStatement) → P before → own_fault e before ≡ None → HasRoom e.item before → e.depth ≤ most_within → P (e ∷ before)) where
+module _ (P : List ReadStatement → Type 0) (next : (e : ReadStatement) (before : List ReadStatement) → P before → own_fault e before ≡ None → HasCapacity e.item before → e.depth ≤ most_within → P (e ∷ before)) where
   -- it holds where a file is opened within which so many more may be open, if it holds with the statement that opens it
   -- wherever there is room
   abbrev OpensKeep : (left : ℕ) → Opens → Type 0
@@ -47,8 +47,8 @@ module _ (P : List ReadStatement → Type 0) (next : (e : ReadStatement) (before
         by_item (PoolText name lines) is none = next e before p none (λ one. absurd (opens-none (ap opens_file (sym is) ∙ one))) within
         by_item (BuildText outputs rule inputs lines) is none = next e before p none (λ one. absurd (opens-none (ap opens_file (sym is) ∙ one))) within
         by_item (DefaultText words) is none = next e before p none (λ one. absurd (opens-none (ap opens_file (sym is) ∙ one))) within
-        by_item (IncludeText word) is none = keeps _ _ e before deeper p (λ room. next e before p none (λ one. room) within)
-        by_item (SubninjaText word) is none = keeps _ _ e before deeper p (λ room. next e before p none (λ one. room) within)
+        by_item (IncludeText word) is none = keeps _ _ e before deeper p (λ capacity. next e before p none (λ one. capacity) within)
+        by_item (SubninjaText word) is none = keeps _ _ e before deeper p (λ capacity. next e before p none (λ one. capacity) within)
 
         by : (f : Option GraphFault) → own_fault e before ≡ f → P (unless_fault f before (item_read opens e before e.item)).entries
         by (Some fault) is = p
@@ -62,14 +62,14 @@ module _ (P : List ReadStatement → Type 0) (next : (e : ReadStatement) (before
         by : (r : ReadingText) → P r.entries → ((before : List ReadStatement) → P before → P (statements_read opens site others fault before).entries) → P (and_then r (λ entries. statements_read opens site others fault entries)).entries
         by r q rest = by_end r.end
           where
-            by_end : (end : End) → P (go_on end r.entries (λ entries. statements_read opens site others fault entries)).entries
+            by_end : (end : End) → P (continued end r.entries (λ entries. statements_read opens site others fault entries)).entries
             by_end Whole = rest r.entries q
             by_end (Refused f) = q
             by_end (Lacking path place) = q
 
-    answer-keeps : (site : Site) (place : Place) (entries before : List ReadStatement) (r : Option table.Reading) → site.depth + left ≡ most_within → P entries → P before → P (answer_read site.file place before (λ t. text_read opens site t entries) r).entries
-    answer-keeps site place entries before None depth p q = q
-    answer-keeps site place entries before (Some r) depth p q = by r.bytes
+    outcome-keeps : (site : Site) (place : Place) (entries before : List ReadStatement) (r : Option table.Reading) → site.depth + left ≡ most_within → P entries → P before → P (outcome_read site.file place before (λ t. text_read opens site t entries) r).entries
+    outcome-keeps site place entries before None depth p q = q
+    outcome-keeps site place entries before (Some r) depth p q = by r.bytes
       where
         by : (text : Option (List ℕ)) → P (found_read site.file place before (λ t. text_read opens site t entries) text).entries
         by None = q
@@ -80,22 +80,22 @@ module _ (P : List ReadStatement → Type 0) (next : (e : ReadStatement) (before
   opened-keeps files zero = λ site place e before depth p q. p
   opened-keeps files (suc left) = λ site place e before depth p q. by site place e before (omega (arith, depth)) p (nat_lt (files_opened before) most_opened) q (opened-keeps files left)
     where
-      by : (site : Site) (place : Place) (e : ReadStatement) (before : List ReadStatement) → site.depth + left ≡ most_within → P before → (room : Bool) → (room ≡ true → P (e ∷ before)) → OpensKeep left (opened_in files left) → P (if_room room (opened_in files left) files site place e before).entries
+      by : (site : Site) (place : Place) (e : ReadStatement) (before : List ReadStatement) → site.depth + left ≡ most_within → P before → (capacity : Bool) → (capacity ≡ true → P (e ∷ before)) → OpensKeep left (opened_in files left) → P (if_capacity capacity (opened_in files left) files site place e before).entries
       by site place e before depth p false q keeps = p
-      by site place e before depth p true q keeps = answer-keeps left (opened_in files left) keeps site place (e ∷ before) before (reading_of files site.file) depth (q refl) p
+      by site place e before depth p true q keeps = outcome-keeps left (opened_in files left) keeps site place (e ∷ before) before (reading_of files site.file) depth (q refl) p
 
   pub reading-keeps : P [] → (files : List table.Reading) (main : List ℕ) → P (main_read files main).entries
   unfolding main_read
-  reading-keeps none files main = answer-keeps most_within (opened_in files most_within) (opened-keeps files most_within) (main_site main) _ [] [] (reading_of files main) refl none none
+  reading-keeps none files main = outcome-keeps most_within (opened_in files most_within) (opened-keeps files most_within) (main_site main) _ [] [] (reading_of files main) refl none none
 
 pub read_is_faultless : ReadIsFaultless
-read_is_faultless files main = reading-keeps Faultless (λ e before p none room depth. (none, p)) tt files main
+read_is_faultless files main = reading-keeps Faultless (λ e before p none capacity depth. (none, p)) tt files main
 
 pub open_files_are_bounded : OpenFilesAreBounded
-open_files_are_bounded files main = reading-keeps (λ entries. AllByRecursion (λ e. e.depth ≤ most_within) entries) (λ e before p none room depth. (depth, p)) tt files main
+open_files_are_bounded files main = reading-keeps (λ entries. AllByRecursion (λ e. e.depth ≤ most_within) entries) (λ e before p none capacity depth. (depth, p)) tt files main
 
 pub openings_are_bounded : OpeningsAreBounded
-openings_are_bounded files main = reading-keeps (λ entries. files_opened entries ≤ most_opened) (λ e before p none room depth. by before e.item p room (opens_file e.item) refl (opens_one e.item)) (omega arith) files main
+openings_are_bounded files main = reading-keeps (λ entries. files_opened entries ≤ most_opened) (λ e before p none capacity depth. by before e.item p capacity (opens_file e.item) refl (opens_one e.item)) (omega arith) files main
   where
     opens_one : (item : StatementText) → opens_file item ≤ 1
     opens_one (BindingText name value) = omega arith
@@ -106,10 +106,10 @@ openings_are_bounded files main = reading-keeps (λ entries. files_opened entrie
     opens_one (IncludeText word) = omega arith
     opens_one (SubninjaText word) = omega arith
 
-    by : (before : List ReadStatement) (item : StatementText) → files_opened before ≤ most_opened → HasRoom item before → (n : ℕ) → opens_file item ≡ n → n ≤ 1 → files_opened before + n ≤ most_opened
-    by before item p room zero e less = omega (arith, p)
-    by before item p room (suc zero) e less = omega (arith, ltb-true (files_opened before) most_opened (room e))
-    by before item p room (suc (suc n)) e less = absurd (omega (arith, less))
+    by : (before : List ReadStatement) (item : StatementText) → files_opened before ≤ most_opened → HasCapacity item before → (n : ℕ) → opens_file item ≡ n → n ≤ 1 → files_opened before + n ≤ most_opened
+    by before item p capacity zero e less = omega (arith, p)
+    by before item p capacity (suc zero) e less = omega (arith, ltb-true (files_opened before) most_opened (capacity e))
+    by before item p capacity (suc (suc n)) e less = absurd (omega (arith, less))
 
 -- ---- rules
 
@@ -129,4 +129,4 @@ rule-is-new e before (SubninjaText word) none = tt
 
 pub main_rules_rise : MainRulesRise
 main_rules_rise files main =
-    names_rise-read (main_read files main).entries (reading-keeps EachRuleIsNew (λ e before p none room depth. (rule-is-new e before e.item none, p)) tt files main)
+    names_rise-read (main_read files main).entries (reading-keeps EachRuleIsNew (λ e before p none capacity depth. (rule-is-new e before e.item none, p)) tt files main)

@@ -6,7 +6,7 @@ use Rattle.std.specs.Str.{chars, is_utf8}
 use Rattle.nj_text.specs.declared.spot.Spot.{Spot}
 use Rattle.nj_text.specs.Numbers.{value_of_digits}
 use Rattle.nj_manifest.specs.declared.fault.Wanted.TheVariants as wanted
-use Rattle.nj_manifest.proofs.StatementRows.{on_texts, at}
+use Rattle.nj_manifest.proofs.StatementRows.{on_strings, at}
 use Rattle.nj_scope.specs.Readings.{Reading}
 use Rattle.nj_scope.specs.ReadingList.{bounds}
 use Rattle.nj_text.specs.Paths.{clean_path_of, without_leftmost_pair}
@@ -20,7 +20,7 @@ use Rattle.nj_graph.specs.Reading.{Whole, Refused, Lacking, ReadingText, stateme
 
 -- what a row unfolds to compute on its files
 unfoldable pub on_files : ⊤
-unfolding on_texts value_of_digits is_utf8 chars encode_utf8 bounds clean_path_of without_leftmost_pair edges_read variable_cycle_of parsed_in statements_read opened_in main_read
+unfolding on_strings value_of_digits is_utf8 chars encode_utf8 bounds clean_path_of without_leftmost_pair edges_read variable_cycle_of parsed_in statements_read opened_in main_read
 on_files = tt
 
 -- ---- what a row shows
@@ -59,9 +59,9 @@ no_main_file : (main_read (missing main_file ∷ []) main_file).end ≡ Refused 
 unfolding on_files
 no_main_file = refl
 
-main_file_not_told : (main_read [] main_file).end ≡ Lacking main_file (record { file = main_file; spot = at 1 1 })
+main_file_not_reported : (main_read [] main_file).end ≡ Lacking main_file (record { file = main_file; spot = at 1 1 })
 unfolding on_files
-main_file_not_told = refl
+main_file_not_reported = refl
 
 -- ---- versions
 
@@ -166,9 +166,9 @@ file_not_there : refuses (codes "include x\n") (missing (codes "x") ∷ []) main
 unfolding on_files
 file_not_there = refl
 
-file_not_told : (read_of (codes "include x\n") []).end ≡ Lacking (codes "x") (record { file = main_file; spot = at 1 9 })
+file_not_reported : (read_of (codes "include x\n") []).end ≡ Lacking (codes "x") (record { file = main_file; spot = at 1 9 })
 unfolding on_files
-file_not_told = refl
+file_not_reported = refl
 
 empty_path : refuses_alone (codes "include $e\n") (at 1 9) EmptyPath
 unfolding on_files
@@ -198,14 +198,14 @@ abbrev chain : ℕ → List Reading
 chain zero = missing (codes "x") ∷ []
 chain (suc n) = file (name_remainder (suc n)) (codes "include " ++ name_remainder n) ∷ chain n
 
-missing_in_room : refuses (codes "include " ++ name_remainder 30) (chain 30) (codes "ax") (at 1 9) (Missing (codes "x"))
+missing_in_capacity : refuses (codes "include " ++ name_remainder 30) (chain 30) (codes "ax") (at 1 9) (Missing (codes "x"))
 unfolding on_files
-missing_in_room = refl
+missing_in_capacity = refl
 
 -- where 32 files are open, no other is looked for
-missing_without_room : refuses (codes "include " ++ name_remainder 31) (chain 31) (codes "ax") (at 1 9) TooDeep
+missing_without_capacity : refuses (codes "include " ++ name_remainder 31) (chain 31) (codes "ax") (at 1 9) TooDeep
 unfolding on_files
-missing_without_room = refl
+missing_without_capacity = refl
 
 -- ---- paths
 

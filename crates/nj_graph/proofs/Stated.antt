@@ -1,10 +1,10 @@
 -- What a graph holds of the statements whose graph it is.
 use Rattle.std.proofs.Common.{◌≡◌, ℕ, ◌<◌, unwrap_or, option_map, List, [], map, length, sym, ap, ◌∙◌}
-use Rattle.nj_scope.specs.ReadingList.{ReadStatement, rule_texts}
+use Rattle.nj_scope.specs.ReadingList.{ReadStatement, rules_read}
 use Rattle.nj_statements.specs.EdgeList.{edges_read, paths_of_edges}
 use Rattle.nj_statements.specs.Built.{detail_at, detail_of}
 use Rattle.nj_graph.specs.Graph.{GraphText, edges_of, IsGraphOf, rule_name, rule_name_of, rule_name_at}
-use Rattle.nj_graph.proofs.EdgeTexts.{there, detail-is}
+use Rattle.nj_graph.proofs.EdgeStrings.{there, detail-is}
 
 -- its edges
 pub graph-edges : {g : GraphText} {entries : List ReadStatement} → IsGraphOf g entries → edges_of g ≡ paths_of_edges (edges_read entries)
@@ -15,7 +15,7 @@ pub graph-details : {g : GraphText} {entries : List ReadStatement} → IsGraphOf
 graph-details is = is.built.details
 
 -- its rules
-pub graph-rules : {g : GraphText} {entries : List ReadStatement} → IsGraphOf g entries → g.declarations.rules ≡ rule_texts entries
+pub graph-rules : {g : GraphText} {entries : List ReadStatement} → IsGraphOf g entries → g.declarations.rules ≡ rules_read entries
 graph-rules is = is.declares.rules
 
 -- the name of the rule of an edge
@@ -23,5 +23,5 @@ pub graph-rule_name : {g : GraphText} {entries : List ReadStatement} → IsGraph
     → rule_name g.declarations.rules (detail_at g.built.details number).rule ≡ rule_name_at entries number
 graph-rule_name {g} {entries} is number below =
     ap (λ rules. rule_name rules (detail_at g.built.details number).rule) is.declares.rules
-    ∙ ap (λ d. rule_name (rule_texts entries) d.rule) (detail-is g entries is number below)
+    ∙ ap (λ d. rule_name (rules_read entries) d.rule) (detail-is g entries is number below)
     ∙ sym (ap (λ e. unwrap_or (option_map (rule_name_of entries) e) []) (there g entries is number below).1)

@@ -17,10 +17,10 @@ use Rattle.nj_graph.specs.declared.reader.Reader.{Reader}
 use Rattle.nj_faults.specs.Faults.{fault_in, no_memory}
 use Rattle.nj_graph.specs.Parsed.{Parsed, parsed_in, and_parsed}
 use Rattle.nj_graph.specs.Reading as reading
-use Rattle.nj_graph.specs.Reading.{Site, entry_at, End, Whole, Lacking, ReadingText, Opens, go_on, and_then, opened_in, statement_read, statements_read, text_read, with_all_new, paths_read, path_at_fault, paths_come_to}
+use Rattle.nj_graph.specs.Reading.{Site, entry_at, End, Whole, Lacking, ReadingText, Opens, continued, and_then, opened_in, statement_read, statements_read, text_read, with_all_new, paths_read, path_at_fault, paths_come_to}
 use Rattle.nj_graph.specs.Runs.{IsRead, IsEnd, ReachedText, Stops}
 use Rattle.nj_graph.specs.Loads.{reached_from}
-use Rattle.nj_graph.specs.Inside.ReaderContracts.{Holds, ReadsAll, ReadsOne, StopsAt, OpensNamed, ReadsText, ReadsOrStops, NextOf, NextIs}
+use Rattle.nj_graph.specs.Inside.ReaderContracts.{Has, ReadsAll, ReadsOne, StopsAt, OpensNamed, ReadsText, ReadsOrStops, NextOf, NextIs}
 use Rattle.nj_graph.proofs.Comes.{and_then-comes, statements-come}
 use Rattle.nj_graph.proofs.Tables.{extends-trans, read-extends, reads-then, reads-all-then}
 use Rattle.nj_graph.proofs.ParsedLemmas.{parsed-step, parsed-end, parsed-fault}
@@ -83,7 +83,7 @@ module _ (main : List ℕ) (before mid after : SourceState) (old opened held : R
     files = r.files;
     reads = reads-all-then before mid after old.files o.files r.files opened.files held.files o.reads (subst (λ fs. ReadsAll mid after fs r.files held.files) o.reads.held_is r.reads);
     entries = r.entries;
-    holds = r.holds;
+    has = r.has;
     read = λ all ext. is all (extends-trans all r.files o.files ext (read-extends mid after o.files r.files (subst (λ fs. IsRead mid after fs r.files) o.reads.held_is r.reads.reads))) ∙ r.read all ext;
   }
     where
@@ -110,7 +110,7 @@ one-read main before after old held left e entries r = record {
   files = old.files;
   reads = r.reads;
   entries = e ∷ entries;
-  holds = r.holds;
+  has = r.has;
   read = λ all ext. r.read (opened_in all left);
 }
 
@@ -125,10 +125,10 @@ pub record Underway (main : List ℕ) (before after : SourceState) (old held : R
   pub files : List Reading
   pub reads : ReadsAll before after old.files files held.files
   pub now : List ReadStatement
-  pub holds : Holds main held now
+  pub has : Has main held now
   pub most : ℕ
-  pub room : ahead lines < most
-  pub goes_on : (all : List Reading) → IsPrefix files all → text_read (opened_in all left) site text entries ≡ statements_read (opened_in all left) site (parsed_in next_statement most lines).items (parsed_in next_statement most lines).fault now
+  pub capacity : ahead lines < most
+  pub continues : (all : List Reading) → IsPrefix files all → text_read (opened_in all left) site text entries ≡ statements_read (opened_in all left) site (parsed_in next_statement most lines).items (parsed_in next_statement most lines).fault now
 
 module _ (main : List ℕ) (before after : SourceState) (old held : Reader) (left : ℕ) (site : Site) (text : List ℕ) (entries : List ReadStatement) (lines : List Line) where
   abbrev reading_of_text : List Reading → ReadingText
@@ -141,8 +141,8 @@ module _ (main : List ℕ) (before after : SourceState) (old held : Reader) (lef
     files = u.files;
     reads = u.reads;
     entries = u.now;
-    holds = u.holds;
-    read = λ all ext. u.goes_on all ext ∙ ap (λ (s : Parsed PlacedText). statements_read (opened_in all left) site s.items s.fault u.now) (parsed-end next_statement u.most lines rest h);
+    has = u.has;
+    read = λ all ext. u.continues all ext ∙ ap (λ (s : Parsed PlacedText). statements_read (opened_in all left) site s.items s.fault u.now) (parsed-end next_statement u.most lines rest h);
   }
 
   -- there was no memory for the next statement
@@ -150,24 +150,24 @@ module _ (main : List ℕ) (before after : SourceState) (old held : Reader) (lef
   ends-memory fault u none = record {
     files = u.files;
     reads = u.reads.reads;
-    stops = inl (record { answered = none; failures = u.reads.failures; came_to = λ all ext. subst (λ r. IsPrefix (paths_of u.files) (paths_come_to main r)) (sym (u.goes_on all ext)) (subst (λ ps. IsPrefix ps (paths_come_to main (statements_read (opened_in all left) site (parsed_in next_statement u.most lines).items (parsed_in next_statement u.most lines).fault u.now))) listed (statements-come main all left site (parsed_in next_statement u.most lines).items (parsed_in next_statement u.most lines).fault u.now)) });
+    stops = inl (record { answered = none; failures = u.reads.failures; came_to = λ all ext. subst (λ r. IsPrefix (paths_of u.files) (paths_come_to main r)) (sym (u.continues all ext)) (subst (λ ps. IsPrefix ps (paths_come_to main (statements_read (opened_in all left) site (parsed_in next_statement u.most lines).items (parsed_in next_statement u.most lines).fault u.now))) listed (statements-come main all left site (parsed_in next_statement u.most lines).items (parsed_in next_statement u.most lines).fault u.now)) });
   }
     where
       listed : paths_read main u.now ≡ paths_of u.files
-      listed = sym u.holds.paths_are ∙ ap paths_of u.reads.held_is
+      listed = sym u.has.paths_are ∙ ap paths_of u.reads.held_is
 
   -- a fault of syntax
   pub ends-fault : (fault : GraphFault) (found : Fault) → Underway main before after old held left site text entries lines → next_statement lines ≡ Err found → fault ≡ fault_in site.file found
       → StopsAt main before after old.files reading_of_text fault
   unfolding statements_read
-  ends-fault fault found u h told = record {
+  ends-fault fault found u h reported = record {
     files = u.files;
     reads = u.reads.reads;
     stops = inr (record {
       reached = reached_from main (record { entries = u.now; end = reading.Refused (fault_in site.file found) });
-      answered = (told, u.reads.failures);
-      read = λ all ext lacks. ap (reached_from main) (u.goes_on all ext ∙ ap (λ (s : Parsed PlacedText). statements_read (opened_in all left) site s.items s.fault u.now) (parsed-fault next_statement u.most lines found h u.room));
-      came_to = ap (with_all_new (paths_read main u.now)) (syntax-names site.file found) ∙ sym u.holds.paths_are ∙ ap paths_of u.reads.held_is;
+      answered = (reported, u.reads.failures);
+      read = λ all ext lacks. ap (reached_from main) (u.continues all ext ∙ ap (λ (s : Parsed PlacedText). statements_read (opened_in all left) site s.items s.fault u.now) (parsed-fault next_statement u.most lines found h u.capacity));
+      came_to = ap (with_all_new (paths_read main u.now)) (syntax-names site.file found) ∙ sym u.has.paths_are ∙ ap paths_of u.reads.held_is;
     });
   }
 
@@ -180,34 +180,34 @@ module _ (main : List ℕ) (before after : SourceState) (old held : Reader) (lef
     first : (u : Underway main before after old held left site text entries lines) (fewer : ℕ) → parsed_in next_statement u.most lines ≡ and_parsed s (parsed_in next_statement fewer rest)
         → (all : List Reading) → IsPrefix u.files all → reading_of_text all ≡ and_then (statement_read (opened_in all left) (entry_at site s) u.now) (remainder fewer all)
     unfolding statements_read
-    first u fewer is all ext = u.goes_on all ext ∙ ap (λ (x : Parsed PlacedText). statements_read (opened_in all left) site x.items x.fault u.now) is
+    first u fewer is all ext = u.continues all ext ∙ ap (λ (x : Parsed PlacedText). statements_read (opened_in all left) site x.items x.fault u.now) is
 
     pub turn : (u : Underway main before after old held left site text entries lines) → ReadsText main after last held later (λ all. statement_read (opened_in all left) (entry_at site s) u.now)
         → Underway main before last old later left site text entries rest
     turn u r =
-        let step = parsed-step next_statement u.most lines rest s next (statement_takes lines s rest next) u.room in
+        let step = parsed-step next_statement u.most lines rest s next (statement_takes lines s rest next) u.capacity in
         let there = subst (λ fs. ReadsAll after last fs r.files later.files) u.reads.held_is r.reads in
         record {
           files = r.files;
           reads = reads-all-then before after last old.files u.files r.files held.files later.files u.reads there;
           now = r.entries;
-          holds = r.holds;
+          has = r.has;
           most = step.0;
-          room = step.2;
-          goes_on = λ all ext. first u step.0 step.1 all (extends-trans all r.files u.files ext (read-extends after last u.files r.files there.reads)) ∙ ap (λ x. and_then x (remainder step.0 all)) (r.read all ext);
+          capacity = step.2;
+          continues = λ all ext. first u step.0 step.1 all (extends-trans all r.files u.files ext (read-extends after last u.files r.files there.reads)) ∙ ap (λ x. and_then x (remainder step.0 all)) (r.read all ext);
         }
 
     pub turn-stops : (fault : GraphFault) (u : Underway main before after old held left site text entries lines) → StopsAt main after last held.files (λ all. statement_read (opened_in all left) (entry_at site s) u.now) fault
         → StopsAt main before last old.files reading_of_text fault
     turn-stops fault u stops =
-        let step = parsed-step next_statement u.most lines rest s next (statement_takes lines s rest next) u.room in
+        let step = parsed-step next_statement u.most lines rest s next (statement_takes lines s rest next) u.capacity in
         stops-then main before after last old.files u.files held.files (λ all. statement_read (opened_in all left) (entry_at site s) u.now) reading_of_text u.reads (record {
           comes = λ all ext front h. subst (λ r. IsPrefix front (paths_come_to main r)) (sym (first u step.0 step.1 all ext))
               (and_then-comes main front (statement_read (opened_in all left) (entry_at site s) u.now) (remainder step.0 all) h (λ es. statements-come main all left site (parsed_in next_statement step.0 rest).items (parsed_in next_statement step.0 rest).fault es));
           ends = λ all ext es end stopped h. first u step.0 step.1 all ext ∙ ap (λ x. and_then x (remainder step.0 all)) h ∙ stays es end (remainder step.0 all) stopped;
         }) fault stops
       where
-        stays : (es : List ReadStatement) (end : End) (k : List ReadStatement → ReadingText) → IsStopped end → go_on end es k ≡ record { entries = es; end = end }
+        stays : (es : List ReadStatement) (end : End) (k : List ReadStatement → ReadingText) → IsStopped end → continued end es k ≡ record { entries = es; end = end }
         stays es Whole k h = absurd h
         stays es (reading.Refused f) k h = refl
         stays es (Lacking path place) k h = refl
@@ -224,14 +224,14 @@ next-none file before after lines found at is next = subst (λ f. NextOf file li
 pub fewer-left : (before after : Left) (lines rest : List Line) (s : PlacedText) → before ≡ Lines lines → after ≡ Lines rest → next_statement lines ≡ Ok (Some s, rest) → lines_left after < lines_left before
 fewer-left before after lines rest s at remainder next = rw (at, remainder) (statement_takes lines s rest next)
 
-pub next-stops : (main : List ℕ) (told after : SourceState) (old held : Reader) (left : ℕ) (site : Site) (text : List ℕ) (entries : List ReadStatement) (lines : List Line) (before later : Left) (fault : GraphFault)
-    → Underway main told after old held left site text entries lines → before ≡ Lines lines → NextIs site.file before later (Err fault)
-    → StopsAt main told after old.files (λ all. text_read (opened_in all left) site text entries) fault
-next-stops main told after old held left site text entries lines before later fault u at next = by (subst (λ b. NextIs site.file b later (Err fault)) at next)
+pub next-stops : (main : List ℕ) (reported after : SourceState) (old held : Reader) (left : ℕ) (site : Site) (text : List ℕ) (entries : List ReadStatement) (lines : List Line) (before later : Left) (fault : GraphFault)
+    → Underway main reported after old held left site text entries lines → before ≡ Lines lines → NextIs site.file before later (Err fault)
+    → StopsAt main reported after old.files (λ all. text_read (opened_in all left) site text entries) fault
+next-stops main reported after old held left site text entries lines before later fault u at next = by (subst (λ b. NextIs site.file b later (Err fault)) at next)
   where
-    by : NextOf site.file lines later (Err fault) → StopsAt main told after old.files (λ all. text_read (opened_in all left) site text entries) fault
-    by (inl none) = ends-memory main told after old held left site text entries lines fault u none
-    by (inr found) = ends-fault main told after old held left site text entries lines fault found.0 u found.1 found.2
+    by : NextOf site.file lines later (Err fault) → StopsAt main reported after old.files (λ all. text_read (opened_in all left) site text entries) fault
+    by (inl none) = ends-memory main reported after old held left site text entries lines fault u none
+    by (inr found) = ends-fault main reported after old held left site text entries lines fault found.0 u found.1 found.2
 
 pub site-same : (inner : Site) (file : List ℕ) (number : ℕ) → inner.file ≡ file → inner.number ≡ number → inner ≡ record { file = file; depth = inner.depth; number = number; around = inner.around }
 site-same inner file number is at =

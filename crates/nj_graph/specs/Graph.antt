@@ -7,14 +7,14 @@ use Rattle.std.specs.Cmp.Lexicographic.{slice_cmp}
 use Rattle.std.specs.Ordering.{is_lt, nat_cmp}
 use Rattle.nj_text.specs.Words.{PartText}
 use Rattle.nj_scope.specs.Declarations.{DeclarationsText, DeclaredBy}
-use Rattle.nj_scope.specs.ReadingList.{ReadStatement, rule_texts}
+use Rattle.nj_scope.specs.ReadingList.{ReadStatement, rules_read}
 use Rattle.nj_scope.specs.Late.{parts_written}
 use Rattle.nj_scope.specs.Rules.{RuleText, phony, phony_rule, rules_in, rule_names, given}
 use Rattle.nj_scope.specs.Scopes.{IsScope, ScopeText, parent_at}
 use Rattle.nj_cycles.specs.Cycles.{IsAcyclic}
 use Rattle.nj_edges.specs.Edges.{EdgePaths}
 use Rattle.nj_edges.specs.Needs.{makers_of_inputs}
-use Rattle.nj_edge_env.specs.LateTexts.{asked_text}
+use Rattle.nj_edge_env.specs.LateStrings.{asked_text}
 use Rattle.nj_statements.specs.EdgeList.{EdgeText, edges_read, names_of_edge}
 use Rattle.nj_statements.specs.Built.{BuiltText, IsBuiltOf, EdgeDetail, detail_at, detail_of}
 use Rattle.nj_graph.specs.Origins.{OriginsText, origins_read, main_of}
@@ -78,7 +78,7 @@ rule_name rules number = name_of (slice_get rules number)
 
 -- the name of the rule of an edge: of the rule that is in force before its statement
 abbrev pub rule_name_of : List ReadStatement → EdgeText → List ℕ
-rule_name_of entries e = rule_name (rule_texts entries) e.rule
+rule_name_of entries e = rule_name (rules_read entries) e.rule
 
 -- that of the edge of a number; past the last edge it is empty
 abbrev pub rule_name_at : List ReadStatement → (number : ℕ) → List ℕ

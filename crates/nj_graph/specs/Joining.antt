@@ -16,7 +16,7 @@ use Rattle.nj_statements.specs.EdgeList.{Pending, edges_read, pending_read}
 use Rattle.nj_statements.specs.Built.{detail_at, detail_of}
 use Rattle.nj_statements.specs.Joining.{entry_fault, with_entry, lacking_fault, dyndep_files}
 use Rattle.nj_graph.specs.Parsed.{Parsed, none_parsed, parsed_in}
-use Rattle.nj_graph.specs.Reading.{End, Whole, ReadingText, unless_fault, end_by, stopped, answer_read, with_all_new}
+use Rattle.nj_graph.specs.Reading.{End, Whole, ReadingText, unless_fault, end_by, stopped, outcome_read, with_all_new}
 use Rattle.nj_graph.specs.Runs.{ReachedText}
 use Rattle.nj_graph.specs.Loads.{LoadedText, LoadsAfter}
 
@@ -54,7 +54,7 @@ statement_place stated edge =
 unfoldable pub file_joined : (files : List Reading) → (stated : List ReadStatement) → Pending → (joined : List ReadStatement) → ReadingText
 file_joined files stated p joined =
     let place = statement_place stated p.edge in
-    if is_utf8 p.file then answer_read p.file place joined (λ text. text_joined p.file stated text joined) (reading_of files p.file)
+    if is_utf8 p.file then outcome_read p.file place joined (λ text. text_joined p.file stated text joined) (reading_of files p.file)
     else stopped joined place PathNotText
 
 -- ---- all files: the statements with what was joined, and the paths of the dyndep files that it reaches
@@ -63,15 +63,15 @@ file_joined files stated p joined =
 abbrev pub path_asked : Pending → List (List ℕ)
 path_asked p = if is_utf8 p.file then p.file ∷ [] else []
 
-abbrev pub go_on : End → Pending → List ReadStatement → (List ReadStatement → ReachedText) → ReachedText
-go_on Whole p joined others = record { read = (others joined).read; paths = path_asked p ++ (others joined).paths }
-go_on end p joined others = record { read = record { entries = joined; end = end }; paths = path_asked p }
+abbrev pub continued : End → Pending → List ReadStatement → (List ReadStatement → ReachedText) → ReachedText
+continued Whole p joined others = record { read = (others joined).read; paths = path_asked p ++ (others joined).paths }
+continued end p joined others = record { read = record { entries = joined; end = end }; paths = path_asked p }
 
 unfoldable pub files_joined : (files : List Reading) → (stated : List ReadStatement) → List Pending → (joined : List ReadStatement) → ReachedText
 files_joined files stated [] joined = record { read = record { entries = joined; end = Whole }; paths = [] }
 files_joined files stated (p ∷ others) joined =
     let file = file_joined files stated p joined in
-    go_on file.end p file.entries (files_joined files stated others)
+    continued file.end p file.entries (files_joined files stated others)
 
 -- The dyndep files of all edges that wait for one, each once, in the order of their first edges: the whole file is joined before the
 -- next one is opened.

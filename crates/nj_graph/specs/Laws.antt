@@ -11,7 +11,7 @@ use Rattle.nj_text.specs.Words.{WordText}
 use Rattle.nj_manifest.specs.Dyndeps.{version_next, next_entry}
 use Rattle.nj_manifest.specs.Faults.{Fault}
 use Rattle.nj_manifest.specs.Statements.{BindingText, Parse, next_statement}
-use Rattle.nj_scope.specs.ReadingList.{ReadStatement, scope_of, rule_texts, files_opened}
+use Rattle.nj_scope.specs.ReadingList.{ReadStatement, scope_of, rules_read, files_opened}
 use Rattle.nj_edges.specs.Edges.{EdgePaths, first_output, outputs_of, inputs_of}
 use Rattle.nj_faults.specs.declared.fault.GraphFault.{GraphFault}
 use Rattle.nj_faults.specs.declared.fault.Cause.TheVariants.{EmptyPath, UnknownTarget, NoOutEdge}
@@ -45,7 +45,7 @@ OpeningsAreBounded = (files : List Reading) (main : List ℕ) → files_opened (
 -- The names of the rules that are listed are in strictly ascending byte order, so that each occurs once.
 abbrev pub MainRulesRise : Type 0
 MainRulesRise = (files : List Reading) (main : List ℕ)
-    → IsStrictlySortedBy (slice_cmp nat_cmp) (map (λ r. r.name) (main_rules_of (rule_texts (main_read files main).entries)))
+    → IsStrictlySortedBy (slice_cmp nat_cmp) (map (λ r. r.name) (main_rules_of (rules_read (main_read files main).entries)))
 
 -- Files that a reading does not reach make no difference: with more of them it is the same.
 abbrev pub OthersAreNotRead : Type 0

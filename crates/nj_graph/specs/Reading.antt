@@ -106,14 +106,14 @@ pub record ReadingText : Type 0 where
   pub entries : List ReadStatement
   pub end : End
 
-abbrev pub go_on : End → List ReadStatement → (List ReadStatement → ReadingText) → ReadingText
-go_on Whole entries others = others entries
-go_on (Refused fault) entries others = record { entries = entries; end = Refused fault }
-go_on (Lacking path place) entries others = record { entries = entries; end = Lacking path place }
+abbrev pub continued : End → List ReadStatement → (List ReadStatement → ReadingText) → ReadingText
+continued Whole entries others = others entries
+continued (Refused fault) entries others = record { entries = entries; end = Refused fault }
+continued (Lacking path place) entries others = record { entries = entries; end = Lacking path place }
 
 -- one reading, and where all of it was read another one
 abbrev pub and_then : ReadingText → (List ReadStatement → ReadingText) → ReadingText
-and_then r others = go_on r.end r.entries others
+and_then r others = continued r.end r.entries others
 
 -- What is read of the file that a statement names: where its own statements stand, the place of its name, the statement
 -- itself, and the statements before it.
@@ -177,20 +177,20 @@ found_read path place before reads None = stopped before place (Missing path)
 found_read path place before reads (Some text) = reads text
 
 -- by the table's answer for that path
-abbrev pub answer_read : (path : List ℕ) → Place → (before : List ReadStatement) → (List ℕ → ReadingText) → Option table.Reading → ReadingText
-answer_read path place before reads None = record { entries = before; end = Lacking path place }
-answer_read path place before reads (Some r) = found_read path place before reads r.bytes
+abbrev pub outcome_read : (path : List ℕ) → Place → (before : List ReadStatement) → (List ℕ → ReadingText) → Option table.Reading → ReadingText
+outcome_read path place before reads None = record { entries = before; end = Lacking path place }
+outcome_read path place before reads (Some r) = found_read path place before reads r.bytes
 
-abbrev pub if_room : Bool → (within : Opens) → (files : List table.Reading) → Site → Place → ReadStatement → (before : List ReadStatement) → ReadingText
-if_room false within files site place e before = stopped before place TooManyOpenings
-if_room true within files site place e before =
-    answer_read site.file place before (λ text. text_read within site text (e ∷ before)) (reading_of files site.file)
+abbrev pub if_capacity : Bool → (within : Opens) → (files : List table.Reading) → Site → Place → ReadStatement → (before : List ReadStatement) → ReadingText
+if_capacity false within files site place e before = stopped before place TooManyOpenings
+if_capacity true within files site place e before =
+    outcome_read site.file place before (λ text. text_read within site text (e ∷ before)) (reading_of files site.file)
 
 -- what is read of a file by these files, where `left` more may be open
 unfoldable pub opened_in : (files : List table.Reading) → (left : ℕ) → Opens
 opened_in files zero site place e before = stopped before place TooDeep
 opened_in files (suc left) site place e before =
-    if_room (nat_lt (files_opened before) most_opened) (opened_in files left) files site place e before
+    if_capacity (nat_lt (files_opened before) most_opened) (opened_in files left) files site place e before
 
 -- ---- a run
 
@@ -203,7 +203,7 @@ main_place main = record { file = main; spot = record { line = 1; column = 1 } }
 -- the main file, and all that it includes
 unfoldable pub main_read : (files : List table.Reading) → (main : List ℕ) → ReadingText
 main_read files main =
-    answer_read main (main_place main) [] (λ text. text_read (opened_in files most_within) (main_site main) text []) (reading_of files main)
+    outcome_read main (main_place main) [] (λ text. text_read (opened_in files most_within) (main_site main) text []) (reading_of files main)
 
 -- ---- the paths that a reading reaches
 

@@ -4,7 +4,7 @@ ghost use Rattle.std.specs.Prelude.{◌≡◌, ◌<◌, None, length, option_cop
 ghost use Rattle.nj_scope.specs.Scopes.{parent_at};
 ghost use Rattle.nj_graph.specs.Graph.{main_rules, main_rule_at, rule_name, description, has_description, description_text, NamesRise, ListsMainRules};
 ghost use Rattle.std.specs.List.{AllByRecursion};
-ghost use Rattle.nj_graph.specs.Inside.GraphHeld.{HoldsMainRules, IsKnown};
+ghost use Rattle.nj_graph.specs.Inside.GraphHeld.{HasMainRules, IsKnown};
 
 use crate::origins::Origins;
 use nj_scope::{Declarations, LateValue, MAIN_SCOPE, Rule};
@@ -112,7 +112,7 @@ impl Graph {
 
 // The numbers of the rules of the main file's scope, by name.
 fn rules_of_main(alloc: Global, rules: &[Rule]) -> Result<Vec<usize>, AllocError>
-    ensures { IfOk result (λ numbers. HoldsMainRules rules.now numbers.items) }
+    ensures { IfOk result (λ numbers. HasMainRules rules.now numbers.items) }
 {
     let mut numbers = Vec::new(alloc);
     'rules: for (number, rule) in rules.iter().enumerate() {

@@ -4,7 +4,7 @@ ghost use Rattle.std.specs.Prelude.{◌≡◌, ◌<◌, List, Some, length, slic
 ghost use Rattle.nj_scope.specs.Readings.{EachPathOnce, IsPrefix};
 ghost use Rattle.nj_scope.specs.ReadingList.{ReadStatement};
 ghost use Rattle.nj_statements.specs.EdgeList.{Pending};
-ghost use Rattle.nj_statements.specs.JoiningHeld.{HoldsJoined};
+ghost use Rattle.nj_statements.specs.JoiningHeld.{HasJoined};
 ghost use Rattle.nj_graph.specs.Graph.{IsGraphOf};
 ghost use Rattle.nj_graph.specs.Joining.{Joins};
 ghost use Rattle.nj_graph.specs.Inside.JoiningContracts.{NamesFile, JoinsText, JoinsFile, JoinsFiles, NextEntryIs};
@@ -75,7 +75,7 @@ fn join_files<S: FileSource>(
     joining: &mut Joining,
 ) -> Result<(), GraphFault>
     requires { EachPathOnce files.old }
-    ensures joins { (stated : List ReadStatement) → HoldsJoined joining.old stated stated
+    ensures joins { (stated : List ReadStatement) → HasJoined joining.old stated stated
         → JoinsFiles stated (S.state source.old) (S.state source.new) files.old files.new
         joining.new result }
 {
@@ -96,7 +96,7 @@ fn join_file<S: FileSource>(
     requires there { index < length joining.old.dyndep_files }
     requires once { EachPathOnce files.old }
     ensures joins { (stated joined : List ReadStatement) (p : Pending)
-        → HoldsJoined joining.old stated joined
+        → HasJoined joining.old stated joined
         → slice_get joining.old.dyndep_files index ≡ Some p
         → JoinsFile stated joined p (S.state source.old) (S.state source.new)
         files.old files.new joining.new result }
@@ -132,7 +132,7 @@ fn join_text(
     text: &[u8],
 ) -> Result<(), GraphFault>
     requires { slice_get joining.old.table.files file.0 ≡ Some name.now }
-    ensures joins { (stated joined : List ReadStatement) → HoldsJoined joining.old stated joined
+    ensures joins { (stated joined : List ReadStatement) → HasJoined joining.old stated joined
         → JoinsText name.now stated text.now joined joining.new result }
     ensures files { OnOk result (IsPrefix joining.old.table.files joining.new.table.files) }
     ensures dyndeps { OnOk result (joining.new.dyndep_files ≡ joining.old.dyndep_files) }

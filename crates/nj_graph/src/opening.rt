@@ -7,7 +7,7 @@ ghost use Rattle.nj_scope.specs.Declarations.{DeclaredBy};
 ghost use Rattle.nj_scope.specs.ReadingList.{ReadStatement};
 ghost use Rattle.nj_graph.specs.Reading.{entry_at, expanded_in, path_fault};
 ghost use Rattle.nj_graph.specs.Inside.ReaderContracts.{site_scope};
-ghost use Rattle.nj_graph.specs.Inside.ReaderContracts.{Holds, InFile, IsOpenIn, ScopesGrow, site_of, place_in, named_item, named_site, EntersScope, AnswersText, OpensOrStops, SaysPath, OpensPath};
+ghost use Rattle.nj_graph.specs.Inside.ReaderContracts.{Has, InFile, IsOpenIn, ScopesGrow, site_of, place_in, named_item, named_site, EntersScope, ReturnsText, OpensOrStops, GivesPath, OpensPath};
 
 use crate::reader::{OpenFile, Opened, Reader};
 use nj_faults::{Cause, GraphFault, Name, PlaceRef};
@@ -59,7 +59,7 @@ impl Reader {
         requires { file.scope < length self.now.declarations.scopes }
         ensures { InFile self.now file.entry (λ main site entries.
             let path = expanded_in (site_scope site) entries (word_text word.now) in
-            SaysPath (path_fault site.file word.now.spot path) path result) }
+            GivesPath (path_fault site.file word.now.spot path) path result) }
     {
         let path = self.declarations.expand(alloc, file.scope, word)?;
         if path.as_slice().is_empty() {
@@ -80,7 +80,7 @@ impl Reader {
         spot: Spot,
         path: &str,
     ) -> Result<RcSlice<u8>, GraphFault>
-        ensures opens { (main : List ℕ) (entries : List ReadStatement) → Holds main self.old entries
+        ensures opens { (main : List ℕ) (entries : List ReadStatement) → Has main self.old entries
             → OpensPath main (S.state source.old) (S.state source.new) self.old self.new
             file.entry.left (place_in file.entry spot) path.now entries result }
         ensures left { OnOk result (0 < file.entry.left) }
@@ -129,7 +129,7 @@ pub(crate) fn text_at<S: FileSource>(
     place: PlaceRef<'_>,
     path: &str,
 ) -> Result<RcSlice<u8>, GraphFault>
-    ensures { AnswersText (S.state source.old) (S.state source.new) files.old files.new
+    ensures { ReturnsText (S.state source.old) (S.state source.new) files.old files.new
         (record { file = place.entry.file.now; spot = place.entry.spot }) path.now result }
 {
     let name = Name::new(alloc, path.as_bytes())?;

@@ -96,7 +96,7 @@ impl Origins {
           rules = self.old.rules ++ Some (place_text place.entry) ∷ [];
         }) }
     {
-        let place = hold_place(&mut self.names, place)?;
+        let place = keep_place(&mut self.names, place)?;
         self.rules.push(place)?;
         Ok(())
     }
@@ -108,7 +108,7 @@ impl Origins {
               ++ record { place = place_text place.entry; depth = depth } ∷ [];
         }) }
     {
-        let place = hold_place(&mut self.names, place)?;
+        let place = keep_place(&mut self.names, place)?;
         self.pools.push(HeldPool { place, depth })?;
         Ok(())
     }
@@ -127,7 +127,7 @@ impl Origins {
               ∷ [];
         }) }
     {
-        let place = hold_place(&mut self.names, place)?;
+        let place = keep_place(&mut self.names, place)?;
         let file = self.names.name(path.as_bytes())?;
         self.openings.push(HeldOpening {
             file,
@@ -186,7 +186,7 @@ impl Origins {
 }
 
 // The place, whose file gets a number.
-fn hold_place(names: &mut Files, place: PlaceRef<'_>) -> Result<HeldPlace, AllocError>
+fn keep_place(names: &mut Files, place: PlaceRef<'_>) -> Result<HeldPlace, AllocError>
     ensures held { IfOk result (λ held. place_held names.new held ≡ place_text place.entry) }
     ensures known { IfOk result (λ held. held.file.0 < length names.new) }
     ensures grows { IsPrefix names.old names.new }

@@ -1,7 +1,7 @@
 //! The rules of all scopes with their places, and those of edges.
 
 ghost use Rattle.std.specs.Prelude.{◌≡◌, ◌<◌, List, length, option_map};
-ghost use Rattle.nj_scope.specs.ReadingList.{ReadStatement, rule_texts};
+ghost use Rattle.nj_scope.specs.ReadingList.{ReadStatement, rules_read};
 ghost use Rattle.nj_statements.specs.Built.{detail_at};
 ghost use Rattle.nj_graph.specs.Origins.{place_text, rule_place_at, rule_places};
 ghost use Rattle.nj_graph.specs.Graph.{edges_of, IsGraphOf, rule_number_at};
@@ -19,7 +19,7 @@ impl Graph {
     pub fn rules(&self) -> &[Rule]
         ensures held { result.now ≡ self.now.declarations.rules }
         ensures stated { (entries : List ReadStatement) → IsGraphOf self.now entries
-            → result.now ≡ rule_texts entries }
+            → result.now ≡ rules_read entries }
     {
         self.declarations.rules()
     }

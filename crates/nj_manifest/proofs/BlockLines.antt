@@ -61,7 +61,7 @@ Begins allowed limit whole (Ok other) s = (whole ≡ no_lines (lines_from s)) ×
 Begins allowed limit whole (Err f) s = whole ≡ Err (Bad f)
 
 abbrev BeginsAs : Keys → ℕ → Parse (List LineText) → calls.Reply LineStart → Type 0
-BeginsAs allowed limit whole r = Begins allowed limit whole r.answer r.after
+BeginsAs allowed limit whole r = Begins allowed limit whole r.outcome r.after
 
 after-last : (l : Line) (ls : List Line) → l.is_last ≡ true → lines_after l ls ≡ with_units [] l ∷ ls
 after-last l ls h = ap (λ t. cond t (with_units [] l ∷ ls) ls) h
@@ -124,9 +124,9 @@ begun-begins allowed limit (l ∷ ls) h = by_comment (is_comment (kind_of l)) re
         subst (λ (whole : Parse (List LineText)). BeginsAs allowed limit whole (begun (lines_after l (without_comments ls)))) (sym (block-comment allowed (kind_of l) l ls (block allowed ls) e)) (by_last l.is_last refl rest)
 
 -- what the lexer answers at the start of a line
-pub start-begins : (allowed : Keys) (ls : List Line) (answer : Result LineStart UnitFault) (s : State) → ((start_line_of (Between ls)).answer ≡ answer) × (s ≡ (start_line_of (Between ls)).after) → Begins allowed (lines_weight ls) (block allowed ls) answer s
-start-begins allowed ls answer s h =
-    subst (λ a. Begins allowed (lines_weight ls) (block allowed ls) a s) h.0 (subst (Begins allowed (lines_weight ls) (block allowed ls) (begun (without_comments ls)).answer) (sym h.1) (begun-begins allowed (lines_weight ls) ls (omega arith)))
+pub start-begins : (allowed : Keys) (ls : List Line) (outcome : Result LineStart UnitFault) (s : State) → ((start_line_of (Between ls)).outcome ≡ outcome) × (s ≡ (start_line_of (Between ls)).after) → Begins allowed (lines_weight ls) (block allowed ls) outcome s
+start-begins allowed ls outcome s h =
+    subst (λ a. Begins allowed (lines_weight ls) (block allowed ls) a s) h.0 (subst (Begins allowed (lines_weight ls) (block allowed ls) (begun (without_comments ls)).outcome) (sym h.1) (begun-begins allowed (lines_weight ls) ls (omega arith)))
 
 -- after a line stands the block that follows it
 pub block-after : (allowed : Keys) (l : Line) (ls : List Line) → block allowed (lines_after l ls) ≡ or_last l (no_lines (lines_after l ls)) (block allowed ls)

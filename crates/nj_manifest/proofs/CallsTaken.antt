@@ -13,10 +13,10 @@ use Rattle.nj_manifest.specs.LineSteps.{Step, called}
 use Rattle.nj_manifest.specs.Parsers.{Fails}
 use Rattle.nj_manifest.specs.Inside.ParserContracts.{TakesStep}
 
-pub gave : {Y : Type 0} (y : Y) (after : State) (r : Reply Y) → (r.answer ≡ Ok y) × (after ≡ r.after) → called r ≡ Ok (y, after)
+pub gave : {Y : Type 0} (y : Y) (after : State) (r : Reply Y) → (r.outcome ≡ Ok y) × (after ≡ r.after) → called r ≡ Ok (y, after)
 gave y after r h = rw h.0 (rw h.1 refl)
 
-failed-so : {Y : Type 0} (f : UnitFault) (r : Reply Y) → r.answer ≡ Err f → called r ≡ Err (Bad f)
+failed-so : {Y : Type 0} (f : UnitFault) (r : Reply Y) → r.outcome ≡ Err f → called r ≡ Err (Bad f)
 failed-so f r h = rw h refl
 
 -- a step that fails with a fault of the lexer

@@ -64,7 +64,7 @@ module _ (l : Line) (ls : List Line) where
   unfolding no_path
   no_path-inside s s' o h =
       let here = skip_blanks_of s in
-      word-inside l ls here (None, s') (skip-inside s o) (no_path-answered (spot_of here) (path_word_of here).answer (path_word_of here).after s' h)
+      word-inside l ls here (None, s') (skip-inside s o) (no_path-answered (spot_of here) (path_word_of here).outcome (path_word_of here).after s' h)
 
   no_section-inside : (want : Sign) (s s' : State) → InLine want → On l ls s → no_section want s ≡ Ok s' → On l ls s'
   unfolding no_section
@@ -150,7 +150,7 @@ called-ok (Err f) after x s h = no_ok h
 -- where a line was begun, or was not
 settled : (ls : List Line) (x : LineStart) (m s : State) (k : State → Result State Fault) → called (start_line_of (Between ls)) ≡ Ok (x, m) → if_indented x m k ≡ Ok s
     → ((l : Line) (others : List Line) → m ≡ Inside (without_spaces l) others → k m ≡ Ok s → IsBetweenStatements s) → IsBetweenStatements s
-settled ls x m s k h g indented = by_start x (start-begins keys.All ls (Ok x) m (called-ok (start_line_of (Between ls)).answer (start_line_of (Between ls)).after x m h)) g
+settled ls x m s k h g indented = by_start x (start-begins keys.All ls (Ok x) m (called-ok (start_line_of (Between ls)).outcome (start_line_of (Between ls)).after x m h)) g
   where
     by_start : (x : LineStart) → Begins keys.All (lines_weight ls) (block keys.All ls) (Ok x) m → if_indented x m k ≡ Ok s → IsBetweenStatements s
     by_start start.Indented b g = indented b.0 b.1 b.2 g

@@ -20,7 +20,7 @@ use Rattle.nj_manifest.proofs.WordLimits.{words_next-ends}
 use Rattle.nj_manifest.proofs.FormsKeys.{unless_missing-ok}
 use Rattle.nj_manifest.proofs.FormsTokens.{within, end_stops, colon_stops, after_skips, after-read, name-form, name-read, sign-left_out}
 use Rattle.nj_manifest.proofs.FormsWords.{fault_after_blanks, word-form, word-read, no_word-read, words-form}
-use Rattle.nj_manifest.proofs.FormsLines.{section_after-form, section_after-read, colon_after-form, end_after_at-form, end_after-read, keyword_of, at_implicit, pipe_is_no_end, colon_is_no_end}
+use Rattle.nj_manifest.proofs.FormsLines.{section_after-form, section_after-read, colon_after-form, end_after_at-form, end_after-read, keyword_of, at_implicit, pipe_is_not_end, colon_is_not_end}
 use Rattle.nj_manifest.proofs.LeftmostRuns.{none_passed, skip, skip_stops}
 use Rattle.nj_manifest.proofs.DyndepEnds.{oks, no_path-answered, first_output-after, called-ok}
 
@@ -40,7 +40,7 @@ no_path-words : (l : Line) (ls : List Line) (s s' : State) → no_path s ≡ Ok 
 unfolding no_path
 no_path-words l ls s s' h =
     let here = skip_blanks_of s in
-    words_next-ends s s' (ap called (sym (path-skips s)) ∙ no_path-answered l ls (spot_of here) (path_word_of here).answer (path_word_of here).after s' h)
+    words_next-ends s s' (ap called (sym (path-skips s)) ∙ no_path-answered l ls (spot_of here) (path_word_of here).outcome (path_word_of here).after s' h)
 
 no_words : (us rest : List TextUnit) (words : List WordText) → words ≡ [] → WordsForm us words rest → rest ≡ us
 no_words us rest words e WordsForm.none = refl
@@ -56,7 +56,7 @@ unfolding no_path
 no_path-read l ls us n b =
     let s = within l ls us in
     let here = skip_blanks_of s in
-    let found = called-ok (path_word_of here).answer (path_word_of here).after None (within l ls (skip us)) (ap called (path-skips s) ∙ no_word-read l ls us n b) in
+    let found = called-ok (path_word_of here).outcome (path_word_of here).after None (within l ls (skip us)) (ap called (path-skips s) ∙ no_word-read l ls us n b) in
     ap (λ (a : Result (Option WordText) UnitFault). no_path_by (spot_of here) a (path_word_of here).after) found.0 ∙ ap Ok (sym found.1)
 
 -- ---- words of the form
@@ -138,7 +138,7 @@ inputs-form l ls us s y e h =
     inputs_from : (bare : State) (implicit : List WordText × State) (order_only validations end : State) → no_path s ≡ Ok bare → section_next sign.Pipe bare ≡ Ok implicit → no_section sign.Pipe2 implicit.1 ≡ Ok order_only → no_section sign.PipeAt order_only ≡ Ok validations
         → expect_sign sign.LineEnd wanted.Newline validations ≡ Ok end → ◌≡◌ {A = List WordText × State} (implicit.0, end) y → (rest : List TextUnit) × SectionForm sign.Pipe us y.0 rest × AreBlanks rest × (y.1 ≡ Between (lines_after l ls))
     inputs_from bare implicit order_only validations end a b c d f g =
-        let six = section_after-form sign.Pipe l ls us bare implicit.1 implicit.0 pipe_is_no_end (no_path-form l ls us s bare e a) b in
+        let six = section_after-form sign.Pipe l ls us bare implicit.1 implicit.0 pipe_is_not_end (no_path-form l ls us s bare e a) b in
         let seven = no_section-form sign.Pipe2 l ls six.0 implicit.1 order_only six.2 c in
         let eight = no_section-form sign.PipeAt l ls six.0 order_only validations seven d in
         let nine = end_after_at-form l ls six.0 validations end eight f in
@@ -160,7 +160,7 @@ entry-form l ls us entry s h =
     entry_from build out outs colon rule ins a b c d e f g =
         let one = word_of_form-form (codes "build") wanted.Statement l ls us (within l ls us) build refl a in
         let two = output-form l ls one.0 build out one.2 b in
-        let three = section_after-form sign.Pipe l ls two.0 out.1 outs.1 outs.0 pipe_is_no_end two.2 c in
+        let three = section_after-form sign.Pipe l ls two.0 out.1 outs.1 outs.0 pipe_is_not_end two.2 c in
         let four = colon_after-form l ls three.0 outs.1 colon three.2 d in
         let five = word_of_form-form (codes "dyndep") wanted.CommandName l ls four.0 colon rule four.2 e in
         let six = inputs-form l ls five.0 rule ins five.2 f in
@@ -179,12 +179,12 @@ entry-read l ls us entry f =
       word_of_form-read (codes "build") wanted.Statement l ls us f.after_build f.keyword,
       word-read l ls f.after_build f.after_out entry.out f.out (fault_after_blanks f.after_out out.3.no_fault),
       no_path-read l ls f.after_out out.3.no_fault out.3.no_word,
-      section_after-read sign.Pipe l ls pipe_is_no_end f.outs outs.no_fault outs.no_word outs.is_pipe,
+      section_after-read sign.Pipe l ls pipe_is_not_end f.outs outs.no_fault outs.no_word outs.is_pipe,
       after_skips sign.Colon wanted.Colon l ls f.after_outs,
-      after-read sign.Colon wanted.Colon l ls f.after_outs f.after_colon colon_is_no_end f.colon,
+      after-read sign.Colon wanted.Colon l ls f.after_outs f.after_colon colon_is_not_end f.colon,
       word_of_form-read (codes "dyndep") wanted.CommandName l ls f.after_colon f.after_rule f.rule,
       no_path-read l ls f.after_rule rule.3.no_fault rule.3.no_word,
-      section_after-read sign.Pipe l ls pipe_is_no_end f.ins end.no_fault end.no_word end.is_pipe,
+      section_after-read sign.Pipe l ls pipe_is_not_end f.ins end.no_fault end.no_word end.is_pipe,
       no_section-read sign.Pipe2 l ls f.after_ins end.no_fault end.is_pipe2,
       no_section-read sign.PipeAt l ls f.after_ins end.no_fault end.is_pipe_at,
       end_after-read wanted.Newline l ls f.after_ins f.end,

@@ -16,14 +16,14 @@ use Rattle.nj_manifest.specs.declared.fault.Wanted.TheVariants as wanted
 use Rattle.nj_manifest.specs.Faults.{Fault, Bad, Expected, UnexpectedIndent, MissingCommand, RspPair, UnknownKey, MissingDepth, DyndepVersion, DyndepShape, OutOfMemory}
 use Rattle.nj_manifest.specs.LineSteps.{Step, ◌>>=◌, called, NameText, name_next, expect_sign}
 use Rattle.nj_manifest.specs.Statements.{equals_value}
-use Rattle.nj_manifest.specs.Leftmost.{goes_on, element, written, are_plain, NamesThePlaceOf, met_before, offers}
+use Rattle.nj_manifest.specs.Leftmost.{continues, element, written, are_plain, NamesThePlaceOf, met_before, offers}
 use Rattle.nj_manifest.specs.Dyndeps.{word_of_form, restat_line, line_too_many, if_indented, restat_block}
 use Rattle.nj_manifest.specs.Grammar.{AreBlanks}
 use Rattle.nj_manifest.specs.DyndepLeftmost.{NamesPlaceInEntry}
 use Rattle.nj_manifest.proofs.Framing.{after-is}
 use Rattle.nj_manifest.proofs.LeftmostRuns.{skip, gap_of, gap_passes, gap_cut}
 use Rattle.nj_manifest.proofs.LeftmostFronts.{front, front-append, element-front}
-use Rattle.nj_manifest.proofs.LeftmostSteps.{at, text, Fits, Said, Along, begin, Stuck, Outcome, stuck, through, bind-bind}
+use Rattle.nj_manifest.proofs.LeftmostSteps.{at, text, Fits, Claim, Along, begin, Stuck, Outcome, stuck, through, bind-bind}
 use Rattle.nj_manifest.proofs.LeftmostSigns.{led_on}
 use Rattle.nj_manifest.proofs.LeftmostNames.{NameSeen, name_seen}
 use Rattle.nj_manifest.proofs.LeftmostNames as names
@@ -31,7 +31,7 @@ use Rattle.nj_manifest.proofs.LeftmostHeads.{starts}
 use Rattle.nj_manifest.proofs.LeftmostTurns.{ReadTo}
 use Rattle.nj_manifest.proofs.LeftmostValues.{value_turn}
 use Rattle.nj_manifest.proofs.LeftmostKinds.{kind_units, spaces_of, after_spaces, spaces_cut, spaces_pass, unspaced, kind_spaced, kind_replaced, no_space_same, identifier_no_space, identifier_spaced, indented_spaces, tab_place}
-use Rattle.nj_manifest.proofs.DyndepLeftmostMarks.{real, told, told-bind, kept-value, this_word, word-told}
+use Rattle.nj_manifest.proofs.DyndepLeftmostMarks.{real, reported, reported-bind, kept-value, this_word, word-reported}
 use Rattle.nj_manifest.proofs.DyndepLeftmostPaths.{word_turn}
 
 -- ---- marks, told
@@ -120,9 +120,9 @@ module _ (k : State → Result State Fault) where
 
 -- From this front the block goes on with these bytes and is whole; or it is whole where the line has no more than the
 -- spaces with which it begins.
-pub data BlockGoesOn (k : State → Result State Fault) (before : List Line) (begun : List TextUnit) (fault : Fault) : Type 0 where
-  with_text : (bytes : List ℕ) (plain : are_plain bytes ≡ true) (offered : offers fault bytes ≡ true) (end : State) (some : in_lines k (goes_on before begun (written bytes) []) ≡ Ok end) → BlockGoesOn k before begun fault
-  with_end : (spaces gap : List TextUnit) (cut : begun ≡ spaces ++ gap) (of_spaces : list_all is_space_unit spaces ≡ true) (of_blanks : AreBlanks gap) (end : State) (some : in_lines k (goes_on before spaces (written []) []) ≡ Ok end) → BlockGoesOn k before begun fault
+pub data BlockContinues (k : State → Result State Fault) (before : List Line) (begun : List TextUnit) (fault : Fault) : Type 0 where
+  with_text : (bytes : List ℕ) (plain : are_plain bytes ≡ true) (offered : offers fault bytes ≡ true) (end : State) (some : in_lines k (continues before begun (written bytes) []) ≡ Ok end) → BlockContinues k before begun fault
+  with_end : (spaces gap : List TextUnit) (cut : begun ≡ spaces ++ gap) (of_spaces : list_all is_space_unit spaces ≡ true) (of_blanks : AreBlanks gap) (end : State) (some : in_lines k (continues before spaces (written []) []) ≡ Ok end) → BlockContinues k before begun fault
 
 -- No element like this one helps there.
 pub record LinesStuck (k : State → Result State Fault) (ls : List Line) (fault : Fault) : Type 0 where
@@ -130,10 +130,10 @@ pub record LinesStuck (k : State → Result State Fault) (ls : List Line) (fault
   pub begun : List TextUnit
   pub line : Line
   pub others : List Line
-  pub cut : ls ≡ goes_on before begun line others
+  pub cut : ls ≡ continues before begun line others
   pub place : NamesPlaceInEntry fault line
-  pub refuses : (m : Line) (ms : List Line) → element m.units ≡ element line.units → in_lines k (goes_on before begun m ms) ≡ Err (met_before m fault)
-  pub on : BlockGoesOn k before begun fault
+  pub refuses : (m : Line) (ms : List Line) → element m.units ≡ element line.units → in_lines k (continues before begun m ms) ≡ Err (met_before m fault)
+  pub on : BlockContinues k before begun fault
 
 pub errs : {A : Type 0} {x y : Fault} → ◌≡◌ {A = Result A Fault} (Err x) (Err y) → x ≡ y
 errs e = cc
@@ -144,9 +144,9 @@ no_fault r x f h i = absurd (apart (sym h ∙ i))
     apart : {A : Type 0} {x : A} {f : Fault} → ◌≡◌ {A = Result A Fault} (Ok x) (Err f) → ⊥
     apart e = absurd cc
 
-goes_after : (k j : State → Result State Fault) (l : Line) (before : List Line) (begun : List TextUnit) (fault : Fault) → ((ms : List Line) → in_lines j (l ∷ ms) ≡ in_lines k ms) → BlockGoesOn k before begun fault → BlockGoesOn j (l ∷ before) begun fault
-goes_after k j l before begun fault same (with_text bytes plain offered end some) = with_text bytes plain offered end (same (goes_on before begun (written bytes) []) ∙ some)
-goes_after k j l before begun fault same (with_end spaces gap cut of_spaces of_blanks end some) = with_end spaces gap cut of_spaces of_blanks end (same (goes_on before spaces (written []) []) ∙ some)
+goes_after : (k j : State → Result State Fault) (l : Line) (before : List Line) (begun : List TextUnit) (fault : Fault) → ((ms : List Line) → in_lines j (l ∷ ms) ≡ in_lines k ms) → BlockContinues k before begun fault → BlockContinues j (l ∷ before) begun fault
+goes_after k j l before begun fault same (with_text bytes plain offered end some) = with_text bytes plain offered end (same (continues before begun (written bytes) []) ∙ some)
+goes_after k j l before begun fault same (with_end spaces gap cut of_spaces of_blanks end some) = with_end spaces gap cut of_spaces of_blanks end (same (continues before spaces (written []) []) ∙ some)
 
 -- after a line that says nothing, or is read, and is not the last
 lines_after_one : (k j : State → Result State Fault) (l : Line) (ls : List Line) (fault : Fault) → ((ms : List Line) → in_lines j (l ∷ ms) ≡ in_lines k ms) → LinesStuck k ls fault → LinesStuck j (l ∷ ls) fault
@@ -157,7 +157,7 @@ lines_after_one k j l ls fault same r = record {
   others = r.others;
   cut = ap (λ (y : List Line). l ∷ y) r.cut;
   place = r.place;
-  refuses = λ m ms e. same (goes_on r.before r.begun m ms) ∙ r.refuses m ms e;
+  refuses = λ m ms e. same (continues r.before r.begun m ms) ∙ r.refuses m ms e;
   on = goes_after k j l r.before r.begun fault same r.on;
 }
 
@@ -266,25 +266,25 @@ after_key s = equals_value s >>= λ v. Ok (true, v.1)
 abbrev restat_marked : State → Step Bool
 restat_marked s = name_next wanted.VariableName s >>= this_word (codes "restat") after_key
 
-restat-told : (s : State) → told (restat_marked s) ≡ led_on (restat_line s)
+restat-reported : (s : State) → reported (restat_marked s) ≡ led_on (restat_line s)
 unfolding restat_line
-restat-told s =
-    word-told (codes "restat") wanted.VariableName s after_key (λ key. led_on (ended key)) (λ key. told-bind (equals_value key) (λ v. Ok (true, v.1)) (λ v. Ok (true, v.1)) (kept-value key) (λ v. refl) ∙ sym (bind-bind (equals_value key) (λ v. Ok v.1) (λ t. Ok (true, t))))
+restat-reported s =
+    word-reported (codes "restat") wanted.VariableName s after_key (λ key. led_on (ended key)) (λ key. reported-bind (equals_value key) (λ v. Ok (true, v.1)) (λ v. Ok (true, v.1)) (kept-value key) (λ v. refl) ∙ sym (bind-bind (equals_value key) (λ v. Ok v.1) (λ t. Ok (true, t))))
     ∙ sym (bind-bind (word_of_form (codes "restat") wanted.VariableName s) ended (λ t. Ok (true, t)))
   where
     ended : State → Result State Fault
     ended key = equals_value key >>= λ v. Ok v.1
 
 -- what is said of an indented line, by the units after its spaces
-abbrev Spaced : (spaces : List TextUnit) → Said Bool
-Spaced sp x e ms r = (kind_units (sp ++ x) ≡ IndentedLine) × (after_spaces (sp ++ x) ≡ x) × (led_on (restat_line (at x e ms)) ≡ told r)
+abbrev Spaced : (spaces : List TextUnit) → Claim Bool
+Spaced sp x e ms r = (kind_units (sp ++ x) ≡ IndentedLine) × (after_spaces (sp ++ x) ≡ x) × (led_on (restat_line (at x e ms)) ≡ reported r)
 
 -- `restat=x`
 ends_restat : ReadTo (λ ms. name_next wanted.VariableName (at (text (codes "restat=x")) (written []) ms) >>= this_word (codes "restat") after_key)
 unfolding name_next equals_value expect_sign
 ends_restat = (true, λ ms. refl)
 
-restat_turn : {P : Said Bool} {whole : List TextUnit} (e : Line) (us : List TextUnit) → Along P whole restat_marked starts us → Outcome P whole e
+restat_turn : {P : Claim Bool} {whole : List TextUnit} (e : Line) (us : List TextUnit) → Along P whole restat_marked starts us → Outcome P whole e
 restat_turn e us a = word_turn e (codes "restat") wanted.VariableName restat_marked after_key (λ s. refl) a (codes "restat=x") refl refl refl ends_restat (λ n b. value_turn e (λ w. true) after_key (λ s. refl) b)
 
 restat_outcome : (l : Line) → kind_of l ≡ IndentedLine → Outcome (Spaced (spaces_of l.units)) (after_spaces l.units) l
@@ -292,8 +292,8 @@ restat_outcome l h = restat_turn l (after_spaces l.units) (begin (Spaced (spaces
   where
     by_fit : (x : List TextUnit) (e : Line) (ms : List Line) → Fits starts (after_spaces l.units) x → Spaced (spaces_of l.units) x e ms (restat_marked (at x e ms))
     by_fit x e ms (inl f) =
-        (identifier_spaced (spaces_of l.units) x (spaces_pass l.units) f ∙ ap text_kind (indented_spaces l.units h), unspaced (spaces_of l.units) x (spaces_pass l.units) (identifier_no_space x f), sym (restat-told (at x e ms)))
-    by_fit x e ms (inr f) = (kind_replaced l.units x f ∙ h, unspaced (spaces_of l.units) x (spaces_pass l.units) (no_space_same l.units x f), sym (restat-told (at x e ms)))
+        (identifier_spaced (spaces_of l.units) x (spaces_pass l.units) f ∙ ap text_kind (indented_spaces l.units h), unspaced (spaces_of l.units) x (spaces_pass l.units) (identifier_no_space x f), sym (restat-reported (at x e ms)))
+    by_fit x e ms (inr f) = (kind_replaced l.units x f ∙ h, unspaced (spaces_of l.units) x (spaces_pass l.units) (no_space_same l.units x f), sym (restat-reported (at x e ms)))
 
 -- ---- the block
 

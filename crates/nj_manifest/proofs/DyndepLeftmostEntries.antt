@@ -11,15 +11,15 @@ use Rattle.nj_manifest.specs.Faults.{Fault, Bad, UnexpectedIndent}
 use Rattle.nj_manifest.specs.LineSteps.{Step, ◌>>=◌, name_next, expect_sign, section_next}
 use Rattle.nj_manifest.specs.Statements.{Parse, lines_from, front_of}
 use Rattle.nj_manifest.specs.Openings.{ended, opening_by, opening}
-use Rattle.nj_manifest.specs.Leftmost.{goes_on, element, written, met_before, offers}
+use Rattle.nj_manifest.specs.Leftmost.{continues, element, written, met_before, offers}
 use Rattle.nj_manifest.specs.Dyndeps.{EntryText, word_of_form, no_path, no_section, output_next, added_inputs, entry_line, restat_block, entry_at, entry_from, next_entry}
-use Rattle.nj_manifest.specs.DyndepLeftmost.{are_apart, NamesPlaceInEntry, SomeEntry, LineTooMany, EntryStandsLeftmost, DyndepFaultsAreLeftmost}
+use Rattle.nj_manifest.specs.DyndepLeftmost.{are_apart, NamesPlaceInEntry, SomeEntry, LineTooMany, EntryComesLeftmost, DyndepFaultsAreLeftmost}
 use Rattle.nj_manifest.proofs.LeftmostFronts.{element-front}
 use Rattle.nj_manifest.proofs.LeftmostSteps.{text, Stuck, Outcome, stuck, through}
 use Rattle.nj_manifest.proofs.LeftmostKinds.{spaces_of, after_spaces, spaces_cut, spaces_pass, kind_spaced, kind_replaced, tab_place, unspaced, no_space_same}
 use Rattle.nj_manifest.proofs.DyndepLeftmostMarks.{real}
 use Rattle.nj_manifest.proofs.DyndepLeftmostLines.{EntryPlain, entry_outcome}
-use Rattle.nj_manifest.proofs.DyndepLeftmostBlocks.{real_place, real_before, real_offers, in_lines, in_blank, first_line, block_is, BlockGoesOn, with_text, with_end, LinesStuck, errs, no_fault, block_stuck}
+use Rattle.nj_manifest.proofs.DyndepLeftmostBlocks.{real_place, real_before, real_offers, in_lines, in_blank, first_line, block_is, BlockContinues, with_text, with_end, LinesStuck, errs, no_fault, block_stuck}
 
 -- ---- the next entry, by the kind of its first line
 
@@ -68,12 +68,12 @@ block_fault v ls f h = by_block (in_lines first_line ls) h
     by_block (Ok end) g = absurd cc
     by_block (Err e) g = ap Err (errs g)
 
-as_fault : (ls : List Line) (f g : Fault) → g ≡ f → EntryStandsLeftmost ls g → EntryStandsLeftmost ls f
-as_fault ls f g e s = subst (λ (h : Fault). EntryStandsLeftmost ls h) e s
+as_fault : (ls : List Line) (f g : Fault) → g ≡ f → EntryComesLeftmost ls g → EntryComesLeftmost ls f
+as_fault ls f g e s = subst (λ (h : Fault). EntryComesLeftmost ls h) e s
 
 -- ---- the fault is in the first line
 
-stuck_first : (l : Line) (ls : List Line) (f : Fault) → Stuck EntryPlain l.units l f → EntryStandsLeftmost (l ∷ ls) (real f)
+stuck_first : (l : Line) (ls : List Line) (f : Fault) → Stuck EntryPlain l.units l f → EntryComesLeftmost (l ∷ ls) (real f)
 stuck_first l ls f s =
     let r = s.some [] in
     let read = plain_read (with_units (s.begun ++ text s.bytes) (written [])) [] s.value [] r.0 (r.1 tt) in
@@ -92,15 +92,15 @@ stuck_first l ls f s =
 
 -- ---- the fault is in the block
 
-goes_in_block : (l : Line) (v : EntryText) (before : List Line) (begun : List TextUnit) (fault : Fault) → ((ms : List Line) → next_entry (l ∷ ms) ≡ block_then v ms) → BlockGoesOn first_line before begun fault → SomeEntry (l ∷ before) begun fault ⊎ LineTooMany (l ∷ before) begun
+goes_in_block : (l : Line) (v : EntryText) (before : List Line) (begun : List TextUnit) (fault : Fault) → ((ms : List Line) → next_entry (l ∷ ms) ≡ block_then v ms) → BlockContinues first_line before begun fault → SomeEntry (l ∷ before) begun fault ⊎ LineTooMany (l ∷ before) begun
 goes_in_block l v before begun fault reads (with_text bytes plain offered end some) =
-    let xs = goes_on before begun (written bytes) [] in
+    let xs = continues before begun (written bytes) [] in
     inl (record { bytes = bytes; lines = []; plain_bytes = plain; offered = offered; plain_lines = refl; entry = v; rest = lines_from end; reads = reads xs ∙ block_read v xs end some })
 goes_in_block l v before begun fault reads (with_end spaces gap cut of_spaces of_blanks end some) =
-    let xs = goes_on before spaces (written []) [] in
+    let xs = continues before spaces (written []) [] in
     inr (record { spaces = spaces; gap = gap; cut = cut; of_spaces = of_spaces; of_blanks = of_blanks; entry = v; rest = lines_from end; reads = reads xs ∙ block_read v xs end some })
 
-stuck_in_block : (l : Line) (ls : List Line) (fault : Fault) (v : EntryText) → ((ms : List Line) → next_entry (l ∷ ms) ≡ block_then v ms) → LinesStuck first_line ls fault → EntryStandsLeftmost (l ∷ ls) fault
+stuck_in_block : (l : Line) (ls : List Line) (fault : Fault) (v : EntryText) → ((ms : List Line) → next_entry (l ∷ ms) ≡ block_then v ms) → LinesStuck first_line ls fault → EntryComesLeftmost (l ∷ ls) fault
 stuck_in_block l ls fault v reads s = record {
   before = l ∷ s.before;
   begun = s.begun;
@@ -110,18 +110,18 @@ stuck_in_block l ls fault v reads s = record {
   place = s.place;
   some = goes_in_block l v s.before s.begun fault reads s.on;
   refuses = λ m ms same apart.
-      let ys = goes_on s.before s.begun m ms in
+      let ys = continues s.before s.begun m ms in
       reads ys ∙ block_bad v ys (met_before m fault) (s.refuses m ms same);
 }
 
-plain_leftmost : (l : Line) (ls : List Line) (fault : Fault) → are_apart l.units ≡ true → kind_of l ≡ PlainLine → next_entry (l ∷ ls) ≡ Err fault → EntryStandsLeftmost (l ∷ ls) fault
+plain_leftmost : (l : Line) (ls : List Line) (fault : Fault) → are_apart l.units ≡ true → kind_of l ≡ PlainLine → next_entry (l ∷ ls) ≡ Err fault → EntryComesLeftmost (l ∷ ls) fault
 plain_leftmost l ls fault apart k h = by_line (entry_outcome l k)
   where
-    by_last : (v : EntryText) (t : Bool) → l.is_last ≡ t → ((ms : List Line) → next_entry (l ∷ ms) ≡ block_then v (lines_after l ms)) → in_lines first_line (cond t (with_units [] l ∷ ls) ls) ≡ Err fault → EntryStandsLeftmost (l ∷ ls) fault
+    by_last : (v : EntryText) (t : Bool) → l.is_last ≡ t → ((ms : List Line) → next_entry (l ∷ ms) ≡ block_then v (lines_after l ms)) → in_lines first_line (cond t (with_units [] l ∷ ls) ls) ≡ Err fault → EntryComesLeftmost (l ∷ ls) fault
     by_last v true last reads b = let r = in_blank first_line (with_units [] l) ls refl in no_fault (in_lines first_line (with_units [] l ∷ ls)) r.0 fault r.1 b
     by_last v false last reads b = stuck_in_block l ls fault v (λ ms. reads ms ∙ ap (λ (t : Bool). block_then v (cond t (with_units [] l ∷ ms) ms)) last) (block_stuck ls fault b)
 
-    by_line : Outcome EntryPlain l.units l → EntryStandsLeftmost (l ∷ ls) fault
+    by_line : Outcome EntryPlain l.units l → EntryComesLeftmost (l ∷ ls) fault
     by_line (stuck f s) = as_fault (l ∷ ls) fault (real f) (errs (sym (plain_bad l ls (real f) k ((s.fails ls).1 apart)) ∙ h)) (stuck_first l ls f s)
     by_line (through v so) =
         let reads = λ (ms : List Line). plain_read l ms v (lines_after l ms) k ((so ms).1 tt) in
@@ -135,7 +135,7 @@ some_entry = (_, _, refl)
 
 -- The fault is that of the line's kind, whatever is after its first unit.
 of_kind : (l : Line) (ls : List Line) (fault : Fault) → offers fault [] ≡ true → NamesPlaceInEntry fault (with_units (after_spaces l.units) l)
-    → ((m : Line) (ms : List Line) → element m.units ≡ element (after_spaces l.units) → next_entry (with_units (spaces_of l.units ++ m.units) m ∷ ms) ≡ Err (met_before m fault)) → EntryStandsLeftmost (l ∷ ls) fault
+    → ((m : Line) (ms : List Line) → element m.units ≡ element (after_spaces l.units) → next_entry (with_units (spaces_of l.units ++ m.units) m ∷ ms) ≡ Err (met_before m fault)) → EntryComesLeftmost (l ∷ ls) fault
 of_kind l ls fault offered place refuses =
     let sp = spaces_of l.units in
     let lines = written (codes "build x:dyndep") ∷ [] in
@@ -151,7 +151,7 @@ of_kind l ls fault offered place refuses =
       refuses = λ m ms same apart. refuses m ms same;
     }
 
-tab_leftmost : (l : Line) (ls : List Line) (tab : Spot) → kind_of l ≡ TabLine tab → EntryStandsLeftmost (l ∷ ls) (Bad (lex.Tab tab))
+tab_leftmost : (l : Line) (ls : List Line) (tab : Spot) → kind_of l ≡ TabLine tab → EntryComesLeftmost (l ∷ ls) (Bad (lex.Tab tab))
 tab_leftmost l ls tab k =
     of_kind l ls (Bad (lex.Tab tab)) refl (tab_place l.units tab l.end k)
     (λ m ms same. (by_kind_entry (with_units (spaces_of l.units ++ m.units) m) ms (TabLine tab) (kind_replaced l.units m.units (element-front m.units (after_spaces l.units) same) ∙ k)))
@@ -160,7 +160,7 @@ tab_leftmost l ls tab k =
 abbrev unexpected_at : Line → Parse (Option EntryText)
 unexpected_at l = Err (UnexpectedIndent (record { line = (line_spot l).line; column = 1 }))
 
-indented_leftmost : (l : Line) (ls : List Line) → kind_of l ≡ IndentedLine → EntryStandsLeftmost (l ∷ ls) (UnexpectedIndent (front_of l))
+indented_leftmost : (l : Line) (ls : List Line) → kind_of l ≡ IndentedLine → EntryComesLeftmost (l ∷ ls) (UnexpectedIndent (front_of l))
 indented_leftmost l ls k =
     of_kind l ls (UnexpectedIndent (front_of l)) refl refl
     (λ m ms same.
@@ -170,10 +170,10 @@ indented_leftmost l ls k =
 
 -- after a line that says nothing, and is not the last
 goes_after : (l : Line) (before : List Line) (begun : List TextUnit) (fault : Fault) → ((ms : List Line) → next_entry (l ∷ ms) ≡ next_entry ms) → SomeEntry before begun fault ⊎ LineTooMany before begun → SomeEntry (l ∷ before) begun fault ⊎ LineTooMany (l ∷ before) begun
-goes_after l before begun fault same (inl r) = inl (record { bytes = r.bytes; lines = r.lines; plain_bytes = r.plain_bytes; offered = r.offered; plain_lines = r.plain_lines; entry = r.entry; rest = r.rest; reads = same (goes_on before begun (written r.bytes) (map written r.lines)) ∙ r.reads })
-goes_after l before begun fault same (inr r) = inr (record { spaces = r.spaces; gap = r.gap; cut = r.cut; of_spaces = r.of_spaces; of_blanks = r.of_blanks; entry = r.entry; rest = r.rest; reads = same (goes_on before r.spaces (written []) []) ∙ r.reads })
+goes_after l before begun fault same (inl r) = inl (record { bytes = r.bytes; lines = r.lines; plain_bytes = r.plain_bytes; offered = r.offered; plain_lines = r.plain_lines; entry = r.entry; rest = r.rest; reads = same (continues before begun (written r.bytes) (map written r.lines)) ∙ r.reads })
+goes_after l before begun fault same (inr r) = inr (record { spaces = r.spaces; gap = r.gap; cut = r.cut; of_spaces = r.of_spaces; of_blanks = r.of_blanks; entry = r.entry; rest = r.rest; reads = same (continues before r.spaces (written []) []) ∙ r.reads })
 
-leftmost_after : (l : Line) (ls : List Line) (fault : Fault) → ((ms : List Line) → next_entry (l ∷ ms) ≡ next_entry ms) → EntryStandsLeftmost ls fault → EntryStandsLeftmost (l ∷ ls) fault
+leftmost_after : (l : Line) (ls : List Line) (fault : Fault) → ((ms : List Line) → next_entry (l ∷ ms) ≡ next_entry ms) → EntryComesLeftmost ls fault → EntryComesLeftmost (l ∷ ls) fault
 leftmost_after l ls fault same r = record {
   before = l ∷ r.before;
   begun = r.begun;
@@ -182,7 +182,7 @@ leftmost_after l ls fault same r = record {
   cut = ap (λ (y : List Line). l ∷ y) r.cut;
   place = r.place;
   some = goes_after l r.before r.begun fault same r.some;
-  refuses = λ m ms e apart. same (goes_on r.before r.begun m ms) ∙ r.refuses m ms e apart;
+  refuses = λ m ms e apart. same (continues r.before r.begun m ms) ∙ r.refuses m ms e apart;
 }
 
 -- ---- the law
@@ -191,11 +191,11 @@ not_last : (t : Bool) (left ls : List Line) (f : Fault) → (cond t (ended left)
 not_last true left ls f h = absurd cc
 not_last false left ls f h = (refl, next_is ls ∙ h)
 
-leftmost : (ls : List Line) (fault : Fault) → list_all (λ l. are_apart l.units) ls ≡ true → next_entry ls ≡ Err fault → EntryStandsLeftmost ls fault
+leftmost : (ls : List Line) (fault : Fault) → list_all (λ l. are_apart l.units) ls ≡ true → next_entry ls ≡ Err fault → EntryComesLeftmost ls fault
 leftmost [] fault apart h = no_fault (next_entry []) (None, []) fault nothing_next h
 leftmost (l ∷ ls) fault apart h = by_kind (kind_of l) refl (λ e. leftmost ls fault (and_parts _ _ apart).1 e)
   where
-    by_kind : (k : Kind) → kind_of l ≡ k → (next_entry ls ≡ Err fault → EntryStandsLeftmost ls fault) → EntryStandsLeftmost (l ∷ ls) fault
+    by_kind : (k : Kind) → kind_of l ≡ k → (next_entry ls ≡ Err fault → EntryComesLeftmost ls fault) → EntryComesLeftmost (l ∷ ls) fault
     by_kind CommentLine k rest =
         let last = not_last l.is_last (lines_after l (without_comments ls)) ls fault (sym (by_kind_entry l ls CommentLine k) ∙ h) in
         leftmost_after l ls fault (λ ms. by_kind_entry l ms CommentLine k ∙ (ap (λ (t : Bool). cond t (ended (lines_after l (without_comments ms))) (opening ms) >>= entry_from) last.0 ∙ sym (next_is ms))) (rest last.1)

@@ -11,7 +11,7 @@ use Rattle.nj_manifest.specs.Leftmost.{written}
 use Rattle.nj_manifest.specs.Dyndeps.{EntryText, entry_line}
 use Rattle.nj_manifest.specs.DyndepLeftmost.{are_apart}
 use Rattle.nj_manifest.proofs.LeftmostRuns.{skip}
-use Rattle.nj_manifest.proofs.LeftmostSteps.{at, text, Fits, after_name, after_words, Said, Along, begin, Outcome, stuck, stick, pass}
+use Rattle.nj_manifest.proofs.LeftmostSteps.{at, text, Fits, after_name, after_words, Claim, Along, begin, Outcome, stuck, stick, pass}
 use Rattle.nj_manifest.proofs.LeftmostSigns.{sign_step, colon_single, finish}
 use Rattle.nj_manifest.proofs.LeftmostWords.{settled}
 use Rattle.nj_manifest.proofs.LeftmostSections.{is_pipe, is_pipe2, is_pipe_at}
@@ -19,7 +19,7 @@ use Rattle.nj_manifest.proofs.LeftmostBuilds.{words_after_name}
 use Rattle.nj_manifest.proofs.LeftmostHeads.{starts}
 use Rattle.nj_manifest.proofs.LeftmostKinds.{kind_units, plain_same, identifier_plain}
 use Rattle.nj_manifest.proofs.LeftmostTurns.{ReadTo, sign_turn, section_turn}
-use Rattle.nj_manifest.proofs.DyndepLeftmostMarks.{told, this_word, path_step, bar_step, output_word, at_end, at_second_bar, at_first_bar, entry_of, with_ins, at_ins, at_inputs, at_rule, with_outs, at_outs, with_output, at_output, entry_marked, entry-told}
+use Rattle.nj_manifest.proofs.DyndepLeftmostMarks.{reported, this_word, path_step, bar_step, output_word, at_end, at_second_bar, at_first_bar, entry_of, with_ins, at_ins, at_inputs, at_rule, with_outs, at_outs, with_output, at_output, entry_marked, entry-reported}
 use Rattle.nj_manifest.proofs.DyndepLeftmostOutputs.{OutputSeen, reads_on, ends_here, output_seen, after_output}
 use Rattle.nj_manifest.proofs.DyndepLeftmostPaths.{apart_after, clear_step, path_is_clear, path_is_passed, clear_turn, bar_turn, word_turn}
 
@@ -29,17 +29,17 @@ Seen (Ok y) us = Unit {0}
 Seen (Err f) us = are_apart us ≡ true
 
 -- what is said of the line of an entry
-abbrev pub EntryPlain : Said EntryText
-EntryPlain x e ms r = (kind_units x ≡ PlainLine) × (Seen r x → entry_line (at x e ms) ≡ told r)
+abbrev pub EntryPlain : Claim EntryText
+EntryPlain x e ms r = (kind_units x ≡ PlainLine) × (Seen r x → entry_line (at x e ms) ≡ reported r)
 
 -- No path stands here, whatever becomes of one that does.
-module _ (k : State → Step EntryText) (g : Bool × State → Step EntryText) (so : (s : State) → k s ≡ (path_step s >>= g)) (begun x : List TextUnit) (d : Line) (ms : List Line) (said : EntryPlain (begun ++ x) d ms (k (at x d ms))) where
-  said_as : (c : Step Bool) → path_step (at x d ms) ≡ c → EntryPlain (begun ++ x) d ms (c >>= g)
-  said_as c h = subst (λ (r : Step EntryText). EntryPlain (begun ++ x) d ms r) (so (at x d ms) ∙ ap (λ (r : Step Bool). r >>= g) h) said
+module _ (k : State → Step EntryText) (g : Bool × State → Step EntryText) (so : (s : State) → k s ≡ (path_step s >>= g)) (begun x : List TextUnit) (d : Line) (ms : List Line) (meant : EntryPlain (begun ++ x) d ms (k (at x d ms))) where
+  given_as : (c : Step Bool) → path_step (at x d ms) ≡ c → EntryPlain (begun ++ x) d ms (c >>= g)
+  given_as c h = subst (λ (r : Step EntryText). EntryPlain (begun ++ x) d ms r) (so (at x d ms) ∙ ap (λ (r : Step Bool). r >>= g) h) meant
 
   by_clear : (c : Step Bool) → clear_step (at x d ms) ≡ c → EntryPlain (begun ++ x) d ms (c >>= g)
-  by_clear (Ok y) h = said_as (Ok y) (path_is_passed x d ms y h)
-  by_clear (Err f) h = (said.0, λ apart. (said_as (Err f) (path_is_clear x d ms (apart_after begun x apart) ∙ h)).1 apart)
+  by_clear (Ok y) h = given_as (Ok y) (path_is_passed x d ms y h)
+  by_clear (Err f) h = (meant.0, λ apart. (given_as (Err f) (path_is_clear x d ms (apart_after begun x apart) ∙ h)).1 apart)
 
 along-clear : {whole : List TextUnit} {t : List TextUnit → Bool} {us : List TextUnit} (k : State → Step EntryText) (g : Bool × State → Step EntryText) → ((s : State) → k s ≡ (path_step s >>= g)) → Along EntryPlain whole k t us → Along EntryPlain whole (λ s. clear_step s >>= g) t us
 along-clear k g so a = record { begun = a.begun; cut = a.cut; goes = λ x d ms fit. by_clear k g so a.begun x d ms (a.goes x d ms fit) (clear_step (at x d ms)) refl }
@@ -139,5 +139,5 @@ pub entry_outcome : (l : Line) → kind_of l ≡ PlainLine → Outcome EntryPlai
 entry_outcome l h = entry_turn l l.units (begin EntryPlain entry_marked starts l.units by_fit)
   where
     by_fit : (x : List TextUnit) (e : Line) (ms : List Line) → Fits starts l.units x → EntryPlain x e ms (entry_marked (at x e ms))
-    by_fit x e ms (inl f) = (identifier_plain x f, λ seen. sym (entry-told (at x e ms)))
-    by_fit x e ms (inr f) = (plain_same l.units x h f, λ seen. sym (entry-told (at x e ms)))
+    by_fit x e ms (inl f) = (identifier_plain x f, λ seen. sym (entry-reported (at x e ms)))
+    by_fit x e ms (inr f) = (plain_same l.units x h f, λ seen. sym (entry-reported (at x e ms)))

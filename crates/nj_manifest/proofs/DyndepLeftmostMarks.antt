@@ -27,22 +27,22 @@ real (UnknownKey spot key) = DyndepShape spot
 real fault = fault
 
 -- what is read, with the faults that are meant
-abbrev pub told : {A : Type 0} → Result A Fault → Result A Fault
-told (Ok x) = Ok x
-told (Err f) = Err (real f)
+abbrev pub reported : {A : Type 0} → Result A Fault → Result A Fault
+reported (Ok x) = Ok x
+reported (Err f) = Err (real f)
 
 -- a reading that marks nothing
 abbrev pub Kept : {A : Type 0} → Result A Fault → Type 0
 Kept (Ok x) = Unit {0}
 Kept (Err f) = real f ≡ f
 
-pub told-same : {A : Type 0} (r : Result A Fault) → Kept r → told r ≡ r
-told-same (Ok x) k = refl
-told-same (Err f) k = ap Err k
+pub reported-same : {A : Type 0} (r : Result A Fault) → Kept r → reported r ≡ r
+reported-same (Ok x) k = refl
+reported-same (Err f) k = ap Err k
 
-pub told-bind : {A B : Type 0} (r : Result A Fault) (f g : A → Result B Fault) → Kept r → ((x : A) → told (f x) ≡ g x) → told (r >>= f) ≡ (r >>= g)
-told-bind (Ok x) f g k h = h x
-told-bind (Err e) f g k h = ap Err k
+pub reported-bind : {A B : Type 0} (r : Result A Fault) (f g : A → Result B Fault) → Kept r → ((x : A) → reported (f x) ≡ g x) → reported (r >>= f) ≡ (r >>= g)
+reported-bind (Ok x) f g k h = h x
+reported-bind (Err e) f g k h = ap Err k
 
 kept-bind : {A B : Type 0} (r : Result A Fault) (f : A → Result B Fault) → Kept r → ((x : A) → Kept (f x)) → Kept (r >>= f)
 kept-bind (Ok x) f k h = h x
@@ -53,7 +53,7 @@ kept-answered (Ok x) s = tt
 kept-answered (Err f) s = refl
 
 pub kept-called : {A : Type 0} (r : Reply A) → Kept (called r)
-kept-called r = kept-answered r.answer r.after
+kept-called r = kept-answered r.outcome r.after
 
 kept-named : (want : Wanted) (spot : Spot) (name : Option (List ℕ)) (s : State) → Kept (named want spot name s)
 kept-named want spot (Some name) s = tt
@@ -111,15 +111,15 @@ kept-value s =
 abbrev pub this_word : {B : Type 0} → (word : List ℕ) → (State → Step B) → NameText × State → Step B
 this_word word next name = unless_missing (bytes_eq name.0.name word) (marked name.0.spot) (next name.1)
 
-pub word-told : {B : Type 0} (word : List ℕ) (want : Wanted) (s : State) (f g : State → Step B) → ((t : State) → told (f t) ≡ g t) → told (name_next want s >>= this_word word f) ≡ (word_of_form word want s >>= g)
+pub word-reported : {B : Type 0} (word : List ℕ) (want : Wanted) (s : State) (f g : State → Step B) → ((t : State) → reported (f t) ≡ g t) → reported (name_next want s >>= this_word word f) ≡ (word_of_form word want s >>= g)
 unfolding word_of_form
-word-told {B = B} word want s f g h = by_name (name_next want s) (kept-name want s)
+word-reported {B = B} word want s f g h = by_name (name_next want s) (kept-name want s)
   where
-    by_test : (t : Bool) (n : NameText × State) → told (unless_missing t (marked n.0.spot) (f n.1)) ≡ (unless_missing t (DyndepShape n.0.spot) (Ok n.1) >>= g)
+    by_test : (t : Bool) (n : NameText × State) → reported (unless_missing t (marked n.0.spot) (f n.1)) ≡ (unless_missing t (DyndepShape n.0.spot) (Ok n.1) >>= g)
     by_test true n = h n.1
     by_test false n = refl
 
-    by_name : (r : Step NameText) → Kept r → told (r >>= this_word word f) ≡ ((r >>= λ name. unless_missing (bytes_eq name.0.name word) (DyndepShape name.0.spot) (Ok name.1)) >>= g)
+    by_name : (r : Step NameText) → Kept r → reported (r >>= this_word word f) ≡ ((r >>= λ name. unless_missing (bytes_eq name.0.name word) (DyndepShape name.0.spot) (Ok name.1)) >>= g)
     by_name (Ok n) k = by_test (bytes_eq n.0.name word) n
     by_name (Err e) k = ap Err k
 
@@ -130,20 +130,20 @@ path_by spot (Ok (Some word)) after = Err (marked spot)
 path_by spot (Err unit) after = unless_missing (is_same_spot (fault_spot unit) spot) (marked spot) (Err (Bad unit))
 
 abbrev pub path_step : State → Step Bool
-path_step s = let here = skip_blanks_of s in path_by (spot_of here) (path_word_of here).answer (path_word_of here).after
+path_step s = let here = skip_blanks_of s in path_by (spot_of here) (path_word_of here).outcome (path_word_of here).after
 
-path-told : {B : Type 0} (s : State) (f g : State → Result B Fault) → ((t : State) → told (f t) ≡ g t) → told (path_step s >>= λ c. f c.1) ≡ (no_path s >>= g)
+path-reported : {B : Type 0} (s : State) (f g : State → Result B Fault) → ((t : State) → reported (f t) ≡ g t) → reported (path_step s >>= λ c. f c.1) ≡ (no_path s >>= g)
 unfolding no_path
-path-told {B = B} s f g h = let here = skip_blanks_of s in by_answer (spot_of here) (path_word_of here).answer (path_word_of here).after
+path-reported {B = B} s f g h = let here = skip_blanks_of s in by_outcome (spot_of here) (path_word_of here).outcome (path_word_of here).after
   where
-    by_test : (t : Bool) (spot : Spot) (unit : UnitFault) → told (◌>>=◌ {A = Bool × State} (unless_missing t (marked spot) (Err (Bad unit))) (λ c. f c.1)) ≡ (◌>>=◌ {A = State} (unless_missing t (DyndepShape spot) (Err (Bad unit))) g)
+    by_test : (t : Bool) (spot : Spot) (unit : UnitFault) → reported (◌>>=◌ {A = Bool × State} (unless_missing t (marked spot) (Err (Bad unit))) (λ c. f c.1)) ≡ (◌>>=◌ {A = State} (unless_missing t (DyndepShape spot) (Err (Bad unit))) g)
     by_test true spot unit = refl
     by_test false spot unit = refl
 
-    by_answer : (spot : Spot) (a : Result (Option WordText) UnitFault) (after : State) → told (path_by spot a after >>= λ c. f c.1) ≡ (no_path_by spot a after >>= g)
-    by_answer spot (Ok None) after = h after
-    by_answer spot (Ok (Some word)) after = refl
-    by_answer spot (Err unit) after = by_test (is_same_spot (fault_spot unit) spot) spot unit
+    by_outcome : (spot : Spot) (a : Result (Option WordText) UnitFault) (after : State) → reported (path_by spot a after >>= λ c. f c.1) ≡ (no_path_by spot a after >>= g)
+    by_outcome spot (Ok None) after = h after
+    by_outcome spot (Ok (Some word)) after = refl
+    by_outcome spot (Err unit) after = by_test (is_same_spot (fault_spot unit) spot) spot unit
 
 -- no section with this sign
 abbrev pub unbarred : Spot → Bool × State → Step Bool
@@ -155,16 +155,16 @@ no_bar spot there = unless_missing (not there.0) (DyndepShape spot) (Ok there.1)
 abbrev pub bar_step : Sign → State → Step Bool
 bar_step want s = called (sign_of want (skip_blanks_of s)) >>= unbarred (spot_of (skip_blanks_of s))
 
-bar-told : {B : Type 0} (want : Sign) (s : State) (f g : State → Result B Fault) → ((t : State) → told (f t) ≡ g t) → told (bar_step want s >>= λ c. f c.1) ≡ (no_section want s >>= g)
+bar-reported : {B : Type 0} (want : Sign) (s : State) (f g : State → Result B Fault) → ((t : State) → reported (f t) ≡ g t) → reported (bar_step want s >>= λ c. f c.1) ≡ (no_section want s >>= g)
 unfolding no_section
-bar-told {B = B} want s f g h = by_sign (called (sign_of want (skip_blanks_of s))) (kept-called (sign_of want (skip_blanks_of s))) (spot_of (skip_blanks_of s))
+bar-reported {B = B} want s f g h = by_sign (called (sign_of want (skip_blanks_of s))) (kept-called (sign_of want (skip_blanks_of s))) (spot_of (skip_blanks_of s))
   where
-    by_test : (t : Bool) (after : State) (spot : Spot) → told (◌>>=◌ {A = Bool × State} (unless_missing t (marked spot) (Ok (true, after))) (λ c. f c.1)) ≡ (◌>>=◌ {A = State} (unless_missing t (DyndepShape spot) (Ok after)) g)
+    by_test : (t : Bool) (after : State) (spot : Spot) → reported (◌>>=◌ {A = Bool × State} (unless_missing t (marked spot) (Ok (true, after))) (λ c. f c.1)) ≡ (◌>>=◌ {A = State} (unless_missing t (DyndepShape spot) (Ok after)) g)
     by_test true after spot = h after
     by_test false after spot = refl
 
     by_sign : (r : Step Bool) → Kept r → (spot : Spot)
-        → told ((r >>= unbarred spot) >>= λ c. f c.1) ≡ ((r >>= no_bar spot) >>= g)
+        → reported ((r >>= unbarred spot) >>= λ c. f c.1) ≡ ((r >>= no_bar spot) >>= g)
     by_sign (Ok there) k spot = by_test (not there.0) there.1 spot
     by_sign (Err e) k spot = ap Err k
 
@@ -176,9 +176,9 @@ output_there None after = called (sign_of sign.Pipe after) >>= λ pipe. unless_m
 abbrev pub output_word : State → Step WordText
 output_word s = called (path_word_of s) >>= λ found. output_there found.0 found.1
 
-output-told : {B : Type 0} (s : State) (f g : WordText → State → Result B Fault) → ((w : WordText) (t : State) → told (f w t) ≡ g w t) → told (output_word s >>= λ o. path_step o.1 >>= λ c. f o.0 c.1) ≡ (output_next s >>= λ out. g out.0 out.1)
+output-reported : {B : Type 0} (s : State) (f g : WordText → State → Result B Fault) → ((w : WordText) (t : State) → reported (f w t) ≡ g w t) → reported (output_word s >>= λ o. path_step o.1 >>= λ c. f o.0 c.1) ≡ (output_next s >>= λ out. g out.0 out.1)
 unfolding output_next
-output-told {B = B} s f g h = by_word (called (path_word_of s)) (kept-called (path_word_of s))
+output-reported {B = B} s f g h = by_word (called (path_word_of s)) (kept-called (path_word_of s))
   where
     then : WordText × State → Result B Fault
     then o = path_step o.1 >>= λ c. f o.0 c.1
@@ -186,21 +186,21 @@ output-told {B = B} s f g h = by_word (called (path_word_of s)) (kept-called (pa
     read : WordText → State → Step WordText
     read w end = Ok (w, end)
 
-    after_word : (w : WordText) (a : State) → told (path_step a >>= λ c. f w c.1) ≡ ((no_path a >>= read w) >>= λ out. g out.0 out.1)
-    after_word w a = path-told a (f w) (g w) (h w) ∙ sym (bind-bind (no_path a) (read w) (λ out. g out.0 out.1))
+    after_word : (w : WordText) (a : State) → reported (path_step a >>= λ c. f w c.1) ≡ ((no_path a >>= read w) >>= λ out. g out.0 out.1)
+    after_word w a = path-reported a (f w) (g w) (h w) ∙ sym (bind-bind (no_path a) (read w) (λ out. g out.0 out.1))
 
     by_pipe : (r : Step Bool) → Kept r → (spot : Spot)
-        → told (◌>>=◌ {A = WordText × State} (r >>= λ pipe. unless_missing (not pipe.0) (marked spot) (Err (Expected spot wanted.Path))) then)
+        → reported (◌>>=◌ {A = WordText × State} (r >>= λ pipe. unless_missing (not pipe.0) (marked spot) (Err (Expected spot wanted.Path))) then)
         ≡ (◌>>=◌ {A = WordText × State} (◌>>=◌ {A = WordText × State} (r >>= λ pipe. unless_missing (not pipe.0) (DyndepShape spot) (Err (Expected spot wanted.Path))) (λ out. no_path out.1 >>= read out.0)) (λ out. g out.0 out.1))
     by_pipe (Ok (true, after)) k spot = refl
     by_pipe (Ok (false, after)) k spot = refl
     by_pipe (Err e) k spot = ap Err k
 
-    by_found : (found : Option WordText) (a : State) → told (output_there found a >>= then) ≡ ((first_output found a >>= λ out. no_path out.1 >>= read out.0) >>= λ out. g out.0 out.1)
+    by_found : (found : Option WordText) (a : State) → reported (output_there found a >>= then) ≡ ((first_output found a >>= λ out. no_path out.1 >>= read out.0) >>= λ out. g out.0 out.1)
     by_found (Some w) a = after_word w a
     by_found None a = by_pipe (called (sign_of sign.Pipe a)) (kept-called (sign_of sign.Pipe a)) (spot_of a)
 
-    by_word : (r : Step (Option WordText)) → Kept r → told ((r >>= λ found. output_there found.0 found.1) >>= then) ≡ ((r >>= λ found. first_output found.0 found.1 >>= λ out. no_path out.1 >>= read out.0) >>= λ out. g out.0 out.1)
+    by_word : (r : Step (Option WordText)) → Kept r → reported ((r >>= λ found. output_there found.0 found.1) >>= then) ≡ ((r >>= λ found. first_output found.0 found.1 >>= λ out. no_path out.1 >>= read out.0) >>= λ out. g out.0 out.1)
     by_word (Ok found) k = by_found found.0 found.1
     by_word (Err e) k = ap Err k
 
@@ -245,13 +245,13 @@ at_output s = output_word s >>= with_output
 abbrev pub entry_marked : State → Step EntryText
 entry_marked s = name_next wanted.Statement s >>= this_word (codes "build") at_output
 
-inputs-told : (out : WordText) (outs : List WordText) (s : State) → told (at_inputs out outs s) ≡ (added_inputs s >>= λ ins. Ok (entry_of out outs ins.0, ins.1))
+inputs-reported : (out : WordText) (outs : List WordText) (s : State) → reported (at_inputs out outs s) ≡ (added_inputs s >>= λ ins. Ok (entry_of out outs ins.0, ins.1))
 unfolding added_inputs
-inputs-told out outs s =
-    path-told s (at_ins out outs) (λ alone. after_path alone >>= whole) (λ alone.
-    told-bind (section_next sign.Pipe alone) (with_ins out outs) (λ ins. after_ins ins >>= whole) (kept-section sign.Pipe alone) (λ ins.
-    bar-told sign.Pipe2 ins.1 (at_second_bar (entry_of out outs ins.0)) (λ order_only. after_first ins.0 order_only >>= whole) (λ order_only.
-    bar-told sign.PipeAt order_only (at_end (entry_of out outs ins.0)) (λ v. after_second ins.0 v >>= whole) (λ v. ended ins.0 (expect_sign sign.LineEnd wanted.Newline v) (kept-sign sign.LineEnd wanted.Newline v))
+inputs-reported out outs s =
+    path-reported s (at_ins out outs) (λ alone. after_path alone >>= whole) (λ alone.
+    reported-bind (section_next sign.Pipe alone) (with_ins out outs) (λ ins. after_ins ins >>= whole) (kept-section sign.Pipe alone) (λ ins.
+    bar-reported sign.Pipe2 ins.1 (at_second_bar (entry_of out outs ins.0)) (λ order_only. after_first ins.0 order_only >>= whole) (λ order_only.
+    bar-reported sign.PipeAt order_only (at_end (entry_of out outs ins.0)) (λ v. after_second ins.0 v >>= whole) (λ v. ended ins.0 (expect_sign sign.LineEnd wanted.Newline v) (kept-sign sign.LineEnd wanted.Newline v))
     ∙ sym (bind-bind (no_section sign.PipeAt order_only) (after_second ins.0) whole))
     ∙ sym (bind-bind (no_section sign.Pipe2 ins.1) (after_first ins.0) whole))
     ∙ sym (bind-bind (section_next sign.Pipe alone) after_ins whole))
@@ -272,23 +272,23 @@ inputs-told out outs s =
     after_path : State → Step (List WordText)
     after_path alone = section_next sign.Pipe alone >>= after_ins
 
-    ended : (ins : List WordText) (r : Result State Fault) → Kept r → told (ending (entry_of out outs ins) r) ≡ ((r >>= λ end. Ok (ins, end)) >>= whole)
+    ended : (ins : List WordText) (r : Result State Fault) → Kept r → reported (ending (entry_of out outs ins) r) ≡ ((r >>= λ end. Ok (ins, end)) >>= whole)
     ended ins (Ok end) k = refl
     ended ins (Err f) k = ap Err k
 
-colon-told : (r : Result State Fault) (f g : State → Step EntryText) → Kept r → ((t : State) → told (f t) ≡ g t) → told (led_on r >>= λ c. f c.1) ≡ (r >>= g)
-colon-told (Ok s) f g k h = h s
-colon-told (Err e) f g k h = ap Err k
+colon-reported : (r : Result State Fault) (f g : State → Step EntryText) → Kept r → ((t : State) → reported (f t) ≡ g t) → reported (led_on r >>= λ c. f c.1) ≡ (r >>= g)
+colon-reported (Ok s) f g k h = h s
+colon-reported (Err e) f g k h = ap Err k
 
 -- The line, with its marks told.
-pub entry-told : (s : State) → told (entry_marked s) ≡ entry_line s
+pub entry-reported : (s : State) → reported (entry_marked s) ≡ entry_line s
 unfolding entry_line
-entry-told s =
-    word-told (codes "build") wanted.Statement s at_output (λ build. output_next build >>= λ out. outs_of out.0 out.1) (λ build.
-    output-told build at_outs outs_of (λ out t.
-    told-bind (section_next sign.Pipe t) (with_outs out) (λ outs. colon_of out outs) (kept-section sign.Pipe t) (λ outs.
-    colon-told (expect_sign sign.Colon wanted.Colon outs.1) (at_rule out outs.0) (rule_of out outs.0) (kept-sign sign.Colon wanted.Colon outs.1) (λ colon.
-    word-told (codes "dyndep") wanted.CommandName colon (at_inputs out outs.0) (λ rule. added_inputs rule >>= λ ins. Ok (entry_of out outs.0 ins.0, ins.1)) (inputs-told out outs.0)))))
+entry-reported s =
+    word-reported (codes "build") wanted.Statement s at_output (λ build. output_next build >>= λ out. outs_of out.0 out.1) (λ build.
+    output-reported build at_outs outs_of (λ out t.
+    reported-bind (section_next sign.Pipe t) (with_outs out) (λ outs. colon_of out outs) (kept-section sign.Pipe t) (λ outs.
+    colon-reported (expect_sign sign.Colon wanted.Colon outs.1) (at_rule out outs.0) (rule_of out outs.0) (kept-sign sign.Colon wanted.Colon outs.1) (λ colon.
+    word-reported (codes "dyndep") wanted.CommandName colon (at_inputs out outs.0) (λ rule. added_inputs rule >>= λ ins. Ok (entry_of out outs.0 ins.0, ins.1)) (inputs-reported out outs.0)))))
   where
     rule_of : WordText → List WordText → State → Step EntryText
     rule_of out outs colon = word_of_form (codes "dyndep") wanted.CommandName colon >>= λ rule. added_inputs rule >>= λ ins. Ok (entry_of out outs ins.0, ins.1)

@@ -21,7 +21,7 @@ use Rattle.nj_manifest.specs.Dyndeps.{is_same_spot}
 use Rattle.nj_manifest.specs.DyndepLeftmost.{are_apart}
 use Rattle.nj_manifest.proofs.LeftmostRuns.{begins, none_passed, skip, skip_again, skip_stops, skip_gap, gap_of, gap_passes, gap_cut}
 use Rattle.nj_manifest.proofs.LeftmostFronts.{front, begins-same, fault-same, sign-same, front-append, element-front}
-use Rattle.nj_manifest.proofs.LeftmostSteps.{at, text, after_name, after_words, Fits, fits-gap, Passes, FailsAt, fault-place, Said, Along, Outcome, stuck, stick, pass}
+use Rattle.nj_manifest.proofs.LeftmostSteps.{at, text, after_name, after_words, Fits, fits-gap, Passes, FailsAt, fault-place, Claim, Along, Outcome, stuck, stick, pass}
 use Rattle.nj_manifest.proofs.LeftmostNames.{NamePasses, name_skips, no_blank_there}
 use Rattle.nj_manifest.proofs.LeftmostWords.{not_so, settled, settled_so, settled_blank, settled_fault, settled_same, opening_in}
 use Rattle.nj_manifest.proofs.LeftmostSections.{IsMark, fits_settled}
@@ -87,7 +87,7 @@ word_by f t g there other = unless_fault f (cond t (unless_fault g there) other)
 abbrev path_here : List TextUnit → Line → List Line → Step Bool
 path_here us e ms =
     let r = word_by (next_fault us) (begins_word us) (next_fault (drop_while in_word us)) (reply (Some (record { spot = spot_of_first us e.end; parts = parts_of (take_while in_word us) })) (at (drop_while in_word us) e ms)) (reply None (at us e ms)) in
-    path_by (spot_of_first us e.end) r.answer r.after
+    path_by (spot_of_first us e.end) r.outcome r.after
 
 begins_word-is : (us : List TextUnit) → begins_word us ≡ begins opens_word us
 begins_word-is [] = refl
@@ -97,7 +97,7 @@ module _ (us : List TextUnit) (e : Line) (ms : List Line) where
   abbrev by_parts : Option UnitFault → Bool → Option UnitFault → Step Bool
   by_parts f t g =
       let r = word_by f t g (reply (Some (record { spot = spot_of_first us e.end; parts = parts_of (take_while in_word us) })) (at (drop_while in_word us) e ms)) (reply None (at us e ms)) in
-      path_by (spot_of_first us e.end) r.answer r.after
+      path_by (spot_of_first us e.end) r.outcome r.after
 
   same_spot : (bad : UnitFault) (t : Bool) → is_same_spot (fault_spot bad) (spot_of_first us e.end) ≡ t → path_by (spot_of_first us e.end) (Err bad) (at us e ms) ≡ unless_missing t (marked (spot_of_first us e.end)) (Err (Bad bad))
   same_spot bad t h = ap (λ (t : Bool). unless_missing t (marked (spot_of_first us e.end)) (Err (Bad bad))) h
@@ -140,7 +140,7 @@ word_again : (us : List TextUnit) (e : Line) (ms : List Line) → path_step (at 
 word_again us e ms =
     ap (λ (w : List TextUnit).
     let r = word_by (next_fault w) (begins_word w) (next_fault (drop_while in_word w)) (reply (Some (record { spot = spot_of_first w e.end; parts = parts_of (take_while in_word w) })) (at (drop_while in_word w) e ms)) (reply None (at w e ms)) in
-    path_by (spot_of_first (skip us) e.end) r.answer r.after) (skip_again us)
+    path_by (spot_of_first (skip us) e.end) r.outcome r.after) (skip_again us)
 
 -- Among units that stand apart, both say the same.
 pub path_is_clear : (us : List TextUnit) (e : Line) (ms : List Line) → are_apart us ≡ true → path_step (at us e ms) ≡ clear_step (at us e ms)
@@ -277,10 +277,10 @@ some_unit want n (u ∷ us) h = refl
 -- ---- turns
 
 -- the same reading, said otherwise
-pub along-same : {B : Type 0} {P : Said B} {whole : List TextUnit} {t : List TextUnit → Bool} {us : List TextUnit} (k k' : State → Step B) → ((s : State) → k s ≡ k' s) → Along P whole k t us → Along P whole k' t us
+pub along-same : {B : Type 0} {P : Claim B} {whole : List TextUnit} {t : List TextUnit → Bool} {us : List TextUnit} (k k' : State → Step B) → ((s : State) → k s ≡ k' s) → Along P whole k t us → Along P whole k' t us
 along-same {P = P} k k' so a = record { begun = a.begun; cut = a.cut; goes = λ x d ms fit. subst (P (a.begun ++ x) d ms) (so (at x d ms)) (a.goes x d ms fit) }
 
-module _ {B : Type 0} {P : Said B} {whole : List TextUnit} (e : Line) where
+module _ {B : Type 0} {P : Claim B} {whole : List TextUnit} (e : Line) where
   -- No path stands here.
   pub clear_turn : {t : List TextUnit → Bool} {us : List TextUnit} (k : State → Step B) (g : Bool × State → Step B) → ((s : State) → k s ≡ (clear_step s >>= g)) → Along P whole k t us → ((x : List TextUnit) → after_words x ≡ true → t x ≡ true)
       → (tail : List ℕ) → are_plain tail ≡ true → after_words (text tail) ≡ true → ReadTo (λ ms. clear_step (at (text tail) (written []) ms) >>= g) → (settled (skip us) ≡ true → Along P whole (λ s. g (true, s)) after_words (skip us) → Outcome P whole e) → Outcome P whole e

@@ -56,7 +56,7 @@ line-restat m t line h n =
 -- ---- a block
 
 begins : (ls : List Line) (x : LineStart) (m : State) → called (start_line_of (Between ls)) ≡ Ok (x, m) → Begins keys.All (lines_weight ls) (block keys.All ls) (Ok x) m
-begins ls x m h = start-begins keys.All ls (Ok x) m (called-ok (start_line_of (Between ls)).answer (start_line_of (Between ls)).after x m h)
+begins ls x m h = start-begins keys.All ls (Ok x) m (called-ok (start_line_of (Between ls)).outcome (start_line_of (Between ls)).after x m h)
 
 -- a line, and those that follow it
 one_line : (ls : List Line) (l : Line) (others : List Line) (m t : State) (line : LineText) (more : List LineText × List Line) → m ≡ Inside (without_spaces l) others → block keys.All ls ≡ block_by keys.All IndentedLine l others (block keys.All others) → line_next keys.All m ≡ Ok (line, t)
@@ -146,26 +146,26 @@ line_there l others rest lines h =
     )
 
 quiet : (ls rest : List Line) → block keys.All ls ≡ Ok ([], rest) → Quiet ls rest
-quiet ls rest h = by_answer (start_line_of (Between ls)).answer refl (start-begins keys.All ls (start_line_of (Between ls)).answer (start_line_of (Between ls)).after (refl, refl))
+quiet ls rest h = by_outcome (start_line_of (Between ls)).outcome refl (start-begins keys.All ls (start_line_of (Between ls)).outcome (start_line_of (Between ls)).after (refl, refl))
   where
-    as_called : (a : Result LineStart UnitFault) → (start_line_of (Between ls)).answer ≡ a → called (start_line_of (Between ls)) ≡ answered a (start_line_of (Between ls)).after
+    as_called : (a : Result LineStart UnitFault) → (start_line_of (Between ls)).outcome ≡ a → called (start_line_of (Between ls)) ≡ answered a (start_line_of (Between ls)).after
     as_called a e = ap (λ (b : Result LineStart UnitFault). answered b (start_line_of (Between ls)).after) e
 
     left_of : (m : State) → block keys.All ls ≡ no_lines (lines_from m) → lines_from m ≡ rest
     left_of m b = ap (λ (r : List LineText × List Line). r.1) (oks (sym b ∙ h))
 
-    by_answer : (a : Result LineStart UnitFault) → (start_line_of (Between ls)).answer ≡ a → Begins keys.All (lines_weight ls) (block keys.All ls) a (start_line_of (Between ls)).after → Quiet ls rest
-    by_answer (Err unit) e b = no_err (sym h ∙ b)
-    by_answer (Ok start.Indented) e b =
+    by_outcome : (a : Result LineStart UnitFault) → (start_line_of (Between ls)).outcome ≡ a → Begins keys.All (lines_weight ls) (block keys.All ls) a (start_line_of (Between ls)).after → Quiet ls rest
+    by_outcome (Err unit) e b = no_err (sym h ∙ b)
+    by_outcome (Ok start.Indented) e b =
         let there = line_there b.0 b.1 rest [] (sym b.3 ∙ h) in
         no_more there.0 there.1 there.5
-    by_answer (Ok start.Middle) e b = absurd b
-    by_answer (Ok start.End) e b = record { begun = start.End; after = (start_line_of (Between ls)).after; starts = as_called (Ok start.End) e; stays = λ k. refl; left = left_of (start_line_of (Between ls)).after b.0 }
-    by_answer (Ok start.Blank) e b = record { begun = start.Blank; after = (start_line_of (Between ls)).after; starts = as_called (Ok start.Blank) e; stays = λ k. refl; left = left_of (start_line_of (Between ls)).after b.0 }
-    by_answer (Ok start.Plain) e b = record { begun = start.Plain; after = (start_line_of (Between ls)).after; starts = as_called (Ok start.Plain) e; stays = λ k. refl; left = left_of (start_line_of (Between ls)).after b.0 }
+    by_outcome (Ok start.Middle) e b = absurd b
+    by_outcome (Ok start.End) e b = record { begun = start.End; after = (start_line_of (Between ls)).after; starts = as_called (Ok start.End) e; stays = λ k. refl; left = left_of (start_line_of (Between ls)).after b.0 }
+    by_outcome (Ok start.Blank) e b = record { begun = start.Blank; after = (start_line_of (Between ls)).after; starts = as_called (Ok start.Blank) e; stays = λ k. refl; left = left_of (start_line_of (Between ls)).after b.0 }
+    by_outcome (Ok start.Plain) e b = record { begun = start.Plain; after = (start_line_of (Between ls)).after; starts = as_called (Ok start.Plain) e; stays = λ k. refl; left = left_of (start_line_of (Between ls)).after b.0 }
 
 spoken : (ls rest : List Line) (line : LineText) → block keys.All ls ≡ Ok (line ∷ [], rest) → Spoken ls rest line
-spoken ls rest line h = by_answer (start_line_of (Between ls)).answer refl (start-begins keys.All ls (start_line_of (Between ls)).answer (start_line_of (Between ls)).after (refl, refl))
+spoken ls rest line h = by_outcome (start_line_of (Between ls)).outcome refl (start-begins keys.All ls (start_line_of (Between ls)).outcome (start_line_of (Between ls)).after (refl, refl))
   where
     empty : {P : Type 0} (m : State) → block keys.All ls ≡ no_lines (lines_from m) → P
     empty m b = no_more line [] (ap (λ (r : List LineText × List Line). r.0) (oks (sym h ∙ b)))
@@ -176,9 +176,9 @@ spoken ls rest line h = by_answer (start_line_of (Between ls)).answer refl (star
     tails : {x : LineText} {xs : List LineText} → x ∷ xs ≡ line ∷ [] → xs ≡ []
     tails e = cc
 
-    by_answer : (a : Result LineStart UnitFault) → (start_line_of (Between ls)).answer ≡ a → Begins keys.All (lines_weight ls) (block keys.All ls) a (start_line_of (Between ls)).after → Spoken ls rest line
-    by_answer (Err unit) e b = no_err (sym h ∙ b)
-    by_answer (Ok start.Indented) e b =
+    by_outcome : (a : Result LineStart UnitFault) → (start_line_of (Between ls)).outcome ≡ a → Begins keys.All (lines_weight ls) (block keys.All ls) a (start_line_of (Between ls)).after → Spoken ls rest line
+    by_outcome (Err unit) e b = no_err (sym h ∙ b)
+    by_outcome (Ok start.Indented) e b =
         let there = line_there b.0 b.1 rest (line ∷ []) (sym b.3 ∙ h) in
         record {
           after = (start_line_of (Between ls)).after;
@@ -190,10 +190,10 @@ spoken ls rest line h = by_answer (start_line_of (Between ls)).answer refl (star
           reads = ap (line_next keys.All) b.2 ∙ (there.3 ∙ ap (λ (x : LineText). Ok (x, there.2)) (heads there.5));
           none = there.4 ∙ ap (λ (xs : List LineText). Ok (xs, rest)) (tails there.5);
         }
-    by_answer (Ok start.Middle) e b = absurd b
-    by_answer (Ok start.End) e b = empty (start_line_of (Between ls)).after b.0
-    by_answer (Ok start.Blank) e b = empty (start_line_of (Between ls)).after b.0
-    by_answer (Ok start.Plain) e b = empty (start_line_of (Between ls)).after b.0
+    by_outcome (Ok start.Middle) e b = absurd b
+    by_outcome (Ok start.End) e b = empty (start_line_of (Between ls)).after b.0
+    by_outcome (Ok start.Blank) e b = empty (start_line_of (Between ls)).after b.0
+    by_outcome (Ok start.Plain) e b = empty (start_line_of (Between ls)).after b.0
 
 restat-read : (ls rest : List Line) → RestatForm ls rest → (s : State) × (restat_block (Between ls) ≡ Ok s) × (lines_from s ≡ rest)
 unfolding restat_block

@@ -13,7 +13,7 @@ use Rattle.nj_manifest.specs.Grammar.{BlockForm}
 use Rattle.nj_manifest.specs.Dyndeps.{EntryText, is_same_spot}
 use Rattle.nj_manifest.specs.DyndepForms.{NextEntryForm}
 use Rattle.nj_manifest.specs.DyndepVersions.{VersionForm}
-use Rattle.nj_manifest.specs.DyndepLeftmost.{are_apart, AreApart, UnitsOfTextsAreApart}
+use Rattle.nj_manifest.specs.DyndepLeftmost.{are_apart, AreApart, UnitsOfStringsAreApart}
 use Rattle.nj_manifest.proofs.DyndepNexts.{next_entries_are}
 use Rattle.nj_manifest.proofs.DyndepVersionForms.{versions_are}
 
@@ -128,5 +128,5 @@ version-apart (VersionForm.version {l = l} {ls = ls} k f) h = after-apart l ls h
 version-apart (VersionForm.blank {l = l} {ls = ls} k e others) h = version-apart others (tail-apart l ls h)
 version-apart (VersionForm.comment {l = l} {ls = ls} k e others) h = version-apart others (tail-apart l ls h)
 
-pub units_are_apart : UnitsOfTextsAreApart
+pub units_are_apart : UnitsOfStringsAreApart
 units_are_apart = (text-apart, λ ls rest apart h. version-apart ((versions_are ls rest).0 h) apart, λ ls found rest apart h. entry-apart ((next_entries_are ls found rest).0 h) apart)

@@ -12,8 +12,8 @@ bytes-last (q ∷ ps) p = ap (λ (bytes : List ℕ). part_bytes q ++ bytes) (byt
 pub bytes-turn : (ps : List Part) (i : ℕ) (p : Part) (before after : List ℕ) → i < length ps → p ≡ get_or ps i p → before ≡ value_bytes (map part_text (take i ps)) → after ≡ before ++ part_bytes (part_text p) → after ≡ value_bytes (map part_text (take (i + 1) ps))
 bytes-turn ps i p before after h is b a =
     let more : take (i + 1) ps ≡ take i ps ++ p ∷ [] = take_more ps i p h ∙ ap (λ (q : Part). take i ps ++ q ∷ []) (sym is) in
-    let texts : map part_text (take (i + 1) ps) ≡ map part_text (take i ps) ++ part_text p ∷ [] = ap (map part_text) more ∙ map-append part_text (take i ps) (p ∷ []) in
-    a ∙ (ap (λ (bytes : List ℕ). bytes ++ part_bytes (part_text p)) b ∙ (sym (bytes-last (map part_text (take i ps)) (part_text p)) ∙ ap value_bytes (sym texts)))
+    let strings : map part_text (take (i + 1) ps) ≡ map part_text (take i ps) ++ part_text p ∷ [] = ap (map part_text) more ∙ map-append part_text (take i ps) (p ∷ []) in
+    a ∙ (ap (λ (bytes : List ℕ). bytes ++ part_bytes (part_text p)) b ∙ (sym (bytes-last (map part_text (take i ps)) (part_text p)) ∙ ap value_bytes (sym strings)))
 
 pub bytes-none : (ps : List Part) (i : ℕ) (p : Part) (before : List ℕ) → i < length ps → p ≡ get_or ps i p → before ≡ value_bytes (map part_text (take i ps)) → part_bytes (part_text p) ≡ [] → before ≡ value_bytes (map part_text (take (i + 1) ps))
 bytes-none ps i p before h is b n = bytes-turn ps i p before before h is b (sym (append-nil before) ∙ ap (λ (bytes : List ℕ). before ++ bytes) (sym n))

@@ -4,7 +4,7 @@ use Rattle.std.specs.Prelude.{codes}
 use Rattle.nj_text.specs.declared.fault.UnitFault.TheVariants as lex
 use Rattle.nj_manifest.specs.declared.fault.Wanted.TheVariants as wanted
 use Rattle.nj_manifest.specs.Faults.{Fault, Bad, Expected, UnexpectedIndent, MissingCommand, RspPair, UnknownKey, MissingDepth}
-use Rattle.nj_manifest.proofs.StatementRows.{on_texts, first_of, at}
+use Rattle.nj_manifest.proofs.StatementRows.{on_strings, first_of, at}
 
 abbrev refuses : List ℕ → Fault → Type 0
 refuses text fault = first_of text ≡ Err fault
@@ -12,131 +12,131 @@ refuses text fault = first_of text ≡ Err fault
 -- ---- bad units
 
 bad_escape : refuses (codes "x = $!") (Bad (lex.BadEscape (at 1 5)))
-unfolding on_texts
+unfolding on_strings
 bad_escape = refl
 
 last_dollar : refuses (codes "x = $") (Bad (lex.BadEscape (at 1 5)))
-unfolding on_texts
+unfolding on_strings
 last_dollar = refl
 
 tab_in_block : refuses (codes "rule r\n\tcommand = x") (Bad (lex.Tab (at 2 1)))
-unfolding on_texts
+unfolding on_strings
 tab_in_block = refl
 
 -- before what is wanted there
 bad_word : refuses (codes "build a$! b") (Bad (lex.BadEscape (at 1 8)))
-unfolding on_texts
+unfolding on_strings
 bad_word = refl
 
 -- ---- names
 
 no_name : refuses (codes "= x") (Expected (at 1 1) wanted.Statement)
-unfolding on_texts
+unfolding on_strings
 no_name = refl
 
 rule_alone : refuses (codes "rule") (Expected (at 1 5) wanted.RuleName)
-unfolding on_texts
+unfolding on_strings
 rule_alone = refl
 
 pool_alone : refuses (codes "pool") (Expected (at 1 5) wanted.PoolName)
-unfolding on_texts
+unfolding on_strings
 pool_alone = refl
 
 no_command_name : refuses (codes "build d: ") (Expected (at 1 10) wanted.CommandName)
-unfolding on_texts
+unfolding on_strings
 no_command_name = refl
 
 no_variable_name : refuses (codes "rule r\n  = x") (Expected (at 2 3) wanted.VariableName)
-unfolding on_texts
+unfolding on_strings
 no_variable_name = refl
 
 -- ---- words
 
 build_alone : refuses (codes "build") (Expected (at 1 6) wanted.Path)
-unfolding on_texts
+unfolding on_strings
 build_alone = refl
 
 no_output : refuses (codes "build : r") (Expected (at 1 7) wanted.Path)
-unfolding on_texts
+unfolding on_strings
 no_output = refl
 
 -- outputs have no validations
 validation_alone : refuses (codes "build |@b: c") (Expected (at 1 7) wanted.Path)
-unfolding on_texts
+unfolding on_strings
 validation_alone = refl
 
 include_alone : refuses (codes "include") (Expected (at 1 8) wanted.Path)
-unfolding on_texts
+unfolding on_strings
 include_alone = refl
 
 default_alone : refuses (codes "default") (Expected (at 1 8) wanted.TargetName)
-unfolding on_texts
+unfolding on_strings
 default_alone = refl
 
 -- ---- signs
 
 no_colon : refuses (codes "build a") (Expected (at 1 8) wanted.Colon)
-unfolding on_texts
+unfolding on_strings
 no_colon = refl
 
 output_validation : refuses (codes "build a |@b: c") (Expected (at 1 9) wanted.Colon)
-unfolding on_texts
+unfolding on_strings
 output_validation = refl
 
 no_equals : refuses (codes "x") (Expected (at 1 2) wanted.Equals)
-unfolding on_texts
+unfolding on_strings
 no_equals = refl
 
 no_equals_in_block : refuses (codes "rule r\n  command") (Expected (at 2 10) wanted.Equals)
-unfolding on_texts
+unfolding on_strings
 no_equals_in_block = refl
 
 -- the sections stand in their order
 turned_sections : refuses (codes "build a: r || b | c") (Expected (at 1 17) wanted.Newline)
-unfolding on_texts
+unfolding on_strings
 turned_sections = refl
 
 colon_in_default : refuses (codes "default a : b") (Expected (at 1 11) wanted.Newline)
-unfolding on_texts
+unfolding on_strings
 colon_in_default = refl
 
 -- ---- blocks
 
 no_block : refuses (codes "  x = 1") (UnexpectedIndent (at 1 1))
-unfolding on_texts
+unfolding on_strings
 no_block = refl
 
 unknown_key : refuses (codes "rule r\n  foo = 1") (UnknownKey (at 2 3) (codes "foo"))
-unfolding on_texts
+unfolding on_strings
 unknown_key = refl
 
 joined_key : refuses (codes "rule r\n  $\n  foo = 1") (UnknownKey (at 3 3) (codes "foo"))
-unfolding on_texts
+unfolding on_strings
 joined_key = refl
 
 -- the key is looked at before what follows it
 unknown_key_alone : refuses (codes "rule r\n  foo") (UnknownKey (at 2 3) (codes "foo"))
-unfolding on_texts
+unfolding on_strings
 unknown_key_alone = refl
 
 no_command : refuses (codes "rule r") (MissingCommand (at 1 1))
-unfolding on_texts
+unfolding on_strings
 no_command = refl
 
 -- a blank line ends a block
 command_after_block : refuses (codes "rule r\n\n  command = x") (MissingCommand (at 1 1))
-unfolding on_texts
+unfolding on_strings
 command_after_block = refl
 
 -- the last line of a key counts
 emptied_command : refuses (codes "rule r\n  command = x\n  command =") (MissingCommand (at 1 1))
-unfolding on_texts
+unfolding on_strings
 emptied_command = refl
 
 half_rsp_pair : refuses (codes "rule r\n  command = x\n  rspfile = y") (RspPair (at 1 1))
-unfolding on_texts
+unfolding on_strings
 half_rsp_pair = refl
 
 no_depth : refuses (codes "pool p") (MissingDepth (at 1 1))
-unfolding on_texts
+unfolding on_strings
 no_depth = refl

@@ -10,7 +10,7 @@ use Rattle.nj_manifest.specs.Faults.{Fault}
 use Rattle.nj_manifest.specs.LineSteps.{NameText}
 use Rattle.nj_manifest.specs.Statements.{OutputsText, InputsText, PlacedText, BuildText}
 use Rattle.nj_manifest.specs.Grammar.{IdentifierForm, KeywordForm, WordForm, WordsForm, SignForm, SectionForm, BuildForm, HeadForm, BlockForm, StatementForm, NextForm}
-use Rattle.nj_manifest.proofs.StatementRows.{on_texts, first_of, item_of, at}
+use Rattle.nj_manifest.proofs.StatementRows.{on_strings, first_of, item_of, at}
 use Rattle.nj_manifest.proofs.FormsStatements.{next-read}
 
 -- ---- `build a: r |`
@@ -77,7 +77,7 @@ abbrev end_of : (column : ℕ) → Line
 end_of column = record { units = []; end = at 1 column; is_last = true }
 
 statement_row : NextForm (text_lines (codes "build a: r |")) (Some (record { spot = at 1 1; item = BuildText outputs rule inputs [] })) (end_of 13 ∷ [])
-unfolding on_texts
+unfolding on_strings
 statement_row = NextForm.statement refl (HeadForm.build build_row) (StatementForm.build (BlockForm.blank refl))
 
 -- ---- texts with which no form goes
@@ -94,17 +94,17 @@ refused text fault h found rest f = absurd (ok_is_err (sym (ap item_of (next-rea
 
 -- the sections stand in their order
 turned_sections : HasNoForm (codes "build a: r || b | c")
-unfolding on_texts
+unfolding on_strings
 turned_sections = refused (codes "build a: r || b | c") _ refl
 
 no_output : HasNoForm (codes "build : r")
-unfolding on_texts
+unfolding on_strings
 no_output = refused (codes "build : r") _ refl
 
 no_command : HasNoForm (codes "rule r\n  description = x")
-unfolding on_texts
+unfolding on_strings
 no_command = refused (codes "rule r\n  description = x") _ refl
 
-keyword_is_no_name : HasNoForm (codes "build = x")
-unfolding on_texts
-keyword_is_no_name = refused (codes "build = x") _ refl
+keyword_is_not_name : HasNoForm (codes "build = x")
+unfolding on_strings
+keyword_is_not_name = refused (codes "build = x") _ refl

@@ -118,17 +118,17 @@ pub at_implicit : {us rest : List TextUnit} {words : List WordText} {two at : Bo
 at_implicit {two = two} {at = at} left_out stops = (false, two, at, stops)
 at_implicit {us} (there {after = remainder} s ws) stops = (true, false, false, pipe_stops us remainder s)
 
-pub pipe_is_no_end : sign.Pipe ≡ sign.LineEnd → ⊥
-pipe_is_no_end e = absurd cc
+pub pipe_is_not_end : sign.Pipe ≡ sign.LineEnd → ⊥
+pipe_is_not_end e = absurd cc
 
-pub pipe2_is_no_end : sign.Pipe2 ≡ sign.LineEnd → ⊥
-pipe2_is_no_end e = absurd cc
+pub pipe2_is_not_end : sign.Pipe2 ≡ sign.LineEnd → ⊥
+pipe2_is_not_end e = absurd cc
 
-pub pipe_at_is_no_end : sign.PipeAt ≡ sign.LineEnd → ⊥
-pipe_at_is_no_end e = absurd cc
+pub pipe_at_is_not_end : sign.PipeAt ≡ sign.LineEnd → ⊥
+pipe_at_is_not_end e = absurd cc
 
-pub colon_is_no_end : sign.Colon ≡ sign.LineEnd → ⊥
-colon_is_no_end e = absurd cc
+pub colon_is_not_end : sign.Colon ≡ sign.LineEnd → ⊥
+colon_is_not_end e = absurd cc
 
 -- a section after blanks that are passed already
 pub section_after-form : (want : Sign) (l : Line) (ls : List Line) (us : List TextUnit) (s s' : State) (words : List WordText) → (want ≡ sign.LineEnd → ⊥) → s ≡ within l ls (skip us) → section_next want s ≡ Ok (words, s')
@@ -154,14 +154,14 @@ outputs-form l ls us outputs s h =
     let some = unless_none-ok (is_empty explicit.0.0 && is_empty implicit.0.0) wanted.Path implicit.0.1 _ (outputs, s) implicit.2 in
     let same = gives-it (record { explicit = explicit.0.0; implicit = implicit.0.0 }) implicit.0.1 outputs s some.1 in
     let one = words-form l ls explicit.0.0 us explicit.0.1 explicit.1 in
-    let two = section_after-form sign.Pipe l ls one.0 explicit.0.1 implicit.0.1 implicit.0.0 pipe_is_no_end one.2 implicit.1 in
+    let two = section_after-form sign.Pipe l ls one.0 explicit.0.1 implicit.0.1 implicit.0.0 pipe_is_not_end one.2 implicit.1 in
     (two.0, subst (λ (o : OutputsText). OutputsForm us o two.0) same.0 (record { after_explicit = one.0; explicit = one.1; implicit = two.1; some = some.0 }), leads_to implicit.0.1 s (within l ls (skip two.0)) same.1 two.2)
 
 outputs-read : (l : Line) (ls : List Line) (us rest : List TextUnit) (outputs : OutputsText) → OutputsForm us outputs rest → Stops rest false false false → outputs_next (within l ls us) ≡ Ok (outputs, within l ls (skip rest))
 unfolding outputs_next
 outputs-read l ls us rest outputs f stops =
     let at = at_implicit f.implicit stops in
-    rw (words-read l ls f.explicit at.3.no_fault at.3.no_word, section_after-read sign.Pipe l ls pipe_is_no_end f.implicit stops.no_fault stops.no_word stops.is_pipe, f.some) refl
+    rw (words-read l ls f.explicit at.3.no_fault at.3.no_word, section_after-read sign.Pipe l ls pipe_is_not_end f.implicit stops.no_fault stops.no_word stops.is_pipe, f.some) refl
 
 -- `INPUTS | IMPLICIT || ORDER-ONLY |@ VALIDATIONS`
 record InputsForm (us : List TextUnit) (inputs : InputsText) (rest : List TextUnit) : Type 0 where
@@ -182,9 +182,9 @@ inputs-form l ls us inputs s h =
     let validations = bind-ok (section_next sign.PipeAt order_only.0.1) _ (inputs, s) order_only.2 in
     let same = gives-it (record { explicit = explicit.0.0; implicit = implicit.0.0; order_only = order_only.0.0; validations = validations.0.0 }) validations.0.1 inputs s validations.2 in
     let one = words-form l ls explicit.0.0 us explicit.0.1 explicit.1 in
-    let two = section_after-form sign.Pipe l ls one.0 explicit.0.1 implicit.0.1 implicit.0.0 pipe_is_no_end one.2 implicit.1 in
-    let three = section_after-form sign.Pipe2 l ls two.0 implicit.0.1 order_only.0.1 order_only.0.0 pipe2_is_no_end two.2 order_only.1 in
-    let four = section_after-form sign.PipeAt l ls three.0 order_only.0.1 validations.0.1 validations.0.0 pipe_at_is_no_end three.2 validations.1 in
+    let two = section_after-form sign.Pipe l ls one.0 explicit.0.1 implicit.0.1 implicit.0.0 pipe_is_not_end one.2 implicit.1 in
+    let three = section_after-form sign.Pipe2 l ls two.0 implicit.0.1 order_only.0.1 order_only.0.0 pipe2_is_not_end two.2 order_only.1 in
+    let four = section_after-form sign.PipeAt l ls three.0 order_only.0.1 validations.0.1 validations.0.0 pipe_at_is_not_end three.2 validations.1 in
     let form : InputsForm us (record { explicit = explicit.0.0; implicit = implicit.0.0; order_only = order_only.0.0; validations = validations.0.0 }) four.0 =
     record { after_explicit = one.0; after_implicit = two.0; after_order_only = three.0; explicit = one.1; implicit = two.1; order_only = three.1; validations = four.1 } in
     (four.0, subst (λ (i : InputsText). InputsForm us i four.0) same.0 form, leads_to validations.0.1 s (within l ls (skip four.0)) same.1 four.2)
@@ -197,9 +197,9 @@ inputs-read l ls us rest inputs f stops =
     let one = at_implicit f.implicit two.2 in
     rw (
       words-read l ls f.explicit one.3.no_fault one.3.no_word,
-      section_after-read sign.Pipe l ls pipe_is_no_end f.implicit two.2.no_fault two.2.no_word two.2.is_pipe,
-      section_after-read sign.Pipe2 l ls pipe2_is_no_end f.order_only three.1.no_fault three.1.no_word three.1.is_pipe2,
-      section_after-read sign.PipeAt l ls pipe_at_is_no_end f.validations stops.no_fault stops.no_word stops.is_pipe_at,
+      section_after-read sign.Pipe l ls pipe_is_not_end f.implicit two.2.no_fault two.2.no_word two.2.is_pipe,
+      section_after-read sign.Pipe2 l ls pipe2_is_not_end f.order_only three.1.no_fault three.1.no_word three.1.is_pipe2,
+      section_after-read sign.PipeAt l ls pipe_at_is_not_end f.validations stops.no_fault stops.no_word stops.is_pipe_at,
     ) refl
 
 -- ---- `build`
@@ -222,7 +222,7 @@ PartsRead l ls us head s = (outputs : OutputsText) × (rule : NameText) × (inpu
 
 -- each step of it, where the lexer stands as the step before left it
 pub colon_after-form : (l : Line) (ls : List Line) (us : List TextUnit) (s s' : State) → s ≡ within l ls (skip us) → expect_sign sign.Colon wanted.Colon s ≡ Ok s' → (rest : List TextUnit) × SignForm sign.Colon us rest × (s' ≡ within l ls rest)
-colon_after-form l ls us s s' e h = after-form sign.Colon wanted.Colon l ls us s' colon_is_no_end (sym (after_skips sign.Colon wanted.Colon l ls us) ∙ sym (ap (expect_sign sign.Colon wanted.Colon) e) ∙ h)
+colon_after-form l ls us s s' e h = after-form sign.Colon wanted.Colon l ls us s' colon_is_not_end (sym (after_skips sign.Colon wanted.Colon l ls us) ∙ sym (ap (expect_sign sign.Colon wanted.Colon) e) ∙ h)
 
 name_at-form : (want : Wanted) (l : Line) (ls : List Line) (us : List TextUnit) (s : State) (y : NameText × State) → s ≡ within l ls us → name_next want s ≡ Ok y → (rest : List TextUnit) × IdentifierForm us y.0 rest × (y.1 ≡ within l ls rest)
 name_at-form want l ls us s y e h = name-form want l ls us y (ap (name_next want) (sym e) ∙ h)
@@ -261,7 +261,7 @@ build-read l ls us outputs rule inputs f =
     rw (
       outputs-read l ls us f.after_outputs outputs f.of_outputs (colon_stops f.after_outputs f.after_colon f.colon),
       after_skips sign.Colon wanted.Colon l ls f.after_outputs,
-      after-read sign.Colon wanted.Colon l ls f.after_outputs f.after_colon colon_is_no_end f.colon,
+      after-read sign.Colon wanted.Colon l ls f.after_outputs f.after_colon colon_is_not_end f.colon,
       name-read wanted.CommandName l ls f.after_colon f.after_rule rule f.of_rule,
       inputs-read l ls f.after_rule f.after_inputs inputs f.of_inputs (end_stops f.after_inputs f.end),
       end_after-read wanted.Newline l ls f.after_inputs f.end,

@@ -302,28 +302,28 @@ pub record IsBetweenStatements (want : Sign) (l : Line) (ls : List Line) (us res
   pub is_there : is_sign want (skip us) ≡ true
   pub after_is : after_it want l ls (skip us) ≡ within l ls rest
 
-pub sign_stands : (want : Sign) (l : Line) (ls : List Line) (us rest : List TextUnit) → (want ≡ sign.LineEnd → ⊥) → SignForm want us rest → IsBetweenStatements want l ls us rest
-sign_stands sign.LineEnd l ls us rest n f = absurd (n refl)
-sign_stands sign.Colon l ls us rest n f =
+pub sign_comes : (want : Sign) (l : Line) (ls : List Line) (us rest : List TextUnit) → (want ≡ sign.LineEnd → ⊥) → SignForm want us rest → IsBetweenStatements want l ls us rest
+sign_comes sign.LineEnd l ls us rest n f = absurd (n refl)
+sign_comes sign.Colon l ls us rest n f =
     let it = one_byte 58 us f.gap f.run rest refl f.cut f.blanks f.of_sign in
     record { no_fault = rw (it.1, it.2) refl; is_there = rw (it.1, it.2) refl; after_is = rw it.1 refl }
-sign_stands sign.Equals l ls us rest n f =
+sign_comes sign.Equals l ls us rest n f =
     let it = one_byte 61 us f.gap f.run rest refl f.cut f.blanks f.of_sign in
     record { no_fault = rw (it.1, it.2) refl; is_there = rw (it.1, it.2) refl; after_is = rw it.1 refl }
-sign_stands sign.Pipe l ls us rest n f =
+sign_comes sign.Pipe l ls us rest n f =
     let it = one_byte 124 us f.gap f.run rest refl f.cut f.blanks f.of_sign in
     record { no_fault = rw (it.1, it.2) refl; is_there = (pipe_stops us rest f).is_pipe; after_is = rw it.1 refl }
-sign_stands sign.Pipe2 l ls us rest n f =
+sign_comes sign.Pipe2 l ls us rest n f =
     let it = two_bytes 124 124 us f.gap f.run rest refl f.cut f.blanks f.of_sign in
     record { no_fault = rw (it.2, it.3) refl; is_there = rw (it.2, it.3, it.4) refl; after_is = rw it.2 refl }
-sign_stands sign.PipeAt l ls us rest n f =
+sign_comes sign.PipeAt l ls us rest n f =
     let it = two_bytes 124 64 us f.gap f.run rest refl f.cut f.blanks f.of_sign in
     record { no_fault = rw (it.2, it.3) refl; is_there = rw (it.2, it.3, it.4) refl; after_is = rw it.2 refl }
 
 -- A sign that stands there is read.
 pub sign-read : (want : Sign) (l : Line) (ls : List Line) (us rest : List TextUnit) → (want ≡ sign.LineEnd → ⊥) → SignForm want us rest → called (sign_of want (within l ls us)) ≡ Ok (true, within l ls rest)
 sign-read want l ls us rest n f =
-    let it = sign_stands want l ls us rest n f in
+    let it = sign_comes want l ls us rest n f in
     sign_at-gives want l ls (skip us) (next_fault (skip us)) true it.no_fault it.is_there ∙ ap (λ (s : State). Ok (true, s)) it.after_is
 
 -- ---- signs that have to be there

@@ -89,10 +89,10 @@ given : (key : List ℕ) (ls : List Line) (i : ℕ) (l : Line) (before after : B
     → after ≡ gives key (lines_text (take (i + 1) ls))
 given key ls i l before after h is b a =
     let more : take (i + 1) ls ≡ take i ls ++ l ∷ [] = take_more ls i l h ∙ ap (λ (m : Line). take i ls ++ m ∷ []) (sym is) in
-    let texts : lines_text (take (i + 1) ls) ≡ lines_text (take i ls) ++ line_text l ∷ [] = ap lines_text more ∙ map-append line_text (take i ls) (l ∷ []) in
+    let strings : lines_text (take (i + 1) ls) ≡ lines_text (take i ls) ++ line_text l ∷ [] = ap lines_text more ∙ map-append line_text (take i ls) (l ∷ []) in
     let turned = gives-more key (lines_text (take i ls)) (line_text l) in
     let parts = no_parts l.value.parts.items in
-    rw (texts, turned, parts, ← b) a
+    rw (strings, turned, parts, ← b) a
 
 pub given-so : (key : List ℕ) (ls : List Line) (i : ℕ) (l : Line) (before after : Bool) → i < length ls → l ≡ get_or ls i l → before ≡ gives key (lines_text (take i ls)) → bytes_eq l.name.now key ≡ true → after ≡ not (length l.value.parts.items == 0)
     → after ≡ gives key (lines_text (take (i + 1) ls))

@@ -10,10 +10,10 @@ use Rattle.nj_manifest.specs.declared.block.Keys.{Keys}
 use Rattle.nj_manifest.specs.Faults.{Fault, Bad}
 use Rattle.nj_manifest.specs.LineSteps.{Step, ◌>>=◌}
 use Rattle.nj_manifest.specs.Statements.{LineText, line_next, Parse, or_last, no_lines, block_by, block}
-use Rattle.nj_manifest.specs.Leftmost.{goes_on, element, written_unit, written, are_plain, NamesThePlaceOf, met_before, offers}
+use Rattle.nj_manifest.specs.Leftmost.{continues, element, written_unit, written, are_plain, NamesThePlaceOf, met_before, offers}
 use Rattle.nj_manifest.proofs.BlockLines.{in_front}
 use Rattle.nj_manifest.proofs.LeftmostFronts.{front, element-front}
-use Rattle.nj_manifest.proofs.LeftmostSteps.{at, text, Fits, Said, begin, Stuck, Outcome, stuck, through}
+use Rattle.nj_manifest.proofs.LeftmostSteps.{at, text, Fits, Claim, begin, Stuck, Outcome, stuck, through}
 use Rattle.nj_manifest.proofs.LeftmostHeads.{starts}
 use Rattle.nj_manifest.proofs.LeftmostLines.{line_turn, key_bytes, key_line, key_plain, key_starts}
 use Rattle.nj_manifest.proofs.LeftmostKinds.{kind_units, spaces_of, after_spaces, spaces_cut, spaces_pass, unspaced, kind_replaced, no_space_same, identifier_no_space, identifier_spaced, indented_spaces, tab_place}
@@ -24,19 +24,19 @@ pub record BlockStuck (allowed : Keys) (ls : List Line) (fault : Fault) : Type 0
   pub begun : List TextUnit
   pub line : Line
   pub others : List Line
-  pub cut : ls ≡ goes_on before begun line others
+  pub cut : ls ≡ continues before begun line others
   pub place : NamesThePlaceOf fault line
-  pub refuses : (m : Line) (ms : List Line) → element m.units ≡ element line.units → block allowed (goes_on before begun m ms) ≡ Err (met_before m fault)
+  pub refuses : (m : Line) (ms : List Line) → element m.units ≡ element line.units → block allowed (continues before begun m ms) ≡ Err (met_before m fault)
   pub bytes : List ℕ
   pub plain : are_plain bytes ≡ true
   pub offered : offers fault bytes ≡ true
   pub read : List LineText
-  pub some : (ms : List Line) → block allowed (goes_on before begun (written bytes) ms) ≡ in_front read (block allowed ms)
+  pub some : (ms : List Line) → block allowed (continues before begun (written bytes) ms) ≡ in_front read (block allowed ms)
 
 -- ---- one line
 
 -- what is said of an indented line, by the units after its spaces
-abbrev Spaced : Keys → (spaces : List TextUnit) → Said LineText
+abbrev Spaced : Keys → (spaces : List TextUnit) → Claim LineText
 Spaced allowed sp x e ms r = (kind_units (sp ++ x) ≡ IndentedLine) × (after_spaces (sp ++ x) ≡ x) × (line_next allowed (at x e ms) ≡ r)
 
 line_outcome : (allowed : Keys) (l : Line) → kind_of l ≡ IndentedLine → Outcome (Spaced allowed (spaces_of l.units)) (after_spaces l.units) l
@@ -169,12 +169,12 @@ stuck_after_comment allowed l ls fault same r = record {
   others = r.others;
   cut = ap (λ (y : List Line). l ∷ y) r.cut;
   place = r.place;
-  refuses = λ m ms e. same (goes_on r.before r.begun m ms) ∙ r.refuses m ms e;
+  refuses = λ m ms e. same (continues r.before r.begun m ms) ∙ r.refuses m ms e;
   bytes = r.bytes;
   plain = r.plain;
   offered = r.offered;
   read = r.read;
-  some = λ ms. same (goes_on r.before r.begun (written r.bytes) ms) ∙ r.some ms;
+  some = λ ms. same (continues r.before r.begun (written r.bytes) ms) ∙ r.some ms;
 }
 
 -- after a line that is read, and is not the last
@@ -186,13 +186,13 @@ stuck_after_line allowed l ls fault v reads r = record {
   others = r.others;
   cut = ap (λ (y : List Line). l ∷ y) r.cut;
   place = r.place;
-  refuses = λ m ms e. reads (goes_on r.before r.begun m ms) ∙ bad_then (block allowed (goes_on r.before r.begun m ms)) (v, Between (lines_after l (goes_on r.before r.begun m ms))) (met_before m fault) (r.refuses m ms e);
+  refuses = λ m ms e. reads (continues r.before r.begun m ms) ∙ bad_then (block allowed (continues r.before r.begun m ms)) (v, Between (lines_after l (continues r.before r.begun m ms))) (met_before m fault) (r.refuses m ms e);
   bytes = r.bytes;
   plain = r.plain;
   offered = r.offered;
   read = v ∷ r.read;
   some = λ ms.
-      let xs = goes_on r.before r.begun (written r.bytes) ms in
+      let xs = continues r.before r.begun (written r.bytes) ms in
       reads xs ∙ (ap (λ (y : Parse (List LineText)). line_then y (v, Between (lines_after l xs))) (r.some ms) ∙ more_in_front v (Between (lines_after l xs)) r.read (block allowed ms));
 }
 

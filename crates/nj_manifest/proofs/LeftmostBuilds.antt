@@ -11,7 +11,7 @@ use Rattle.nj_manifest.specs.LineSteps.{Step, ◌>>=◌, NameText, name_next, ex
 use Rattle.nj_manifest.specs.Statements.{OutputsText, InputsText, HeadText, BuildHead, unless_none, outputs_next, inputs_next, build_next}
 use Rattle.nj_manifest.specs.Leftmost.{written}
 use Rattle.nj_manifest.proofs.LeftmostFronts.{sign-same, element-front}
-use Rattle.nj_manifest.proofs.LeftmostSteps.{at, text, Fits, is_separator, is_colon, colon_is, opens-more, after_name, after_words, FailsAt, Said, Along, Outcome, stuck, stick, bind-bind}
+use Rattle.nj_manifest.proofs.LeftmostSteps.{at, text, Fits, is_separator, is_colon, colon_is, opens-more, after_name, after_words, FailsAt, Claim, Along, Outcome, stuck, stick, bind-bind}
 use Rattle.nj_manifest.proofs.LeftmostSigns.{sign_step, led_on, ending, colon_single, finish}
 use Rattle.nj_manifest.proofs.LeftmostWords.{settled, settled_same, one_more, WordsPass}
 use Rattle.nj_manifest.proofs.LeftmostSections.{is_pipe, is_pipe2, is_pipe_at, SectionRun, SectionPass, section_none}
@@ -183,7 +183,7 @@ no_implicit e ex left run m empty = record {
         ap (λ r. r >>= with_implicit_outputs ex) (m.goes x d ms fit)
         ∙ ap (λ (t : Bool). unless_none t wanted.Path (at x d ms) (Ok (outputs_of ex m.value, at x d ms)) >>= with_outputs) empty
 
-module _ {P : Said HeadText} {whole : List TextUnit} (e : Line) where
+module _ {P : Claim HeadText} {whole : List TextUnit} (e : Line) where
   at_inputs : (outs : OutputsText) (rule : NameText) (us : List TextUnit) → Along P whole (λ s. with_rule outs (rule, s)) after_name us → Outcome P whole e
   at_inputs outs rule us a =
       words_turn e (λ s. with_rule outs (rule, s)) (with_explicit outs rule) (λ s. refl) a words_after_name [] refl refl refl (ends_explicit outs rule) (λ n b. at_implicit n.value n.run.left n.stops b)

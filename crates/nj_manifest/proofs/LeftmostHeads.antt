@@ -14,7 +14,7 @@ use Rattle.nj_manifest.specs.Statements.{HeadText, Alone, RuleHead, PoolHead, Bi
 use Rattle.nj_manifest.specs.Leftmost.{written, offers_next}
 use Rattle.nj_manifest.proofs.LeftmostRuns.{begins}
 use Rattle.nj_manifest.proofs.LeftmostFronts.{element-front}
-use Rattle.nj_manifest.proofs.LeftmostSteps.{at, text, after_name, after_words, FailsAt, Said, Along, Outcome, stuck, stick, pass}
+use Rattle.nj_manifest.proofs.LeftmostSteps.{at, text, after_name, after_words, FailsAt, Claim, Along, Outcome, stuck, stick, pass}
 use Rattle.nj_manifest.proofs.LeftmostSigns.{ending, finish}
 use Rattle.nj_manifest.proofs.LeftmostWords.{settled, settled_same, one_more, word_call, WordsPass}
 use Rattle.nj_manifest.proofs.LeftmostTurns.{ReadTo, name_turn, words_turn}
@@ -110,7 +110,7 @@ no_target head e us n empty = record {
 abbrev pub starts : List TextUnit → Bool
 starts us = begins in_identifier us
 
-module _ {P : Said HeadText} {whole : List TextUnit} (e : Line) where
+module _ {P : Claim HeadText} {whole : List TextUnit} (e : Line) where
   alone_turn : (want : Wanted) (head : NameText → HeadText) (us : List TextUnit) → offers_next want (114 ∷ []) ≡ true → Along P whole (λ s. as_head head (name_alone want s)) after_name us → Outcome P whole e
   alone_turn want head us offered a =
       name_turn e want (λ s. as_head head (name_alone want s)) (named_end head) (alone_is want head) a (32 ∷ 114 ∷ []) refl offered refl (ends_name want head)

@@ -12,7 +12,7 @@ use Rattle.nj_manifest.specs.LineSteps.{Step, ◌>>=◌, NameText, name_next, ex
 use Rattle.nj_manifest.specs.Statements.{LineText, allows, if_allowed, equals_value, line_next}
 use Rattle.nj_manifest.specs.Leftmost.{written, are_plain, offers_next}
 use Rattle.nj_manifest.proofs.LeftmostRuns.{skip, gap_of, gap_passes, gap_cut}
-use Rattle.nj_manifest.proofs.LeftmostSteps.{at, text, fits-gap, after_name, FailsAt, Said, Along, Outcome, stuck, stick}
+use Rattle.nj_manifest.proofs.LeftmostSteps.{at, text, fits-gap, after_name, FailsAt, Claim, Along, Outcome, stuck, stick}
 use Rattle.nj_manifest.proofs.LeftmostNames.{NamePasses, name_skips}
 use Rattle.nj_manifest.proofs.LeftmostTurns.{ReadTo, name_turn}
 use Rattle.nj_manifest.proofs.LeftmostValues.{value_turn}
@@ -81,7 +81,7 @@ module _ (allowed : Keys) (us : List TextUnit) (e : Line) (n : NamePasses wanted
         (unknown_reads (gap_of us ++ x) d ms h a.0 a.1);
   }
 
-pub line_turn : {P : Said LineText} {whole : List TextUnit} (e : Line) (allowed : Keys) (us : List TextUnit) → Along P whole (line_next allowed) starts us → Outcome P whole e
+pub line_turn : {P : Claim LineText} {whole : List TextUnit} (e : Line) (allowed : Keys) (us : List TextUnit) → Along P whole (line_next allowed) starts us → Outcome P whole e
 line_turn {P = P} {whole = whole} e allowed us a =
     name_turn e wanted.VariableName (line_next allowed) (keyed allowed) (line_is allowed) a (key_bytes allowed) (key_plain allowed) (key_offers allowed) (key_starts allowed) (reads_key allowed) (λ n b. by_allowed n (allows allowed n.passes.value.name) refl b)
   where

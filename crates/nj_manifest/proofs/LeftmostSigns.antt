@@ -15,7 +15,7 @@ use Rattle.nj_manifest.specs.LineSteps.{Step, ◌>>=◌, called, if_there, expec
 use Rattle.nj_manifest.specs.Leftmost.{element, written, offers}
 use Rattle.nj_manifest.proofs.LeftmostRuns.{begins, none_passed, skip, skip_stops, skip_gap, gap_of, gap_passes, gap_cut, no_other, not_byte}
 use Rattle.nj_manifest.proofs.LeftmostFronts.{fault-same, sign-same, element-front}
-use Rattle.nj_manifest.proofs.LeftmostSteps.{at, blank_no_pipe, Fits, fits-alone, fits-gap, Passes, FailsAt, fault-place, ordinary_no_fault, Said, Along, Outcome, stuck, stick, arrive, OfWanted}
+use Rattle.nj_manifest.proofs.LeftmostSteps.{at, blank_no_pipe, Fits, fits-alone, fits-gap, Passes, FailsAt, fault-place, ordinary_no_fault, Claim, Along, Outcome, stuck, stick, arrive, OfWanted}
 use Rattle.nj_manifest.proofs.LeftmostNames.{no_blank_there}
 
 -- a sign as a step, which says nothing
@@ -167,7 +167,7 @@ ended : {B : Type 0} (r : Result State Fault) (s : State) (value : B) → r ≡ 
 ended r s value h = rw h refl
 
 -- A reading that ends with its line.
-pub finish : {B : Type 0} {P : Said B} {whole : List TextUnit} {t : List TextUnit → Bool} {us : List TextUnit} (k : State → Step B) (value : B) (e : Line) → ((s : State) → k s ≡ ending value (expect_sign sign.LineEnd wanted.Newline s)) → Along P whole k t us → t [] ≡ true
+pub finish : {B : Type 0} {P : Claim B} {whole : List TextUnit} {t : List TextUnit → Bool} {us : List TextUnit} (k : State → Step B) (value : B) (e : Line) → ((s : State) → k s ≡ ending value (expect_sign sign.LineEnd wanted.Newline s)) → Along P whole k t us → t [] ≡ true
     → Outcome P whole e
 finish {B = B} {P = P} {whole = whole} {t = t} {us = us} k value e so a empty = by_fault (next_fault (skip us)) refl
   where

@@ -10,10 +10,10 @@ use Rattle.nj_manifest.specs.declared.block.Keys.{Keys}
 use Rattle.nj_manifest.specs.Faults.{Fault, Bad, UnexpectedIndent, is_syntax}
 use Rattle.nj_manifest.specs.LineSteps.{Step, ◌>>=◌, name_next, expect_sign}
 use Rattle.nj_manifest.specs.Statements.{LineText, PlacedText, StatementText, Alone, HeadText, Parse, lines_from, head_after, head_next, equals_value, block, with_block, statement_at, nothing_more, front_of, next_by, next_statement}
-use Rattle.nj_manifest.specs.Leftmost.{goes_on, element, written, NamesThePlaceOf, met_before, offers, StandsLeftmost}
+use Rattle.nj_manifest.specs.Leftmost.{continues, element, written, NamesThePlaceOf, met_before, offers, ComesLeftmost}
 use Rattle.nj_manifest.proofs.BlockLines.{in_front}
 use Rattle.nj_manifest.proofs.LeftmostFronts.{element-front}
-use Rattle.nj_manifest.proofs.LeftmostSteps.{at, text, Fits, Said, begin, Stuck, Outcome, stuck, through}
+use Rattle.nj_manifest.proofs.LeftmostSteps.{at, text, Fits, Claim, begin, Stuck, Outcome, stuck, through}
 use Rattle.nj_manifest.proofs.LeftmostHeads.{starts, head_turn}
 use Rattle.nj_manifest.proofs.LeftmostBlocks.{BlockStuck, block_stuck, blank_block}
 use Rattle.nj_manifest.proofs.LeftmostEnds.{keys_of, closing, closing_plain, closed, block_refuses, fault_of_block}
@@ -21,7 +21,7 @@ use Rattle.nj_manifest.proofs.LeftmostKinds.{kind_units, spaces_of, after_spaces
 
 -- ---- a line with which a statement begins
 
-abbrev pub Plain : Said HeadText
+abbrev pub Plain : Claim HeadText
 Plain x e ms r = (kind_units x ≡ PlainLine) × (head_next (at x e ms) ≡ r)
 
 pub head_outcome : (l : Line) → kind_of l ≡ PlainLine → Outcome Plain l.units l
@@ -73,7 +73,7 @@ nothing-in_front (Ok o) = refl
 nothing-in_front (Err f) = refl
 
 -- the fault is in the first line
-stuck_first : (l : Line) (ls : List Line) (fault : Fault) → Stuck Plain l.units l fault → StandsLeftmost (l ∷ ls) fault
+stuck_first : (l : Line) (ls : List Line) (fault : Fault) → Stuck Plain l.units l fault → ComesLeftmost (l ∷ ls) fault
 stuck_first l ls fault s =
     let lines = map written (closing s.value) in
     let r = s.some lines in
@@ -97,10 +97,10 @@ after_more l ms h = ap (λ (t : Bool). cond t (with_units [] l ∷ ms) ms) h
 
 -- the fault is in the block
 stuck_in_block : (l : Line) (ls : List Line) (fault : Fault) (v : HeadText) → kind_of l ≡ PlainLine → l.is_last ≡ false → ((ms : List Line) → head_next (Inside l ms) ≡ Ok (v, Between (lines_after l ms))) → ((item : StatementText) → v ≡ Alone item → ⊥)
-    → BlockStuck (keys_of v) ls fault → StandsLeftmost (l ∷ ls) fault
+    → BlockStuck (keys_of v) ls fault → ComesLeftmost (l ∷ ls) fault
 stuck_in_block l ls fault v k last reads all s =
     let lines = map written (closing v) in
-    let xs = goes_on s.before s.begun (written s.bytes) lines in
+    let xs = continues s.before s.begun (written s.bytes) lines in
     let b : block (keys_of v) (lines_after l xs) ≡ in_front s.read (block (keys_of v) lines) = ap (block (keys_of v)) (after_more l xs last) ∙ s.some lines in
     let c = some_closed l xs v (Between (lines_after l xs)) s.read k (reads xs) b in
     record {
@@ -112,7 +112,7 @@ stuck_in_block l ls fault v k last reads all s =
       place = s.place;
       some = record { bytes = s.bytes; lines = closing v; plain_bytes = s.plain; offered = s.offered; plain_lines = closing_plain v; placed = c.0; rest = c.1; reads = c.2 };
       refuses = λ m ms same.
-          let ys = goes_on s.before s.begun m ms in
+          let ys = continues s.before s.begun m ms in
           let n : block (keys_of v) (lines_after l ys) ≡ Err (met_before m fault) = ap (block (keys_of v)) (after_more l ys last) ∙ s.refuses m ms same in
           plain_read l ys v (Between (lines_after l ys)) k (reads ys) ∙ placed_bad (line_spot l) (with_block (line_spot l) v (lines_after l ys)) (met_before m fault) (block_refuses (line_spot l) v (lines_after l ys) (met_before m fault) all n);
     }
@@ -126,17 +126,17 @@ no_block_fault allowed l ls f h = apart (sym (blank_block allowed (with_units []
 pub same_fault : {A : Type 0} (r : Result A Fault) (f g : Fault) → r ≡ Err f → r ≡ Err g → g ≡ f
 same_fault r f g h i = errs (sym i ∙ h)
 
-as_fault : (ls : List Line) (f g : Fault) → g ≡ f → StandsLeftmost ls g → StandsLeftmost ls f
-as_fault ls f g e s = subst (λ (h : Fault). StandsLeftmost ls h) e s
+as_fault : (ls : List Line) (f g : Fault) → g ≡ f → ComesLeftmost ls g → ComesLeftmost ls f
+as_fault ls f g e s = subst (λ (h : Fault). ComesLeftmost ls h) e s
 
-plain_leftmost : (l : Line) (ls : List Line) (fault : Fault) → kind_of l ≡ PlainLine → next_statement (l ∷ ls) ≡ Err fault → is_syntax fault ≡ true → StandsLeftmost (l ∷ ls) fault
+plain_leftmost : (l : Line) (ls : List Line) (fault : Fault) → kind_of l ≡ PlainLine → next_statement (l ∷ ls) ≡ Err fault → is_syntax fault ≡ true → ComesLeftmost (l ∷ ls) fault
 plain_leftmost l ls fault k h syntax = by_head (head_outcome l k)
   where
-    by_last : (v : HeadText) (t : Bool) → l.is_last ≡ t → ((ms : List Line) → head_next (Inside l ms) ≡ Ok (v, Between (lines_after l ms))) → ((item : StatementText) → v ≡ Alone item → ⊥) → block (keys_of v) (cond t (with_units [] l ∷ ls) ls) ≡ Err fault → StandsLeftmost (l ∷ ls) fault
+    by_last : (v : HeadText) (t : Bool) → l.is_last ≡ t → ((ms : List Line) → head_next (Inside l ms) ≡ Ok (v, Between (lines_after l ms))) → ((item : StatementText) → v ≡ Alone item → ⊥) → block (keys_of v) (cond t (with_units [] l ∷ ls) ls) ≡ Err fault → ComesLeftmost (l ∷ ls) fault
     by_last v true last reads all b = absurd (no_block_fault (keys_of v) l ls fault b)
     by_last v false last reads all b = stuck_in_block l ls fault v k last reads all (block_stuck (keys_of v) ls fault b)
 
-    by_head : Outcome Plain l.units l → StandsLeftmost (l ∷ ls) fault
+    by_head : Outcome Plain l.units l → ComesLeftmost (l ∷ ls) fault
     by_head (stuck f s) = as_fault (l ∷ ls) fault f (same_fault (next_statement (l ∷ ls)) fault f h (plain_bad l ls f k (s.fails ls).1)) (stuck_first l ls f s)
     by_head (through v so) =
         let failed = placed_fault (line_spot l) (with_block (line_spot l) v (lines_after l ls)) fault (sym (plain_read l ls v (Between (lines_after l ls)) k (so ls).1) ∙ h) in
@@ -159,7 +159,7 @@ blank_then sp a = (one_statement.0, one_statement.1, by_kind_next (with_units (s
 
 -- The fault is that of the line's kind, whatever is after its first unit.
 of_kind : (l : Line) (ls : List Line) (fault : Fault) → offers fault [] ≡ true → NamesThePlaceOf fault (with_units (after_spaces l.units) l)
-    → ((m : Line) (ms : List Line) → element m.units ≡ element (after_spaces l.units) → next_statement (with_units (spaces_of l.units ++ m.units) m ∷ ms) ≡ Err (met_before m fault)) → StandsLeftmost (l ∷ ls) fault
+    → ((m : Line) (ms : List Line) → element m.units ≡ element (after_spaces l.units) → next_statement (with_units (spaces_of l.units ++ m.units) m ∷ ms) ≡ Err (met_before m fault)) → ComesLeftmost (l ∷ ls) fault
 of_kind l ls fault offered place refuses =
     let c = blank_then (spaces_of l.units) (spaces_pass l.units) in
     record {
@@ -173,7 +173,7 @@ of_kind l ls fault offered place refuses =
       refuses = refuses;
     }
 
-tab_leftmost : (l : Line) (ls : List Line) (tab : Spot) → kind_of l ≡ TabLine tab → StandsLeftmost (l ∷ ls) (Bad (lex.Tab tab))
+tab_leftmost : (l : Line) (ls : List Line) (tab : Spot) → kind_of l ≡ TabLine tab → ComesLeftmost (l ∷ ls) (Bad (lex.Tab tab))
 tab_leftmost l ls tab k =
     of_kind l ls (Bad (lex.Tab tab)) refl (tab_place l.units tab l.end k)
     (λ m ms same. (by_kind_next (with_units (spaces_of l.units ++ m.units) m) ms (TabLine tab) (kind_replaced l.units m.units (element-front m.units (after_spaces l.units) same) ∙ k)))
@@ -182,7 +182,7 @@ tab_leftmost l ls tab k =
 abbrev unexpected_at : Line → Parse (Option PlacedText)
 unexpected_at l = Err (UnexpectedIndent (record { line = (line_spot l).line; column = 1 }))
 
-indented_leftmost : (l : Line) (ls : List Line) → kind_of l ≡ IndentedLine → StandsLeftmost (l ∷ ls) (UnexpectedIndent (front_of l))
+indented_leftmost : (l : Line) (ls : List Line) → kind_of l ≡ IndentedLine → ComesLeftmost (l ∷ ls) (UnexpectedIndent (front_of l))
 indented_leftmost l ls k =
     of_kind l ls (UnexpectedIndent (front_of l)) refl refl
     (λ m ms same.
@@ -191,7 +191,7 @@ indented_leftmost l ls k =
     ∙ ap (λ (y : List TextUnit). unexpected_at (with_units y m)) (unspaced (spaces_of l.units) m.units (spaces_pass l.units) (no_space_same l.units m.units sees)))
 
 -- after a line that says nothing, and is not the last
-leftmost_after : (l : Line) (ls : List Line) (fault : Fault) → ((ms : List Line) → next_statement (l ∷ ms) ≡ next_statement ms) → StandsLeftmost ls fault → StandsLeftmost (l ∷ ls) fault
+leftmost_after : (l : Line) (ls : List Line) (fault : Fault) → ((ms : List Line) → next_statement (l ∷ ms) ≡ next_statement ms) → ComesLeftmost ls fault → ComesLeftmost (l ∷ ls) fault
 leftmost_after l ls fault same r = record {
   before = l ∷ r.before;
   begun = r.begun;
@@ -199,8 +199,8 @@ leftmost_after l ls fault same r = record {
   others = r.others;
   cut = ap (λ (y : List Line). l ∷ y) r.cut;
   place = r.place;
-  some = record { bytes = r.some.bytes; lines = r.some.lines; plain_bytes = r.some.plain_bytes; offered = r.some.offered; plain_lines = r.some.plain_lines; placed = r.some.placed; rest = r.some.rest; reads = same (goes_on r.before r.begun (written r.some.bytes) (map written r.some.lines)) ∙ r.some.reads };
-  refuses = λ m ms e. same (goes_on r.before r.begun m ms) ∙ r.refuses m ms e;
+  some = record { bytes = r.some.bytes; lines = r.some.lines; plain_bytes = r.some.plain_bytes; offered = r.some.offered; plain_lines = r.some.plain_lines; placed = r.some.placed; rest = r.some.rest; reads = same (continues r.before r.begun (written r.some.bytes) (map written r.some.lines)) ∙ r.some.reads };
+  refuses = λ m ms e. same (continues r.before r.begun m ms) ∙ r.refuses m ms e;
 }
 
 pub not_last : (t : Bool) (rest : List Line) (others : Parse (Option PlacedText)) (f : Fault) → cond t (nothing_more rest) others ≡ Err f → (t ≡ false) × (others ≡ Err f)
@@ -214,11 +214,11 @@ pub no_lines_next : next_statement [] ≡ nothing_more []
 unfolding next_statement
 no_lines_next = refl
 
-pub leftmost : (ls : List Line) (fault : Fault) → next_statement ls ≡ Err fault → is_syntax fault ≡ true → StandsLeftmost ls fault
+pub leftmost : (ls : List Line) (fault : Fault) → next_statement ls ≡ Err fault → is_syntax fault ≡ true → ComesLeftmost ls fault
 leftmost [] fault h syntax = absurd (nothing_no_fault [] fault (sym no_lines_next ∙ h))
 leftmost (l ∷ ls) fault h syntax = by_kind (kind_of l) refl (λ e. leftmost ls fault e syntax)
   where
-    by_kind : (k : Kind) → kind_of l ≡ k → (next_statement ls ≡ Err fault → StandsLeftmost ls fault) → StandsLeftmost (l ∷ ls) fault
+    by_kind : (k : Kind) → kind_of l ≡ k → (next_statement ls ≡ Err fault → ComesLeftmost ls fault) → ComesLeftmost (l ∷ ls) fault
     by_kind CommentLine k rest =
         let last = not_last l.is_last (lines_after l (without_comments ls)) (next_statement ls) fault (sym (by_kind_next l ls CommentLine k) ∙ h) in
         leftmost_after l ls fault (λ ms. by_kind_next l ms CommentLine k ∙ ap (λ (t : Bool). cond t (nothing_more (lines_after l (without_comments ms))) (next_statement ms)) last.0) (rest last.1)

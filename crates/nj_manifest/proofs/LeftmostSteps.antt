@@ -156,17 +156,17 @@ OfWanted want fault = (bytes : List ℕ) → offers_next want (drop_while is_spa
 -- ---- a whole line
 
 -- what is said of a line's reading: its units, its end, the lines after it, and the reading
-abbrev pub Said : Type 0 → Type 1
-Said B = List TextUnit → Line → List Line → Step B → Type 0
+abbrev pub Claim : Type 0 → Type 1
+Claim B = List TextUnit → Line → List Line → Step B → Type 0
 
 -- The reading of the whole goes on from here as k says.
-pub record Along {B : Type 0} (P : Said B) (whole : List TextUnit) (k : State → Step B) (t : List TextUnit → Bool) (us : List TextUnit) : Type 0 where
+pub record Along {B : Type 0} (P : Claim B) (whole : List TextUnit) (k : State → Step B) (t : List TextUnit → Bool) (us : List TextUnit) : Type 0 where
   pub begun : List TextUnit
   pub cut : whole ≡ begun ++ us
   pub goes : (x : List TextUnit) (e : Line) (ms : List Line) → Fits t us x → P (begun ++ x) e ms (k (at x e ms))
 
 -- The reading of the whole fails where no element like this one helps, and some text does.
-pub record Stuck {B : Type 0} (P : Said B) (whole : List TextUnit) (e : Line) (fault : Fault) : Type 0 where
+pub record Stuck {B : Type 0} (P : Claim B) (whole : List TextUnit) (e : Line) (fault : Fault) : Type 0 where
   pub begun : List TextUnit
   pub left : List TextUnit
   pub cut : whole ≡ begun ++ left
@@ -179,14 +179,14 @@ pub record Stuck {B : Type 0} (P : Said B) (whole : List TextUnit) (e : Line) (f
   pub value : B
   pub some : (ms : List Line) → P (begun ++ text bytes) (written []) ms (Ok (value, Between ms))
 
-pub data Outcome {B : Type 0} (P : Said B) (whole : List TextUnit) (e : Line) : Type 0 where
+pub data Outcome {B : Type 0} (P : Claim B) (whole : List TextUnit) (e : Line) : Type 0 where
   stuck : (fault : Fault) (here : Stuck P whole e fault) → Outcome P whole e
   through : (value : B) (so : (ms : List Line) → P whole e ms (Ok (value, Between (lines_after e ms)))) → Outcome P whole e
 
-pub begin : {B : Type 0} (P : Said B) (k : State → Step B) (t : List TextUnit → Bool) (us : List TextUnit) → ((x : List TextUnit) (e : Line) (ms : List Line) → Fits t us x → P x e ms (k (at x e ms))) → Along P us k t us
+pub begin : {B : Type 0} (P : Claim B) (k : State → Step B) (t : List TextUnit → Bool) (us : List TextUnit) → ((x : List TextUnit) (e : Line) (ms : List Line) → Fits t us x → P x e ms (k (at x e ms))) → Along P us k t us
 begin P k t us h = record { begun = []; cut = refl; goes = h }
 
-pub pass : {A B : Type 0} {P : Said B} {whole : List TextUnit} {t t' : List TextUnit → Bool} {us : List TextUnit} (k : State → Step B) (f : State → Step A) (g : A × State → Step B) → ((s : State) → k s ≡ (f s >>= g)) → Along P whole k t us
+pub pass : {A B : Type 0} {P : Claim B} {whole : List TextUnit} {t t' : List TextUnit → Bool} {us : List TextUnit} (k : State → Step B) (f : State → Step A) (g : A × State → Step B) → ((s : State) → k s ≡ (f s >>= g)) → Along P whole k t us
     → (p : Passes f t t' us) → Along P whole (λ s. g (p.value, s)) t' p.left
 pass {P = P} {whole = whole} {us = us} k f g so a p = record {
   begun = a.begun ++ p.used;
@@ -199,7 +199,7 @@ pass {P = P} {whole = whole} {us = us} k f g so a p = record {
 pub err_bind : {A B : Type 0} (r : Result A Fault) (g : A → Result B Fault) (f : Fault) → r ≡ Err f → (r >>= g) ≡ Err f
 err_bind r g f h = rw h refl
 
-pub stick : {A B : Type 0} {P : Said B} {whole : List TextUnit} {t : List TextUnit → Bool} {us : List TextUnit} {e : Line} {fault : Fault} {used left : List TextUnit} (k : State → Step B) (f : State → Step A) (g : A × State → Step B)
+pub stick : {A B : Type 0} {P : Claim B} {whole : List TextUnit} {t : List TextUnit → Bool} {us : List TextUnit} {e : Line} {fault : Fault} {used left : List TextUnit} (k : State → Step B) (f : State → Step A) (g : A × State → Step B)
     → ((s : State) → k s ≡ (f s >>= g)) → Along P whole k t us → FailsAt f us e fault used left → (bytes : List ℕ) → are_plain bytes ≡ true → offers fault bytes ≡ true → (value : B) → Fits t us (used ++ text bytes)
     → ((ms : List Line) → k (at (used ++ text bytes) (written []) ms) ≡ Ok (value, Between ms)) → Stuck P whole e fault
 stick {P = P} {whole = whole} {us = us} {e = e} {fault = fault} {used = used} {left = left} k f g so a n bytes plain offered value fit some = record {
@@ -223,7 +223,7 @@ stick {P = P} {whole = whole} {us = us} {e = e} {fault = fault} {used = used} {l
 }
 
 -- what is read to the end of the line
-pub arrive : {B : Type 0} {P : Said B} {whole : List TextUnit} {t : List TextUnit → Bool} {us : List TextUnit} (e : Line) (k : State → Step B) (value : B) → Along P whole k t us → ((ms : List Line) → k (at us e ms) ≡ Ok (value, Between (lines_after e ms))) → Outcome P whole e
+pub arrive : {B : Type 0} {P : Claim B} {whole : List TextUnit} {t : List TextUnit → Bool} {us : List TextUnit} (e : Line) (k : State → Step B) (value : B) → Along P whole k t us → ((ms : List Line) → k (at us e ms) ≡ Ok (value, Between (lines_after e ms))) → Outcome P whole e
 arrive {P = P} {us = us} e k value a so = through value (λ ms. subst (λ (y : List TextUnit). P y e ms (Ok (value, Between (lines_after e ms)))) (sym a.cut) (subst (P (a.begun ++ us) e ms) (so ms) (a.goes us e ms (inr refl))))
 
 pub bind-bind : {A B C : Type 0} (r : Result A Fault) (f : A → Result B Fault) (g : B → Result C Fault) → ((r >>= f) >>= g) ≡ (r >>= λ x. f x >>= g)

@@ -9,7 +9,7 @@ use Rattle.nj_manifest.specs.declared.fault.Wanted.{Wanted}
 use Rattle.nj_manifest.specs.LineSteps.{Step, ◌>>=◌, NameText, name_next, words_next, section_next}
 use Rattle.nj_manifest.specs.Leftmost.{written, are_plain, offers_next}
 use Rattle.nj_manifest.proofs.LeftmostRuns.{gap_of, gap_passes}
-use Rattle.nj_manifest.proofs.LeftmostSteps.{at, text, fits-gap, after_name, after_words, Passes, Said, Along, Outcome, stuck, stick, pass}
+use Rattle.nj_manifest.proofs.LeftmostSteps.{at, text, fits-gap, after_name, after_words, Passes, Claim, Along, Outcome, stuck, stick, pass}
 use Rattle.nj_manifest.proofs.LeftmostNames.{NamePasses, NameSeen, name_seen, name_skips}
 use Rattle.nj_manifest.proofs.LeftmostNames as names
 use Rattle.nj_manifest.proofs.LeftmostSigns.{IsSingle, SignSeen, sign_step, led_on, sign_seen, sign_skips}
@@ -23,7 +23,7 @@ use Rattle.nj_text.specs.Bytes.{is_space, drop_while}
 abbrev pub ReadTo : {B : Type 0} → (List Line → Step B) → Type 0
 ReadTo {B = B} reading = (value : B) × ((ms : List Line) → reading ms ≡ Ok (value, Between ms))
 
-module _ {B : Type 0} {P : Said B} {whole : List TextUnit} (e : Line) where
+module _ {B : Type 0} {P : Claim B} {whole : List TextUnit} (e : Line) where
   pub name_turn : {t : List TextUnit → Bool} {us : List TextUnit} (want : Wanted) (k : State → Step B) (g : NameText × State → Step B) → ((s : State) → k s ≡ (name_next want s >>= g)) → Along P whole k t us → (tail : List ℕ) → are_plain tail ≡ true → offers_next want (drop_while is_space tail) ≡ true → t (text tail) ≡ true
       → ReadTo (λ ms. name_next want (at (text tail) (written []) ms) >>= g) → ((n : NamePasses want t us e) → Along P whole (λ s. g (n.passes.value, s)) after_name n.passes.left → Outcome P whole e) → Outcome P whole e
   name_turn {t = t} {us = us} want k g so a tail plain offered fit done next = by_name (name_seen want t us e)

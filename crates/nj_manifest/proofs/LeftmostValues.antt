@@ -15,7 +15,7 @@ use Rattle.nj_manifest.specs.Statements.{equals_value}
 use Rattle.nj_manifest.specs.Leftmost.{written}
 use Rattle.nj_manifest.proofs.LeftmostRuns.{skip}
 use Rattle.nj_manifest.proofs.LeftmostFronts.{fault-same, element-front}
-use Rattle.nj_manifest.proofs.LeftmostSteps.{at, text, anything, after_name, FailsAt, fault-place, Said, Along, Outcome, stuck, stick, arrive}
+use Rattle.nj_manifest.proofs.LeftmostSteps.{at, text, anything, after_name, FailsAt, fault-place, Claim, Along, Outcome, stuck, stick, arrive}
 use Rattle.nj_manifest.proofs.LeftmostSigns.{sign_step, led_on, ending, equals_single}
 use Rattle.nj_manifest.proofs.LeftmostTurns.{ReadTo, sign_turn}
 
@@ -149,7 +149,7 @@ unfolding expect_sign
 read_x view = (view (value_text (text (120 ∷ [])) (written [])), λ ms. refl)
 
 -- A line that ends with a value.
-pub value_turn : {B : Type 0} {P : Said B} {whole us : List TextUnit} (e : Line) (view : WordText → B) (k : State → Step B) → ((s : State) → k s ≡ ◌>>=◌ {B = B × State} (equals_value s) (λ v. Ok (view v.0, v.1))) → Along P whole k after_name us → Outcome P whole e
+pub value_turn : {B : Type 0} {P : Claim B} {whole us : List TextUnit} (e : Line) (view : WordText → B) (k : State → Step B) → ((s : State) → k s ≡ ◌>>=◌ {B = B × State} (equals_value s) (λ v. Ok (view v.0, v.1))) → Along P whole k after_name us → Outcome P whole e
 value_turn {B = B} {P = P} {whole = whole} e view k so a =
     sign_turn e sign.Equals wanted.Equals anything equals_single k (equals_then view) (λ s. so s ∙ equals_is view s) a (61 ∷ 120 ∷ []) refl refl refl (read_x view) (λ p b. at_value p.left b)
   where

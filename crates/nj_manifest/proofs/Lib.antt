@@ -52,5 +52,5 @@ pub mod Nexts
 pub mod Starts
 pub mod StatementRows
 pub mod WordLimits
-pub mod LexTexts
+pub mod LexStrings
 pub mod Shown

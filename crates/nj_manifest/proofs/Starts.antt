@@ -52,14 +52,14 @@ without-units l h = ap (λ (us : List TextUnit). with_units us l) (sym (no-units
 abbrev BeginsBlank : Line → List Line → (last empty : Bool) → Type 0
 BeginsBlank l ls last empty =
     let r = cond (last && empty) (calls.reply start.End (Between (l ∷ ls))) (calls.reply start.Blank (Between (cond last (with_units [] l ∷ ls) ls))) in
-    Begins (cond last (ended (cond last (with_units [] l ∷ ls) ls)) (opening ls)) r.answer r.after
+    Begins (cond last (ended (cond last (with_units [] l ∷ ls) ls)) (opening ls)) r.outcome r.after
 
 begun-blank : (l : Line) (ls : List Line) (last empty : Bool) → l.is_last ≡ last → is_empty l.units ≡ empty → BeginsBlank l ls last empty
 begun-blank l ls false empty e h = (ls, refl, refl)
 begun-blank l ls true true e h = (ap (λ (m : Line). ended (m ∷ ls)) (without-units l h), l ∷ ls, refl)
 begun-blank l ls true false e h = (with_units [] l ∷ ls, refl, sym (next-empty l ls e))
 
-begun-kind : (k : Kind) (l : Line) (ls : List Line) → kind_of l ≡ k → is_comment k ≡ false → Begins (opening_by k l ls (opening ls)) (begun_by k l ls).answer (begun_by k l ls).after
+begun-kind : (k : Kind) (l : Line) (ls : List Line) → kind_of l ≡ k → is_comment k ≡ false → Begins (opening_by k l ls (opening ls)) (begun_by k l ls).outcome (begun_by k l ls).after
 begun-kind CommentLine l ls e h = absurd cc
 begun-kind (TabLine tab) l ls e h = refl
 begun-kind BlankLine l ls e h = begun-blank l ls l.is_last (is_empty l.units) refl refl
@@ -67,7 +67,7 @@ begun-kind IndentedLine l ls e h = refl
 begun-kind PlainLine l ls e h = (l, ls, refl, e, refl)
 
 abbrev BeginsAt : Next → List Line → Type 0
-BeginsAt next ls = Begins next (begun ls).answer (begun ls).after
+BeginsAt next ls = Begins next (begun ls).outcome (begun ls).after
 
 next-comment : (k : Kind) (l : Line) (ls : List Line) (others : Next) → is_comment k ≡ true → opening_by k l ls others ≡ or_last l (ended (lines_after l (without_comments ls))) others
 next-comment CommentLine l ls others h = refl
@@ -92,13 +92,13 @@ begun-next (l ∷ ls) = by_comment (is_comment (kind_of l)) refl (begun-next ls)
 
 -- what the lexer answers at the start of a line
 abbrev Answered : Result LineStart UnitFault → (after : State) → Reply LineStart → Type 0
-Answered answer after r = (r.answer ≡ answer) × (after ≡ r.after)
+Answered outcome after r = (r.outcome ≡ outcome) × (after ≡ r.after)
 
-start-begins : (ls : List Line) (answer : Result LineStart UnitFault) (s : State) → Answered answer s (start_line_of (Between ls)) → Begins (opening ls) answer s
-start-begins ls answer s h = subst (λ a. Begins (opening ls) a s) h.0 (subst (Begins (opening ls) (begun (without_comments ls)).answer) (sym h.1) (begun-next ls))
+start-begins : (ls : List Line) (outcome : Result LineStart UnitFault) (s : State) → Answered outcome s (start_line_of (Between ls)) → Begins (opening ls) outcome s
+start-begins ls outcome s h = subst (λ a. Begins (opening ls) a s) h.0 (subst (Begins (opening ls) (begun (without_comments ls)).outcome) (sym h.1) (begun-next ls))
 
 -- The line that was begun is a plain one.
-middle-begins : (l : Line) (ls : List Line) (answer : Result LineStart UnitFault) (s : State) → kind_of l ≡ PlainLine → Answered answer s (start_line_of (Inside l ls)) → Begins (opening (l ∷ ls)) answer s
+middle-begins : (l : Line) (ls : List Line) (outcome : Result LineStart UnitFault) (s : State) → kind_of l ≡ PlainLine → Answered outcome s (start_line_of (Inside l ls)) → Begins (opening (l ∷ ls)) outcome s
 unfolding opening
 middle-begins l ls (Ok x) s e h =
     let here : opening_by (kind_of l) l ls (opening ls) ≡ Ok (Begun l ls) = rw e refl in
@@ -106,17 +106,17 @@ middle-begins l ls (Ok x) s e h =
     subst (λ a. Begins (opening_by (kind_of l) l ls (opening ls)) a s) h.0 (subst (BeginsHere (opening_by (kind_of l) l ls (opening ls))) (sym h.1) begun)
 middle-begins l ls (Err f) s e h = absurd cc
 
-pub begins : (before after : State) (answer : Result LineStart UnitFault) → IsBetweenStatements before → Answered answer after (start_line_of before) → Begins (opening (lines_from before)) answer after
-begins (Between ls) after answer stands h = start-begins ls answer after h
-begins (Inside l ls) after answer stands h = middle-begins l ls answer after stands h
-begins (Failed f) after answer stands h = absurd stands
+pub begins : (before after : State) (outcome : Result LineStart UnitFault) → IsBetweenStatements before → Answered outcome after (start_line_of before) → Begins (opening (lines_from before)) outcome after
+begins (Between ls) after outcome comes h = start-begins ls outcome after h
+begins (Inside l ls) after outcome comes h = middle-begins l ls outcome after comes h
+begins (Failed f) after outcome comes h = absurd comes
 
 -- the fault at a line's start, as it is answered
 pub begins-badly : (before after : State) (f : LexFault) → IsBetweenStatements before → Answers {X = LineStart} (λ start. start) (Err f) after (start_line_of before) → Fails (fault.Lex f) (opening (lines_from before))
-begins-badly before after lex.OutOfMemory stands h = tt
-begins-badly before after (lex.BadByte spot) stands h = begins before after (Err (unit_fault.BadByte spot)) stands h
-begins-badly before after (lex.Tab spot) stands h = begins before after (Err (unit_fault.Tab spot)) stands h
-begins-badly before after (lex.BadEscape spot) stands h = begins before after (Err (unit_fault.BadEscape spot)) stands h
+begins-badly before after lex.OutOfMemory comes h = tt
+begins-badly before after (lex.BadByte spot) comes h = begins before after (Err (unit_fault.BadByte spot)) comes h
+begins-badly before after (lex.Tab spot) comes h = begins before after (Err (unit_fault.Tab spot)) comes h
+begins-badly before after (lex.BadEscape spot) comes h = begins before after (Err (unit_fault.BadEscape spot)) comes h
 
 -- ---- a measure of the lines that are left
 
@@ -150,19 +150,19 @@ ahead-comments (l ∷ ls) = by_comment (is_comment (kind_of l)) (ahead-comments 
     by_comment true h = by_last l.is_last refl h
 
 -- the lines after a blank one
-blank-kind : (k : Kind) (l : Line) (ls : List Line) (after : State) → (begun_by k l ls).answer ≡ Ok start.Blank → after ≡ (begun_by k l ls).after → lines_ahead after < ahead (l ∷ ls)
+blank-kind : (k : Kind) (l : Line) (ls : List Line) (after : State) → (begun_by k l ls).outcome ≡ Ok start.Blank → after ≡ (begun_by k l ls).after → lines_ahead after < ahead (l ∷ ls)
 blank-kind CommentLine l ls after a s = absurd cc
 blank-kind (TabLine tab) l ls after a s = absurd cc
 blank-kind IndentedLine l ls after a s = absurd cc
 blank-kind PlainLine l ls after a s = absurd cc
 blank-kind BlankLine l ls after a s = by_end (l.is_last && is_empty l.units) refl a s
   where
-    by_end : (t : Bool) → (l.is_last && is_empty l.units) ≡ t → (cond t (calls.reply start.End (Between (l ∷ ls))) (calls.reply start.Blank (Between (lines_after l ls)))).answer ≡ Ok start.Blank
+    by_end : (t : Bool) → (l.is_last && is_empty l.units) ≡ t → (cond t (calls.reply start.End (Between (l ∷ ls))) (calls.reply start.Blank (Between (lines_after l ls)))).outcome ≡ Ok start.Blank
         → after ≡ (cond t (calls.reply start.End (Between (l ∷ ls))) (calls.reply start.Blank (Between (lines_after l ls)))).after → lines_ahead after < ahead (l ∷ ls)
     by_end true e b g = absurd cc
     by_end false e b g = rw g (ahead-after l ls e)
 
-blank-begun : (ls : List Line) (after : State) → (begun ls).answer ≡ Ok start.Blank → after ≡ (begun ls).after → lines_ahead after < ahead ls
+blank-begun : (ls : List Line) (after : State) → (begun ls).outcome ≡ Ok start.Blank → after ≡ (begun ls).after → lines_ahead after < ahead ls
 blank-begun [] after a s = absurd cc
 blank-begun (l ∷ ls) after a s = blank-kind (kind_of l) l ls after a s
 
@@ -176,7 +176,7 @@ blank-falls (Inside l ls) after h = absurd cc
 blank-falls (Failed f) after h = absurd cc
 
 pub begins-as : (before after : State) (got want : LineStart) → got ≡ want → IsBetweenStatements before → Answers (λ start. start) (Ok got) after (start_line_of before) → Begins (opening (lines_from before)) (Ok want) after
-begins-as before after got want e stands h = subst (λ x. Begins (opening (lines_from before)) (Ok x) after) e (begins before after (Ok got) stands h)
+begins-as before after got want e comes h = subst (λ x. Begins (opening (lines_from before)) (Ok x) after) e (begins before after (Ok got) comes h)
 
 pub blank-falls-as : (before after : State) (got : LineStart) → got ≡ start.Blank → Answers (λ start. start) (Ok got) after (start_line_of before) → lines_ahead after < lines_ahead before
 blank-falls-as before after got e h = blank-falls before after (subst (λ x. Answers (λ start. start) (Ok x) after (start_line_of before)) e h)

@@ -10,9 +10,9 @@ use Rattle.nj_manifest.specs.LineSteps.{NameText, name_next, expect_sign, words_
 use Rattle.nj_manifest.specs.Statements.{LineText, Parse, OutputsText, InputsText, PlacedText, StatementText, BindingText, RuleText, PoolText, BuildText, DefaultText, IncludeText, SubninjaText, equals_value, line_next, name_alone, outputs_next, inputs_next, build_next, targets_next, file_next, head_after, head_next, whole_rule, whole_pool, statement_at, block, next_statement}
 
 -- what a row unfolds to compute on its text
-unfoldable pub on_texts : ⊤
+unfoldable pub on_strings : ⊤
 unfolding cut next_statement statement_at head_next head_after name_next expect_sign words_next words_within section_next outputs_next inputs_next build_next targets_next file_next name_alone equals_value line_next block whole_rule whole_pool
-on_texts = tt
+on_strings = tt
 
 -- ---- what a row shows
 
@@ -26,14 +26,14 @@ abbrev pub first_of : List ℕ → Result (Option PlacedText) Fault
 first_of text = item_of (next_statement (text_lines text))
 
 -- an answer before those that follow it; a fault ends them
-abbrev answers_from : Parse (Option PlacedText) → (List Line → List (Result (Option PlacedText) Fault)) → List (Result (Option PlacedText) Fault)
-answers_from (Ok r) others = Ok r.0 ∷ others r.1
-answers_from (Err f) others = Err f ∷ []
+abbrev outcomes_from : Parse (Option PlacedText) → (List Line → List (Result (Option PlacedText) Fault)) → List (Result (Option PlacedText) Fault)
+outcomes_from (Ok r) others = Ok r.0 ∷ others r.1
+outcomes_from (Err f) others = Err f ∷ []
 
 -- the answers of so many readings, each from the lines after the one before
-abbrev answers : (turns : ℕ) → List Line → List (Result (Option PlacedText) Fault)
-answers zero ls = []
-answers (suc turns) ls = answers_from (next_statement ls) (answers turns)
+abbrev outcomes : (turns : ℕ) → List Line → List (Result (Option PlacedText) Fault)
+outcomes zero ls = []
+outcomes (suc turns) ls = outcomes_from (next_statement ls) (outcomes turns)
 
 abbrev pub at : (line column : ℕ) → Spot
 at line column = record { line = line; column = column }
@@ -67,7 +67,7 @@ escapes : first_of (codes "build o$ 1: cp it's$ x") ≡ placed 1 1 (BuildText
     (name_at 1 13 (codes "cp"))
     (from (record { spot = at 1 16; parts = Text (codes "it's") ∷ Text (codes " ") ∷ Text (codes "x") ∷ [] } ∷ []))
     [])
-unfolding on_texts
+unfolding on_strings
 escapes = refl
 
 -- a join inside a word does not end it
@@ -76,7 +76,7 @@ joined_word : first_of (codes "build o: cp a$\n  b") ≡ placed 1 1 (BuildText
     (name_at 1 10 (codes "cp"))
     (from (record { spot = at 1 13; parts = Text (codes "a") ∷ Text (codes "b") ∷ [] } ∷ []))
     [])
-unfolding on_texts
+unfolding on_strings
 joined_word = refl
 
 -- a join after a space stands between words
@@ -85,14 +85,14 @@ parted_words : first_of (codes "build o: cp a $\n  b") ≡ placed 1 1 (BuildText
     (name_at 1 10 (codes "cp"))
     (from (word 1 13 (codes "a") ∷ word 2 3 (codes "b") ∷ []))
     [])
-unfolding on_texts
+unfolding on_strings
 parted_words = refl
 
 -- ---- statements
 
 -- a section may have no words
 empty_section : first_of (codes "build a: r |") ≡ placed 1 1 (BuildText (to (word 1 7 (codes "a") ∷ [])) (name_at 1 10 (codes "r")) (from []) [])
-unfolding on_texts
+unfolding on_strings
 empty_section = refl
 
 all_sections : first_of (codes "build a | b: r c | d || e |@ f") ≡ placed 1 1 (BuildText
@@ -100,64 +100,64 @@ all_sections : first_of (codes "build a | b: r c | d || e |@ f") ≡ placed 1 1 
     (name_at 1 14 (codes "r"))
     (record { explicit = word 1 16 (codes "c") ∷ []; implicit = word 1 20 (codes "d") ∷ []; order_only = word 1 25 (codes "e") ∷ []; validations = word 1 30 (codes "f") ∷ [] })
     [])
-unfolding on_texts
+unfolding on_strings
 all_sections = refl
 
 -- an implicit output is enough
 implicit_output : first_of (codes "build | a: r") ≡ placed 1 1 (BuildText (record { explicit = []; implicit = word 1 9 (codes "a") ∷ [] }) (name_at 1 12 (codes "r")) (from []) [])
-unfolding on_texts
+unfolding on_strings
 implicit_output = refl
 
 -- an identifier that only begins like a keyword
 dotted_name : first_of (codes "build.dir = x") ≡ placed 1 1 (BindingText (codes "build.dir") (word 1 13 (codes "x")))
-unfolding on_texts
+unfolding on_strings
 dotted_name = refl
 
 -- the joined lines are one line
 joined_value : first_of (codes "x = $\n  1") ≡ placed 1 1 (BindingText (codes "x") (word 2 3 (codes "1")))
-unfolding on_texts
+unfolding on_strings
 joined_value = refl
 
 after_comment : first_of (codes "# c\n\nx = 1\r\n") ≡ placed 3 1 (BindingText (codes "x") (word 3 5 (codes "1")))
-unfolding on_texts
+unfolding on_strings
 after_comment = refl
 
 whole_of_pool : first_of (codes "pool p\n  depth = 1") ≡ placed 1 1 (PoolText (name_at 1 6 (codes "p")) (line_at 2 3 (codes "depth") (word 2 11 (codes "1")) ∷ []))
-unfolding on_texts
+unfolding on_strings
 whole_of_pool = refl
 
 -- comments stand among the lines of a block
 whole_of_rule : first_of (codes "rule r\n# c\n  command = x $in\n  # d\n  restat =\n") ≡ placed 1 1 (RuleText (name_at 1 6 (codes "r"))
     (line_at 3 3 (codes "command") (record { spot = at 3 13; parts = Text (codes "x ") ∷ Name (codes "in") ∷ [] }) ∷ line_at 5 3 (codes "restat") (record { spot = at 5 11; parts = [] }) ∷ []))
-unfolding on_texts
+unfolding on_strings
 whole_of_rule = refl
 
 -- ---- one statement after the other
 
 no_statement : first_of [] ≡ Ok None
-unfolding on_texts
+unfolding on_strings
 no_statement = refl
 
 -- the end of a text is answered for good
-to_the_end : answers 5 (text_lines (codes "include a\nsubninja b\ndefault c d")) ≡
+to_the_end : outcomes 5 (text_lines (codes "include a\nsubninja b\ndefault c d")) ≡
     placed 1 1 (IncludeText (word 1 9 (codes "a"))) ∷ placed 2 1 (SubninjaText (word 2 10 (codes "b"))) ∷ placed 3 1 (DefaultText (word 3 9 (codes "c") ∷ word 3 11 (codes "d") ∷ [])) ∷ Ok None ∷ Ok None ∷ []
-unfolding on_texts
+unfolding on_strings
 to_the_end = refl
 
 -- a blank line ends a block
-after_block : answers 2 (text_lines (codes "build a: r\n  x = 1\n\n  y = 2\n")) ≡
+after_block : outcomes 2 (text_lines (codes "build a: r\n  x = 1\n\n  y = 2\n")) ≡
     placed 1 1 (BuildText (to (word 1 7 (codes "a") ∷ [])) (name_at 1 10 (codes "r")) (from []) (line_at 2 3 (codes "x") (word 2 7 (codes "1")) ∷ [])) ∷ Err (UnexpectedIndent (at 4 1)) ∷ []
-unfolding on_texts
+unfolding on_strings
 after_block = refl
 
 -- a comment may end the text, within a block too
-comment_at_end : answers 3 (text_lines (codes "rule r\n  command = x\n  # c")) ≡
+comment_at_end : outcomes 3 (text_lines (codes "rule r\n  command = x\n  # c")) ≡
     placed 1 1 (RuleText (name_at 1 6 (codes "r")) (line_at 2 3 (codes "command") (word 2 13 (codes "x")) ∷ [])) ∷ Ok None ∷ Ok None ∷ []
-unfolding on_texts
+unfolding on_strings
 comment_at_end = refl
 
 -- a statement ends the block before it
-at_once : answers 3 (text_lines (codes "pool p\n  depth = 1\nbuild a: r\n\n\n")) ≡
+at_once : outcomes 3 (text_lines (codes "pool p\n  depth = 1\nbuild a: r\n\n\n")) ≡
     placed 1 1 (PoolText (name_at 1 6 (codes "p")) (line_at 2 3 (codes "depth") (word 2 11 (codes "1")) ∷ [])) ∷ placed 3 1 (BuildText (to (word 3 7 (codes "a") ∷ [])) (name_at 3 10 (codes "r")) (from []) []) ∷ Ok None ∷ []
-unfolding on_texts
+unfolding on_strings
 at_once = refl

@@ -44,15 +44,15 @@ ok_parts {A} x y s t e =
     let same : ◌≡◌ {A = A × State} (x, s) (y, t) = cc in
     (ap (λ (r : A × State). r.0) same, ap (λ (r : A × State). r.1) same)
 
-none_is_no_word : {w : WordText} → ◌≡◌ {A = Option WordText} None (Some w) → ⊥
-none_is_no_word e = absurd cc
+none_is_not_word : {w : WordText} → ◌≡◌ {A = Option WordText} None (Some w) → ⊥
+none_is_not_word e = absurd cc
 
 -- what a call that gives a word leaves
 word_left : (l : Line) (ls : List Line) (w : WordText) (after : State) (f g : Option UnitFault) (t : Bool) → begins_word l.units ≡ t
     → ◌≡◌ {A = Step (Option WordText)} (called (unless_fault f (cond t (unless_fault g (reply (Some (word_here l)) (Inside (with_units (drop_while in_word l.units) l) ls))) (reply None (Inside l ls))))) (Ok (Some w, after))
     → units_left after < length l.units
 word_left l ls w after (Some f) g t b e = absurd cc
-word_left l ls w after None g false b e = absurd (none_is_no_word (ok_parts None (Some w) (Inside l ls) after e).0)
+word_left l ls w after None g false b e = absurd (none_is_not_word (ok_parts None (Some w) (Inside l ls) after e).0)
 word_left l ls w after None (Some g) true b e = absurd cc
 word_left l ls w after None None true b e =
     let same : length (drop_while in_word l.units) ≡ units_left after = ap units_left (ok_parts (Some (word_here l)) (Some w) (Inside (with_units (drop_while in_word l.units) l) ls) after e).1 in
@@ -61,7 +61,7 @@ word_left l ls w after None None true b e =
 
 -- Behind a word fewer units are left.
 pub units_left-word : (s : State) (w : WordText) (after : State) → called (path_word_of s) ≡ Ok (Some w, after) → units_left after < units_left s
-units_left-word (Between ls) w after h = absurd (none_is_no_word (ok_parts None (Some w) (Between ls) after h).0)
+units_left-word (Between ls) w after h = absurd (none_is_not_word (ok_parts None (Some w) (Between ls) after h).0)
 units_left-word (Failed f) w after h = absurd cc
 units_left-word (Inside l ls) w after h =
     let b = after_blanks l in

@@ -6,7 +6,7 @@ use Rattle.nj_text.specs.Units.{TextUnit}
 use Rattle.nj_text.specs.Lines.{Line, text_lines, line_spot, is_space_unit}
 use Rattle.nj_manifest.specs.Faults.{Fault, DyndepShape}
 use Rattle.nj_manifest.specs.Grammar.{AreBlanks}
-use Rattle.nj_manifest.specs.Leftmost.{goes_on, element, written, are_plain, NamesThePlaceOf, met_before, offers}
+use Rattle.nj_manifest.specs.Leftmost.{continues, element, written, are_plain, NamesThePlaceOf, met_before, offers}
 use Rattle.nj_manifest.specs.Dyndeps.{EntryText, is_same_spot, version_next, next_entry}
 
 -- Units of which each has a place of its own, as the units of a text have.
@@ -32,7 +32,7 @@ pub record SomeEntry (before : List Line) (begun : List TextUnit) (fault : Fault
   pub plain_lines : list_all are_plain lines ≡ true
   pub entry : EntryText
   pub rest : List Line
-  pub reads : next_entry (goes_on before begun (written bytes) (map written lines)) ≡ Ok (Some entry, rest)
+  pub reads : next_entry (continues before begun (written bytes) (map written lines)) ≡ Ok (Some entry, rest)
 
 -- If this line has only the spaces with which it begins, an entry is complete: the line is one too many in the entry's block. (Between the
 -- spaces and the element there may be a join, and blanks after it.)
@@ -44,22 +44,22 @@ pub record LineTooMany (before : List Line) (begun : List TextUnit) : Type 0 whe
   pub of_blanks : AreBlanks gap
   pub entry : EntryText
   pub rest : List Line
-  pub reads : next_entry (goes_on before spaces (written []) []) ≡ Ok (Some entry, rest)
+  pub reads : next_entry (continues before spaces (written []) []) ≡ Ok (Some entry, rest)
 
 -- From this front, with this element after it, no entry goes on: whatever follows, each unit of the line at a place of its own, the answer
 -- is this fault. A departure from the form names the first unit of the element, and so keeps its place.
 abbrev pub RefusesEntry : (before : List Line) → (begun element : List TextUnit) → Fault → Type 0
 RefusesEntry before begun here fault =
     (l : Line) (ls : List Line) → element l.units ≡ here → are_apart (begun ++ l.units) ≡ true
-    → next_entry (goes_on before begun l ls) ≡ Err (met_before l fault)
+    → next_entry (continues before begun l ls) ≡ Err (met_before l fault)
 
 -- The lines, cut before the element at which the fault stands.
-pub record EntryStandsLeftmost (ls : List Line) (fault : Fault) : Type 0 where
+pub record EntryComesLeftmost (ls : List Line) (fault : Fault) : Type 0 where
   pub before : List Line
   pub begun : List TextUnit
   pub line : Line
   pub others : List Line
-  pub cut : ls ≡ goes_on before begun line others
+  pub cut : ls ≡ continues before begun line others
   pub place : NamesPlaceInEntry fault line
   pub some : SomeEntry before begun fault ⊎ LineTooMany before begun
   pub refuses : RefusesEntry before begun (element line.units) fault
@@ -67,12 +67,12 @@ pub record EntryStandsLeftmost (ls : List Line) (fault : Fault) : Type 0 where
 -- Each fault of an entry is the leftmost.
 abbrev pub DyndepFaultsAreLeftmost : Type 0
 DyndepFaultsAreLeftmost =
-    (ls : List Line) (fault : Fault) → AreApart ls → next_entry ls ≡ Err fault → EntryStandsLeftmost ls fault
+    (ls : List Line) (fault : Fault) → AreApart ls → next_entry ls ≡ Err fault → EntryComesLeftmost ls fault
 
 -- Each unit of a text has a place of its own, and so have those of the lines that are left of it after the version, and
 -- after an entry.
-abbrev pub UnitsOfTextsAreApart : Type 0
-UnitsOfTextsAreApart =
+abbrev pub UnitsOfStringsAreApart : Type 0
+UnitsOfStringsAreApart =
     ((text : List ℕ) → AreApart (text_lines text))
     × ((ls rest : List Line) → AreApart ls → version_next ls ≡ Ok rest → AreApart rest)
     × ((ls : List Line) (found : Option EntryText) (rest : List Line) → AreApart ls → next_entry ls ≡ Ok (found, rest) → AreApart rest)

@@ -14,10 +14,10 @@ abbrev pub entry_text : Entry → EntryText
 entry_text e = record { out = word_text e.out; outs = words_text e.outs.items; ins = words_text e.ins.items }
 
 -- what a parser answers if this is read from what is left
-abbrev pub AnswersEntry : Parse (Option EntryText) → (after : DyndepLeft) → Result (Option Entry) ParseFault → Type 0
-AnswersEntry expected after (Ok found) =
+abbrev pub ReturnsEntry : Parse (Option EntryText) → (after : DyndepLeft) → Result (Option Entry) ParseFault → Type 0
+ReturnsEntry expected after (Ok found) =
     (rest : List lines.Line) × (expected ≡ Ok (option_map entry_text found, rest)) × (after ≡ Entries rest)
-AnswersEntry expected after (Err f) = Fails f expected × (after ≡ Refusing (fault_text f))
+ReturnsEntry expected after (Err f) = Fails f expected × (after ≡ Refusing (fault_text f))
 
 abbrev pub RefusesAgain : Fault → Result (Option Entry) ParseFault → Type 0
 RefusesAgain fault (Ok found) = ⊥
@@ -26,4 +26,4 @@ RefusesAgain fault (Err f) = fault_text f ≡ fault
 -- It answers the next entry, and leaves the lines after it; or the first fault, and then that fault for good.
 abbrev pub IsNextEntry : (before after : DyndepLeft) → Result (Option Entry) ParseFault → Type 0
 IsNextEntry (Refusing fault) after result = RefusesAgain fault result × (after ≡ Refusing fault)
-IsNextEntry before after result = AnswersEntry (entry_of before) after result
+IsNextEntry before after result = ReturnsEntry (entry_of before) after result

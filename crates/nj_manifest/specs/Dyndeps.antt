@@ -75,7 +75,7 @@ no_path_by spot (Err unit) after = unless_missing (is_same_spot (fault_spot unit
 unfoldable pub no_path : State → Result State Fault
 no_path s =
     let here = skip_blanks_of s in
-    no_path_by (spot_of here) (path_word_of here).answer (path_word_of here).after
+    no_path_by (spot_of here) (path_word_of here).outcome (path_word_of here).after
 
 -- no section begins here with this sign
 unfoldable pub no_section : Sign → State → Result State Fault

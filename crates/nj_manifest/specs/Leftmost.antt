@@ -14,8 +14,8 @@ use Rattle.nj_manifest.specs.Faults.{Fault, Bad, Expected, UnexpectedIndent, Unk
 use Rattle.nj_manifest.specs.Statements.{PlacedText, next_statement}
 
 -- whole lines, the first units of one more, and from there on the rest of that line and the others
-abbrev pub goes_on : (before : List Line) → (begun : List TextUnit) → Line → List Line → List Line
-goes_on before begun l ls = before ++ with_units (begun ++ l.units) l ∷ ls
+abbrev pub continues : (before : List Line) → (begun : List TextUnit) → Line → List Line → List Line
+continues before begun l ls = before ++ with_units (begun ++ l.units) l ∷ ls
 
 -- ---- elements
 
@@ -93,24 +93,24 @@ pub record SomeStatement (before : List Line) (begun : List TextUnit) (fault : F
   pub plain_lines : list_all are_plain lines ≡ true
   pub placed : PlacedText
   pub rest : List Line
-  pub reads : next_statement (goes_on before begun (written bytes) (map written lines)) ≡ Ok (Some placed, rest)
+  pub reads : next_statement (continues before begun (written bytes) (map written lines)) ≡ Ok (Some placed, rest)
 
 -- from this front, with this element after it, no statement goes on: whatever follows, the answer is this fault
 abbrev pub Refuses : (before : List Line) → (begun element : List TextUnit) → Fault → Type 0
 Refuses before begun here fault =
-    (l : Line) (ls : List Line) → element l.units ≡ here → next_statement (goes_on before begun l ls) ≡ Err (met_before l fault)
+    (l : Line) (ls : List Line) → element l.units ≡ here → next_statement (continues before begun l ls) ≡ Err (met_before l fault)
 
 -- The lines, cut before the element at which the fault stands.
-pub record StandsLeftmost (ls : List Line) (fault : Fault) : Type 0 where
+pub record ComesLeftmost (ls : List Line) (fault : Fault) : Type 0 where
   pub before : List Line
   pub begun : List TextUnit
   pub line : Line
   pub others : List Line
-  pub cut : ls ≡ goes_on before begun line others
+  pub cut : ls ≡ continues before begun line others
   pub place : NamesThePlaceOf fault line
   pub some : SomeStatement before begun fault
   pub refuses : Refuses before begun (element line.units) fault
 
 -- Each fault of syntax is the leftmost.
 abbrev pub FaultsAreLeftmost : Type 0
-FaultsAreLeftmost = (ls : List Line) (fault : Fault) → next_statement ls ≡ Err fault → is_syntax fault ≡ true → StandsLeftmost ls fault
+FaultsAreLeftmost = (ls : List Line) (fault : Fault) → next_statement ls ≡ Err fault → is_syntax fault ≡ true → ComesLeftmost ls fault

@@ -23,7 +23,7 @@ answered (Err f) after = Err (Bad f)
 
 -- a call of the lexer
 abbrev pub called : {A : Type 0} → Reply A → Step A
-called r = answered r.answer r.after
+called r = answered r.outcome r.after
 
 -- a name and the place of its first byte
 pub record NameText : Type 0 where

@@ -16,10 +16,10 @@ Fails (fault.Lex lex.OutOfMemory) expected = Unit {0}
 Fails f expected = expected ≡ Err (fault_text f)
 
 -- what a parser answers if this is read from the lines
-abbrev pub AnswersNext : Parse (Option PlacedText) → (after : Left) → Result (Option (Placed Statement)) ParseFault → Type 0
-AnswersNext expected after (Ok found) =
+abbrev pub ReturnsNext : Parse (Option PlacedText) → (after : Left) → Result (Option (Placed Statement)) ParseFault → Type 0
+ReturnsNext expected after (Ok found) =
     (rest : List lines.Line) × (expected ≡ Ok (option_map placed_text found, rest)) × (after ≡ Lines rest)
-AnswersNext expected after (Err f) = Fails f expected × (after ≡ Refused (fault_text f))
+ReturnsNext expected after (Err f) = Fails f expected × (after ≡ Refused (fault_text f))
 
 -- the fault that was answered before
 abbrev pub Again : Fault → Result (Option (Placed Statement)) ParseFault → Type 0
@@ -29,5 +29,5 @@ Again fault (Err f) = fault_text f ≡ fault
 -- It answers the next statement of the lines that are left, and leaves the lines after it; or the first fault, and then
 -- that fault for good.
 abbrev pub IsNext : (before after : Left) → Result (Option (Placed Statement)) ParseFault → Type 0
-IsNext (Lines ls) after result = AnswersNext (next_statement ls) after result
+IsNext (Lines ls) after result = ReturnsNext (next_statement ls) after result
 IsNext (Refused fault) after result = Again fault result × (after ≡ Refused fault)

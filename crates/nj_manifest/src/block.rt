@@ -7,8 +7,8 @@ ghost use Rattle.nj_manifest.specs.Statements.{allows, equals_value, line_next, 
 ghost use Rattle.nj_manifest.specs.Contents.{line_text, lines_text};
 ghost use Rattle.nj_manifest.specs.Inside.ParserContracts.{ParsesFrom, Wholes};
 
+use crate::buffers::empty_list;
 use crate::fault::{ParseFault, Wanted};
-use crate::room::empty_list;
 use crate::statement::Line;
 use crate::steps::{expect_sign, name_next};
 use nj_text::{Lexer, LineStart, Sign, Spot, Word};

@@ -101,7 +101,7 @@ impl<'a> ParseFault<'a> {
     }
 
     /// The text of the fault, without its place.
-    #[tactic(auto, using(crate::proofs::LexTexts::lex_text_is, crate::proofs::LexTexts::lex_text_shown))]
+    #[tactic(auto, using(crate::proofs::LexStrings::lex_text_is, crate::proofs::LexStrings::lex_text_shown))]
     pub fn text(self) -> FaultText<'a>
         ensures exact { result.exact ≡ text_of (fault_text self.entry) }
         ensures shown { result.shown ≡ text_of (with_shown_name (fault_text self.entry)) }

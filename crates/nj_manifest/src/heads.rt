@@ -7,8 +7,8 @@ ghost use Rattle.nj_manifest.specs.Statements.{RuleHead, PoolHead, as_head, name
 ghost use Rattle.nj_manifest.specs.Inside.ParserContracts.{TakesStep, name_text, outs_text, head_text};
 
 use crate::block::equals_value;
+use crate::buffers::Buffers;
 use crate::fault::{ParseFault, Wanted};
-use crate::room::Room;
 use crate::statement::{Build, Pool, Rule, Statement};
 use crate::steps::{PlacedName, expect_sign, name_next, section_next, words_next};
 use nj_text::{Lexer, Sign, Word};
@@ -55,13 +55,13 @@ fn pool_next<'a>(alloc: Global, lexer: &mut Lexer<'a>) -> Result<Statement<'a>, 
 fn outputs_next<'a>(
     alloc: Global,
     lexer: &mut Lexer<'a>,
-    room: &mut Room<'a>,
+    buffers: &mut Buffers<'a>,
 ) -> Result<(Vec<Word<'a>>, Vec<Word<'a>>), ParseFault<'a>>
     ensures { TakesStep (λ outs. outs_text outs.0.items outs.1.items) result lexer.new
         (outputs_next lexer.old) }
 {
-    let explicit = words_next(alloc, lexer, &mut room.explicit_outs)?;
-    let implicit = section_next(alloc, lexer, Sign::Pipe, &mut room.implicit_outs)?;
+    let explicit = words_next(alloc, lexer, &mut buffers.explicit_outs)?;
+    let implicit = section_next(alloc, lexer, Sign::Pipe, &mut buffers.implicit_outs)?;
     if explicit.is_empty() && implicit.is_empty() {
         return Err(ParseFault::Expected(lexer.spot(), Wanted::Path));
     }
@@ -73,17 +73,17 @@ fn outputs_next<'a>(
 fn build_next<'a>(
     alloc: Global,
     lexer: &mut Lexer<'a>,
-    room: &mut Room<'a>,
+    buffers: &mut Buffers<'a>,
 ) -> Result<Statement<'a>, ParseFault<'a>>
     ensures { TakesStep head_text result lexer.new (build_next lexer.old) }
 {
-    let (explicit_outs, implicit_outs) = outputs_next(alloc, lexer, room)?;
+    let (explicit_outs, implicit_outs) = outputs_next(alloc, lexer, buffers)?;
     expect_sign(lexer, Sign::Colon, Wanted::Colon)?;
     let rule = name_next(lexer, Wanted::CommandName)?;
-    let explicit = words_next(alloc, lexer, &mut room.explicit)?;
-    let implicit = section_next(alloc, lexer, Sign::Pipe, &mut room.implicit)?;
-    let order_only = section_next(alloc, lexer, Sign::Pipe2, &mut room.order_only)?;
-    let validations = section_next(alloc, lexer, Sign::PipeAt, &mut room.validations)?;
+    let explicit = words_next(alloc, lexer, &mut buffers.explicit)?;
+    let implicit = section_next(alloc, lexer, Sign::Pipe, &mut buffers.implicit)?;
+    let order_only = section_next(alloc, lexer, Sign::Pipe2, &mut buffers.order_only)?;
+    let validations = section_next(alloc, lexer, Sign::PipeAt, &mut buffers.validations)?;
     expect_sign(lexer, Sign::LineEnd, Wanted::Newline)?;
     Ok(Statement::Build(Build {
         explicit_outs,
@@ -131,13 +131,13 @@ fn file_next<'a>(alloc: Global, lexer: &mut Lexer<'a>) -> Result<Word<'a>, Parse
 fn head_after<'a>(
     alloc: Global,
     lexer: &mut Lexer<'a>,
-    room: &mut Room<'a>,
+    buffers: &mut Buffers<'a>,
     word: &'a [u8],
 ) -> Result<Statement<'a>, ParseFault<'a>>
     ensures { TakesStep head_text result lexer.new (head_after word.now lexer.old) }
 {
     if word == b"build".as_slice() {
-        build_next(alloc, lexer, room)
+        build_next(alloc, lexer, buffers)
     } else if word == b"rule".as_slice() {
         rule_next(alloc, lexer)
     } else if word == b"pool".as_slice() {
@@ -162,10 +162,10 @@ fn head_after<'a>(
 pub fn head_next<'a>(
     alloc: Global,
     lexer: &mut Lexer<'a>,
-    room: &mut Room<'a>,
+    buffers: &mut Buffers<'a>,
 ) -> Result<Statement<'a>, ParseFault<'a>>
     ensures { TakesStep head_text result lexer.new (head_next lexer.old) }
 {
     let word = name_next(lexer, Wanted::Statement)?;
-    head_after(alloc, lexer, room, word.name)
+    head_after(alloc, lexer, buffers, word.name)
 }

@@ -4,7 +4,7 @@ ghost use Rattle.nj_manifest.specs.Laws.{StatementsAreTheForms, MissingLinesAreL
 ghost use Rattle.nj_manifest.specs.DyndepForms.{EntriesAreTheForms, NextEntriesAreTheForms};
 ghost use Rattle.nj_manifest.specs.Leftmost.{FaultsAreLeftmost};
 ghost use Rattle.nj_manifest.specs.DyndepVersions.{VersionsAreTheForms};
-ghost use Rattle.nj_manifest.specs.DyndepLeftmost.{DyndepFaultsAreLeftmost, UnitsOfTextsAreApart};
+ghost use Rattle.nj_manifest.specs.DyndepLeftmost.{DyndepFaultsAreLeftmost, UnitsOfStringsAreApart};
 
 /// A statement is read from lines, or none at their end, exactly where the forms of Ninja's manual
 /// say so.
@@ -50,6 +50,6 @@ pub fn dyndep_faults_are_leftmost()
 
 /// Each unit of a text has a place of its own, and so have those that are left after the version of
 /// a dyndep file, and after an entry.
-pub fn units_of_texts_are_apart()
-    ensures { UnitsOfTextsAreApart }
+pub fn units_of_strings_are_apart()
+    ensures { UnitsOfStringsAreApart }
 {}

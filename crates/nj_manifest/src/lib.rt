@@ -5,6 +5,7 @@
 #![tactic(auto)]
 
 mod block;
+mod buffers;
 mod dyndep;
 mod entries;
 mod fault;
@@ -14,7 +15,6 @@ mod laws;
 mod next;
 mod opening;
 mod parser;
-mod room;
 mod statement;
 mod steps;
 
@@ -25,7 +25,7 @@ pub use fault_text::FaultText;
 pub use laws::{
     dyndep_entries_are_the_forms, dyndep_faults_are_leftmost, dyndep_versions_are_the_forms,
     faults_are_leftmost, missing_lines_are_lacking, next_entries_are_the_forms,
-    statements_are_the_forms, units_of_texts_are_apart,
+    statements_are_the_forms, units_of_strings_are_apart,
 };
 pub use nj_text::{LexFault, Part, Spot, Word};
 pub use parser::Parser;

@@ -6,10 +6,10 @@ ghost use Rattle.nj_manifest.specs.Contents.{statement_text, placed_text};
 ghost use Rattle.nj_manifest.specs.Inside.ParserContracts.{head_text, ParsesFrom, ParsesAt, ParsesNext, IsBetweenStatements};
 
 use crate::block::{Keys, block, whole_pool, whole_rule};
+use crate::buffers::Buffers;
 use crate::fault::ParseFault;
 use crate::heads::head_next;
 use crate::opening::find_statement;
-use crate::room::Room;
 use crate::statement::{Build, Placed, Pool, Rule, Statement};
 use nj_text::{Lexer, Spot};
 use std::alloc::Global;
@@ -19,7 +19,7 @@ use std::alloc::Global;
 fn with_block<'a>(
     alloc: Global,
     lexer: &mut Lexer<'a>,
-    room: &mut Room<'a>,
+    buffers: &mut Buffers<'a>,
     spot: Spot,
     head: Statement<'a>,
 ) -> Result<Statement<'a>, ParseFault<'a>>
@@ -28,17 +28,17 @@ fn with_block<'a>(
 {
     match head {
         Statement::Rule(rule) => {
-            let lines = block(alloc, lexer, Keys::OfRule, &mut room.lines)?;
+            let lines = block(alloc, lexer, Keys::OfRule, &mut buffers.lines)?;
             whole_rule(spot, &lines)?;
             Ok(Statement::Rule(Rule { lines, ..rule }))
         }
         Statement::Pool(pool) => {
-            let lines = block(alloc, lexer, Keys::OfPool, &mut room.lines)?;
+            let lines = block(alloc, lexer, Keys::OfPool, &mut buffers.lines)?;
             whole_pool(spot, &lines)?;
             Ok(Statement::Pool(Pool { lines, ..pool }))
         }
         Statement::Build(build) => {
-            let lines = block(alloc, lexer, Keys::All, &mut room.lines)?;
+            let lines = block(alloc, lexer, Keys::All, &mut buffers.lines)?;
             Ok(Statement::Build(Build { lines, ..build }))
         }
         alone => Ok(alone),
@@ -50,13 +50,13 @@ fn with_block<'a>(
 fn statement_at<'a>(
     alloc: Global,
     lexer: &mut Lexer<'a>,
-    room: &mut Room<'a>,
+    buffers: &mut Buffers<'a>,
 ) -> Result<Option<Placed<Statement<'a>>>, ParseFault<'a>>
     ensures { ParsesAt (option_map placed_text) lexer.old lexer.new statement_at result }
 {
     let spot = lexer.spot();
-    let head = head_next(alloc, lexer, room)?;
-    let item = with_block(alloc, lexer, room, spot, head)?;
+    let head = head_next(alloc, lexer, buffers)?;
+    let item = with_block(alloc, lexer, buffers, spot, head)?;
     Ok(Some(Placed { spot, item }))
 }
 
@@ -64,13 +64,13 @@ fn statement_at<'a>(
 pub fn next_statement<'a>(
     alloc: Global,
     lexer: &mut Lexer<'a>,
-    room: &mut Room<'a>,
+    buffers: &mut Buffers<'a>,
 ) -> Result<Option<Placed<Statement<'a>>>, ParseFault<'a>>
     requires { IsBetweenStatements lexer.old }
     ensures { ParsesNext (option_map placed_text) lexer.old lexer.new next_statement result }
 {
     if find_statement(lexer)? {
-        return statement_at(alloc, lexer, room);
+        return statement_at(alloc, lexer, buffers);
     }
     Ok(None)
 }

@@ -6,9 +6,9 @@ ghost use Rattle.nj_manifest.specs.Inside.ParserContracts.{is_between_unless};
 ghost use Rattle.nj_manifest.specs.Parsers.{IsNext};
 ghost use Rattle.nj_text.specs.Lines.{text_lines};
 
+use crate::buffers::Buffers;
 use crate::fault::ParseFault;
 use crate::next::next_statement;
-use crate::room::Room;
 use crate::statement::{Placed, Statement};
 use nj_text::Lexer;
 use std::alloc::Global;
@@ -22,7 +22,7 @@ use std::marker::Model;
 pub struct Parser<'a> {
     lexer: Lexer<'a>,
     refused: Option<ParseFault<'a>>,
-    room: Room<'a>,
+    buffers: Buffers<'a>,
     ghost between: { is_between_unless refused lexer ≡ true },
 }
 
@@ -44,7 +44,7 @@ impl<'a> Parser<'a> {
         Parser {
             lexer: Lexer::new(text),
             refused: None,
-            room: Room::none(),
+            buffers: Buffers::none(),
         }
     }
 
@@ -63,7 +63,7 @@ impl<'a> Parser<'a> {
         if let Some(fault) = self.refused {
             return Err(fault);
         }
-        match next_statement(alloc, &mut self.lexer, &mut self.room) {
+        match next_statement(alloc, &mut self.lexer, &mut self.buffers) {
             Ok(found) => Ok(found),
             Err(fault) => {
                 self.refused = Some(fault);
@@ -77,6 +77,6 @@ impl<'a> Parser<'a> {
     pub fn reuse(&mut self, statement: Statement<'a>)
         ensures { self.new ≡ self.old }
     {
-        self.room.keep(statement);
+        self.buffers.keep(statement);
     }
 }

@@ -5,8 +5,8 @@ ghost use Rattle.nj_text.specs.Words.{word_text};
 ghost use Rattle.nj_manifest.specs.Inside.ParserContracts.{TakesStep, LeadsTo, name_text};
 ghost use Rattle.nj_manifest.specs.LineSteps.{name_next, expect_sign, words_next, section_next};
 
+use crate::buffers::empty_list;
 use crate::fault::{ParseFault, Wanted};
-use crate::room::empty_list;
 use nj_text::{Lexer, Sign, Spot, Word};
 use std::alloc::Global;
 

@@ -1,4 +1,4 @@
 pub mod Rows
 pub mod Numerals
 pub mod Texts
-pub mod SaidMarks
+pub mod GivenMarks

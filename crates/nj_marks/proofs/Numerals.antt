@@ -75,13 +75,13 @@ number-no_front bs f = number-none bs (λ h l. let x = numeral_front bs h in cc)
 -- what `parse` says of a part with a plain front; the error does not matter
 pub number-parsed : (bs : List ℕ) (x : ℕ) → ParsesUnsigned {E = ℕ} 64 10 bs (Ok x) → has_plain_front bs ≡ true → number_of bs ≡ Some x
 number-parsed bs x p f =
-    let said = parse_plain own {E = ℕ} 64 bs (Ok x) p (no_plus bs f) in
-    number-some bs (numeral_of bs f said.0.0) said.0.2 ∙ ap Some (sym said.1)
+    let meant = parse_plain own {E = ℕ} 64 bs (Ok x) p (no_plus bs f) in
+    number-some bs (numeral_of bs f meant.0.0) meant.0.2 ∙ ap Some (sym meant.1)
 
 pub number-not_parsed : (bs : List ℕ) → ParsesUnsigned {E = ℕ} 64 10 bs (Err 0) → has_plain_front bs ≡ true → number_of bs ≡ None
 number-not_parsed bs p f =
-    let said = parse_plain own {E = ℕ} 64 bs (Err 0) p (no_plus bs f) in
-    number-none bs (λ h l. let d = numeral_digits bs h in said (d.0, d.1, l))
+    let meant = parse_plain own {E = ℕ} 64 bs (Err 0) p (no_plus bs f) in
+    number-none bs (λ h l. let d = numeral_digits bs h in meant (d.0, d.1, l))
 
 -- ---- what is written of a number
 

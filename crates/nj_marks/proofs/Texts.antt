@@ -7,7 +7,7 @@ use Rattle.std.proofs.lemmas.List.{take_more}
 use Rattle.std.proofs.lemmas.List.Splits.{slice_split-cons_no, slice_split_first}
 use Rattle.std.specs.Prelude.{codes, decimal}
 use Rattle.std.specs.Str.{bytes_eq}
-use Rattle.nj_marks.specs.Marks.{is_dot, numbers_in, mark_text, said_mark}
+use Rattle.nj_marks.specs.Marks.{is_dot, numbers_in, mark_text, given_mark}
 
 -- a text without a dot is one part
 pub parts-none : (xs : List ℕ) → position_or_len is_dot xs ≡ length xs → slice_split is_dot xs ≡ xs ∷ []
@@ -35,13 +35,13 @@ AreReadSoFar text numbers rest = numbers_in (slice_split is_dot text) ≡ prefix
 
 -- ---- whole texts
 
-pub said_start : (text : List ℕ) → bytes_eq text (codes "start") ≡ true → said_mark text ≡ Some []
-unfolding said_mark
-said_start text e = rw e refl
+pub given_start : (text : List ℕ) → bytes_eq text (codes "start") ≡ true → given_mark text ≡ Some []
+unfolding given_mark
+given_start text e = rw e refl
 
-pub said_address : (text : List ℕ) → bytes_eq text (codes "start") ≡ false → said_mark text ≡ numbers_in (slice_split is_dot text)
-unfolding said_mark
-said_address text e = rw e refl
+pub given_address : (text : List ℕ) → bytes_eq text (codes "start") ≡ false → given_mark text ≡ numbers_in (slice_split is_dot text)
+unfolding given_mark
+given_address text e = rw e refl
 
 pub text-push : (n : ℕ) (numbers : List ℕ) (m : ℕ) → mark_text (n ∷ (numbers ++ m ∷ [])) ≡ mark_text (n ∷ numbers) ++ 46 ∷ decimal m
 text-push n [] m = refl

@@ -35,9 +35,9 @@ abbrev pub is_dot : ℕ → Bool
 is_dot b = b == 46
 
 -- the numbers of the mark that a text says, if it says one
-unfoldable pub said_mark : List ℕ → Option (List ℕ)
-said_mark text = if bytes_eq text (codes "start") then Some [] else numbers_in (slice_split is_dot text)
+unfoldable pub given_mark : List ℕ → Option (List ℕ)
+given_mark text = if bytes_eq text (codes "start") then Some [] else numbers_in (slice_split is_dot text)
 
 -- the text of the mark says the mark
 abbrev pub ReadsBack : (mark : List ℕ) → Type 0
-ReadsBack mark = said_mark (mark_text mark) ≡ Some mark
+ReadsBack mark = given_mark (mark_text mark) ≡ Some mark

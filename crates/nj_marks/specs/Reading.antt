@@ -4,10 +4,10 @@ use Rattle.nj_marks.specs.declared.fault.MarkFault.{MarkFault}
 use Rattle.nj_marks.specs.declared.fault.MarkFault.TheVariants.{BadMark, MarkOutOfRange, OutOfMemory}
 
 -- the text says nothing; or memory ran out, whatever the text says
-abbrev pub IsReadFault : {A : Type 0} → (said : Option A) → MarkFault → Type 0
-IsReadFault said BadMark = said ≡ None
-IsReadFault said MarkOutOfRange = ⊥
-IsReadFault said OutOfMemory = Unit {0}
+abbrev pub IsReadFault : {A : Type 0} → (meant : Option A) → MarkFault → Type 0
+IsReadFault meant BadMark = meant ≡ None
+IsReadFault meant MarkOutOfRange = ⊥
+IsReadFault meant OutOfMemory = Unit {0}
 
 -- what is said of it
 abbrev pub fault_text : MarkFault → List ℕ

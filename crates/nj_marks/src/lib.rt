@@ -7,5 +7,5 @@ mod marks;
 mod numbers;
 
 pub use fault::MarkFault;
-pub use laws::{said_marks_are_written, written_marks_are_said};
+pub use laws::{given_marks_are_written, written_marks_are_given};
 pub use marks::Mark;

@@ -2,7 +2,7 @@
 
 ghost use Rattle.std.specs.Prelude.{◌≡◌, [], ◌∷◌, Some, IfOk, IfErr, string_bytes, codes};
 ghost use Rattle.std.specs.Str.{bytes_eq};
-ghost use Rattle.nj_marks.specs.Marks.{mark_text, said_mark, ReadsBack};
+ghost use Rattle.nj_marks.specs.Marks.{mark_text, given_mark, ReadsBack};
 ghost use Rattle.nj_marks.specs.Reading.{IsReadFault};
 
 use crate::fault::MarkFault;
@@ -63,10 +63,10 @@ impl Mark {
     ///
     /// `BadMark` if the text is not a mark, and `OutOfMemory` if an allocation failed; never
     /// `MarkOutOfRange`.
-    #[tactic(auto, using(crate::proofs::Texts::said_start, crate::proofs::Texts::said_address, crate::proofs::SaidMarks::said_fit))]
+    #[tactic(auto, using(crate::proofs::Texts::given_start, crate::proofs::Texts::given_address, crate::proofs::GivenMarks::given_fit))]
     pub fn read(alloc: Global, text: &str) -> Result<Mark, MarkFault>
-        ensures ok { IfOk result (λ mark. said_mark text.now ≡ Some mark) }
-        ensures err { IfErr result (λ fault. IsReadFault (said_mark text.now) fault) }
+        ensures ok { IfOk result (λ mark. given_mark text.now ≡ Some mark) }
+        ensures err { IfErr result (λ fault. IsReadFault (given_mark text.now) fault) }
     {
         if is_start(text) {
             return Ok(Mark::start(alloc));

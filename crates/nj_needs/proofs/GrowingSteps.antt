@@ -49,9 +49,9 @@ AreFiles-known files (n ∷ ns) known =
     slice_get_known (f ∷ fs) (suc k) lt = slice_get_known fs k (omega (arith, lt))
 
 -- what a look found stands in the row on top
-pub stands : (given g : EdgeGraph) (listed files : List FileNo) (opened path : List Frame) (edge : Option ℕ) (found : Option (Option ℕ)) (place : ℕ) → given ≡ g → listed ≡ files → opened ≡ path → IsTop opened edge
+pub comes : (given g : EdgeGraph) (listed files : List FileNo) (opened path : List Frame) (edge : Option ℕ) (found : Option (Option ℕ)) (place : ℕ) → given ≡ g → listed ≡ files → opened ≡ path → IsTop opened edge
     → found ≡ slice_get (row_in given listed edge) place → slice_get (top_of g files path) place ≡ found
-stands given g listed files opened path edge found place graph list same top is =
+comes given g listed files opened path edge found place graph list same top is =
     ap (λ (r : List (Option ℕ)). slice_get r place) (sym (row-top g files path edge (subst (λ p. IsTop p edge) same top))) ∙ rw (← graph, ← list) (sym is)
 
 module _ (g : EdgeGraph) (targets : List FileNo) (acyclic : IsAcyclic (makers_of g) (count_of g)) where

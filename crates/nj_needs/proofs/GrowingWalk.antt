@@ -14,7 +14,7 @@ use Rattle.nj_needs.specs.declared.frame.Frame.{Frame}
 use Rattle.nj_needs.proofs.Fronts.{IsFront, front-map, front-first, front-get, front-take, front-same, first-append}
 use Rattle.nj_needs.proofs.Members.{In, In-tail, In-head, In-append_right, Among}
 use Rattle.nj_needs.proofs.Rounds.{next_round, with_checks, front-checks}
-use Rattle.nj_needs.proofs.Steps.{same-pass, pass-stands, open-stands, open-turns, close-stands, close-turns, closed-done, closed-fresh, closed-within}
+use Rattle.nj_needs.proofs.Steps.{same-pass, pass-comes, open-comes, open-turns, close-comes, close-turns, closed-done, closed-fresh, closed-within}
 use Rattle.nj_needs.proofs.Striking.{In-first}
 use Rattle.nj_needs.proofs.Turning.{turns_left-pass}
 use Rattle.nj_needs.proofs.Walking.{top_row-push, done_at-open, done_at-pass, done_front, top-within}
@@ -115,7 +115,7 @@ module _ (X : Type 0) (makers : ℕ → List (Option ℕ)) (count : ℕ) (rank :
 
       pub growing-pass : Growing files path (place + 1) flags
       growing-pass = record {
-        standing = pass-stands makers count rank ranked row inside path place flags x (found-all x at) passed-same h.standing;
+        standing = pass-comes makers count rank ranked row inside path place flags x (found-all x at) passed-same h.standing;
         grown = h.grown ∙ ap listed (sym passed-first);
         bottom = bottom-pass path place (length files) h.bottom (found-in x at);
       }
@@ -133,7 +133,7 @@ module _ (X : Type 0) (makers : ℕ → List (Option ℕ)) (count : ℕ) (rank :
 
       pub growing-open : Growing files (path ++ f ∷ []) 0 flags
       growing-open = record {
-        standing = open-stands makers count rank ranked row inside path f flags at-all undone (subst (λ p. IsStanding makers count row path p flags) (sym here) h.standing);
+        standing = open-comes makers count rank ranked row inside path f flags at-all undone (subst (λ p. IsStanding makers count row path p flags) (sym here) h.standing);
         grown = h.grown ∙ ap (λ (es : List ℕ). listed (first_occurrences es)) (sym (done_at-open makers count row path f ∙ ap (done path) here));
         bottom = bottom-push path f place 0 here (length files) h.bottom (found-in (Some f.edge) at);
       }
@@ -175,7 +175,7 @@ module _ (X : Type 0) (makers : ℕ → List (Option ℕ)) (count : ℕ) (rank :
         let firsts : first_occurrences (done path (f.at + 1)) ≡ first_occurrences D ++ e ∷ [] =
         ap first_occurrences (closed-done makers count rank ranked row inside path f place flags h.standing past-all) ∙ first-append D (e ∷ []) ∙ ap (λ (es : List ℕ). first_occurrences D ++ es) single in
         record {
-          standing = close-stands makers count rank ranked row inside path f place flags h.standing past-all;
+          standing = close-comes makers count rank ranked row inside path f place flags h.standing past-all;
           grown = ap (λ (xs : List X). xs ++ checks e) h.grown
               ∙ append_assoc targets (flat_map checks (first_occurrences D)) (checks e)
               ∙ ap (λ (xs : List X). targets ++ (flat_map checks (first_occurrences D) ++ xs)) (sym (append-nil (checks e)))

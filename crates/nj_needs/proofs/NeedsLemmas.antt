@@ -26,7 +26,7 @@ IsWalkAt-start g targets turns path flags begun acyclic inside count empty wide 
   acyclic = acyclic;
   inside = inside;
   standing = rw empty (record { linked = tt; place_in = omega arith; undone = λ e i. absurd cc; flags_len = len; flagged = λ e lt. clear e lt });
-  room = wide;
+  capacity = wide;
   counted = (begun, count, rw empty (let e : turns_left_of g targets [] 0 ≡ bound_of g targets = turns_left-start (makers_of g) (count_of g) (row_of g targets) in omega arith));
 }
 
@@ -106,7 +106,7 @@ module _ (w v : Walk) (graph : v.turns.graph ≡ w.turns.graph) (targets : v.tur
     looked-needs s h walk = record {
       walk = walk;
       front = looked-front s h.front;
-      room = rw graph h.room;
+      capacity = rw graph h.capacity;
       rest = rw (graph, targets) (t.left ∙ h.rest);
     }
 
@@ -131,14 +131,14 @@ module _ (w v : Walk) (graph : v.turns.graph ≡ w.turns.graph) (targets : v.tur
         record {
           walk = walk;
           front = closed-front s r numbers kept h.front;
-          room = rw (graph, numbers) h.room;
+          capacity = rw (graph, numbers) h.capacity;
           rest = rw (graph, targets, numbers) (sym same ∙ h.rest);
         }
 
     -- an edge that is returned
-    pub returned-room : (s r : Saved) → r.numbers ≡ s.numbers → IsNeeds w s → length v.path.items < vec_capacity r.numbers
-    returned-room s r numbers h =
-        let wide : count_of w.turns.graph.now ≤ vec_capacity r.numbers = rw numbers h.room in
+    pub returned-capacity : (s r : Saved) → r.numbers ≡ s.numbers → IsNeeds w s → length v.path.items < vec_capacity r.numbers
+    returned-capacity s r numbers h =
+        let wide : count_of w.turns.graph.now ≤ vec_capacity r.numbers = rw numbers h.capacity in
         omega (arith, wide, t.short)
 
     address : (s : Saved) → s.numbers.items ≡ places v.path.items ++ (v.place - 1) ∷ [] → s.numbers.items ≡ places w.path.items
@@ -147,9 +147,9 @@ module _ (w v : Walk) (graph : v.turns.graph ≡ w.turns.graph) (targets : v.tur
     pub returned-needs : (s r q : Saved) → r.numbers ≡ s.numbers → vec_capacity r.numbers ≤ vec_capacity q.numbers → KeepsFront q v.path.items → q.numbers.items ≡ places v.path.items ++ (v.place - 1) ∷ []
         → IsNeeds w s → IsWalk v → IsNeeds v q
     returned-needs s r q numbers wide front is h walk =
-        let room : count_of w.turns.graph.now ≤ vec_capacity r.numbers = rw numbers h.room in
+        let capacity : count_of w.turns.graph.now ≤ vec_capacity r.numbers = rw numbers h.capacity in
         let rest : rest_of w.turns.graph.now w.turns.targets.now q.numbers.items ≡ left_of w.turns.graph.now w.turns.targets.now v.path.items v.place = rw (address q is) t.rest in
-        record { walk = walk; front = front; room = rw graph (omega (arith, room, wide)); rest = rw (graph, targets) (sym rest) }
+        record { walk = walk; front = front; capacity = rw graph (omega (arith, capacity, wide)); rest = rw (graph, targets) (sym rest) }
 
     pub returned-first : (q : Saved) → q.numbers.items ≡ places v.path.items ++ (v.place - 1) ∷ [] → IsFirstPlaceOf v.turns.graph.now v.turns.targets.now q.numbers.items e
     returned-first q is = rw (graph, targets, address q is) t.first
@@ -164,7 +164,7 @@ module _ (w v : Walk) (graph : v.turns.graph ≡ w.turns.graph) (targets : v.tur
     ended-needs s h walk = record {
       walk = walk;
       front = rw t.path_stays h.front;
-      room = rw graph h.room;
+      capacity = rw graph h.capacity;
       rest = rw (graph, targets, t.path_stays, t.place_stays) h.rest;
     }
 

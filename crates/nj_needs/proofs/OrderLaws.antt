@@ -9,7 +9,7 @@ use Rattle.nj_needs.specs.Needs.{Reached, AreWithin}
 use Rattle.nj_cycles.specs.Cycles.Chain.{one as directly, more as through}
 use Rattle.nj_needs.specs.Needs.Reached.{target, needed}
 use Rattle.nj_needs.specs.Order.{made_by, unfolded, unfolded_row, first_occurrences, order, needed_commands}
-use Rattle.nj_needs.specs.Laws.{CommandsAreTheReached, CommandsStandOnce, CommandsStandAfterNeeds}
+use Rattle.nj_needs.specs.Laws.{CommandsAreTheReached, CommandsComeOnce, CommandsComeAfterNeeds}
 use Rattle.nj_needs.proofs.Members.{In, In-from_Contains, Contains-from_In, In-head, In-tail, In-append_left, In-append_right, In-append_cases, In-cons_cases, In-single, Among, Among-from_Contains, Contains-from_Among}
 use Rattle.nj_needs.proofs.Striking.{Differ, Differ-first, Differ-filter, In-filter, In-filter_from, In-first, In-first_from}
 use Rattle.nj_needs.proofs.Unfolding.{In-row, In-row_from, In-unfolded, falls, within, unfolded-row, closed_row}
@@ -72,7 +72,7 @@ unfolding IsDistinct
 IsDistinct-from [] h = tt
 IsDistinct-from (x ∷ xs) h = (all_differ x xs h.0, IsDistinct-from xs h.1)
 
-pub commands-once : CommandsStandOnce
+pub commands-once : CommandsComeOnce
 commands-once makers count phony targets =
     IsDistinct-from (needed_commands makers count phony targets) (Differ-filter (λ x. not (phony x)) (order makers count targets) (Differ-first (unfolded_row makers count targets)))
 
@@ -183,7 +183,7 @@ place_before es j f lt i =
     let near : p.0 < j = omega (arith, p.1, length-take j es) in
     (p.0, near, sym (get_or-take j es p.0 f near) ∙ p.2)
 
-pub commands-after_needs : CommandsStandAfterNeeds
+pub commands-after_needs : CommandsComeAfterNeeds
 commands-after_needs makers count phony targets acyclic inside e f has chain plain =
     let want = Want makers count acyclic.0 acyclic.1 phony in
     let es = needed_commands makers count phony targets in

@@ -40,9 +40,9 @@ module _ (makers : ℕ → List (Option ℕ)) (count : ℕ) (rank : ℕ → ℕ)
       in_made None h i = absurd cc
       in_made (Some m) h i = done_closed makers count rank ranked row inside path place m y (h m refl) i
 
-  pub pass-stands : (path : List Frame) (place : ℕ) (flags : List Bool) (x : Option ℕ) → slice_get (top_row makers row path) place ≡ Some x → Same (done_now path place) (done_now path (place + 1))
+  pub pass-comes : (path : List Frame) (place : ℕ) (flags : List Bool) (x : Option ℕ) → slice_get (top_row makers row path) place ≡ Some x → Same (done_now path place) (done_now path (place + 1))
       → IsStanding makers count row path place flags → IsStanding makers count row path (place + 1) flags
-  pass-stands path place flags x at same h = record {
+  pass-comes path place flags x at same h = record {
     linked = h.linked;
     place_in = omega (arith, slice_get_within (top_row makers row path) place x at);
     undone = λ e i. sym (same e) ∙ h.undone e i;
@@ -54,9 +54,9 @@ module _ (makers : ℕ → List (Option ℕ)) (count : ℕ) (rank : ℕ → ℕ)
   left-same phony path other place at same = without-same (done_now path place) (done_now other at) (needed_commands makers count phony row) same
 
   -- an edge is opened that is not done
-  pub open-stands : (path : List Frame) (f : Frame) (flags : List Bool) → slice_get (top_row makers row path) f.at ≡ Some (Some f.edge) → list_any (nat_eq f.edge) (done_now path f.at) ≡ false
+  pub open-comes : (path : List Frame) (f : Frame) (flags : List Bool) → slice_get (top_row makers row path) f.at ≡ Some (Some f.edge) → list_any (nat_eq f.edge) (done_now path f.at) ≡ false
       → IsStanding makers count row path f.at flags → IsStanding makers count row (path ++ f ∷ []) 0 flags
-  open-stands path f flags at fresh h =
+  open-comes path f flags at fresh h =
       let is : done_now (path ++ f ∷ []) 0 ≡ done_now path f.at = done_at-open makers count row path f in
       record {
         linked = IsLinked-push makers row path f h.linked at;
@@ -100,8 +100,8 @@ module _ (makers : ℕ → List (Option ℕ)) (count : ℕ) (rank : ℕ → ℕ)
     pub closed-within : f.edge < count
     closed-within = top-within makers count rank ranked row inside path f.at f.edge popped.1
 
-    pub close-stands : IsStanding makers count row path (f.at + 1) (set flags f.edge true)
-    close-stands =
+    pub close-comes : IsStanding makers count row path (f.at + 1) (set flags f.edge true)
+    close-comes =
         let D = done_now (path ++ f ∷ []) place in
         record {
           linked = popped.0;

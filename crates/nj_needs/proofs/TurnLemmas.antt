@@ -18,9 +18,9 @@ use Rattle.nj_needs.specs.Inside.Standing.{left_of, turns_left_of, done_of, top_
 use Rattle.nj_needs.specs.declared.frame.Frame.{Frame}
 use Rattle.nj_needs.proofs.Members.{In, Among, Contains-from_Among}
 use Rattle.nj_needs.proofs.Addresses.{done-places, edge_at-places}
-use Rattle.nj_needs.proofs.Steps.{same-pass, pass-stands, left-same, open-stands, open-turns, close-stands, close-left, close-turns, closed-fresh, closed-within, end-left, end-turns, closed-done}
+use Rattle.nj_needs.proofs.Steps.{same-pass, pass-comes, left-same, open-comes, open-turns, close-comes, close-left, close-turns, closed-fresh, closed-within, end-left, end-turns, closed-done}
 use Rattle.nj_needs.proofs.Turning.{turns_left-pass}
-use Rattle.nj_needs.proofs.Walking.{done_at-open, top-within, path-room, Below-targets, IsLinked-pop, top_row-push}
+use Rattle.nj_needs.proofs.Walking.{done_at-open, top-within, path-capacity, Below-targets, IsLinked-pop, top_row-push}
 
 counted-more : (total : ℕ) → counted (saturated total) ≡ saturated (total + 1)
 counted-more total = omega arith
@@ -55,8 +55,8 @@ module _ (g : EdgeGraph) (targets : List FileNo) (turns : ℕ) (path : Vec Frame
     walk-pass = record {
       acyclic = h.acyclic;
       inside = h.inside;
-      standing = pass-stands (makers_of g) (count_of g) h.acyclic.0 h.acyclic.1 (row_of g targets) inside path.items place flags x at passed-same h.standing;
-      room = h.room;
+      standing = pass-comes (makers_of g) (count_of g) h.acyclic.0 h.acyclic.1 (row_of g targets) inside path.items place flags x at passed-same h.standing;
+      capacity = h.capacity;
       counted = more path (place + 1) passed-turn;
     }
 
@@ -87,9 +87,9 @@ module _ (g : EdgeGraph) (targets : List FileNo) (turns : ℕ) (path : Vec Frame
       acyclic = h.acyclic;
       inside = h.inside;
       standing = subst (λ (fs : List Frame). IsStanding (makers_of g) (count_of g) (row_of g targets) fs 0 flags) (sym grown)
-          (open-stands (makers_of g) (count_of g) h.acyclic.0 h.acyclic.1 (row_of g targets) inside path.items f flags at' fresh'
+          (open-comes (makers_of g) (count_of g) h.acyclic.0 h.acyclic.1 (row_of g targets) inside path.items f flags at' fresh'
           (subst (λ p. IsStanding (makers_of g) (count_of g) (row_of g targets) path.items p flags) (sym here) h.standing));
-      room = omega (arith, h.room, wide);
+      capacity = omega (arith, h.capacity, wide);
       counted = more after 0 opened-turn;
     }
 
@@ -102,12 +102,12 @@ module _ (g : EdgeGraph) (targets : List FileNo) (turns : ℕ) (path : Vec Frame
     }
 
   -- there is room to open one
-  pub room-open : (p m : ℕ) → slice_get (top_of g targets path.items) p ≡ Some (Some m) → length path.items < vec_capacity path
-  room-open p m at =
+  pub capacity-open : (p m : ℕ) → slice_get (top_of g targets path.items) p ≡ Some (Some m) → length path.items < vec_capacity path
+  capacity-open p m at =
       let short : length path.items < count_of g =
-      path-room (makers_of g) (count_of g) h.acyclic.0 h.acyclic.1 (count_of g) (row_of g targets) (Below-targets (makers_of g) (count_of g) h.acyclic.0 h.acyclic.1 (row_of g targets) inside)
+      path-capacity (makers_of g) (count_of g) h.acyclic.0 h.acyclic.1 (count_of g) (row_of g targets) (Below-targets (makers_of g) (count_of g) h.acyclic.0 h.acyclic.1 (row_of g targets) inside)
       path.items h.standing.linked p m at in
-      omega (arith, short, h.room)
+      omega (arith, short, h.capacity)
 
   -- an edge is closed
   module _ (f : Frame) (after : Vec Frame) (shrunk : path.items ≡ after.items ++ f ∷ []) (wide : vec_capacity path ≤ vec_capacity after) (past : slice_get (top_of g targets path.items) place ≡ None) where
@@ -129,8 +129,8 @@ module _ (g : EdgeGraph) (targets : List FileNo) (turns : ℕ) (path : Vec Frame
     walk-close = record {
       acyclic = h.acyclic;
       inside = h.inside;
-      standing = close-stands (makers_of g) (count_of g) h.acyclic.0 h.acyclic.1 (row_of g targets) inside after.items f place flags stood past';
-      room = omega (arith, h.room, wide);
+      standing = close-comes (makers_of g) (count_of g) h.acyclic.0 h.acyclic.1 (row_of g targets) inside after.items f place flags stood past';
+      capacity = omega (arith, h.capacity, wide);
       counted = more after (f.at + 1) closed-turn;
     }
 
@@ -158,7 +158,7 @@ module _ (g : EdgeGraph) (targets : List FileNo) (turns : ℕ) (path : Vec Frame
       past = past;
       short =
           let r = IsLinked-pop (makers_of g) (row_of g targets) after.items f stood.linked in
-          path-room (makers_of g) (count_of g) h.acyclic.0 h.acyclic.1 (count_of g) (row_of g targets) (Below-targets (makers_of g) (count_of g) h.acyclic.0 h.acyclic.1 (row_of g targets) inside)
+          path-capacity (makers_of g) (count_of g) h.acyclic.0 h.acyclic.1 (count_of g) (row_of g targets) (Below-targets (makers_of g) (count_of g) h.acyclic.0 h.acyclic.1 (row_of g targets) inside)
           after.items r.0 f.at f.edge r.1;
     }
 

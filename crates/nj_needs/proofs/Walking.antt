@@ -85,12 +85,12 @@ module _ (makers : ℕ → List (Option ℕ)) (count : ℕ) (rank : ℕ → ℕ)
       let deep : length path ≤ rank f.edge = path-short (rank f.edge) (makers f.edge) (Below-makers f.edge) path h.1 in
       omega (arith, here, deep)
 
-  pub path-room : (bound : ℕ) (row : List (Option ℕ)) → Below bound row → (path : List Frame) → IsLinked makers row path
+  pub path-capacity : (bound : ℕ) (row : List (Option ℕ)) → Below bound row → (path : List Frame) → IsLinked makers row path
       → (p m : ℕ) → slice_get (top_row makers row path) p ≡ Some (Some m) → length path < bound
-  path-room bound row below [] h p m at = omega (arith, below m (Among-get row p m at))
-  path-room bound row below (f ∷ path) h p m at =
+  path-capacity bound row below [] h p m at = omega (arith, below m (Among-get row p m at))
+  path-capacity bound row below (f ∷ path) h p m at =
       let here : rank f.edge < bound = below f.edge (Among-get row f.at f.edge h.0) in
-      let deep : length path < rank f.edge = path-room (rank f.edge) (makers f.edge) (Below-makers f.edge) path h.1 p m at in
+      let deep : length path < rank f.edge = path-capacity (rank f.edge) (makers f.edge) (Below-makers f.edge) path h.1 p m at in
       omega (arith, here, deep)
 
   module _ (row₀ : List (Option ℕ)) (inside₀ : (m : ℕ) → Among row₀ m → m < count) where

@@ -17,8 +17,8 @@ EdgesComeAfterMakers = (makers : ℕ → List (Option ℕ)) (count e : ℕ) → 
     → unfolded makers count e ≡ unfolded_row makers count (makers e) ++ e ∷ []
 
 -- f comes in the list before an occurrence of e
-abbrev pub StandsBefore : List ℕ → ℕ → ℕ → Type 0
-StandsBefore es f e = (i : ℕ) × (j : ℕ) × (i < j) × (slice_get es i ≡ Some f) × (slice_get es j ≡ Some e)
+abbrev pub ComesBefore : List ℕ → ℕ → ℕ → Type 0
+ComesBefore es f e = (i : ℕ) × (j : ℕ) × (i < j) × (slice_get es i ≡ Some f) × (slice_get es j ≡ Some e)
 
 -- the commands are exactly those of the edges without which the targets cannot be made; a phony edge has none
 abbrev pub CommandsAreTheReached : Type 0
@@ -27,16 +27,16 @@ CommandsAreTheReached = (makers : ℕ → List (Option ℕ)) (count : ℕ) (phon
     → (e : ℕ) → Contains (needed_commands makers count phony targets) e ↔ (Reached makers targets e × (phony e ≡ false))
 
 -- none of them is listed twice
-abbrev pub CommandsStandOnce : Type 0
-CommandsStandOnce = (makers : ℕ → List (Option ℕ)) (count : ℕ) (phony : ℕ → Bool) (targets : List (Option ℕ))
+abbrev pub CommandsComeOnce : Type 0
+CommandsComeOnce = (makers : ℕ → List (Option ℕ)) (count : ℕ) (phony : ℕ → Bool) (targets : List (Option ℕ))
     → IsDistinct nat_eq (needed_commands makers count phony targets)
 
 -- each comes after all others that its edge needs, directly or through any edges
-abbrev pub CommandsStandAfterNeeds : Type 0
-CommandsStandAfterNeeds = (makers : ℕ → List (Option ℕ)) (count : ℕ) (phony : ℕ → Bool) (targets : List (Option ℕ))
+abbrev pub CommandsComeAfterNeeds : Type 0
+CommandsComeAfterNeeds = (makers : ℕ → List (Option ℕ)) (count : ℕ) (phony : ℕ → Bool) (targets : List (Option ℕ))
     → IsAcyclic makers count → AreWithin targets count
     → (e f : ℕ) → Contains (needed_commands makers count phony targets) e → NeedsByChain makers e f → phony f ≡ false
-    → StandsBefore (needed_commands makers count phony targets) f e
+    → ComesBefore (needed_commands makers count phony targets) f e
 
 -- an edge has one first place
 abbrev pub FirstPlacesAreOne : Type 0

@@ -1,6 +1,6 @@
 //! What the order of the commands is for.
 
-ghost use Rattle.nj_needs.specs.Laws.{FuelIsEnough, EdgesComeAfterMakers, CommandsAreTheReached, CommandsStandOnce, CommandsStandAfterNeeds, FirstPlacesAreOne};
+ghost use Rattle.nj_needs.specs.Laws.{FuelIsEnough, EdgesComeAfterMakers, CommandsAreTheReached, CommandsComeOnce, CommandsComeAfterNeeds, FirstPlacesAreOne};
 ghost use Rattle.nj_needs.specs.Pages.{MarkKeepsTheRest, PagesJoin, RestIsSuffix};
 
 /// The unfolded order has fuel enough: with more of it the order is the same. So an edge unfolds to
@@ -14,8 +14,8 @@ pub fn unfolding_law()
 /// and each comes after all others that its edge needs by any chain, also through phony edges.
 pub fn order_law()
     ensures reached { CommandsAreTheReached }
-    ensures once { CommandsStandOnce }
-    ensures after { CommandsStandAfterNeeds }
+    ensures once { CommandsComeOnce }
+    ensures after { CommandsComeAfterNeeds }
 {}
 
 /// The mark after an edge is determined: an edge has one first place in the unfolded order.

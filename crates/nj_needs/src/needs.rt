@@ -50,9 +50,9 @@ impl<'g> Needs<'g> {
         ensures turns { IfOk result (λ n. n.turns ≡ 0) }
     {
         let turns = Turns::new(graph, targets);
-        let room = turns.edge_count();
+        let capacity = turns.edge_count();
         let walk = Walk::new(alloc, turns, 0)?;
-        let saved = Saved::new(alloc, &[], room)?;
+        let saved = Saved::new(alloc, &[], capacity)?;
         Ok(Needs { walk, saved })
     }
 
@@ -75,13 +75,13 @@ impl<'g> Needs<'g> {
         ensures { ResumeIs graph.now targets.now mark.now result }
     {
         let mut turns = Turns::new(graph, targets);
-        let room = turns.edge_count();
+        let capacity = turns.edge_count();
         let numbers = mark.numbers();
         if !leads(&mut turns, numbers) {
             return Err(MarkFault::MarkOutOfRange);
         }
         let mut walk = Walk::new(alloc, turns, numbers.len())?;
-        let saved = Saved::new(alloc, numbers, room)?;
+        let saved = Saved::new(alloc, numbers, capacity)?;
         rebuild(&mut walk, numbers);
         Ok(Needs { walk, saved })
     }

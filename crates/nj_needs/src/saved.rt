@@ -17,13 +17,13 @@ pub(crate) struct Saved {
 
 impl Saved {
     /// These numbers, with room for `room` numbers.
-    pub fn new(alloc: Global, numbers: &[u64], room: usize) -> Result<Saved, AllocError>
-        requires { length numbers.now ≤ room }
+    pub fn new(alloc: Global, numbers: &[u64], capacity: usize) -> Result<Saved, AllocError>
+        requires { length numbers.now ≤ capacity }
         ensures numbers { IfOk result (λ s. s.numbers.items ≡ numbers.now) }
         ensures kept { IfOk result (λ s. s.kept ≡ 0) }
-        ensures room { IfOk result (λ s. room ≤ vec_capacity s.numbers) }
+        ensures capacity { IfOk result (λ s. capacity ≤ vec_capacity s.numbers) }
     {
-        let mut held = Vec::with_capacity(alloc, room)?;
+        let mut held = Vec::with_capacity(alloc, capacity)?;
         'copied: for number in numbers {
             held.push(*number)?;
         }
@@ -46,11 +46,11 @@ impl Saved {
     /// there.
     pub fn save(&mut self, path: &[Frame], at: usize)
         requires front { KeepsFront self.old path.now }
-        requires room { length path.now < vec_capacity self.old.numbers }
+        requires capacity { length path.now < vec_capacity self.old.numbers }
         ensures numbers { self.new.numbers.items ≡ places path.now ++ at ∷ [] }
         ensures kept { KeepsFront self.new path.now }
         ensures whole { self.new.kept ≡ length path.now }
-        ensures room { vec_capacity self.old.numbers ≤ vec_capacity self.new.numbers }
+        ensures capacity { vec_capacity self.old.numbers ≤ vec_capacity self.new.numbers }
     {
         self.numbers.truncate(self.kept);
         'changed: for frame in &path[self.kept..] {
@@ -65,7 +65,7 @@ impl Saved {
 fn push_within(numbers: &mut Vec<u64>, number: u64)
     requires { vec_len numbers.old < vec_capacity numbers.old }
     ensures items { numbers.new.items ≡ numbers.old.items ++ number ∷ [] }
-    ensures room { vec_capacity numbers.old ≤ vec_capacity numbers.new }
+    ensures capacity { vec_capacity numbers.old ≤ vec_capacity numbers.new }
 {
     if numbers.push(number).is_err() {
         unreachable!();

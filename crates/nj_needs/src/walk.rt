@@ -120,7 +120,7 @@ pub(crate) fn top_edge(path: &[Frame]) -> Option<usize>
 fn push_within(path: &mut Vec<Frame>, frame: Frame)
     requires { vec_len path.old < vec_capacity path.old }
     ensures items { path.new.items ≡ path.old.items ++ frame ∷ [] }
-    ensures room { vec_capacity path.old ≤ vec_capacity path.new }
+    ensures capacity { vec_capacity path.old ≤ vec_capacity path.new }
 {
     if path.push(frame).is_err() {
         unreachable!();

@@ -3,14 +3,14 @@
 //! written.
 #![tactic(auto)]
 
-mod answers;
 mod given;
 mod graphs;
+mod outcomes;
 mod requests;
 mod rows;
 
-use crate::answers::answer;
 use crate::given::Given;
+use crate::outcomes::outcome;
 use crate::rows::{Block, blocks_of};
 use std::process::ExitCode;
 use std::rt::Files;
@@ -63,7 +63,7 @@ fn run_row(
     given: &Given<'_>,
     row: &Block<'_>,
 ) -> io::Result<Count> {
-    let came = answer(rt.alloc(), given, row)?;
+    let came = outcome(rt.alloc(), given, row)?;
     if came.as_slice() == row.text.as_slice() {
         return Ok(Count { rows: 1, differ: 0 });
     }

@@ -30,12 +30,12 @@ fn reads_files_that_state_no_size(rt: HostRuntime) -> Result<(), Fail> {
 }
 
 #[test]
-fn not_there_is_no_fault(rt: HostRuntime) -> Result<(), Fail> {
+fn not_there_is_not_fault(rt: HostRuntime) -> Result<(), Fail> {
     let mut disk = DiskFiles::new(rt, rt.alloc(), None)?;
     assert!(rt; matches!(&disk.read(rt.alloc(), "no/such/file"), Ok(None)));
     for path in [".", "/dev/null/file"] {
-        let answer = disk.read(rt.alloc(), path);
-        assert!(rt; matches!(&answer, Err(SourceFault::Io)));
+        let outcome = disk.read(rt.alloc(), path);
+        assert!(rt; matches!(&outcome, Err(SourceFault::Io)));
     }
     Ok(())
 }

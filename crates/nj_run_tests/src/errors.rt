@@ -25,7 +25,7 @@ fn ask(
 }
 
 /// The same over a main file.
-fn answer(
+fn outcome(
     alloc: Global,
     main: &[u8],
     target: &[u8],
@@ -62,7 +62,7 @@ fn each_fault_goes_into_one_error(rt: HostRuntime) -> Result<(), Fail> {
         (NOT_UTF8, b"o", "start", 1000, "text is not UTF-8"),
         (PLAIN, b"o", "start", 1000, "done"),
     ] {
-        let found = match answer(rt.alloc(), main, target, mark, limit) {
+        let found = match outcome(rt.alloc(), main, target, mark, limit) {
             Ok(()) => String::from_str(rt.alloc(), "done")?,
             Err(error) => format!(in rt.alloc(); "{error}")?,
         };

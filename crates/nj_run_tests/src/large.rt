@@ -43,7 +43,7 @@ fn deep_tree(alloc: Global) -> Result<Vec<u8>, AllocError> {
 }
 
 #[test]
-fn writes_large_answers(rt: HostRuntime) -> Result<(), Fail> {
+fn writes_large_outputs(rt: HostRuntime) -> Result<(), Fail> {
     many_inputs_rise(&rt)?;
     let tree = deep_tree(rt.alloc())?;
     // 999,000 spaces, 3,890 bytes of names, 5,000 after them, and how it ended

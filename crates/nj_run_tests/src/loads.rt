@@ -6,7 +6,7 @@ use std::test::*;
 
 /// The line of the first fault of the files, of which `build.ninja` is the main one;
 /// `accepted` if they have none.
-fn answer(rt: &impl AllocGlobal, source: &mut MemoryFiles) -> Result<Vec<u8>, AllocError> {
+fn outcome(rt: &impl AllocGlobal, source: &mut MemoryFiles) -> Result<Vec<u8>, AllocError> {
     match load(rt.alloc(), source, "build.ninja").err() {
         None => Vec::from_slice(rt.alloc(), b"accepted"),
         Some(fault) => fault.line(rt.alloc()),
@@ -102,7 +102,7 @@ fn at_most_32_files_are_open(rt: HostRuntime) -> Result<(), Fail> {
         let mut source = chain(&rt, 0, last)?;
         // the 33rd is not read
         source.fail_at(33);
-        let line = answer(&rt, &mut source)?;
+        let line = outcome(&rt, &mut source)?;
         assert_eq!(rt; line.as_slice(), want.as_bytes(), "{want}");
     }
     Ok(())
@@ -121,7 +121,7 @@ fn at_most_65536_files_are_opened(rt: HostRuntime) -> Result<(), Fail> {
         let mut source = MemoryFiles::new(rt.alloc());
         source.add("build.ninja", &repeated(&rt, 65535, last)?)?;
         source.add("e", b"")?;
-        let line = answer(&rt, &mut source)?;
+        let line = outcome(&rt, &mut source)?;
         assert_eq!(rt; line.as_slice(), want.as_bytes(), "{want}");
     }
     Ok(())
@@ -135,7 +135,7 @@ fn both_limits_are_reached(rt: HostRuntime) -> Result<(), Fail> {
         (65505, "", "f30:1:9: more than 65536 files opened"),
     ] {
         let mut source = chain(&rt, subninjas, last.as_bytes())?;
-        let line = answer(&rt, &mut source)?;
+        let line = outcome(&rt, &mut source)?;
         assert_eq!(rt; line.as_slice(), want.as_bytes(), "{want}");
     }
     Ok(())

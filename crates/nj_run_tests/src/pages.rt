@@ -15,8 +15,8 @@ const FIVE: &[u8] =
 const FIVE_COMMANDS: &[u8] = b"mk a\nmk c\nmk b1\nmk b2\nmk d\n";
 
 /// The mark that a run told; an empty text if it told none.
-fn mark_told(alloc: Global, told: &[u8]) -> Result<String, AllocError> {
-    let line = str::from_utf8(told).unwrap_or("");
+fn mark_reported(alloc: Global, reported: &[u8]) -> Result<String, AllocError> {
+    let line = str::from_utf8(reported).unwrap_or("");
     let mark = line.strip_prefix("mark ").unwrap_or(line);
     String::from_str(alloc, mark.trim_end())
 }
@@ -34,7 +34,7 @@ fn put_page(
     let mut error = MemorySink::new(alloc, None);
     run_words(alloc, files, &words, &mut output, &mut error);
     text.extend_from_slice(output.bytes())?;
-    mark_told(alloc, error.bytes())
+    mark_reported(alloc, error.bytes())
 }
 
 /// Appends what pages of so many commands write, each resumed at the mark of the one before, and

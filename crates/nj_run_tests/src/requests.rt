@@ -10,7 +10,7 @@ fn quotes(word: &Word, text: &str) -> bool {
 }
 
 #[test]
-fn faults_hold_what_they_quote(rt: HostRuntime) -> Result<(), Fail> {
+fn faults_keep_what_they_quote(rt: HostRuntime) -> Result<(), Fail> {
     let words = words_of(rt.alloc(), &["-t", "query"])?;
     let no_file = read_words(rt.alloc(), &words);
     assert!(rt; matches!(&no_file, Err(UsageFault::BadWords(tool)) if quotes(tool, "query")));

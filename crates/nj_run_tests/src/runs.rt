@@ -122,7 +122,7 @@ fn request_ends(
 }
 
 #[test]
-fn answers_requests(rt: HostRuntime) -> Result<(), Fail> {
+fn runs_requests(rt: HostRuntime) -> Result<(), Fail> {
     for (file, want) in [
         ("sub.ninja", "mk a\nmk b1\n[3] mark 0.0\n"),
         (

@@ -7,7 +7,7 @@ use Rattle.nj_manifest.specs.Statements.{LineText, OutputsText, InputsText, Stat
 use Rattle.nj_scope.specs.Rules.{line_kept, phony_rule}
 use Rattle.nj_scope.specs.Scopes.{nearest, Bounds, value_in, expanded, bound_at, rule_at}
 use Rattle.nj_scope.specs.Declarations.{DeclarationsText, DeclaredBy, TakesIn}
-use Rattle.nj_scope.specs.ReadingList.{ReadStatement, scope_of, binds, declares, bounds, rules, with_rule, rule_texts, with_pool, pools, opens_scope, scopes_opened, value_after, value_if_bound}
+use Rattle.nj_scope.specs.ReadingList.{ReadStatement, scope_of, binds, declares, bounds, rules, with_rule, rules_read, with_pool, pools, opens_scope, scopes_opened, value_after, value_if_bound}
 
 pub at_ok : {X Y P Q : Type 0} (r : Result X Y) → OnOk r P → (P → Q) → OnOk r Q
 at_ok (Ok x) h then_so = then_so h
@@ -61,7 +61,7 @@ module _ (held after : DeclarationsText) (entries : List ReadStatement) (e : Rea
   declared-after : ((n : ℕ) (x : List ℕ) → rule_at after.scopes n x ≡ rule_at held.scopes n x) → (n : ℕ) (x : List ℕ) → rule_at after.scopes n x ≡ rules (binding ∷ entries) n x
   declared-after same n x = same n x ∙ follows.declared n x ∙ by (n == e.number)
     where
-      by : (a : Bool) → rules entries n x ≡ option_or (if a && false then Some (length (rule_texts entries)) else None) (rules entries n x)
+      by : (a : Bool) → rules entries n x ≡ option_or (if a && false then Some (length (rules_read entries)) else None) (rules entries n x)
       by true = refl
       by false = refl
 
@@ -91,7 +91,7 @@ bounds-kept e entries nothing n x = by (n == e.number)
 pub rules-kept : (e : ReadStatement) (entries : List ReadStatement) → ((x : List ℕ) → declares e.item x ≡ false) → (n : ℕ) (x : List ℕ) → rules (e ∷ entries) n x ≡ rules entries n x
 rules-kept e entries nothing n x = by (n == e.number) (declares e.item x) (nothing x)
   where
-    by : (a b : Bool) → b ≡ false → option_or (if a && b then Some (length (rule_texts entries)) else None) (rules entries n x) ≡ rules entries n x
+    by : (a b : Bool) → b ≡ false → option_or (if a && b then Some (length (rules_read entries)) else None) (rules entries n x) ≡ rules entries n x
     by true true h = absurd (true≢false h)
     by true false h = refl
     by false b h = refl
@@ -112,7 +112,7 @@ module _ (held after : DeclarationsText) (entries : List ReadStatement) (e : Rea
     pools = same_pools ∙ follows.pools;
   }
     where
-      by : (n : ℕ) (x : List ℕ) (a : Bool) → (if a then Some (length (rule_texts entries)) else rules entries n x) ≡ option_or (if a then Some (length (rule_texts entries)) else None) (rules entries n x)
+      by : (n : ℕ) (x : List ℕ) (a : Bool) → (if a then Some (length (rules_read entries)) else rules entries n x) ≡ option_or (if a then Some (length (rules_read entries)) else None) (rules entries n x)
       by n x true = refl
       by n x false = refl
 
@@ -149,7 +149,7 @@ abbrev with_item : ReadStatement → StatementText → ReadStatement
 with_item e item = record e { item = item }
 
 nothing-more : (held : DeclarationsText) (entries : List ReadStatement) (e : ReadStatement) (item : StatementText) → ((value : List ℕ → List ℕ) (x : List ℕ) → binds value item x ≡ None) → ((x : List ℕ) → declares item x ≡ false)
-    → opens_scope item ≡ 0 → with_rule e.number item (rule_texts entries) ≡ rule_texts entries → with_pool item (pools entries) ≡ pools entries
+    → opens_scope item ≡ 0 → with_rule e.number item (rules_read entries) ≡ rules_read entries → with_pool item (pools entries) ≡ pools entries
     → DeclaredBy held entries → DeclaredBy held (record e { item = item } ∷ entries)
 nothing-more held entries e item no_value no_rule no_scope same_rules same_pools by = record {
   bound = λ n x. by.bound n x ∙ sym (bounds-kept (with_item e item) entries no_value n x);

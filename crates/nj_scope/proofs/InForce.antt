@@ -13,7 +13,7 @@ use Rattle.nj_scope.specs.Rules.{line_kept, phony, phony_rule}
 use Rattle.nj_scope.specs.Scopes.{nearest, rule_at}
 use Rattle.nj_scope.specs.Declarations.{DeclarationsText, DeclaredBy}
 use Rattle.nj_scope.specs.Laws.{InForceIsDeclared}
-use Rattle.nj_scope.specs.ReadingList.{ReadStatement, with_rule, rule_texts, rules}
+use Rattle.nj_scope.specs.ReadingList.{ReadStatement, with_rule, rules_read, rules}
 use Rattle.nj_scope.proofs.DeclarationLemmas.{rules-kept, rule-listed}
 
 some_same : {X : Type 0} {x y : X} → Some x ≡ Some y → x ≡ y
@@ -34,31 +34,31 @@ get-last xs y = slice_get-get_or (xs ++ y ∷ []) (length xs) y (simp length-app
 
 -- ---- what a scope itself declares
 
-pub record Found (texts : List kept.RuleText) (scope : ℕ) (name : List ℕ) (number : ℕ) : Type 0 where
+pub record Found (strings : List kept.RuleText) (scope : ℕ) (name : List ℕ) (number : ℕ) : Type 0 where
   pub rule : kept.RuleText
-  pub there : slice_get texts number ≡ Some rule
+  pub there : slice_get strings number ≡ Some rule
   pub its_scope : rule.scope ≡ scope
   pub its_name : rule.name ≡ name
 
-found-old : (texts : List kept.RuleText) (more : kept.RuleText) (scope : ℕ) (name : List ℕ) (number : ℕ) → Found texts scope name number → Found (texts ++ more ∷ []) scope name number
-found-old texts more scope name number f = record { rule = f.rule; there = get-old texts more number f.rule f.there; its_scope = f.its_scope; its_name = f.its_name }
+found-old : (strings : List kept.RuleText) (more : kept.RuleText) (scope : ℕ) (name : List ℕ) (number : ℕ) → Found strings scope name number → Found (strings ++ more ∷ []) scope name number
+found-old strings more scope name number f = record { rule = f.rule; there = get-old strings more number f.rule f.there; its_scope = f.its_scope; its_name = f.its_name }
 
-found-more : (before : List ReadStatement) (e : ReadStatement) (item : StatementText) (scope : ℕ) (name : List ℕ) (number : ℕ) → (rules before scope name ≡ Some number → Found (rule_texts before) scope name number)
-    → rules (record e { item = item } ∷ before) scope name ≡ Some number → Found (with_rule e.number item (rule_texts before)) scope name number
+found-more : (before : List ReadStatement) (e : ReadStatement) (item : StatementText) (scope : ℕ) (name : List ℕ) (number : ℕ) → (rules before scope name ≡ Some number → Found (rules_read before) scope name number)
+    → rules (record e { item = item } ∷ before) scope name ≡ Some number → Found (with_rule e.number item (rules_read before)) scope name number
 found-more before e (RuleText declared lines) scope name number rest h = by (scope == e.number) (bytes_eq name declared.name) (eqb-true scope e.number) (bytes_eq-Decides name declared.name).0 h
   where
     by : (a b : Bool) → (a ≡ true → scope ≡ e.number) → (b ≡ true → name ≡ declared.name)
-        → option_or (if a && b then Some (length (rule_texts before)) else None) (rules before scope name) ≡ Some number
-        → Found (rule_texts before ++ record { scope = e.number; name = declared.name; lines = map line_kept lines } ∷ []) scope name number
+        → option_or (if a && b then Some (length (rules_read before)) else None) (rules before scope name) ≡ Some number
+        → Found (rules_read before ++ record { scope = e.number; name = declared.name; lines = map line_kept lines } ∷ []) scope name number
     by true true at named h = record {
       rule = record { scope = e.number; name = declared.name; lines = map line_kept lines };
-      there = ap (slice_get (rule_texts before ++ record { scope = e.number; name = declared.name; lines = map line_kept lines } ∷ [])) (sym (some_same h))
-          ∙ get-last (rule_texts before) (record { scope = e.number; name = declared.name; lines = map line_kept lines });
+      there = ap (slice_get (rules_read before ++ record { scope = e.number; name = declared.name; lines = map line_kept lines } ∷ [])) (sym (some_same h))
+          ∙ get-last (rules_read before) (record { scope = e.number; name = declared.name; lines = map line_kept lines });
       its_scope = sym (at refl);
       its_name = sym (named refl);
     }
-    by true false at named h = found-old (rule_texts before) (record { scope = e.number; name = declared.name; lines = map line_kept lines }) scope name number (rest h)
-    by false b at named h = found-old (rule_texts before) (record { scope = e.number; name = declared.name; lines = map line_kept lines }) scope name number (rest h)
+    by true false at named h = found-old (rules_read before) (record { scope = e.number; name = declared.name; lines = map line_kept lines }) scope name number (rest h)
+    by false b at named h = found-old (rules_read before) (record { scope = e.number; name = declared.name; lines = map line_kept lines }) scope name number (rest h)
 found-more before e (BindingText bound word) scope name number rest h = rest (sym (rules-kept (record e { item = BindingText bound word }) before (λ x. refl) scope name) ∙ h)
 found-more before e (PoolText declared lines) scope name number rest h = rest (sym (rules-kept (record e { item = PoolText declared lines }) before (λ x. refl) scope name) ∙ h)
 found-more before e (BuildText outputs rule inputs lines) scope name number rest h = rest (sym (rules-kept (record e { item = BuildText outputs rule inputs lines }) before (λ x. refl) scope name) ∙ h)
@@ -66,7 +66,7 @@ found-more before e (DefaultText words) scope name number rest h = rest (sym (ru
 found-more before e (IncludeText word) scope name number rest h = rest (sym (rules-kept (record e { item = IncludeText word }) before (λ x. refl) scope name) ∙ h)
 found-more before e (SubninjaText word) scope name number rest h = rest (sym (rules-kept (record e { item = SubninjaText word }) before (λ x. refl) scope name) ∙ h)
 
-pub found : (entries : List ReadStatement) (scope : ℕ) (name : List ℕ) (number : ℕ) → rules entries scope name ≡ Some number → Found (rule_texts entries) scope name number
+pub found : (entries : List ReadStatement) (scope : ℕ) (name : List ℕ) (number : ℕ) → rules entries scope name ≡ Some number → Found (rules_read entries) scope name number
 found [] scope name number h = none_some h
 found (e ∷ before) scope name number h = found-more before e e.item scope name number (found before scope name number) h
 
@@ -84,45 +84,45 @@ nearest-own own (s ∷ around) number h = by (own s) (nearest-own own around num
     by None rest is h = farther (rest h)
     by (Some n) rest is h = (s, (0, omega arith, refl), is ∙ h)
 
-phony-kept : (number : ℕ) (item : StatementText) (texts : List kept.RuleText) → slice_get texts 0 ≡ Some phony_rule → slice_get (with_rule number item texts) 0 ≡ Some phony_rule
-phony-kept number (RuleText declared lines) texts h = get-old texts (record { scope = number; name = declared.name; lines = map line_kept lines }) 0 phony_rule h
-phony-kept number (BindingText bound word) texts h = h
-phony-kept number (PoolText declared lines) texts h = h
-phony-kept number (BuildText outputs rule inputs lines) texts h = h
-phony-kept number (DefaultText words) texts h = h
-phony-kept number (IncludeText word) texts h = h
-phony-kept number (SubninjaText word) texts h = h
+phony-kept : (number : ℕ) (item : StatementText) (strings : List kept.RuleText) → slice_get strings 0 ≡ Some phony_rule → slice_get (with_rule number item strings) 0 ≡ Some phony_rule
+phony-kept number (RuleText declared lines) strings h = get-old strings (record { scope = number; name = declared.name; lines = map line_kept lines }) 0 phony_rule h
+phony-kept number (BindingText bound word) strings h = h
+phony-kept number (PoolText declared lines) strings h = h
+phony-kept number (BuildText outputs rule inputs lines) strings h = h
+phony-kept number (DefaultText words) strings h = h
+phony-kept number (IncludeText word) strings h = h
+phony-kept number (SubninjaText word) strings h = h
 
-pub phony-there : (entries : List ReadStatement) → slice_get (rule_texts entries) 0 ≡ Some phony_rule
+pub phony-there : (entries : List ReadStatement) → slice_get (rules_read entries) 0 ≡ Some phony_rule
 phony-there [] = refl
-phony-there (e ∷ before) = phony-kept e.number e.item (rule_texts before) (phony-there before)
+phony-there (e ∷ before) = phony-kept e.number e.item (rules_read before) (phony-there before)
 
 pub in_force : InForceIsDeclared
 in_force entries scope name number h = by (bytes_eq name phony) (bytes_eq-Decides name phony).0 h
   where
     of_scope : (s : ℕ) × Contains scope s × (rules entries s name ≡ Some number)
-        → (rule : kept.RuleText) × (slice_get (rule_texts entries) number ≡ Some rule) × (rule.name ≡ name) × ((rule ≡ phony_rule) ⊎ Contains scope rule.scope)
+        → (rule : kept.RuleText) × (slice_get (rules_read entries) number ≡ Some rule) × (rule.name ≡ name) × ((rule ≡ phony_rule) ⊎ Contains scope rule.scope)
     of_scope (s, among, owns) =
-        let f : Found (rule_texts entries) s name number = found entries s name number owns in
+        let f : Found (rules_read entries) s name number = found entries s name number owns in
         (f.rule, f.there, f.its_name, inr (subst (λ t. Contains scope t) (sym f.its_scope) among))
 
     by : (b : Bool) → (b ≡ true → name ≡ phony) → (if b then Some 0 else nearest (λ s. rules entries s name) scope) ≡ Some number
-        → (rule : kept.RuleText) × (slice_get (rule_texts entries) number ≡ Some rule) × (rule.name ≡ name) × ((rule ≡ phony_rule) ⊎ Contains scope rule.scope)
-    by true named h = (phony_rule, ap (slice_get (rule_texts entries)) (sym (some_same h)) ∙ phony-there entries, sym (named refl), inl refl)
+        → (rule : kept.RuleText) × (slice_get (rules_read entries) number ≡ Some rule) × (rule.name ≡ name) × ((rule ≡ phony_rule) ⊎ Contains scope rule.scope)
+    by true named h = (phony_rule, ap (slice_get (rules_read entries)) (sym (some_same h)) ∙ phony-there entries, sym (named refl), inl refl)
     by false named h = of_scope (nearest-own (λ s. rules entries s name) scope number h)
 
 -- ---- its number
 
 pub phony-within : (held : DeclarationsText) (entries : List ReadStatement) → DeclaredBy held entries → 0 < length held.rules
-phony-within held entries by = subst (λ rs. 0 < length rs) (sym by.rules) (slice_get_within (rule_texts entries) 0 phony_rule (phony-there entries))
+phony-within held entries by = subst (λ rs. 0 < length rs) (sym by.rules) (slice_get_within (rules_read entries) 0 phony_rule (phony-there entries))
 
 pub nearest-within : (held : DeclarationsText) (entries : List ReadStatement) → DeclaredBy held entries → (scope name : List ℕ) → IfSome (nearest (λ s. rule_at held.scopes s name) scope) (λ n. n < length held.rules)
 nearest-within held entries by scope name = at (nearest (λ s. rule_at held.scopes s name) scope) (sym (rule-listed held entries by scope name))
   where
     found-within : (number : ℕ) → (s : ℕ) × Contains scope s × (rules entries s name ≡ Some number) → number < length held.rules
     found-within number (s, among, owns) =
-        let f : Found (rule_texts entries) s name number = found entries s name number owns in
-        subst (λ rs. number < length rs) (sym by.rules) (slice_get_within (rule_texts entries) number f.rule f.there)
+        let f : Found (rules_read entries) s name number = found entries s name number owns in
+        subst (λ rs. number < length rs) (sym by.rules) (slice_get_within (rules_read entries) number f.rule f.there)
 
     at : (o : Option ℕ) → nearest (λ s. rules entries s name) scope ≡ o → IfSome o (λ n. n < length held.rules)
     at None is = tt

@@ -315,31 +315,31 @@ line_passed lines last i n line is are below at =
 
 module _ (lines : List RuleLine) (last : List ℕ) (held : List RuleLineText) (same : map line_held lines ≡ held) (are : AreIndexes (map line_held lines) last (last_lines (map line_held lines)))
     (ls : List RuleLine) (is : List ℕ) (e : ls ≡ lines) (f : is ≡ last) where
-  place_told : (n : ℕ) → n < key_count held → n < length last
-  place_told n below = subst (λ k. n < k) (ap key_count (sym same) ∙ sym (length_held (map line_held lines) last (last_lines (map line_held lines)) are)) below
+  place_reported : (n : ℕ) → n < key_count held → n < length last
+  place_reported n below = subst (λ k. n < k) (ap key_count (sym same) ∙ sym (length_held (map line_held lines) last (last_lines (map line_held lines)) are)) below
 
-  pub all_told : All (λ i. i < length ls) is
-  all_told = subst (λ xs. All (λ i. i < length ls) xs) (sym f) (subst (λ xs. All (λ i. i < length xs) last) (sym e) (indexes_within lines last (last_lines (map line_held lines)) are))
+  pub all_reported : All (λ i. i < length ls) is
+  all_reported = subst (λ xs. All (λ i. i < length ls) xs) (sym f) (subst (λ xs. All (λ i. i < length xs) last) (sym e) (indexes_within lines last (last_lines (map line_held lines)) are))
 
-  pub index_told : (n : ℕ) → n < key_count held → slice_index is n < length ls
-  index_told n below = All-get_or (λ i. i < length ls) is n 0 (subst (λ xs. n < length xs) (sym f) (place_told n below)) all_told
+  pub index_reported : (n : ℕ) → n < key_count held → slice_index is n < length ls
+  index_reported n below = All-get_or (λ i. i < length ls) is n 0 (subst (λ xs. n < length xs) (sym f) (place_reported n below)) all_reported
 
-  at_told : (n : ℕ) (line : RuleLine) → slice_get ls (slice_index is n) ≡ Some line → slice_get lines (slice_index last n) ≡ Some line
-  at_told n line h = sym (ap (λ xs. slice_get xs (slice_index is n)) e ∙ ap (λ xs. slice_get lines (slice_index xs n)) f) ∙ h
+  at_reported : (n : ℕ) (line : RuleLine) → slice_get ls (slice_index is n) ≡ Some line → slice_get lines (slice_index last n) ≡ Some line
+  at_reported n line h = sym (ap (λ xs. slice_get xs (slice_index is n)) e ∙ ap (λ xs. slice_get lines (slice_index xs n)) f) ∙ h
 
-  pub key_told : (n : ℕ) (line : RuleLine) → n < key_count held → slice_get ls (slice_index is n) ≡ Some line → line.key.items ≡ key_at held n
-  key_told n line below h = key_held lines last n line are (place_told n below) (at_told n line h) ∙ ap (λ xs. key_at xs n) same
+  pub key_reported : (n : ℕ) (line : RuleLine) → n < key_count held → slice_get ls (slice_index is n) ≡ Some line → line.key.items ≡ key_at held n
+  key_reported n line below h = key_held lines last n line are (place_reported n below) (at_reported n line h) ∙ ap (λ xs. key_at xs n) same
 
-  pub value_told : (n : ℕ) (line : RuleLine) → n < key_count held → slice_get ls (slice_index is n) ≡ Some line → given held (key_at held n) ≡ Some line.value
-  value_told n line below h =
-      subst (λ xs. given xs (key_at xs n) ≡ Some line.value) same (value_held lines last n line are (place_told n below) (at_told n line h))
+  pub value_reported : (n : ℕ) (line : RuleLine) → n < key_count held → slice_get ls (slice_index is n) ≡ Some line → given held (key_at held n) ≡ Some line.value
+  value_reported n line below h =
+      subst (λ xs. given xs (key_at xs n) ≡ Some line.value) same (value_held lines last n line are (place_reported n below) (at_reported n line h))
 
-  pub number_told : (n : ℕ) (key : List ℕ) → n < length is → HasKeyAt ls (slice_index is n) key → IsNumber held key n
-  number_told n key below at =
-      subst (λ xs. IsNumber xs key n) same (number_held lines last n key are (subst (λ xs. n < length xs) f below) (at.0, at_told n at.0 at.1, at.2))
+  pub number_reported : (n : ℕ) (key : List ℕ) → n < length is → HasKeyAt ls (slice_index is n) key → IsNumber held key n
+  number_reported n key below at =
+      subst (λ xs. IsNumber xs key n) same (number_held lines last n key are (subst (λ xs. n < length xs) f below) (at.0, at_reported n at.0 at.1, at.2))
 
-  pub none_told : (key : List ℕ) → ((n : ℕ) → n < length is → ¬ HasKeyAt ls (slice_index is n) key) → given held key ≡ None
-  none_told key none =
+  pub none_reported : (key : List ℕ) → ((n : ℕ) → n < length is → ¬ HasKeyAt ls (slice_index is n) key) → given held key ≡ None
+  none_reported key none =
       subst (λ xs. given xs key ≡ None) same
       (none_held lines last key are (λ n below at. none n (subst (λ xs. n < length xs) (sym f) below) (at.0, ap (λ xs. slice_get xs (slice_index is n)) e ∙ ap (λ xs. slice_get lines (slice_index xs n)) f ∙ at.1, at.2)))
 
@@ -374,19 +374,19 @@ module _ (lines : List RuleLine) (last ds : List ℕ) (i : ℕ) (line : RuleLine
 
   pub turn_taken : (pushed : List ℕ) → is_some o ≡ false → IfNone o ((n : ℕ) → n < length ds → ¬ HasKeyAt lines (slice_index ds n) key) → pushed ≡ last ++ (i - 1) ∷ []
       → AreIndexes (map line_held lines) pushed (last_lines (drop (i - 1) (map line_held lines)))
-  turn_taken pushed none answer more =
+  turn_taken pushed none outcome more =
       subst (λ xs. AreIndexes (map line_held lines) xs (last_lines (drop (i - 1) (map line_held lines)))) (sym more)
-      (line_taken lines last (i - 1) line there later (by o none answer))
+      (line_taken lines last (i - 1) line there later (by o none outcome))
     where
       by : (o : Option ℕ) → is_some o ≡ false → IfNone o ((n : ℕ) → n < length ds → ¬ HasKeyAt lines (slice_index ds n) key) → NoneHas lines last line.key.items
-      by None none answer = subst (λ xs. NoneHas lines xs line.key.items) d (subst (NoneHas lines ds) its_key answer)
-      by (Some n) none answer = absurd (true≢false none)
+      by None none outcome = subst (λ xs. NoneHas lines xs line.key.items) d (subst (NoneHas lines ds) its_key outcome)
+      by (Some n) none outcome = absurd (true≢false none)
 
   pub turn_passed : is_some o ≡ true → IfSome o (λ n. (n < length ds) × HasKeyAt lines (slice_index ds n) key) → AreIndexes (map line_held lines) last (last_lines (drop (i - 1) (map line_held lines)))
-  turn_passed some answer = by o some answer
+  turn_passed some outcome = by o some outcome
     where
       by : (o : Option ℕ) → is_some o ≡ true → IfSome o (λ n. (n < length ds) × HasKeyAt lines (slice_index ds n) key) → AreIndexes (map line_held lines) last (last_lines (drop (i - 1) (map line_held lines)))
-      by None some answer = absurd (true≢false (sym some))
-      by (Some n) some answer =
-          line_passed lines last (i - 1) n line there later (subst (λ xs. n < length xs) d answer.0)
-          (subst (λ xs. HasKeyAt lines (slice_index xs n) line.key.items) d (subst (HasKeyAt lines (slice_index ds n)) its_key answer.1))
+      by None some outcome = absurd (true≢false (sym some))
+      by (Some n) some outcome =
+          line_passed lines last (i - 1) n line there later (subst (λ xs. n < length xs) d outcome.0)
+          (subst (λ xs. HasKeyAt lines (slice_index xs n) line.key.items) d (subst (HasKeyAt lines (slice_index ds n)) its_key outcome.1))

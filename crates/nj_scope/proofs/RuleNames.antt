@@ -10,7 +10,7 @@ use Rattle.std.proofs.lemmas.Map.Keys.{IsDistinct-push}
 use Rattle.nj_manifest.specs.Statements.{StatementText, BindingText, RuleText, PoolText, BuildText, DefaultText, IncludeText, SubninjaText}
 use Rattle.nj_scope.specs.Rules as kept
 use Rattle.nj_scope.specs.Rules.{rule_names, line_kept, phony, phony_rule}
-use Rattle.nj_scope.specs.ReadingList.{ReadStatement, with_rule, rule_texts, declares, rules, is_declared}
+use Rattle.nj_scope.specs.ReadingList.{ReadStatement, with_rule, rules_read, declares, rules, is_declared}
 use Rattle.nj_scope.proofs.NewRules.{RuleIsNew, EachRuleIsNew}
 use Rattle.nj_scope.proofs.DeclarationLemmas.{rules-kept}
 use Rattle.nj_scope.proofs.RuleLemmas.{or_false}
@@ -56,20 +56,20 @@ taken-push false true k (Some x) = refl
 taken-push false false k None = refl
 taken-push false false k (Some x) = refl
 
-module _ (before : List ReadStatement) (e : ReadStatement) (number : ℕ) (name : List ℕ) (rest : is_declared (rules before number name) name ≡ names_have (rule_texts before) number name) where
-  no_rule : ((x : List ℕ) → declares e.item x ≡ false) → is_declared (rules (e ∷ before) number name) name ≡ names_have (rule_texts before) number name
+module _ (before : List ReadStatement) (e : ReadStatement) (number : ℕ) (name : List ℕ) (rest : is_declared (rules before number name) name ≡ names_have (rules_read before) number name) where
+  no_rule : ((x : List ℕ) → declares e.item x ≡ false) → is_declared (rules (e ∷ before) number name) name ≡ names_have (rules_read before) number name
   no_rule nothing = ap (λ o. is_declared o name) (rules-kept e before nothing number name) ∙ rest
 
 listed-more : (before : List ReadStatement) (number : ℕ) (e : ReadStatement) (item : StatementText) (name : List ℕ)
-    → is_declared (rules before number name) name ≡ names_have (rule_texts before) number name
-    → is_declared (rules (record e { item = item } ∷ before) number name) name ≡ names_have (with_rule e.number item (rule_texts before)) number name
+    → is_declared (rules before number name) name ≡ names_have (rules_read before) number name
+    → is_declared (rules (record e { item = item } ∷ before) number name) name ≡ names_have (with_rule e.number item (rules_read before)) number name
 listed-more before number e (RuleText declared lines) name rest =
-    taken-push (bytes_eq name phony) (number == e.number && bytes_eq name declared.name) (length (rule_texts before)) (rules before number name)
+    taken-push (bytes_eq name phony) (number == e.number && bytes_eq name declared.name) (length (rules_read before)) (rules before number name)
     ∙ ap (λ b. b || (number == e.number && bytes_eq name declared.name)) rest
-    ∙ ap (λ b. (bytes_eq name phony || list_any (bytes_eq name) (rule_names (rule_texts before) number)) || b) (sym (any_one name declared.name (number == e.number)))
-    ∙ or_among (bytes_eq name phony) (list_any (bytes_eq name) (rule_names (rule_texts before) number)) (list_any (bytes_eq name) (one_name (number == e.number) declared.name))
-    ∙ ap (λ b. bytes_eq name phony || b) (sym (list_any-append (bytes_eq name) (rule_names (rule_texts before) number) (one_name (number == e.number) declared.name)))
-    ∙ ap (λ names. bytes_eq name phony || list_any (bytes_eq name) names) (sym (names-push (rule_texts before) (record { scope = e.number; name = declared.name; lines = map line_kept lines }) number))
+    ∙ ap (λ b. (bytes_eq name phony || list_any (bytes_eq name) (rule_names (rules_read before) number)) || b) (sym (any_one name declared.name (number == e.number)))
+    ∙ or_among (bytes_eq name phony) (list_any (bytes_eq name) (rule_names (rules_read before) number)) (list_any (bytes_eq name) (one_name (number == e.number) declared.name))
+    ∙ ap (λ b. bytes_eq name phony || b) (sym (list_any-append (bytes_eq name) (rule_names (rules_read before) number) (one_name (number == e.number) declared.name)))
+    ∙ ap (λ names. bytes_eq name phony || list_any (bytes_eq name) names) (sym (names-push (rules_read before) (record { scope = e.number; name = declared.name; lines = map line_kept lines }) number))
 listed-more before number e (BindingText bound word) name rest = no_rule before (record e { item = BindingText bound word }) number name rest (λ x. refl)
 listed-more before number e (PoolText declared lines) name rest = no_rule before (record e { item = PoolText declared lines }) number name rest (λ x. refl)
 listed-more before number e (BuildText outputs rule inputs lines) name rest = no_rule before (record e { item = BuildText outputs rule inputs lines }) number name rest (λ x. refl)
@@ -78,7 +78,7 @@ listed-more before number e (IncludeText word) name rest = no_rule before (recor
 listed-more before number e (SubninjaText word) name rest = no_rule before (record e { item = SubninjaText word }) number name rest (λ x. refl)
 
 -- a name is taken in a scope where it is one of its names
-pub is_declared-listed : (entries : List ReadStatement) (number : ℕ) (name : List ℕ) → is_declared (rules entries number name) name ≡ names_have (rule_texts entries) number name
+pub is_declared-listed : (entries : List ReadStatement) (number : ℕ) (name : List ℕ) → is_declared (rules entries number name) name ≡ names_have (rules_read entries) number name
 is_declared-listed [] number name = by (number == 0)
   where
     has : (b : Bool) → (b || false) ≡ (b || (b || false))
@@ -101,10 +101,10 @@ distinct-more before r number new distinct = subst (IsDistinct bytes_eq) (sym (n
     by true same = IsDistinct-push nat_list_eq_equiv (rule_names before number) r.name distinct (new (same refl))
     by false same = subst (IsDistinct bytes_eq) (sym (append-nil (rule_names before number))) distinct
 
-distinct-with : (before : List ReadStatement) (number m : ℕ) (item : StatementText) → RuleIsNew before m item → IsDistinct bytes_eq (rule_names (rule_texts before) number) → IsDistinct bytes_eq (rule_names (with_rule m item (rule_texts before)) number)
+distinct-with : (before : List ReadStatement) (number m : ℕ) (item : StatementText) → RuleIsNew before m item → IsDistinct bytes_eq (rule_names (rules_read before) number) → IsDistinct bytes_eq (rule_names (with_rule m item (rules_read before)) number)
 distinct-with before number m (RuleText declared lines) is_new rest =
-    distinct-more (rule_texts before) (record { scope = m; name = declared.name; lines = map line_kept lines }) number
-    (λ same. or_false (bytes_eq declared.name phony) (list_any (bytes_eq declared.name) (rule_names (rule_texts before) number))
+    distinct-more (rules_read before) (record { scope = m; name = declared.name; lines = map line_kept lines }) number
+    (λ same. or_false (bytes_eq declared.name phony) (list_any (bytes_eq declared.name) (rule_names (rules_read before) number))
     (sym (is_declared-listed before number declared.name) ∙ ap (λ n. is_declared (rules before n declared.name) declared.name) same ∙ is_new)) rest
 distinct-with before number m (BindingText bound word) is_new rest = rest
 distinct-with before number m (PoolText declared lines) is_new rest = rest
@@ -114,7 +114,7 @@ distinct-with before number m (IncludeText word) is_new rest = rest
 distinct-with before number m (SubninjaText word) is_new rest = rest
 
 -- Where each rule was new, no two rules of a scope have one name, and none is called `phony`.
-pub names-distinct : (entries : List ReadStatement) → EachRuleIsNew entries → (number : ℕ) → IsDistinct bytes_eq (rule_names (rule_texts entries) number)
+pub names-distinct : (entries : List ReadStatement) → EachRuleIsNew entries → (number : ℕ) → IsDistinct bytes_eq (rule_names (rules_read entries) number)
 unfolding IsDistinct
 names-distinct [] new number = by (number == 0)
   where

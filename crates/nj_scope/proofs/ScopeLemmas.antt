@@ -52,8 +52,8 @@ past [] = refl
 past (x ∷ xs) = past xs
 
 -- what a comparison of numbers means
-abbrev Told : ℕ → ℕ → Type 0
-Told n m = ((nat_eq n m ≡ true) × (n ≡ m)) ⊎ ((nat_eq n m ≡ false) × (n ≢ m))
+abbrev Compared : ℕ → ℕ → Type 0
+Compared n m = ((nat_eq n m ≡ true) × (n ≡ m)) ⊎ ((nat_eq n m ≡ false) × (n ≢ m))
 
 -- ---- a scope more
 
@@ -71,7 +71,7 @@ module _ (scopes : List ScopeText) (p : ℕ) where
   at_scope-opened : {X : Type 0} (f : ScopeText → Option X) → f (record { parent = Some p; values = []; rules = [] }) ≡ None → (n : ℕ) → at_scope f (opened scopes p) n ≡ at_scope f scopes n
   at_scope-opened f nothing n = by (eqb_tells n (length scopes))
     where
-      by : Told n (length scopes) → at_scope f (opened scopes p) n ≡ at_scope f scopes n
+      by : Compared n (length scopes) → at_scope f (opened scopes p) n ≡ at_scope f scopes n
       by (inl (t, e)) =
           ap (at_scope f (opened scopes p)) e ∙ ap (option_and_then f) (get-push_same scopes (record { parent = Some p; values = []; rules = [] })) ∙ nothing
           ∙ sym (ap (at_scope f scopes) e ∙ ap (option_and_then f) (past scopes))
@@ -86,7 +86,7 @@ module _ (scopes : List ScopeText) (p : ℕ) where
   pub earlier-opened : p < length scopes → ParentsAreEarlier scopes → ParentsAreEarlier (opened scopes p)
   earlier-opened h earlier n = by (eqb_tells n (length scopes))
     where
-      by : Told n (length scopes) → IfSome (parent_at (opened scopes p) n) (λ q. q < n)
+      by : Compared n (length scopes) → IfSome (parent_at (opened scopes p) n) (λ q. q < n)
       by (inl (t, e)) = subst (λ m. IfSome (parent_at (opened scopes p) m) (λ q. q < m)) (sym e) (subst (λ o. IfSome o (λ q. q < length scopes)) (sym parent_at-number) h)
       by (inr (f, apart)) = subst (λ o. IfSome o (λ q. q < n)) (sym (ap (option_and_then (λ s. s.parent)) (get-push_other scopes (record { parent = Some p; values = []; rules = [] }) n apart))) (earlier n)
 
@@ -103,7 +103,7 @@ module _ (scopes : List ScopeText) (i : ℕ) (s t : ScopeText) (here : slice_get
   pub at_scope-kept : {X : Type 0} (f : ScopeText → Option X) → f t ≡ f s → (n : ℕ) → at_scope f (slice_set scopes i t) n ≡ at_scope f scopes n
   at_scope-kept f same n = at_scope-set f n ∙ by (eqb_tells n i)
     where
-      by : Told n i → cond (nat_eq n i) (f t) (at_scope f scopes n) ≡ at_scope f scopes n
+      by : Compared n i → cond (nat_eq n i) (f t) (at_scope f scopes n) ≡ at_scope f scopes n
       by (inl (p, e)) = ap (λ b. cond b (f t) (at_scope f scopes n)) p ∙ same ∙ sym (ap (at_scope f scopes) e ∙ ap (option_and_then f) here)
       by (inr (f', apart)) = ap (λ b. cond b (f t) (at_scope f scopes n)) f'
 
@@ -111,7 +111,7 @@ module _ (scopes : List ScopeText) (i : ℕ) (s t : ScopeText) (here : slice_get
   pub at_scope-bound : {X : Type 0} (f : ScopeText → Option X) (b : Bool) (x : Option X) → f t ≡ cond b x (f s) → (n : ℕ) → at_scope f (slice_set scopes i t) n ≡ cond (nat_eq n i && b) x (at_scope f scopes n)
   at_scope-bound f b x bound n = at_scope-set f n ∙ by (eqb_tells n i)
     where
-      by : Told n i → cond (nat_eq n i) (f t) (at_scope f scopes n) ≡ cond (nat_eq n i && b) x (at_scope f scopes n)
+      by : Compared n i → cond (nat_eq n i) (f t) (at_scope f scopes n) ≡ cond (nat_eq n i && b) x (at_scope f scopes n)
       by (inl (p, e)) =
           ap (λ c. cond c (f t) (at_scope f scopes n)) p ∙ bound ∙ ap (cond b x) (sym (ap (at_scope f scopes) e ∙ ap (option_and_then f) here))
           ∙ sym (ap (λ c. cond (c && b) x (at_scope f scopes n)) p)

@@ -5,34 +5,34 @@ use Rattle.std.specs.declared.rc.RcSlice.{RcSlice}
 use Rattle.std.specs.List.{AllByRecursion}
 use Rattle.std.proofs.lemmas.List.{append-nil, append_assoc}
 use Rattle.nj_scope.specs.Readings.{Reading, is_read, bytes_in}
-use Rattle.nj_scope.specs.Sources.{SourceState, IsAsSaid, HasRead}
+use Rattle.nj_scope.specs.Sources.{SourceState, IsAsGiven, HasRead}
 use Rattle.nj_scope.specs.Opening.{OpensFile, shared_bytes}
 use Rattle.nj_scope.proofs.ReadingLemmas.{bytes_in-push_new, is_read-push_new}
 
-nothing_added : (told : Option (List Reading)) → told ≡ option_map (λ rs. rs ++ []) told
+nothing_added : (reported : Option (List Reading)) → reported ≡ option_map (λ rs. rs ++ []) reported
 nothing_added None = refl
 nothing_added (Some rs) = ap Some (sym (append-nil rs))
 
 -- nothing was read of a source that is as it was
 pub HasRead-nothing : (source : SourceState) → HasRead source source []
-HasRead-nothing source = record { told = nothing_added source.readings; as_said = tt; files = λ path. refl }
+HasRead-nothing source = record { reported = nothing_added source.readings; as_given = tt; files = λ path. refl }
 
-both_added : (xs ys : List Reading) (told : Option (List Reading)) → option_map (λ rs. rs ++ ys) (option_map (λ rs. rs ++ xs) told) ≡ option_map (λ rs. rs ++ (xs ++ ys)) told
+both_added : (xs ys : List Reading) (reported : Option (List Reading)) → option_map (λ rs. rs ++ ys) (option_map (λ rs. rs ++ xs) reported) ≡ option_map (λ rs. rs ++ (xs ++ ys)) reported
 both_added xs ys None = refl
 both_added xs ys (Some rs) = ap Some (append_assoc rs xs ys)
 
-as_said-both : (before middle : SourceState) → ((path : List ℕ) → middle.files path ≡ before.files path)
-    → (xs ys : List Reading) → AllByRecursion (IsAsSaid before) xs → AllByRecursion (IsAsSaid middle) ys → AllByRecursion (IsAsSaid before) (xs ++ ys)
-as_said-both before middle files (x ∷ xs) ys first second = (first.0, as_said-both before middle files xs ys first.1 second)
-as_said-both before middle files [] [] first second = tt
-as_said-both before middle files [] (y ∷ ys) first second =
-    (subst (λ said. IfSome said (λ bytes. y.bytes ≡ bytes)) (files y.path) second.0, as_said-both before middle files [] ys tt second.1)
+as_given-both : (before middle : SourceState) → ((path : List ℕ) → middle.files path ≡ before.files path)
+    → (xs ys : List Reading) → AllByRecursion (IsAsGiven before) xs → AllByRecursion (IsAsGiven middle) ys → AllByRecursion (IsAsGiven before) (xs ++ ys)
+as_given-both before middle files (x ∷ xs) ys first second = (first.0, as_given-both before middle files xs ys first.1 second)
+as_given-both before middle files [] [] first second = tt
+as_given-both before middle files [] (y ∷ ys) first second =
+    (subst (λ meant. IfSome meant (λ bytes. y.bytes ≡ bytes)) (files y.path) second.0, as_given-both before middle files [] ys tt second.1)
 
 -- what was read at first, and then
 pub HasRead-then : (before middle after : SourceState) (xs ys : List Reading) → HasRead before middle xs → HasRead middle after ys → HasRead before after (xs ++ ys)
 HasRead-then before middle after xs ys first second = record {
-  told = second.told ∙ ap (option_map (λ rs. rs ++ ys)) first.told ∙ both_added xs ys before.readings;
-  as_said = as_said-both before middle first.files xs ys first.as_said second.as_said;
+  reported = second.reported ∙ ap (option_map (λ rs. rs ++ ys)) first.reported ∙ both_added xs ys before.readings;
+  as_given = as_given-both before middle first.files xs ys first.as_given second.as_given;
   files = λ path. second.files path ∙ first.files path;
 }
 

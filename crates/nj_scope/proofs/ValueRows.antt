@@ -4,14 +4,14 @@ use Rattle.std.specs.Prelude.{codes, reverse, Option, option_and_then, slice_get
 use Rattle.nj_text.specs.Units.{first_spot}
 use Rattle.nj_text.specs.Words.{PartText, Text, Name, WordText}
 use Rattle.nj_manifest.specs.Statements.{BindingText, RuleText, PoolText, DefaultText, SubninjaText}
-use Rattle.nj_scope.specs.ReadingList.{ReadStatement, bounds, value_after, rules, rule_in_force, rule_texts, pools, scopes_opened, files_opened}
+use Rattle.nj_scope.specs.ReadingList.{ReadStatement, bounds, value_after, rules, rule_in_force, rules_read, pools, scopes_opened, files_opened}
 use Rattle.nj_scope.specs.Pools.{is_pool}
 use Rattle.nj_scope.specs.Rules as kept
 use Rattle.nj_scope.specs.Rules.{phony_rule, rule_names}
 
 -- the rule that is in force under a name
 abbrev rule_text_in_force : List ReadStatement → (scope name : List ℕ) → Option kept.RuleText
-rule_text_in_force entries scope name = option_and_then (slice_get (rule_texts entries)) (rule_in_force entries scope name)
+rule_text_in_force entries scope name = option_and_then (slice_get (rules_read entries)) (rule_in_force entries scope name)
 
 abbrev main : List ℕ
 main = 0 ∷ []
@@ -89,13 +89,13 @@ in_force_in_parent = refl
 phony_in_child : rule_text_in_force shadowed child (codes "phony") ≡ Some phony_rule
 phony_in_child = refl
 
-all_rules : rule_texts shadowed ≡ phony_rule ∷ record { scope = 1; name = codes "r"; lines = [] } ∷ []
+all_rules : rules_read shadowed ≡ phony_rule ∷ record { scope = 1; name = codes "r"; lines = [] } ∷ []
 all_rules = refl
 
-names_of_child : rule_names (rule_texts shadowed) 1 ≡ codes "r" ∷ []
+names_of_child : rule_names (rules_read shadowed) 1 ≡ codes "r" ∷ []
 names_of_child = refl
 
-names_of_parent : rule_names (rule_texts shadowed) 0 ≡ codes "phony" ∷ []
+names_of_parent : rule_names (rules_read shadowed) 0 ≡ codes "phony" ∷ []
 names_of_parent = refl
 
 pool_of_all : is_pool (pools shadowed) (codes "p") ≡ true

@@ -18,7 +18,7 @@ pub record DeclaredBy (held : DeclarationsText) (entries : List list.ReadStateme
   pub bound : (number : ℕ) (name : List ℕ) → bound_at held.scopes number name ≡ list.bounds entries number name
   pub declared : (number : ℕ) (name : List ℕ) → rule_at held.scopes number name ≡ list.rules entries number name
   pub scopes : length held.scopes ≡ list.scopes_opened entries
-  pub rules : held.rules ≡ list.rule_texts entries
+  pub rules : held.rules ≡ list.rules_read entries
   pub pools : held.pools ≡ list.pools entries
 
 -- One statement more is held: it stands in the scope of this number, within those around it, wherever in the files.

@@ -6,7 +6,7 @@ use Rattle.nj_manifest.specs.Statements.{StatementText, BindingText}
 use Rattle.nj_scope.specs.Rules as kept
 use Rattle.nj_scope.specs.Rules.{phony_rule}
 use Rattle.nj_scope.specs.Scopes.{expanded}
-use Rattle.nj_scope.specs.ReadingList.{ReadStatement, scope_of, bounds, value_after, rule_texts, rule_in_force}
+use Rattle.nj_scope.specs.ReadingList.{ReadStatement, scope_of, bounds, value_after, rules_read, rule_in_force}
 
 -- no statement of the list binds the name in the scope of this number itself
 abbrev pub binds_name : StatementText → (name : List ℕ) → Bool
@@ -36,5 +36,5 @@ OthersKeepTheirs = (e : ReadStatement) (before : List ReadStatement) (number : �
 -- A rule that is in force under a name has that name, and one of the scopes declares it; `phony` belongs to the main file's.
 abbrev pub InForceIsDeclared : Type 0
 InForceIsDeclared = (entries : List ReadStatement) (scope name : List ℕ) (number : ℕ) → rule_in_force entries scope name ≡ Some number
-    → (rule : kept.RuleText) × (slice_get (rule_texts entries) number ≡ Some rule) × (rule.name ≡ name)
+    → (rule : kept.RuleText) × (slice_get (rules_read entries) number ≡ Some rule) × (rule.name ≡ name)
     × ((rule ≡ phony_rule) ⊎ Contains scope rule.scope)

@@ -36,7 +36,7 @@ AtMostOneReading old path (r ∷ []) = (r.path ≡ path) × (is_read old path �
 AtMostOneReading old path (r ∷ s ∷ others) = ⊥
 
 -- Out of memory: the table is as it was, though the path may have been read.
-pub record LacksRoom (before after : SourceState) (old new : List Reading) (path : List ℕ) : Type 0 where
+pub record LacksCapacity (before after : SourceState) (old new : List Reading) (path : List ℕ) : Type 0 where
   pub readings : List Reading
   pub at_most_one : AtMostOneReading old path readings
   pub read : HasRead before after readings
@@ -54,4 +54,4 @@ OpensFile before after old new path (Ok found) =
     IsKnown before after old new path (shared_bytes found)
     ⊎ IsReadNow before after old new (record { path = path; bytes = shared_bytes found })
 OpensFile before after old new path (Err Io) = CannotBeRead before after old new path
-OpensFile before after old new path (Err OutOfMemory) = LacksRoom before after old new path
+OpensFile before after old new path (Err OutOfMemory) = LacksCapacity before after old new path

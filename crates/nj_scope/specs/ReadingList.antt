@@ -63,9 +63,9 @@ abbrev pub with_rule : (number : ℕ) → StatementText → List kept.RuleText �
 with_rule number (RuleText name lines) before = before ++ record { scope = number; name = name.name; lines = map line_kept lines } ∷ []
 with_rule number item before = before
 
-abbrev pub rule_texts : List ReadStatement → List kept.RuleText
-rule_texts [] = phony_rule ∷ []
-rule_texts (e ∷ before) = with_rule e.number e.item (rule_texts before)
+abbrev pub rules_read : List ReadStatement → List kept.RuleText
+rules_read [] = phony_rule ∷ []
+rules_read (e ∷ before) = with_rule e.number e.item (rules_read before)
 
 abbrev pub declares : StatementText → (name : List ℕ) → Bool
 declares (RuleText declared lines) name = bytes_eq name declared.name
@@ -75,7 +75,7 @@ declares item name = false
 abbrev pub rules : List ReadStatement → (number : ℕ) → (name : List ℕ) → Option ℕ
 rules [] number name = None
 rules (e ∷ before) number name =
-    option_or (if number == e.number && declares e.item name then Some (length (rule_texts before)) else None) (rules before number name)
+    option_or (if number == e.number && declares e.item name then Some (length (rules_read before)) else None) (rules before number name)
 
 -- whether a name is taken, where its own scope has this rule of the name; `phony` is always there
 abbrev pub is_declared : Option ℕ → (name : List ℕ) → Bool

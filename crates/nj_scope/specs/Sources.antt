@@ -16,14 +16,14 @@ pub record SourceState : Type 0 where
   pub files : List ℕ → Option (Option (List ℕ))
 
 -- a reading found what the source said it would find, where it said so
-abbrev pub IsAsSaid : SourceState → Reading → Type 0
-IsAsSaid source r = IfSome (source.files r.path) (λ said. r.bytes ≡ said)
+abbrev pub IsAsGiven : SourceState → Reading → Type 0
+IsAsGiven source r = IfSome (source.files r.path) (λ meant. r.bytes ≡ meant)
 
 -- These were read from the source: it reports exactly them after the earlier ones, it found what it said that it would, and it says the
 -- same of its files as before.
 pub record HasRead (before after : SourceState) (readings : List Reading) : Type 0 where
-  pub told : after.readings ≡ option_map (λ rs. rs ++ readings) before.readings
-  pub as_said : AllByRecursion (IsAsSaid before) readings
+  pub reported : after.readings ≡ option_map (λ rs. rs ++ readings) before.readings
+  pub as_given : AllByRecursion (IsAsGiven before) readings
   pub files : (path : List ℕ) → after.files path ≡ before.files path
 
 -- A count of failures rose, unless it was at its greatest, where it stays. It never falls.
@@ -32,12 +32,12 @@ pub record Rises (before after : ℕ) : Type 0 where
   pub never_falls : before ≤ after
 
 -- the bytes of an answer
-abbrev pub answer_bytes : Option (Vec ℕ) → Option (List ℕ)
-answer_bytes answer = option_map (λ v. v.items) answer
+abbrev pub outcome_bytes : Option (Vec ℕ) → Option (List ℕ)
+outcome_bytes outcome = option_map (λ v. v.items) outcome
 
 -- What a call of `read` does: an answer is one more reading, and a refusal is none. Each `Io` is counted, and nothing else is.
 abbrev pub ReadsPath : (before after : SourceState) → (path : List ℕ) → Result (Option (Vec ℕ)) SourceFault → Type 0
-ReadsPath before after path (Ok answer) =
-    HasRead before after (record { path = path; bytes = answer_bytes answer } ∷ []) × (after.failures ≡ before.failures)
+ReadsPath before after path (Ok outcome) =
+    HasRead before after (record { path = path; bytes = outcome_bytes outcome } ∷ []) × (after.failures ≡ before.failures)
 ReadsPath before after path (Err Io) = HasRead before after [] × Rises before.failures after.failures
 ReadsPath before after path (Err OutOfMemory) = HasRead before after [] × (after.failures ≡ before.failures)

@@ -2,7 +2,7 @@
 
 ghost use Rattle.std.specs.Prelude.{◌≡◌, ℕ, ◌+◌, ◌-◌, ◌^◌, ◌≤◌, ◌↔◌, List, [], ◌∷◌, ◌++◌, Some, None, min, find, reverse, string_bytes, option_copied, if◌then◌else◌, bytes_eq, IfOk, OnOk, OnErr, IsErrOf};
 ghost use Rattle.nj_scope.specs.Memory.{bytes_added};
-ghost use Rattle.nj_scope.specs.Sources.{answer_bytes};
+ghost use Rattle.nj_scope.specs.Sources.{outcome_bytes};
 
 use crate::source::{FileSource, SourceFault};
 use std::alloc::{AllocError, Global};
@@ -103,13 +103,13 @@ impl FileSource for MemoryFiles {
         ensures fails_when_due { IsErrOf result SourceFault.Io ↔ (self.old.due ≡ 1) }
 
         // It answers the bytes that were added last.
-        ensures answer { IfOk result (λ answer.
-            answer_bytes answer ≡ bytes_added self.old.added path.now) }
+        ensures outcome { IfOk result (λ outcome.
+            outcome_bytes outcome ≡ bytes_added self.old.added path.now) }
 
         // What changes by each outcome. Each comes one nearer to the reading that fails.
-        ensures answered { IfOk result (λ answer. self.new ≡ record self.old {
+        ensures answered { IfOk result (λ outcome. self.new ≡ record self.old {
           readings = self.old.readings
-              ++ record { path = path.now; bytes = answer_bytes answer } ∷ [];
+              ++ record { path = path.now; bytes = outcome_bytes outcome } ∷ [];
           due = self.old.due - 1;
         }) }
         ensures failed { IsErrOf result SourceFault.Io → self.new ≡ record self.old {
@@ -127,11 +127,11 @@ impl FileSource for MemoryFiles {
             return Err(SourceFault::Io);
         }
         let held = self.bytes_of(path);
-        let answer = copy_of(alloc, held)?;
+        let outcome = copy_of(alloc, held)?;
         let bytes = copy_of(self.alloc, held)?;
         let path = String::from_str(self.alloc, path)?;
         self.readings.push(MemoryReading { path, bytes })?;
-        Ok(answer)
+        Ok(outcome)
     }
 }
 
@@ -144,7 +144,7 @@ fn last_file<'a>(files: &'a [MemoryFile], name: &str) -> Option<&'a MemoryFile>
 }
 
 fn copy_of(alloc: Global, bytes: Option<&[u8]>) -> Result<Option<Vec<u8>>, AllocError>
-    ensures { IfOk result (λ copy. answer_bytes copy ≡ option_copied bytes.entry) }
+    ensures { IfOk result (λ copy. outcome_bytes copy ≡ option_copied bytes.entry) }
 {
     match bytes {
         Some(bytes) => Ok(Some(Vec::from_slice(alloc, bytes)?)),

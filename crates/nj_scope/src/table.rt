@@ -3,7 +3,7 @@
 ghost use Rattle.std.specs.Prelude.{◌≡◌, List, [], ◌∷◌, ◌++◌, true, false, length, slice_get, option_copied, option_map, IfOk, OnOk, OnErr};
 ghost use Rattle.nj_scope.specs.Opening.{OpensFile, shared_bytes};
 ghost use Rattle.nj_scope.specs.Readings.{EachPathOnce, paths_of, reading_of, is_read, bytes_in};
-ghost use Rattle.nj_scope.specs.Sources.{answer_bytes};
+ghost use Rattle.nj_scope.specs.Sources.{outcome_bytes};
 
 use crate::source::{FileSource, SourceFault};
 use indexmap::IndexMap;
@@ -115,8 +115,8 @@ impl FileTable {
         ensures each_path_once { EachPathOnce self.new }
     {
         let key = Vec::from_slice(alloc, path.as_bytes())?;
-        let answer = source.read(alloc, path)?;
-        let bytes = share_answer(answer)?;
+        let outcome = source.read(alloc, path)?;
+        let bytes = share_outcome(outcome)?;
         let shared = share(&bytes)?;
         self.keep(key, bytes)?;
         Ok(shared)
@@ -144,10 +144,10 @@ impl FileTable {
     }
 }
 
-fn share_answer(answer: Option<Vec<u8>>) -> Result<Option<RcSlice<u8>>, AllocError>
-    ensures { IfOk result (λ shared. shared_bytes shared ≡ answer_bytes answer) }
+fn share_outcome(outcome: Option<Vec<u8>>) -> Result<Option<RcSlice<u8>>, AllocError>
+    ensures { IfOk result (λ shared. shared_bytes shared ≡ outcome_bytes outcome) }
 {
-    match answer {
+    match outcome {
         Some(mut bytes) => {
             bytes.shrink_to_fit();
             Ok(Some(RcSlice::from_vec(bytes)?))

@@ -14,7 +14,7 @@ use Rattle.nj_edges.specs.Joining.{JoinTable, with_added_output, with_added_inpu
 use Rattle.nj_faults.specs.declared.fault.GraphFault.{GraphFault}
 use Rattle.nj_faults.specs.declared.fault.Cause.TheVariants.{TwoMakers}
 use Rattle.nj_faults.specs.Faults.{fault_at}
-use Rattle.nj_statements.specs.EdgeList.{path_said, paths_said}
+use Rattle.nj_statements.specs.EdgeList.{path_given, paths_given}
 use Rattle.nj_statements.specs.BuildFaults.{fault_if, first_fault, empty_path, two_makers, outputs_fault}
 use Rattle.nj_statements.specs.Joining.{no_values}
 use Rattle.nj_statements.specs.JoiningHeld.{KeepsEdges}
@@ -69,25 +69,25 @@ inputs-open t (p ∷ ps) = inputs-open (with_added_input t p) ps ∙ ap (λ is. 
 
 -- ---- one word more
 
-pub inputs-turn : (t new : JoinTable) (path : List ℕ) (words : List Word) (i : ℕ) (word : Word) → i < length words → word ≡ get_or words i word → path ≡ path_said no_values (word_text word)
+pub inputs-turn : (t new : JoinTable) (path : List ℕ) (words : List Word) (i : ℕ) (word : Word) → i < length words → word ≡ get_or words i word → path ≡ path_given no_values (word_text word)
     → new ≡ with_added_input t path
-    → with_added_inputs new (paths_said no_values (words_text (drop (i + 1) words))) ≡ with_added_inputs t (paths_said no_values (words_text (drop i words)))
-inputs-turn t new path words i word below is says adds =
-    ap (λ u. with_added_inputs u rest) (adds ∙ ap (with_added_input t) says)
-    ∙ sym (at-next (λ (ws : List Word). with_added_inputs t (paths_said no_values (words_text ws))) words i word below is)
+    → with_added_inputs new (paths_given no_values (words_text (drop (i + 1) words))) ≡ with_added_inputs t (paths_given no_values (words_text (drop i words)))
+inputs-turn t new path words i word below is gives adds =
+    ap (λ u. with_added_inputs u rest) (adds ∙ ap (with_added_input t) gives)
+    ∙ sym (at-next (λ (ws : List Word). with_added_inputs t (paths_given no_values (words_text ws))) words i word below is)
   where
     rest : List (List ℕ)
-    rest = paths_said no_values (words_text (drop (i + 1) words))
+    rest = paths_given no_values (words_text (drop (i + 1) words))
 
-pub outputs-turn : (t new : JoinTable) (path : List ℕ) (words : List Word) (i : ℕ) (word : Word) → i < length words → word ≡ get_or words i word → path ≡ path_said no_values (word_text word)
+pub outputs-turn : (t new : JoinTable) (path : List ℕ) (words : List Word) (i : ℕ) (word : Word) → i < length words → word ≡ get_or words i word → path ≡ path_given no_values (word_text word)
     → new ≡ with_added_output t path
-    → with_added_outputs new (paths_said no_values (words_text (drop (i + 1) words))) ≡ with_added_outputs t (paths_said no_values (words_text (drop i words)))
-outputs-turn t new path words i word below is says adds =
-    ap (λ u. with_added_outputs u rest) (adds ∙ ap (with_added_output t) says)
-    ∙ sym (at-next (λ (ws : List Word). with_added_outputs t (paths_said no_values (words_text ws))) words i word below is)
+    → with_added_outputs new (paths_given no_values (words_text (drop (i + 1) words))) ≡ with_added_outputs t (paths_given no_values (words_text (drop i words)))
+outputs-turn t new path words i word below is gives adds =
+    ap (λ u. with_added_outputs u rest) (adds ∙ ap (with_added_output t) gives)
+    ∙ sym (at-next (λ (ws : List Word). with_added_outputs t (paths_given no_values (words_text ws))) words i word below is)
   where
     rest : List (List ℕ)
-    rest = paths_said no_values (words_text (drop (i + 1) words))
+    rest = paths_given no_values (words_text (drop (i + 1) words))
 
 pub no-fault-turn : (fault_of : WordText → Option GraphFault) (words : List Word) (i : ℕ) (word : Word) → i < length words → word ≡ get_or words i word → fault_of (word_text word) ≡ None
     → first_fault fault_of (words_text (drop (i + 1) words)) ≡ first_fault fault_of (words_text (drop i words))
@@ -95,22 +95,22 @@ no-fault-turn fault_of words i word below is none =
     ap (λ o. option_or o (first_fault fault_of (words_text (drop (i + 1) words)))) (sym none)
     ∙ sym (at-next (λ (ws : List Word). first_fault fault_of (words_text ws)) words i word below is)
 
-pub new-output-turn : (name : List ℕ) (t new : JoinTable) (path : List ℕ) (words : List Word) (i : ℕ) (word : Word) → i < length words → word ≡ get_or words i word → path ≡ path_said no_values (word_text word)
+pub new-output-turn : (name : List ℕ) (t new : JoinTable) (path : List ℕ) (words : List Word) (i : ℕ) (word : Word) → i < length words → word ≡ get_or words i word → path ≡ path_given no_values (word_text word)
     → empty_path name no_values (word_text word) ≡ None → is_made_so_far t path ≡ false → new ≡ with_added_output t path
     → outputs_fault name no_values new.joined new.«open».outputs (words_text (drop (i + 1) words)) ≡ outputs_fault name no_values t.joined t.«open».outputs (words_text (drop i words))
-new-output-turn name t new path words i word below is says none fresh adds =
-    ap (λ (u : JoinTable). outputs_fault name no_values u.joined u.«open».outputs rest) (adds ∙ ap (with_added_output t) says)
+new-output-turn name t new path words i word below is gives none fresh adds =
+    ap (λ (u : JoinTable). outputs_fault name no_values u.joined u.«open».outputs rest) (adds ∙ ap (with_added_output t) gives)
     ∙ sym (
     at-next (λ (ws : List Word). outputs_fault name no_values t.joined t.«open».outputs (words_text ws)) words i word below is
     ∙ ap (λ o. option_or (option_or o (two_makers name no_values t.joined t.«open».outputs (word_text word))) later) none
-    ∙ ap (λ b. option_or (fault_if b (fault_at name word.spot (TwoMakers said))) later) (ap (is_made_so_far t) (sym says) ∙ fresh)
+    ∙ ap (λ b. option_or (fault_if b (fault_at name word.spot (TwoMakers meant))) later) (ap (is_made_so_far t) (sym gives) ∙ fresh)
     )
   where
-    said : List ℕ
-    said = path_said no_values (word_text word)
+    meant : List ℕ
+    meant = path_given no_values (word_text word)
 
     rest : List WordText
     rest = words_text (drop (i + 1) words)
 
     later : Option GraphFault
-    later = outputs_fault name no_values t.joined (t.«open».outputs ++ said ∷ []) rest
+    later = outputs_fault name no_values t.joined (t.«open».outputs ++ meant ∷ []) rest

@@ -5,35 +5,35 @@ use Rattle.nj_scope.specs.Readings.{IsPrefix}
 use Rattle.nj_edges.specs.declared.edges.KindEnds.{KindEnds}
 use Rattle.nj_edges.specs.Edges.{EdgePaths}
 use Rattle.nj_edges.specs.EdgeTables.{EdgeTable, OpenEdge, no_files, edge_read}
-use Rattle.nj_statements.specs.EdgeList.{Values, paths_said, stated_paths, loses_own, edge_paths}
+use Rattle.nj_statements.specs.EdgeList.{Values, paths_given, stated_paths, loses_own, edge_paths}
 use Rattle.nj_statements.specs.Answers.{KeepsRead}
 use Rattle.nj_statements.specs.Inside.EdgeSteps.{with_outputs, with_inputs, AddsInputs, AddsEdge}
 use Rattle.nj_statements.proofs.Tables.{kept, outputs-open, inputs-open, validations-open, edge-is, edge-kept}
 
 module _ (values : Values) (outputs : OutputsText) (inputs : InputsText) (is_phony loses : Bool) (t0 t1 t2 : EdgeTable) (ends : ℕ × ℕ)
     (none : t0.«open» ≡ no_files) (loses_is : loses ≡ loses_own (stated_paths values outputs inputs is_phony))
-    (outputs_are : t1 ≡ with_outputs (with_outputs t0 (paths_said values outputs.explicit)) (paths_said values outputs.implicit))
+    (outputs_are : t1 ≡ with_outputs (with_outputs t0 (paths_given values outputs.explicit)) (paths_given values outputs.implicit))
     (adds : AddsInputs loses values inputs t1 t2 ends) where
   abbrev e : List (List ℕ)
-  e = paths_said values outputs.explicit
+  e = paths_given values outputs.explicit
 
   abbrev i : List (List ℕ)
-  i = paths_said values outputs.implicit
+  i = paths_given values outputs.implicit
 
   abbrev x : List (List ℕ)
-  x = kept loses (e ++ i) (paths_said values inputs.explicit)
+  x = kept loses (e ++ i) (paths_given values inputs.explicit)
 
   abbrev y : List (List ℕ)
-  y = kept loses (e ++ i) (paths_said values inputs.implicit)
+  y = kept loses (e ++ i) (paths_given values inputs.implicit)
 
   abbrev z : List (List ℕ)
-  z = kept loses (e ++ i) (paths_said values inputs.order_only)
+  z = kept loses (e ++ i) (paths_given values inputs.order_only)
 
   abbrev v : List (List ℕ)
-  v = paths_said values inputs.validations
+  v = paths_given values inputs.validations
 
   abbrev last : EdgeTable
-  last = with_inputs loses adds.implicit (paths_said values inputs.order_only)
+  last = with_inputs loses adds.implicit (paths_given values inputs.order_only)
 
   open-outputs : t1.«open» ≡ record { outputs = e ++ i; inputs = []; validations = [] }
   open-outputs =
@@ -42,19 +42,19 @@ module _ (values : Values) (outputs : OutputsText) (inputs : InputsText) (is_pho
 
   open-explicit : adds.explicit.«open» ≡ record { outputs = e ++ i; inputs = x; validations = [] }
   open-explicit =
-      ap (λ (t : EdgeTable). t.«open») adds.explicit_is ∙ inputs-open loses t1 (paths_said values inputs.explicit)
-      ∙ ap (λ (o : OpenEdge). record o { inputs = o.inputs ++ kept loses o.outputs (paths_said values inputs.explicit) }) open-outputs
+      ap (λ (t : EdgeTable). t.«open») adds.explicit_is ∙ inputs-open loses t1 (paths_given values inputs.explicit)
+      ∙ ap (λ (o : OpenEdge). record o { inputs = o.inputs ++ kept loses o.outputs (paths_given values inputs.explicit) }) open-outputs
 
   open-implicit : adds.implicit.«open» ≡ record { outputs = e ++ i; inputs = x ++ y; validations = [] }
   open-implicit =
-      ap (λ (t : EdgeTable). t.«open») adds.implicit_is ∙ inputs-open loses adds.explicit (paths_said values inputs.implicit)
-      ∙ ap (λ (o : OpenEdge). record o { inputs = o.inputs ++ kept loses o.outputs (paths_said values inputs.implicit) }) open-explicit
+      ap (λ (t : EdgeTable). t.«open») adds.implicit_is ∙ inputs-open loses adds.explicit (paths_given values inputs.implicit)
+      ∙ ap (λ (o : OpenEdge). record o { inputs = o.inputs ++ kept loses o.outputs (paths_given values inputs.implicit) }) open-explicit
 
   open-all : t2.«open» ≡ record { outputs = e ++ i; inputs = x ++ y ++ z; validations = v }
   open-all =
       ap (λ (t : EdgeTable). t.«open») adds.after_is ∙ validations-open last v
       ∙ ap (λ (o : OpenEdge). record o { validations = o.validations ++ v })
-      (inputs-open loses adds.implicit (paths_said values inputs.order_only) ∙ ap (λ (o : OpenEdge). record o { inputs = o.inputs ++ kept loses o.outputs (paths_said values inputs.order_only) }) open-implicit)
+      (inputs-open loses adds.implicit (paths_given values inputs.order_only) ∙ ap (λ (o : OpenEdge). record o { inputs = o.inputs ++ kept loses o.outputs (paths_given values inputs.order_only) }) open-implicit)
 
   pub edge-named : (explicit : ℕ) → explicit ≡ length e
       → edge_read t2.«open» (record { explicit_outputs = explicit; explicit_inputs = ends.0; implicit_inputs = ends.1 }) is_phony ≡ edge_paths (stated_paths values outputs inputs is_phony)

@@ -11,7 +11,7 @@ use Rattle.nj_statements.specs.declared.detail.Detail.{Detail}
 use Rattle.nj_statements.specs.EdgeList.{AssignedText}
 use Rattle.nj_statements.specs.Answers.{DetailText, IsAssigned, AreAssigned, numbered}
 use Rattle.nj_statements.specs.Inside.Details.{numbered_at, IsNumbered, AreNumbersOf}
-use Rattle.nj_statements.specs.Inside.EdgeSteps.{detail_text, IsFileSaid}
+use Rattle.nj_statements.specs.Inside.EdgeSteps.{detail_text, IsFileGiven}
 use Rattle.nj_statements.specs.Inside.BuiltHeld.{assigned_named}
 use Rattle.nj_statements.proofs.Lists.{get-longer}
 
@@ -22,53 +22,53 @@ prefix_same xs ys is = ([], is ∙ sym (append-nil xs))
 
 -- ---- numbers that count from 1
 
-pub numbered-next : (texts : List (List ℕ)) (i n : ℕ) (text : List ℕ) → n ≡ i + 1 → slice_get texts i ≡ Some text → slice_get (numbered texts) n ≡ Some (Some text)
-numbered-next texts i zero text is there = absurd (omega (arith, is))
-numbered-next texts i (suc n) text is there = slice_get-map Some texts n ∙ ap (λ m. option_map Some (slice_get texts m)) (let e : n ≡ i = omega (arith, is) in e) ∙ ap (option_map Some) there
+pub numbered-next : (strings : List (List ℕ)) (i n : ℕ) (text : List ℕ) → n ≡ i + 1 → slice_get strings i ≡ Some text → slice_get (numbered strings) n ≡ Some (Some text)
+numbered-next strings i zero text is there = absurd (omega (arith, is))
+numbered-next strings i (suc n) text is there = slice_get-map Some strings n ∙ ap (λ m. option_map Some (slice_get strings m)) (let e : n ≡ i = omega (arith, is) in e) ∙ ap (option_map Some) there
 
 -- texts keep their numbers
-pub numbered-longer : (texts longer : List (List ℕ)) (n : ℕ) (o : Option (List ℕ)) → IsPrefix texts longer → slice_get (numbered texts) n ≡ Some o → slice_get (numbered longer) n ≡ Some o
-numbered-longer texts longer n o (more, is) there =
+pub numbered-longer : (strings longer : List (List ℕ)) (n : ℕ) (o : Option (List ℕ)) → IsPrefix strings longer → slice_get (numbered strings) n ≡ Some o → slice_get (numbered longer) n ≡ Some o
+numbered-longer strings longer n o (more, is) there =
     subst (λ (l : List (List ℕ)). slice_get (numbered l) n ≡ Some o) (sym is)
-    (subst (λ (l : List (Option (List ℕ))). slice_get (None ∷ l) n ≡ Some o) (sym (map-append Some texts more)) (get-longer (numbered texts) (map Some more) n o there))
+    (subst (λ (l : List (Option (List ℕ))). slice_get (None ∷ l) n ≡ Some o) (sym (map-append Some strings more)) (get-longer (numbered strings) (map Some more) n o there))
 
 -- ---- one edge more
 
-pub assigned-longer : (texts longer : List (List ℕ)) (d : DetailText) (a : AssignedText) → IsPrefix texts longer → IsAssigned texts d a → IsAssigned longer d a
-assigned-longer texts longer d a grows is = record { pool = numbered-longer texts longer d.pool a.pool grows is.pool; dyndep = numbered-longer texts longer d.dyndep a.dyndep grows is.dyndep }
+pub assigned-longer : (strings longer : List (List ℕ)) (d : DetailText) (a : AssignedText) → IsPrefix strings longer → IsAssigned strings d a → IsAssigned longer d a
+assigned-longer strings longer d a grows is = record { pool = numbered-longer strings longer d.pool a.pool grows is.pool; dyndep = numbered-longer strings longer d.dyndep a.dyndep grows is.dyndep }
 
-pub assigned-more : (texts longer : List (List ℕ)) (ds : List DetailText) (said : List AssignedText) (d : DetailText) (a : AssignedText)
-    → IsPrefix texts longer → AreAssigned texts ds said → IsAssigned longer d a → AreAssigned longer (ds ++ d ∷ []) (said ++ a ∷ [])
-assigned-more texts longer [] [] d a grows are is = (is, tt)
-assigned-more texts longer [] (b ∷ said) d a grows are is = absurd are
-assigned-more texts longer (c ∷ ds) [] d a grows are is = absurd are
-assigned-more texts longer (c ∷ ds) (b ∷ said) d a grows (of, are) is = (assigned-longer texts longer c b grows of, assigned-more texts longer ds said d a grows are is)
+pub assigned-more : (strings longer : List (List ℕ)) (ds : List DetailText) (meant : List AssignedText) (d : DetailText) (a : AssignedText)
+    → IsPrefix strings longer → AreAssigned strings ds meant → IsAssigned longer d a → AreAssigned longer (ds ++ d ∷ []) (meant ++ a ∷ [])
+assigned-more strings longer [] [] d a grows are is = (is, tt)
+assigned-more strings longer [] (b ∷ meant) d a grows are is = absurd are
+assigned-more strings longer (c ∷ ds) [] d a grows are is = absurd are
+assigned-more strings longer (c ∷ ds) (b ∷ meant) d a grows (of, are) is = (assigned-longer strings longer c b grows of, assigned-more strings longer ds meant d a grows are is)
 
-pub assigned-numbers : (texts : List (List ℕ)) (given : Assigned) (d : Detail) → d.pool ≡ given.pool → d.dyndep ≡ given.dyndep → (a : AssignedText) → AreNumbersOf texts given a → IsAssigned texts (detail_text d) a
-assigned-numbers texts given d pool dyndep a are = record { pool = ap (slice_get (numbered texts)) pool ∙ are.pool; dyndep = ap (slice_get (numbered texts)) dyndep ∙ are.dyndep }
+pub assigned-numbers : (strings : List (List ℕ)) (given : Assigned) (d : Detail) → d.pool ≡ given.pool → d.dyndep ≡ given.dyndep → (a : AssignedText) → AreNumbersOf strings given a → IsAssigned strings (detail_text d) a
+assigned-numbers strings given d pool dyndep a are = record { pool = ap (slice_get (numbered strings)) pool ∙ are.pool; dyndep = ap (slice_get (numbered strings)) dyndep ∙ are.dyndep }
 
 -- ---- all edges
 
-pub assigned-known : (texts : List (List ℕ)) (ds : List Detail) (said : List AssignedText) → AreAssigned texts (map detail_text ds) said
-    → AllByRecursion (λ (d : Detail). IsNumbered texts d.pool × IsNumbered texts d.dyndep) ds
-assigned-known texts [] said are = tt
-assigned-known texts (d ∷ ds) [] are = absurd are
-assigned-known texts (d ∷ ds) (a ∷ said) (is, are) =
-    ((slice_get_within (numbered texts) d.pool a.pool is.pool, slice_get_within (numbered texts) d.dyndep a.dyndep is.dyndep), assigned-known texts ds said are)
+pub assigned-known : (strings : List (List ℕ)) (ds : List Detail) (meant : List AssignedText) → AreAssigned strings (map detail_text ds) meant
+    → AllByRecursion (λ (d : Detail). IsNumbered strings d.pool × IsNumbered strings d.dyndep) ds
+assigned-known strings [] meant are = tt
+assigned-known strings (d ∷ ds) [] are = absurd are
+assigned-known strings (d ∷ ds) (a ∷ meant) (is, are) =
+    ((slice_get_within (numbered strings) d.pool a.pool is.pool, slice_get_within (numbered strings) d.dyndep a.dyndep is.dyndep), assigned-known strings ds meant are)
 
-pub assigned-named : (texts : List (List ℕ)) (ds : List Detail) (said : List AssignedText) → AreAssigned texts (map detail_text ds) said → map (assigned_named texts) ds ≡ said
-assigned-named texts [] [] are = refl
-assigned-named texts [] (a ∷ said) are = absurd are
-assigned-named texts (d ∷ ds) [] are = absurd are
-assigned-named texts (d ∷ ds) (a ∷ said) (is, are) =
-    ap (λ o. record { pool = o; dyndep = numbered_at texts d.dyndep } ∷ map (assigned_named texts) ds) (get_or_from_slice_get (numbered texts) d.pool a.pool None is.pool)
-    ∙ ap (λ o. record { pool = a.pool; dyndep = o } ∷ map (assigned_named texts) ds) (get_or_from_slice_get (numbered texts) d.dyndep a.dyndep None is.dyndep)
-    ∙ ap (λ others. a ∷ others) (assigned-named texts ds said are)
+pub assigned-named : (strings : List (List ℕ)) (ds : List Detail) (meant : List AssignedText) → AreAssigned strings (map detail_text ds) meant → map (assigned_named strings) ds ≡ meant
+assigned-named strings [] [] are = refl
+assigned-named strings [] (a ∷ meant) are = absurd are
+assigned-named strings (d ∷ ds) [] are = absurd are
+assigned-named strings (d ∷ ds) (a ∷ meant) (is, are) =
+    ap (λ o. record { pool = o; dyndep = numbered_at strings d.dyndep } ∷ map (assigned_named strings) ds) (get_or_from_slice_get (numbered strings) d.pool a.pool None is.pool)
+    ∙ ap (λ o. record { pool = a.pool; dyndep = o } ∷ map (assigned_named strings) ds) (get_or_from_slice_get (numbered strings) d.dyndep a.dyndep None is.dyndep)
+    ∙ ap (λ others. a ∷ others) (assigned-named strings ds meant are)
 
 -- ---- the path of a dyndep file
 
-pub path-said : (files : List (List ℕ)) (file : Option FileNo) (said : Option (List ℕ)) → IsFileSaid files file said → option_map (path_at files) file ≡ said
-path-said files None None is = refl
-path-said files None (Some path) is = absurd (true≢false (sym (ap is_some is)))
-path-said files (Some f) None is = absurd (true≢false (ap is_some is))
-path-said files (Some f) (Some path) is = ap (λ (o : Option (Option (List ℕ))). Some (unwrap_or (unwrap_or o None) [])) is
+pub path-meant : (files : List (List ℕ)) (file : Option FileNo) (meant : Option (List ℕ)) → IsFileGiven files file meant → option_map (path_at files) file ≡ meant
+path-meant files None None is = refl
+path-meant files None (Some path) is = absurd (true≢false (sym (ap is_some is)))
+path-meant files (Some f) None is = absurd (true≢false (ap is_some is))
+path-meant files (Some f) (Some path) is = ap (λ (o : Option (Option (List ℕ))). Some (unwrap_or (unwrap_or o None) [])) is

@@ -17,13 +17,13 @@ use Rattle.nj_edges.specs.Joining.{with_added, changed_at}
 use Rattle.nj_faults.specs.declared.fault.GraphFault.{GraphFault}
 use Rattle.nj_faults.specs.declared.fault.Cause.TheVariants.{DyndepExtra, DyndepTwice}
 use Rattle.nj_faults.specs.Faults.{fault_at}
-use Rattle.nj_edge_env.specs.LateTexts.{LateNames, asked_text}
-use Rattle.nj_statements.specs.EdgeList.{EdgeText, Pending, path_said, block_of, names_bound, block_names_at, on_line, stated_paths, edge_paths, with_discovered, edge_of_build, edges_read, paths_of_edges, block_of_edge, block_at}
-use Rattle.nj_statements.specs.EdgeList.{file_said, name_said, dyndep_of, pending_at, pending_read, assigned_of, assigned_read}
-use Rattle.nj_statements.specs.Joining.{no_values, discover, discovered_by, edge_meant, discover_for, waits_for, meaning_fault}
+use Rattle.nj_edge_env.specs.LateStrings.{LateNames, asked_text}
+use Rattle.nj_statements.specs.EdgeList.{EdgeText, Pending, path_given, block_of, names_bound, block_names_at, on_line, stated_paths, edge_paths, with_discovered, edge_of_build, edges_read, paths_of_edges, block_of_edge, block_at}
+use Rattle.nj_statements.specs.EdgeList.{file_given, name_given, dyndep_of, pending_at, pending_read, assigned_of, assigned_read}
+use Rattle.nj_statements.specs.Joining.{no_values, discover, discovered_by, edge_meant, discover_for, pending_on, meaning_fault}
 use Rattle.nj_statements.specs.BuildFaults.{fault_if, first_fault, empty_path, outputs_fault}
 use Rattle.nj_statements.specs.Built.{detail_of}
-use Rattle.nj_statements.specs.Laws.{is_pending, with_found, AreRising, StandByNumber, AddsToOneEdge, OthersWaitAsBefore, PendingEdgesRise, AddsToItsEdge, EntriesAddToTheirEdges}
+use Rattle.nj_statements.specs.Laws.{is_pending, with_found, AreRising, AreByNumber, AddsToOneEdge, OthersArePendingAsBefore, PendingEdgesRise, AddsToItsEdge, EntriesAddToTheirEdges}
 use Rattle.nj_statements.proofs.DiscoverLemmas.{Declared, bounds-discover, rules-discover, names_of_edge-discover}
 
 -- ---- an item of a list is changed
@@ -189,18 +189,18 @@ all-weaker P Q so (x ∷ xs) all = (so x all.0, all-weaker P Q so xs all.1)
 abbrev pub AreBelow : ℕ → List Pending → Type 0
 AreBelow n ps = AllByRecursion (λ p. p.edge < n) ps
 
-none-waits : (n : ℕ) (ps : List Pending) → AreBelow n ps → list_any (λ p. p.edge == n) ps ≡ false
-none-waits n [] below = refl
-none-waits n (p ∷ ps) below = ap (λ b. b || list_any (λ q. q.edge == n) ps) (ne_eqb p.edge n (λ is. omega (arith, is, below.0))) ∙ none-waits n ps below.1
+none-unjoined : (n : ℕ) (ps : List Pending) → AreBelow n ps → list_any (λ p. p.edge == n) ps ≡ false
+none-unjoined n [] below = refl
+none-unjoined n (p ∷ ps) below = ap (λ b. b || list_any (λ q. q.edge == n) ps) (ne_eqb p.edge n (λ is. omega (arith, is, below.0))) ∙ none-unjoined n ps below.1
 
 -- an edge that waits is one of those edges
-pub waiting-below : (n : ℕ) (most : ℕ) (ps : List Pending) → AreBelow most ps → list_any (λ p. p.edge == n) ps ≡ true → n < most
-waiting-below n most [] below waits = absurd (true≢false (sym waits))
-waiting-below n most (p ∷ ps) below waits = by (p.edge == n) (eqb-true p.edge n) (waiting-below n most ps below.1) waits
+pub unjoined-below : (n : ℕ) (most : ℕ) (ps : List Pending) → AreBelow most ps → list_any (λ p. p.edge == n) ps ≡ true → n < most
+unjoined-below n most [] below pends = absurd (true≢false (sym pends))
+unjoined-below n most (p ∷ ps) below pends = by (p.edge == n) (eqb-true p.edge n) (unjoined-below n most ps below.1) pends
   where
     by : (b : Bool) → (b ≡ true → p.edge ≡ n) → (list_any (λ q. q.edge == n) ps ≡ true → n < most) → (b || list_any (λ q. q.edge == n) ps) ≡ true → n < most
-    by true is others waits = omega (arith, is refl, below.0)
-    by false is others waits = others waits
+    by true is others pends = omega (arith, is refl, below.0)
+    by false is others pends = others pends
 
 none-dropped : (n : ℕ) (ps : List Pending) → AreBelow n ps → filter (λ p. not (p.edge == n)) ps ≡ ps
 none-dropped n [] below = refl
@@ -238,8 +238,8 @@ at-other n edge None (Some file) other = ap (λ b. b || false) other
 at-other n edge None None other = refl
 
 at-not_joined : (n edge : ℕ) (d : Option Discovered) (file : Option (List ℕ)) → list_any (λ p. p.edge == edge) (pending_at n d file) ≡ true → d ≡ None
-at-not_joined n edge (Some found) file waits = absurd (true≢false (sym waits))
-at-not_joined n edge None file waits = refl
+at-not_joined n edge (Some found) file pends = absurd (true≢false (sym pends))
+at-not_joined n edge None file pends = refl
 
 at-dropped : (n edge : ℕ) (d : Option Discovered) (file : Option (List ℕ)) → (n == edge) ≡ true → filter (λ p. not (p.edge == edge)) (pending_at n d file) ≡ []
 at-dropped n edge (Some found) file same = refl
@@ -253,14 +253,14 @@ at-kept n edge None None other = refl
 
 -- ---- they stand by number
 
-stand-build : (e : ReadStatement) (before : List ReadStatement) (outputs : OutputsText) (rule : NameText) (inputs : InputsText) (lines : List LineText) → StandByNumber before
-    → StandByNumber (record e { item = BuildText outputs rule inputs lines } ∷ before)
+comes-build : (e : ReadStatement) (before : List ReadStatement) (outputs : OutputsText) (rule : NameText) (inputs : InputsText) (lines : List LineText) → AreByNumber before
+    → AreByNumber (record e { item = BuildText outputs rule inputs lines } ∷ before)
 unfolding edges_read pending_read
-stand-build e before outputs rule inputs lines stand = record {
+comes-build e before outputs rule inputs lines comes = record {
   within = all-append (λ p. p.edge < length (edges_read before ++ own ∷ [])) (pending_read before) (pending_at (length (edges_read before)) e.discovered (dyndep_of before own))
-      (all-weaker (λ p. p.edge < length (edges_read before)) (λ p. p.edge < length (edges_read before ++ own ∷ [])) (λ p below. omega (arith, below, more)) (pending_read before) stand.within)
+      (all-weaker (λ p. p.edge < length (edges_read before)) (λ p. p.edge < length (edges_read before ++ own ∷ [])) (λ p below. omega (arith, below, more)) (pending_read before) comes.within)
       (at-below (length (edges_read before)) e.discovered (dyndep_of before own) (length (edges_read before ++ own ∷ [])) (omega (arith, more)));
-  rising = rising-append (length (edges_read before)) (pending_read before) (pending_at (length (edges_read before)) e.discovered (dyndep_of before own)) stand.rising stand.within
+  rising = rising-append (length (edges_read before)) (pending_read before) (pending_at (length (edges_read before)) e.discovered (dyndep_of before own)) comes.rising comes.within
       (at-rising (length (edges_read before)) e.discovered (dyndep_of before own)) (at-above (length (edges_read before)) e.discovered (dyndep_of before own));
 }
   where
@@ -270,20 +270,20 @@ stand-build e before outputs rule inputs lines stand = record {
     more : length (edges_read before ++ own ∷ []) ≡ length (edges_read before) + 1
     more = length-append (edges_read before) (own ∷ [])
 
-stand-item : (e : ReadStatement) (before : List ReadStatement) (item : StatementText) → StandByNumber before → StandByNumber (record e { item = item } ∷ before)
+comes-item : (e : ReadStatement) (before : List ReadStatement) (item : StatementText) → AreByNumber before → AreByNumber (record e { item = item } ∷ before)
 unfolding edges_read pending_read
-stand-item e before (BuildText outputs rule inputs lines) stand = stand-build e before outputs rule inputs lines stand
-stand-item e before (BindingText bound word) stand = record { within = stand.within; rising = stand.rising }
-stand-item e before (RuleText name lines) stand = record { within = stand.within; rising = stand.rising }
-stand-item e before (PoolText name lines) stand = record { within = stand.within; rising = stand.rising }
-stand-item e before (DefaultText words) stand = record { within = stand.within; rising = stand.rising }
-stand-item e before (IncludeText word) stand = record { within = stand.within; rising = stand.rising }
-stand-item e before (SubninjaText word) stand = record { within = stand.within; rising = stand.rising }
+comes-item e before (BuildText outputs rule inputs lines) comes = comes-build e before outputs rule inputs lines comes
+comes-item e before (BindingText bound word) comes = record { within = comes.within; rising = comes.rising }
+comes-item e before (RuleText name lines) comes = record { within = comes.within; rising = comes.rising }
+comes-item e before (PoolText name lines) comes = record { within = comes.within; rising = comes.rising }
+comes-item e before (DefaultText words) comes = record { within = comes.within; rising = comes.rising }
+comes-item e before (IncludeText word) comes = record { within = comes.within; rising = comes.rising }
+comes-item e before (SubninjaText word) comes = record { within = comes.within; rising = comes.rising }
 
 pub pending_rise : PendingEdgesRise
 unfolding edges_read pending_read
 pending_rise [] = record { within = tt; rising = tt }
-pending_rise (e ∷ before) = stand-item e before e.item (pending_rise before)
+pending_rise (e ∷ before) = comes-item e before e.item (pending_rise before)
 
 pub pending-within : (entries : List ReadStatement) → AllByRecursion (λ p. p.edge < length (edges_read entries)) (pending_read entries)
 pending-within entries = (pending_rise entries).within
@@ -294,7 +294,7 @@ pending-rising entries = (pending_rise entries).rising
 -- ---- which edges wait from then on
 
 dyndep-same : (edge : ℕ) (found : Discovered) (before : List ReadStatement) (e : EdgeText) → dyndep_of (discover edge found before) e ≡ dyndep_of before e
-dyndep-same edge found before e = ap (λ (n : LateNames). file_said (asked_text n (codes "dyndep"))) (names_of_edge-discover edge found before e)
+dyndep-same edge found before e = ap (λ (n : LateNames). file_given (asked_text n (codes "dyndep"))) (names_of_edge-discover edge found before e)
 
 pending-build : (edge : ℕ) (found : Discovered) (e : ReadStatement) (before : List ReadStatement) (outputs : OutputsText) (rule : NameText) (inputs : InputsText) (lines : List LineText)
     → pending_read (discover edge found before) ≡ filter (λ p. not (p.edge == edge)) (pending_read before)
@@ -355,7 +355,7 @@ assigned-found before stated (Some found) = refl
 
 assigned-same : (edge : ℕ) (found : Discovered) (before : List ReadStatement) (e : EdgeText) → assigned_of (discover edge found before) e ≡ assigned_of before e
 assigned-same edge found before e =
-    ap (λ (n : LateNames). record { pool = name_said (asked_text n (codes "pool")); dyndep = file_said (asked_text n (codes "dyndep")) }) (names_of_edge-discover edge found before e)
+    ap (λ (n : LateNames). record { pool = name_given (asked_text n (codes "pool")); dyndep = file_given (asked_text n (codes "dyndep")) }) (names_of_edge-discover edge found before e)
 
 assigned-build : (edge : ℕ) (found : Discovered) (e : ReadStatement) (before : List ReadStatement) (outputs : OutputsText) (rule : NameText) (inputs : InputsText) (lines : List LineText)
     → assigned_read (discover edge found before) ≡ assigned_read before
@@ -394,8 +394,8 @@ unfolding edges_read assigned_read discover
 assigned-discover edge found [] = refl
 assigned-discover edge found (e ∷ before) = assigned-item edge found e before e.item (assigned-discover edge found before)
 
-pub others_wait : OthersWaitAsBefore
-others_wait entries edge found = pending-discover edge found entries
+pub others_are_pending : OthersArePendingAsBefore
+others_are_pending entries edge found = pending-discover edge found entries
 
 -- ---- the edge that changes
 
@@ -405,7 +405,7 @@ edges-build : (edge : ℕ) (found : Discovered) (e : ReadStatement) (before : Li
     → edges_read (discover edge found (record e { item = BuildText outputs rule inputs lines } ∷ before))
     ≡ changed_at (with_found found) edge (edges_read (record e { item = BuildText outputs rule inputs lines } ∷ before))
 unfolding edges_read pending_read discover
-edges-build edge found e before outputs rule inputs lines rest waits = by (eqb_tells number edge)
+edges-build edge found e before outputs rule inputs lines rest pends = by (eqb_tells number edge)
   where
     number : ℕ
     number = length (edges_read before)
@@ -419,15 +419,15 @@ edges-build edge found e before outputs rule inputs lines rest waits = by (eqb_t
     last : List Pending
     last = pending_at number e.discovered (dyndep_of before own)
 
-    waits-either : (list_any (λ p. p.edge == edge) (pending_read before) || list_any (λ p. p.edge == edge) last) ≡ true
-    waits-either = sym (list_any-append (λ p. p.edge == edge) (pending_read before) last) ∙ waits
+    pends-either : (list_any (λ p. p.edge == edge) (pending_read before) || list_any (λ p. p.edge == edge) last) ≡ true
+    pends-either = sym (list_any-append (λ p. p.edge == edge) (pending_read before) last) ∙ pends
 
     after : Bool → List ReadStatement
     after b = if b then record e { item = BuildText outputs rule inputs lines; discovered = Some found } ∷ before else record e { item = BuildText outputs rule inputs lines } ∷ discover edge found before
 
     not_joined : number ≡ edge → e.discovered ≡ None
     not_joined is = at-not_joined number edge e.discovered (dyndep_of before own)
-        (ap (λ b. b || list_any (λ p. p.edge == edge) last) (sym (none-waits edge (pending_read before) (subst (λ n. AreBelow n (pending_read before)) is (pending-within before)))) ∙ waits-either)
+        (ap (λ b. b || list_any (λ p. p.edge == edge) last) (sym (none-unjoined edge (pending_read before) (subst (λ n. AreBelow n (pending_read before)) is (pending-within before)))) ∙ pends-either)
 
     either : (a b : Bool) → b ≡ false → (a || b) ≡ true → a ≡ true
     either true b none some = refl
@@ -442,7 +442,7 @@ edges-build edge found e before outputs rule inputs lines rest waits = by (eqb_t
     by (inr (other, apart)) =
         ap (λ b. edges_read (after b)) other
         ∙ ap (λ o. edges_read (discover edge found before) ++ o ∷ []) (edge-same edge found e before outputs rule inputs lines)
-        ∙ ap (λ es. es ++ own ∷ []) (rest (either (is_pending before edge) (list_any (λ p. p.edge == edge) last) (at-other number edge e.discovered (dyndep_of before own) other) waits-either))
+        ∙ ap (λ es. es ++ own ∷ []) (rest (either (is_pending before edge) (list_any (λ p. p.edge == edge) last) (at-other number edge e.discovered (dyndep_of before own) other) pends-either))
         ∙ sym (changed-front (with_found found) (edges_read before) own edge apart)
 
 edges-item : (edge : ℕ) (found : Discovered) (e : ReadStatement) (before : List ReadStatement) (item : StatementText)
@@ -450,42 +450,42 @@ edges-item : (edge : ℕ) (found : Discovered) (e : ReadStatement) (before : Lis
     → is_pending (record e { item = item } ∷ before) edge ≡ true
     → edges_read (discover edge found (record e { item = item } ∷ before)) ≡ changed_at (with_found found) edge (edges_read (record e { item = item } ∷ before))
 unfolding edges_read pending_read discover
-edges-item edge found e before (BuildText outputs rule inputs lines) rest waits = edges-build edge found e before outputs rule inputs lines rest waits
-edges-item edge found e before (BindingText bound word) rest waits = rest waits
-edges-item edge found e before (RuleText name lines) rest waits = rest waits
-edges-item edge found e before (PoolText name lines) rest waits = rest waits
-edges-item edge found e before (DefaultText words) rest waits = rest waits
-edges-item edge found e before (IncludeText word) rest waits = rest waits
-edges-item edge found e before (SubninjaText word) rest waits = rest waits
+edges-item edge found e before (BuildText outputs rule inputs lines) rest pends = edges-build edge found e before outputs rule inputs lines rest pends
+edges-item edge found e before (BindingText bound word) rest pends = rest pends
+edges-item edge found e before (RuleText name lines) rest pends = rest pends
+edges-item edge found e before (PoolText name lines) rest pends = rest pends
+edges-item edge found e before (DefaultText words) rest pends = rest pends
+edges-item edge found e before (IncludeText word) rest pends = rest pends
+edges-item edge found e before (SubninjaText word) rest pends = rest pends
 
 pub edges-discover : (edge : ℕ) (found : Discovered) (entries : List ReadStatement) → is_pending entries edge ≡ true
     → edges_read (discover edge found entries) ≡ changed_at (with_found found) edge (edges_read entries)
 unfolding edges_read pending_read discover changed_at
-edges-discover edge found [] waits = refl
-edges-discover edge found (e ∷ before) waits = edges-item edge found e before e.item (edges-discover edge found before) waits
+edges-discover edge found [] pends = refl
+edges-discover edge found (e ∷ before) pends = edges-item edge found e before e.item (edges-discover edge found before) pends
 
 pub adds_to_one : AddsToOneEdge
-adds_to_one entries edge found waits = edges-discover edge found entries waits
+adds_to_one entries edge found pends = edges-discover edge found entries pends
 
 pub paths-discover : (edge : ℕ) (found : Discovered) (entries : List ReadStatement) → is_pending entries edge ≡ true
     → paths_of_edges (edges_read (discover edge found entries)) ≡ changed_at (with_added (record { outputs = found.outputs; inputs = found.inputs })) edge (paths_of_edges (edges_read entries))
-paths-discover edge found entries waits =
-    ap paths_of_edges (edges-discover edge found entries waits)
+paths-discover edge found entries pends =
+    ap paths_of_edges (edges-discover edge found entries pends)
     ∙ map-changed (λ (e : EdgeText). e.paths) (with_found found) (with_added (record { outputs = found.outputs; inputs = found.inputs })) (λ e. refl) edge (edges_read entries)
 
 -- ---- an edge that waits for a file
 
-waits-some : (file : List ℕ) (edge : ℕ) (ps : List Pending) → waits_for file ps (Some edge) ≡ true → list_any (λ p. p.edge == edge) ps ≡ true
-waits-some file edge [] waits = absurd (true≢false (sym waits))
-waits-some file edge (p ∷ ps) waits = by (p.edge == edge) (bytes_eq p.file file) (waits-some file edge ps) waits
+pends-some : (file : List ℕ) (edge : ℕ) (ps : List Pending) → pending_on file ps (Some edge) ≡ true → list_any (λ p. p.edge == edge) ps ≡ true
+pends-some file edge [] pends = absurd (true≢false (sym pends))
+pends-some file edge (p ∷ ps) pends = by (p.edge == edge) (bytes_eq p.file file) (pends-some file edge ps) pends
   where
-    by : (a b : Bool) → (waits_for file ps (Some edge) ≡ true → list_any (λ q. q.edge == edge) ps ≡ true)
-        → ((a && b) || waits_for file ps (Some edge)) ≡ true → (a || list_any (λ q. q.edge == edge) ps) ≡ true
-    by true b rest waits = refl
-    by false b rest waits = rest waits
+    by : (a b : Bool) → (pending_on file ps (Some edge) ≡ true → list_any (λ q. q.edge == edge) ps ≡ true)
+        → ((a && b) || pending_on file ps (Some edge)) ≡ true → (a || list_any (λ q. q.edge == edge) ps) ≡ true
+    by true b rest pends = refl
+    by false b rest pends = rest pends
 
-pub is_pending-from_waits : (file : List ℕ) (entries : List ReadStatement) (edge : ℕ) → waits_for file (pending_read entries) (Some edge) ≡ true → is_pending entries edge ≡ true
-is_pending-from_waits file entries edge waits = waits-some file edge (pending_read entries) waits
+pub is_pending-from_pending : (file : List ℕ) (entries : List ReadStatement) (edge : ℕ) → pending_on file (pending_read entries) (Some edge) ≡ true → is_pending entries edge ≡ true
+is_pending-from_pending file entries edge pends = pends-some file edge (pending_read entries) pends
 
 -- ---- an entry that has no fault
 
@@ -498,7 +498,7 @@ or_then-none None b none = (refl, none)
 or_then-none (Some fault) b none = absurd (true≢false (ap is_some none))
 
 pub entries_add : EntriesAddToTheirEdges
-entries_add file stated joined entry none = by (edge_meant stated entry) refl waits
+entries_add file stated joined entry none = by (edge_meant stated entry) refl pends
   where
     meaning : meaning_fault file stated joined entry ≡ None
     meaning = (or_then-none (meaning_fault file stated joined entry) others (or_then-none (empty_path file no_values entry.out) (option_or (meaning_fault file stated joined entry) others) none).1).0
@@ -507,22 +507,22 @@ entries_add file stated joined entry none = by (edge_meant stated entry) refl wa
         others = option_or (outputs_fault file no_values (paths_of_edges (edges_read joined)) [] entry.outs) (first_fault (empty_path file no_values) entry.ins)
 
     extra : Option GraphFault
-    extra = fault_if (not (waits_for file (pending_read stated) (edge_meant stated entry))) (fault_at file entry.out.spot (DyndepExtra (path_said no_values entry.out)))
+    extra = fault_if (not (pending_on file (pending_read stated) (edge_meant stated entry))) (fault_at file entry.out.spot (DyndepExtra (path_given no_values entry.out)))
 
     twice : GraphFault
-    twice = fault_at file entry.out.spot (DyndepTwice (path_said no_values entry.out))
+    twice = fault_at file entry.out.spot (DyndepTwice (path_given no_values entry.out))
 
-    waits : waits_for file (pending_read joined) (edge_meant stated entry) ≡ true
-    waits = fault_if-none (waits_for file (pending_read joined) (edge_meant stated entry)) twice (or_then-none extra (fault_if (not (waits_for file (pending_read joined) (edge_meant stated entry))) twice) meaning).1
+    pends : pending_on file (pending_read joined) (edge_meant stated entry) ≡ true
+    pends = fault_if-none (pending_on file (pending_read joined) (edge_meant stated entry)) twice (or_then-none extra (fault_if (not (pending_on file (pending_read joined) (edge_meant stated entry))) twice) meaning).1
 
-    by : (meant : Option ℕ) → edge_meant stated entry ≡ meant → waits_for file (pending_read joined) meant ≡ true → (edge : ℕ) × AddsToItsEdge file stated joined entry edge
+    by : (meant : Option ℕ) → edge_meant stated entry ≡ meant → pending_on file (pending_read joined) meant ≡ true → (edge : ℕ) × AddsToItsEdge file stated joined entry edge
     by None is waited = absurd (true≢false (sym waited))
     by (Some edge) is waited = (
       edge,
       record {
         meant = is;
         waited = waited;
-        edges = ap (λ m. edges_read (discover_for m (discovered_by entry) joined)) is ∙ edges-discover edge (discovered_by entry) joined (is_pending-from_waits file joined edge waited);
+        edges = ap (λ m. edges_read (discover_for m (discovered_by entry) joined)) is ∙ edges-discover edge (discovered_by entry) joined (is_pending-from_pending file joined edge waited);
         pending = ap (λ m. pending_read (discover_for m (discovered_by entry) joined)) is ∙ pending-discover edge (discovered_by entry) joined;
       },
     )

@@ -8,11 +8,11 @@ use Rattle.nj_scope.specs.Rules as kept
 use Rattle.nj_scope.specs.Rules.{phony}
 use Rattle.nj_scope.specs.Scopes.{Bounds, nearest, value_in}
 use Rattle.nj_scope.specs.Declarations.{DeclarationsText, DeclaredBy}
-use Rattle.nj_scope.specs.ReadingList.{Discovered, ReadStatement, scope_of, binds_in, bounds, value_after, with_rule, rule_texts, declares, rules, rule_in_force, is_declared}
+use Rattle.nj_scope.specs.ReadingList.{Discovered, ReadStatement, scope_of, binds_in, bounds, value_after, with_rule, rules_read, declares, rules, rule_in_force, is_declared}
 use Rattle.nj_scope.proofs.NewRules.{RuleIsNew, EachRuleIsNew}
 use Rattle.nj_scope.specs.ReadingList.{with_pool, pools, opens_scope, opens_file, scopes_opened, files_opened}
-use Rattle.nj_edge_env.specs.LateTexts.{LateNames}
-use Rattle.nj_statements.specs.EdgeList.{EdgeText, paths_said, edges_read, with_defaults, defaults_read, lines_of_rule, names_of_edge}
+use Rattle.nj_edge_env.specs.LateStrings.{LateNames}
+use Rattle.nj_statements.specs.EdgeList.{EdgeText, paths_given, edges_read, with_defaults, defaults_read, lines_of_rule, names_of_edge}
 use Rattle.nj_statements.specs.Joining.{is_build, discover, discovered_by, edge_meant, discover_for, with_entry}
 use Rattle.nj_statements.specs.Laws.{NamesStay}
 
@@ -59,25 +59,25 @@ value_after-discover edge found entries = ap value_in (bounds-discover edge foun
 
 -- ---- rules
 
-rule_texts-as_read : (entries : List ReadStatement) → rule_texts (as_read entries) ≡ rule_texts entries
-rule_texts-as_read [] = refl
-rule_texts-as_read (e ∷ before) = ap (with_rule e.number e.item) (rule_texts-as_read before)
+rules_read-as_read : (entries : List ReadStatement) → rules_read (as_read entries) ≡ rules_read entries
+rules_read-as_read [] = refl
+rules_read-as_read (e ∷ before) = ap (with_rule e.number e.item) (rules_read-as_read before)
 
-pub rule_texts-discover : (edge : ℕ) (found : Discovered) (entries : List ReadStatement) → rule_texts (discover edge found entries) ≡ rule_texts entries
-rule_texts-discover = kept-by rule_texts rule_texts-as_read
+pub rules_read-discover : (edge : ℕ) (found : Discovered) (entries : List ReadStatement) → rules_read (discover edge found entries) ≡ rules_read entries
+rules_read-discover = kept-by rules_read rules_read-as_read
 
 -- the rules that scopes themselves declare
 abbrev pub Declared : Type 0
 Declared = ℕ → List ℕ → Option ℕ
 
 -- one statement more, after so many rules
-abbrev declared_with : ReadStatement → (texts : List kept.RuleText) → Declared → Declared
-declared_with e texts own number name = option_or (if number == e.number && declares e.item name then Some (length texts) else None) (own number name)
+abbrev declared_with : ReadStatement → (strings : List kept.RuleText) → Declared → Declared
+declared_with e strings own number name = option_or (if number == e.number && declares e.item name then Some (length strings) else None) (own number name)
 
 rules-as_read : (entries : List ReadStatement) → rules (as_read entries) ≡ rules entries
 rules-as_read [] = refl
 rules-as_read (e ∷ before) =
-    ap (λ texts. declared_with e texts (rules (as_read before))) (rule_texts-as_read before) ∙ ap (declared_with e (rule_texts before)) (rules-as_read before)
+    ap (λ strings. declared_with e strings (rules (as_read before))) (rules_read-as_read before) ∙ ap (declared_with e (rules_read before)) (rules-as_read before)
 
 pub rules-discover : (edge : ℕ) (found : Discovered) (entries : List ReadStatement) → rules (discover edge found entries) ≡ rules entries
 rules-discover = kept-by rules rules-as_read
@@ -139,7 +139,7 @@ files_opened-discover = kept-by files_opened files_opened-as_read
 -- ---- defaults
 
 with_defaults-as_read : (e : ReadStatement) (before : List ReadStatement) (item : StatementText) (paths : List (List ℕ)) → with_defaults (unseen e) (as_read before) item paths ≡ with_defaults e before item paths
-with_defaults-as_read e before (DefaultText words) paths = ap (λ (b : Bounds). paths ++ paths_said (value_in b (scope_of e)) words) (bounds-as_read before)
+with_defaults-as_read e before (DefaultText words) paths = ap (λ (b : Bounds). paths ++ paths_given (value_in b (scope_of e)) words) (bounds-as_read before)
 with_defaults-as_read e before (BindingText bound word) paths = refl
 with_defaults-as_read e before (RuleText name lines) paths = refl
 with_defaults-as_read e before (PoolText name lines) paths = refl
@@ -160,26 +160,26 @@ defaults_read-discover = kept-by defaults_read defaults_read-as_read
 
 -- by the rules, and by what scopes bind
 abbrev names_by : List kept.RuleText → Bounds → EdgeText → LateNames
-names_by texts b e = record {
+names_by strings b e = record {
   inputs = e.paths.explicit_inputs;
   outputs = e.paths.explicit_outputs;
   block = e.block;
-  lines = lines_of_rule (slice_get texts e.rule);
+  lines = lines_of_rule (slice_get strings e.rule);
   is_phony = e.paths.is_phony;
   file = value_in b (e.number ∷ e.around);
 }
 
 pub names_of_edge-discover : (edge : ℕ) (found : Discovered) (entries : List ReadStatement) (e : EdgeText) → names_of_edge (discover edge found entries) e ≡ names_of_edge entries e
 names_of_edge-discover edge found entries e =
-    ap (λ texts. names_by texts (bounds (discover edge found entries)) e) (rule_texts-discover edge found entries)
-    ∙ ap (λ (b : Bounds). names_by (rule_texts entries) b e) (bounds-discover edge found entries)
+    ap (λ strings. names_by strings (bounds (discover edge found entries)) e) (rules_read-discover edge found entries)
+    ∙ ap (λ (b : Bounds). names_by (rules_read entries) b e) (bounds-discover edge found entries)
 
 -- ---- all of these
 
 pub names_stay : NamesStay
 names_stay entries edge found = record {
   values = value_after-discover edge found entries;
-  rules = rule_texts-discover edge found entries;
+  rules = rules_read-discover edge found entries;
   in_force = rule_in_force-discover edge found entries;
   pools_are = pools-discover edge found entries;
   defaults = defaults_read-discover edge found entries;
@@ -192,7 +192,7 @@ declared-discover held edge found entries by = record {
   bound = λ number name. by.bound number name ∙ ap (λ (b : Bounds). b number name) (sym (bounds-discover edge found entries));
   declared = λ number name. by.declared number name ∙ ap (λ (own : Declared). own number name) (sym (rules-discover edge found entries));
   scopes = by.scopes ∙ sym (scopes_opened-discover edge found entries);
-  rules = by.rules ∙ sym (rule_texts-discover edge found entries);
+  rules = by.rules ∙ sym (rules_read-discover edge found entries);
   pools = by.pools ∙ sym (pools-discover edge found entries);
 }
 

@@ -12,13 +12,13 @@ use Rattle.nj_edges.specs.Joining.{AddedFiles, with_added, changed_at}
 use Rattle.nj_faults.specs.declared.fault.GraphFault.{GraphFault}
 use Rattle.nj_faults.specs.declared.fault.Cause.TheVariants.{TwoMakers}
 use Rattle.nj_faults.specs.Faults.{fault_at}
-use Rattle.nj_statements.specs.EdgeList.{Values, EdgeText, path_said, paths_said, edges_read, paths_of_edges, pending_read}
+use Rattle.nj_statements.specs.EdgeList.{Values, EdgeText, path_given, paths_given, edges_read, paths_of_edges, pending_read}
 use Rattle.nj_statements.specs.BuildFaults.{fault_if, first_fault, empty_path, two_makers, outputs_fault}
 use Rattle.nj_manifest.specs.Dyndeps.{EntryText}
 use Rattle.nj_scope.specs.ReadingList.{ReadStatement}
 use Rattle.nj_statements.specs.Joining.{no_values, discovered_by, edge_meant, discover_for, with_entry, meaning_fault, entry_fault}
 use Rattle.nj_statements.specs.Laws.{AddsToItsEdge, EdgesMakeWhatIsDiscovered}
-use Rattle.nj_statements.proofs.DiscoverEdges.{or_then-none, waiting-below, pending-within, paths-discover, is_pending-from_waits, entries_add}
+use Rattle.nj_statements.proofs.DiscoverEdges.{or_then-none, unjoined-below, pending-within, paths-discover, is_pending-from_pending, entries_add}
 
 -- ---- the first edge that passes a test
 
@@ -81,27 +81,27 @@ fault_if-not true fault none = absurd (true≢false (ap is_some none))
 
 -- no edge makes an output that has no fault, and it is none of those to its left
 pub neither-makes : (file : List ℕ) (values : Values) (edges : List EdgePaths) (left : List (List ℕ)) (word : WordText) → two_makers file values edges left word ≡ None
-    → (maker_of edges (path_said values word) ≡ None) × (is_among left (path_said values word) ≡ false)
-neither-makes file values edges left word none = (is_some-none (maker_of edges (path_said values word)) parts.0, parts.1)
+    → (maker_of edges (path_given values word) ≡ None) × (is_among left (path_given values word) ≡ false)
+neither-makes file values edges left word none = (is_some-none (maker_of edges (path_given values word)) parts.0, parts.1)
   where
-    parts : (is_some (maker_of edges (path_said values word)) ≡ false) × (is_among left (path_said values word) ≡ false)
-    parts = or_parts (is_some (maker_of edges (path_said values word))) (is_among left (path_said values word))
-        (fault_if-not (is_some (maker_of edges (path_said values word)) || is_among left (path_said values word)) (fault_at file word.spot (TwoMakers (path_said values word))) none)
+    parts : (is_some (maker_of edges (path_given values word)) ≡ false) × (is_among left (path_given values word) ≡ false)
+    parts = or_parts (is_some (maker_of edges (path_given values word))) (is_among left (path_given values word))
+        (fault_if-not (is_some (maker_of edges (path_given values word)) || is_among left (path_given values word)) (fault_at file word.spot (TwoMakers (path_given values word))) none)
 
 -- no edge makes an output that has none
 pub outputs-new : (file : List ℕ) (values : Values) (edges : List EdgePaths) (left : List (List ℕ)) (words : List WordText) (path : List ℕ)
-    → outputs_fault file values edges left words ≡ None → is_among (paths_said values words) path ≡ true → maker_of edges path ≡ None
+    → outputs_fault file values edges left words ≡ None → is_among (paths_given values words) path ≡ true → maker_of edges path ≡ None
 outputs-new file values edges left [] path none among = absurd (true≢false (sym among))
-outputs-new file values edges left (word ∷ words) path none among = by (bytes_eq path (path_said values word)) (bytes_eq-Decides path (path_said values word)).0 (outputs-new file values edges (left ++ path_said values word ∷ []) words path parts.1) among
+outputs-new file values edges left (word ∷ words) path none among = by (bytes_eq path (path_given values word)) (bytes_eq-Decides path (path_given values word)).0 (outputs-new file values edges (left ++ path_given values word ∷ []) words path parts.1) among
   where
-    parts : (option_or (empty_path file values word) (two_makers file values edges left word) ≡ None) × (outputs_fault file values edges (left ++ path_said values word ∷ []) words ≡ None)
-    parts = or_then-none (option_or (empty_path file values word) (two_makers file values edges left word)) (outputs_fault file values edges (left ++ path_said values word ∷ []) words) none
+    parts : (option_or (empty_path file values word) (two_makers file values edges left word) ≡ None) × (outputs_fault file values edges (left ++ path_given values word ∷ []) words ≡ None)
+    parts = or_then-none (option_or (empty_path file values word) (two_makers file values edges left word)) (outputs_fault file values edges (left ++ path_given values word ∷ []) words) none
 
-    own : maker_of edges (path_said values word) ≡ None
+    own : maker_of edges (path_given values word) ≡ None
     own = (neither-makes file values edges left word (or_then-none (empty_path file values word) (two_makers file values edges left word) parts.0).1).0
 
-    by : (b : Bool) → (b ≡ true → path ≡ path_said values word) → (is_among (paths_said values words) path ≡ true → maker_of edges path ≡ None)
-        → (b || is_among (paths_said values words) path) ≡ true → maker_of edges path ≡ None
+    by : (b : Bool) → (b ≡ true → path ≡ path_given values word) → (is_among (paths_given values words) path ≡ true → maker_of edges path ≡ None)
+        → (b || is_among (paths_given values words) path) ≡ true → maker_of edges path ≡ None
     by true is others among = ap (maker_of edges) (is refl) ∙ own
     by false is others among = others among
 
@@ -114,8 +114,8 @@ module _ (file : List ℕ) (stated joined : List ReadStatement) (entry : EntryTe
   abbrev pub added-by : AddedFiles
   added-by = record { outputs = (discovered_by entry).outputs; inputs = (discovered_by entry).inputs }
 
-  waits : list_any (λ p. p.edge == edge) (pending_read joined) ≡ true
-  waits = subst (λ n. list_any (λ p. p.edge == n) (pending_read joined) ≡ true) (ap (λ (o : Option ℕ). unwrap_or o edge) some-is) (is_pending-from_waits file joined found.0 found.1.waited)
+  pends : list_any (λ p. p.edge == edge) (pending_read joined) ≡ true
+  pends = subst (λ n. list_any (λ p. p.edge == n) (pending_read joined) ≡ true) (ap (λ (o : Option ℕ). unwrap_or o edge) some-is) (is_pending-from_pending file joined found.0 found.1.waited)
     where
       found : (n : ℕ) × AddsToItsEdge file stated joined entry n
       found = entries_add file stated joined entry none
@@ -124,10 +124,10 @@ module _ (file : List ℕ) (stated joined : List ReadStatement) (entry : EntryTe
       some-is = sym found.1.meant ∙ means
 
   pub within-before : edge < length before
-  within-before = let count = length-map (edges_read joined) (λ (e : EdgeText). e.paths) in omega (arith, count, waiting-below edge (length (edges_read joined)) (pending_read joined) (pending-within joined) waits)
+  within-before = let count = length-map (edges_read joined) (λ (e : EdgeText). e.paths) in omega (arith, count, unjoined-below edge (length (edges_read joined)) (pending_read joined) (pending-within joined) pends)
 
   pub after-is : paths_of_edges (edges_read (with_entry stated joined entry)) ≡ changed_at (with_added added-by) edge before
-  after-is = ap (λ m. paths_of_edges (edges_read (discover_for m (discovered_by entry) joined))) means ∙ paths-discover edge (discovered_by entry) joined waits
+  after-is = ap (λ m. paths_of_edges (edges_read (discover_for m (discovered_by entry) joined))) means ∙ paths-discover edge (discovered_by entry) joined pends
 
   pub outputs-fine : outputs_fault file no_values before [] entry.outs ≡ None
   outputs-fine = (or_then-none (outputs_fault file no_values before [] entry.outs) (first_fault (empty_path file no_values) entry.ins)

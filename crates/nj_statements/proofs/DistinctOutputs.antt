@@ -17,7 +17,7 @@ use Rattle.nj_manifest.specs.Statements.{LineText, OutputsText, InputsText, Stat
 use Rattle.nj_scope.specs.ReadingList.{Discovered, ReadStatement}
 use Rattle.nj_edges.specs.Edges.{EdgePaths, outputs_of, is_among, maker_of}
 use Rattle.nj_edges.specs.Joining.{AddedFiles, with_added, changed_at}
-use Rattle.nj_statements.specs.EdgeList.{Values, EdgeText, path_said, paths_said, line_values, stated_paths, loses_own, without_own, edge_paths, with_discovered, rule_number, edge_of_build, with_edge, edges_read, paths_of_edges}
+use Rattle.nj_statements.specs.EdgeList.{Values, EdgeText, path_given, paths_given, line_values, stated_paths, loses_own, without_own, edge_paths, with_discovered, rule_number, edge_of_build, with_edge, edges_read, paths_of_edges}
 use Rattle.nj_statements.specs.BuildFaults.{empty_path, two_makers, outputs_fault, inputs_fault, unknown_rule, paths_fault, late_fault, build_fault}
 use Rattle.nj_statements.specs.Joining.{no_values, edge_meant, with_entry, entry_fault}
 use Rattle.nj_statements.specs.Laws.{AddsToItsEdge, IsFaultless, AreFaultless, IsWithEntries, as_stated, with_one_more, all_outputs, NoFileGetsTwoMakers}
@@ -41,15 +41,15 @@ no-output (e ∷ edges) path none = list_any-append (bytes_eq path) (outputs_of 
 
 -- outputs that have no fault are apart from each other, and from those before them
 outputs-apart : (file : List ℕ) (values : Values) (edges : List EdgePaths) (left : List (List ℕ)) (words : List WordText) → outputs_fault file values edges left words ≡ None
-    → IsDistinct bytes_eq (all_outputs edges ++ left) → IsDistinct bytes_eq (all_outputs edges ++ (left ++ paths_said values words))
+    → IsDistinct bytes_eq (all_outputs edges ++ left) → IsDistinct bytes_eq (all_outputs edges ++ (left ++ paths_given values words))
 outputs-apart file values edges left [] none apart = subst (λ paths. IsDistinct bytes_eq (all_outputs edges ++ paths)) (sym (append-nil left)) apart
 outputs-apart file values edges left (word ∷ words) none apart =
-    subst (λ paths. IsDistinct bytes_eq (all_outputs edges ++ paths)) (append_assoc left (path ∷ []) (paths_said values words))
+    subst (λ paths. IsDistinct bytes_eq (all_outputs edges ++ paths)) (append_assoc left (path ∷ []) (paths_given values words))
     (outputs-apart file values edges (left ++ path ∷ []) words parts.1
     (subst (IsDistinct bytes_eq) (append_assoc (all_outputs edges) left (path ∷ [])) (IsDistinct-push bytes-equivalence (all_outputs edges ++ left) path apart new)))
   where
     path : List ℕ
-    path = path_said values word
+    path = path_given values word
 
     parts : (option_or (empty_path file values word) (two_makers file values edges left word) ≡ None) × (outputs_fault file values edges (left ++ path ∷ []) words ≡ None)
     parts = or_then-none (option_or (empty_path file values word) (two_makers file values edges left word)) (outputs_fault file values edges (left ++ path ∷ []) words) none
@@ -71,10 +71,10 @@ outputs-stated e = by (loses_own e)
     by false = refl
 
 module _ (e : ReadStatement) (before : List ReadStatement) (outputs : OutputsText) (rule : NameText) (inputs : InputsText) (lines : List LineText) (nothing : e.discovered ≡ None) where
-  outputs-read : outputs_of (edge_of_build e before outputs rule inputs lines).paths ≡ paths_said (line_values e before lines) (outputs.explicit ++ outputs.implicit)
+  outputs-read : outputs_of (edge_of_build e before outputs rule inputs lines).paths ≡ paths_given (line_values e before lines) (outputs.explicit ++ outputs.implicit)
   outputs-read =
       ap (λ (found : Option Discovered). outputs_of (with_discovered found (edge_paths paths))) nothing ∙ outputs-stated paths
-      ∙ sym (map-append (path_said (line_values e before lines)) outputs.explicit outputs.implicit)
+      ∙ sym (map-append (path_given (line_values e before lines)) outputs.explicit outputs.implicit)
     where
       paths : EdgePaths
       paths = stated_paths (line_values e before lines) outputs inputs (rule_number e before rule == 0)
@@ -100,7 +100,7 @@ module _ (e : ReadStatement) (before : List ReadStatement) (outputs : OutputsTex
           (or_then-none (paths_fault e.file values edges outputs inputs) (late_fault before edge)
           (or_then-none (unknown_rule e before rule) (option_or (paths_fault e.file values edges outputs inputs) (late_fault before edge)) none).1).0).0
 
-      all-is : all_outputs (paths_of_edges (edges_read before ++ edge ∷ [])) ≡ all_outputs edges ++ paths_said values words
+      all-is : all_outputs (paths_of_edges (edges_read before ++ edge ∷ [])) ≡ all_outputs edges ++ paths_given values words
       all-is =
           ap all_outputs (map-append (λ (x : EdgeText). x.paths) (edges_read before) (edge ∷ []))
           ∙ flat_map-append outputs_of edges (edge.paths ∷ [])

@@ -5,7 +5,7 @@ use Rattle.std.proofs.lemmas.Bool.{false_from_ne_true}
 use Rattle.std.proofs.lemmas.Slice.Eq.{bytes_eq-Decides}
 use Rattle.nj_statements.specs.EdgeList.{Pending, pending_read}
 use Rattle.nj_statements.specs.Joining.{dyndep_files}
-use Rattle.nj_statements.specs.Laws.{AreRising, StandOnce, DyndepFilesStandOnce}
+use Rattle.nj_statements.specs.Laws.{AreRising, ComeOnce, DyndepFilesComeOnce}
 use Rattle.nj_statements.proofs.DiscoverEdges.{pending-rising}
 
 -- ---- what a filter keeps
@@ -92,9 +92,9 @@ all-files : (P : Pending → Type 0) (ps : List Pending) → AllByRecursion P ps
 all-files P [] all = tt
 all-files P (p ∷ ps) all = (all.0, all-filter P (λ q. not (bytes_eq q.file p.file)) (dyndep_files ps) (all-files P ps all.1))
 
-stand-more : (p : Pending) (ps : List Pending) → AllByRecursion (λ q. p.edge < q.edge) ps → StandOnce ps → StandOnce (p ∷ ps)
+comes-more : (p : Pending) (ps : List Pending) → AllByRecursion (λ q. p.edge < q.edge) ps → ComeOnce ps → ComeOnce (p ∷ ps)
 unfolding IsDistinct
-stand-more p ps least others = record {
+comes-more p ps least others = record {
   distinct = (others-differ p.file (dyndep_files ps), distinct-filter (λ q. not (bytes_eq q.file p.file)) (dyndep_files ps) others.distinct);
   first = λ file. first-is file (bytes_eq p.file file) (λ is. is);
   rising = (
@@ -110,10 +110,10 @@ stand-more p ps least others = record {
     first-is file false apart =
         find-filter (λ q. bytes_eq q.file file) (λ q. not (bytes_eq q.file p.file)) (kept-others file p.file (apart refl)) (dyndep_files ps) ∙ others.first file
 
-stand-once : (ps : List Pending) → AreRising ps → StandOnce ps
+comes-once : (ps : List Pending) → AreRising ps → ComeOnce ps
 unfolding IsDistinct
-stand-once [] rising = record { distinct = tt; first = λ file. refl; rising = tt }
-stand-once (p ∷ ps) rising = stand-more p ps rising.0 (stand-once ps rising.1)
+comes-once [] rising = record { distinct = tt; first = λ file. refl; rising = tt }
+comes-once (p ∷ ps) rising = comes-more p ps rising.0 (comes-once ps rising.1)
 
-pub files_stand_once : DyndepFilesStandOnce
-files_stand_once entries = stand-once (pending_read entries) (pending-rising entries)
+pub files_come_once : DyndepFilesComeOnce
+files_come_once entries = comes-once (pending_read entries) (pending-rising entries)

@@ -9,7 +9,7 @@ use Rattle.nj_manifest.specs.Contents.{words_text}
 use Rattle.nj_edges.specs.Edges.{EdgePaths}
 use Rattle.nj_faults.specs.declared.fault.GraphFault.{GraphFault}
 use Rattle.nj_faults.specs.Faults.{IsFault, no_memory}
-use Rattle.nj_statements.specs.EdgeList.{Values, path_said, paths_said}
+use Rattle.nj_statements.specs.EdgeList.{Values, path_given, paths_given}
 use Rattle.nj_statements.specs.BuildFaults.{first_fault, empty_path, two_makers, outputs_fault}
 use Rattle.nj_statements.specs.Answers.{Checks}
 use Rattle.nj_statements.proofs.Lists.{at-next}
@@ -17,7 +17,7 @@ use Rattle.nj_statements.proofs.Lists.{at-next}
 -- a fault is the expected one, or out of memory
 pub by-fault : {R : Type 0} (expected f : GraphFault) → IsFault (Some expected) f → (f ≡ no_memory → R) → (f ≡ expected → R) → R
 by-fault expected f (inl none) lacks is = lacks none
-by-fault expected f (inr told) lacks is = is (sym (same_Some expected f told))
+by-fault expected f (inr reported) lacks is = is (sym (same_Some expected f reported))
 
 pub fault-first : (a b : Option GraphFault) (f : GraphFault) → IsFault a f → IsFault (option_or a b) f
 fault-first a b f (inl m) = inl m
@@ -47,11 +47,11 @@ first-append fault_of [] ys = refl
 first-append fault_of (x ∷ xs) ys = ap (option_or (fault_of x)) (first-append fault_of xs ys) ∙ sym (or_then-assoc (fault_of x) (first_fault fault_of xs) (first_fault fault_of ys))
 
 pub outputs-append : (file : List ℕ) (values : Values) (edges : List EdgePaths) (left : List (List ℕ)) (xs ys : List WordText)
-    → outputs_fault file values edges left (xs ++ ys) ≡ option_or (outputs_fault file values edges left xs) (outputs_fault file values edges (left ++ paths_said values xs) ys)
+    → outputs_fault file values edges left (xs ++ ys) ≡ option_or (outputs_fault file values edges left xs) (outputs_fault file values edges (left ++ paths_given values xs) ys)
 outputs-append file values edges left [] ys = ap (λ l. outputs_fault file values edges l ys) (sym (append-nil left))
 outputs-append file values edges left (x ∷ xs) ys =
-    ap (option_or here) (outputs-append file values edges (left ++ path_said values x ∷ []) xs ys ∙ ap (λ l. option_or (outputs_fault file values edges (left ++ path_said values x ∷ []) xs) (outputs_fault file values edges l ys)) (append_assoc left (path_said values x ∷ []) (paths_said values xs)))
-    ∙ sym (or_then-assoc here (outputs_fault file values edges (left ++ path_said values x ∷ []) xs) (outputs_fault file values edges (left ++ (path_said values x ∷ paths_said values xs)) ys))
+    ap (option_or here) (outputs-append file values edges (left ++ path_given values x ∷ []) xs ys ∙ ap (λ l. option_or (outputs_fault file values edges (left ++ path_given values x ∷ []) xs) (outputs_fault file values edges l ys)) (append_assoc left (path_given values x ∷ []) (paths_given values xs)))
+    ∙ sym (or_then-assoc here (outputs_fault file values edges (left ++ path_given values x ∷ []) xs) (outputs_fault file values edges (left ++ (path_given values x ∷ paths_given values xs)) ys))
   where
     here : Option GraphFault
     here = option_or (empty_path file values x) (two_makers file values edges left x)

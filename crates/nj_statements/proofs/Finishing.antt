@@ -19,7 +19,7 @@ use Rattle.nj_scope.specs.ReadingList.{Discovered, ReadStatement}
 use Rattle.nj_statements.specs.declared.detail.Detail.{Detail}
 use Rattle.nj_statements.specs.declared.building.DyndepEdge.{DyndepEdge}
 use Rattle.nj_statements.specs.EdgeList.{EdgeText, Pending, edge_of_build, with_edge, edges_read, paths_of_edges, defaults_read, dyndep_of, pending_at, with_pending, pending_read, assigned_read}
-use Rattle.nj_statements.specs.Answers.{BuildingText, HoldsEdges, IsDetail, AreDetails, AreAssigned}
+use Rattle.nj_statements.specs.Answers.{BuildingText, HasEdges, IsDetail, AreDetails, AreAssigned}
 use Rattle.nj_statements.specs.Inside.Details.{text_at, spot_of}
 use Rattle.nj_statements.specs.Inside.EdgeSteps.{detail_text}
 use Rattle.nj_statements.specs.Built.{BuiltText, ComesTo, defaults_in_force, IsCycleFault, detail_of}
@@ -99,24 +99,24 @@ edges-known-of count (d ∷ ds) (p ∷ ps) same all = (subst (λ n. n < count) (
     others [] = []
     others (n ∷ ns) = ns
 
-waiting-more : (count more : ℕ) (ps : List Pending) → AllByRecursion (λ (p : Pending). p.edge < count) ps → AllByRecursion (λ (p : Pending). p.edge < count + more) ps
-waiting-more count more [] all = tt
-waiting-more count more (p ∷ ps) all = (omega (arith, all.0), waiting-more count more ps all.1)
+unjoined-more : (count more : ℕ) (ps : List Pending) → AllByRecursion (λ (p : Pending). p.edge < count) ps → AllByRecursion (λ (p : Pending). p.edge < count + more) ps
+unjoined-more count more [] all = tt
+unjoined-more count more (p ∷ ps) all = (omega (arith, all.0), unjoined-more count more ps all.1)
 
-waiting-append : (count : ℕ) (ps qs : List Pending) → AllByRecursion (λ (p : Pending). p.edge < count) ps → AllByRecursion (λ (p : Pending). p.edge < count) qs → AllByRecursion (λ (p : Pending). p.edge < count) (ps ++ qs)
-waiting-append count [] qs all others = others
-waiting-append count (p ∷ ps) qs all others = (all.0, waiting-append count ps qs all.1 others)
+unjoined-append : (count : ℕ) (ps qs : List Pending) → AllByRecursion (λ (p : Pending). p.edge < count) ps → AllByRecursion (λ (p : Pending). p.edge < count) qs → AllByRecursion (λ (p : Pending). p.edge < count) (ps ++ qs)
+unjoined-append count [] qs all others = others
+unjoined-append count (p ∷ ps) qs all others = (all.0, unjoined-append count ps qs all.1 others)
 
-waiting-last : (edge : ℕ) (joined : Option Discovered) (file : Option (List ℕ)) → AllByRecursion (λ (p : Pending). p.edge < edge + 1) (pending_at edge joined file)
-waiting-last edge (Some found) file = tt
-waiting-last edge None (Some file) = (omega arith, tt)
-waiting-last edge None None = tt
+unjoined-last : (edge : ℕ) (joined : Option Discovered) (file : Option (List ℕ)) → AllByRecursion (λ (p : Pending). p.edge < edge + 1) (pending_at edge joined file)
+unjoined-last edge (Some found) file = tt
+unjoined-last edge None (Some file) = (omega arith, tt)
+unjoined-last edge None None = tt
 
 -- what waits is an edge that was read
-pub waiting-known : (entries : List ReadStatement) → AllByRecursion (λ (p : Pending). p.edge < length (edges_read entries)) (pending_read entries)
+pub unjoined-known : (entries : List ReadStatement) → AllByRecursion (λ (p : Pending). p.edge < length (edges_read entries)) (pending_read entries)
 unfolding edges_read pending_read
-waiting-known [] = tt
-waiting-known (e ∷ before) = by e.item (waiting-known before)
+unjoined-known [] = tt
+unjoined-known (e ∷ before) = by e.item (unjoined-known before)
   where
     by : (item : StatementText) → AllByRecursion (λ (p : Pending). p.edge < length (edges_read before)) (pending_read before)
         → AllByRecursion (λ (p : Pending). p.edge < length (with_edge e before item (edges_read before))) (with_pending e before item (pending_read before))
@@ -125,7 +125,7 @@ waiting-known (e ∷ before) = by e.item (waiting-known before)
         let count = length (edges_read before) in
         let longer : length (edges_read before ++ edge ∷ []) ≡ count + 1 = length-append (edges_read before) (edge ∷ []) in
         subst (λ n. AllByRecursion (λ (p : Pending). p.edge < n) (pending_read before ++ pending_at count e.discovered (dyndep_of before edge))) (sym longer)
-        (waiting-append (count + 1) (pending_read before) (pending_at count e.discovered (dyndep_of before edge)) (waiting-more count 1 (pending_read before) all) (waiting-last count e.discovered (dyndep_of before edge)))
+        (unjoined-append (count + 1) (pending_read before) (pending_at count e.discovered (dyndep_of before edge)) (unjoined-more count 1 (pending_read before) all) (unjoined-last count e.discovered (dyndep_of before edge)))
     by (BindingText bound word) all = all
     by (RuleText declared lines) all = all
     by (PoolText declared lines) all = all
@@ -172,15 +172,15 @@ paths-at (f ∷ es) (suc n) e h = paths-at es n e h
 
 -- ---- without a cycle
 
-module _ (held : BuildingText) (entries : List ReadStatement) (holds : HoldsEdges held entries) (ds : List Detail) (details_are : map detail_text ds ≡ held.details) where
+module _ (held : BuildingText) (entries : List ReadStatement) (has : HasEdges held entries) (ds : List Detail) (details_are : map detail_text ds ≡ held.details) where
   all-details : AreDetails held.names (map detail_text ds) (edges_read entries)
-  all-details = subst (λ xs. AreDetails held.names xs (edges_read entries)) (sym details_are) holds.details
+  all-details = subst (λ xs. AreDetails held.names xs (edges_read entries)) (sym details_are) has.details
 
   all-assigned : AreAssigned held.names (map detail_text ds) (assigned_read entries)
-  all-assigned = subst (λ xs. AreAssigned held.names xs (assigned_read entries)) (sym details_are) holds.assigned
+  all-assigned = subst (λ xs. AreAssigned held.names xs (assigned_read entries)) (sym details_are) has.assigned
 
   edge-count : length held.table.edges ≡ length (edges_read entries)
-  edge-count = ap length holds.edges ∙ length-map (edges_read entries) (λ (e : EdgeText). e.paths)
+  edge-count = ap length has.edges ∙ length-map (edges_read entries) (λ (e : EdgeText). e.paths)
 
   pub detail-count : length ds ≡ length held.table.edges
   detail-count = sym (length-map ds detail_text) ∙ details-count held.names (map detail_text ds) (edges_read entries) all-details ∙ sym edge-count
@@ -199,26 +199,26 @@ module _ (held : BuildingText) (entries : List ReadStatement) (holds : HoldsEdge
       as_many = detail-count ∙ ap (λ (v : EdgeGraph). length v.edges) (sym is);
       names_known = names-known held.names ds (edges_read entries) all-details;
       assigned_known = assigned-known held.names ds (assigned_read entries) all-assigned;
-      defaults_known = subst (λ (v : EdgeGraph). AreNumbers (length v.files) held.defaults) (sym is) (files-numbers held.table.files held.defaults (defaults_read entries) holds.defaults);
+      defaults_known = subst (λ (v : EdgeGraph). AreNumbers (length v.files) held.defaults) (sym is) (files-numbers held.table.files held.defaults (defaults_read entries) has.defaults);
       dyndep_files_known = subst (λ (v : EdgeGraph). AllByRecursion (λ (d : DyndepEdge). d.file.0 < length v.files) held.dyndeps) (sym is)
-          (files-known-of (length held.table.files) held.dyndeps (files-numbers held.table.files (map (λ d. d.file) held.dyndeps) (map (λ p. p.file) (pending_read entries)) holds.dyndeps.files_are));
+          (files-known-of (length held.table.files) held.dyndeps (files-numbers held.table.files (map (λ d. d.file) held.dyndeps) (map (λ p. p.file) (pending_read entries)) has.dyndeps.files_are));
       dyndep_edges_known = subst (λ (v : EdgeGraph). AllByRecursion (λ (d : DyndepEdge). d.edge < length v.edges) held.dyndeps) (sym is)
-          (edges-known-of (length held.table.edges) held.dyndeps (pending_read entries) holds.dyndeps.edges_are (subst (λ n. AllByRecursion (λ (p : Pending). p.edge < n) (pending_read entries)) (sym edge-count) (waiting-known entries)));
+          (edges-known-of (length held.table.edges) held.dyndeps (pending_read entries) has.dyndeps.edges_are (subst (λ n. AllByRecursion (λ (p : Pending). p.edge < n) (pending_read entries)) (sym edge-count) (unjoined-known entries)));
     }
 
     pub built-of : IsAcyclic (makers_of_inputs held.table.edges) (length held.table.edges) → ComesTo entries (Ok (built_of g held.blocks held.names ds held.defaults held.dyndeps))
     built-of acyclic = (
       record {
-        paths = ap (λ (v : EdgeGraph). v.edges) is ∙ holds.edges;
+        paths = ap (λ (v : EdgeGraph). v.edges) is ∙ has.edges;
         details = details-named held.names ds (edges_read entries) all-details;
-        blocks = holds.blocks;
-        block_names = holds.block_names;
-        defaults = ap (λ (v : EdgeGraph). paths_at v.files held.defaults) is ∙ files-paths held.table.files held.defaults (defaults_read entries) holds.defaults;
-        pending = ap (λ (v : EdgeGraph). map (pending_named v.files) held.dyndeps) is ∙ pending-named held.table.files held.dyndeps (pending_read entries) holds.dyndeps.edges_are holds.dyndeps.files_are;
+        blocks = has.blocks;
+        block_names = has.block_names;
+        defaults = ap (λ (v : EdgeGraph). paths_at v.files held.defaults) is ∙ files-paths held.table.files held.defaults (defaults_read entries) has.defaults;
+        pending = ap (λ (v : EdgeGraph). map (pending_named v.files) held.dyndeps) is ∙ pending-named held.table.files held.dyndeps (pending_read entries) has.dyndeps.edges_are has.dyndeps.files_are;
         assigned = assigned-named held.names ds (assigned_read entries) all-assigned;
       },
       subst (λ n. IsAcyclic (makers_of_inputs (paths_of_edges (edges_read entries))) n) (length-map (edges_read entries) (λ (e : EdgeText). e.paths))
-          (subst (λ es. IsAcyclic (makers_of_inputs es) (length es)) holds.edges acyclic),
+          (subst (λ es. IsAcyclic (makers_of_inputs es) (length es)) has.edges acyclic),
     )
 
   -- ---- on a cycle
@@ -234,7 +234,7 @@ module _ (held : BuildingText) (entries : List ReadStatement) (holds : HoldsEdge
         edge = found.0;
         output = output;
         edge_is = found.1;
-        least = subst (λ es. IsLeastOnCycle (makers_of_inputs es) n) holds.edges least;
-        output_is = ap (λ (e : EdgePaths). slice_get (outputs_of e) 0) (sym (ap (λ es. edge_at es n) holds.edges ∙ paths-at (edges_read entries) n found.0 found.1)) ∙ first;
+        least = subst (λ es. IsLeastOnCycle (makers_of_inputs es) n) has.edges least;
+        output_is = ap (λ (e : EdgePaths). slice_get (outputs_of e) 0) (sym (ap (λ es. edge_at es n) has.edges ∙ paths-at (edges_read entries) n found.0 found.1)) ∙ first;
         fault_is = is ∙ ap (λ file. fault_at file (spot_of d) (Cycle output)) (ap (λ o. unwrap_or o []) detail.file) ∙ ap (λ spot. fault_at found.0.file spot (Cycle output)) detail.spot;
       }

@@ -14,25 +14,25 @@ use Rattle.nj_manifest.specs.Contents.{words_text}
 use Rattle.nj_manifest.specs.Statements.{LineText, OutputsText, InputsText, StatementText, BindingText, RuleText, PoolText, BuildText, DefaultText, IncludeText, SubninjaText}
 use Rattle.nj_scope.specs.Rules.{line_kept}
 use Rattle.nj_scope.specs.Readings.{IsPrefix}
-use Rattle.nj_scope.specs.ReadingList.{ReadStatement, scope_of, value_after, rule_texts}
+use Rattle.nj_scope.specs.ReadingList.{ReadStatement, scope_of, value_after, rules_read}
 use Rattle.nj_edge_env.specs.Blocks.{BlocksText, bound_in, names_in}
 use Rattle.nj_edges.specs.declared.files.FileNo.{FileNo}
 use Rattle.nj_edges.specs.EdgeTables.{no_files}
 use Rattle.nj_edges.specs.Files.{AreFiles}
 use Rattle.nj_faults.specs.declared.fault.GraphFault.{GraphFault}
 use Rattle.nj_faults.specs.Faults.{IsFault}
-use Rattle.nj_statements.specs.EdgeList.{Values, Block, EdgeText, Pending, build_block, path_said, paths_said, edge_of_build, edges_read, defaults_read, dyndep_of, pending_at, pending_read, block_at, block_names_at, names_bound, block_of_edge, assigned_of, assigned_read}
+use Rattle.nj_statements.specs.EdgeList.{Values, Block, EdgeText, Pending, build_block, path_given, paths_given, edge_of_build, edges_read, defaults_read, dyndep_of, pending_at, pending_read, block_at, block_names_at, names_bound, block_of_edge, assigned_of, assigned_read}
 use Rattle.nj_statements.specs.declared.building.DyndepEdge.{DyndepEdge}
-use Rattle.nj_statements.specs.Answers.{BuildingText, ArePending, HoldsEdges, DetailText, IsDetail, AreDetails, IsAssigned, AreAssigned, ReadsStatement, HoldsReferences}
-use Rattle.nj_statements.specs.Inside.EdgeSteps.{IsFileSaid, with_dyndep, AddsEdge, AddsTargets}
+use Rattle.nj_statements.specs.Answers.{BuildingText, ArePending, HasEdges, DetailText, IsDetail, AreDetails, IsAssigned, AreAssigned, ReadsStatement, HasReferences}
+use Rattle.nj_statements.specs.Inside.EdgeSteps.{IsFileGiven, with_dyndep, AddsEdge, AddsTargets}
 use Rattle.nj_statements.proofs.AssignedLemmas.{assigned-more}
 use Rattle.nj_statements.proofs.Lists.{get-longer}
 use Rattle.nj_statements.proofs.ReferenceLemmas.{references-none, references-longer}
 
-pub holds-none : (held : BuildingText) → held.table ≡ record { files = []; edges = []; «open» = no_files }
-    → ((edge : ℕ) (name : List ℕ) → bound_in held.blocks edge name ≡ None) → ((edge : ℕ) → names_in held.blocks edge ≡ []) → held.details ≡ [] → held.defaults ≡ [] → held.dyndeps ≡ [] → held.references ≡ [] → HoldsEdges held []
+pub has-none : (held : BuildingText) → held.table ≡ record { files = []; edges = []; «open» = no_files }
+    → ((edge : ℕ) (name : List ℕ) → bound_in held.blocks edge name ≡ None) → ((edge : ℕ) → names_in held.blocks edge ≡ []) → held.details ≡ [] → held.defaults ≡ [] → held.dyndeps ≡ [] → held.references ≡ [] → HasEdges held []
 unfolding edges_read defaults_read pending_read assigned_read
-holds-none held table blocks block_names details defaults dyndeps references = record {
+has-none held table blocks block_names details defaults dyndeps references = record {
   edges = ap (λ t. t.edges) table;
   none_open = ap (λ t. t.«open») table;
   blocks = blocks;
@@ -41,7 +41,7 @@ holds-none held table blocks block_names details defaults dyndeps references = r
   assigned = subst (λ ds. AreAssigned held.names ds []) (sym details) tt;
   defaults = subst (λ ds. AreFiles held.table.files ds []) (sym defaults) refl;
   dyndeps = subst (λ ds. ArePending held.table.files ds []) (sym dyndeps) (record { edges_are = refl; files_are = refl });
-  references = subst (λ kept. HoldsReferences kept (rule_texts [])) (sym references) (references-none (rule_texts []));
+  references = subst (λ kept. HasReferences kept (rules_read [])) (sym references) (references-none (rules_read []));
 }
 
 pub on-ok : {X Y P Q : Type 0} (r : Result X Y) → OnOk r P → (P → Q) → OnOk r Q
@@ -87,40 +87,40 @@ files-append files ns ms ps qs are others =
 
 -- the file that one more word names
 pub targets-turn : (values : Values) (files : List (List ℕ)) (before held new : List FileNo) (file : FileNo) (words : List Word) (i : ℕ) (word : Word) → i < length words → word ≡ get_or words i word
-    → AddsTargets files before held (paths_said values (words_text (take i words))) → new ≡ held ++ file ∷ [] → slice_get files file.0 ≡ Some (path_said values (word_text word))
-    → AddsTargets files before new (paths_said values (words_text (take (i + 1) words)))
+    → AddsTargets files before held (paths_given values (words_text (take i words))) → new ≡ held ++ file ∷ [] → slice_get files file.0 ≡ Some (path_given values (word_text word))
+    → AddsTargets files before new (paths_given values (words_text (take (i + 1) words)))
 targets-turn values files before held new file words i word below at adds is there = record {
   added = adds.added ++ file ∷ [];
   after_is = is ∙ ap (λ fs. fs ++ file ∷ []) adds.after_is ∙ append_assoc before adds.added (file ∷ []);
-  are = subst (AreFiles files (adds.added ++ file ∷ [])) (sym more) (files-append files adds.added (file ∷ []) (said (take i words)) (path_said values (word_text word) ∷ []) adds.are (ap (λ o. o ∷ []) there));
+  are = subst (AreFiles files (adds.added ++ file ∷ [])) (sym more) (files-append files adds.added (file ∷ []) (meant (take i words)) (path_given values (word_text word) ∷ []) adds.are (ap (λ o. o ∷ []) there));
 }
   where
-    said : List Word → List (List ℕ)
-    said ws = paths_said values (words_text ws)
+    meant : List Word → List (List ℕ)
+    meant ws = paths_given values (words_text ws)
 
-    more : said (take (i + 1) words) ≡ said (take i words) ++ path_said values (word_text word) ∷ []
+    more : meant (take (i + 1) words) ≡ meant (take i words) ++ path_given values (word_text word) ∷ []
     more =
-        ap said (take_more words i word below ∙ ap (λ w. take i words ++ w ∷ []) (sym at))
-        ∙ ap (map (path_said values)) (map-append word_text (take i words) (word ∷ []))
-        ∙ map-append (path_said values) (words_text (take i words)) (word_text word ∷ [])
+        ap meant (take_more words i word below ∙ ap (λ w. take i words ++ w ∷ []) (sym at))
+        ∙ ap (map (path_given values)) (map-append word_text (take i words) (word ∷ []))
+        ∙ map-append (path_given values) (words_text (take i words)) (word_text word ∷ [])
 
-pub holds-default : (old new : BuildingText) (e : ReadStatement) (before : List ReadStatement) (words : List WordText) → HoldsEdges old before
+pub has-default : (old new : BuildingText) (e : ReadStatement) (before : List ReadStatement) (words : List WordText) → HasEdges old before
     → new.table ≡ old.table → new.blocks ≡ old.blocks → new.names ≡ old.names → new.details ≡ old.details
-    → AddsTargets old.table.files old.defaults new.defaults (paths_said (value_after before (scope_of e)) words)
-    → new.dyndeps ≡ old.dyndeps → new.references ≡ old.references → HoldsEdges new (record e { item = DefaultText words } ∷ before)
+    → AddsTargets old.table.files old.defaults new.defaults (paths_given (value_after before (scope_of e)) words)
+    → new.dyndeps ≡ old.dyndeps → new.references ≡ old.references → HasEdges new (record e { item = DefaultText words } ∷ before)
 unfolding edges_read defaults_read pending_read assigned_read
-holds-default old new e before words holds table blocks names details adds dyndeps references = record {
-  edges = ap (λ t. t.edges) table ∙ holds.edges;
-  none_open = ap (λ t. t.«open») table ∙ holds.none_open;
-  blocks = λ number name. ap (λ b. bound_in b number name) blocks ∙ holds.blocks number name;
-  block_names = λ number. ap (λ b. names_in b number) blocks ∙ holds.block_names number;
-  details = subst (λ ns. AreDetails ns new.details (edges_read before)) (sym names) (subst (λ ds. AreDetails old.names ds (edges_read before)) (sym details) holds.details);
-  assigned = subst (λ ns. AreAssigned ns new.details (assigned_read before)) (sym names) (subst (λ ds. AreAssigned old.names ds (assigned_read before)) (sym details) holds.assigned);
-  defaults = subst (λ t. AreFiles t.files new.defaults (defaults_read before ++ paths_said (value_after before (scope_of e)) words)) (sym table)
-      (subst (λ ns. AreFiles old.table.files ns (defaults_read before ++ paths_said (value_after before (scope_of e)) words)) (sym adds.after_is)
-      (files-append old.table.files old.defaults adds.added (defaults_read before) (paths_said (value_after before (scope_of e)) words) holds.defaults adds.are));
-  dyndeps = subst (λ t. ArePending t.files new.dyndeps (pending_read before)) (sym table) (subst (λ ds. ArePending old.table.files ds (pending_read before)) (sym dyndeps) holds.dyndeps);
-  references = subst (λ kept. HoldsReferences kept (rule_texts before)) (sym references) holds.references;
+has-default old new e before words has table blocks names details adds dyndeps references = record {
+  edges = ap (λ t. t.edges) table ∙ has.edges;
+  none_open = ap (λ t. t.«open») table ∙ has.none_open;
+  blocks = λ number name. ap (λ b. bound_in b number name) blocks ∙ has.blocks number name;
+  block_names = λ number. ap (λ b. names_in b number) blocks ∙ has.block_names number;
+  details = subst (λ ns. AreDetails ns new.details (edges_read before)) (sym names) (subst (λ ds. AreDetails old.names ds (edges_read before)) (sym details) has.details);
+  assigned = subst (λ ns. AreAssigned ns new.details (assigned_read before)) (sym names) (subst (λ ds. AreAssigned old.names ds (assigned_read before)) (sym details) has.assigned);
+  defaults = subst (λ t. AreFiles t.files new.defaults (defaults_read before ++ paths_given (value_after before (scope_of e)) words)) (sym table)
+      (subst (λ ns. AreFiles old.table.files ns (defaults_read before ++ paths_given (value_after before (scope_of e)) words)) (sym adds.after_is)
+      (files-append old.table.files old.defaults adds.added (defaults_read before) (paths_given (value_after before (scope_of e)) words) has.defaults adds.are));
+  dyndeps = subst (λ t. ArePending t.files new.dyndeps (pending_read before)) (sym table) (subst (λ ds. ArePending old.table.files ds (pending_read before)) (sym dyndeps) has.dyndeps);
+  references = subst (λ kept. HasReferences kept (rules_read before)) (sym references) has.references;
 }
 
 -- ---- a build statement
@@ -197,55 +197,55 @@ names-more edges e n new old was here others = by (eqb_tells n (length edges)) (
 
 -- what waits with one edge more
 pending-more : (files longer : List (List ℕ)) (held : List DyndepEdge) (expected : List Pending) (edge : ℕ) (number : Option FileNo) (file : Option (List ℕ))
-    → IsPrefix files longer → ArePending files held expected → IsFileSaid longer number file → ArePending longer (with_dyndep edge number held) (expected ++ pending_at edge None file)
-pending-more files longer held expected edge None None grows are said =
+    → IsPrefix files longer → ArePending files held expected → IsFileGiven longer number file → ArePending longer (with_dyndep edge number held) (expected ++ pending_at edge None file)
+pending-more files longer held expected edge None None grows are meant =
     subst (ArePending longer held) (sym (append-nil expected))
     (record { edges_are = are.edges_are; files_are = files-longer files longer (map (λ d. d.file) held) (map (λ p. p.file) expected) grows are.files_are })
-pending-more files longer held expected edge None (Some path) grows are said = absurd (true≢false (sym (ap is_some said)))
-pending-more files longer held expected edge (Some file) None grows are said = absurd (true≢false (ap is_some said))
-pending-more files longer held expected edge (Some file) (Some path) grows are said = record {
-  edges_are = map-append (λ (d : DyndepEdge). d.edge) held (added ∷ []) ∙ ap (λ es. es ++ edge ∷ []) are.edges_are ∙ sym (map-append (λ (p : Pending). p.edge) expected (waits ∷ []));
-  files_are = subst (λ fs. AreFiles longer fs (map (λ p. p.file) (expected ++ waits ∷ []))) (sym (map-append (λ (d : DyndepEdge). d.file) held (added ∷ [])))
-      (subst (AreFiles longer (map (λ d. d.file) held ++ file ∷ [])) (sym (map-append (λ (p : Pending). p.file) expected (waits ∷ [])))
+pending-more files longer held expected edge None (Some path) grows are meant = absurd (true≢false (sym (ap is_some meant)))
+pending-more files longer held expected edge (Some file) None grows are meant = absurd (true≢false (ap is_some meant))
+pending-more files longer held expected edge (Some file) (Some path) grows are meant = record {
+  edges_are = map-append (λ (d : DyndepEdge). d.edge) held (added ∷ []) ∙ ap (λ es. es ++ edge ∷ []) are.edges_are ∙ sym (map-append (λ (p : Pending). p.edge) expected (pends ∷ []));
+  files_are = subst (λ fs. AreFiles longer fs (map (λ p. p.file) (expected ++ pends ∷ []))) (sym (map-append (λ (d : DyndepEdge). d.file) held (added ∷ [])))
+      (subst (AreFiles longer (map (λ d. d.file) held ++ file ∷ [])) (sym (map-append (λ (p : Pending). p.file) expected (pends ∷ [])))
       (files-append longer (map (λ d. d.file) held) (file ∷ []) (map (λ p. p.file) expected) (path ∷ []) (files-longer files longer (map (λ d. d.file) held) (map (λ p. p.file) expected) grows are.files_are)
-      (ap (λ o. o ∷ []) (ap (λ o. unwrap_or o None) said))));
+      (ap (λ o. o ∷ []) (ap (λ o. unwrap_or o None) meant))));
 }
   where
     added : DyndepEdge
     added = record { edge = edge; file = file }
 
-    waits : Pending
-    waits = record { edge = edge; file = path }
+    pends : Pending
+    pends = record { edge = edge; file = path }
 
 -- a statement to which nothing was joined
 abbrev fresh : ReadStatement → ReadStatement
 fresh e = record e { discovered = None }
 
-pub holds-build : (old new : BuildingText) (e : ReadStatement) (before : List ReadStatement) (outputs : OutputsText) (rule : NameText) (inputs : InputsText) (lines : List LineText) (d : DetailText) (dyndep : Option FileNo) → HoldsEdges old before
+pub has-build : (old new : BuildingText) (e : ReadStatement) (before : List ReadStatement) (outputs : OutputsText) (rule : NameText) (inputs : InputsText) (lines : List LineText) (d : DetailText) (dyndep : Option FileNo) → HasEdges old before
     → AddsEdge old.table new.table (edge_of_build (fresh e) before outputs rule inputs lines).paths
     → ((n : ℕ) (name : List ℕ) → bound_in new.blocks n name ≡ (if n == length old.details then option_or (build_block e before lines name) (bound_in old.blocks n name) else bound_in old.blocks n name))
     → ((n : ℕ) → n ≡ length old.details → names_in new.blocks n ≡ names_bound lines) → ((n : ℕ) → (n == length old.details) ≡ false → names_in new.blocks n ≡ names_in old.blocks n)
     → IsPrefix old.names new.names → new.details ≡ old.details ++ d ∷ [] → IsDetail new.names d (edge_of_build (fresh e) before outputs rule inputs lines) → IsAssigned new.names d (assigned_of before (edge_of_build (fresh e) before outputs rule inputs lines)) → new.defaults ≡ old.defaults
-    → new.dyndeps ≡ with_dyndep (length old.details) dyndep old.dyndeps → IsFileSaid new.table.files dyndep (dyndep_of before (edge_of_build (fresh e) before outputs rule inputs lines))
-    → HoldsReferences new.references (rule_texts before) → HoldsEdges new (record e { item = BuildText outputs rule inputs lines; discovered = None } ∷ before)
+    → new.dyndeps ≡ with_dyndep (length old.details) dyndep old.dyndeps → IsFileGiven new.table.files dyndep (dyndep_of before (edge_of_build (fresh e) before outputs rule inputs lines))
+    → HasReferences new.references (rules_read before) → HasEdges new (record e { item = BuildText outputs rule inputs lines; discovered = None } ∷ before)
 unfolding edges_read defaults_read pending_read assigned_read
-holds-build old new e before outputs rule inputs lines d dyndep holds adds blocks own_names other_names names details is assigned defaults dyndeps said references = record {
-  edges = adds.edges ∙ ap (λ es. es ++ edge.paths ∷ []) holds.edges ∙ sym (map-append (λ (x : EdgeText). x.paths) (edges_read before) (edge ∷ []));
+has-build old new e before outputs rule inputs lines d dyndep has adds blocks own_names other_names names details is assigned defaults dyndeps meant references = record {
+  edges = adds.edges ∙ ap (λ es. es ++ edge.paths ∷ []) has.edges ∙ sym (map-append (λ (x : EdgeText). x.paths) (edges_read before) (edge ∷ []));
   none_open = adds.none_open;
   blocks = λ n name.
       blocks n name
-      ∙ ap (λ count. if n == count then option_or (edge.block name) (bound_in old.blocks n name) else bound_in old.blocks n name) (details-count old.names old.details (edges_read before) holds.details)
-      ∙ ap (λ o. if n == length (edges_read before) then option_or (edge.block name) o else o) (holds.blocks n name)
+      ∙ ap (λ count. if n == count then option_or (edge.block name) (bound_in old.blocks n name) else bound_in old.blocks n name) (details-count old.names old.details (edges_read before) has.details)
+      ∙ ap (λ o. if n == length (edges_read before) then option_or (edge.block name) o else o) (has.blocks n name)
       ∙ block-more (edges_read before) edge n name;
-  block_names = λ n. names-more (edges_read before) edge n (names_in new.blocks n) (names_in old.blocks n) (holds.block_names n)
-      (λ is. own_names n (is ∙ sym (details-count old.names old.details (edges_read before) holds.details)))
-      (λ other. other_names n (ap (λ count. n == count) (details-count old.names old.details (edges_read before) holds.details) ∙ other));
-  details = subst (λ ds. AreDetails new.names ds (edges_read before ++ edge ∷ [])) (sym details) (details-more old.names new.names old.details (edges_read before) d edge names holds.details is);
-  assigned = subst (λ ds. AreAssigned new.names ds (assigned_read before ++ assigned_of before edge ∷ [])) (sym details) (assigned-more old.names new.names old.details (assigned_read before) d (assigned_of before edge) names holds.assigned assigned);
-  defaults = subst (λ ns. AreFiles new.table.files ns (defaults_read before)) (sym defaults) (files-longer old.table.files new.table.files old.defaults (defaults_read before) adds.files holds.defaults);
-  dyndeps = subst (λ n. ArePending new.table.files new.dyndeps (pending_read before ++ pending_at n None (dyndep_of before edge))) (details-count old.names old.details (edges_read before) holds.details)
+  block_names = λ n. names-more (edges_read before) edge n (names_in new.blocks n) (names_in old.blocks n) (has.block_names n)
+      (λ is. own_names n (is ∙ sym (details-count old.names old.details (edges_read before) has.details)))
+      (λ other. other_names n (ap (λ count. n == count) (details-count old.names old.details (edges_read before) has.details) ∙ other));
+  details = subst (λ ds. AreDetails new.names ds (edges_read before ++ edge ∷ [])) (sym details) (details-more old.names new.names old.details (edges_read before) d edge names has.details is);
+  assigned = subst (λ ds. AreAssigned new.names ds (assigned_read before ++ assigned_of before edge ∷ [])) (sym details) (assigned-more old.names new.names old.details (assigned_read before) d (assigned_of before edge) names has.assigned assigned);
+  defaults = subst (λ ns. AreFiles new.table.files ns (defaults_read before)) (sym defaults) (files-longer old.table.files new.table.files old.defaults (defaults_read before) adds.files has.defaults);
+  dyndeps = subst (λ n. ArePending new.table.files new.dyndeps (pending_read before ++ pending_at n None (dyndep_of before edge))) (details-count old.names old.details (edges_read before) has.details)
       (subst (λ ds. ArePending new.table.files ds (pending_read before ++ pending_at (length old.details) None (dyndep_of before edge))) (sym dyndeps)
-      (pending-more old.table.files new.table.files old.dyndeps (pending_read before) (length old.details) dyndep (dyndep_of before edge) adds.files holds.dyndeps said));
+      (pending-more old.table.files new.table.files old.dyndeps (pending_read before) (length old.details) dyndep (dyndep_of before edge) adds.files has.dyndeps meant));
   references = references;
 }
   where
@@ -253,22 +253,22 @@ holds-build old new e before outputs rule inputs lines d dyndep holds adds block
     edge = edge_of_build (fresh e) before outputs rule inputs lines
 
 -- the edge that would be read next binds nothing
-pub no-block : (held : BuildingText) (before : List ReadStatement) (edge : ℕ) → HoldsEdges held before → edge ≡ length held.details → (name : List ℕ) → bound_in held.blocks edge name ≡ None
-no-block held before edge holds is name = holds.blocks edge name ∙ ap (λ o. bound-by o name) (slice_get_past (edges_read before) edge (omega (arith, is, count)))
+pub no-block : (held : BuildingText) (before : List ReadStatement) (edge : ℕ) → HasEdges held before → edge ≡ length held.details → (name : List ℕ) → bound_in held.blocks edge name ≡ None
+no-block held before edge has is name = has.blocks edge name ∙ ap (λ o. bound-by o name) (slice_get_past (edges_read before) edge (omega (arith, is, count)))
   where
     count : length held.details ≡ length (edges_read before)
-    count = details-count held.names held.details (edges_read before) holds.details
+    count = details-count held.names held.details (edges_read before) has.details
 
-pub no-names : (held : BuildingText) (before : List ReadStatement) (edge : ℕ) → HoldsEdges held before → edge ≡ length held.details → names_in held.blocks edge ≡ []
-no-names held before edge holds is = holds.block_names edge ∙ get_or_past (map (λ (x : EdgeText). x.block_names) (edges_read before)) edge [] (omega (arith, is, details-count held.names held.details (edges_read before) holds.details, length-map (edges_read before) (λ (x : EdgeText). x.block_names)))
+pub no-names : (held : BuildingText) (before : List ReadStatement) (edge : ℕ) → HasEdges held before → edge ≡ length held.details → names_in held.blocks edge ≡ []
+no-names held before edge has is = has.block_names edge ∙ get_or_past (map (λ (x : EdgeText). x.block_names) (edges_read before)) edge [] (omega (arith, is, details-count held.names held.details (edges_read before) has.details, length-map (edges_read before) (λ (x : EdgeText). x.block_names)))
 
 -- what the block of the edge that is being read binds
-pub open-block : (old : BuildingText) (before : List ReadStatement) (block : Block) (new : BlocksText) (edge : ℕ) → HoldsEdges old before → edge ≡ length old.details
+pub open-block : (old : BuildingText) (before : List ReadStatement) (block : Block) (new : BlocksText) (edge : ℕ) → HasEdges old before → edge ≡ length old.details
     → ((n : ℕ) (name : List ℕ) → bound_in new n name ≡ (if n == edge then option_or (block name) (bound_in old.blocks n name) else bound_in old.blocks n name))
     → (name : List ℕ) → bound_in new edge name ≡ block name
-open-block old before block new edge holds is bound name =
+open-block old before block new edge has is bound name =
     bound edge name ∙ by (eqb_tells edge edge)
-    ∙ ap (option_or (block name)) (no-block old before edge holds is name)
+    ∙ ap (option_or (block name)) (no-block old before edge has is name)
     ∙ with-none (block name)
   where
     with-none : (o : Option (List ℕ)) → option_or o None ≡ o
@@ -288,17 +288,17 @@ names_files (BuildText outputs rule inputs lines) = true
 names_files (DefaultText words) = true
 names_files item = false
 
-holds-item : (held : BuildingText) (e : ReadStatement) (before : List ReadStatement) (item : StatementText) → names_files item ≡ false → HoldsEdges held before → HoldsEdges held (record e { item = item } ∷ before)
+has-item : (held : BuildingText) (e : ReadStatement) (before : List ReadStatement) (item : StatementText) → names_files item ≡ false → HasEdges held before → HasEdges held (record e { item = item } ∷ before)
 unfolding edges_read defaults_read pending_read assigned_read
-holds-item held e before (BindingText bound word) other holds = record { edges = holds.edges; none_open = holds.none_open; blocks = holds.blocks; block_names = holds.block_names; details = holds.details; assigned = holds.assigned; defaults = holds.defaults; dyndeps = holds.dyndeps; references = holds.references }
-holds-item held e before (RuleText declared lines) other holds =
-    record { edges = holds.edges; none_open = holds.none_open; blocks = holds.blocks; block_names = holds.block_names; details = holds.details; assigned = holds.assigned; defaults = holds.defaults; dyndeps = holds.dyndeps; references = references-longer held.references (rule_texts before) (record { scope = e.number; name = declared.name; lines = map line_kept lines } ∷ []) holds.references }
-holds-item held e before (PoolText declared lines) other holds = record { edges = holds.edges; none_open = holds.none_open; blocks = holds.blocks; block_names = holds.block_names; details = holds.details; assigned = holds.assigned; defaults = holds.defaults; dyndeps = holds.dyndeps; references = holds.references }
-holds-item held e before (BuildText outputs rule inputs lines) other holds = absurd (true≢false other)
-holds-item held e before (DefaultText words) other holds = absurd (true≢false other)
-holds-item held e before (IncludeText word) other holds = record { edges = holds.edges; none_open = holds.none_open; blocks = holds.blocks; block_names = holds.block_names; details = holds.details; assigned = holds.assigned; defaults = holds.defaults; dyndeps = holds.dyndeps; references = holds.references }
-holds-item held e before (SubninjaText word) other holds = record { edges = holds.edges; none_open = holds.none_open; blocks = holds.blocks; block_names = holds.block_names; details = holds.details; assigned = holds.assigned; defaults = holds.defaults; dyndeps = holds.dyndeps; references = holds.references }
+has-item held e before (BindingText bound word) other has = record { edges = has.edges; none_open = has.none_open; blocks = has.blocks; block_names = has.block_names; details = has.details; assigned = has.assigned; defaults = has.defaults; dyndeps = has.dyndeps; references = has.references }
+has-item held e before (RuleText declared lines) other has =
+    record { edges = has.edges; none_open = has.none_open; blocks = has.blocks; block_names = has.block_names; details = has.details; assigned = has.assigned; defaults = has.defaults; dyndeps = has.dyndeps; references = references-longer held.references (rules_read before) (record { scope = e.number; name = declared.name; lines = map line_kept lines } ∷ []) has.references }
+has-item held e before (PoolText declared lines) other has = record { edges = has.edges; none_open = has.none_open; blocks = has.blocks; block_names = has.block_names; details = has.details; assigned = has.assigned; defaults = has.defaults; dyndeps = has.dyndeps; references = has.references }
+has-item held e before (BuildText outputs rule inputs lines) other has = absurd (true≢false other)
+has-item held e before (DefaultText words) other has = absurd (true≢false other)
+has-item held e before (IncludeText word) other has = record { edges = has.edges; none_open = has.none_open; blocks = has.blocks; block_names = has.block_names; details = has.details; assigned = has.assigned; defaults = has.defaults; dyndeps = has.dyndeps; references = has.references }
+has-item held e before (SubninjaText word) other has = record { edges = has.edges; none_open = has.none_open; blocks = has.blocks; block_names = has.block_names; details = has.details; assigned = has.assigned; defaults = has.defaults; dyndeps = has.dyndeps; references = has.references }
 
 -- What is held is held still after a statement that names no files.
-pub holds-other : (held : BuildingText) (e : ReadStatement) (before : List ReadStatement) → names_files e.item ≡ false → HoldsEdges held before → HoldsEdges held (e ∷ before)
-holds-other held e before other holds = holds-item held e before e.item other holds
+pub kept-other : (held : BuildingText) (e : ReadStatement) (before : List ReadStatement) → names_files e.item ≡ false → HasEdges held before → HasEdges held (e ∷ before)
+kept-other held e before other has = has-item held e before e.item other has

@@ -21,17 +21,17 @@ use Rattle.nj_faults.specs.declared.fault.Cause.TheVariants.{DyndepExtra, Dyndep
 use Rattle.nj_faults.specs.Faults.{IsFault, fault_at}
 use Rattle.nj_statements.specs.declared.detail.Detail.{Detail}
 use Rattle.nj_statements.specs.declared.building.DyndepEdge.{DyndepEdge}
-use Rattle.nj_statements.specs.EdgeList.{Pending, EdgeText, path_said, edges_read, paths_of_edges, pending_read}
+use Rattle.nj_statements.specs.EdgeList.{Pending, EdgeText, path_given, edges_read, paths_of_edges, pending_read}
 use Rattle.nj_statements.specs.BuildFaults.{fault_if, empty_path, first_fault, outputs_fault}
 use Rattle.nj_statements.specs.Built.{EdgeDetail, detail_at, detail_of}
 use Rattle.nj_statements.specs.Inside.BuiltHeld.{detail_named, pending_named}
-use Rattle.nj_statements.specs.Joining.{no_values, discover, discovered_by, discover_for, edge_meant, with_entry, waits_for, meaning_fault, entry_fault, no_statement, lacking_fault}
-use Rattle.nj_statements.specs.JoiningHeld.{unless_joined, still_waiting, pending_from, waiting_from, KeepsEdges, JoiningText, HoldsJoined, JoinsEntry, JoinsNothing}
-use Rattle.nj_statements.specs.Inside.JoiningSteps.{is_bound_to, count_waiting, fault_of_waiting, file_named, if_bound, maker_fault, edge_bound, IsMeant, joining_of, JoiningIsHeld}
+use Rattle.nj_statements.specs.Joining.{no_values, discover, discovered_by, discover_for, edge_meant, with_entry, pending_on, meaning_fault, entry_fault, no_statement, lacking_fault}
+use Rattle.nj_statements.specs.JoiningHeld.{unless_joined, still_pending, pending_from, left_pending_from, KeepsEdges, JoiningText, HasJoined, JoinsEntry, JoinsNothing}
+use Rattle.nj_statements.specs.Inside.JoiningSteps.{is_bound_to, count_pending, fault_of_pending, file_named, if_bound, maker_fault, edge_bound, IsMeant, joining_of, JoiningIsHeld}
 use Rattle.nj_statements.proofs.Lists.{get-longer}
-use Rattle.nj_statements.proofs.WaitingLemmas.{is_path, find-first, find-none, none-first, first-passes, still-at, still-length, still-map, still-changed, waits-at, without-one, count-removed, count-less}
+use Rattle.nj_statements.proofs.PendingLemmas.{is_path, find-first, find-none, none-first, first-passes, still-at, still-length, still-map, still-changed, unjoined-at, without-one, count-removed, count-less}
 use Rattle.nj_statements.proofs.DiscoverLemmas.{defaults_read-discover}
-use Rattle.nj_statements.proofs.DiscoverEdges.{details-discover, assigned-discover, block_at-discover, block_names_at-discover, pending-discover, paths-discover, is_pending-from_waits}
+use Rattle.nj_statements.proofs.DiscoverEdges.{details-discover, assigned-discover, block_at-discover, block_names_at-discover, pending-discover, paths-discover, is_pending-from_pending}
 
 -- ---- answers
 
@@ -60,7 +60,7 @@ known-weaker count more [] rises known = tt
 known-weaker count more (None ∷ bound) rises (here, known) = (tt, known-weaker count more bound rises known)
 known-weaker count more (Some f ∷ bound) rises (here, known) = (omega (arith, here, rises), known-weaker count more bound rises known)
 
-pub known-still : (count : ℕ) (bound : List (Option FileNo)) (was : List Bool) → AreKnown count bound → AreKnown count (still_waiting bound was)
+pub known-still : (count : ℕ) (bound : List (Option FileNo)) (was : List Bool) → AreKnown count bound → AreKnown count (still_pending bound was)
 known-still count [] was known = tt
 known-still count (b ∷ bound) [] known = known
 known-still count (b ∷ bound) (true ∷ was) (here, known) = (tt, known-still count bound was known)
@@ -168,14 +168,14 @@ meant-binds bound file edge (Some m) h = by (is_bound_to (get_or bound m None) f
 
 -- ---- what is held
 
-module _ (table : JoinTable) (blocks : BlocksText) (names : List (List ℕ)) (details : List Detail) (defaults : List FileNo) (firsts : List DyndepEdge) (bound : List (Option FileNo)) (waiting : List ℕ)
-    (held : JoiningIsHeld table names details defaults firsts bound waiting) where
+module _ (table : JoinTable) (blocks : BlocksText) (names : List (List ℕ)) (details : List Detail) (defaults : List FileNo) (firsts : List DyndepEdge) (bound : List (Option FileNo)) (unjoined : List ℕ)
+    (held : JoiningIsHeld table names details defaults firsts bound unjoined) where
   pub bound-files : AreKnown (length table.files) bound
-  bound-files = known-weaker (length waiting) (length table.files) bound held.waiting_known held.bound_known
+  bound-files = known-weaker (length unjoined) (length table.files) bound held.pending_known held.bound_known
 
-  pub waiting-known : (file : FileNo) (edge : ℕ) → first_edge (λ w. is_bound_to w file) (still_waiting bound table.was_joined) ≡ Some edge → edge < length table.stated
-  waiting-known file edge first =
-      let h = (first-passes (λ (w : Option FileNo). is_bound_to w file) (still_waiting bound table.was_joined) edge None first).0 in
+  pub unjoined-known : (file : FileNo) (edge : ℕ) → first_edge (λ w. is_bound_to w file) (still_pending bound table.was_joined) ≡ Some edge → edge < length table.stated
+  unjoined-known file edge first =
+      let h = (first-passes (λ (w : Option FileNo). is_bound_to w file) (still_pending bound table.was_joined) edge None first).0 in
       let a = still-length bound table.was_joined in
       let b = held.as_many_bound in
       omega (arith, h, a, b)
@@ -183,10 +183,10 @@ module _ (table : JoinTable) (blocks : BlocksText) (names : List (List ℕ)) (de
   -- ---- without an edge more
 
   module _ (after : JoinTable) (keeps : KeepsEdges table after) where
-    pub still-held : JoiningIsHeld after names details defaults firsts bound waiting
+    pub still-held : JoiningIsHeld after names details defaults firsts bound unjoined
     still-held =
         let rises = longer table.files after.files keeps.files in
-        let known = held.waiting_known in
+        let known = held.pending_known in
         record {
           each_path_once = keeps.each_path_once held.each_path_once;
           as_many_joined = ap length keeps.joined ∙ held.as_many_joined ∙ sym (ap length keeps.stated);
@@ -200,8 +200,8 @@ module _ (table : JoinTable) (blocks : BlocksText) (names : List (List ℕ)) (de
           dyndep_files_known = all-below (λ (d : DyndepEdge). d.file.0) (length table.files) (length after.files) rises firsts held.dyndep_files_known;
           dyndep_edges_known = subst (λ (es : List EdgePaths). AllByRecursion (λ (d : DyndepEdge). d.edge < length es) firsts) (sym keeps.stated) held.dyndep_edges_known;
           bound_known = held.bound_known;
-          waiting_known = omega (arith, rises, known);
-          enough_wait = λ file. subst (λ was. count_waiting file (still_waiting bound was) ≤ get_or waiting file.0 0) (sym keeps.was_joined) (held.enough_wait file);
+          pending_known = omega (arith, rises, known);
+          enough_pending = λ file. subst (λ was. count_pending file (still_pending bound was) ≤ get_or unjoined file.0 0) (sym keeps.was_joined) (held.enough_pending file);
         }
 
     pub same-defaults : paths_at after.files defaults ≡ paths_at table.files defaults
@@ -222,33 +222,33 @@ module _ (table : JoinTable) (blocks : BlocksText) (names : List (List ℕ)) (de
   -- ---- with one
 
   module _ (edge : ℕ) (file : FileNo) (below : edge < length table.stated) (first : is_joined table edge ≡ false) (binds : is_bound_to (get_or bound edge None) file ≡ true) where
-    waits : is_bound_to (get_or (still_waiting bound table.was_joined) edge None) file ≡ true
-    waits = ap (λ b. is_bound_to b file) (still-at bound table.was_joined edge ∙ ap (unless_joined (get_or bound edge None)) first) ∙ binds
+    pends : is_bound_to (get_or (still_pending bound table.was_joined) edge None) file ≡ true
+    pends = ap (λ b. is_bound_to b file) (still-at bound table.was_joined edge ∙ ap (unless_joined (get_or bound edge None)) first) ∙ binds
 
     inside : edge < length table.was_joined
     inside = subst (λ n. edge < n) (sym held.as_many_was) below
 
-    left : still_waiting bound (with_joined table edge).was_joined ≡ changed_at (λ w. None) edge (still_waiting bound table.was_joined)
+    left : still_pending bound (with_joined table edge).was_joined ≡ changed_at (λ w. None) edge (still_pending bound table.was_joined)
     left = still-changed bound table.was_joined edge inside
 
-    pub waiting-inside : file.0 < length waiting
-    waiting-inside = by (get_or bound edge None) binds (known-at (length waiting) bound held.bound_known edge)
+    pub unjoined-inside : file.0 < length unjoined
+    unjoined-inside = by (get_or bound edge None) binds (known-at (length unjoined) bound held.bound_known edge)
       where
-        by : (b : Option FileNo) → is_bound_to b file ≡ true → IfSome b (λ f. f.0 < length waiting) → file.0 < length waiting
+        by : (b : Option FileNo) → is_bound_to b file ≡ true → IfSome b (λ f. f.0 < length unjoined) → file.0 < length unjoined
         by None h known = absurd (true≢false (sym h))
         by (Some f) h known = same (eqb_tells f.0 file.0) known
           where
-            same : ((f.0 == file.0) ≡ true × (f.0 ≡ file.0)) ⊎ ((f.0 == file.0) ≡ false × (f.0 ≢ file.0)) → f.0 < length waiting → file.0 < length waiting
-            same (inl (is, e)) known = subst (λ n. n < length waiting) e known
+            same : ((f.0 == file.0) ≡ true × (f.0 ≡ file.0)) ⊎ ((f.0 == file.0) ≡ false × (f.0 ≢ file.0)) → f.0 < length unjoined → file.0 < length unjoined
+            same (inl (is, e)) known = subst (λ n. n < length unjoined) e known
             same (inr (is, apart)) known = absurd (true≢false (sym h ∙ is))
 
-    pub waiting-some : 0 < get_or waiting file.0 0
-    waiting-some =
-        let enough = held.enough_wait file in
-        let one = count-removed file (still_waiting bound table.was_joined) edge waits in
+    pub unjoined-some : 0 < get_or unjoined file.0 0
+    unjoined-some =
+        let enough = held.enough_pending file in
+        let one = count-removed file (still_pending bound table.was_joined) edge pends in
         omega (arith, enough, one)
 
-    pub joined-held : (count : ℕ) → count ≡ get_or waiting file.0 0 → JoiningIsHeld (with_joined table edge) names details defaults firsts bound (set waiting file.0 (count - 1))
+    pub joined-held : (count : ℕ) → count ≡ get_or unjoined file.0 0 → JoiningIsHeld (with_joined table edge) names details defaults firsts bound (set unjoined file.0 (count - 1))
     joined-held count is = record {
       each_path_once = held.each_path_once;
       as_many_joined = length-changed (with_added table.«open») edge table.joined ∙ held.as_many_joined;
@@ -263,74 +263,74 @@ module _ (table : JoinTable) (blocks : BlocksText) (names : List (List ℕ)) (de
       defaults_known = held.defaults_known;
       dyndep_files_known = held.dyndep_files_known;
       dyndep_edges_known = held.dyndep_edges_known;
-      bound_known = subst (λ n. AreKnown n bound) (sym (length-set waiting file.0 (count - 1))) held.bound_known;
-      waiting_known = subst (λ n. n ≤ length table.files) (sym (length-set waiting file.0 (count - 1))) held.waiting_known;
-      enough_wait = λ other. subst (λ ws. count_waiting other ws ≤ get_or (set waiting file.0 (count - 1)) other.0 0) (sym left) (enough other (eqb_tells file.0 other.0));
+      bound_known = subst (λ n. AreKnown n bound) (sym (length-set unjoined file.0 (count - 1))) held.bound_known;
+      pending_known = subst (λ n. n ≤ length table.files) (sym (length-set unjoined file.0 (count - 1))) held.pending_known;
+      enough_pending = λ other. subst (λ ws. count_pending other ws ≤ get_or (set unjoined file.0 (count - 1)) other.0 0) (sym left) (enough other (eqb_tells file.0 other.0));
     }
       where
         ws : List (Option FileNo)
-        ws = still_waiting bound table.was_joined
+        ws = still_pending bound table.was_joined
 
         enough : (other : FileNo) → ((file.0 == other.0) ≡ true × (file.0 ≡ other.0)) ⊎ ((file.0 == other.0) ≡ false × (file.0 ≢ other.0))
-            → count_waiting other (changed_at (λ w. None) edge ws) ≤ get_or (set waiting file.0 (count - 1)) other.0 0
+            → count_pending other (changed_at (λ w. None) edge ws) ≤ get_or (set unjoined file.0 (count - 1)) other.0 0
         enough other (inl (same, e)) =
-            let now : get_or (set waiting file.0 (count - 1)) other.0 0 ≡ count - 1 = ap (λ n. get_or (set waiting file.0 (count - 1)) n 0) (sym e) ∙ get_or-set_same waiting file.0 (count - 1) 0 waiting-inside in
-            let one = count-removed other ws edge (same-bound-to (get_or ws edge None) e waits) in
-            let most = held.enough_wait other in
-            let was : count ≡ get_or waiting other.0 0 = is ∙ ap (λ n. get_or waiting n 0) e in
+            let now : get_or (set unjoined file.0 (count - 1)) other.0 0 ≡ count - 1 = ap (λ n. get_or (set unjoined file.0 (count - 1)) n 0) (sym e) ∙ get_or-set_same unjoined file.0 (count - 1) 0 unjoined-inside in
+            let one = count-removed other ws edge (same-bound-to (get_or ws edge None) e pends) in
+            let most = held.enough_pending other in
+            let was : count ≡ get_or unjoined other.0 0 = is ∙ ap (λ n. get_or unjoined n 0) e in
             omega (arith, now, one, most, was)
           where
             same-bound-to : (b : Option FileNo) → file.0 ≡ other.0 → is_bound_to b file ≡ true → is_bound_to b other ≡ true
             same-bound-to None e h = h
             same-bound-to (Some f) e h = ap (λ n. f.0 == n) (sym e) ∙ h
         enough other (inr (differ, apart)) =
-            let now = get_or-set_other waiting file.0 other.0 (count - 1) 0 (λ e. apart (sym e)) in
+            let now = get_or-set_other unjoined file.0 other.0 (count - 1) 0 (λ e. apart (sym e)) in
             let less = count-less other ws edge in
-            let most = held.enough_wait other in
+            let most = held.enough_pending other in
             omega (arith, now, less, most)
 
   -- ---- by the statements
 
-  module _ (stated joined : List ReadStatement) (holds : HoldsJoined (joining_of table blocks names details defaults firsts bound) stated joined) where
+  module _ (stated joined : List ReadStatement) (has : HasJoined (joining_of table blocks names details defaults firsts bound) stated joined) where
     module _ (file : FileNo) (name : List ℕ) (here : slice_get table.files file.0 ≡ Some name) where
-      pub bound-waits : (edge : ℕ) → waits_for name (pending_read stated) (Some edge) ≡ is_bound_to (get_or bound edge None) file
-      bound-waits edge =
-          ap (λ ps. waits_for name ps (Some edge)) holds.bound
-          ∙ waits-at name 0 (map (file_named table.files) bound) edge edge (let e : edge ≡ 0 + edge = omega arith in e)
+      pub bound-pends : (edge : ℕ) → pending_on name (pending_read stated) (Some edge) ≡ is_bound_to (get_or bound edge None) file
+      bound-pends edge =
+          ap (λ ps. pending_on name ps (Some edge)) has.bound
+          ∙ unjoined-at name 0 (map (file_named table.files) bound) edge edge (let e : edge ≡ 0 + edge = omega arith in e)
           ∙ ap (λ o. is_path o name) (get-named table.files bound edge)
           ∙ path-bound table.files held.each_path_once (get_or bound edge None) file name here (known-at (length table.files) bound bound-files edge)
 
-      pub still-waits : (edge : ℕ) → waits_for name (pending_read joined) (Some edge) ≡ is_bound_to (unless_joined (get_or bound edge None) (is_joined table edge)) file
-      still-waits edge =
-          let ws = still_waiting bound table.was_joined in
-          ap (λ ps. waits_for name ps (Some edge)) (holds.waiting ∙ ap (pending_from 0) (sym (still-map (path_at table.files) bound table.was_joined)))
-          ∙ waits-at name 0 (map (file_named table.files) ws) edge edge (let e : edge ≡ 0 + edge = omega arith in e)
+      pub still-pends : (edge : ℕ) → pending_on name (pending_read joined) (Some edge) ≡ is_bound_to (unless_joined (get_or bound edge None) (is_joined table edge)) file
+      still-pends edge =
+          let ws = still_pending bound table.was_joined in
+          ap (λ ps. pending_on name ps (Some edge)) (has.unjoined ∙ ap (pending_from 0) (sym (still-map (path_at table.files) bound table.was_joined)))
+          ∙ unjoined-at name 0 (map (file_named table.files) ws) edge edge (let e : edge ≡ 0 + edge = omega arith in e)
           ∙ ap (λ o. is_path o name) (get-named table.files ws edge)
           ∙ path-bound table.files held.each_path_once (get_or ws edge None) file name here (known-at (length table.files) ws (known-still (length table.files) bound table.was_joined bound-files) edge)
           ∙ ap (λ b. is_bound_to b file) (still-at bound table.was_joined edge)
 
       -- the first edge that waits for a file
-      pub first-lacking : find (λ p. bytes_eq p.file name) (pending_read joined) ≡ find (λ p. bytes_eq p.file name) (pending_from 0 (map (file_named table.files) (still_waiting bound table.was_joined)))
-      first-lacking = ap (find (λ (p : Pending). bytes_eq p.file name)) (holds.waiting ∙ ap (pending_from 0) (sym (still-map (path_at table.files) bound table.was_joined)))
+      pub first-lacking : find (λ p. bytes_eq p.file name) (pending_read joined) ≡ find (λ p. bytes_eq p.file name) (pending_from 0 (map (file_named table.files) (still_pending bound table.was_joined)))
+      first-lacking = ap (find (λ (p : Pending). bytes_eq p.file name)) (has.unjoined ∙ ap (pending_from 0) (sym (still-map (path_at table.files) bound table.was_joined)))
 
-      pub first-waiting : first_edge (λ w. is_path w name) (map (file_named table.files) (still_waiting bound table.was_joined)) ≡ first_edge (λ w. is_bound_to w file) (still_waiting bound table.was_joined)
-      first-waiting = first-path table.files held.each_path_once (still_waiting bound table.was_joined) file name here (known-still (length table.files) bound table.was_joined bound-files)
+      pub first-unjoined : first_edge (λ w. is_path w name) (map (file_named table.files) (still_pending bound table.was_joined)) ≡ first_edge (λ w. is_bound_to w file) (still_pending bound table.was_joined)
+      first-unjoined = first-path table.files held.each_path_once (still_pending bound table.was_joined) file name here (known-still (length table.files) bound table.was_joined bound-files)
 
-      pub none-lacks : first_edge (λ w. is_bound_to w file) (still_waiting bound table.was_joined) ≡ None → lacking_fault name joined ≡ None
+      pub none-lacks : first_edge (λ w. is_bound_to w file) (still_pending bound table.was_joined) ≡ None → lacking_fault name joined ≡ None
       none-lacks none =
           ap (λ o. option_and_then (λ (p : Pending). option_map (no_statement name) (slice_get (edges_read joined) p.edge)) o)
-          (first-lacking ∙ find-none name 0 (map (file_named table.files) (still_waiting bound table.was_joined)) (first-waiting ∙ none))
+          (first-lacking ∙ find-none name 0 (map (file_named table.files) (still_pending bound table.was_joined)) (first-unjoined ∙ none))
 
-      pub zero-lacks : get_or waiting file.0 0 ≡ 0 → lacking_fault name joined ≡ None
+      pub zero-lacks : get_or unjoined file.0 0 ≡ 0 → lacking_fault name joined ≡ None
       zero-lacks zero_is =
-          let enough = held.enough_wait file in
-          none-lacks (none-first file (still_waiting bound table.was_joined) (let e : count_waiting file (still_waiting bound table.was_joined) ≡ 0 = omega (arith, enough, zero_is) in e))
+          let enough = held.enough_pending file in
+          none-lacks (none-first file (still_pending bound table.was_joined) (let e : count_pending file (still_pending bound table.was_joined) ≡ 0 = omega (arith, enough, zero_is) in e))
 
-      pub one-lacks : (edge : ℕ) → first_edge (λ w. is_bound_to w file) (still_waiting bound table.was_joined) ≡ Some edge
-          → lacking_fault name joined ≡ Some (fault_of_waiting name (detail_at (map (detail_named names) details) edge) (edge_at table.stated edge))
+      pub one-lacks : (edge : ℕ) → first_edge (λ w. is_bound_to w file) (still_pending bound table.was_joined) ≡ Some edge
+          → lacking_fault name joined ≡ Some (fault_of_pending name (detail_at (map (detail_named names) details) edge) (edge_at table.stated edge))
       one-lacks edge first =
           ap (λ o. option_and_then (λ (p : Pending). option_map (no_statement name) (slice_get (edges_read joined) p.edge)) o)
-          (first-lacking ∙ find-first name 0 (map (file_named table.files) ws) edge edge path (let e : edge ≡ 0 + edge = omega arith in e) (first-waiting ∙ first) (get-named table.files ws edge ∙ path-is))
+          (first-lacking ∙ find-first name 0 (map (file_named table.files) ws) edge edge path (let e : edge ≡ 0 + edge = omega arith in e) (first-unjoined ∙ first) (get-named table.files ws edge ∙ path-is))
           ∙ ap (option_map (no_statement name)) there.1
           ∙ ap Some (
           ap (λ (d : EdgeDetail). fault_at d.file d.spot (DyndepNoStatement (unwrap_or (slice_get (outputs_of there.0.paths) 0) []) name)) (sym detail-is)
@@ -338,7 +338,7 @@ module _ (table : JoinTable) (blocks : BlocksText) (names : List (List ℕ)) (de
           )
         where
           ws : List (Option FileNo)
-          ws = still_waiting bound table.was_joined
+          ws = still_pending bound table.was_joined
 
           passes : (edge < length ws) × (is_bound_to (get_or ws edge None) file ≡ true)
           passes = first-passes (λ (w : Option FileNo). is_bound_to w file) ws edge None first
@@ -367,7 +367,7 @@ module _ (table : JoinTable) (blocks : BlocksText) (names : List (List ℕ)) (de
           path-is = ap (file_named table.files) bound-file.1
 
           edges-count : length table.stated ≡ length (edges_read joined)
-          edges-count = sym held.as_many_joined ∙ ap length holds.joined_paths ∙ length-map (edges_read joined) (λ (e : EdgeText). e.paths)
+          edges-count = sym held.as_many_joined ∙ ap length has.joined_paths ∙ length-map (edges_read joined) (λ (e : EdgeText). e.paths)
 
           get-some : (es : List EdgeText) (n : ℕ) → n < length es → (e : EdgeText) × (slice_get es n ≡ Some e)
           get-some [] n h = absurd (omega (arith, h))
@@ -379,23 +379,23 @@ module _ (table : JoinTable) (blocks : BlocksText) (names : List (List ℕ)) (de
 
           detail-is : detail_at (map (detail_named names) details) edge ≡ detail_of there.0
           detail-is =
-              ap (λ ds. detail_at ds edge) holds.details
+              ap (λ ds. detail_at ds edge) has.details
               ∙ get_or_from_slice_get (map detail_of (edges_read joined)) edge (detail_of there.0) (record { file = []; spot = record { line = 0; column = 0 }; scope = 0; rule = 0 })
               (slice_get-map detail_of (edges_read joined) edge ∙ ap (option_map detail_of) there.1)
 
           paths-are : edge_at table.stated edge ≡ there.0.paths
           paths-are =
               get_or_from_slice_get table.stated edge there.0.paths (record { explicit_outputs = []; implicit_outputs = []; explicit_inputs = []; implicit_inputs = []; order_only_inputs = []; validations = []; is_phony = false })
-              (sym (held.unchanged edge not-joined) ∙ ap (λ (es : List EdgePaths). slice_get es edge) holds.joined_paths ∙ slice_get-map (λ (e : EdgeText). e.paths) (edges_read joined) edge ∙ ap (option_map (λ (e : EdgeText). e.paths)) there.1)
+              (sym (held.unchanged edge not-joined) ∙ ap (λ (es : List EdgePaths). slice_get es edge) has.joined_paths ∙ slice_get-map (λ (e : EdgeText). e.paths) (edges_read joined) edge ∙ ap (option_map (λ (e : EdgeText). e.paths)) there.1)
 
       -- which statement an entry means
       pub meaning-held : (entry : EntryText) → maker_fault name entry.out table (edge_bound table bound file entry.out) ≡ meaning_fault name stated joined entry
       meaning-held entry =
           by (maker_of table.stated path)
-          ∙ ap (λ (es : List EdgePaths). option_or (fault_if (not (waits_for name (pending_read stated) (maker_of es path))) extra) (fault_if (not (waits_for name (pending_read joined) (maker_of es path))) twice)) holds.stated_paths
+          ∙ ap (λ (es : List EdgePaths). option_or (fault_if (not (pending_on name (pending_read stated) (maker_of es path))) extra) (fault_if (not (pending_on name (pending_read joined) (maker_of es path))) twice)) has.stated_paths
         where
           path : List ℕ
-          path = path_said no_values entry.out
+          path = path_given no_values entry.out
 
           extra : GraphFault
           extra = fault_at name entry.out.spot (DyndepExtra path)
@@ -419,12 +419,12 @@ module _ (table : JoinTable) (blocks : BlocksText) (names : List (List ℕ)) (de
 
           by : (maker : Option ℕ)
               → maker_fault name entry.out table (if_bound bound file maker)
-              ≡ option_or (fault_if (not (waits_for name (pending_read stated) maker)) extra) (fault_if (not (waits_for name (pending_read joined) maker)) twice)
+              ≡ option_or (fault_if (not (pending_on name (pending_read stated) maker)) extra) (fault_if (not (pending_on name (pending_read joined) maker)) twice)
           by None = refl
           by (Some edge) =
               step edge (is_bound_to (get_or bound edge None) file) refl
-              ∙ ap (λ b. option_or (fault_if (not b) extra) (fault_if (not (is_bound_to (unless_joined (get_or bound edge None) (is_joined table edge)) file)) twice)) (sym (bound-waits edge))
-              ∙ ap (λ b. option_or (fault_if (not (waits_for name (pending_read stated) (Some edge))) extra) (fault_if (not b) twice)) (sym (still-waits edge))
+              ∙ ap (λ b. option_or (fault_if (not b) extra) (fault_if (not (is_bound_to (unless_joined (get_or bound edge None) (is_joined table edge)) file)) twice)) (sym (bound-pends edge))
+              ∙ ap (λ b. option_or (fault_if (not (pending_on name (pending_read stated) (Some edge))) extra) (fault_if (not b) twice)) (sym (still-pends edge))
 
       -- what is wrong with an entry
       pub fault-is : (entry : EntryText)
@@ -433,8 +433,8 @@ module _ (table : JoinTable) (blocks : BlocksText) (names : List (List ℕ)) (de
           (option_or (outputs_fault name no_values table.joined table.«open».outputs entry.outs) (first_fault (empty_path name no_values) entry.ins))
       fault-is entry =
           ap (λ o. option_or (empty_path name no_values entry.out) (option_or o (option_or (outputs_fault name no_values (paths_of_edges (edges_read joined)) [] entry.outs) inputs))) (sym (meaning-held entry))
-          ∙ ap (λ (es : List EdgePaths). option_or (empty_path name no_values entry.out) (option_or meaning (option_or (outputs_fault name no_values es [] entry.outs) inputs))) (sym holds.joined_paths)
-          ∙ ap (λ (added : AddedFiles). option_or (empty_path name no_values entry.out) (option_or meaning (option_or (outputs_fault name no_values table.joined added.outputs entry.outs) inputs))) (sym holds.none_open)
+          ∙ ap (λ (es : List EdgePaths). option_or (empty_path name no_values entry.out) (option_or meaning (option_or (outputs_fault name no_values es [] entry.outs) inputs))) (sym has.joined_paths)
+          ∙ ap (λ (added : AddedFiles). option_or (empty_path name no_values entry.out) (option_or meaning (option_or (outputs_fault name no_values table.joined added.outputs entry.outs) inputs))) (sym has.none_open)
           ∙ sym (or_then-assoc (empty_path name no_values entry.out) meaning (option_or (outputs_fault name no_values table.joined table.«open».outputs entry.outs) inputs))
         where
           meaning : Option GraphFault
@@ -448,24 +448,24 @@ module _ (table : JoinTable) (blocks : BlocksText) (names : List (List ℕ)) (de
           or_then-assoc None b d = refl
 
       -- the statements with what an entry adds
-      pub joined-holds : (entry : EntryText) (edge : ℕ) → IsMeant table bound file entry.out edge → (after last : JoinTable) → KeepsEdges table after
+      pub joined-has : (entry : EntryText) (edge : ℕ) → IsMeant table bound file entry.out edge → (after last : JoinTable) → KeepsEdges table after
           → after.«open» ≡ record { outputs = (discovered_by entry).outputs; inputs = (discovered_by entry).inputs } → last ≡ with_joined after edge
-          → HoldsJoined (joining_of last blocks names details defaults firsts bound) stated (with_entry stated joined entry)
-      joined-holds entry edge meant after last keeps opens is =
-          subst (λ (t : JoinTable). HoldsJoined (joining_of t blocks names details defaults firsts bound) stated (with_entry stated joined entry)) (sym is)
-          (subst (λ es. HoldsJoined (joining_of (with_joined after edge) blocks names details defaults firsts bound) stated es) (sym (ap (λ m. discover_for m found joined) means)) holds-after)
+          → HasJoined (joining_of last blocks names details defaults firsts bound) stated (with_entry stated joined entry)
+      joined-has entry edge meant after last keeps opens is =
+          subst (λ (t : JoinTable). HasJoined (joining_of t blocks names details defaults firsts bound) stated (with_entry stated joined entry)) (sym is)
+          (subst (λ es. HasJoined (joining_of (with_joined after edge) blocks names details defaults firsts bound) stated es) (sym (ap (λ m. discover_for m found joined) means)) has-after)
         where
           found : Discovered
           found = discovered_by entry
 
-          of : (maker_of table.stated (path_said no_values entry.out) ≡ Some edge) × (is_bound_to (get_or bound edge None) file ≡ true)
-          of = meant-binds bound file edge (maker_of table.stated (path_said no_values entry.out)) meant.is
+          of : (maker_of table.stated (path_given no_values entry.out) ≡ Some edge) × (is_bound_to (get_or bound edge None) file ≡ true)
+          of = meant-binds bound file edge (maker_of table.stated (path_given no_values entry.out)) meant.is
 
           means : edge_meant stated entry ≡ Some edge
-          means = ap (λ (es : List EdgePaths). maker_of es (path_said no_values entry.out)) (sym holds.stated_paths) ∙ of.0
+          means = ap (λ (es : List EdgePaths). maker_of es (path_given no_values entry.out)) (sym has.stated_paths) ∙ of.0
 
-          waited : waits_for name (pending_read joined) (Some edge) ≡ true
-          waited = still-waits edge ∙ ap (λ was. is_bound_to (unless_joined (get_or bound edge None) was) file) meant.first ∙ of.1
+          waited : pending_on name (pending_read joined) (Some edge) ≡ true
+          waited = still-pends edge ∙ ap (λ was. is_bound_to (unless_joined (get_or bound edge None) was) file) meant.first ∙ of.1
 
           inside : edge < length table.was_joined
           inside = subst (λ n. edge < n) (sym held.as_many_was) meant.known
@@ -473,59 +473,59 @@ module _ (table : JoinTable) (blocks : BlocksText) (names : List (List ℕ)) (de
           named : List (Option (List ℕ))
           named = map (file_named table.files) bound
 
-          waiting-after : pending_read (discover edge found joined) ≡ waiting_from 0 (map (file_named after.files) bound) (changed_at (λ was. true) edge after.was_joined)
-          waiting-after =
+          unjoined-after : pending_read (discover edge found joined) ≡ left_pending_from 0 (map (file_named after.files) bound) (changed_at (λ was. true) edge after.was_joined)
+          unjoined-after =
               pending-discover edge found joined
-              ∙ ap (filter (λ (p : Pending). not (p.edge == edge))) holds.waiting
-              ∙ without-one 0 (still_waiting named table.was_joined) edge edge (let e : edge ≡ 0 + edge = omega arith in e)
+              ∙ ap (filter (λ (p : Pending). not (p.edge == edge))) has.unjoined
+              ∙ without-one 0 (still_pending named table.was_joined) edge edge (let e : edge ≡ 0 + edge = omega arith in e)
               ∙ ap (pending_from 0) (sym (still-changed named table.was_joined edge inside))
-              ∙ ap (λ (bs : List (Option (List ℕ))). waiting_from 0 bs (changed_at (λ was. true) edge table.was_joined)) (sym (same-bound after keeps))
-              ∙ ap (λ was. waiting_from 0 (map (file_named after.files) bound) (changed_at (λ w. true) edge was)) (sym keeps.was_joined)
+              ∙ ap (λ (bs : List (Option (List ℕ))). left_pending_from 0 bs (changed_at (λ was. true) edge table.was_joined)) (sym (same-bound after keeps))
+              ∙ ap (λ was. left_pending_from 0 (map (file_named after.files) bound) (changed_at (λ w. true) edge was)) (sym keeps.was_joined)
 
-          holds-after : HoldsJoined (joining_of (with_joined after edge) blocks names details defaults firsts bound) stated (discover edge found joined)
-          holds-after = record {
-            stated_paths = keeps.stated ∙ holds.stated_paths;
+          has-after : HasJoined (joining_of (with_joined after edge) blocks names details defaults firsts bound) stated (discover edge found joined)
+          has-after = record {
+            stated_paths = keeps.stated ∙ has.stated_paths;
             joined_paths =
                 ap (λ added. changed_at (with_added added) edge after.joined) opens
-                ∙ ap (changed_at (with_added (record { outputs = found.outputs; inputs = found.inputs })) edge) (keeps.joined ∙ holds.joined_paths)
-                ∙ sym (paths-discover edge found joined (is_pending-from_waits name joined edge waited));
+                ∙ ap (changed_at (with_added (record { outputs = found.outputs; inputs = found.inputs })) edge) (keeps.joined ∙ has.joined_paths)
+                ∙ sym (paths-discover edge found joined (is_pending-from_pending name joined edge waited));
             none_open = refl;
-            stated_details = holds.stated_details;
-            details = holds.details ∙ sym (details-discover edge found joined);
-            blocks = λ number name. holds.blocks number name ∙ sym (block_at-discover edge found joined number name);
-            block_names = λ number. holds.block_names number ∙ sym (block_names_at-discover edge found joined number);
-            defaults = same-defaults after keeps ∙ holds.defaults ∙ sym (defaults_read-discover edge found joined);
-            dyndep_files = same-firsts after keeps ∙ holds.dyndep_files;
-            bound = holds.bound ∙ ap (pending_from 0) (sym (same-bound after keeps));
-            waiting = waiting-after;
-            assigned = holds.assigned ∙ sym (assigned-discover edge found joined);
+            stated_details = has.stated_details;
+            details = has.details ∙ sym (details-discover edge found joined);
+            blocks = λ number name. has.blocks number name ∙ sym (block_at-discover edge found joined number name);
+            block_names = λ number. has.block_names number ∙ sym (block_names_at-discover edge found joined number);
+            defaults = same-defaults after keeps ∙ has.defaults ∙ sym (defaults_read-discover edge found joined);
+            dyndep_files = same-firsts after keeps ∙ has.dyndep_files;
+            bound = has.bound ∙ ap (pending_from 0) (sym (same-bound after keeps));
+            unjoined = unjoined-after;
+            assigned = has.assigned ∙ sym (assigned-discover edge found joined);
           }
 
 -- what is held after an entry, whose files were collected
-module _ (table : JoinTable) (blocks : BlocksText) (names : List (List ℕ)) (details : List Detail) (defaults : List FileNo) (firsts : List DyndepEdge) (bound : List (Option FileNo)) (waiting : List ℕ)
-    (held : JoiningIsHeld table names details defaults firsts bound waiting) (file : FileNo) (word : WordText) (edge : ℕ) (meant : IsMeant table bound file word edge) where
+module _ (table : JoinTable) (blocks : BlocksText) (names : List (List ℕ)) (details : List Detail) (defaults : List FileNo) (firsts : List DyndepEdge) (bound : List (Option FileNo)) (unjoined : List ℕ)
+    (held : JoiningIsHeld table names details defaults firsts bound unjoined) (file : FileNo) (word : WordText) (edge : ℕ) (meant : IsMeant table bound file word edge) where
   binds : is_bound_to (get_or bound edge None) file ≡ true
-  binds = (meant-binds bound file edge (maker_of table.stated (path_said no_values word)) meant.is).1
+  binds = (meant-binds bound file edge (maker_of table.stated (path_given no_values word)) meant.is).1
 
-  pub entry-inside : file.0 < length waiting
-  entry-inside = waiting-inside table blocks names details defaults firsts bound waiting held edge file meant.known meant.first binds
+  pub entry-inside : file.0 < length unjoined
+  entry-inside = unjoined-inside table blocks names details defaults firsts bound unjoined held edge file meant.known meant.first binds
 
-  pub entry-waits : (count : ℕ) → count ≡ get_or waiting file.0 count → count ≡ get_or waiting file.0 0
-  entry-waits count is = get_or_read waiting file.0 count entry-inside is 0
+  pub entry-pends : (count : ℕ) → count ≡ get_or unjoined file.0 count → count ≡ get_or unjoined file.0 0
+  entry-pends count is = get_or_read unjoined file.0 count entry-inside is 0
 
-  pub entry-some : (count : ℕ) → count ≡ get_or waiting file.0 count → 1 ≤ count
+  pub entry-some : (count : ℕ) → count ≡ get_or unjoined file.0 count → 1 ≤ count
   entry-some count is =
-      let some = waiting-some table blocks names details defaults firsts bound waiting held edge file meant.known meant.first binds in
-      let same = entry-waits count is in
+      let some = unjoined-some table blocks names details defaults firsts bound unjoined held edge file meant.known meant.first binds in
+      let same = entry-pends count is in
       omega (arith, some, same)
 
-  pub entry-held : (after last : JoinTable) (count : ℕ) → KeepsEdges table after → last ≡ with_joined after edge → count ≡ get_or waiting file.0 count
-      → JoiningIsHeld last names details defaults firsts bound (set waiting file.0 (count - 1))
+  pub entry-held : (after last : JoinTable) (count : ℕ) → KeepsEdges table after → last ≡ with_joined after edge → count ≡ get_or unjoined file.0 count
+      → JoiningIsHeld last names details defaults firsts bound (set unjoined file.0 (count - 1))
   entry-held after last count keeps is now =
-      subst (λ (t : JoinTable). JoiningIsHeld t names details defaults firsts bound (set waiting file.0 (count - 1))) (sym is)
-      (joined-held after blocks names details defaults firsts bound waiting (still-held table blocks names details defaults firsts bound waiting held after keeps) edge file
-      (subst (λ (es : List EdgePaths). edge < length es) (sym keeps.stated) meant.known) (ap (λ was. get_or was edge false) keeps.was_joined ∙ meant.first) binds count (entry-waits count now))
+      subst (λ (t : JoinTable). JoiningIsHeld t names details defaults firsts bound (set unjoined file.0 (count - 1))) (sym is)
+      (joined-held after blocks names details defaults firsts bound unjoined (still-held table blocks names details defaults firsts bound unjoined held after keeps) edge file
+      (subst (λ (es : List EdgePaths). edge < length es) (sym keeps.stated) meant.known) (ap (λ was. get_or was edge false) keeps.was_joined ∙ meant.first) binds count (entry-pends count now))
 
   pub entry-keeps : (after last : JoinTable) → KeepsEdges table after → last ≡ with_joined after edge → map (pending_named last.files) firsts ≡ map (pending_named table.files) firsts
   entry-keeps after last keeps is =
-      ap (λ (t : JoinTable). map (pending_named t.files) firsts) is ∙ same-firsts table blocks names details defaults firsts bound waiting held after keeps
+      ap (λ (t : JoinTable). map (pending_named t.files) firsts) is ∙ same-firsts table blocks names details defaults firsts bound unjoined held after keeps

@@ -96,9 +96,9 @@ unfolding clean_path_of without_leftmost_pair edges_read bounds pending_read dis
 row-others = refl
 
 -- the edge does not wait any more
-pub row-waiting : pending_read joined ≡ pending 1 (codes "ee") ∷ pending 2 (codes "dd") ∷ []
+pub row-unjoined : pending_read joined ≡ pending 1 (codes "ee") ∷ pending 2 (codes "dd") ∷ []
 unfolding clean_path_of without_leftmost_pair edges_read bounds pending_read discover
-row-waiting = refl
+row-unjoined = refl
 
 -- `build ./m: dyndep`: an implicit output names the statement too, by its clean path
 pub row-implicit : wrong_with (entry (codes "./m") [] []) ≡ None

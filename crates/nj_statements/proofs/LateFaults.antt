@@ -9,63 +9,63 @@ use Rattle.nj_faults.specs.declared.fault.GraphFault.{GraphFault}
 use Rattle.nj_faults.specs.declared.fault.Cause.TheVariants.{UnknownPool, DyndepNotInput}
 use Rattle.nj_faults.specs.Faults.{IsFault, fault_at}
 use Rattle.nj_edges.specs.Edges.{is_among}
-use Rattle.nj_statements.specs.EdgeList.{name_said}
+use Rattle.nj_statements.specs.EdgeList.{name_given}
 use Rattle.nj_statements.specs.BuildFaults.{fault_if, unknown_pool, dyndep_not_input}
 
 -- ---- the pool
 
-nothing-said : (said : List ℕ) → (length said == 0) ≡ true → is_empty said ≡ true
-nothing-said [] h = refl
-nothing-said (x ∷ xs) h = absurd (true≢false (sym h ∙ ne_eqb (length (x ∷ xs)) 0 (λ is. omega (arith, is))))
+nothing-meant : (meant : List ℕ) → (length meant == 0) ≡ true → is_empty meant ≡ true
+nothing-meant [] h = refl
+nothing-meant (x ∷ xs) h = absurd (true≢false (sym h ∙ ne_eqb (length (x ∷ xs)) 0 (λ is. omega (arith, is))))
 
-something-said : (said : List ℕ) → (length said == 0) ≡ false → is_empty said ≡ false
-something-said [] h = absurd (true≢false h)
-something-said (x ∷ xs) h = refl
+something-meant : (meant : List ℕ) → (length meant == 0) ≡ false → is_empty meant ≡ false
+something-meant [] h = absurd (true≢false h)
+something-meant (x ∷ xs) h = refl
 
-module _ (file : List ℕ) (spot : Spot) (declared : List (List ℕ)) (said text : List ℕ) (says : said ≡ text) where
+module _ (file : List ℕ) (spot : Spot) (declared : List (List ℕ)) (meant text : List ℕ) (gives : meant ≡ text) where
   abbrev fault : GraphFault
-  fault = fault_at file spot (UnknownPool said)
+  fault = fault_at file spot (UnknownPool meant)
 
   or-true : (a : Bool) → (a || true) ≡ true
   or-true true = refl
   or-true false = refl
 
-  pub pool-empty : (length said == 0) ≡ true → unknown_pool file spot declared text ≡ None
-  pool-empty h = ap (unknown_pool file spot declared) (sym says) ∙ ap (λ b. fault_if (not (b || is_pool declared said)) fault) (nothing-said said h)
+  pub pool-empty : (length meant == 0) ≡ true → unknown_pool file spot declared text ≡ None
+  pool-empty h = ap (unknown_pool file spot declared) (sym gives) ∙ ap (λ b. fault_if (not (b || is_pool declared meant)) fault) (nothing-meant meant h)
 
-  pub pool-known : is_pool declared said ≡ true → unknown_pool file spot declared text ≡ None
-  pool-known h = ap (unknown_pool file spot declared) (sym says) ∙ ap (λ b. fault_if (not (is_empty said || b)) fault) h ∙ ap (λ b. fault_if (not b) fault) (or-true (is_empty said))
+  pub pool-known : is_pool declared meant ≡ true → unknown_pool file spot declared text ≡ None
+  pool-known h = ap (unknown_pool file spot declared) (sym gives) ∙ ap (λ b. fault_if (not (is_empty meant || b)) fault) h ∙ ap (λ b. fault_if (not b) fault) (or-true (is_empty meant))
 
-  pub pool-unknown : (f : GraphFault) → (length said == 0) ≡ false → is_pool declared said ≡ false → IsFault (Some fault) f → IsFault (unknown_pool file spot declared text) f
+  pub pool-unknown : (f : GraphFault) → (length meant == 0) ≡ false → is_pool declared meant ≡ false → IsFault (Some fault) f → IsFault (unknown_pool file spot declared text) f
   pool-unknown f some unknown h =
-      subst (λ o. IsFault o f) (sym (ap (unknown_pool file spot declared) (sym says) ∙ ap (λ b. fault_if (not (b || is_pool declared said)) fault) (something-said said some) ∙ ap (λ b. fault_if (not b) fault) unknown)) h
+      subst (λ o. IsFault o f) (sym (ap (unknown_pool file spot declared) (sym gives) ∙ ap (λ b. fault_if (not (b || is_pool declared meant)) fault) (something-meant meant some) ∙ ap (λ b. fault_if (not b) fault) unknown)) h
 
   -- no pool is named, or this one
-  pub name-empty : (length said == 0) ≡ true → name_said text ≡ None
-  name-empty h = ap name_said (sym says) ∙ ap (λ b. if b then None else Some said) (nothing-said said h)
+  pub name-empty : (length meant == 0) ≡ true → name_given text ≡ None
+  name-empty h = ap name_given (sym gives) ∙ ap (λ b. if b then None else Some meant) (nothing-meant meant h)
 
-  pub name-some : (length said == 0) ≡ false → name_said text ≡ Some said
-  name-some h = ap name_said (sym says) ∙ ap (λ b. if b then None else Some said) (something-said said h)
+  pub name-some : (length meant == 0) ≡ false → name_given text ≡ Some meant
+  name-some h = ap name_given (sym gives) ∙ ap (λ b. if b then None else Some meant) (something-meant meant h)
 
 -- ---- the dyndep file
 
-module _ (file : List ℕ) (spot : Spot) (inputs : List (List ℕ)) (said text : List ℕ) (says : said ≡ text) where
+module _ (file : List ℕ) (spot : Spot) (inputs : List (List ℕ)) (meant text : List ℕ) (gives : meant ≡ text) where
   abbrev path : List ℕ
-  path = clean_path_of said
+  path = clean_path_of meant
 
   abbrev no_input : (path : List ℕ) → GraphFault
   no_input path = fault_at file spot (DyndepNotInput path)
 
-  pub dyndep-empty : said ≡ [] → dyndep_not_input file spot inputs text ≡ None
-  dyndep-empty h = ap (dyndep_not_input file spot inputs) (sym says) ∙ ap (λ (l : List ℕ). fault_if (not (is_empty l || is_among inputs path)) (no_input path)) h
+  pub dyndep-empty : meant ≡ [] → dyndep_not_input file spot inputs text ≡ None
+  dyndep-empty h = ap (dyndep_not_input file spot inputs) (sym gives) ∙ ap (λ (l : List ℕ). fault_if (not (is_empty l || is_among inputs path)) (no_input path)) h
 
   or-true' : (a : Bool) → (a || true) ≡ true
   or-true' true = refl
   or-true' false = refl
 
   pub dyndep-input : is_among inputs path ≡ true → dyndep_not_input file spot inputs text ≡ None
-  dyndep-input h = ap (dyndep_not_input file spot inputs) (sym says) ∙ ap (λ b. fault_if (not (is_empty said || b)) (no_input path)) h ∙ ap (λ b. fault_if (not b) (no_input path)) (or-true' (is_empty said))
+  dyndep-input h = ap (dyndep_not_input file spot inputs) (sym gives) ∙ ap (λ b. fault_if (not (is_empty meant || b)) (no_input path)) h ∙ ap (λ b. fault_if (not b) (no_input path)) (or-true' (is_empty meant))
 
-  pub dyndep-other : (f : GraphFault) → is_empty said ≡ false → is_among inputs path ≡ false → IsFault (Some (no_input path)) f → IsFault (dyndep_not_input file spot inputs text) f
+  pub dyndep-other : (f : GraphFault) → is_empty meant ≡ false → is_among inputs path ≡ false → IsFault (Some (no_input path)) f → IsFault (dyndep_not_input file spot inputs text) f
   dyndep-other f some other h =
-      subst (λ o. IsFault o f) (sym (ap (dyndep_not_input file spot inputs) (sym says) ∙ ap (λ b. fault_if (not (b || is_among inputs path)) (no_input path)) some ∙ ap (λ b. fault_if (not b) (no_input path)) other)) h
+      subst (λ o. IsFault o f) (sym (ap (dyndep_not_input file spot inputs) (sym gives) ∙ ap (λ b. fault_if (not (b || is_among inputs path)) (no_input path)) some ∙ ap (λ b. fault_if (not b) (no_input path)) other)) h

@@ -11,7 +11,7 @@ use Rattle.nj_manifest.specs.Statements.{LineText, OutputsText, InputsText}
 use Rattle.nj_scope.specs.Rules.{RuleText, phony}
 use Rattle.nj_scope.specs.Scopes.{nearest, IsScope, parent_at}
 use Rattle.nj_scope.specs.Declarations.{DeclarationsText, DeclaredBy}
-use Rattle.nj_scope.specs.ReadingList.{ReadStatement, scope_of, value_after, rules, rule_in_force, rule_texts, pools}
+use Rattle.nj_scope.specs.ReadingList.{ReadStatement, scope_of, value_after, rules, rule_in_force, rules_read, pools}
 use Rattle.nj_scope.proofs.InForce.{in_force, phony-there}
 use Rattle.nj_edges.specs.declared.files.FileNo.{FileNo}
 use Rattle.nj_edges.specs.declared.edges.KindEnds.{KindEnds}
@@ -20,7 +20,7 @@ use Rattle.nj_edges.specs.EdgeTables.{OpenEdge, EndWithin, edge_read}
 use Rattle.nj_edges.specs.Files.{path_at, AreFiles}
 use Rattle.nj_edges.proofs.GraphLemmas.{kinds-joined}
 use Rattle.nj_edge_env.specs.declared.edge.LateEdge.{LateEdge}
-use Rattle.nj_edge_env.specs.LateTexts.{LateNames}
+use Rattle.nj_edge_env.specs.LateStrings.{LateNames}
 use Rattle.nj_edge_env.specs.LateEdges.{late_names}
 use Rattle.nj_statements.specs.EdgeList.{Block, Values, EdgeText, line_values, loses_own, without_own, edge_paths, stated_paths, build_block, edge_of_build, lines_of_rule, names_of_edge}
 use Rattle.nj_statements.specs.BuildFaults.{names_fault, late_fault}
@@ -42,11 +42,11 @@ some_same {x = x} h = ap (λ o. unwrap_or o x) h
 
 -- the rule in force under a name is `phony` where its number is 0
 pub is-phony : (entries : List ReadStatement) (scope name : List ℕ) (number : ℕ) (rule : RuleText)
-    → rule_in_force entries scope name ≡ Some number → slice_get (rule_texts entries) number ≡ Some rule → bytes_eq rule.name phony ≡ (number == 0)
+    → rule_in_force entries scope name ≡ Some number → slice_get (rules_read entries) number ≡ Some rule → bytes_eq rule.name phony ≡ (number == 0)
 is-phony entries scope name number rule is there =
     same_truth (bytes_eq rule.name phony) (number == 0)
     (λ h. (Decides-eqb number 0).1 (some_same (sym is ∙ ap (λ b. if b then Some 0 else nearest (λ s. rules entries s name) scope) ((bytes_eq-Decides name phony).1 (sym named ∙ (bytes_eq-Decides rule.name phony).0 h)))))
-    (λ h. (bytes_eq-Decides rule.name phony).1 (ap (λ (r : RuleText). r.name) (some_same (sym there ∙ ap (slice_get (rule_texts entries)) ((Decides-eqb number 0).0 h) ∙ phony-there entries))))
+    (λ h. (bytes_eq-Decides rule.name phony).1 (ap (λ (r : RuleText). r.name) (some_same (sym there ∙ ap (slice_get (rules_read entries)) ((Decides-eqb number 0).0 h) ∙ phony-there entries))))
   where
     named : rule.name ≡ name
     named = let (r, at, its, _) = in_force entries scope name number is in ap (λ (x : RuleText). x.name) (some_same (sym there ∙ at)) ∙ its
@@ -62,7 +62,7 @@ kept-phony s = by (loses_own s)
 -- ---- the names of the edge
 
 module _ (e : ReadStatement) (entries : List ReadStatement) (outputs : OutputsText) (rule : NameText) (inputs : InputsText) (lines : List LineText) (number : ℕ) (text : RuleText) (block : Block)
-    (is : rule_in_force entries (scope_of e) rule.name ≡ Some number) (there : slice_get (rule_texts entries) number ≡ Some text)
+    (is : rule_in_force entries (scope_of e) rule.name ≡ Some number) (there : slice_get (rules_read entries) number ≡ Some text)
     (block_is : (name : List ℕ) → block name ≡ build_block e entries lines name) where
   abbrev file : Values
   file = value_after entries (scope_of e)
@@ -76,7 +76,7 @@ module _ (e : ReadStatement) (entries : List ReadStatement) (outputs : OutputsTe
     inputs = (paths_by n).explicit_inputs;
     outputs = (paths_by n).explicit_outputs;
     block = build_block e entries lines;
-    lines = lines_of_rule (slice_get (rule_texts entries) n);
+    lines = lines_of_rule (slice_get (rules_read entries) n);
     is_phony = (paths_by n).is_phony;
     file = file;
   }

@@ -17,7 +17,7 @@ pub mod DyndepFiles
 pub mod Rows
 pub mod Finishing
 pub mod BuiltRows
-pub mod WaitingLemmas
+pub mod PendingLemmas
 pub mod AddedLemmas
 pub mod JoiningLemmas
 pub mod StartLemmas

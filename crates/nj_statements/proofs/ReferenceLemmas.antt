@@ -4,18 +4,18 @@ use Rattle.std.proofs.lemmas.List.{get_or-set_same, get_or-set_other}
 use Rattle.std.proofs.lemmas.Bool.Decides.{eqb_tells}
 use Rattle.nj_scope.specs.Rules.{RuleText}
 use Rattle.nj_edge_env.specs.ReferencesHeld.{ReferringKeyText, TellsCycles}
-use Rattle.nj_statements.specs.Answers.{HoldsReferences}
+use Rattle.nj_statements.specs.Answers.{HasReferences}
 use Rattle.nj_statements.specs.Inside.EdgeSteps.{SameReferences}
 use Rattle.nj_statements.proofs.Lists.{get-longer}
 
-pub references-none : (rules : List RuleText) → HoldsReferences [] rules
+pub references-none : (rules : List RuleText) → HasReferences [] rules
 references-none rules number keys is = absurd (true≢false (ap is_some (sym is)))
 
 -- the rules that are declared later change nothing
-pub references-longer : (kept : List (Option (List ReferringKeyText))) (rules more : List RuleText) → HoldsReferences kept rules → HoldsReferences kept (rules ++ more)
+pub references-longer : (kept : List (Option (List ReferringKeyText))) (rules more : List RuleText) → HasReferences kept rules → HasReferences kept (rules ++ more)
 references-longer kept rules more held number keys is = let (rule, there, tells) = held number keys is in (rule, get-longer rules more number rule there, tells)
 
-pub references-same : (kept others : List (Option (List ReferringKeyText))) (rules : List RuleText) → SameReferences kept others → HoldsReferences kept rules → HoldsReferences others rules
+pub references-same : (kept others : List (Option (List ReferringKeyText))) (rules : List RuleText) → SameReferences kept others → HasReferences kept rules → HasReferences others rules
 references-same kept others rules same held number keys is = held number keys (same number ∙ is)
 
 -- room for one more
@@ -30,7 +30,7 @@ same-then first second third p q number = p number ∙ q number
 
 -- what is kept of one rule more
 pub references-set : (kept new : List (Option (List ReferringKeyText))) (rules : List RuleText) (at : ℕ) (rule : RuleText) (keys : List ReferringKeyText) → at < length kept → new ≡ set kept at (Some keys)
-    → slice_get rules at ≡ Some rule → TellsCycles rule.lines keys → HoldsReferences kept rules → HoldsReferences new rules
+    → slice_get rules at ≡ Some rule → TellsCycles rule.lines keys → HasReferences kept rules → HasReferences new rules
 references-set kept new rules at rule keys within is there tells held number others kept_of = by (eqb_tells number at)
   where
     some_same : {X : Type 0} {x y : X} → Some x ≡ Some y → x ≡ y

@@ -232,20 +232,20 @@ row-dyndep_of_file = refl
 -- ---- edges that wait for their dyndep files
 
 -- an edge of this number that waits for `dd`
-abbrev waits : (edge : ℕ) → Pending
-waits edge = record { edge = edge; file = codes "dd" }
+abbrev pends : (edge : ℕ) → Pending
+pends edge = record { edge = edge; file = codes "dd" }
 
 -- `build OUT: RULE || dd`
 abbrev build_with_dd : (output : List ℕ) → NameText → List LineText → StatementText
 build_with_dd output rule lines = BuildText (to (path output ∷ [])) rule (record no_inputs { order_only = path (codes "dd") ∷ [] }) lines
 
 -- `build a: phony || dd` with `dyndep = .//dd` in its block: a clean path
-pub row-pending_block : pending_read (entries (build_with_dd (codes "a") phony (line (codes "dyndep") (codes ".//dd") ∷ []) ∷ [])) ≡ waits 0 ∷ []
+pub row-pending_block : pending_read (entries (build_with_dd (codes "a") phony (line (codes "dyndep") (codes ".//dd") ∷ []) ∷ [])) ≡ pends 0 ∷ []
 unfolding clean_path_of without_leftmost_pair edges_read pending_read bounds
 row-pending_block = refl
 
 -- `rule r` with `dyndep = dd`, then `build a: phony || dd`, and then `build b: r || dd`: the rule binds the second edge
-pub row-pending_rule : pending_read (entries (build_with_dd (codes "b") by_r [] ∷ build_with_dd (codes "a") phony [] ∷ rule_r (line (codes "dyndep") (codes "dd") ∷ []) ∷ [])) ≡ waits 1 ∷ []
+pub row-pending_rule : pending_read (entries (build_with_dd (codes "b") by_r [] ∷ build_with_dd (codes "a") phony [] ∷ rule_r (line (codes "dyndep") (codes "dd") ∷ []) ∷ [])) ≡ pends 1 ∷ []
 unfolding clean_path_of without_leftmost_pair edges_read pending_read bounds
 row-pending_rule = refl
 
@@ -259,7 +259,7 @@ abbrev joined_a : ReadStatement
 joined_a = record (entry (build_with_dd (codes "a") phony (line (codes "dyndep") (codes "dd") ∷ []))) { discovered = Some (record { outputs = codes "x" ∷ []; inputs = codes "y" ∷ [] }) }
 
 -- it does not wait, and `build b: phony || dd` with `dyndep = dd` does
-pub row-pending_joined : pending_read (entry (build_with_dd (codes "b") phony (line (codes "dyndep") (codes "dd") ∷ [])) ∷ joined_a ∷ []) ≡ waits 1 ∷ []
+pub row-pending_joined : pending_read (entry (build_with_dd (codes "b") phony (line (codes "dyndep") (codes "dd") ∷ [])) ∷ joined_a ∷ []) ≡ pends 1 ∷ []
 unfolding clean_path_of without_leftmost_pair edges_read pending_read bounds
 row-pending_joined = refl
 

@@ -25,16 +25,16 @@ use Rattle.nj_statements.specs.Built.{EdgeDetail, IsBuiltOf, IsCycleFault, detai
 use Rattle.nj_statements.specs.Inside.Details.{text_at, spot_of}
 use Rattle.nj_statements.specs.Inside.BuiltHeld.{BuiltIsHeld, built_of, detail_named, pending_named}
 use Rattle.nj_statements.specs.Joining.{dyndep_files}
-use Rattle.nj_statements.specs.JoiningHeld.{pending_of, pending_from, HoldsJoined}
-use Rattle.nj_statements.specs.Inside.JoiningSteps.{count_waiting, count_bound, bind_all, first_edges, file_named, joining_of, JoiningIsHeld}
-use Rattle.nj_statements.proofs.WaitingLemmas.{still-all, pending-more, firsts-all, firsts-named, bind-waiting, bind-length, bind-known, none-known, count-bind, count-none}
+use Rattle.nj_statements.specs.JoiningHeld.{pending_of, pending_from, HasJoined}
+use Rattle.nj_statements.specs.Inside.JoiningSteps.{count_pending, count_bound, bind_all, first_edges, file_named, joining_of, JoiningIsHeld}
+use Rattle.nj_statements.proofs.PendingLemmas.{still-all, pending-more, firsts-all, firsts-named, bind-unjoined, bind-length, bind-known, none-known, count-bind, count-none}
 
 -- ---- of each edge what it waits for
 
 -- this is what edges wait for
-pub record AreAwaited (entries : List ReadStatement) (waiting : List (Option (List ℕ))) : Type 0 where
-  pub are : pending_read entries ≡ pending_from 0 waiting
-  pub count : length waiting ≡ length (edges_read entries)
+pub record AreAwaited (entries : List ReadStatement) (unjoined : List (Option (List ℕ))) : Type 0 where
+  pub are : pending_read entries ≡ pending_from 0 unjoined
+  pub count : length unjoined ≡ length (edges_read entries)
 
 abbrev awaited-at : Option Discovered → Option (List ℕ) → Option (List ℕ)
 awaited-at (Some found) file = None
@@ -45,17 +45,17 @@ pending-at edge (Some found) file = refl
 pending-at edge None (Some file) = refl
 pending-at edge None None = refl
 
-awaited-more : (e : ReadStatement) (before : List ReadStatement) (item : StatementText) (waiting : List (Option (List ℕ))) → AreAwaited before waiting
+awaited-more : (e : ReadStatement) (before : List ReadStatement) (item : StatementText) (unjoined : List (Option (List ℕ))) → AreAwaited before unjoined
     → (more : List (Option (List ℕ))) × AreAwaited (record e { item = item } ∷ before) more
 unfolding edges_read pending_read
-awaited-more e before (BuildText outputs rule inputs lines) waiting is = (
-  waiting ++ next ∷ [],
+awaited-more e before (BuildText outputs rule inputs lines) unjoined is = (
+  unjoined ++ next ∷ [],
   record {
     are =
         ap (λ ps. ps ++ pending_at (length (edges_read before)) e.discovered (dyndep_of before edge)) is.are
-        ∙ ap (λ ps. pending_from 0 waiting ++ ps) (pending-at (length (edges_read before)) e.discovered (dyndep_of before edge) ∙ ap (λ n. pending_of n next) (sym is.count ∙ (let z : length waiting ≡ 0 + length waiting = omega arith in z)))
-        ∙ sym (pending-more 0 waiting next);
-    count = length-append waiting (next ∷ []) ∙ ap (λ n. n + 1) is.count ∙ sym (length-append (edges_read before) (edge ∷ []));
+        ∙ ap (λ ps. pending_from 0 unjoined ++ ps) (pending-at (length (edges_read before)) e.discovered (dyndep_of before edge) ∙ ap (λ n. pending_of n next) (sym is.count ∙ (let z : length unjoined ≡ 0 + length unjoined = omega arith in z)))
+        ∙ sym (pending-more 0 unjoined next);
+    count = length-append unjoined (next ∷ []) ∙ ap (λ n. n + 1) is.count ∙ sym (length-append (edges_read before) (edge ∷ []));
   },
 )
   where
@@ -64,14 +64,14 @@ awaited-more e before (BuildText outputs rule inputs lines) waiting is = (
 
     next : Option (List ℕ)
     next = awaited-at e.discovered (dyndep_of before edge)
-awaited-more e before (BindingText bound word) waiting is = (waiting, record { are = is.are; count = is.count })
-awaited-more e before (RuleText name lines) waiting is = (waiting, record { are = is.are; count = is.count })
-awaited-more e before (PoolText name lines) waiting is = (waiting, record { are = is.are; count = is.count })
-awaited-more e before (DefaultText words) waiting is = (waiting, record { are = is.are; count = is.count })
-awaited-more e before (IncludeText word) waiting is = (waiting, record { are = is.are; count = is.count })
-awaited-more e before (SubninjaText word) waiting is = (waiting, record { are = is.are; count = is.count })
+awaited-more e before (BindingText bound word) unjoined is = (unjoined, record { are = is.are; count = is.count })
+awaited-more e before (RuleText name lines) unjoined is = (unjoined, record { are = is.are; count = is.count })
+awaited-more e before (PoolText name lines) unjoined is = (unjoined, record { are = is.are; count = is.count })
+awaited-more e before (DefaultText words) unjoined is = (unjoined, record { are = is.are; count = is.count })
+awaited-more e before (IncludeText word) unjoined is = (unjoined, record { are = is.are; count = is.count })
+awaited-more e before (SubninjaText word) unjoined is = (unjoined, record { are = is.are; count = is.count })
 
-pub awaited : (entries : List ReadStatement) → (waiting : List (Option (List ℕ))) × AreAwaited entries waiting
+pub awaited : (entries : List ReadStatement) → (unjoined : List (Option (List ℕ))) × AreAwaited entries unjoined
 unfolding edges_read pending_read
 awaited [] = ([], record { are = refl; count = refl })
 awaited (e ∷ before) = let rest = awaited before in awaited-more e before e.item rest.0 rest.1
@@ -80,9 +80,9 @@ awaited (e ∷ before) = let rest = awaited before in awaited-more e before e.it
 
 module _ (graph : EdgeGraph) (blocks : BlocksText) (names : List (List ℕ)) (details : List Detail) (defaults : List FileNo) (dyndeps : List DyndepEdge) (held : BuiltIsHeld graph names details defaults dyndeps)
     (once : IsDistinct bytes_eq graph.files) (table : JoinTable) (table_is : table ≡ join_of graph) (firsts : List DyndepEdge) (firsts_are : firsts ≡ first_edges dyndeps)
-    (bound : List (Option FileNo)) (bound_are : bound ≡ bind_all dyndeps (replicate (length graph.edges) None)) (waiting : List ℕ) (count : length waiting ≡ length graph.files)
-    (waiting_are : (file : FileNo) → get_or waiting file.0 0 ≡ count_bound file dyndeps) where
-  start : JoiningIsHeld (join_of graph) names details defaults (first_edges dyndeps) (bind_all dyndeps (replicate (length graph.edges) None)) waiting
+    (bound : List (Option FileNo)) (bound_are : bound ≡ bind_all dyndeps (replicate (length graph.edges) None)) (unjoined : List ℕ) (count : length unjoined ≡ length graph.files)
+    (pending_are : (file : FileNo) → get_or unjoined file.0 0 ≡ count_bound file dyndeps) where
+  start : JoiningIsHeld (join_of graph) names details defaults (first_edges dyndeps) (bind_all dyndeps (replicate (length graph.edges) None)) unjoined
   start = record {
     each_path_once = once;
     as_many_joined = refl;
@@ -96,22 +96,22 @@ module _ (graph : EdgeGraph) (blocks : BlocksText) (names : List (List ℕ)) (de
     dyndep_files_known = firsts-all (λ (d : DyndepEdge). d.file.0 < length graph.files) dyndeps held.dyndep_files_known;
     dyndep_edges_known = firsts-all (λ (d : DyndepEdge). d.edge < length graph.edges) dyndeps held.dyndep_edges_known;
     bound_known =
-        bind-known (length waiting) dyndeps (replicate (length graph.edges) None) (subst (λ n. AllByRecursion (λ (d : DyndepEdge). d.file.0 < n) dyndeps) (sym count) held.dyndep_files_known)
-        (none-known (length waiting) (length graph.edges));
-    waiting_known = omega (arith, count);
-    enough_wait = λ file.
+        bind-known (length unjoined) dyndeps (replicate (length graph.edges) None) (subst (λ n. AllByRecursion (λ (d : DyndepEdge). d.file.0 < n) dyndeps) (sym count) held.dyndep_files_known)
+        (none-known (length unjoined) (length graph.edges));
+    pending_known = omega (arith, count);
+    enough_pending = λ file.
         let all = still-all (bind_all dyndeps (replicate (length graph.edges) None)) graph.edges in
         let most = count-bind file dyndeps (replicate (length graph.edges) None) in
         let none = count-none file (length graph.edges) in
-        let is = waiting_are file in
-        subst (λ ws. count_waiting file ws ≤ get_or waiting file.0 0) (sym all) (omega (arith, most, none, is));
+        let is = pending_are file in
+        subst (λ ws. count_pending file ws ≤ get_or unjoined file.0 0) (sym all) (omega (arith, most, none, is));
   }
 
-  pub start-held : JoiningIsHeld table names details defaults firsts bound waiting
+  pub start-held : JoiningIsHeld table names details defaults firsts bound unjoined
   start-held =
-      subst (λ (t : JoinTable). JoiningIsHeld t names details defaults firsts bound waiting) (sym table_is)
-      (subst (λ ds. JoiningIsHeld (join_of graph) names details defaults ds bound waiting) (sym firsts_are)
-      (subst (λ bs. JoiningIsHeld (join_of graph) names details defaults (first_edges dyndeps) bs waiting) (sym bound_are) start))
+      subst (λ (t : JoinTable). JoiningIsHeld t names details defaults firsts bound unjoined) (sym table_is)
+      (subst (λ ds. JoiningIsHeld (join_of graph) names details defaults ds bound unjoined) (sym firsts_are)
+      (subst (λ bs. JoiningIsHeld (join_of graph) names details defaults (first_edges dyndeps) bs unjoined) (sym bound_are) start))
 
   module _ (stated : List ReadStatement) (is : IsBuiltOf (built_of graph blocks names details defaults dyndeps) stated) where
     abbrev ws : List (Option (List ℕ))
@@ -119,11 +119,11 @@ module _ (graph : EdgeGraph) (blocks : BlocksText) (names : List (List ℕ)) (de
 
     named : map (file_named graph.files) (bind_all dyndeps (replicate (length graph.edges) None)) ≡ ws
     named =
-        bind-waiting graph.files dyndeps ws (length graph.edges) (is.pending ∙ (awaited stated).1.are)
+        bind-unjoined graph.files dyndeps ws (length graph.edges) (is.pending ∙ (awaited stated).1.are)
         ((awaited stated).1.count ∙ sym (length-map (edges_read stated) (λ (e : EdgeText). e.paths)) ∙ sym (ap length is.paths))
 
-    holds : HoldsJoined (joining_of (join_of graph) blocks names details defaults (first_edges dyndeps) (bind_all dyndeps (replicate (length graph.edges) None))) stated stated
-    holds = record {
+    has : HasJoined (joining_of (join_of graph) blocks names details defaults (first_edges dyndeps) (bind_all dyndeps (replicate (length graph.edges) None))) stated stated
+    has = record {
       stated_paths = is.paths;
       joined_paths = is.paths;
       none_open = refl;
@@ -135,36 +135,36 @@ module _ (graph : EdgeGraph) (blocks : BlocksText) (names : List (List ℕ)) (de
       dyndep_files = firsts-named graph.files once dyndeps held.dyndep_files_known ∙ ap dyndep_files is.pending;
       bound = (awaited stated).1.are ∙ ap (pending_from 0) (sym named);
       assigned = is.assigned;
-      waiting = (awaited stated).1.are ∙ ap (pending_from 0) (sym named ∙ sym (still-all (map (file_named graph.files) (bind_all dyndeps (replicate (length graph.edges) None))) graph.edges));
+      unjoined = (awaited stated).1.are ∙ ap (pending_from 0) (sym named ∙ sym (still-all (map (file_named graph.files) (bind_all dyndeps (replicate (length graph.edges) None))) graph.edges));
     }
 
-    pub start-holds : HoldsJoined (joining_of table blocks names details defaults firsts bound) stated stated
-    start-holds =
-        subst (λ (t : JoinTable). HoldsJoined (joining_of t blocks names details defaults firsts bound) stated stated) (sym table_is)
-        (subst (λ ds. HoldsJoined (joining_of (join_of graph) blocks names details defaults ds bound) stated stated) (sym firsts_are)
-        (subst (λ bs. HoldsJoined (joining_of (join_of graph) blocks names details defaults (first_edges dyndeps) bs) stated stated) (sym bound_are) holds))
+    pub start-keeps : HasJoined (joining_of table blocks names details defaults firsts bound) stated stated
+    start-keeps =
+        subst (λ (t : JoinTable). HasJoined (joining_of t blocks names details defaults firsts bound) stated stated) (sym table_is)
+        (subst (λ ds. HasJoined (joining_of (join_of graph) blocks names details defaults ds bound) stated stated) (sym firsts_are)
+        (subst (λ bs. HasJoined (joining_of (join_of graph) blocks names details defaults (first_edges dyndeps) bs) stated stated) (sym bound_are) has))
 
 -- ---- all is joined
 
 module _ (table : JoinTable) (blocks : BlocksText) (names : List (List ℕ)) (details : List Detail) (defaults : List FileNo) (firsts : List DyndepEdge) (bound : List (Option FileNo))
-    (stated joined : List ReadStatement) (holds : HoldsJoined (joining_of table blocks names details defaults firsts bound) stated joined) where
+    (stated joined : List ReadStatement) (has : HasJoined (joining_of table blocks names details defaults firsts bound) stated joined) where
   edge-count : length table.joined ≡ length (edges_read joined)
-  edge-count = ap length holds.joined_paths ∙ length-map (edges_read joined) (λ (e : EdgeText). e.paths)
+  edge-count = ap length has.joined_paths ∙ length-map (edges_read joined) (λ (e : EdgeText). e.paths)
 
   pub joined-built : pending_read joined ≡ [] → (g : EdgeGraph) → FinishesAs table.files table.joined (Graph g) → (dyndeps : List DyndepEdge) → dyndeps ≡ []
       → IsBuiltOf (built_of g blocks names details defaults dyndeps) joined × IsAcyclic (makers_of_inputs (paths_of_edges (edges_read joined))) (length (edges_read joined))
   joined-built none g finishes dyndeps empty = (
     record {
-      paths = ap (λ (v : EdgeGraph). v.edges) finishes.0 ∙ holds.joined_paths;
-      details = holds.details;
-      blocks = holds.blocks;
-      block_names = holds.block_names;
-      defaults = ap (λ (v : EdgeGraph). paths_at v.files defaults) finishes.0 ∙ holds.defaults;
+      paths = ap (λ (v : EdgeGraph). v.edges) finishes.0 ∙ has.joined_paths;
+      details = has.details;
+      blocks = has.blocks;
+      block_names = has.block_names;
+      defaults = ap (λ (v : EdgeGraph). paths_at v.files defaults) finishes.0 ∙ has.defaults;
       pending = ap (map (pending_named g.files)) empty ∙ sym none;
-      assigned = holds.assigned;
+      assigned = has.assigned;
     },
     subst (λ n. IsAcyclic (makers_of_inputs (paths_of_edges (edges_read joined))) n) (length-map (edges_read joined) (λ (e : EdgeText). e.paths))
-        (subst (λ es. IsAcyclic (makers_of_inputs es) (length es)) holds.joined_paths finishes.1),
+        (subst (λ es. IsAcyclic (makers_of_inputs es) (length es)) has.joined_paths finishes.1),
   )
 
   pub joined-cycle : (n : ℕ) (d : Detail) (output : List ℕ) (fault : GraphFault) → n < length table.joined → slice_get details n ≡ Some d
@@ -174,14 +174,14 @@ module _ (table : JoinTable) (blocks : BlocksText) (names : List (List ℕ)) (de
       let found = get-some (edges_read joined) n (subst (λ m. n < m) edge-count below) in
       let detail : detail_named names d ≡ detail_of found.0 =
       same_Some (detail_named names d) (detail_of found.0)
-      (sym (slice_get-map (detail_named names) details n ∙ ap (option_map (detail_named names)) at) ∙ ap (λ ds. slice_get ds n) holds.details ∙ slice_get-map detail_of (edges_read joined) n ∙ ap (option_map detail_of) found.1) in
+      (sym (slice_get-map (detail_named names) details n ∙ ap (option_map (detail_named names)) at) ∙ ap (λ ds. slice_get ds n) has.details ∙ slice_get-map detail_of (edges_read joined) n ∙ ap (option_map detail_of) found.1) in
       record {
         number = n;
         edge = found.0;
         output = output;
         edge_is = found.1;
-        least = subst (λ es. IsLeastOnCycle (makers_of_inputs es) n) holds.joined_paths least;
-        output_is = ap (λ (e : EdgePaths). slice_get (outputs_of e) 0) (sym (ap (λ es. edge_at es n) holds.joined_paths ∙ paths-at (edges_read joined) n found.0 found.1)) ∙ first;
+        least = subst (λ es. IsLeastOnCycle (makers_of_inputs es) n) has.joined_paths least;
+        output_is = ap (λ (e : EdgePaths). slice_get (outputs_of e) 0) (sym (ap (λ es. edge_at es n) has.joined_paths ∙ paths-at (edges_read joined) n found.0 found.1)) ∙ first;
         fault_is = is ∙ ap (λ (x : EdgeDetail). fault_at x.file x.spot (Cycle output)) detail;
       }
     where

@@ -8,8 +8,8 @@ use Rattle.nj_statements.specs.EdgeList.{Values}
 
 pub text-turn : (values : Values) (text piece new : List ℕ) (items : List Part) (i : ℕ) (d : Part) → i < length items → piece ≡ part_expanded values (part_text (get_or items i d)) → new ≡ text ++ piece
     → new ++ expanded values (map part_text (drop (i + 1) items)) ≡ text ++ expanded values (map part_text (drop i items))
-text-turn values text piece new items i d below says is =
-    ap (λ t. t ++ rest) (is ∙ ap (λ p. text ++ p) says)
+text-turn values text piece new items i d below gives is =
+    ap (λ t. t ++ rest) (is ∙ ap (λ p. text ++ p) gives)
     ∙ append_assoc text (part_expanded values (part_text (get_or items i d))) rest
     ∙ sym (at_drop_more (λ (ps : List Part). text ++ expanded values (map part_text ps)) items i d below)
   where

@@ -5,7 +5,7 @@ use Rattle.nj_text.specs.declared.spot.Spot.{Spot}
 use Rattle.nj_manifest.specs.Statements.{StatementText}
 use Rattle.nj_scope.specs.Rules.{RuleText}
 use Rattle.nj_scope.specs.Readings.{IsPrefix}
-use Rattle.nj_scope.specs.ReadingList.{ReadStatement, rule_texts}
+use Rattle.nj_scope.specs.ReadingList.{ReadStatement, rules_read}
 use Rattle.nj_edge_env.specs.Blocks.{BlocksText, bound_in, names_in}
 use Rattle.nj_edges.specs.declared.files.FileNo.{FileNo}
 use Rattle.nj_edges.specs.EdgeTables.{EdgeTable, no_files}
@@ -37,8 +37,8 @@ pub record KeepsRead (before after : EdgeTable) : Type 0 where
 -- ---- the names of a rule
 
 -- what is kept of rules is enough to find their cycles
-abbrev pub HoldsReferences : (kept : List (Option (List ReferringKeyText))) → List RuleText → Type 0
-HoldsReferences kept rules =
+abbrev pub HasReferences : (kept : List (Option (List ReferringKeyText))) → List RuleText → Type 0
+HasReferences kept rules =
     (number : ℕ) (keys : List ReferringKeyText) → slice_index_or kept number None ≡ Some keys
     → (rule : RuleText) × (slice_get rules number ≡ Some rule) × TellsCycles rule.lines keys
 
@@ -78,8 +78,8 @@ AreDetails names (d ∷ details) (e ∷ edges) = IsDetail names d e × AreDetail
 AreDetails names details edges = ⊥
 
 -- texts by numbers that count from 1; 0 is none
-abbrev pub numbered : (texts : List (List ℕ)) → List (Option (List ℕ))
-numbered texts = None ∷ map Some texts
+abbrev pub numbered : (strings : List (List ℕ)) → List (Option (List ℕ))
+numbered strings = None ∷ map Some strings
 
 pub record IsAssigned (names : List (List ℕ)) (d : DetailText) (a : AssignedText) : Type 0 where
   pub pool : slice_get (numbered names) d.pool ≡ Some a.pool
@@ -96,7 +96,7 @@ pub record ArePending (files : List (List ℕ)) (held : List DyndepEdge) (expect
   pub files_are : AreFiles files (map (λ d. d.file) held) (map (λ p. p.file) expected)
 
 -- It holds the edges and defaults of these statements, of which the last read stands first.
-pub record HoldsEdges (held : BuildingText) (entries : List ReadStatement) : Type 0 where
+pub record HasEdges (held : BuildingText) (entries : List ReadStatement) : Type 0 where
   pub edges : held.table.edges ≡ paths_of_edges (edges_read entries)
   pub none_open : held.table.«open» ≡ no_files
   pub blocks : (number : ℕ) (name : List ℕ) → bound_in held.blocks number name ≡ block_at (edges_read entries) number name
@@ -105,7 +105,7 @@ pub record HoldsEdges (held : BuildingText) (entries : List ReadStatement) : Typ
   pub assigned : AreAssigned held.names held.details (assigned_read entries)
   pub defaults : AreFiles held.table.files held.defaults (defaults_read entries)
   pub dyndeps : ArePending held.table.files held.dyndeps (pending_read entries)
-  pub references : HoldsReferences held.references (rule_texts entries)
+  pub references : HasReferences held.references (rules_read entries)
 
 -- No edge and no default is added: those that were read stay as they are, with their blocks. Files may be new, which keep the numbers of
 -- the others, and an edge may be read in part.
@@ -135,5 +135,5 @@ entry_at_place place scope around depth item = record {
 -- the statement has no fault and is held, or its fault is answered
 abbrev pub ReadsStatement : (after : BuildingText) → Option GraphFault → ReadStatement → (before : List ReadStatement)
     → Result (Unit {0}) GraphFault → Type 0
-ReadsStatement after expected e before (Ok done) = (expected ≡ None) × HoldsEdges after (e ∷ before)
+ReadsStatement after expected e before (Ok done) = (expected ≡ None) × HasEdges after (e ∷ before)
 ReadsStatement after expected e before (Err fault) = IsFault expected fault

@@ -15,9 +15,9 @@ use Rattle.nj_faults.specs.declared.fault.Cause.TheVariants.{EmptyPath, UnknownR
 use Rattle.nj_faults.specs.declared.fault.Cause.TheVariants.{RuleVariableCycle, UnknownPool, DyndepNotInput}
 use Rattle.nj_faults.specs.Faults.{fault_at}
 use Rattle.nj_edges.specs.Edges.{EdgePaths, inputs_of, maker_of, is_among, is_named}
-use Rattle.nj_edge_env.specs.LateTexts.{LateNames, asked_text}
+use Rattle.nj_edge_env.specs.LateStrings.{LateNames, asked_text}
 use Rattle.nj_edge_env.specs.VariableCycles.{variable_cycle_of}
-use Rattle.nj_statements.specs.EdgeList.{Values, EdgeText, path_said, line_values, edges_read, paths_of_edges, edge_of_build, names_of_edge}
+use Rattle.nj_statements.specs.EdgeList.{Values, EdgeText, path_given, line_values, edges_read, paths_of_edges, edge_of_build, names_of_edge}
 
 abbrev pub fault_if : Bool → GraphFault → Option GraphFault
 fault_if true fault = Some fault
@@ -40,14 +40,14 @@ unknown_rule e before rule =
 -- An output is refused if an earlier edge makes it, or if it is one of those to its left.
 abbrev pub two_makers : (file : List ℕ) → Values → List EdgePaths → (left : List (List ℕ)) → WordText → Option GraphFault
 two_makers file values edges left word =
-    fault_if (is_some (maker_of edges (path_said values word)) || is_among left (path_said values word))
-    (fault_at file word.spot (TwoMakers (path_said values word)))
+    fault_if (is_some (maker_of edges (path_given values word)) || is_among left (path_given values word))
+    (fault_at file word.spot (TwoMakers (path_given values word)))
 
 abbrev pub outputs_fault : (file : List ℕ) → Values → List EdgePaths → (left : List (List ℕ)) → List WordText → Option GraphFault
 outputs_fault file values edges left [] = None
 outputs_fault file values edges left (word ∷ words) =
     option_or (option_or (empty_path file values word) (two_makers file values edges left word))
-    (outputs_fault file values edges (left ++ path_said values word ∷ []) words)
+    (outputs_fault file values edges (left ++ path_given values word ∷ []) words)
 
 abbrev pub inputs_fault : (file : List ℕ) → Values → InputsText → Option GraphFault
 inputs_fault file values inputs =
@@ -93,7 +93,7 @@ build_fault e before outputs rule inputs lines =
 
 abbrev pub unknown_target : (file : List ℕ) → Values → List EdgePaths → WordText → Option GraphFault
 unknown_target file values edges word =
-    fault_if (not (is_named edges (path_said values word))) (fault_at file word.spot (UnknownTarget (path_said values word)))
+    fault_if (not (is_named edges (path_given values word))) (fault_at file word.spot (UnknownTarget (path_given values word)))
 
 -- A default is a file that an earlier edge names.
 abbrev pub target_fault : (file : List ℕ) → Values → List EdgePaths → WordText → Option GraphFault

@@ -10,9 +10,9 @@ use Rattle.nj_manifest.specs.LineSteps.{NameText}
 use Rattle.nj_manifest.specs.Statements.{LineText, last_line, OutputsText, InputsText, StatementText, BuildText, DefaultText}
 use Rattle.nj_scope.specs.Rules.{RuleText, RuleLineText}
 use Rattle.nj_scope.specs.Scopes.{expanded}
-use Rattle.nj_scope.specs.ReadingList.{Discovered, ReadStatement, scope_of, value_after, rule_in_force, rule_texts}
+use Rattle.nj_scope.specs.ReadingList.{Discovered, ReadStatement, scope_of, value_after, rule_in_force, rules_read}
 use Rattle.nj_edges.specs.Edges.{EdgePaths, outputs_of, is_among}
-use Rattle.nj_edge_env.specs.LateTexts.{LateNames, asked_text}
+use Rattle.nj_edge_env.specs.LateStrings.{LateNames, asked_text}
 
 -- ---- names and paths
 
@@ -35,7 +35,7 @@ block_of values lines name = option_map (λ l. expanded values l.value.parts) (l
 -- the list without its repeats: of each text the first is kept
 abbrev pub each_once : List (List ℕ) → List (List ℕ)
 each_once [] = []
-each_once (text ∷ texts) = text ∷ filter (λ other. not (bytes_eq other text)) (each_once texts)
+each_once (text ∷ strings) = text ∷ filter (λ other. not (bytes_eq other text)) (each_once strings)
 
 -- the names that a block binds, each once, in the order of their first lines
 abbrev pub names_bound : List LineText → List (List ℕ)
@@ -46,11 +46,11 @@ abbrev pub on_line : Values → Block → Values
 on_line values block name = unwrap_or (block name) (values name)
 
 -- the path that a word says
-abbrev pub path_said : Values → WordText → List ℕ
-path_said values word = clean_path_of (expanded values word.parts)
+abbrev pub path_given : Values → WordText → List ℕ
+path_given values word = clean_path_of (expanded values word.parts)
 
-abbrev pub paths_said : Values → List WordText → List (List ℕ)
-paths_said values words = map (path_said values) words
+abbrev pub paths_given : Values → List WordText → List (List ℕ)
+paths_given values words = map (path_given values) words
 
 -- ---- edges
 
@@ -71,12 +71,12 @@ pub record EdgeText : Type 0 where
 -- the files that a build statement names
 abbrev pub stated_paths : Values → OutputsText → InputsText → (is_phony : Bool) → EdgePaths
 stated_paths values outputs inputs is_phony = record {
-  explicit_outputs = paths_said values outputs.explicit;
-  implicit_outputs = paths_said values outputs.implicit;
-  explicit_inputs = paths_said values inputs.explicit;
-  implicit_inputs = paths_said values inputs.implicit;
-  order_only_inputs = paths_said values inputs.order_only;
-  validations = paths_said values inputs.validations;
+  explicit_outputs = paths_given values outputs.explicit;
+  implicit_outputs = paths_given values outputs.implicit;
+  explicit_inputs = paths_given values inputs.explicit;
+  implicit_inputs = paths_given values inputs.implicit;
+  order_only_inputs = paths_given values inputs.order_only;
+  validations = paths_given values inputs.validations;
   is_phony = is_phony;
 }
 
@@ -154,7 +154,7 @@ paths_of_edges edges = map (λ e. e.paths) edges
 -- ---- defaults
 
 abbrev pub with_defaults : ReadStatement → (before : List ReadStatement) → StatementText → List (List ℕ) → List (List ℕ)
-with_defaults e before (DefaultText words) paths = paths ++ paths_said (value_after before (scope_of e)) words
+with_defaults e before (DefaultText words) paths = paths ++ paths_given (value_after before (scope_of e)) words
 with_defaults e before item paths = paths
 
 -- the paths of all `default` lines
@@ -175,7 +175,7 @@ names_of_edge entries e = record {
   inputs = e.paths.explicit_inputs;
   outputs = e.paths.explicit_outputs;
   block = e.block;
-  lines = lines_of_rule (slice_get (rule_texts entries) e.rule);
+  lines = lines_of_rule (slice_get (rules_read entries) e.rule);
   is_phony = e.paths.is_phony;
   file = value_after entries (e.number ∷ e.around);
 }
@@ -188,12 +188,12 @@ pub record Pending : Type 0 where
   pub file : List ℕ
 
 -- an empty text names no file
-abbrev pub file_said : (text : List ℕ) → Option (List ℕ)
-file_said text = if is_empty text then None else Some (clean_path_of text)
+abbrev pub file_given : (text : List ℕ) → Option (List ℕ)
+file_given text = if is_empty text then None else Some (clean_path_of text)
 
 -- the dyndep file of an edge: what the variable says at its build statement
 abbrev pub dyndep_of : (before : List ReadStatement) → EdgeText → Option (List ℕ)
-dyndep_of before edge = file_said (asked_text (names_of_edge before edge) (codes "dyndep"))
+dyndep_of before edge = file_given (asked_text (names_of_edge before edge) (codes "dyndep"))
 
 -- an edge to which its dyndep file was not joined yet
 abbrev pub pending_at : (edge : ℕ) → (joined : Option Discovered) → (file : Option (List ℕ)) → List Pending
@@ -214,12 +214,12 @@ pending_read (e ∷ before) = with_pending e before e.item (pending_read before)
 -- ---- pools and dyndep files
 
 -- an empty text names no pool
-abbrev pub name_said : (text : List ℕ) → Option (List ℕ)
-name_said text = if is_empty text then None else Some text
+abbrev pub name_given : (text : List ℕ) → Option (List ℕ)
+name_given text = if is_empty text then None else Some text
 
 -- the pool of an edge, by its name: what the variable says at its build statement
 abbrev pub pool_of : (before : List ReadStatement) → EdgeText → Option (List ℕ)
-pool_of before edge = name_said (asked_text (names_of_edge before edge) (codes "pool"))
+pool_of before edge = name_given (asked_text (names_of_edge before edge) (codes "pool"))
 
 -- What is assigned to an edge at its build statement: a pool, by its name, and a dyndep file, by its clean path.
 pub record AssignedText : Type 0 where

@@ -10,7 +10,7 @@ use Rattle.nj_edges.specs.Edges.{first_output, maker_of}
 use Rattle.nj_faults.specs.declared.fault.GraphFault.{GraphFault}
 use Rattle.nj_faults.specs.declared.fault.Cause.TheVariants.{DyndepExtra, DyndepTwice, DyndepNoStatement}
 use Rattle.nj_faults.specs.Faults.{fault_at}
-use Rattle.nj_statements.specs.EdgeList.{Values, EdgeText, Pending, path_said, paths_said, edges_read, paths_of_edges, pending_read}
+use Rattle.nj_statements.specs.EdgeList.{Values, EdgeText, Pending, path_given, paths_given, edges_read, paths_of_edges, pending_read}
 use Rattle.nj_statements.specs.BuildFaults.{fault_if, first_fault, empty_path, outputs_fault}
 
 -- ---- the statements that are joined
@@ -32,11 +32,11 @@ discover edge found (e ∷ before) =
 
 -- what an entry adds to the outputs and the inputs of its build statement
 abbrev pub discovered_by : EntryText → Discovered
-discovered_by entry = record { outputs = paths_said no_values entry.outs; inputs = paths_said no_values entry.ins }
+discovered_by entry = record { outputs = paths_given no_values entry.outs; inputs = paths_given no_values entry.ins }
 
 -- An entry means the build statement that has its output; an output that another entry discovered names none.
 abbrev pub edge_meant : (stated : List ReadStatement) → EntryText → Option ℕ
-edge_meant stated entry = maker_of (paths_of_edges (edges_read stated)) (path_said no_values entry.out)
+edge_meant stated entry = maker_of (paths_of_edges (edges_read stated)) (path_given no_values entry.out)
 
 abbrev pub discover_for : Option ℕ → Discovered → List ReadStatement → List ReadStatement
 discover_for (Some edge) found joined = discover edge found joined
@@ -49,17 +49,17 @@ with_entry stated joined entry = discover_for (edge_meant stated entry) (discove
 -- ---- what is wrong with an entry
 
 -- an edge waits for what this dyndep file says
-abbrev pub waits_for : (file : List ℕ) → List Pending → Option ℕ → Bool
-waits_for file edges (Some edge) = list_any (λ p. p.edge == edge && bytes_eq p.file file) edges
-waits_for file edges None = false
+abbrev pub pending_on : (file : List ℕ) → List Pending → Option ℕ → Bool
+pending_on file edges (Some edge) = list_any (λ p. p.edge == edge && bytes_eq p.file file) edges
+pending_on file edges None = false
 
 -- The build statement that is meant has to be bound to this file, and to be meant by no other entry.
 abbrev pub meaning_fault : (file : List ℕ) → (stated joined : List ReadStatement) → EntryText → Option GraphFault
 meaning_fault file stated joined entry =
-    let path = path_said no_values entry.out in
+    let path = path_given no_values entry.out in
     let edge = edge_meant stated entry in
-    option_or (fault_if (not (waits_for file (pending_read stated) edge)) (fault_at file entry.out.spot (DyndepExtra path)))
-    (fault_if (not (waits_for file (pending_read joined) edge)) (fault_at file entry.out.spot (DyndepTwice path)))
+    option_or (fault_if (not (pending_on file (pending_read stated) edge)) (fault_at file entry.out.spot (DyndepExtra path)))
+    (fault_if (not (pending_on file (pending_read joined) edge)) (fault_at file entry.out.spot (DyndepTwice path)))
 
 -- its output, and which statement it means; the outputs that it discovers, from left to right, each of which no other edge may
 -- make; and the inputs

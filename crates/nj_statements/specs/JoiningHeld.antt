@@ -24,22 +24,22 @@ unless_joined bound true = None
 unless_joined bound false = bound
 
 -- what each edge waits for, by what it is bound to; nothing was joined to those past the end of the second list
-abbrev pub still_waiting : {A : Type 0} → (bound : List (Option A)) → (was_joined : List Bool) → List (Option A)
-still_waiting [] was_joined = []
-still_waiting (b ∷ bound) [] = b ∷ bound
-still_waiting (b ∷ bound) (was ∷ was_joined) = unless_joined b was ∷ still_waiting bound was_joined
+abbrev pub still_pending : {A : Type 0} → (bound : List (Option A)) → (was_joined : List Bool) → List (Option A)
+still_pending [] was_joined = []
+still_pending (b ∷ bound) [] = b ∷ bound
+still_pending (b ∷ bound) (was ∷ was_joined) = unless_joined b was ∷ still_pending bound was_joined
 
 abbrev pub pending_of : (edge : ℕ) → Option (List ℕ) → List Pending
 pending_of edge (Some file) = record { edge = edge; file = file } ∷ []
 pending_of edge None = []
 
 -- the edges that wait, of which the first one has this number
-abbrev pub pending_from : (number : ℕ) → (waiting : List (Option (List ℕ))) → List Pending
+abbrev pub pending_from : (number : ℕ) → (unjoined : List (Option (List ℕ))) → List Pending
 pending_from number [] = []
-pending_from number (w ∷ waiting) = pending_of number w ++ pending_from (number + 1) waiting
+pending_from number (w ∷ unjoined) = pending_of number w ++ pending_from (number + 1) unjoined
 
-abbrev pub waiting_from : (number : ℕ) → (bound : List (Option (List ℕ))) → (was_joined : List Bool) → List Pending
-waiting_from number bound was_joined = pending_from number (still_waiting bound was_joined)
+abbrev pub left_pending_from : (number : ℕ) → (bound : List (Option (List ℕ))) → (was_joined : List Bool) → List Pending
+left_pending_from number bound was_joined = pending_from number (still_pending bound was_joined)
 
 -- ---- by the numbers of files
 
@@ -69,7 +69,7 @@ pub record JoiningText : Type 0 where
   pub assigned : List AssignedText
 
 -- It holds the edges and defaults of the joined statements, the edges of the statements as they were read, and which edges wait.
-pub record HoldsJoined (held : JoiningText) (stated joined : List ReadStatement) : Type 0 where
+pub record HasJoined (held : JoiningText) (stated joined : List ReadStatement) : Type 0 where
   pub stated_paths : held.table.stated ≡ paths_of_edges (edges_read stated)
   pub joined_paths : held.table.joined ≡ paths_of_edges (edges_read joined)
   pub none_open : held.table.«open» ≡ none_added
@@ -80,7 +80,7 @@ pub record HoldsJoined (held : JoiningText) (stated joined : List ReadStatement)
   pub defaults : held.defaults ≡ defaults_read joined
   pub dyndep_files : held.dyndep_files ≡ dyndep_files (pending_read stated)
   pub bound : pending_read stated ≡ pending_from 0 held.bound
-  pub waiting : pending_read joined ≡ waiting_from 0 held.bound held.table.was_joined
+  pub unjoined : pending_read joined ≡ left_pending_from 0 held.bound held.table.was_joined
   pub assigned : held.assigned ≡ assigned_read joined
 
 -- Nothing is joined to an edge: the edges are as they were, and so is what they wait for. Files may be new, which keep the
@@ -96,5 +96,5 @@ pub record JoinsNothing (before after : JoiningText) : Type 0 where
 
 -- the entry has no fault and is joined, or its fault is answered
 abbrev pub JoinsEntry : (after : JoiningText) → Option GraphFault → (stated joined : List ReadStatement) → Result (Unit {0}) GraphFault → Type 0
-JoinsEntry after expected stated joined (Ok done) = (expected ≡ None) × HoldsJoined after stated joined
+JoinsEntry after expected stated joined (Ok done) = (expected ≡ None) × HasJoined after stated joined
 JoinsEntry after expected stated joined (Err fault) = IsFault expected fault

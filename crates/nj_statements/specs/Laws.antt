@@ -3,13 +3,13 @@ use Rattle.std.specs.Prelude.{◌≡◌, ℕ, ◌<◌, ◌==◌, Bool, true, fal
 use Rattle.std.specs.List.{AllByRecursion, IsDistinct, list_any, flat_map}
 use Rattle.nj_manifest.specs.Statements.{StatementText, BuildText}
 use Rattle.nj_manifest.specs.Dyndeps.{EntryText}
-use Rattle.nj_scope.specs.ReadingList.{Discovered, ReadStatement, value_after, rule_texts, rule_in_force, pools}
+use Rattle.nj_scope.specs.ReadingList.{Discovered, ReadStatement, value_after, rules_read, rule_in_force, pools}
 use Rattle.nj_edges.specs.Edges.{EdgePaths, outputs_of, maker_of, is_among}
 use Rattle.nj_edges.specs.Joining.{changed_at}
 use Rattle.nj_statements.specs.EdgeList.{EdgeText, Pending, with_discovered, edges_read, paths_of_edges, defaults_read}
 use Rattle.nj_statements.specs.EdgeList.{names_of_edge, pending_read}
 use Rattle.nj_statements.specs.BuildFaults.{build_fault}
-use Rattle.nj_statements.specs.Joining.{discover, discovered_by, edge_meant, with_entry, waits_for, entry_fault, dyndep_files}
+use Rattle.nj_statements.specs.Joining.{discover, discovered_by, edge_meant, with_entry, pending_on, entry_fault, dyndep_files}
 
 -- an edge waits for a dyndep file
 abbrev pub is_pending : List ReadStatement → (edge : ℕ) → Bool
@@ -26,14 +26,14 @@ AddsToOneEdge = (entries : List ReadStatement) (edge : ℕ) (found : Discovered)
     → edges_read (discover edge found entries) ≡ changed_at (with_found found) edge (edges_read entries)
 
 -- From then on that edge does not wait, and the others wait as before.
-abbrev pub OthersWaitAsBefore : Type 0
-OthersWaitAsBefore = (entries : List ReadStatement) (edge : ℕ) (found : Discovered)
+abbrev pub OthersArePendingAsBefore : Type 0
+OthersArePendingAsBefore = (entries : List ReadStatement) (edge : ℕ) (found : Discovered)
     → pending_read (discover edge found entries) ≡ filter (λ p. not (p.edge == edge)) (pending_read entries)
 
 -- What an entry of a dyndep file discovers is added to this edge, which waited for the file.
 pub record AddsToItsEdge (file : List ℕ) (stated joined : List ReadStatement) (entry : EntryText) (edge : ℕ) : Type 0 where
   pub meant : edge_meant stated entry ≡ Some edge
-  pub waited : waits_for file (pending_read joined) (Some edge) ≡ true
+  pub waited : pending_on file (pending_read joined) (Some edge) ≡ true
   pub edges : edges_read (with_entry stated joined entry) ≡ changed_at (with_found (discovered_by entry)) edge (edges_read joined)
   pub pending : pending_read (with_entry stated joined entry) ≡ filter (λ p. not (p.edge == edge)) (pending_read joined)
 
@@ -83,16 +83,16 @@ NoFileGetsTwoMakers = (stated joined : List ReadStatement) → AreFaultless stat
     → IsDistinct bytes_eq (all_outputs (paths_of_edges (edges_read joined)))
 
 -- What names and rules stand for stays as it is, for statements and for edges, and so do the rules, the pools and the defaults.
-pub record SaysTheSame (entries others : List ReadStatement) : Type 0 where
+pub record GivesTheSame (entries others : List ReadStatement) : Type 0 where
   pub values : value_after others ≡ value_after entries
-  pub rules : rule_texts others ≡ rule_texts entries
+  pub rules : rules_read others ≡ rules_read entries
   pub in_force : rule_in_force others ≡ rule_in_force entries
   pub pools_are : pools others ≡ pools entries
   pub defaults : defaults_read others ≡ defaults_read entries
   pub names : (e : EdgeText) → names_of_edge others e ≡ names_of_edge entries e
 
 abbrev pub NamesStay : Type 0
-NamesStay = (entries : List ReadStatement) (edge : ℕ) (found : Discovered) → SaysTheSame entries (discover edge found entries)
+NamesStay = (entries : List ReadStatement) (edge : ℕ) (found : Discovered) → GivesTheSame entries (discover edge found entries)
 
 -- each has a smaller number than those after it
 abbrev pub AreRising : List Pending → Type 0
@@ -100,19 +100,19 @@ AreRising [] = Unit {0}
 AreRising (p ∷ others) = AllByRecursion (λ q. p.edge < q.edge) others × AreRising others
 
 -- The edges that wait are edges of the statements, in ascending order of number, each once.
-pub record StandByNumber (entries : List ReadStatement) : Type 0 where
+pub record AreByNumber (entries : List ReadStatement) : Type 0 where
   pub within : AllByRecursion (λ p. p.edge < length (edges_read entries)) (pending_read entries)
   pub rising : AreRising (pending_read entries)
 
 abbrev pub PendingEdgesRise : Type 0
-PendingEdgesRise = (entries : List ReadStatement) → StandByNumber entries
+PendingEdgesRise = (entries : List ReadStatement) → AreByNumber entries
 
 -- The dyndep files of the edges that wait: each once, with the edge of the smallest number that waits for it, and in the order of these
 -- edges.
-pub record StandOnce (edges : List Pending) : Type 0 where
+pub record ComeOnce (edges : List Pending) : Type 0 where
   pub distinct : IsDistinct bytes_eq (map (λ p. p.file) (dyndep_files edges))
   pub first : (file : List ℕ) → find (λ p. bytes_eq p.file file) (dyndep_files edges) ≡ find (λ p. bytes_eq p.file file) edges
   pub rising : AreRising (dyndep_files edges)
 
-abbrev pub DyndepFilesStandOnce : Type 0
-DyndepFilesStandOnce = (entries : List ReadStatement) → StandOnce (pending_read entries)
+abbrev pub DyndepFilesComeOnce : Type 0
+DyndepFilesComeOnce = (entries : List ReadStatement) → ComeOnce (pending_read entries)

@@ -7,19 +7,19 @@ ghost use Rattle.nj_manifest.specs.Statements.{DefaultText};
 ghost use Rattle.nj_scope.specs.Readings.{IsPrefix};
 ghost use Rattle.nj_scope.specs.Scopes.{IsScope, parent_at};
 ghost use Rattle.nj_scope.specs.Declarations.{DeclaredBy};
-ghost use Rattle.nj_scope.specs.ReadingList.{ReadStatement, rule_in_force, rule_texts};
+ghost use Rattle.nj_scope.specs.ReadingList.{ReadStatement, rule_in_force, rules_read};
 ghost use Rattle.nj_edges.specs.EdgeTables.{no_files};
-ghost use Rattle.nj_statements.specs.EdgeList.{Values, paths_said, line_values, edge_of_build, edges_read, paths_of_edges};
+ghost use Rattle.nj_statements.specs.EdgeList.{Values, paths_given, line_values, edge_of_build, edges_read, paths_of_edges};
 ghost use Rattle.nj_statements.specs.BuildFaults.{first_fault, paths_fault, late_fault, target_fault, build_fault, default_fault};
-ghost use Rattle.nj_statements.specs.Answers.{Checks, HoldsEdges, AddsNothing, ReadsStatement, entry_at_place};
+ghost use Rattle.nj_statements.specs.Answers.{Checks, HasEdges, AddsNothing, ReadsStatement, entry_at_place};
 ghost use Rattle.nj_statements.specs.Inside.EdgeSteps.{SeesNames, AddsTargets, with_dyndep};
 
 use crate::block::bind_block;
+use crate::capacity::Capacity;
 use crate::context::Context;
 use crate::detail::Detail;
 use crate::edge::add_edge;
 use crate::references::{UsedRule, keep_references, rule_references};
-use crate::room::Room;
 use crate::text_table::Texts;
 use nj_edge_env::{Blocks, KeyReferences};
 use nj_edges::{Edges, FileNo};
@@ -49,7 +49,7 @@ pub struct Building {
     pub(crate) dyndeps: Vec<DyndepEdge>,
     // of each rule by number, which of its variables refer to which, where an edge has used it
     references: Vec<Option<KeyReferences>>,
-    room: Room,
+    capacity: Capacity,
 }
 
 impl Model for Building {
@@ -75,7 +75,7 @@ impl Model for Building {
 impl Building {
     /// No edges. It allocates nothing. Names and paths are hashed by these keys.
     pub fn new(alloc: Global, keys: HashKeys) -> Building
-        ensures { HoldsEdges result [] }
+        ensures { HasEdges result [] }
     {
         Building {
             edges: Edges::new(alloc, keys),
@@ -85,7 +85,7 @@ impl Building {
             defaults: Vec::new(alloc),
             dyndeps: Vec::new(alloc),
             references: Vec::new(alloc),
-            room: Room::new(alloc),
+            capacity: Capacity::new(alloc),
         }
     }
 
@@ -111,7 +111,7 @@ impl Building {
         ensures reads { (entries : List ReadStatement) (around : List ℕ) (depth : ℕ)
             → DeclaredBy declarations.now entries
             → IsScope (parent_at declarations.now.scopes) scope (scope ∷ around)
-            → HoldsEdges self.old entries
+            → HasEdges self.old entries
             → let e = entry_at_place place.entry scope around depth (build_text build.now) in
             ReadsStatement self.new (build_fault e entries (outputs_text build.now)
             (used_rule build.now) (inputs_text build.now)
@@ -149,8 +149,8 @@ impl Building {
             → IsScope (parent_at declarations.now.scopes) scope (scope ∷ around)
             → rule_in_force entries (scope ∷ around) build.now.rule.now
             ≡ Some rule.entry.number
-            → slice_get (rule_texts entries) rule.entry.number ≡ Some rule.entry.rule.now
-            → HoldsEdges self.old entries
+            → slice_get (rules_read entries) rule.entry.number ≡ Some rule.entry.rule.now
+            → HasEdges self.old entries
             → let e = entry_at_place place.entry scope around depth (build_text build.now) in
             let outputs = outputs_text build.now in
             let inputs = inputs_text build.now in
@@ -170,7 +170,7 @@ impl Building {
         keep_references(alloc, &mut self.references, rule)?;
         bind_block(
             &mut self.block_values,
-            &mut self.room.text,
+            &mut self.capacity.text,
             declarations,
             scope,
             edge,
@@ -187,7 +187,7 @@ impl Building {
         let references = rule_references(&self.references, rule.number);
         let assigned = add_edge(
             context,
-            &mut self.room,
+            &mut self.capacity,
             &mut self.edges,
             &mut self.names,
             build,
@@ -217,7 +217,7 @@ impl Building {
         ensures reads { (entries : List ReadStatement) (around : List ℕ) (depth : ℕ)
             → DeclaredBy declarations.now entries
             → IsScope (parent_at declarations.now.scopes) scope (scope ∷ around)
-            → HoldsEdges self.old entries
+            → HasEdges self.old entries
             → let item = DefaultText (words_text words.now) in
             let e = entry_at_place place.entry scope around depth item in
             ReadsStatement self.new (default_fault e entries (words_text words.now))
@@ -235,7 +235,7 @@ impl Building {
         let count = self.defaults.as_slice().len();
         match add_targets(
             context,
-            &mut self.room,
+            &mut self.capacity,
             &self.edges,
             &mut self.defaults,
             words,
@@ -262,7 +262,7 @@ fn push_dyndep(dyndeps: &mut Vec<DyndepEdge>, edge: usize, file: Option<FileNo>)
 // Appends the files that words name, each of which an earlier edge has to name.
 fn add_targets(
     context: Context<'_>,
-    room: &mut Room,
+    capacity: &mut Capacity,
     edges: &Edges,
     targets: &mut Vec<FileNo>,
     words: &[Word<'_>],
@@ -273,11 +273,11 @@ fn add_targets(
         (words_text words.now)) result }
     ensures added { (values : Values) → SeesNames context.entry values
         → OnOk result (AddsTargets edges.now.files targets.old.items targets.new.items
-        (paths_said values (words_text words.now))) }
+        (paths_given values (words_text words.now))) }
     ensures kept { IsPrefix targets.old.items targets.new.items }
 {
     'words: for word in words {
-        let file = context.named_file(room, edges, word)?;
+        let file = context.named_file(capacity, edges, word)?;
         targets.push(file)?;
     }
     Ok(())
@@ -291,7 +291,7 @@ fn rule_named<'a>(declarations: &'a Declarations, scope: usize, name: &[u8]) -> 
         → IsScope (parent_at declarations.now.scopes) scope (scope ∷ around)
         → option_map (λ r. r.number) result ≡ rule_in_force entries (scope ∷ around) name.now }
     ensures rule { (entries : List ReadStatement) → DeclaredBy declarations.now entries
-        → IfSome result (λ r. slice_get (rule_texts entries) r.number ≡ Some r.rule.now) }
+        → IfSome result (λ r. slice_get (rules_read entries) r.number ≡ Some r.rule.now) }
 {
     let number = declarations.rule(scope, name)?;
     let rule = declarations.rules().get(number)?;

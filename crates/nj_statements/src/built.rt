@@ -5,7 +5,7 @@ ghost use Rattle.nj_scope.specs.ReadingList.{ReadStatement};
 ghost use Rattle.nj_edges.specs.Files.{AreFiles};
 ghost use Rattle.nj_faults.specs.Faults.{IsFault, fault_at};
 ghost use Rattle.nj_statements.specs.EdgeList.{assigned_at};
-ghost use Rattle.nj_statements.specs.Answers.{HoldsEdges};
+ghost use Rattle.nj_statements.specs.Answers.{HasEdges};
 ghost use Rattle.nj_statements.specs.Built.{ComesTo, defaults_in_force, detail_at};
 ghost use Rattle.nj_statements.specs.Inside.Details.{text_at, spot_of};
 
@@ -62,8 +62,8 @@ impl Building {
     /// A dependency cycle: at the statement of the lowest-numbered edge that lies on one itself,
     /// with the first output of that edge. An edge that only leads into a cycle is not named.
     pub fn finish(self, alloc: Global) -> Result<Built, GraphFault>
-        requires { (entries : List ReadStatement) × HoldsEdges self entries }
-        ensures { (entries : List ReadStatement) → HoldsEdges self entries
+        requires { (entries : List ReadStatement) × HasEdges self entries }
+        ensures { (entries : List ReadStatement) → HasEdges self entries
             → ComesTo entries result }
     {
         let Building {

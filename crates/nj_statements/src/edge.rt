@@ -9,18 +9,18 @@ ghost use Rattle.nj_scope.specs.Readings.{IsPrefix};
 ghost use Rattle.nj_edges.specs.Edges.{inputs_of};
 ghost use Rattle.nj_edges.specs.EdgeTables.{no_files, EndWithin, edge_read};
 ghost use Rattle.nj_edge_env.specs.LateEdges.{late_names};
-ghost use Rattle.nj_edge_env.specs.LateTexts.{asked_text};
+ghost use Rattle.nj_edge_env.specs.LateStrings.{asked_text};
 ghost use Rattle.nj_edge_env.specs.ReferencesHeld.{TellsCycles};
-ghost use Rattle.nj_statements.specs.EdgeList.{Values, path_said, paths_said, stated_paths, loses_own, edge_paths, file_said};
+ghost use Rattle.nj_statements.specs.EdgeList.{Values, path_given, paths_given, stated_paths, loses_own, edge_paths, file_given};
 ghost use Rattle.nj_statements.specs.BuildFaults.{empty_path, first_fault, target_fault, outputs_fault, inputs_fault, paths_fault, names_fault};
 ghost use Rattle.nj_statements.specs.Answers.{Checks, KeepsRead};
 ghost use Rattle.nj_statements.specs.Inside.Details.{AreNumbersOf};
-ghost use Rattle.nj_statements.specs.Inside.EdgeSteps.{SeesNames, IsFileSaid, assigned_by, bound_by, Grows, AddsInputs, AddsEdge, names_read, with_outputs, with_input_unless, with_inputs, with_validations};
+ghost use Rattle.nj_statements.specs.Inside.EdgeSteps.{SeesNames, IsFileGiven, assigned_by, bound_by, Grows, AddsInputs, AddsEdge, names_read, with_outputs, with_input_unless, with_inputs, with_validations};
 
+use crate::capacity::Capacity;
 use crate::context::Context;
 use crate::detail::Assigned;
 use crate::references::{PHONY, UsedRule};
-use crate::room::Room;
 use crate::text_table::Texts;
 use nj_edge_env::{KeyReferences, LateEdge};
 use nj_edges::{Edges, FileNo, KindEnds};
@@ -32,7 +32,7 @@ impl Context<'_> {
     /// The file that a word names, which an earlier edge has to name.
     pub(crate) fn named_file(
         self,
-        room: &mut Room,
+        capacity: &mut Capacity,
         edges: &Edges,
         word: &Word<'_>,
     ) -> Result<FileNo, GraphFault>
@@ -42,9 +42,9 @@ impl Context<'_> {
             (word_text word.now)) result }
         ensures file { (values : Values) → SeesNames self.entry values
             → IfOk result (λ file. slice_get edges.now.files file.0
-            ≡ Some (path_said values (word_text word.now))) }
+            ≡ Some (path_given values (word_text word.now))) }
     {
-        let path = self.path(room, word)?;
+        let path = self.path(capacity, word)?;
         match edges.file_named(path) {
             Some(file) => Ok(file),
             None => {
@@ -58,7 +58,7 @@ impl Context<'_> {
     #[tactic(auto, using(crate::proofs::Keeps::keeps_same, crate::proofs::Keeps::keeps_output))]
     pub(crate) fn add_outputs(
         self,
-        room: &mut Room,
+        capacity: &mut Capacity,
         edges: &mut Edges,
         words: &[Word<'_>],
     ) -> Result<(), GraphFault>
@@ -67,12 +67,12 @@ impl Context<'_> {
             edges.old.«open».outputs (words_text words.now)) result }
         ensures added { (values : Values) → SeesNames self.entry values
             → OnOk result (edges.new
-            ≡ with_outputs edges.old (paths_said values (words_text words.now))) }
+            ≡ with_outputs edges.old (paths_given values (words_text words.now))) }
         ensures grows { OnOk result (Grows (length words.now) edges.old edges.new) }
         ensures keeps { KeepsRead edges.old edges.new }
     {
         'words: for word in words {
-            let path = self.path(room, word)?;
+            let path = self.path(capacity, word)?;
             if !edges.add_output(path)? {
                 let cause = Cause::TwoMakers(Name::new(self.alloc, path)?);
                 return Err(self.fault(word.spot, cause));
@@ -85,7 +85,7 @@ impl Context<'_> {
     #[tactic(auto, using(crate::proofs::Keeps::keeps_same))]
     pub(crate) fn add_inputs(
         self,
-        room: &mut Room,
+        capacity: &mut Capacity,
         edges: &mut Edges,
         words: &[Word<'_>],
         loses_own: bool,
@@ -95,12 +95,12 @@ impl Context<'_> {
             (words_text words.now)) result }
         ensures added { (values : Values) → SeesNames self.entry values
             → OnOk result (edges.new
-            ≡ with_inputs loses_own edges.old (paths_said values (words_text words.now))) }
+            ≡ with_inputs loses_own edges.old (paths_given values (words_text words.now))) }
         ensures grows { OnOk result (Grows 0 edges.old edges.new) }
         ensures keeps { KeepsRead edges.old edges.new }
     {
         'words: for word in words {
-            let path = self.path(room, word)?;
+            let path = self.path(capacity, word)?;
             add_input(edges, path, loses_own)?;
         }
         Ok(())
@@ -110,7 +110,7 @@ impl Context<'_> {
     #[tactic(auto, using(crate::proofs::Keeps::keeps_same, crate::proofs::Keeps::keeps_validation))]
     pub(crate) fn add_validations(
         self,
-        room: &mut Room,
+        capacity: &mut Capacity,
         edges: &mut Edges,
         words: &[Word<'_>],
     ) -> Result<(), GraphFault>
@@ -119,12 +119,12 @@ impl Context<'_> {
             (words_text words.now)) result }
         ensures added { (values : Values) → SeesNames self.entry values
             → OnOk result (edges.new
-            ≡ with_validations edges.old (paths_said values (words_text words.now))) }
+            ≡ with_validations edges.old (paths_given values (words_text words.now))) }
         ensures grows { OnOk result (Grows 0 edges.old edges.new) }
         ensures keeps { KeepsRead edges.old edges.new }
     {
         'words: for word in words {
-            let path = self.path(room, word)?;
+            let path = self.path(capacity, word)?;
             edges.add_validation(path)?;
         }
         Ok(())
@@ -148,7 +148,7 @@ fn add_input(edges: &mut Edges, path: &[u8], loses_own: bool) -> Result<(), Allo
 #[tactic(auto, using(crate::proofs::Keeps::keeps_then))]
 fn add_all_outputs(
     context: Context<'_>,
-    room: &mut Room,
+    capacity: &mut Capacity,
     edges: &mut Edges,
     build: &Build<'_>,
 ) -> Result<(), GraphFault>
@@ -158,14 +158,14 @@ fn add_all_outputs(
         ++ (outputs_text build.now).implicit)) result }
     ensures added { (values : Values) → SeesNames context.entry values
         → OnOk result (edges.new ≡ with_outputs (with_outputs edges.old
-        (paths_said values (outputs_text build.now).explicit))
-        (paths_said values (outputs_text build.now).implicit)) }
+        (paths_given values (outputs_text build.now).explicit))
+        (paths_given values (outputs_text build.now).implicit)) }
     ensures grows { OnOk result (Grows (length build.now.explicit_outs.items
         + length build.now.implicit_outs.items) edges.old edges.new) }
     ensures keeps { KeepsRead edges.old edges.new }
 {
-    context.add_outputs(room, edges, build.explicit_outs.as_slice())?;
-    context.add_outputs(room, edges, build.implicit_outs.as_slice())
+    context.add_outputs(capacity, edges, build.explicit_outs.as_slice())?;
+    context.add_outputs(capacity, edges, build.implicit_outs.as_slice())
 }
 
 // Appends all inputs and validations of a build statement to the edge that is being read. Returns
@@ -173,7 +173,7 @@ fn add_all_outputs(
 #[tactic(auto, using(crate::proofs::Keeps::keeps_then))]
 fn add_all_inputs(
     context: Context<'_>,
-    room: &mut Room,
+    capacity: &mut Capacity,
     edges: &mut Edges,
     build: &Build<'_>,
     loses_own: bool,
@@ -188,12 +188,12 @@ fn add_all_inputs(
     ensures grows { OnOk result (Grows 0 edges.old edges.new) }
     ensures keeps { KeepsRead edges.old edges.new }
 {
-    context.add_inputs(room, edges, build.explicit.as_slice(), loses_own)?;
+    context.add_inputs(capacity, edges, build.explicit.as_slice(), loses_own)?;
     let explicit = edges.open_inputs();
-    context.add_inputs(room, edges, build.implicit.as_slice(), loses_own)?;
+    context.add_inputs(capacity, edges, build.implicit.as_slice(), loses_own)?;
     let implicit = edges.open_inputs();
-    context.add_inputs(room, edges, build.order_only.as_slice(), loses_own)?;
-    context.add_validations(room, edges, build.validations.as_slice())?;
+    context.add_inputs(capacity, edges, build.order_only.as_slice(), loses_own)?;
+    context.add_validations(capacity, edges, build.validations.as_slice())?;
     Ok((explicit, implicit))
 }
 
@@ -202,7 +202,7 @@ fn add_all_inputs(
 #[tactic(auto, using(crate::proofs::Keeps::keeps_then))]
 fn add_files(
     context: Context<'_>,
-    room: &mut Room,
+    capacity: &mut Capacity,
     edges: &mut Edges,
     build: &Build<'_>,
     is_phony: bool,
@@ -220,10 +220,10 @@ fn add_files(
         (length edges.new.«open».inputs)) }
     ensures keeps { KeepsRead edges.old edges.new }
 {
-    add_all_outputs(context, room, edges, build)?;
+    add_all_outputs(context, capacity, edges, build)?;
     let loses_own = loses_own(build, is_phony);
     let (explicit_inputs, implicit_inputs) = add_all_inputs(
-        context, room, edges, build, loses_own,
+        context, capacity, edges, build, loses_own,
     )?;
     Ok(KindEnds {
         explicit_outputs: build.explicit_outs.as_slice().len(),
@@ -263,9 +263,9 @@ fn late_edge<'a>(
 #[tactic(auto, using(crate::proofs::Keeps::keeps_same))]
 pub(crate) fn add_edge(
     context: Context<'_>,
-    room: &mut Room,
+    capacity: &mut Capacity,
     edges: &mut Edges,
-    texts: &mut Texts,
+    strings: &mut Texts,
     build: &Build<'_>,
     rule: UsedRule<'_>,
     references: &KeyReferences,
@@ -288,23 +288,23 @@ pub(crate) fn add_edge(
         → edges.old.«open» ≡ no_files
         → let paths = edge_paths (stated_paths values (outputs_text build.now)
         (inputs_text build.now) (rule.entry.number == 0)) in
-        IfOk result (λ a. IsFileSaid edges.new.files a.file (file_said (asked_text
+        IfOk result (λ a. IsFileGiven edges.new.files a.file (file_given (asked_text
         (names_read paths (bound_by context.entry) rule.entry.rule.now
         (value_after sees.entries (context.entry.scope ∷ sees.around))) (codes "dyndep")))) }
     ensures assigned { (values : Values) (sees : SeesNames context.entry values)
         → edges.old.«open» ≡ no_files
         → let paths = edge_paths (stated_paths values (outputs_text build.now)
         (inputs_text build.now) (rule.entry.number == 0)) in
-        IfOk result (λ a. AreNumbersOf texts.new a (assigned_by
+        IfOk result (λ a. AreNumbersOf strings.new a (assigned_by
         (names_read paths (bound_by context.entry) rule.entry.rule.now
         (value_after sees.entries (context.entry.scope ∷ sees.around))))) }
-    ensures grows { IsPrefix texts.old texts.new }
+    ensures grows { IsPrefix strings.old strings.new }
     ensures refused { OnErr result (KeepsRead edges.old edges.new) }
 {
     let is_phony = rule.number == PHONY;
-    let kinds = add_files(context, room, edges, build, is_phony)?;
+    let kinds = add_files(context, capacity, edges, build, is_phony)?;
     let edge = late_edge(context, edges, kinds, rule);
-    let assigned = context.check_late(edge, room, edges, texts, references)?;
+    let assigned = context.check_late(edge, capacity, edges, strings, references)?;
     edges.end_edge(kinds, is_phony)?;
     Ok(assigned)
 }

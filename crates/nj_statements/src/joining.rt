@@ -12,18 +12,18 @@ ghost use Rattle.nj_edges.specs.Edges.{edge_at, first_output, first_edge, maker_
 ghost use Rattle.nj_edges.specs.Files.{path_at};
 ghost use Rattle.nj_edges.specs.Joining.{none_added};
 ghost use Rattle.nj_faults.specs.Faults.{IsFault, fault_at};
-ghost use Rattle.nj_statements.specs.EdgeList.{path_said, paths_said, pending_read};
+ghost use Rattle.nj_statements.specs.EdgeList.{path_given, paths_given, pending_read};
 ghost use Rattle.nj_statements.specs.BuildFaults.{empty_path, first_fault, outputs_fault};
 ghost use Rattle.nj_statements.specs.Built.{ComesTo, IsBuiltOf, detail_at};
 ghost use Rattle.nj_statements.specs.Joining.{no_values, entry_fault, with_entry, lacking_fault};
 ghost use Rattle.nj_statements.specs.Answers.{Checks};
-ghost use Rattle.nj_statements.specs.JoiningHeld.{HoldsJoined, JoinsEntry, JoinsNothing, KeepsEdges, has_pending, still_waiting};
-ghost use Rattle.nj_statements.specs.Inside.JoiningSteps.{IsMeant, fault_of_waiting, bind_all, first_edges, count_bound, is_bound_to, if_bound, maker_fault, edge_bound, with_added_outputs, with_added_inputs};
+ghost use Rattle.nj_statements.specs.JoiningHeld.{HasJoined, JoinsEntry, JoinsNothing, KeepsEdges, has_pending, still_pending};
+ghost use Rattle.nj_statements.specs.Inside.JoiningSteps.{IsMeant, fault_of_pending, bind_all, first_edges, count_bound, is_bound_to, if_bound, maker_fault, edge_bound, with_added_outputs, with_added_inputs};
 
 use crate::building::DyndepEdge;
 use crate::built::{Built, cycle_fault, place_of};
+use crate::capacity::Capacity;
 use crate::detail::Detail;
-use crate::room::Room;
 use crate::text_table::Texts;
 use nj_edge_env::Blocks;
 use nj_edges::{EdgeNo, FileNo, Finished, JoiningEdges};
@@ -56,8 +56,8 @@ pub struct Joining {
     // for each edge, the dyndep file to which it is bound
     bound: Vec<Option<FileNo>>,
     // for each file, how many edges wait for what it says
-    waiting: Vec<usize>,
-    room: Room,
+    unjoined: Vec<usize>,
+    capacity: Capacity,
 }
 
 impl Model for Joining {
@@ -70,7 +70,7 @@ impl Model for Joining {
         j.dyndep_files.items j.bound.items };
 
     ghost invariant = { λ j. JoiningIsHeld j.edges j.names j.details.items j.defaults.items
-        j.dyndep_files.items j.bound.items j.waiting.items };
+        j.dyndep_files.items j.bound.items j.unjoined.items };
 }
 
 impl Built {
@@ -84,7 +84,7 @@ impl Built {
     /// The edges, to which dyndep files can be joined.
     pub fn join(self, alloc: Global) -> Result<Joining, AllocError>
         ensures { (stated : List ReadStatement) → IsBuiltOf self stated
-            → IfOk result (λ joining. HoldsJoined joining stated stated) }
+            → IfOk result (λ joining. HasJoined joining stated stated) }
     {
         let Built {
             graph,
@@ -98,7 +98,7 @@ impl Built {
         let edges = graph.join(alloc)?;
         let Awaited {
             dyndep_files,
-            waiting,
+            unjoined,
         } = awaited_files(alloc, edges.files().count(), &dyndeps)?;
         Ok(Joining {
             edges,
@@ -108,8 +108,8 @@ impl Built {
             defaults,
             dyndep_files,
             bound,
-            waiting,
-            room: Room::new(alloc),
+            unjoined,
+            capacity: Capacity::new(alloc),
         })
     }
 }
@@ -135,7 +135,7 @@ fn bound_files(
 #[derive(Drop)]
 struct Awaited {
     dyndep_files: Vec<DyndepEdge>,
-    waiting: Vec<usize>,
+    unjoined: Vec<usize>,
 }
 
 // The dyndep files of edges, where there are this many files.
@@ -146,22 +146,22 @@ fn awaited_files(
 ) -> Result<Awaited, AllocError>
     requires { AllByRecursion (λ d. d.file.0 < file_count) dyndeps.now }
     ensures dyndep_files { IfOk result (λ a. a.dyndep_files.items ≡ first_edges dyndeps.now) }
-    ensures count { IfOk result (λ a. length a.waiting.items ≡ file_count) }
-    ensures waiting { IfOk result (λ a. (file : FileNo)
-        → slice_index_or a.waiting.items file.0 0 ≡ count_bound file dyndeps.now) }
+    ensures count { IfOk result (λ a. length a.unjoined.items ≡ file_count) }
+    ensures unjoined { IfOk result (λ a. (file : FileNo)
+        → slice_index_or a.unjoined.items file.0 0 ≡ count_bound file dyndeps.now) }
 {
     let mut dyndep_files = Vec::new(alloc);
-    let mut waiting = vec![in alloc; 0; file_count]?;
+    let mut unjoined = vec![in alloc; 0; file_count]?;
     'dyndeps: for dyndep in dyndeps {
         let file = dyndep.file.0;
-        if waiting[file] == 0 {
+        if unjoined[file] == 0 {
             dyndep_files.push(*dyndep)?;
         }
-        waiting[file] += 1;
+        unjoined[file] += 1;
     }
     Ok(Awaited {
         dyndep_files,
-        waiting,
+        unjoined,
     })
 }
 
@@ -214,7 +214,7 @@ impl Joining {
         entry: &Entry<'_>,
     ) -> Result<(), GraphFault>
         requires { slice_get self.old.table.files file.0 ≡ Some name.now }
-        ensures joins { (stated joined : List ReadStatement) → HoldsJoined self.old stated joined
+        ensures joins { (stated joined : List ReadStatement) → HasJoined self.old stated joined
             → JoinsEntry self.new (entry_fault name.now stated joined (entry_text entry.now))
             stated (with_entry stated joined (entry_text entry.now)) result }
         ensures refused { OnErr result (JoinsNothing self.old self.new) }
@@ -223,11 +223,11 @@ impl Joining {
         ensures details { self.new.details ≡ self.old.details }
     {
         let line = DyndepLine { alloc, file, name };
-        let edge = line.edge_meant(&mut self.room, &self.edges, &self.bound, &entry.out)?;
-        line.add_outputs(&mut self.room, &mut self.edges, entry.outs.as_slice())?;
-        line.add_inputs(&mut self.room, &mut self.edges, entry.ins.as_slice())?;
+        let edge = line.edge_meant(&mut self.capacity, &self.edges, &self.bound, &entry.out)?;
+        line.add_outputs(&mut self.capacity, &mut self.edges, entry.outs.as_slice())?;
+        line.add_inputs(&mut self.capacity, &mut self.edges, entry.ins.as_slice())?;
         self.edges.end_join(edge);
-        self.waiting[file.0] -= 1;
+        self.unjoined[file.0] -= 1;
         Ok(())
     }
 
@@ -238,13 +238,13 @@ impl Joining {
     /// The lowest-numbered edge that does, at its build statement; or an allocation failed.
     pub fn end_file(&self, alloc: Global, file: FileNo) -> Result<(), GraphFault>
         requires { file.0 < length self.now.table.files }
-        ensures { (stated joined : List ReadStatement) → HoldsJoined self.now stated joined
+        ensures { (stated joined : List ReadStatement) → HasJoined self.now stated joined
             → Checks (lacking_fault (path_at self.now.table.files file) joined) result }
     {
-        if is_zero(&self.waiting, file.0) {
+        if is_zero(&self.unjoined, file.0) {
             return Ok(());
         }
-        match waiting_edge(&self.edges, &self.bound, file) {
+        match pending_edge(&self.edges, &self.bound, file) {
             Some(edge) => Err(self.no_statement(alloc, file, edge)?),
             None => Ok(()),
         }
@@ -259,7 +259,7 @@ impl Joining {
     ) -> Result<GraphFault, AllocError>
         requires file { file.0 < length self.now.table.files }
         requires edge { edge.0 < length self.now.table.stated }
-        ensures { IfOk result (λ fault. IsFault (Some (fault_of_waiting
+        ensures { IfOk result (λ fault. IsFault (Some (fault_of_pending
             (path_at self.now.table.files file) (detail_at self.now.details edge.0)
             (edge_at self.now.table.stated edge.0))) fault) }
     {
@@ -277,7 +277,7 @@ impl Joining {
     /// A dependency cycle, as before dyndep files were joined.
     pub fn finish(self, alloc: Global) -> Result<Built, GraphFault>
         requires { self.table.«open» ≡ none_added }
-        ensures { (stated joined : List ReadStatement) → HoldsJoined self stated joined
+        ensures { (stated joined : List ReadStatement) → HasJoined self stated joined
             → pending_read joined ≡ [] → ComesTo joined result }
     {
         let Joining {
@@ -307,10 +307,10 @@ impl Joining {
 }
 
 // The lowest-numbered edge that waits for a dyndep file.
-fn waiting_edge(edges: &JoiningEdges, bound: &[Option<FileNo>], file: FileNo) -> Option<EdgeNo>
+fn pending_edge(edges: &JoiningEdges, bound: &[Option<FileNo>], file: FileNo) -> Option<EdgeNo>
     requires { length bound.now ≡ length edges.now.stated }
     ensures { option_map (λ edge. edge.0) result ≡ first_edge (λ w. is_bound_to w file)
-        (still_waiting bound.now edges.now.was_joined) }
+        (still_pending bound.now edges.now.was_joined) }
 {
     'edges: for (number, other) in bound.iter().enumerate() {
         let edge = EdgeNo(number);
@@ -343,12 +343,16 @@ struct DyndepLine<'a> {
 
 impl DyndepLine<'_> {
     // The path that a word says.
-    fn path<'w>(self, room: &'w mut Room, word: &'w Word<'_>) -> Result<&'w [u8], GraphFault>
-        ensures path { IfOk result (λ path. path.now ≡ path_said no_values (word_text word.now)) }
+    fn path<'w>(
+        self,
+        capacity: &'w mut Capacity,
+        word: &'w Word<'_>,
+    ) -> Result<&'w [u8], GraphFault>
+        ensures path { IfOk result (λ path. path.now ≡ path_given no_values (word_text word.now)) }
         ensures fault { Checks (empty_path self.entry.name.now no_values (word_text word.now))
             result }
     {
-        match room.plain_path(word) {
+        match capacity.plain_path(word) {
             Ok(path) => Ok(path),
             Err(TextFault::EmptyPath) => Err(self.fault(word.spot, Cause::EmptyPath)),
             Err(TextFault::OutOfMemory) => Err(GraphFault::out_of_memory()),
@@ -378,7 +382,7 @@ impl DyndepLine<'_> {
     // The edge that has the output of an entry.
     fn edge_meant(
         self,
-        room: &mut Room,
+        capacity: &mut Capacity,
         edges: &JoiningEdges,
         bound: &[Option<FileNo>],
         word: &Word<'_>,
@@ -391,7 +395,7 @@ impl DyndepLine<'_> {
         ensures edge { IfOk result (λ edge. IsMeant edges.now bound.now self.entry.file
             (word_text word.now) edge.0) }
     {
-        let path = self.path(room, word)?;
+        let path = self.path(capacity, word)?;
         let edge = match self.bound_maker(edges, bound, path) {
             Some(edge) => edge,
             None => {
@@ -409,18 +413,18 @@ impl DyndepLine<'_> {
     // Collects the outputs that an entry discovers.
     fn add_outputs(
         self,
-        room: &mut Room,
+        capacity: &mut Capacity,
         edges: &mut JoiningEdges,
         words: &[Word<'_>],
     ) -> Result<(), GraphFault>
         ensures fault { Checks (outputs_fault self.entry.name.now no_values edges.old.joined
             edges.old.«open».outputs (words_text words.now)) result }
         ensures added { OnOk result (edges.new
-            ≡ with_added_outputs edges.old (paths_said no_values (words_text words.now))) }
+            ≡ with_added_outputs edges.old (paths_given no_values (words_text words.now))) }
         ensures keeps { KeepsEdges edges.old edges.new }
     {
         'words: for word in words {
-            let path = self.path(room, word)?;
+            let path = self.path(capacity, word)?;
             if !edges.add_output(path)? {
                 let cause = Cause::TwoMakers(Name::new(self.alloc, path)?);
                 return Err(self.fault(word.spot, cause));
@@ -432,18 +436,18 @@ impl DyndepLine<'_> {
     // Collects the inputs that an entry discovers.
     fn add_inputs(
         self,
-        room: &mut Room,
+        capacity: &mut Capacity,
         edges: &mut JoiningEdges,
         words: &[Word<'_>],
     ) -> Result<(), GraphFault>
         ensures fault { Checks (first_fault (empty_path self.entry.name.now no_values)
             (words_text words.now)) result }
         ensures added { OnOk result (edges.new
-            ≡ with_added_inputs edges.old (paths_said no_values (words_text words.now))) }
+            ≡ with_added_inputs edges.old (paths_given no_values (words_text words.now))) }
         ensures keeps { KeepsEdges edges.old edges.new }
     {
         'words: for word in words {
-            let path = self.path(room, word)?;
+            let path = self.path(capacity, word)?;
             edges.add_input(path)?;
         }
         Ok(())

@@ -1,19 +1,19 @@
 //! What is wrong with the edge that is being read by the variables of its rule.
 
 ghost use Rattle.std.specs.Prelude.{◌≡◌, ◌<◌, List, Some, false, codes, length, slice_get, IfOk, IfSome, OnOk};
-ghost use Rattle.nj_edge_env.specs.LateTexts.{LateNames, asked_text};
+ghost use Rattle.nj_edge_env.specs.LateStrings.{LateNames, asked_text};
 ghost use Rattle.nj_edge_env.specs.ReferencesHeld.{TellsCycles};
 ghost use Rattle.nj_scope.specs.ReadingList.{ReadStatement, pools};
 ghost use Rattle.nj_statements.specs.BuildFaults.{variable_cycle_fault, unknown_pool, dyndep_not_input, names_fault};
 ghost use Rattle.nj_scope.specs.Readings.{IsPrefix};
-ghost use Rattle.nj_statements.specs.EdgeList.{file_said, name_said};
+ghost use Rattle.nj_statements.specs.EdgeList.{file_given, name_given};
 ghost use Rattle.nj_statements.specs.Answers.{Checks, numbered};
 ghost use Rattle.nj_statements.specs.Inside.Details.{AreNumbersOf};
-ghost use Rattle.nj_statements.specs.Inside.EdgeSteps.{SeesLate, IsFileSaid, assigned_by};
+ghost use Rattle.nj_statements.specs.Inside.EdgeSteps.{SeesLate, IsFileGiven, assigned_by};
 
+use crate::capacity::Capacity;
 use crate::context::Context;
 use crate::detail::Assigned;
-use crate::room::Room;
 use crate::text_table::{Texts, path_number};
 use nj_edge_env::{KeyReferences, LateEdge};
 use nj_edges::{Edges, FileNo};
@@ -27,9 +27,9 @@ impl Context<'_> {
     pub(crate) fn check_late(
         self,
         edge: LateEdge<'_>,
-        room: &mut Room,
+        capacity: &mut Capacity,
         edges: &Edges,
-        texts: &mut Texts,
+        strings: &mut Texts,
         references: &KeyReferences,
     ) -> Result<Assigned, GraphFault>
         ensures fault { (entries : List ReadStatement) (n : LateNames)
@@ -39,17 +39,17 @@ impl Context<'_> {
             edges.now.«open».inputs n) result }
         ensures file { (entries : List ReadStatement) (n : LateNames)
             → SeesLate edge.entry entries n
-            → IfOk result (λ a. IsFileSaid edges.now.files a.file
-            (file_said (asked_text n (codes "dyndep")))) }
+            → IfOk result (λ a. IsFileGiven edges.now.files a.file
+            (file_given (asked_text n (codes "dyndep")))) }
         ensures assigned { (entries : List ReadStatement) (n : LateNames)
             → SeesLate edge.entry entries n
-            → IfOk result (λ a. AreNumbersOf texts.new a (assigned_by n)) }
-        ensures grows { IsPrefix texts.old texts.new }
+            → IfOk result (λ a. AreNumbersOf strings.new a (assigned_by n)) }
+        ensures grows { IsPrefix strings.old strings.new }
     {
         self.check_cycle(edge, references)?;
-        let pool = self.check_pool(edge, &mut room.text, texts)?;
-        let file = self.check_dyndep(edge, room, edges)?;
-        let dyndep = path_number(texts, edges.files(), file)?;
+        let pool = self.check_pool(edge, &mut capacity.text, strings)?;
+        let file = self.check_dyndep(edge, capacity, edges)?;
+        let dyndep = path_number(strings, edges.files(), file)?;
         Ok(Assigned { pool, dyndep, file })
     }
 
@@ -77,7 +77,7 @@ impl Context<'_> {
         self,
         edge: LateEdge<'_>,
         text: &mut Vec<u8>,
-        texts: &mut Texts,
+        strings: &mut Texts,
     ) -> Result<u32, GraphFault>
         ensures fault { (entries : List ReadStatement) (n : LateNames)
             → SeesLate edge.entry entries n
@@ -85,17 +85,17 @@ impl Context<'_> {
             (asked_text n (codes "pool"))) result }
         ensures number { (entries : List ReadStatement) (n : LateNames)
             → SeesLate edge.entry entries n
-            → IfOk result (λ number. slice_get (numbered texts.new) number
-            ≡ Some (name_said (asked_text n (codes "pool")))) }
-        ensures grows { IsPrefix texts.old texts.new }
+            → IfOk result (λ number. slice_get (numbered strings.new) number
+            ≡ Some (name_given (asked_text n (codes "pool")))) }
+        ensures grows { IsPrefix strings.old strings.new }
     {
-        say(edge, text, b"pool")?;
+        give(edge, text, b"pool")?;
         let pool = text.as_slice();
         if pool.is_empty() {
             return Ok(0);
         }
         if edge.declarations.has_pool(pool) {
-            let number = texts.number(pool)?;
+            let number = strings.number(pool)?;
             return Ok(number);
         }
         let cause = Cause::UnknownPool(Name::new(self.alloc, pool)?);
@@ -106,7 +106,7 @@ impl Context<'_> {
     fn check_dyndep(
         self,
         edge: LateEdge<'_>,
-        room: &mut Room,
+        capacity: &mut Capacity,
         edges: &Edges,
     ) -> Result<Option<FileNo>, GraphFault>
         ensures fault { (entries : List ReadStatement) (n : LateNames)
@@ -115,12 +115,12 @@ impl Context<'_> {
             edges.now.«open».inputs (asked_text n (codes "dyndep"))) result }
         ensures file { (entries : List ReadStatement) (n : LateNames)
             → SeesLate edge.entry entries n
-            → IfOk result (λ file. IsFileSaid edges.now.files file
-            (file_said (asked_text n (codes "dyndep")))) }
+            → IfOk result (λ file. IsFileGiven edges.now.files file
+            (file_given (asked_text n (codes "dyndep")))) }
         ensures known { IfOk result (λ file. IfSome file (λ f. f.0 < length edges.now.files)) }
     {
-        say(edge, &mut room.text, b"dyndep")?;
-        let path = match room.clean_path() {
+        give(edge, &mut capacity.text, b"dyndep")?;
+        let path = match capacity.clean_path() {
             Ok(path) => path,
             Err(TextFault::EmptyPath) => return Ok(None),
             Err(TextFault::OutOfMemory) => return Err(GraphFault::out_of_memory()),
@@ -134,7 +134,7 @@ impl Context<'_> {
 }
 
 // Sets a text to what a name says.
-fn say(edge: LateEdge<'_>, text: &mut Vec<u8>, name: &[u8]) -> Result<(), AllocError>
+fn give(edge: LateEdge<'_>, text: &mut Vec<u8>, name: &[u8]) -> Result<(), AllocError>
     ensures { (entries : List ReadStatement) (n : LateNames) → SeesLate edge.entry entries n
         → OnOk result (text.new.items ≡ asked_text n name.now) }
 {

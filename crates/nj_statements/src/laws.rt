@@ -1,17 +1,17 @@
 //! Laws of what dyndep files add to edges. A law is a theorem, stated as a function with an empty
 //! body.
 
-ghost use Rattle.nj_statements.specs.Laws.{AddsToOneEdge, OthersWaitAsBefore, NamesStay};
+ghost use Rattle.nj_statements.specs.Laws.{AddsToOneEdge, OthersArePendingAsBefore, NamesStay};
 ghost use Rattle.nj_statements.specs.Laws.{EntriesAddToTheirEdges, EdgesMakeWhatIsDiscovered};
 ghost use Rattle.nj_statements.specs.Laws.{NoFileGetsTwoMakers};
-ghost use Rattle.nj_statements.specs.Laws.{PendingEdgesRise, DyndepFilesStandOnce};
+ghost use Rattle.nj_statements.specs.Laws.{PendingEdgesRise, DyndepFilesComeOnce};
 
 /// What a dyndep file says is added to one edge that waits for it; that edge then waits no longer.
 /// The other edges stay as they are and wait as before, and what names, rules and defaults say does
 /// not change.
 pub fn discovered_files_are_added()
     ensures added { AddsToOneEdge }
-    ensures waiting { OthersWaitAsBefore }
+    ensures unjoined { OthersArePendingAsBefore }
     ensures names { NamesStay }
 {}
 
@@ -35,6 +35,6 @@ pub fn pending_edges_rise()
 {}
 
 /// The dyndep files of the edges that wait are in the order of their first edges, each once.
-pub fn dyndep_files_stand_once()
-    ensures { DyndepFilesStandOnce }
+pub fn dyndep_files_come_once()
+    ensures { DyndepFilesComeOnce }
 {}

@@ -4,6 +4,7 @@
 mod block;
 mod building;
 mod built;
+mod capacity;
 mod context;
 mod detail;
 mod edge;
@@ -12,13 +13,12 @@ mod late;
 mod laws;
 mod names;
 mod references;
-mod room;
 mod text_table;
 
 pub use building::Building;
 pub use built::{Built, EdgeDetail};
 pub use joining::{DyndepFile, Joining};
 pub use laws::{
-    discovered_files_are_added, dyndep_files_stand_once, entries_add_to_their_edges,
+    discovered_files_are_added, dyndep_files_come_once, entries_add_to_their_edges,
     no_file_gets_two_makers, pending_edges_rise,
 };

@@ -3,13 +3,13 @@
 ghost use Rattle.std.specs.Prelude.{◌≡◌, IfOk, OnOk};
 ghost use Rattle.nj_text.specs.Words.{part_text, word_text};
 ghost use Rattle.nj_scope.specs.Scopes.{part_expanded, expanded};
-ghost use Rattle.nj_statements.specs.EdgeList.{Values, path_said};
+ghost use Rattle.nj_statements.specs.EdgeList.{Values, path_given};
 ghost use Rattle.nj_statements.specs.BuildFaults.{empty_path};
 ghost use Rattle.nj_statements.specs.Answers.{Checks};
 ghost use Rattle.nj_statements.specs.Inside.EdgeSteps.{SeesNames};
 
+use crate::capacity::{Capacity, clean_bytes};
 use crate::context::Context;
-use crate::room::{Room, clean_bytes};
 use nj_faults::{Cause, GraphFault};
 use nj_text::{Part, TextFault, Word};
 use std::alloc::AllocError;
@@ -26,7 +26,7 @@ impl Context<'_> {
     }
 
     // What a part says.
-    fn part_said<'w>(&'w self, part: &'w Part<'_>) -> &'w [u8]
+    fn part_given<'w>(&'w self, part: &'w Part<'_>) -> &'w [u8]
         ensures { (values : Values) → SeesNames self.now values
             → result.now ≡ part_expanded values (part_text part.now) }
     {
@@ -43,7 +43,7 @@ impl Context<'_> {
     {
         text.clear();
         'parts: for part in word.parts.as_slice() {
-            text.extend_from_slice((&*self).part_said(part))?;
+            text.extend_from_slice((&*self).part_given(part))?;
         }
         Ok(())
     }
@@ -51,19 +51,19 @@ impl Context<'_> {
     /// The path that a word says: a slice of its file if that is clean.
     pub(crate) fn path<'w>(
         self,
-        room: &'w mut Room,
+        capacity: &'w mut Capacity,
         word: &'w Word<'_>,
     ) -> Result<&'w [u8], GraphFault>
         ensures path { (values : Values) → SeesNames self.entry values
-            → IfOk result (λ path. path.now ≡ path_said values (word_text word.now)) }
+            → IfOk result (λ path. path.now ≡ path_given values (word_text word.now)) }
         ensures fault { (values : Values) → SeesNames self.entry values
             → Checks (empty_path self.entry.place.file.now values (word_text word.now)) result }
     {
         if let Some(path) = clean_bytes(word) {
             return Ok(path);
         }
-        self.expand(&mut room.text, word)?;
-        match room.clean_path() {
+        self.expand(&mut capacity.text, word)?;
+        match capacity.clean_path() {
             Ok(path) => Ok(path),
             Err(TextFault::EmptyPath) => Err(self.fault(word.spot, Cause::EmptyPath)),
             Err(TextFault::OutOfMemory) => Err(GraphFault::out_of_memory()),

@@ -3,7 +3,7 @@
 ghost use Rattle.std.specs.Prelude.{◌≡◌, ◌<◌, ◌≤◌, ◌+◌, ◌^◌, List, Some, None, true, is_some, option_copied, length, slice_get, slice_index_or, OnOk};
 ghost use Rattle.nj_scope.specs.Rules.{RuleText};
 ghost use Rattle.nj_edge_env.specs.ReferencesHeld.{TellsCycles};
-ghost use Rattle.nj_statements.specs.Answers.{HoldsReferences};
+ghost use Rattle.nj_statements.specs.Answers.{HasReferences};
 ghost use Rattle.nj_statements.specs.Inside.EdgeSteps.{SameReferences};
 
 use nj_edge_env::KeyReferences;
@@ -27,9 +27,9 @@ pub(crate) fn keep_references(
     kept: &mut Vec<Option<KeyReferences>>,
     rule: UsedRule<'_>,
 ) -> Result<(), AllocError>
-    ensures held { (rules : List RuleText) → HoldsReferences kept.old.items rules
+    ensures held { (rules : List RuleText) → HasReferences kept.old.items rules
         → slice_get rules rule.entry.number ≡ Some rule.entry.rule.now
-        → OnOk result (HoldsReferences kept.new.items rules) }
+        → OnOk result (HasReferences kept.new.items rules) }
     ensures kept { OnOk result (is_some (slice_index_or kept.new.items rule.entry.number None)
         ≡ true) }
 {
@@ -37,7 +37,7 @@ pub(crate) fn keep_references(
         return Ok(());
     }
     let references = KeyReferences::new(alloc, rule.rule)?;
-    make_room(kept, rule.number + 1)?;
+    make_capacity(kept, rule.number + 1)?;
     kept[rule.number] = Some(references);
     Ok(())
 }
@@ -64,11 +64,11 @@ fn references_kept(kept: &[Option<KeyReferences>], number: usize) -> Option<&Key
 }
 
 // Makes room for what is kept of this many rules.
-fn make_room(kept: &mut Vec<Option<KeyReferences>>, count: usize) -> Result<(), AllocError>
-    ensures room { OnOk result (count ≤ length kept.new.items) }
+fn make_capacity(kept: &mut Vec<Option<KeyReferences>>, count: usize) -> Result<(), AllocError>
+    ensures capacity { OnOk result (count ≤ length kept.new.items) }
     ensures same { SameReferences kept.old.items kept.new.items }
 {
-    'room: while kept.len() < count {
+    'capacity: while kept.len() < count {
         kept.push(None)?;
     }
     Ok(())

@@ -15,7 +15,7 @@ use std::marker::Model;
 /// the paths of dyndep files.
 #[derive(Drop)]
 pub(crate) struct Texts {
-    texts: Files,
+    strings: Files,
     // the number of the file in which the last edge stands
     file: Option<FileNo>,
 }
@@ -25,9 +25,9 @@ impl Model for Texts {
 
     ghost Value = { List (List ℕ) };
 
-    ghost view = { λ t. t.texts };
+    ghost view = { λ t. t.strings };
 
-    ghost invariant = { λ t. IfSome t.file (λ file. file.0 < length t.texts) };
+    ghost invariant = { λ t. IfSome t.file (λ file. file.0 < length t.strings) };
 }
 
 impl Texts {
@@ -36,7 +36,7 @@ impl Texts {
         ensures { result ≡ [] }
     {
         Texts {
-            texts: Files::new(alloc, keys),
+            strings: Files::new(alloc, keys),
             file: None,
         }
     }
@@ -48,11 +48,11 @@ impl Texts {
         ensures grows { IsPrefix self.old self.new }
     {
         if let Some(file) = self.file {
-            if self.texts.path(file) == name {
+            if self.strings.path(file) == name {
                 return short_number(file.0);
             }
         }
-        let file = self.texts.name(name)?;
+        let file = self.strings.name(name)?;
         self.file = Some(file);
         short_number(file.0)
     }
@@ -63,7 +63,7 @@ impl Texts {
             slice_get (numbered self.new) number ≡ Some (Some text.now)) }
         ensures grows { IsPrefix self.old self.new }
     {
-        let file = self.texts.name(text)?;
+        let file = self.strings.name(text)?;
         let number = next_number(file.0)?;
         Ok(number)
     }
@@ -84,24 +84,24 @@ impl Texts {
         requires { number < length self.now }
         ensures { slice_get self.now number ≡ Some result.now }
     {
-        self.texts.path(FileNo(number as usize))
+        self.strings.path(FileNo(number as usize))
     }
 }
 
 /// The number of the path of this file, counted from 1; 0 if it is none.
 #[tactic(auto, using(crate::proofs::AssignedLemmas::prefix_same))]
 pub(crate) fn path_number(
-    texts: &mut Texts,
+    strings: &mut Texts,
     files: &Files,
     file: Option<FileNo>,
 ) -> Result<u32, AllocError>
     requires { IfSome file (λ f. f.0 < length files.now) }
-    ensures number { IfOk result (λ number. slice_get (numbered texts.new) number
+    ensures number { IfOk result (λ number. slice_get (numbered strings.new) number
         ≡ Some (option_map (path_at files.now) file)) }
-    ensures grows { IsPrefix texts.old texts.new }
+    ensures grows { IsPrefix strings.old strings.new }
 {
     match file {
-        Some(file) => texts.number(files.path(file)),
+        Some(file) => strings.number(files.path(file)),
         None => Ok(0),
     }
 }

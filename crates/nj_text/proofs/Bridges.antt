@@ -220,8 +220,8 @@ absurd_fault : (f : UnitFault) → Some f ≡ None → ⊥
 absurd_fault f e = absurd cc
 
 -- after a unit of the value
-value_goes_on : (u : TextUnit) (us : List TextUnit) (l : Line) (ls : List Line) → lines_of us ≡ l ∷ ls → ending_of u.means ≡ None → of_value u ≡ true → fault_of u ≡ None → IsValue us → IsValue (u ∷ us)
-value_goes_on u us l ls e n t f rest =
+value_continues : (u : TextUnit) (us : List TextUnit) (l : Line) (ls : List Line) → lines_of us ≡ l ∷ ls → ending_of u.means ≡ None → of_value u ≡ true → fault_of u ≡ None → IsValue us → IsValue (u ∷ us)
+value_continues u us l ls e n t f rest =
     let first : first_line (lines_of (u ∷ us)) ≡ record { units = u ∷ l.units; end = l.end; is_last = l.is_last } = rw (n, e) refl in
     let d = drop_while-cons_yes of_value u us t in
     let line : first_line (lines_of us) ≡ l = ap first_line e in
@@ -264,7 +264,7 @@ value_of_line [] h = absurd (nil_has_no_line h)
 value_of_line (u ∷ us) h = by_end (ending_of u.means) refl (value_of_line us) h
   where
     by_case : (has : HasLine (lines_of us)) → ending_of u.means ≡ None → IsValue us → ((of_value u ≡ true) × (fault_of u ≡ None)) ⊎ ((of_value u ≡ false) × ((f : UnitFault) × (fault_of u ≡ Some f))) → IsValue (u ∷ us)
-    by_case has e rest (inl p) = value_goes_on u us has.0 has.1 has.2 e p.0 p.1 rest
+    by_case has e rest (inl p) = value_continues u us has.0 has.1 has.2 e p.0 p.1 rest
     by_case has e rest (inr p) = value_fails u us has.0 has.1 p.1.0 has.2 e p.0 p.1.1
 
     by_end : (o : Option Bool) → ending_of u.means ≡ o → (HasLine (lines_of us) → IsValue us) → HasLine (lines_before o u (lines_of us)) → IsValue (u ∷ us)

@@ -12,7 +12,7 @@ use Rattle.nj_text.specs.Inside.Cleaning.{components_kept, nothing_kept, text_ke
 use Rattle.nj_text.proofs.KeptComponents.{down_from_names, components_after, kept-ups, drop-kept}
 use Rattle.nj_text.proofs.SlashComponents.{slash_is}
 use Rattle.nj_text.proofs.WrittenComponents.{text_of, AllGo, go-kept, long_text}
-use Rattle.nj_text.proofs.CleanTexts.{AllWhole, kept_of, names-kept, relative-kept, absolute-kept, components-text, text-relative, stay-names, stay-ups, stay-kept, stay-down}
+use Rattle.nj_text.proofs.CleanStrings.{AllWhole, kept_of, names-kept, relative-kept, absolute-kept, components-text, text-relative, stay-names, stay-ups, stay-kept, stay-down}
 
 -- ---- what is written
 

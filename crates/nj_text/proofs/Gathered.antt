@@ -32,23 +32,23 @@ pub bad_at : (k : TextKind) (spot : Spot) (bytes : List ℕ) (m : Meaning) (n : 
     → next_fault (after_text k (units_within spot bytes)) ≡ Some f
 bad_at k spot bytes m n remainder f e h g = ap next_fault (ends_by k spot bytes m n remainder e h).1 ∙ ap next_fault e ∙ g
 
-bad_byte_is_no_text : (k : TextKind) (spot : Spot) (bytes : List ℕ) → in_text k (record { spot = spot; bytes = bytes; means = BadByte }) ≡ false
-bad_byte_is_no_text kind.Word spot bytes = refl
-bad_byte_is_no_text kind.Value spot bytes = refl
+bad_byte_is_not_text : (k : TextKind) (spot : Spot) (bytes : List ℕ) → in_text k (record { spot = spot; bytes = bytes; means = BadByte }) ≡ false
+bad_byte_is_not_text kind.Word spot bytes = refl
+bad_byte_is_not_text kind.Value spot bytes = refl
 
-bad_escape_is_no_text : (k : TextKind) (spot : Spot) (bytes : List ℕ) → in_text k (record { spot = spot; bytes = bytes; means = BadEscape }) ≡ false
-bad_escape_is_no_text kind.Word spot bytes = refl
-bad_escape_is_no_text kind.Value spot bytes = refl
+bad_escape_is_not_text : (k : TextKind) (spot : Spot) (bytes : List ℕ) → in_text k (record { spot = spot; bytes = bytes; means = BadEscape }) ≡ false
+bad_escape_is_not_text kind.Word spot bytes = refl
+bad_escape_is_not_text kind.Value spot bytes = refl
 
-line_end_is_no_text : (k : TextKind) (spot : Spot) (bytes : List ℕ) → in_text k (record { spot = spot; bytes = bytes; means = LineEnd }) ≡ false
-line_end_is_no_text kind.Word spot bytes = refl
-line_end_is_no_text kind.Value spot bytes = refl
+line_end_is_not_text : (k : TextKind) (spot : Spot) (bytes : List ℕ) → in_text k (record { spot = spot; bytes = bytes; means = LineEnd }) ≡ false
+line_end_is_not_text kind.Word spot bytes = refl
+line_end_is_not_text kind.Value spot bytes = refl
 
 pub bad_byte_part : (k : TextKind) (spot : Spot) (bytes : List ℕ) → BeginsBadly spot bytes BadByte → next_fault (after_text k (units_within spot bytes)) ≡ Some (fault.BadByte spot)
-bad_byte_part k spot bytes b = bad_at k spot bytes BadByte b.0 b.1 (fault.BadByte spot) b.2 (bad_byte_is_no_text k spot (take b.0 bytes)) refl
+bad_byte_part k spot bytes b = bad_at k spot bytes BadByte b.0 b.1 (fault.BadByte spot) b.2 (bad_byte_is_not_text k spot (take b.0 bytes)) refl
 
 pub bad_escape_part : (k : TextKind) (spot : Spot) (bytes : List ℕ) → BeginsBadly spot bytes BadEscape → next_fault (after_text k (units_within spot bytes)) ≡ Some (fault.BadEscape spot)
-bad_escape_part k spot bytes b = bad_at k spot bytes BadEscape b.0 b.1 (fault.BadEscape spot) b.2 (bad_escape_is_no_text k spot (take b.0 bytes)) refl
+bad_escape_part k spot bytes b = bad_at k spot bytes BadEscape b.0 b.1 (fault.BadEscape spot) b.2 (bad_escape_is_not_text k spot (take b.0 bytes)) refl
 
 abbrev EndsText : TextKind → List TextUnit → Type 0
 EndsText k us = (gathered k us ≡ []) × (after_text k us ≡ us) × (next_fault us ≡ None)
@@ -83,33 +83,33 @@ units_are_text k spot (x ∷ xs) h = (run_is_text k x spot h.0, units_are_text k
 abbrev is_byte : Found → Bool
 is_byte found = is_ordinary_in (λ c. true) found.0
 
-named_is_no_byte : (bs : List ℕ) (t : Bool) → is_byte (named bs t) ≡ false
-named_is_no_byte [] t = refl
-named_is_no_byte (b ∷ bs) false = refl
-named_is_no_byte (b ∷ bs) true = refl
+named_is_not_byte : (bs : List ℕ) (t : Bool) → is_byte (named bs t) ≡ false
+named_is_not_byte [] t = refl
+named_is_not_byte (b ∷ bs) false = refl
+named_is_not_byte (b ∷ bs) true = refl
 
-choice_is_no_byte : (t : Bool) (x y : Found) → is_byte x ≡ false → is_byte y ≡ false → is_byte (cond t x y) ≡ false
-choice_is_no_byte true x y h k = h
-choice_is_no_byte false x y h k = k
+choice_is_not_byte : (t : Bool) (x y : Found) → is_byte x ≡ false → is_byte y ≡ false → is_byte (cond t x y) ≡ false
+choice_is_not_byte true x y h k = h
+choice_is_not_byte false x y h k = k
 
-follower_is_no_byte : (f : Follows) (b : ℕ) (bs : List ℕ) → is_byte (after_dollar_by f b bs) ≡ false
-follower_is_no_byte Feed b bs = refl
-follower_is_no_byte Return b bs = choice_is_no_byte (begins_with 10 bs) _ _ refl refl
-follower_is_no_byte Brace b bs = named_is_no_byte (take_while is_identifier_byte bs) (begins_with 125 (drop_while is_identifier_byte bs))
-follower_is_no_byte Itself b bs = refl
-follower_is_no_byte NameByte b bs = refl
-follower_is_no_byte Nothing b bs = refl
+follower_is_not_byte : (f : Follows) (b : ℕ) (bs : List ℕ) → is_byte (after_dollar_by f b bs) ≡ false
+follower_is_not_byte Feed b bs = refl
+follower_is_not_byte Return b bs = choice_is_not_byte (begins_with 10 bs) _ _ refl refl
+follower_is_not_byte Brace b bs = named_is_not_byte (take_while is_identifier_byte bs) (begins_with 125 (drop_while is_identifier_byte bs))
+follower_is_not_byte Itself b bs = refl
+follower_is_not_byte NameByte b bs = refl
+follower_is_not_byte Nothing b bs = refl
 
-dollar_is_no_byte : (bs : List ℕ) → is_byte (after_dollar bs) ≡ false
-dollar_is_no_byte [] = refl
-dollar_is_no_byte (b ∷ bs) = follower_is_no_byte (follows_of b) b bs
+dollar_is_not_byte : (bs : List ℕ) → is_byte (after_dollar bs) ≡ false
+dollar_is_not_byte [] = refl
+dollar_is_not_byte (b ∷ bs) = follower_is_not_byte (follows_of b) b bs
 
-class_is_no_byte : (c : Class) (b : ℕ) (bs : List ℕ) → (c ≡ Plain → ⊥) → is_byte (unit_by c b bs) ≡ false
-class_is_no_byte Dollar b bs h = dollar_is_no_byte bs
-class_is_no_byte LineFeed b bs h = refl
-class_is_no_byte CarriageReturn b bs h = choice_is_no_byte (begins_with 10 bs) _ _ refl refl
-class_is_no_byte Nul b bs h = refl
-class_is_no_byte Plain b bs h = absurd (h refl)
+class_is_not_byte : (c : Class) (b : ℕ) (bs : List ℕ) → (c ≡ Plain → ⊥) → is_byte (unit_by c b bs) ≡ false
+class_is_not_byte Dollar b bs h = dollar_is_not_byte bs
+class_is_not_byte LineFeed b bs h = refl
+class_is_not_byte CarriageReturn b bs h = choice_is_not_byte (begins_with 10 bs) _ _ refl refl
+class_is_not_byte Nul b bs h = refl
+class_is_not_byte Plain b bs h = absurd (h refl)
 
 plain_is_ordinary : (b : ℕ) → class_of b ≡ Plain → is_ordinary_byte b ≡ true
 plain_is_ordinary b e = by_tests (eqb b 36) (eqb b 10) (eqb b 13) (eqb b 0) e
@@ -122,11 +122,11 @@ plain_is_ordinary b e = by_tests (eqb b 36) (eqb b 10) (eqb b 13) (eqb b 0) e
     by_tests false false false false e = refl
 
 pub not_ordinary : (b : ℕ) (bs : List ℕ) → is_ordinary_byte b ≡ false → is_byte (unit_at b bs) ≡ false
-not_ordinary b bs h = class_is_no_byte (class_of b) b bs (λ e. false≢true (sym h ∙ plain_is_ordinary b e))
+not_ordinary b bs h = class_is_not_byte (class_of b) b bs (λ e. false≢true (sym h ∙ plain_is_ordinary b e))
 
 -- after a run the text goes on with no ordinary byte
-front_is_no_byte : (t : TextUnit → Bool) (u : TextUnit) (us : List TextUnit) → (t u ≡ true → is_ordinary_in (λ c. true) u.means ≡ false) → begins_with_ordinary (take_while t (u ∷ us)) ≡ false
-front_is_no_byte t u us h = by_test (t u) refl
+front_is_not_byte : (t : TextUnit → Bool) (u : TextUnit) (us : List TextUnit) → (t u ≡ true → is_ordinary_in (λ c. true) u.means ≡ false) → begins_with_ordinary (take_while t (u ∷ us)) ≡ false
+front_is_not_byte t u us h = by_test (t u) refl
   where
     by_test : (v : Bool) → t u ≡ v → begins_with_ordinary (take_while t (u ∷ us)) ≡ false
     by_test true e = ap begins_with_ordinary (take_while-cons_yes t u us e) ∙ h e
@@ -142,7 +142,7 @@ unfolding cut
 run_ends kind.Word spot [] h = refl
 run_ends kind.Value spot [] h = refl
 run_ends k spot (b ∷ bs) h =
-    front_is_no_byte (in_text k) (record { spot = spot; bytes = b ∷ take (unit_at b bs).1 bs; means = (unit_at b bs).0 }) (cut (position_after Within (unit_at b bs).0) (unit_at b bs).1 (spot_after b spot) bs)
+    front_is_not_byte (in_text k) (record { spot = spot; bytes = b ∷ take (unit_at b bs).1 bs; means = (unit_at b bs).0 }) (cut (position_after Within (unit_at b bs).0) (unit_at b bs).1 (spot_after b spot) bs)
     (run_is_over k b bs spot (b ∷ take (unit_at b bs).1 bs) (is_ordinary_byte b) refl h)
 
 -- the parts of a run, and of what follows it

@@ -61,13 +61,13 @@ module _ (q : ℕ → Bool) where
   split d i n = ap (prefix_len q) (chunk-drop i n d) ∙ prefix_len-append q (chunk i n d) (drop (i + n) d)
 
   pub run_through : (d : List ℕ) (i n : ℕ) → i + n ≤ length d → mask_l (map stops (chunk i n d)) ≡ 0 → prefix_len q (drop i d) ≡ n + prefix_len q (drop (i + n) d)
-  run_through d i n room none =
+  run_through d i n capacity none =
       let c = chunk i n d in
       split d i n ∙ ap (λ b. cond b (length c + prefix_len q (drop (i + n) d)) (prefix_len q c)) (eq-eqb _ _ (same_run c ∙ leading_from_mask_l stops c none))
-      ∙ ap (λ k. k + prefix_len q (drop (i + n) d)) (length-chunk i n d room)
+      ∙ ap (λ k. k + prefix_len q (drop (i + n) d)) (length-chunk i n d capacity)
 
   pub run_stops : (d : List ℕ) (i n : ℕ) → i + n ≤ length d → n ≤ 64 → 0 < mask_l (map stops (chunk i n d)) → prefix_len q (drop i d) ≡ count_trailing_zeros 64 (mask_l (map stops (chunk i n d)))
-  run_stops d i n room short some =
+  run_stops d i n capacity short some =
       let c = chunk i n d in
       split d i n ∙ ap (λ b. cond b (length c + prefix_len q (drop (i + n) d)) (prefix_len q c)) (ne_eqb _ _ (λ (e : prefix_len q c ≡ length c). omega (arith, all_pass c (sym (same_run c) ∙ e))))
-      ∙ same_run c ∙ sym (trailing_mask_l stops 64 c (omega (arith, length-chunk i n d room)) some)
+      ∙ same_run c ∙ sym (trailing_mask_l stops 64 c (omega (arith, length-chunk i n d capacity)) some)

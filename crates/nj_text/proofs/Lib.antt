@@ -21,12 +21,12 @@ pub mod KeptComponents
 pub mod SlashComponents
 pub mod NamesDropped
 pub mod WrittenComponents
-pub mod CleanTexts
+pub mod CleanStrings
 pub mod CleanPaths
 pub mod SuspectLanes
 pub mod NamesSeen
 pub mod PathRows
 pub mod QuoteRows
-pub mod QuotedTexts
+pub mod QuotedStrings
 pub mod PlainFronts
 pub mod LossyChunks

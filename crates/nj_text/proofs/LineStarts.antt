@@ -20,7 +20,7 @@ use Rattle.nj_text.proofs.Lists.{AllIn, AllIn-take_while, drop_while-cons_no, dr
 use Rattle.nj_text.proofs.Cuts.{cut-skip, spots_advance, advance-advance, advance-zero, unit-ordinary}
 use Rattle.std.proofs.lemmas.List.{nil_from_length}
 use Rattle.nj_text.proofs.Gathered.{not_ordinary, none_after}
-use Rattle.nj_text.proofs.Passed.{first_is_no_space}
+use Rattle.nj_text.proofs.Passed.{first_is_not_space}
 use Rattle.nj_text.specs.Inside.Gathering.{NoneInRun}
 
 -- ---- lines have units
@@ -89,10 +89,10 @@ plain_begun u us h s =
     rw (p.no_end, h.2) (plain_by u h.0 h.1 p)
 
 HasLine-after : (u : TextUnit) (ls : List Line) → HasLine (before_first_line u ls) → HasLine ls
-HasLine-after u [] h = absurd (nil_is_no_cons h.0 h.1 h.2)
+HasLine-after u [] h = absurd (nil_is_not_cons h.0 h.1 h.2)
   where
-    nil_is_no_cons : (l : Line) (others : List Line) → [] ≡ l ∷ others → ⊥
-    nil_is_no_cons l others e = absurd cc
+    nil_is_not_cons : (l : Line) (others : List Line) → [] ≡ l ∷ others → ⊥
+    nil_is_not_cons l others e = absurd cc
 HasLine-after u (l ∷ ls) h = (l, ls, refl)
 
 -- ---- the first unit of a line, and of what is within one
@@ -115,8 +115,8 @@ fails_if_no_byte p BadByte h = refl
 fails_if_no_byte p BadEscape h = refl
 
 -- a byte that is no space begins no unit that is one
-unit_is_no_space : (b : ℕ) (bs : List ℕ) → is_space b ≡ false → is_ordinary_in is_space (unit_at b bs).0 ≡ false
-unit_is_no_space b bs h = by_test (is_ordinary_byte b) refl
+unit_is_not_space : (b : ℕ) (bs : List ℕ) → is_space b ≡ false → is_ordinary_in is_space (unit_at b bs).0 ≡ false
+unit_is_not_space b bs h = by_test (is_ordinary_byte b) refl
   where
     by_test : (t : Bool) → is_ordinary_byte b ≡ t → is_ordinary_in is_space (unit_at b bs).0 ≡ false
     by_test true e = rw (unit-ordinary b bs e) h
@@ -153,13 +153,13 @@ cut-start : (spot : Spot) (bs : List ℕ) → opens_comment bs ≡ false → beg
 unfolding cut
 cut-start spot [] c s t = refl
 cut-start spot (b ∷ bs) c s t =
-    let same = start_position (unit_at b bs).0 (unit_is_no_space b bs s) in
+    let same = start_position (unit_at b bs).0 (unit_is_not_space b bs s) in
     rw (c, t, same) refl
 
 cut-spaces : (spot : Spot) (bs : List ℕ) → begins_with_space_byte bs ≡ false → begins_with 9 bs ≡ false → cut AfterSpaces 0 spot bs ≡ cut Within 0 spot bs
 unfolding cut
 cut-spaces spot [] s t = refl
-cut-spaces spot (b ∷ bs) s t = rw (t, spaces_position (unit_at b bs).0 (unit_is_no_space b bs s)) refl
+cut-spaces spot (b ∷ bs) s t = rw (t, spaces_position (unit_at b bs).0 (unit_is_not_space b bs s)) refl
 
 -- a unit that is no tab begins with none
 no_tab : (spot : Spot) (bs : List ℕ) (m : Meaning) (n : ℕ) (remainder : List TextUnit) → Begins spot bs m n remainder → (m ≡ Ordinary 9 → ⊥) → begins_with 9 bs ≡ false
@@ -398,7 +398,7 @@ pub within_moved : (spot there : Spot) (bs rest : List ℕ) (n k : ℕ) → ther
 within_moved spot there bs rest n k s r h = let e : (n - k) + k ≡ n = omega arith in ap (λ p. lines_within p rest) s ∙ ap (lines_within spot) (r ∙ ap (λ m. drop m bs) e)
 
 pub plain_ordinary : (b : ℕ) (bs : List ℕ) → begins_with b bs ≡ true → begins_with_space_byte bs ≡ false → starts_plainly (Ordinary b) ≡ true
-plain_ordinary b bs e s = rw (first_is_no_space b bs e s) refl
+plain_ordinary b bs e s = rw (first_is_not_space b bs e s) refl
 
 -- how a line begins, of which the leading spaces were read
 pub begun_after_spaces : (spot : Spot) (bytes xs : List ℕ) (c : Cursor) (found : Begun) → bytes ≡ xs ++ c.rest.now → xs ≡ take_while is_space bytes → c.spot ≡ advance (length xs) spot → opens_comment bytes ≡ false → eqb (length xs) 0 ≡ false
@@ -416,9 +416,9 @@ over_comment_read spot there end bs rest after h t r e s a = over_comment spot t
 
 -- ---- a line that begins with no comment is none
 
-abbrev says_comment : Meaning → Bool
-says_comment Comment = true
-says_comment m = false
+abbrev gives_comment : Meaning → Bool
+gives_comment Comment = true
+gives_comment m = false
 
 -- what the units found within a line never say
 pub record IsUnsaid (q : Meaning → Bool) : Type 0 where
@@ -462,18 +462,18 @@ module _ (q : Meaning → Bool) (unsaid : IsUnsaid q) where
   pub unit_is_unsaid : (b : ℕ) (bs : List ℕ) → q (unit_at b bs).0 ≡ false
   unit_is_unsaid b bs = class_is_unsaid (class_of b) b bs
 
-comment_is_unsaid : IsUnsaid says_comment
+comment_is_unsaid : IsUnsaid gives_comment
 comment_is_unsaid = record { ordinary = λ b. refl; escape = λ b. refl; reference = λ n. refl; join = refl; line_end = refl; bad_byte = refl; bad_escape = refl }
 
-choice_says_none : (t : Bool) (x y : Found) → says_comment x.0 ≡ false → says_comment y.0 ≡ false → says_comment (cond t x y).0 ≡ false
-choice_says_none true x y h k = h
-choice_says_none false x y h k = k
+choice_gives_none : (t : Bool) (x y : Found) → gives_comment x.0 ≡ false → gives_comment y.0 ≡ false → gives_comment (cond t x y).0 ≡ false
+choice_gives_none true x y h k = h
+choice_gives_none false x y h k = k
 
 text_kind_is_none : (t : Bool) → is_comment (text_kind t) ≡ false
 text_kind_is_none true = refl
 text_kind_is_none false = refl
 
-kind_is_none : (m : Meaning) (spot : Spot) (t : Bool) → says_comment m ≡ false → is_comment (kind_with m spot t) ≡ false
+kind_is_none : (m : Meaning) (spot : Spot) (t : Bool) → gives_comment m ≡ false → is_comment (kind_with m spot t) ≡ false
 kind_is_none (Ordinary b) spot t h = text_kind_is_none t
 kind_is_none (Escape b) spot t h = text_kind_is_none t
 kind_is_none (Reference n) spot t h = text_kind_is_none t
@@ -494,7 +494,7 @@ first_units : (u : TextUnit) (ls : List Line) → HasLine ls → (first_line (be
 first_units u ls h = rw h.2 refl
 
 -- a unit that is neither a comment nor a space
-first_is_none : (u : TextUnit) (us : List TextUnit) (t : Bool) → HasLine (lines_of us) → says_comment u.means ≡ false → is_space_unit u ≡ false → is_comment (first_kind (u ∷ us) t) ≡ false
+first_is_none : (u : TextUnit) (us : List TextUnit) (t : Bool) → HasLine (lines_of us) → gives_comment u.means ≡ false → is_space_unit u ≡ false → is_comment (first_kind (u ∷ us) t) ≡ false
 first_is_none u us t h c s = by_end (ending_of u.means)
   where
     by_end : (o : Option Bool) → is_comment (kind_after_spaces (drop_while is_space_unit (first_line (lines_before o u (lines_of us))).units) t) ≡ false
@@ -521,34 +521,34 @@ after_spaces_is_none spot (b ∷ bs) t = by_test (is_space b) refl (λ p. after_
         first_is_none (record { spot = spot; bytes = b ∷ take (cond (eqb b 9) (LeadingTab, 0) (unit_at b bs)).1 bs; means = (cond (eqb b 9) (LeadingTab, 0) (unit_at b bs)).0 })
         (cut (position_after AfterSpaces (cond (eqb b 9) (LeadingTab, 0) (unit_at b bs)).0) (cond (eqb b 9) (LeadingTab, 0) (unit_at b bs)).1 (spot_after b spot) bs) t
         (cut_has_line (position_after AfterSpaces (cond (eqb b 9) (LeadingTab, 0) (unit_at b bs)).0) (cond (eqb b 9) (LeadingTab, 0) (unit_at b bs)).1 (spot_after b spot) bs)
-        (choice_says_none (eqb b 9) (LeadingTab, 0) (unit_at b bs) refl (unit_is_unsaid says_comment comment_is_unsaid b bs))
-        (choice_no_space (eqb b 9) (LeadingTab, 0) (unit_at b bs) refl (unit_is_no_space b bs e))
+        (choice_gives_none (eqb b 9) (LeadingTab, 0) (unit_at b bs) refl (unit_is_unsaid gives_comment comment_is_unsaid b bs))
+        (choice_no_space (eqb b 9) (LeadingTab, 0) (unit_at b bs) refl (unit_is_not_space b bs e))
 
-opened_says_none : (m : Meaning) → says_comment m ≡ false → says_comment (opening m) ≡ false
-opened_says_none (Ordinary b) h = refl
-opened_says_none (Escape b) h = refl
-opened_says_none (Reference n) h = refl
-opened_says_none Join h = refl
-opened_says_none OpeningJoin h = refl
-opened_says_none Comment h = absurd cc
-opened_says_none LeadingTab h = refl
-opened_says_none LineEnd h = refl
-opened_says_none TextEnd h = refl
-opened_says_none BadByte h = refl
-opened_says_none BadEscape h = refl
+opened_gives_none : (m : Meaning) → gives_comment m ≡ false → gives_comment (opening m) ≡ false
+opened_gives_none (Ordinary b) h = refl
+opened_gives_none (Escape b) h = refl
+opened_gives_none (Reference n) h = refl
+opened_gives_none Join h = refl
+opened_gives_none OpeningJoin h = refl
+opened_gives_none Comment h = absurd cc
+opened_gives_none LeadingTab h = refl
+opened_gives_none LineEnd h = refl
+opened_gives_none TextEnd h = refl
+opened_gives_none BadByte h = refl
+opened_gives_none BadEscape h = refl
 
-opened_is_no_space : (m : Meaning) → is_ordinary_in is_space m ≡ false → is_ordinary_in is_space (opening m) ≡ false
-opened_is_no_space (Ordinary b) h = h
-opened_is_no_space (Escape b) h = refl
-opened_is_no_space (Reference n) h = refl
-opened_is_no_space Join h = refl
-opened_is_no_space OpeningJoin h = refl
-opened_is_no_space Comment h = refl
-opened_is_no_space LeadingTab h = refl
-opened_is_no_space LineEnd h = refl
-opened_is_no_space TextEnd h = refl
-opened_is_no_space BadByte h = refl
-opened_is_no_space BadEscape h = refl
+opened_is_not_space : (m : Meaning) → is_ordinary_in is_space m ≡ false → is_ordinary_in is_space (opening m) ≡ false
+opened_is_not_space (Ordinary b) h = h
+opened_is_not_space (Escape b) h = refl
+opened_is_not_space (Reference n) h = refl
+opened_is_not_space Join h = refl
+opened_is_not_space OpeningJoin h = refl
+opened_is_not_space Comment h = refl
+opened_is_not_space LeadingTab h = refl
+opened_is_not_space LineEnd h = refl
+opened_is_not_space TextEnd h = refl
+opened_is_not_space BadByte h = refl
+opened_is_not_space BadEscape h = refl
 
 start_is_none : (spot : Spot) (b : ℕ) (bs : List ℕ) (t : Bool) → opens_comment (b ∷ bs) ≡ false → is_comment (first_kind (cut AtStart 0 spot (b ∷ bs)) t) ≡ false
 unfolding cut
@@ -563,13 +563,13 @@ start_is_none spot b bs t h = by_test (is_space b) refl
         let found : Found = cond (eqb b 9) (LeadingTab, 0) (opening (unit_at b bs).0, (unit_at b bs).1) in
         rw h (first_is_none (record { spot = spot; bytes = b ∷ take found.1 bs; means = found.0 }) (cut (position_after AtStart found.0) found.1 (spot_after b spot) bs) t
         (cut_has_line (position_after AtStart found.0) found.1 (spot_after b spot) bs)
-        (choice_says_none (eqb b 9) (LeadingTab, 0) (opening (unit_at b bs).0, (unit_at b bs).1) refl (opened_says_none (unit_at b bs).0 (unit_is_unsaid says_comment comment_is_unsaid b bs)))
-        (choice_no_space (eqb b 9) (LeadingTab, 0) (opening (unit_at b bs).0, (unit_at b bs).1) refl (opened_is_no_space (unit_at b bs).0 (unit_is_no_space b bs e))))
+        (choice_gives_none (eqb b 9) (LeadingTab, 0) (opening (unit_at b bs).0, (unit_at b bs).1) refl (opened_gives_none (unit_at b bs).0 (unit_is_unsaid gives_comment comment_is_unsaid b bs)))
+        (choice_no_space (eqb b 9) (LeadingTab, 0) (opening (unit_at b bs).0, (unit_at b bs).1) refl (opened_is_not_space (unit_at b bs).0 (unit_is_not_space b bs e))))
 
-pub is_no_comment : (spot : Spot) (bs : List ℕ) → opens_comment bs ≡ false → without_comments (lines_from spot bs) ≡ lines_from spot bs
+pub is_not_comment : (spot : Spot) (bs : List ℕ) → opens_comment bs ≡ false → without_comments (lines_from spot bs) ≡ lines_from spot bs
 unfolding cut
-is_no_comment spot [] h = refl
-is_no_comment spot (b ∷ bs) h =
+is_not_comment spot [] h = refl
+is_not_comment spot (b ∷ bs) h =
     let lines = lines_from spot (b ∷ bs) in
     let split = inside_is lines (cut_has_line AtStart 0 spot (b ∷ bs)) in
     ap without_comments split ∙ rw (start_is_none spot b bs (begins_with_space (first_line lines).units) h) (sym split)

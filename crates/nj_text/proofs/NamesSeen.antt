@@ -7,7 +7,7 @@ use Rattle.std.proofs.lemmas.List.Splits.{slice_split-cons_yes, slice_split-cons
 use Rattle.nj_text.specs.Paths.{is_slash, IsName}
 use Rattle.nj_text.specs.Inside.Cleaning.{is_suspect, suspects, any, ends_with_slash, begins_name}
 use Rattle.nj_text.proofs.SlashComponents.{or_false}
-use Rattle.nj_text.proofs.CleanTexts.{AllWhole, whole-components}
+use Rattle.nj_text.proofs.CleanStrings.{AllWhole, whole-components}
 
 -- a byte that begins a name
 abbrev BeginsName : ℕ → Type 0
@@ -23,15 +23,15 @@ name_begun b (c ∷ []) begins whole = record {
 name_begun b (c ∷ d ∷ p) begins whole = record { leads_somewhere = refl; leads_down = refl; has_no_slash = whole }
 
 -- all components but the first are names
-abbrev GoesOn : List ℕ → Type 0
-GoesOn text = AllByRecursion IsName (drop 1 (slice_split is_slash text))
+abbrev Continues : List ℕ → Type 0
+Continues text = AllByRecursion IsName (drop 1 (slice_split is_slash text))
 
 onto_name : (b : ℕ) (ps : List (List ℕ)) → BeginsName b → AllWhole (onto_first b ps) → AllByRecursion IsName (drop 1 (onto_first b ps)) → AllByRecursion IsName (onto_first b ps)
 onto_name b [] begins whole rest = (name_begun b [] begins whole.0, tt)
 onto_name b (p ∷ ps) begins whole rest = (name_begun b p begins whole.0, rest)
 
 -- and the first too, where its first byte begins a name
-names_begun : (b : ℕ) (bs : List ℕ) → BeginsName b → GoesOn (b ∷ bs) → AllByRecursion IsName (slice_split is_slash (b ∷ bs))
+names_begun : (b : ℕ) (bs : List ℕ) → BeginsName b → Continues (b ∷ bs) → AllByRecursion IsName (slice_split is_slash (b ∷ bs))
 names_begun b bs begins rest =
     let split = slice_split-cons_no is_slash b bs (or_false (is_slash b) (b == 46) begins).0 in
     subst (AllByRecursion IsName) (sym split)
@@ -41,14 +41,14 @@ drop_onto : (b : ℕ) (ps : List (List ℕ)) → AllByRecursion IsName (drop 1 p
 drop_onto b [] h = tt
 drop_onto b (p ∷ ps) h = h
 
-goes_on : (text : List ℕ) → any (suspects text) ≡ false → ends_with_slash text ≡ false → GoesOn text
-goes_on [] none end = tt
-goes_on (b ∷ []) none end = rw (slice_split-cons_no is_slash b [] end) tt
-goes_on (b ∷ c ∷ bs) none end =
+continues : (text : List ℕ) → any (suspects text) ≡ false → ends_with_slash text ≡ false → Continues text
+continues [] none end = tt
+continues (b ∷ []) none end = rw (slice_split-cons_no is_slash b [] end) tt
+continues (b ∷ c ∷ bs) none end =
     let each = or_false (is_suspect b c) (any (suspects (c ∷ bs))) none in
-    by_test (is_slash b) refl each.0 (goes_on (c ∷ bs) each.1 end)
+    by_test (is_slash b) refl each.0 (continues (c ∷ bs) each.1 end)
   where
-    by_test : (t : Bool) → is_slash b ≡ t → is_suspect b c ≡ false → GoesOn (c ∷ bs) → GoesOn (b ∷ c ∷ bs)
+    by_test : (t : Bool) → is_slash b ≡ t → is_suspect b c ≡ false → Continues (c ∷ bs) → Continues (b ∷ c ∷ bs)
     by_test false e fine rest = rw (slice_split-cons_no is_slash b (c ∷ bs) e) (drop_onto b (slice_split is_slash (c ∷ bs)) rest)
     by_test true e fine rest = rw (slice_split-cons_yes is_slash b (c ∷ bs) e) (names_begun c bs (sym (ap (λ t. t && (is_slash c || c == 46)) e) ∙ fine) rest)
 
@@ -58,7 +58,7 @@ begun_if false e = refl
 
 names_if : (text : List ℕ) → begins_name text ≡ true → ends_with_slash text ≡ false → any (suspects text) ≡ false → AllByRecursion IsName (slice_split is_slash text)
 names_if [] begins end none = absurd (cc)
-names_if (b ∷ bs) begins end none = names_begun b bs (begun_if (is_slash b || b == 46) begins) (goes_on (b ∷ bs) none end)
+names_if (b ∷ bs) begins end none = names_begun b bs (begun_if (is_slash b || b == 46) begins) (continues (b ∷ bs) none end)
 
 pub names_seen : (text : List ℕ) (suspect : Bool) → suspect ≡ any (suspects text) → begins_name text ≡ true → ends_with_slash text ≡ false → OnTrue (not suspect) (AllByRecursion IsName (slice_split is_slash text))
 names_seen text true e begins end = tt

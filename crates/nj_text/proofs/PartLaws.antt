@@ -8,23 +8,23 @@ use Rattle.nj_text.specs.Bytes.{is_identifier_byte, is_name_byte, begins_with, d
 use Rattle.nj_text.specs.Units.{Meaning, Ordinary, Escape, Reference, Join, TextUnit, is_ordinary_in, Found, named, Follows, Feed, Return, Brace, Itself, NameByte, Nothing, follows_of, after_dollar_by, after_dollar, Class, Dollar, LineFeed, CarriageReturn, Nul, Plain, class_of, unit_by, unit_at, opening, opens_comment, Position, AtStart, AfterSpaces, Within, found_at, position_after, spot_after, first_spot, cut}
 use Rattle.nj_text.specs.Words.{PartText, Text, longer_run, part_before, begins_with_ordinary, parts_of}
 use Rattle.nj_text.specs.Calls.{bytes_of}
-use Rattle.nj_text.specs.Laws.{part_bytes, StandInOrder, PartsStandInOrder}
+use Rattle.nj_text.specs.Laws.{part_bytes, AreInOrder, PartsComeInOrder}
 use Rattle.nj_text.proofs.Lists.{take_while-cons_yes, take_while-cons_no}
 use Rattle.nj_text.proofs.UnitLaws.{are_the_text}
 
 -- ---- what a unit says stands in its bytes
 
-abbrev Says : Meaning → List ℕ → Type 0
-Says (Ordinary b) bytes = bytes ≡ b ∷ []
-Says (Escape b) bytes = (dollar : ℕ) × (bytes ≡ dollar ∷ b ∷ [])
-Says (Reference name) bytes = (front : List ℕ) × (back : List ℕ) × (bytes ≡ front ++ name ++ back)
-Says m bytes = Unit {0}
+abbrev Denotes : Meaning → List ℕ → Type 0
+Denotes (Ordinary b) bytes = bytes ≡ b ∷ []
+Denotes (Escape b) bytes = (dollar : ℕ) × (bytes ≡ dollar ∷ b ∷ [])
+Denotes (Reference name) bytes = (front : List ℕ) × (back : List ℕ) × (bytes ≡ front ++ name ++ back)
+Denotes m bytes = Unit {0}
 
 -- the unit that was found at the first byte
-abbrev SaysFound : ℕ → List ℕ → Found → Type 0
-SaysFound b bs found = Says found.0 (b ∷ take found.1 bs)
+abbrev GivesFound : ℕ → List ℕ → Found → Type 0
+GivesFound b bs found = Denotes found.0 (b ∷ take found.1 bs)
 
-choice : (b : ℕ) (bs : List ℕ) (t : Bool) (x y : Found) → SaysFound b bs x → SaysFound b bs y → SaysFound b bs (cond t x y)
+choice : (b : ℕ) (bs : List ℕ) (t : Bool) (x y : Found) → GivesFound b bs x → GivesFound b bs y → GivesFound b bs (cond t x y)
 choice b bs true x y h k = h
 choice b bs false x y h k = k
 
@@ -37,87 +37,87 @@ run_and_rest p (x ∷ xs) = by_test (p x) refl (run_and_rest p xs)
     by_test false e h = rw (take_while-cons_no p x xs e) refl
 
 -- a name in braces, after the `$` and the `{`
-named_says : (b c : ℕ) (cs name rest : List ℕ) (closed : Bool) → cs ≡ name ++ rest → SaysFound b (c ∷ cs) (named name closed)
-named_says b c cs [] rest closed e = tt
-named_says b c cs (x ∷ xs) rest false e = tt
-named_says b c cs (x ∷ xs) rest true e =
+named_gives : (b c : ℕ) (cs name rest : List ℕ) (closed : Bool) → cs ≡ name ++ rest → GivesFound b (c ∷ cs) (named name closed)
+named_gives b c cs [] rest closed e = tt
+named_gives b c cs (x ∷ xs) rest false e = tt
+named_gives b c cs (x ∷ xs) rest true e =
     let long : length (x ∷ xs) + 2 ≡ length (c ∷ x ∷ xs) + 1 = omega arith in
     let whole : take (length (x ∷ xs) + 2) (c ∷ cs) ≡ (c ∷ x ∷ xs) ++ take 1 rest =
     ap (λ zs. take (length (x ∷ xs) + 2) (c ∷ zs)) e ∙ ap (λ n. take n ((c ∷ x ∷ xs) ++ rest)) long ∙ take-append-add (c ∷ x ∷ xs) rest 1 in
     (b ∷ c ∷ [], take 1 rest, ap (λ zs. b ∷ zs) whole)
 
-follower_says : (f : Follows) (b c : ℕ) (cs : List ℕ) → SaysFound b (c ∷ cs) (after_dollar_by f c cs)
-follower_says Feed b c cs = tt
-follower_says Return b c cs = choice b (c ∷ cs) (begins_with 10 cs) _ _ tt tt
-follower_says Brace b c cs = named_says b c cs (take_while is_identifier_byte cs) (drop_while is_identifier_byte cs) (begins_with 125 (drop_while is_identifier_byte cs)) (run_and_rest is_identifier_byte cs)
-follower_says Itself b c cs = (b, refl)
-follower_says NameByte b c cs =
+follower_gives : (f : Follows) (b c : ℕ) (cs : List ℕ) → GivesFound b (c ∷ cs) (after_dollar_by f c cs)
+follower_gives Feed b c cs = tt
+follower_gives Return b c cs = choice b (c ∷ cs) (begins_with 10 cs) _ _ tt tt
+follower_gives Brace b c cs = named_gives b c cs (take_while is_identifier_byte cs) (drop_while is_identifier_byte cs) (begins_with 125 (drop_while is_identifier_byte cs)) (run_and_rest is_identifier_byte cs)
+follower_gives Itself b c cs = (b, refl)
+follower_gives NameByte b c cs =
     let name = take_while is_name_byte cs in
     let whole : take (length name) cs ≡ name = ap (take (length name)) (run_and_rest is_name_byte cs) ∙ take-append_seam name (drop_while is_name_byte cs) in
     (b ∷ [], [], ap (λ zs. b ∷ c ∷ zs) (whole ∙ sym (append-nil name)))
-follower_says Nothing b c cs = tt
+follower_gives Nothing b c cs = tt
 
-dollar_says : (b : ℕ) (bs : List ℕ) → SaysFound b bs (after_dollar bs)
-dollar_says b [] = tt
-dollar_says b (c ∷ cs) = follower_says (follows_of c) b c cs
+dollar_gives : (b : ℕ) (bs : List ℕ) → GivesFound b bs (after_dollar bs)
+dollar_gives b [] = tt
+dollar_gives b (c ∷ cs) = follower_gives (follows_of c) b c cs
 
-class_says : (class : Class) (b : ℕ) (bs : List ℕ) → SaysFound b bs (unit_by class b bs)
-class_says Dollar b bs = dollar_says b bs
-class_says LineFeed b bs = tt
-class_says CarriageReturn b bs = choice b bs (begins_with 10 bs) _ _ tt tt
-class_says Nul b bs = tt
-class_says Plain b bs = refl
+class_gives : (class : Class) (b : ℕ) (bs : List ℕ) → GivesFound b bs (unit_by class b bs)
+class_gives Dollar b bs = dollar_gives b bs
+class_gives LineFeed b bs = tt
+class_gives CarriageReturn b bs = choice b bs (begins_with 10 bs) _ _ tt tt
+class_gives Nul b bs = tt
+class_gives Plain b bs = refl
 
-opening_says : (m : Meaning) (bytes : List ℕ) → Says m bytes → Says (opening m) bytes
-opening_says Join bytes h = tt
-opening_says m bytes h = h
+opening_gives : (m : Meaning) (bytes : List ℕ) → Denotes m bytes → Denotes (opening m) bytes
+opening_gives Join bytes h = tt
+opening_gives m bytes h = h
 
-found_says : (position : Position) (b : ℕ) (bs : List ℕ) → SaysFound b bs (found_at position b bs)
-found_says AtStart b bs =
+found_gives : (position : Position) (b : ℕ) (bs : List ℕ) → GivesFound b bs (found_at position b bs)
+found_gives AtStart b bs =
     let unit = unit_at b bs in
-    choice b bs (opens_comment (b ∷ bs)) _ _ tt (choice b bs (eqb b 9) _ (opening unit.0, unit.1) tt (opening_says unit.0 (b ∷ take unit.1 bs) (class_says (class_of b) b bs)))
-found_says AfterSpaces b bs = choice b bs (eqb b 9) _ (unit_at b bs) tt (class_says (class_of b) b bs)
-found_says Within b bs = class_says (class_of b) b bs
+    choice b bs (opens_comment (b ∷ bs)) _ _ tt (choice b bs (eqb b 9) _ (opening unit.0, unit.1) tt (opening_gives unit.0 (b ∷ take unit.1 bs) (class_gives (class_of b) b bs)))
+found_gives AfterSpaces b bs = choice b bs (eqb b 9) _ (unit_at b bs) tt (class_gives (class_of b) b bs)
+found_gives Within b bs = class_gives (class_of b) b bs
 
-abbrev AllSay : List TextUnit → Type 0
-AllSay [] = Unit {0}
-AllSay (u ∷ us) = Says u.means u.bytes × AllSay us
+abbrev AllGive : List TextUnit → Type 0
+AllGive [] = Unit {0}
+AllGive (u ∷ us) = Denotes u.means u.bytes × AllGive us
 
-cut_says : (position : Position) (skip : ℕ) (spot : Spot) (bs : List ℕ) → AllSay (cut position skip spot bs)
+cut_gives : (position : Position) (skip : ℕ) (spot : Spot) (bs : List ℕ) → AllGive (cut position skip spot bs)
 unfolding cut
-cut_says position zero spot [] = (tt, tt)
-cut_says position (suc skip) spot [] = (tt, tt)
-cut_says position zero spot (b ∷ bs) =
+cut_gives position zero spot [] = (tt, tt)
+cut_gives position (suc skip) spot [] = (tt, tt)
+cut_gives position zero spot (b ∷ bs) =
     let found = found_at position b bs in
-    (found_says position b bs, cut_says (position_after position found.0) found.1 (spot_after b spot) bs)
-cut_says position (suc skip) spot (b ∷ bs) = cut_says position skip (spot_after b spot) bs
+    (found_gives position b bs, cut_gives (position_after position found.0) found.1 (spot_after b spot) bs)
+cut_gives position (suc skip) spot (b ∷ bs) = cut_gives position skip (spot_after b spot) bs
 
-front_says : (us vs : List TextUnit) → AllSay (us ++ vs) → AllSay us
-front_says [] vs h = tt
-front_says (u ∷ us) vs h = (h.0, front_says us vs h.1)
+front_gives : (us vs : List TextUnit) → AllGive (us ++ vs) → AllGive us
+front_gives [] vs h = tt
+front_gives (u ∷ us) vs h = (h.0, front_gives us vs h.1)
 
-rest_says : (us vs : List TextUnit) → AllSay (us ++ vs) → AllSay vs
-rest_says [] vs h = h
-rest_says (u ∷ us) vs h = rest_says us vs h.1
+rest_gives : (us vs : List TextUnit) → AllGive (us ++ vs) → AllGive vs
+rest_gives [] vs h = h
+rest_gives (u ∷ us) vs h = rest_gives us vs h.1
 
 -- ---- parts in order
 
 -- bytes before them are one gap more
-after_gap : (gap : List ℕ) (pieces : List (List ℕ)) (bytes : List ℕ) → StandInOrder pieces bytes → StandInOrder pieces (gap ++ bytes)
+after_gap : (gap : List ℕ) (pieces : List (List ℕ)) (bytes : List ℕ) → AreInOrder pieces bytes → AreInOrder pieces (gap ++ bytes)
 after_gap gap [] bytes h = tt
 after_gap gap (piece ∷ pieces) bytes h = (gap ++ h.0, h.1, ap (λ zs. gap ++ zs) h.2 ∙ simp append_assoc, h.3)
 
 -- A run of ordinary bytes stands at the front.
 abbrev Starts : List PartText → List ℕ → Type 0
-Starts ps bytes = (run : List ℕ) × (more : List PartText) × (rest : List ℕ) × (ps ≡ Text run ∷ more) × (bytes ≡ run ++ rest) × StandInOrder (map part_bytes more) rest
+Starts ps bytes = (run : List ℕ) × (more : List PartText) × (rest : List ℕ) × (ps ≡ Text run ∷ more) × (bytes ≡ run ++ rest) × AreInOrder (map part_bytes more) rest
 
 abbrev is_byte : Meaning → Bool
 is_byte m = is_ordinary_in (λ b. true) m
 
 abbrev InOrder : List PartText → List ℕ → Bool → Type 0
-InOrder ps bytes starts = StandInOrder (map part_bytes ps) bytes × (starts ≡ true → Starts ps bytes)
+InOrder ps bytes starts = AreInOrder (map part_bytes ps) bytes × (starts ≡ true → Starts ps bytes)
 
-unit_before : (m : Meaning) (bytes : List ℕ) (t : Bool) (ps : List PartText) (rest : List ℕ) → Says m bytes → InOrder ps rest t → InOrder (part_before m t ps) (bytes ++ rest) (is_byte m)
+unit_before : (m : Meaning) (bytes : List ℕ) (t : Bool) (ps : List PartText) (rest : List ℕ) → Denotes m bytes → InOrder ps rest t → InOrder (part_before m t ps) (bytes ++ rest) (is_byte m)
 unit_before (Ordinary b) bytes true ps rest h s =
     let r = s.1 refl in
     let parts : longer_run b ps ≡ Text (b ∷ r.0) ∷ r.1 = ap (longer_run b) r.3 in
@@ -130,7 +130,7 @@ unit_before (Escape b) bytes t ps rest h s = ((h.0 ∷ [], rest, ap (λ zs. zs +
 unit_before (Reference name) bytes t ps rest h s = ((h.0, h.1 ++ rest, ap (λ zs. zs ++ rest) h.2 ∙ append_assoc (h.0 ++ name) h.1 rest, after_gap h.1 (map part_bytes ps) rest s.0), λ e. absurd cc)
 unit_before m bytes t ps rest h s = (after_gap bytes (map part_bytes ps) rest s.0, λ e. absurd cc)
 
-in_order : (us : List TextUnit) → AllSay us → InOrder (parts_of us) (bytes_of us) (begins_with_ordinary us)
+in_order : (us : List TextUnit) → AllGive us → InOrder (parts_of us) (bytes_of us) (begins_with_ordinary us)
 in_order [] h = (tt, λ e. absurd cc)
 in_order (u ∷ us) h = unit_before u.means u.bytes (begins_with_ordinary us) (parts_of us) (bytes_of us) h.0 (in_order us h.1)
 
@@ -138,10 +138,10 @@ bytes_of-append : (us vs : List TextUnit) → bytes_of (us ++ vs) ≡ bytes_of u
 bytes_of-append [] vs = refl
 bytes_of-append (u ∷ us) vs = ap (λ zs. u.bytes ++ zs) (bytes_of-append us vs) ∙ sym (append_assoc u.bytes (bytes_of us) (bytes_of vs))
 
-pub parts_in_order : PartsStandInOrder
+pub parts_in_order : PartsComeInOrder
 parts_in_order text before us after e =
-    let all : AllSay (before ++ us ++ after) = subst AllSay e (cut_says AtStart 0 first_spot text) in
-    let here = rest_says before us (front_says (before ++ us) after all) in (
+    let all : AllGive (before ++ us ++ after) = subst AllGive e (cut_gives AtStart 0 first_spot text) in
+    let here = rest_gives before us (front_gives (before ++ us) after all) in (
       sym (are_the_text text) ∙ ap bytes_of e ∙ bytes_of-append (before ++ us) after ∙ ap (λ zs. zs ++ bytes_of after) (bytes_of-append before us),
       (in_order us here).0,
     )

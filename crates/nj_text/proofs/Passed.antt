@@ -21,9 +21,9 @@ pub blanks_stop_at_end : (spot : Spot) (bytes : List ℕ) → bytes ≡ [] → d
 unfolding cut
 blanks_stop_at_end spot bytes e = rw e refl
 
-pub first_is_no_space : (b : ℕ) (bytes : List ℕ) → begins_with b bytes ≡ true → begins_with_space_byte bytes ≡ false → is_space b ≡ false
-first_is_no_space b [] e h = absurd cc
-first_is_no_space b (x ∷ bs) e h = ap is_space (sym (eqb-true x b e)) ∙ h
+pub first_is_not_space : (b : ℕ) (bytes : List ℕ) → begins_with b bytes ≡ true → begins_with_space_byte bytes ≡ false → is_space b ≡ false
+first_is_not_space b [] e h = absurd cc
+first_is_not_space b (x ∷ bs) e h = ap is_space (sym (eqb-true x b e)) ∙ h
 
 -- a join is one
 pub blanks_over_join : (spot : Spot) (bytes : List ℕ) (n : ℕ) (remainder : List TextUnit) → Begins spot bytes Join n remainder → drop_while is_blank (units_within spot bytes) ≡ drop_while is_blank remainder

@@ -138,30 +138,30 @@ line_ends = refl
 
 -- ---- calls
 
-data Answer : Type 0 where
-  Begins : LineStart → Answer
-  Found : Option (List ℕ) → Answer
-  There : Bool → Answer
-  Word : Spot → List PartText → Answer
-  NoWord : Answer
-  Stands : Spot → Answer
-  Fault : UnitFault → Answer
+data Expected : Type 0 where
+  Begins : LineStart → Expected
+  Found : Option (List ℕ) → Expected
+  There : Bool → Expected
+  Word : Spot → List PartText → Expected
+  NoWord : Expected
+  Consistent : Spot → Expected
+  Fault : UnitFault → Expected
 
 -- a call: its answer, and where it leaves the lexer
 abbrev Call : Type 0
-Call = State → Answer × State
+Call = State → Expected × State
 
-abbrev answered : {A : Type 0} → (A → Answer) → Result A UnitFault → Answer
+abbrev answered : {A : Type 0} → (A → Expected) → Result A UnitFault → Expected
 answered show (Ok x) = show x
 answered show (Err f) = Fault f
 
-abbrev shown : {A : Type 0} → (A → Answer) → (State → Reply A) → Call
-shown show call s = (answered show (call s).answer, (call s).after)
+abbrev shown : {A : Type 0} → (A → Expected) → (State → Reply A) → Call
+shown show call s = (answered show (call s).outcome, (call s).after)
 
-abbrev found_word : WordText → Answer
+abbrev found_word : WordText → Expected
 found_word w = Word w.spot w.parts
 
-abbrev found_or_not : Option WordText → Answer
+abbrev found_or_not : Option WordText → Expected
 found_or_not None = NoWord
 found_or_not (Some w) = found_word w
 
@@ -181,138 +181,138 @@ abbrev value : Call
 value = shown found_word value_of
 
 abbrev spot : Call
-spot s = (Stands (spot_of s), s)
+spot s = (Consistent (spot_of s), s)
 
-abbrev run : List Call → State → List Answer
+abbrev run : List Call → State → List Expected
 run [] s = []
 run (call ∷ calls) s = (call s).0 ∷ run calls (call s).1
 
 -- what the calls answer, one after another, from the front of a text on
-answers : List ℕ → List Call → List Answer
+outcomes : List ℕ → List Call → List Expected
 unfolding cut
-answers text calls = run calls (at_front text)
+outcomes text calls = run calls (at_front text)
 
-abbrev some : List ℕ → Answer
+abbrev some : List ℕ → Expected
 some name = Found (Some name)
 
 -- words
 
-escaped_spaces : answers (codes "build o$ 1: cp it's$ x") (start ∷ ident ∷ word ∷ word ∷ sign Colon ∷ ident ∷ word ∷ word ∷ sign line_end ∷ start ∷ []) ≡ Begins Plain ∷ some (codes "build") ∷ Word (at 1 7) (Text (codes "o") ∷ Text (codes " ") ∷ Text (codes "1") ∷ []) ∷ NoWord ∷ There true ∷ some (codes "cp") ∷ Word (at 1 16) (Text (codes "it's") ∷ Text (codes " ") ∷ Text (codes "x") ∷ []) ∷ NoWord ∷ There true ∷ Begins End ∷ []
-unfolding answers cut
+escaped_spaces : outcomes (codes "build o$ 1: cp it's$ x") (start ∷ ident ∷ word ∷ word ∷ sign Colon ∷ ident ∷ word ∷ word ∷ sign line_end ∷ start ∷ []) ≡ Begins Plain ∷ some (codes "build") ∷ Word (at 1 7) (Text (codes "o") ∷ Text (codes " ") ∷ Text (codes "1") ∷ []) ∷ NoWord ∷ There true ∷ some (codes "cp") ∷ Word (at 1 16) (Text (codes "it's") ∷ Text (codes " ") ∷ Text (codes "x") ∷ []) ∷ NoWord ∷ There true ∷ Begins End ∷ []
+unfolding outcomes cut
 escaped_spaces = refl
 
-join_in_a_word : answers (codes "build o: cp a$\n  b") (start ∷ ident ∷ word ∷ sign Colon ∷ ident ∷ word ∷ word ∷ spot ∷ sign line_end ∷ []) ≡ Begins Plain ∷ some (codes "build") ∷ Word (at 1 7) (Text (codes "o") ∷ []) ∷ There true ∷ some (codes "cp") ∷ Word (at 1 13) (Text (codes "a") ∷ Text (codes "b") ∷ []) ∷ NoWord ∷ Stands (at 2 4) ∷ There true ∷ []
-unfolding answers cut
+join_in_a_word : outcomes (codes "build o: cp a$\n  b") (start ∷ ident ∷ word ∷ sign Colon ∷ ident ∷ word ∷ word ∷ spot ∷ sign line_end ∷ []) ≡ Begins Plain ∷ some (codes "build") ∷ Word (at 1 7) (Text (codes "o") ∷ []) ∷ There true ∷ some (codes "cp") ∷ Word (at 1 13) (Text (codes "a") ∷ Text (codes "b") ∷ []) ∷ NoWord ∷ Consistent (at 2 4) ∷ There true ∷ []
+unfolding outcomes cut
 join_in_a_word = refl
 
-join_between_words : answers (codes "build o: cp a $\n  b") (start ∷ ident ∷ word ∷ sign Colon ∷ ident ∷ word ∷ word ∷ word ∷ []) ≡ Begins Plain ∷ some (codes "build") ∷ Word (at 1 7) (Text (codes "o") ∷ []) ∷ There true ∷ some (codes "cp") ∷ Word (at 1 13) (Text (codes "a") ∷ []) ∷ Word (at 2 3) (Text (codes "b") ∷ []) ∷ NoWord ∷ []
-unfolding answers cut
+join_between_words : outcomes (codes "build o: cp a $\n  b") (start ∷ ident ∷ word ∷ sign Colon ∷ ident ∷ word ∷ word ∷ word ∷ []) ≡ Begins Plain ∷ some (codes "build") ∷ Word (at 1 7) (Text (codes "o") ∷ []) ∷ There true ∷ some (codes "cp") ∷ Word (at 1 13) (Text (codes "a") ∷ []) ∷ Word (at 2 3) (Text (codes "b") ∷ []) ∷ NoWord ∷ []
+unfolding outcomes cut
 join_between_words = refl
 
-references_in_words : answers (codes "a ${b.c}d$e-f.g|$$#") (start ∷ ident ∷ word ∷ sign Pipe ∷ word ∷ []) ≡ Begins Plain ∷ some (codes "a") ∷ Word (at 1 3) (Name (codes "b.c") ∷ Text (codes "d") ∷ Name (codes "e-f") ∷ Text (codes ".g") ∷ []) ∷ There true ∷ Word (at 1 17) (Text (codes "$") ∷ Text (codes "#") ∷ []) ∷ []
-unfolding answers cut
+references_in_words : outcomes (codes "a ${b.c}d$e-f.g|$$#") (start ∷ ident ∷ word ∷ sign Pipe ∷ word ∷ []) ≡ Begins Plain ∷ some (codes "a") ∷ Word (at 1 3) (Name (codes "b.c") ∷ Text (codes "d") ∷ Name (codes "e-f") ∷ Text (codes ".g") ∷ []) ∷ There true ∷ Word (at 1 17) (Text (codes "$") ∷ Text (codes "#") ∷ []) ∷ []
+unfolding outcomes cut
 references_in_words = refl
 
-identifiers : answers (codes "a-b_C.9  d:") (start ∷ ident ∷ spot ∷ ident ∷ ident ∷ spot ∷ []) ≡ Begins Plain ∷ some (codes "a-b_C.9") ∷ Stands (at 1 8) ∷ some (codes "d") ∷ Found None ∷ Stands (at 1 11) ∷ []
-unfolding answers cut
+identifiers : outcomes (codes "a-b_C.9  d:") (start ∷ ident ∷ spot ∷ ident ∷ ident ∷ spot ∷ []) ≡ Begins Plain ∷ some (codes "a-b_C.9") ∷ Consistent (at 1 8) ∷ some (codes "d") ∷ Found None ∷ Consistent (at 1 11) ∷ []
+unfolding outcomes cut
 identifiers = refl
 
 -- values
 
-trailing_spaces_stay : answers (codes "x =  a $b  c$:  \ny") (start ∷ ident ∷ sign Equals ∷ value ∷ spot ∷ value ∷ sign line_end ∷ spot ∷ []) ≡ Begins Plain ∷ some (codes "x") ∷ There true ∷ Word (at 1 6) (Text (codes "a ") ∷ Name (codes "b") ∷ Text (codes "  c") ∷ Text (codes ":") ∷ Text (codes "  ") ∷ []) ∷ Stands (at 1 17) ∷ Word (at 1 17) [] ∷ There true ∷ Stands (at 2 1) ∷ []
-unfolding answers cut
+trailing_spaces_stay : outcomes (codes "x =  a $b  c$:  \ny") (start ∷ ident ∷ sign Equals ∷ value ∷ spot ∷ value ∷ sign line_end ∷ spot ∷ []) ≡ Begins Plain ∷ some (codes "x") ∷ There true ∷ Word (at 1 6) (Text (codes "a ") ∷ Name (codes "b") ∷ Text (codes "  c") ∷ Text (codes ":") ∷ Text (codes "  ") ∷ []) ∷ Consistent (at 1 17) ∷ Word (at 1 17) [] ∷ There true ∷ Consistent (at 2 1) ∷ []
+unfolding outcomes cut
 trailing_spaces_stay = refl
 
-join_in_a_value : answers (codes "x = a$\n   b : c | $\r\nd") (start ∷ ident ∷ sign Equals ∷ value ∷ sign line_end ∷ []) ≡ Begins Plain ∷ some (codes "x") ∷ There true ∷ Word (at 1 5) (Text (codes "a") ∷ Text (codes "b : c | ") ∷ Text (codes "d") ∷ []) ∷ There true ∷ []
-unfolding answers cut
+join_in_a_value : outcomes (codes "x = a$\n   b : c | $\r\nd") (start ∷ ident ∷ sign Equals ∷ value ∷ sign line_end ∷ []) ≡ Begins Plain ∷ some (codes "x") ∷ There true ∷ Word (at 1 5) (Text (codes "a") ∷ Text (codes "b : c | ") ∷ Text (codes "d") ∷ []) ∷ There true ∷ []
+unfolding outcomes cut
 join_in_a_value = refl
 
-empty_value : answers (codes "x =  \n") (start ∷ ident ∷ sign Equals ∷ value ∷ spot ∷ []) ≡ Begins Plain ∷ some (codes "x") ∷ There true ∷ Word (at 1 6) [] ∷ Stands (at 1 6) ∷ []
-unfolding answers cut
+empty_value : outcomes (codes "x =  \n") (start ∷ ident ∷ sign Equals ∷ value ∷ spot ∷ []) ≡ Begins Plain ∷ some (codes "x") ∷ There true ∷ Word (at 1 6) [] ∷ Consistent (at 1 6) ∷ []
+unfolding outcomes cut
 empty_value = refl
 
 -- signs
 
-longest_sign : answers (codes "| || |@ |||") (start ∷ sign Pipe2 ∷ sign PipeAt ∷ sign Pipe ∷ sign Pipe ∷ sign PipeAt ∷ sign Pipe2 ∷ sign Pipe ∷ sign Pipe2 ∷ sign PipeAt ∷ sign Pipe ∷ sign Pipe2 ∷ sign Pipe ∷ sign line_end ∷ []) ≡ Begins Plain ∷ There false ∷ There false ∷ There true ∷ There false ∷ There false ∷ There true ∷ There false ∷ There false ∷ There true ∷ There false ∷ There true ∷ There true ∷ There true ∷ []
-unfolding answers cut
+longest_sign : outcomes (codes "| || |@ |||") (start ∷ sign Pipe2 ∷ sign PipeAt ∷ sign Pipe ∷ sign Pipe ∷ sign PipeAt ∷ sign Pipe2 ∷ sign Pipe ∷ sign Pipe2 ∷ sign PipeAt ∷ sign Pipe ∷ sign Pipe2 ∷ sign Pipe ∷ sign line_end ∷ []) ≡ Begins Plain ∷ There false ∷ There false ∷ There true ∷ There false ∷ There false ∷ There true ∷ There false ∷ There false ∷ There true ∷ There false ∷ There true ∷ There true ∷ There true ∷ []
+unfolding outcomes cut
 longest_sign = refl
 
-signs_and_places : answers (codes "a: =b") (start ∷ sign Colon ∷ ident ∷ sign Equals ∷ sign line_end ∷ sign Colon ∷ spot ∷ sign Equals ∷ spot ∷ []) ≡ Begins Plain ∷ There false ∷ some (codes "a") ∷ There false ∷ There false ∷ There true ∷ Stands (at 1 3) ∷ There true ∷ Stands (at 1 5) ∷ []
-unfolding answers cut
+signs_and_places : outcomes (codes "a: =b") (start ∷ sign Colon ∷ ident ∷ sign Equals ∷ sign line_end ∷ sign Colon ∷ spot ∷ sign Equals ∷ spot ∷ []) ≡ Begins Plain ∷ There false ∷ some (codes "a") ∷ There false ∷ There false ∷ There true ∷ Consistent (at 1 3) ∷ There true ∷ Consistent (at 1 5) ∷ []
+unfolding outcomes cut
 signs_and_places = refl
 
 -- faults
 
-bad_escape_in_a_value : answers (codes "x = $!") (start ∷ ident ∷ sign Equals ∷ spot ∷ value ∷ spot ∷ start ∷ ident ∷ sign line_end ∷ word ∷ value ∷ spot ∷ []) ≡ Begins Plain ∷ some (codes "x") ∷ There true ∷ Stands (at 1 4) ∷ Fault (bad_escape (at 1 5)) ∷ Stands (at 1 5) ∷ Fault (bad_escape (at 1 5)) ∷ Fault (bad_escape (at 1 5)) ∷ Fault (bad_escape (at 1 5)) ∷ Fault (bad_escape (at 1 5)) ∷ Fault (bad_escape (at 1 5)) ∷ Stands (at 1 5) ∷ []
-unfolding answers cut
+bad_escape_in_a_value : outcomes (codes "x = $!") (start ∷ ident ∷ sign Equals ∷ spot ∷ value ∷ spot ∷ start ∷ ident ∷ sign line_end ∷ word ∷ value ∷ spot ∷ []) ≡ Begins Plain ∷ some (codes "x") ∷ There true ∷ Consistent (at 1 4) ∷ Fault (bad_escape (at 1 5)) ∷ Consistent (at 1 5) ∷ Fault (bad_escape (at 1 5)) ∷ Fault (bad_escape (at 1 5)) ∷ Fault (bad_escape (at 1 5)) ∷ Fault (bad_escape (at 1 5)) ∷ Fault (bad_escape (at 1 5)) ∷ Consistent (at 1 5) ∷ []
+unfolding outcomes cut
 bad_escape_in_a_value = refl
 
-dollar_ends_the_text : answers (codes "x = $") (start ∷ ident ∷ sign Equals ∷ value ∷ spot ∷ []) ≡ Begins Plain ∷ some (codes "x") ∷ There true ∷ Fault (bad_escape (at 1 5)) ∷ Stands (at 1 5) ∷ []
-unfolding answers cut
+dollar_ends_the_text : outcomes (codes "x = $") (start ∷ ident ∷ sign Equals ∷ value ∷ spot ∷ []) ≡ Begins Plain ∷ some (codes "x") ∷ There true ∷ Fault (bad_escape (at 1 5)) ∷ Consistent (at 1 5) ∷ []
+unfolding outcomes cut
 dollar_ends_the_text = refl
 
-tab_begins_a_line : answers (codes "rule r\n\tcommand = x") (start ∷ ident ∷ ident ∷ sign line_end ∷ start ∷ spot ∷ ident ∷ start ∷ []) ≡ Begins Plain ∷ some (codes "rule") ∷ some (codes "r") ∷ There true ∷ Fault (Tab (at 2 1)) ∷ Stands (at 2 1) ∷ Fault (Tab (at 2 1)) ∷ Fault (Tab (at 2 1)) ∷ []
-unfolding answers cut
+tab_begins_a_line : outcomes (codes "rule r\n\tcommand = x") (start ∷ ident ∷ ident ∷ sign line_end ∷ start ∷ spot ∷ ident ∷ start ∷ []) ≡ Begins Plain ∷ some (codes "rule") ∷ some (codes "r") ∷ There true ∷ Fault (Tab (at 2 1)) ∷ Consistent (at 2 1) ∷ Fault (Tab (at 2 1)) ∷ Fault (Tab (at 2 1)) ∷ []
+unfolding outcomes cut
 tab_begins_a_line = refl
 
-tab_after_leading_spaces : answers (codes "x\n  \t# c") (start ∷ ident ∷ sign line_end ∷ start ∷ spot ∷ []) ≡ Begins Plain ∷ some (codes "x") ∷ There true ∷ Fault (Tab (at 2 3)) ∷ Stands (at 2 3) ∷ []
-unfolding answers cut
+tab_after_leading_spaces : outcomes (codes "x\n  \t# c") (start ∷ ident ∷ sign line_end ∷ start ∷ spot ∷ []) ≡ Begins Plain ∷ some (codes "x") ∷ There true ∷ Fault (Tab (at 2 3)) ∷ Consistent (at 2 3) ∷ []
+unfolding outcomes cut
 tab_after_leading_spaces = refl
 
-fault_in_a_word : answers (codes "build o $\n  a$!b") (start ∷ ident ∷ word ∷ word ∷ spot ∷ sign Colon ∷ []) ≡ Begins Plain ∷ some (codes "build") ∷ Word (at 1 7) (Text (codes "o") ∷ []) ∷ Fault (bad_escape (at 2 4)) ∷ Stands (at 2 4) ∷ Fault (bad_escape (at 2 4)) ∷ []
-unfolding answers cut
+fault_in_a_word : outcomes (codes "build o $\n  a$!b") (start ∷ ident ∷ word ∷ word ∷ spot ∷ sign Colon ∷ []) ≡ Begins Plain ∷ some (codes "build") ∷ Word (at 1 7) (Text (codes "o") ∷ []) ∷ Fault (bad_escape (at 2 4)) ∷ Consistent (at 2 4) ∷ Fault (bad_escape (at 2 4)) ∷ []
+unfolding outcomes cut
 fault_in_a_word = refl
 
-fault_after_a_word : answers (codes "build o \rb") (start ∷ ident ∷ word ∷ word ∷ spot ∷ []) ≡ Begins Plain ∷ some (codes "build") ∷ Word (at 1 7) (Text (codes "o") ∷ []) ∷ Fault (bad_byte (at 1 9)) ∷ Stands (at 1 9) ∷ []
-unfolding answers cut
+fault_after_a_word : outcomes (codes "build o \rb") (start ∷ ident ∷ word ∷ word ∷ spot ∷ []) ≡ Begins Plain ∷ some (codes "build") ∷ Word (at 1 7) (Text (codes "o") ∷ []) ∷ Fault (bad_byte (at 1 9)) ∷ Consistent (at 1 9) ∷ []
+unfolding outcomes cut
 fault_after_a_word = refl
 
-fault_before_an_identifier : answers (codes "x \0") (start ∷ ident ∷ ident ∷ spot ∷ []) ≡ Begins Plain ∷ some (codes "x") ∷ Fault (bad_byte (at 1 3)) ∷ Stands (at 1 3) ∷ []
-unfolding answers cut
+fault_before_an_identifier : outcomes (codes "x \0") (start ∷ ident ∷ ident ∷ spot ∷ []) ≡ Begins Plain ∷ some (codes "x") ∷ Fault (bad_byte (at 1 3)) ∷ Consistent (at 1 3) ∷ []
+unfolding outcomes cut
 fault_before_an_identifier = refl
 
-fault_before_a_sign : answers (codes "x $(") (start ∷ ident ∷ sign Colon ∷ spot ∷ []) ≡ Begins Plain ∷ some (codes "x") ∷ Fault (bad_escape (at 1 3)) ∷ Stands (at 1 3) ∷ []
-unfolding answers cut
+fault_before_a_sign : outcomes (codes "x $(") (start ∷ ident ∷ sign Colon ∷ spot ∷ []) ≡ Begins Plain ∷ some (codes "x") ∷ Fault (bad_escape (at 1 3)) ∷ Consistent (at 1 3) ∷ []
+unfolding outcomes cut
 fault_before_a_sign = refl
 
-first_fault_of_a_value : answers (codes "x = a b\0$!") (start ∷ ident ∷ sign Equals ∷ value ∷ []) ≡ Begins Plain ∷ some (codes "x") ∷ There true ∷ Fault (bad_byte (at 1 8)) ∷ []
-unfolding answers cut
+first_fault_of_a_value : outcomes (codes "x = a b\0$!") (start ∷ ident ∷ sign Equals ∷ value ∷ []) ≡ Begins Plain ∷ some (codes "x") ∷ There true ∷ Fault (bad_byte (at 1 8)) ∷ []
+unfolding outcomes cut
 first_fault_of_a_value = refl
 
 -- where lines begin and end
 
-empty_text : answers (codes "") (start ∷ ident ∷ sign line_end ∷ word ∷ value ∷ spot ∷ start ∷ []) ≡ Begins End ∷ Found None ∷ There false ∷ NoWord ∷ Word (at 1 1) [] ∷ Stands (at 1 1) ∷ Begins End ∷ []
-unfolding answers cut
+empty_text : outcomes (codes "") (start ∷ ident ∷ sign line_end ∷ word ∷ value ∷ spot ∷ start ∷ []) ≡ Begins End ∷ Found None ∷ There false ∷ NoWord ∷ Word (at 1 1) [] ∷ Consistent (at 1 1) ∷ Begins End ∷ []
+unfolding outcomes cut
 empty_text = refl
 
-nothing_between_lines : answers (codes "a") (ident ∷ word ∷ sign line_end ∷ value ∷ spot ∷ start ∷ start ∷ ident ∷ start ∷ sign line_end ∷ sign line_end ∷ start ∷ []) ≡ Found None ∷ NoWord ∷ There false ∷ Word (at 1 1) [] ∷ Stands (at 1 1) ∷ Begins Plain ∷ Begins Middle ∷ some (codes "a") ∷ Begins Middle ∷ There true ∷ There false ∷ Begins End ∷ []
-unfolding answers cut
+nothing_between_lines : outcomes (codes "a") (ident ∷ word ∷ sign line_end ∷ value ∷ spot ∷ start ∷ start ∷ ident ∷ start ∷ sign line_end ∷ sign line_end ∷ start ∷ []) ≡ Found None ∷ NoWord ∷ There false ∷ Word (at 1 1) [] ∷ Consistent (at 1 1) ∷ Begins Plain ∷ Begins Middle ∷ some (codes "a") ∷ Begins Middle ∷ There true ∷ There false ∷ Begins End ∷ []
+unfolding outcomes cut
 nothing_between_lines = refl
 
-join_opens_a_line : answers (codes "$\n  a = b\nc") (start ∷ spot ∷ ident ∷ word ∷ sign line_end ∷ spot ∷ start ∷ value ∷ spot ∷ sign line_end ∷ spot ∷ []) ≡ Begins Plain ∷ Stands (at 1 1) ∷ Found None ∷ NoWord ∷ There false ∷ Stands (at 1 1) ∷ Begins Middle ∷ Word (at 2 3) (Text (codes "a = b") ∷ []) ∷ Stands (at 2 8) ∷ There true ∷ Stands (at 3 1) ∷ []
-unfolding answers cut
+join_opens_a_line : outcomes (codes "$\n  a = b\nc") (start ∷ spot ∷ ident ∷ word ∷ sign line_end ∷ spot ∷ start ∷ value ∷ spot ∷ sign line_end ∷ spot ∷ []) ≡ Begins Plain ∷ Consistent (at 1 1) ∷ Found None ∷ NoWord ∷ There false ∷ Consistent (at 1 1) ∷ Begins Middle ∷ Word (at 2 3) (Text (codes "a = b") ∷ []) ∷ Consistent (at 2 8) ∷ There true ∷ Consistent (at 3 1) ∷ []
+unfolding outcomes cut
 join_opens_a_line = refl
 
-joins_open_a_line : answers (codes "$\n$\n a") (start ∷ value ∷ []) ≡ Begins Plain ∷ Word (at 3 2) (Text (codes "a") ∷ []) ∷ []
-unfolding answers cut
+joins_open_a_line : outcomes (codes "$\n$\n a") (start ∷ value ∷ []) ≡ Begins Plain ∷ Word (at 3 2) (Text (codes "a") ∷ []) ∷ []
+unfolding outcomes cut
 joins_open_a_line = refl
 
-indented_line : answers (codes "r\n  a\n   $\n b") (start ∷ sign line_end ∷ ident ∷ sign line_end ∷ start ∷ spot ∷ ident ∷ sign line_end ∷ start ∷ spot ∷ ident ∷ spot ∷ []) ≡ Begins Plain ∷ There false ∷ some (codes "r") ∷ There true ∷ Begins Indented ∷ Stands (at 2 3) ∷ some (codes "a") ∷ There true ∷ Begins Indented ∷ Stands (at 3 4) ∷ some (codes "b") ∷ Stands (at 4 3) ∷ []
-unfolding answers cut
+indented_line : outcomes (codes "r\n  a\n   $\n b") (start ∷ sign line_end ∷ ident ∷ sign line_end ∷ start ∷ spot ∷ ident ∷ sign line_end ∷ start ∷ spot ∷ ident ∷ spot ∷ []) ≡ Begins Plain ∷ There false ∷ some (codes "r") ∷ There true ∷ Begins Indented ∷ Consistent (at 2 3) ∷ some (codes "a") ∷ There true ∷ Begins Indented ∷ Consistent (at 3 4) ∷ some (codes "b") ∷ Consistent (at 4 3) ∷ []
+unfolding outcomes cut
 indented_line = refl
 
-comment_ends_the_text : answers (codes "a\n  # $! \0") (start ∷ ident ∷ sign line_end ∷ spot ∷ start ∷ spot ∷ []) ≡ Begins Plain ∷ some (codes "a") ∷ There true ∷ Stands (at 2 1) ∷ Begins End ∷ Stands (at 2 9) ∷ []
-unfolding answers cut
+comment_ends_the_text : outcomes (codes "a\n  # $! \0") (start ∷ ident ∷ sign line_end ∷ spot ∷ start ∷ spot ∷ []) ≡ Begins Plain ∷ some (codes "a") ∷ There true ∷ Consistent (at 2 1) ∷ Begins End ∷ Consistent (at 2 9) ∷ []
+unfolding outcomes cut
 comment_ends_the_text = refl
 
-comments_and_a_blank_line : answers (codes "# c\n#\r\n \r\na") (start ∷ spot ∷ start ∷ spot ∷ ident ∷ []) ≡ Begins Blank ∷ Stands (at 4 1) ∷ Begins Plain ∷ Stands (at 4 1) ∷ some (codes "a") ∷ []
-unfolding answers cut
+comments_and_a_blank_line : outcomes (codes "# c\n#\r\n \r\na") (start ∷ spot ∷ start ∷ spot ∷ ident ∷ []) ≡ Begins Blank ∷ Consistent (at 4 1) ∷ Begins Plain ∷ Consistent (at 4 1) ∷ some (codes "a") ∷ []
+unfolding outcomes cut
 comments_and_a_blank_line = refl
 
-blank_line_ends_the_text : answers (codes "a\r\n   ") (start ∷ ident ∷ sign line_end ∷ spot ∷ start ∷ spot ∷ start ∷ []) ≡ Begins Plain ∷ some (codes "a") ∷ There true ∷ Stands (at 2 1) ∷ Begins Blank ∷ Stands (at 2 4) ∷ Begins End ∷ []
-unfolding answers cut
+blank_line_ends_the_text : outcomes (codes "a\r\n   ") (start ∷ ident ∷ sign line_end ∷ spot ∷ start ∷ spot ∷ start ∷ []) ≡ Begins Plain ∷ some (codes "a") ∷ There true ∷ Consistent (at 2 1) ∷ Begins Blank ∷ Consistent (at 2 4) ∷ Begins End ∷ []
+unfolding outcomes cut
 blank_line_ends_the_text = refl
 
-places_after_joins : answers (codes "a $\r\n  b$\nc") (start ∷ ident ∷ spot ∷ ident ∷ spot ∷ ident ∷ spot ∷ []) ≡ Begins Plain ∷ some (codes "a") ∷ Stands (at 1 2) ∷ some (codes "b") ∷ Stands (at 2 4) ∷ some (codes "c") ∷ Stands (at 3 2) ∷ []
-unfolding answers cut
+places_after_joins : outcomes (codes "a $\r\n  b$\nc") (start ∷ ident ∷ spot ∷ ident ∷ spot ∷ ident ∷ spot ∷ []) ≡ Begins Plain ∷ some (codes "a") ∷ Consistent (at 1 2) ∷ some (codes "b") ∷ Consistent (at 2 4) ∷ some (codes "c") ∷ Consistent (at 3 2) ∷ []
+unfolding outcomes cut
 places_after_joins = refl

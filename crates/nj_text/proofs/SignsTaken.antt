@@ -17,7 +17,7 @@ use Rattle.nj_text.proofs.Cuts.{unit-ordinary, cut-ordinary, advance-advance}
 use Rattle.nj_text.proofs.Gathered.{not_ordinary}
 use Rattle.nj_text.proofs.LineStarts.{cut_has_line, fails_if_no_byte}
 use Rattle.nj_text.proofs.Bridges.{begins_with_byte_of_line, line_after}
-use Rattle.nj_text.proofs.Steps.{line, others, fails_here, goes_on_here}
+use Rattle.nj_text.proofs.Steps.{line, others, fails_here, continues_here}
 
 abbrev sign_or_none : Sign → Spot → List ℕ → Bool → Reply Bool
 sign_or_none want spot bytes t = cond t (reply true (state_after_sign want (line spot bytes) (others spot bytes))) (reply false (Inside (line spot bytes) (others spot bytes)))
@@ -26,7 +26,7 @@ pub sign_fails : (want : Sign) (spot : Spot) (bytes : List ℕ) (f : UnitFault) 
 sign_fails want spot bytes f e = fails_here spot bytes f (sign_or_none want spot bytes (is_sign want (line spot bytes).units)) e
 
 sign_by : (want : Sign) (spot : Spot) (bytes : List ℕ) (t : Bool) → None ≡ next_fault (units_within spot bytes) → is_sign want (line spot bytes).units ≡ t → sign_at want (line spot bytes) (others spot bytes) ≡ sign_or_none want spot bytes t
-sign_by want spot bytes t n e = goes_on_here spot bytes (sign_or_none want spot bytes (is_sign want (line spot bytes).units)) n ∙ ap (sign_or_none want spot bytes) e
+sign_by want spot bytes t n e = continues_here spot bytes (sign_or_none want spot bytes (is_sign want (line spot bytes).units)) n ∙ ap (sign_or_none want spot bytes) e
 
 -- ---- line ends
 

@@ -12,7 +12,7 @@ use Rattle.nj_text.specs.declared.word.Part.{Part}
 use Rattle.nj_text.specs.Units.{OpeningJoin, TextUnit, AtStart, Within, cut}
 use Rattle.nj_text.specs.Lines.{Line, lines_of, before_first_line, with_units, line_spot}
 use Rattle.nj_text.specs.Words.{is_blank, WordText, word_text, part_text, is_opening_meaning, after_opening}
-use Rattle.nj_text.specs.Calls.{State, Between, Inside, Reply, reply, after_blanks, value_at, value_of, sign_of, first_line_spot, AnswersOrLacksMemory, no_word, skip_blanks_of, is_inside}
+use Rattle.nj_text.specs.Calls.{State, Between, Inside, Reply, reply, after_blanks, value_at, value_of, sign_of, first_line_spot, ReturnsOrLacksMemory, no_word, skip_blanks_of, is_inside}
 use Rattle.nj_text.specs.Bytes.{drop_while}
 use Rattle.nj_text.specs.Inside.Scans.{units_within}
 use Rattle.nj_text.specs.Inside.States.{first_line, other_lines, inside, lines_from, lines_within, StepsOrLacksMemory, FailsStep, FinishesValue, FinishesAtFault}
@@ -100,14 +100,14 @@ value_inside spot bytes = ap (λ us. value_at (after_blanks (with_units us (line
 
 -- ---- a value that was read
 
-finished_at_fault : (old new : State) (expected : Reply WordText) (f : WordFault) (result : Result Word LexFault) → is_inside old ≡ true → FailsStep expected f → FinishesAtFault f old new result → AnswersOrLacksMemory word_text result old new expected
+finished_at_fault : (old new : State) (expected : Reply WordText) (f : WordFault) (result : Result Word LexFault) → is_inside old ≡ true → FailsStep expected f → FinishesAtFault f old new result → ReturnsOrLacksMemory word_text result old new expected
 finished_at_fault old new expected (word_fault.Unit f) (Ok w) i e h = absurd h.0
 finished_at_fault old new expected (word_fault.Unit f) (Err g) i e h = rw (h.0, e) (refl, h.1)
 finished_at_fault old new expected word_fault.OutOfMemory (Ok w) i e h = absurd h.0
 finished_at_fault old new expected word_fault.OutOfMemory (Err g) i e h = rw h.0 (i, h.1)
 
 pub finished_value : (old new : State) (expected : Reply WordText) (step : Result (Word × Cursor) WordFault) (result : Result Word LexFault) → is_inside old ≡ true → value_of old ≡ expected → StepsOrLacksMemory word_text expected step → FinishesValue step old new result
-    → AnswersOrLacksMemory word_text result old new (value_of old)
+    → ReturnsOrLacksMemory word_text result old new (value_of old)
 finished_value old new expected (Ok step) result i v e h = rw (h.0, v, e) (refl, h.1)
 finished_value old new expected (Err f) result i v e h = rw v (finished_at_fault old new expected f result i e h)
 

@@ -53,8 +53,8 @@ fault_here spot bytes = next_fault_of_line (units_within spot bytes) (cut_has_li
 pub fails_here : {A : Type 0} (spot : Spot) (bytes : List ℕ) (f : UnitFault) (expected : Reply A) → Some f ≡ next_fault (units_within spot bytes) → unless_fault (next_fault (line spot bytes).units) expected ≡ failing f
 fails_here spot bytes f expected e = ap (λ o. unless_fault o expected) (fault_here spot bytes ∙ sym e)
 
-pub goes_on_here : {A : Type 0} (spot : Spot) (bytes : List ℕ) (expected : Reply A) → None ≡ next_fault (units_within spot bytes) → unless_fault (next_fault (line spot bytes).units) expected ≡ expected
-goes_on_here spot bytes expected e = ap (λ o. unless_fault o expected) (fault_here spot bytes ∙ sym e)
+pub continues_here : {A : Type 0} (spot : Spot) (bytes : List ℕ) (expected : Reply A) → None ≡ next_fault (units_within spot bytes) → unless_fault (next_fault (line spot bytes).units) expected ≡ expected
+continues_here spot bytes expected e = ap (λ o. unless_fault o expected) (fault_here spot bytes ∙ sym e)
 
 -- ---- identifiers
 
@@ -112,7 +112,7 @@ identifier_here spot there bytes xs ys whole run remainder t f =
     let us = units_within spot bytes in
     let parts = identifier_units spot bytes xs ys whole (subst (AllIn is_identifier_byte) (sym run) (AllIn-take_while is_identifier_byte bytes)) (subst (NoneInRun is_identifier_byte) (sym remainder) (none_after is_identifier_byte bytes)) in
     let front = front_of in_identifier identifiers_end us (cut_has_line Within 0 spot bytes) ∙ parts.0 in
-    goes_on_here spot bytes (reply (some_bytes (bytes_of (take_while in_identifier (line spot bytes).units))) (Inside (with_units (drop_while in_identifier (line spot bytes).units) (line spot bytes)) (others spot bytes))) f
+    continues_here spot bytes (reply (some_bytes (bytes_of (take_while in_identifier (line spot bytes).units))) (Inside (with_units (drop_while in_identifier (line spot bytes).units) (line spot bytes)) (others spot bytes))) f
     ∙ ap (λ vs. reply (some_bytes (bytes_of vs)) (Inside (with_units (drop_while in_identifier (line spot bytes).units) (line spot bytes)) (others spot bytes))) front
     ∙ ap (λ bs. reply (some_bytes bs) (Inside (with_units (drop_while in_identifier (line spot bytes).units) (line spot bytes)) (others spot bytes))) (bytes_of_plain spot xs)
     ∙ ap (λ s. reply (some_bytes xs) s) (sym (passed_by in_identifier identifiers_end us) ∙ ap (λ vs. inside (lines_of vs)) parts.1 ∙ ap (λ p. inside (lines_within p ys)) (sym t))
@@ -144,12 +144,12 @@ word_or_none spot bytes t =
 pub no_word_here : (spot : Spot) (bytes : List ℕ) → None ≡ next_fault (units_within spot bytes) → begins_word (units_within spot bytes) ≡ false
     → word_at (line spot bytes) (others spot bytes) ≡ reply None (inside (lines_within spot bytes))
 no_word_here spot bytes f b =
-    goes_on_here spot bytes (word_or_none spot bytes (begins_word (line spot bytes).units)) f ∙ ap (word_or_none spot bytes) (begins_here spot bytes ∙ b)
+    continues_here spot bytes (word_or_none spot bytes (begins_word (line spot bytes).units)) f ∙ ap (word_or_none spot bytes) (begins_here spot bytes ∙ b)
 
 pub word_fails_here : (spot : Spot) (bytes : List ℕ) (f : UnitFault) → None ≡ next_fault (units_within spot bytes) → begins_word (units_within spot bytes) ≡ true → next_fault (after_text kind.Word (units_within spot bytes)) ≡ Some f
     → word_at (line spot bytes) (others spot bytes) ≡ failing f
 word_fails_here spot bytes f n b e =
-    goes_on_here spot bytes (word_or_none spot bytes (begins_word (line spot bytes).units)) n ∙ ap (word_or_none spot bytes) (begins_here spot bytes ∙ b)
+    continues_here spot bytes (word_or_none spot bytes (begins_word (line spot bytes).units)) n ∙ ap (word_or_none spot bytes) (begins_here spot bytes ∙ b)
     ∙ ap (λ o. unless_fault o (reply (Some (word_here (line spot bytes))) (Inside (with_units (drop_while in_word (line spot bytes).units) (line spot bytes)) (others spot bytes)))) (fault_after_word spot bytes ∙ e)
 
 pub word_is_here : (spot : Spot) (bytes : List ℕ) (parts : List PartText) (there : Spot) (rest : List ℕ) → None ≡ next_fault (units_within spot bytes) → begins_word (units_within spot bytes) ≡ true
@@ -160,7 +160,7 @@ word_is_here spot bytes parts there rest n b e p r =
     let place : line_spot (line spot bytes) ≡ spot = spot_of_line Within spot bytes in
     let text : parts_of (take_while in_word (line spot bytes).units) ≡ parts = ap parts_of (front_of in_word words_end us (cut_has_line Within 0 spot bytes)) ∙ sym p in
     let after : Inside (with_units (drop_while in_word (line spot bytes).units) (line spot bytes)) (others spot bytes) ≡ inside (lines_within there rest) = sym (passed_by in_word words_end us) ∙ ap (λ vs. inside (lines_of vs)) (sym r) in
-    goes_on_here spot bytes (word_or_none spot bytes (begins_word (line spot bytes).units)) n ∙ ap (word_or_none spot bytes) (begins_here spot bytes ∙ b)
+    continues_here spot bytes (word_or_none spot bytes (begins_word (line spot bytes).units)) n ∙ ap (word_or_none spot bytes) (begins_here spot bytes ∙ b)
     ∙ ap (λ o. unless_fault o (reply (Some (word_here (line spot bytes))) (Inside (with_units (drop_while in_word (line spot bytes).units) (line spot bytes)) (others spot bytes)))) (fault_after_word spot bytes ∙ e)
     ∙ ap (λ s. reply (Some (word_here (line spot bytes))) s) after
     ∙ ap (λ x. reply (Some (record { spot = x; parts = parts_of (take_while in_word (line spot bytes).units) })) (inside (lines_within there rest))) place

@@ -9,7 +9,7 @@ use Rattle.nj_text.specs.Units.{TextUnit, Position, AtStart, found_at, position_
 use Rattle.nj_text.specs.Inside.Scans.{spots_after}
 use Rattle.nj_text.specs.Lines.{Line, spot_of_first, lines_of, lines_before, ending_of}
 use Rattle.nj_text.specs.Calls.{bytes_of}
-use Rattle.nj_text.specs.Laws.{UnitsAreTheText, UnitsStandInPlace, counted_spot, LinesAreTheUnits, Mark, InLine, AtEnd, mark_by, mark_of, marks_of}
+use Rattle.nj_text.specs.Laws.{UnitsAreTheText, UnitsComeInPlace, counted_spot, LinesAreTheUnits, Mark, InLine, AtEnd, mark_by, mark_of, marks_of}
 
 -- the units of the bytes after those that are skipped
 bytes_of-cut : (position : Position) (skip : ℕ) (spot : Spot) (bs : List ℕ) → bytes_of (cut position skip spot bs) ≡ drop skip bs
@@ -66,8 +66,8 @@ counted-reverse (b ∷ bytes) =
 pub spots_count : (bytes : List ℕ) → spots_after bytes first_spot ≡ counted_spot bytes
 spots_count bytes = subst (λ bs. spots_after bs first_spot ≡ counted_spot bs) (reverse-reverse bytes) (counted-reverse (reverse bytes))
 
-pub stand_in_place : UnitsStandInPlace
-stand_in_place text us vs u e = place_in_cut AtStart 0 first_spot text us vs u e ∙ spots_count (bytes_of us)
+pub come_in_place : UnitsComeInPlace
+come_in_place text us vs u e = place_in_cut AtStart 0 first_spot text us vs u e ∙ spots_count (bytes_of us)
 
 -- the last of the units ends a line
 abbrev EndsWithEnd : List TextUnit → Type 0

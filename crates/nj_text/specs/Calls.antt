@@ -24,14 +24,14 @@ pub data State : Type 0 where
 
 -- what a call answers, and where it leaves the lexer
 pub record Reply (A : Type 0) : Type 0 where
-  pub answer : Result A UnitFault
+  pub outcome : Result A UnitFault
   pub after : State
 
 abbrev pub reply : {A : Type 0} → A → State → Reply A
-reply x after = record { answer = Ok x; after = after }
+reply x after = record { outcome = Ok x; after = after }
 
 abbrev pub failing : {A : Type 0} → UnitFault → Reply A
-failing f = record { answer = Err f; after = Failed f }
+failing f = record { outcome = Err f; after = Failed f }
 
 -- a fault comes first
 abbrev pub unless_fault : {A : Type 0} → Option UnitFault → Reply A → Reply A
@@ -193,12 +193,12 @@ unit_of lex.OutOfMemory = None
 
 -- It fails with the fault of the definition, and leaves the lexer where the definition does; never out of memory.
 abbrev pub Fails : {Y : Type 0} → Option UnitFault → (after : State) → Reply Y → Type 0
-Fails (Some f) after expected = (expected.answer ≡ Err f) × (after ≡ expected.after)
+Fails (Some f) after expected = (expected.outcome ≡ Err f) × (after ≡ expected.after)
 Fails None after expected = ⊥
 
 -- It answers as the definition says, and leaves the lexer where the definition does.
 abbrev pub Answers : {X Y : Type 0} → (X → Y) → Result X LexFault → (after : State) → Reply Y → Type 0
-Answers view (Ok x) after expected = (expected.answer ≡ Ok (view x)) × (after ≡ expected.after)
+Answers view (Ok x) after expected = (expected.outcome ≡ Ok (view x)) × (after ≡ expected.after)
 Answers view (Err f) after expected = Fails (unit_of f) after expected
 
 abbrev pub is_inside : State → Bool
@@ -206,10 +206,10 @@ is_inside (Inside l ls) = true
 is_inside s = false
 
 abbrev pub FailsOrLacksMemory : {Y : Type 0} → Option UnitFault → (before after : State) → Reply Y → Type 0
-FailsOrLacksMemory (Some f) before after expected = (expected.answer ≡ Err f) × (after ≡ expected.after)
+FailsOrLacksMemory (Some f) before after expected = (expected.outcome ≡ Err f) × (after ≡ expected.after)
 FailsOrLacksMemory None before after expected = (is_inside before ≡ true) × (after ≡ before)
 
 -- The same of a call that takes memory, which it does inside a line only: out of memory leaves the lexer as it was.
-abbrev pub AnswersOrLacksMemory : {X Y : Type 0} → (X → Y) → Result X LexFault → (before after : State) → Reply Y → Type 0
-AnswersOrLacksMemory view (Ok x) before after expected = (expected.answer ≡ Ok (view x)) × (after ≡ expected.after)
-AnswersOrLacksMemory view (Err f) before after expected = FailsOrLacksMemory (unit_of f) before after expected
+abbrev pub ReturnsOrLacksMemory : {X Y : Type 0} → (X → Y) → Result X LexFault → (before after : State) → Reply Y → Type 0
+ReturnsOrLacksMemory view (Ok x) before after expected = (expected.outcome ≡ Ok (view x)) × (after ≡ expected.after)
+ReturnsOrLacksMemory view (Err f) before after expected = FailsOrLacksMemory (unit_of f) before after expected

@@ -18,8 +18,8 @@ abbrev pub counted_spot : List ℕ → Spot
 counted_spot bytes = record { line = count_by is_line_feed bytes + 1; column = suffix_len (λ b. not (is_line_feed b)) bytes + 1 }
 
 -- each unit is at the place after the bytes of those before it
-abbrev pub UnitsStandInPlace : Type 0
-UnitsStandInPlace = (text : List ℕ) (us vs : List TextUnit) (u : TextUnit) → units text ≡ us ++ u ∷ vs → u.spot ≡ counted_spot (bytes_of us)
+abbrev pub UnitsComeInPlace : Type 0
+UnitsComeInPlace = (text : List ℕ) (us vs : List TextUnit) (u : TextUnit) → units text ≡ us ++ u ∷ vs → u.spot ≡ counted_spot (bytes_of us)
 
 -- a unit as the lines keep it: in a line, or at its end
 pub data Mark : Type 0 where
@@ -47,13 +47,13 @@ part_bytes (Text bytes) = bytes
 part_bytes (Name name) = name
 
 -- The pieces stand in the bytes from left to right: each after the end of the one before it.
-abbrev pub StandInOrder : (pieces : List (List ℕ)) → (bytes : List ℕ) → Type 0
-StandInOrder [] bytes = Unit {0}
-StandInOrder (piece ∷ pieces) bytes = (gap : List ℕ) × (rest : List ℕ) × (bytes ≡ gap ++ piece ++ rest) × StandInOrder pieces rest
+abbrev pub AreInOrder : (pieces : List (List ℕ)) → (bytes : List ℕ) → Type 0
+AreInOrder [] bytes = Unit {0}
+AreInOrder (piece ∷ pieces) bytes = (gap : List ℕ) × (rest : List ℕ) × (bytes ≡ gap ++ piece ++ rest) × AreInOrder pieces rest
 
 -- Units that follow one another in a text, as those of a word or a value do, are a range of its bytes, and their parts
 -- stand in that range from left to right. So the parts stand at rising ranges of the text, none over another.
-abbrev pub PartsStandInOrder : Type 0
-PartsStandInOrder =
+abbrev pub PartsComeInOrder : Type 0
+PartsComeInOrder =
     (text : List ℕ) (before us after : List TextUnit) → units text ≡ before ++ us ++ after
-    → (text ≡ bytes_of before ++ bytes_of us ++ bytes_of after) × StandInOrder (map part_bytes (parts_of us)) (bytes_of us)
+    → (text ≡ bytes_of before ++ bytes_of us ++ bytes_of after) × AreInOrder (map part_bytes (parts_of us)) (bytes_of us)

@@ -89,12 +89,12 @@ longer_run b [] = []
 longer_run b (Text bytes ∷ ps) = Text (b ∷ bytes) ∷ ps
 longer_run b (Name name ∷ ps) = Text (b ∷ []) ∷ Name name ∷ ps
 
-abbrev pub part_before : Meaning → (run_goes_on : Bool) → List PartText → List PartText
+abbrev pub part_before : Meaning → (run_continues : Bool) → List PartText → List PartText
 part_before (Ordinary b) true ps = longer_run b ps
 part_before (Ordinary b) false ps = Text (b ∷ []) ∷ ps
-part_before (Escape b) run_goes_on ps = Text (b ∷ []) ∷ ps
-part_before (Reference name) run_goes_on ps = Name name ∷ ps
-part_before m run_goes_on ps = ps
+part_before (Escape b) run_continues ps = Text (b ∷ []) ∷ ps
+part_before (Reference name) run_continues ps = Name name ∷ ps
+part_before m run_continues ps = ps
 
 abbrev pub begins_with_ordinary : List TextUnit → Bool
 begins_with_ordinary [] = false

@@ -1,6 +1,6 @@
 //! Laws of the cut of a text into units and lines.
 
-ghost use Rattle.nj_text.specs.Laws.{UnitsAreTheText, UnitsStandInPlace, LinesAreTheUnits, PartsStandInOrder};
+ghost use Rattle.nj_text.specs.Laws.{UnitsAreTheText, UnitsComeInPlace, LinesAreTheUnits, PartsComeInOrder};
 
 /// The units of a text, one after another, are the text.
 pub fn units_are_the_text()
@@ -8,8 +8,8 @@ pub fn units_are_the_text()
 {}
 
 /// Each unit is at the line and the column that the bytes before it make.
-pub fn units_stand_in_place()
-    ensures { UnitsStandInPlace }
+pub fn units_come_in_place()
+    ensures { UnitsComeInPlace }
 {}
 
 /// The lines of a text, each with its end, are its units.
@@ -18,6 +18,6 @@ pub fn lines_are_the_units()
 {}
 
 /// The parts of a word or a value are at rising ranges of the text.
-pub fn parts_stand_in_order()
-    ensures { PartsStandInOrder }
+pub fn parts_come_in_order()
+    ensures { PartsComeInOrder }
 {}

@@ -3,7 +3,7 @@
 ghost use Rattle.std.specs.Prelude.{◌≡◌, List, ℕ, Some};
 ghost use Rattle.std.specs.Option.{option_map};
 ghost use Rattle.nj_text.specs.Words.{word_text};
-ghost use Rattle.nj_text.specs.Calls.{Answers, AnswersOrLacksMemory, at_front, start_line_of, ident_of, sign_of, path_word_of, value_of, spot_of, skip_blanks_of, Failed, unit_of};
+ghost use Rattle.nj_text.specs.Calls.{Answers, ReturnsOrLacksMemory, at_front, start_line_of, ident_of, sign_of, path_word_of, value_of, spot_of, skip_blanks_of, Failed, unit_of};
 ghost use Rattle.nj_text.specs.Inside.States.{FinishesValue};
 
 use crate::blanks::skip_blanks;
@@ -160,7 +160,7 @@ impl<'a> Lexer<'a> {
     /// The fault of a bad unit that comes next, or of the one at which the word stops;
     /// [`LexFault::OutOfMemory`], which leaves the lexer as it was.
     pub fn path_word(&mut self, alloc: Global) -> Result<Option<Word<'a>>, LexFault>
-        ensures { AnswersOrLacksMemory (option_map word_text) result self.old self.new
+        ensures { ReturnsOrLacksMemory (option_map word_text) result self.old self.new
             (path_word_of self.old) }
     {
         let start = self.cursor;
@@ -187,7 +187,7 @@ impl<'a> Lexer<'a> {
     /// lexer as it was.
     #[inline(always)]
     pub fn value(&mut self, alloc: Global) -> Result<Word<'a>, LexFault>
-        ensures { AnswersOrLacksMemory word_text result self.old self.new (value_of self.old) }
+        ensures { ReturnsOrLacksMemory word_text result self.old self.new (value_of self.old) }
     {
         let cursor = self.cursor;
         match self.state {

@@ -32,9 +32,7 @@ mod word;
 mod words;
 
 pub use fault::LexFault;
-pub use laws::{
-    lines_are_the_units, parts_stand_in_order, units_are_the_text, units_stand_in_place,
-};
+pub use laws::{lines_are_the_units, parts_come_in_order, units_are_the_text, units_come_in_place};
 pub use lexer::Lexer;
 pub use line_start::LineStart;
 pub use lossy::Lossy;

@@ -11,36 +11,36 @@ use Rattle.nj_tools.specs.Texts.{FailsWithin, TakesFront, StopsWithin, WritesTex
 use Rattle.nj_tools.proofs.SinkLemmas.{Takes-nil, Takes-trans, FailsAfter-trans}
 
 -- a part more
-pub IsUnderway-more : (old before after : SinkState) (text waiting part rest : List ℕ)
-    → IsUnderway old before text waiting → IsUnderway before after (waiting ++ part) rest → IsUnderway old after (text ++ part) rest
-IsUnderway-more old before after text waiting part rest (front, parts, taken) (more, more_parts, more_taken) = (
+pub IsUnderway-more : (old before after : SinkState) (text unjoined part rest : List ℕ)
+    → IsUnderway old before text unjoined → IsUnderway before after (unjoined ++ part) rest → IsUnderway old after (text ++ part) rest
+IsUnderway-more old before after text unjoined part rest (front, parts, taken) (more, more_parts, more_taken) = (
   front ++ more,
-  ap (λ t. t ++ part) parts ∙ append_assoc front waiting part ∙ ap (λ t. front ++ t) more_parts ∙ sym (append_assoc front more rest),
+  ap (λ t. t ++ part) parts ∙ append_assoc front unjoined part ∙ ap (λ t. front ++ t) more_parts ∙ sym (append_assoc front more rest),
   Takes-trans _ _ _ _ _ taken more_taken,
 )
 
 -- the sink failed within what waits and a part more
-pub FailsWithin-more : (old before after : SinkState) (text waiting part : List ℕ)
-    → IsUnderway old before text waiting → FailsWithin before after (waiting ++ part) → FailsWithin old after (text ++ part)
-FailsWithin-more old before after text waiting part (front, parts, taken) (more, (rest, joined, some), failed) = (
+pub FailsWithin-more : (old before after : SinkState) (text unjoined part : List ℕ)
+    → IsUnderway old before text unjoined → FailsWithin before after (unjoined ++ part) → FailsWithin old after (text ++ part)
+FailsWithin-more old before after text unjoined part (front, parts, taken) (more, (rest, joined, some), failed) = (
   front ++ more,
-  (rest, append_assoc front more rest ∙ ap (λ t. front ++ t) joined ∙ sym (append_assoc front waiting part) ∙ sym (ap (λ t. t ++ part) parts), some),
+  (rest, append_assoc front more rest ∙ ap (λ t. front ++ t) joined ∙ sym (append_assoc front unjoined part) ∙ sym (ap (λ t. t ++ part) parts), some),
   FailsAfter-trans _ _ _ _ _ taken failed,
 )
 
 -- the sink failed within what waits
-pub FailsWithin-waiting : (old before after : SinkState) (text waiting sent : List ℕ)
-    → IsUnderway old before text waiting → FailsWithin before after sent → sent ≡ waiting → FailsWithin old after text
-FailsWithin-waiting old before after text waiting sent (front, parts, taken) (more, (rest, joined, some), failed) is = (
+pub FailsWithin-unjoined : (old before after : SinkState) (text unjoined sent : List ℕ)
+    → IsUnderway old before text unjoined → FailsWithin before after sent → sent ≡ unjoined → FailsWithin old after text
+FailsWithin-unjoined old before after text unjoined sent (front, parts, taken) (more, (rest, joined, some), failed) is = (
   front ++ more,
   (rest, append_assoc front more rest ∙ ap (λ t. front ++ t) (joined ∙ is) ∙ sym parts, some),
   FailsAfter-trans _ _ _ _ _ taken failed,
 )
 
 -- what waits was taken
-pub Takes-waiting : (old before after : SinkState) (text waiting sent : List ℕ)
-    → IsUnderway old before text waiting → Takes before after sent → sent ≡ waiting → Takes old after text
-Takes-waiting old before after text waiting sent (front, parts, taken) rest is =
+pub Takes-unjoined : (old before after : SinkState) (text unjoined sent : List ℕ)
+    → IsUnderway old before text unjoined → Takes before after sent → sent ≡ unjoined → Takes old after text
+Takes-unjoined old before after text unjoined sent (front, parts, taken) rest is =
     subst (Takes old after) (ap (λ t. front ++ t) is ∙ sym parts) (Takes-trans _ _ _ _ _ taken rest)
 
 -- what is a failure within a front of a text is one within the text
@@ -56,10 +56,10 @@ FailsWithin-whole old new text whole (others, is) (front, (rest, joined, some), 
     some_more (b ∷ rest) some nil = absurd cc
 
 -- of a text on its way a front was taken, and so of any that it begins
-pub TakesFront-whole : (old new : SinkState) (text waiting whole : List ℕ) → IsPrefix text whole → IsUnderway old new text waiting → TakesFront old new whole
-TakesFront-whole old new text waiting whole (others, is) (front, parts, taken) = (
+pub TakesFront-whole : (old new : SinkState) (text unjoined whole : List ℕ) → IsPrefix text whole → IsUnderway old new text unjoined → TakesFront old new whole
+TakesFront-whole old new text unjoined whole (others, is) (front, parts, taken) = (
   front,
-  (waiting ++ others, is ∙ ap (λ t. t ++ others) parts ∙ append_assoc front waiting others),
+  (unjoined ++ others, is ∙ ap (λ t. t ++ others) parts ∙ append_assoc front unjoined others),
   taken,
 )
 
@@ -72,11 +72,11 @@ TakesFront-longer old new text whole (others, is) (front, (rest, joined), taken)
 )
 
 -- a front of what waits and a part more was taken
-pub TakesFront-more : (old before after : SinkState) (text waiting part : List ℕ)
-    → IsUnderway old before text waiting → TakesFront before after (waiting ++ part) → TakesFront old after (text ++ part)
-TakesFront-more old before after text waiting part (front, parts, taken) (more, (rest, joined), more_taken) = (
+pub TakesFront-more : (old before after : SinkState) (text unjoined part : List ℕ)
+    → IsUnderway old before text unjoined → TakesFront before after (unjoined ++ part) → TakesFront old after (text ++ part)
+TakesFront-more old before after text unjoined part (front, parts, taken) (more, (rest, joined), more_taken) = (
   front ++ more,
-  (rest, ap (λ t. t ++ part) parts ∙ append_assoc front waiting part ∙ ap (λ t. front ++ t) joined ∙ sym (append_assoc front more rest)),
+  (rest, ap (λ t. t ++ part) parts ∙ append_assoc front unjoined part ∙ ap (λ t. front ++ t) joined ∙ sym (append_assoc front more rest)),
   Takes-trans _ _ _ _ _ taken more_taken,
 )
 
@@ -96,34 +96,34 @@ StopsWithin-whole old new text whole OutOfMemory front stops = TakesFront-longer
 StopsWithin-whole old new text whole (TextNotUtf8 edge) front stops = stops
 
 -- what stops within what waits and a part more
-pub StopsWithin-more : (old before after : SinkState) (text waiting part : List ℕ) (fault : ToolFault)
-    → IsUnderway old before text waiting → StopsWithin before after (waiting ++ part) fault → StopsWithin old after (text ++ part) fault
-StopsWithin-more old before after text waiting part Write so_far stops = FailsWithin-more old before after text waiting part so_far stops
-StopsWithin-more old before after text waiting part OutOfMemory so_far stops = TakesFront-more old before after text waiting part so_far stops
-StopsWithin-more old before after text waiting part (TextNotUtf8 edge) so_far stops = stops
+pub StopsWithin-more : (old before after : SinkState) (text unjoined part : List ℕ) (fault : ToolFault)
+    → IsUnderway old before text unjoined → StopsWithin before after (unjoined ++ part) fault → StopsWithin old after (text ++ part) fault
+StopsWithin-more old before after text unjoined part Write so_far stops = FailsWithin-more old before after text unjoined part so_far stops
+StopsWithin-more old before after text unjoined part OutOfMemory so_far stops = TakesFront-more old before after text unjoined part so_far stops
+StopsWithin-more old before after text unjoined part (TextNotUtf8 edge) so_far stops = stops
 
 -- a line more, within which this stopped
-pub stops-at_line : {X : Type 0} (old before after : SinkState) (text waiting line whole : List ℕ) (fault : ToolFault) (result : Result X ToolFault)
+pub stops-at_line : {X : Type 0} (old before after : SinkState) (text unjoined line whole : List ℕ) (fault : ToolFault) (result : Result X ToolFault)
     → IsErrAnd result (λ e. e ≡ fault) → IsPrefix (text ++ line) whole
-    → IsUnderway old before text waiting → StopsWithin before after (waiting ++ line) fault → WritesText old after whole result
-stops-at_line old before after text waiting line whole fault result err front so_far stops =
+    → IsUnderway old before text unjoined → StopsWithin before after (unjoined ++ line) fault → WritesText old after whole result
+stops-at_line old before after text unjoined line whole fault result err front so_far stops =
     stops-with old after whole fault result err
-    (StopsWithin-whole old after (text ++ line) whole fault front (StopsWithin-more old before after text waiting line fault so_far stops))
+    (StopsWithin-whole old after (text ++ line) whole fault front (StopsWithin-more old before after text unjoined line fault so_far stops))
 
 -- ---- texts one after another
 
 -- nothing was added
-pub puts-nothing : (s : SinkState) (waiting : List ℕ) → IsUnderway s s (waiting ++ []) waiting
-puts-nothing s waiting = ([], append-nil waiting, Takes-nil s)
+pub puts-nothing : (s : SinkState) (unjoined : List ℕ) → IsUnderway s s (unjoined ++ []) unjoined
+puts-nothing s unjoined = ([], append-nil unjoined, Takes-nil s)
 
 -- one text, and another after it
-pub puts-then : {X : Type 0} (old between new : SinkState) (before waiting after text more : List ℕ) (result : Result X ToolFault)
-    → IsUnderway old between (before ++ text) waiting → PutsText between new waiting after more result
+pub puts-then : {X : Type 0} (old between new : SinkState) (before unjoined after text more : List ℕ) (result : Result X ToolFault)
+    → IsUnderway old between (before ++ text) unjoined → PutsText between new unjoined after more result
     → PutsText old new before after (text ++ more) result
-puts-then old between new before waiting after text more (Ok done) first second =
-    subst (λ t. IsUnderway old new t after) (append_assoc before text more) (IsUnderway-more old between new (before ++ text) waiting more after first second)
-puts-then old between new before waiting after text more (Err fault) first second =
-    subst (λ t. StopsWithin old new t fault) (append_assoc before text more) (StopsWithin-more old between new (before ++ text) waiting more fault first second)
+puts-then old between new before unjoined after text more (Ok done) first second =
+    subst (λ t. IsUnderway old new t after) (append_assoc before text more) (IsUnderway-more old between new (before ++ text) unjoined more after first second)
+puts-then old between new before unjoined after text more (Err fault) first second =
+    subst (λ t. StopsWithin old new t fault) (append_assoc before text more) (StopsWithin-more old between new (before ++ text) unjoined more fault first second)
 
 -- what stops within one text stops within that and what comes after it
 pub puts-stop : (old new : SinkState) (before text more : List ℕ) (fault : ToolFault)

@@ -24,7 +24,7 @@ use Rattle.nj_tools.specs.Texts.{FailsWithin, TakesFront, StopsWithin}
 use Rattle.nj_tools.specs.Lines.{line}
 use Rattle.nj_tools.specs.Compdb.{Compilation, has_any, is_chosen, has_object, listed_edges, compilation_of, first_path, is_text, json_string, object_text, objects_text, held_before, unheld_edge, end_text, compdb_text, NamesEdge, WritesCompdb}
 use Rattle.nj_tools.specs.Inside.CompdbHeld.{in_json, held_compilation, object_of_strings}
-use Rattle.nj_tools.proofs.BlockLemmas.{TakesFront-whole, StopsWithin-whole, StopsWithin-more, IsUnderway-more, FailsWithin-waiting, Takes-waiting, puts-no_memory}
+use Rattle.nj_tools.proofs.BlockLemmas.{TakesFront-whole, StopsWithin-whole, StopsWithin-more, IsUnderway-more, FailsWithin-unjoined, Takes-unjoined, puts-no_memory}
 use Rattle.nj_tools.proofs.SinkLemmas.{Takes-nil}
 
 -- ---- a path
@@ -157,11 +157,11 @@ count-is g entries is = ap length (graph-edges is) ∙ length-map (edges_read en
 -- ---- edge by edge
 
 module _ (entries : List ReadStatement) (rules : List (List ℕ)) (expand : Bool) where
-  abbrev told : ℕ → Compilation
-  told edge = compilation_of entries expand edge
+  abbrev reported : ℕ → Compilation
+  reported edge = compilation_of entries expand edge
 
   abbrev unheld : ℕ → Bool
-  unheld edge = not (is_text (told edge))
+  unheld edge = not (is_text (reported edge))
 
   -- the listed ones of the first edges
   abbrev pub first_listed : ℕ → List ℕ
@@ -177,13 +177,13 @@ module _ (entries : List ReadStatement) (rules : List (List ℕ)) (expand : Bool
   unfolding listed_edges
   listed-all i all = ap (edges_from 0 (has_object entries rules)) (sym (take_all i (edges_read entries) (omega (arith, all))))
 
-  pub held-front : (ns ms : List ℕ) → find unheld ns ≡ None → take_while is_text (map told (ns ++ ms)) ≡ map told ns ++ take_while is_text (map told ms)
+  pub held-front : (ns ms : List ℕ) → find unheld ns ≡ None → take_while is_text (map reported (ns ++ ms)) ≡ map reported ns ++ take_while is_text (map reported ms)
   held-front [] ms none = refl
-  held-front (n ∷ ns) ms none = take_while-cons is_text (told n) (map told (ns ++ ms)) ∙ by (is_text (told n)) (held-front ns ms) none
+  held-front (n ∷ ns) ms none = take_while-cons is_text (reported n) (map reported (ns ++ ms)) ∙ by (is_text (reported n)) (held-front ns ms) none
     where
-      by : (b : Bool) → (find unheld ns ≡ None → take_while is_text (map told (ns ++ ms)) ≡ map told ns ++ take_while is_text (map told ms))
-          → cond (not b) (Some n) (find unheld ns) ≡ None → cond b (told n ∷ take_while is_text (map told (ns ++ ms))) [] ≡ told n ∷ (map told ns ++ take_while is_text (map told ms))
-      by true rest h = ap (λ cs. told n ∷ cs) (rest h)
+      by : (b : Bool) → (find unheld ns ≡ None → take_while is_text (map reported (ns ++ ms)) ≡ map reported ns ++ take_while is_text (map reported ms))
+          → cond (not b) (Some n) (find unheld ns) ≡ None → cond b (reported n ∷ take_while is_text (map reported (ns ++ ms))) [] ≡ reported n ∷ (map reported ns ++ take_while is_text (map reported ms))
+      by true rest h = ap (λ cs. reported n ∷ cs) (rest h)
       by false rest h = absurd cc
 
   find-front : (ns ms : List ℕ) → find unheld ns ≡ None → find unheld (ns ++ ms) ≡ find unheld ms
@@ -196,32 +196,32 @@ module _ (entries : List ReadStatement) (rules : List (List ℕ)) (expand : Bool
       by false rest h = rest h
 
   -- what was written for the first edges, and what stands before the next object
-  pub record HasWritten (directory : List ℕ) (old new : SinkState) (before waiting separator : List ℕ) (i : ℕ) : Type 0 where
+  pub record HasWritten (directory : List ℕ) (old new : SinkState) (before unjoined separator : List ℕ) (i : ℕ) : Type 0 where
     pub held : find unheld (first_listed i) ≡ None
     pub separator_is : separator ≡ separator_after (first_listed i)
-    pub underway : IsUnderway old new (before ++ objects_text directory (map told (first_listed i))) waiting
+    pub underway : IsUnderway old new (before ++ objects_text directory (map reported (first_listed i))) unjoined
 
-  pub written-nothing : (directory : List ℕ) (s : SinkState) (waiting separator : List ℕ) → separator ≡ 10 ∷ [] → IsUnderway s s (waiting ++ []) waiting → HasWritten directory s s waiting waiting separator 0
+  pub written-nothing : (directory : List ℕ) (s : SinkState) (unjoined separator : List ℕ) → separator ≡ 10 ∷ [] → IsUnderway s s (unjoined ++ []) unjoined → HasWritten directory s s unjoined unjoined separator 0
   unfolding objects_text
-  written-nothing directory s waiting separator is nothing = record { held = refl; separator_is = is; underway = nothing }
+  written-nothing directory s unjoined separator is nothing = record { held = refl; separator_is = is; underway = nothing }
 
-  module _ (directory : List ℕ) (old new : SinkState) (before waiting separator : List ℕ) (i : ℕ) (so_far : HasWritten directory old new before waiting separator i) where
-    held-so_far : (more : List Compilation) × (held_before entries rules expand ≡ map told (first_listed i) ++ more)
+  module _ (directory : List ℕ) (old new : SinkState) (before unjoined separator : List ℕ) (i : ℕ) (so_far : HasWritten directory old new before unjoined separator i) where
+    held-so_far : (more : List Compilation) × (held_before entries rules expand ≡ map reported (first_listed i) ++ more)
     held-so_far =
         let parts = listed-front i in
-        (take_while is_text (map told parts.0), ap (λ ns. take_while is_text (map told ns)) parts.1 ∙ held-front (first_listed i) parts.0 so_far.held)
+        (take_while is_text (map reported parts.0), ap (λ ns. take_while is_text (map reported ns)) parts.1 ∙ held-front (first_listed i) parts.0 so_far.held)
 
     -- it is a beginning of all
-    front : IsPrefix (before ++ objects_text directory (map told (first_listed i))) (before ++ objects_text directory (held_before entries rules expand))
+    front : IsPrefix (before ++ objects_text directory (map reported (first_listed i))) (before ++ objects_text directory (held_before entries rules expand))
     front =
         let held = held-so_far in
-        let objects = objects-front directory (map told (first_listed i)) held.0 in
-        (objects.0, ap (λ t. before ++ t) (ap (objects_text directory) held.1 ∙ objects.1) ∙ sym (append_assoc before (objects_text directory (map told (first_listed i))) objects.0))
+        let objects = objects-front directory (map reported (first_listed i)) held.0 in
+        (objects.0, ap (λ t. before ++ t) (ap (objects_text directory) held.1 ∙ objects.1) ∙ sym (append_assoc before (objects_text directory (map reported (first_listed i))) objects.0))
 
     pub takes-front : TakesFront old new (before ++ objects_text directory (held_before entries rules expand))
-    takes-front = TakesFront-whole old new _ waiting _ front so_far.underway
+    takes-front = TakesFront-whole old new _ unjoined _ front so_far.underway
 
-    pub stops-in : (fault : ToolFault) → StopsWithin old new (before ++ objects_text directory (map told (first_listed i))) fault
+    pub stops-in : (fault : ToolFault) → StopsWithin old new (before ++ objects_text directory (map reported (first_listed i))) fault
         → StopsWithin old new (before ++ objects_text directory (held_before entries rules expand)) fault
     stops-in fault stops = StopsWithin-whole old new _ _ fault front stops
 
@@ -230,10 +230,10 @@ module _ (entries : List ReadStatement) (rules : List (List ℕ)) (expand : Bool
       pub none-unheld : None ≡ unheld_edge entries rules expand
       none-unheld = sym (ap (find unheld) (listed-all i all) ∙ so_far.held)
 
-      pub all-written : IsUnderway old new (before ++ objects_text directory (held_before entries rules expand)) waiting
+      pub all-written : IsUnderway old new (before ++ objects_text directory (held_before entries rules expand)) unjoined
       all-written =
-          let held = ap (λ ns. take_while is_text (map told ns)) (listed-all i all ∙ sym (append-nil (first_listed i))) ∙ held-front (first_listed i) [] so_far.held ∙ append-nil (map told (first_listed i)) in
-          subst (λ cs. IsUnderway old new (before ++ objects_text directory cs) waiting) (sym held) so_far.underway
+          let held = ap (λ ns. take_while is_text (map reported ns)) (listed-all i all ∙ sym (append-nil (first_listed i))) ∙ held-front (first_listed i) [] so_far.held ∙ append-nil (map reported (first_listed i)) in
+          subst (λ cs. IsUnderway old new (before ++ objects_text directory cs) unjoined) (sym held) so_far.underway
 
     -- the next edge
 
@@ -244,11 +244,11 @@ module _ (entries : List ReadStatement) (rules : List (List ℕ)) (expand : Bool
       skipped : Some false ≡ test → first_listed (i + 1) ≡ first_listed i
       skipped other = from-more 0 (has_object entries rules) (edges_read entries) i false below other ∙ append-nil (first_listed i)
 
-      pub passed-edge : Some false ≡ test → HasWritten directory old new before waiting separator (i + 1)
+      pub passed-edge : Some false ≡ test → HasWritten directory old new before unjoined separator (i + 1)
       passed-edge other = record {
         held = ap (find unheld) (skipped other) ∙ so_far.held;
         separator_is = so_far.separator_is ∙ ap separator_after (sym (skipped other));
-        underway = subst (λ ns. IsUnderway old new (before ++ objects_text directory (map told ns)) waiting) (sym (skipped other)) so_far.underway;
+        underway = subst (λ ns. IsUnderway old new (before ++ objects_text directory (map reported ns)) unjoined) (sym (skipped other)) so_far.underway;
       }
 
       module _ (passes : Some true ≡ test) where
@@ -259,9 +259,9 @@ module _ (entries : List ReadStatement) (rules : List (List ℕ)) (expand : Bool
 
         -- it is the first that JSON cannot hold
 
-        module _ (none : None ≡ held_compilation (told i)) where
-          not_text : is_text (told i) ≡ false
-          not_text = held-none (told i) none
+        module _ (none : None ≡ held_compilation (reported i)) where
+          not_text : is_text (reported i) ≡ false
+          not_text = held-none (reported i) none
 
           rest : (more : List ℕ) × (listed_edges entries rules ≡ first_listed i ++ (i ∷ more))
           rest = let parts = listed-front (i + 1) in (parts.0, parts.1 ∙ ap (λ ns. ns ++ parts.0) listed ∙ append_assoc (first_listed i) (i ∷ []) parts.0)
@@ -269,55 +269,55 @@ module _ (entries : List ReadStatement) (rules : List (List ℕ)) (expand : Bool
           pub is-unheld : Some i ≡ unheld_edge entries rules expand
           is-unheld = sym (ap (find unheld) rest.1 ∙ find-front (first_listed i) (i ∷ rest.0) so_far.held ∙ ap (λ b. cond (not b) (Some i) (find unheld rest.0)) not_text)
 
-          pub before-unheld : IsUnderway old new (before ++ objects_text directory (held_before entries rules expand)) waiting
+          pub before-unheld : IsUnderway old new (before ++ objects_text directory (held_before entries rules expand)) unjoined
           before-unheld =
-              let held = ap (λ ns. take_while is_text (map told ns)) rest.1 ∙ held-front (first_listed i) (i ∷ rest.0) so_far.held
-              ∙ ap (λ cs. map told (first_listed i) ++ cs) (take_while-cons is_text (told i) (map told rest.0) ∙ ap (λ b. cond b (told i ∷ take_while is_text (map told rest.0)) []) not_text)
-              ∙ append-nil (map told (first_listed i)) in
-              subst (λ cs. IsUnderway old new (before ++ objects_text directory cs) waiting) (sym held) so_far.underway
+              let held = ap (λ ns. take_while is_text (map reported ns)) rest.1 ∙ held-front (first_listed i) (i ∷ rest.0) so_far.held
+              ∙ ap (λ cs. map reported (first_listed i) ++ cs) (take_while-cons is_text (reported i) (map reported rest.0) ∙ ap (λ b. cond b (reported i ∷ take_while is_text (map reported rest.0)) []) not_text)
+              ∙ append-nil (map reported (first_listed i)) in
+              subst (λ cs. IsUnderway old new (before ++ objects_text directory cs) unjoined) (sym held) so_far.underway
 
         -- it has an object
 
-        module _ (json : Compilation) (some : Some json ≡ held_compilation (told i)) where
+        module _ (json : Compilation) (some : Some json ≡ held_compilation (reported i)) where
           still-held : find unheld (first_listed (i + 1)) ≡ None
-          still-held = ap (find unheld) listed ∙ find-front (first_listed i) (i ∷ []) so_far.held ∙ ap (λ b. cond (not b) (Some i) None) (held-some (told i) json some).0
+          still-held = ap (find unheld) listed ∙ find-front (first_listed i) (i ∷ []) so_far.held ∙ ap (λ b. cond (not b) (Some i) None) (held-some (reported i) json some).0
 
-          separator-same : (ns : List ℕ) → separator_after ns ≡ separator_after (map told ns)
+          separator-same : (ns : List ℕ) → separator_after ns ≡ separator_after (map reported ns)
           separator-same [] = refl
           separator-same (n ∷ ns) = refl
 
-          text-is : objects_text directory (map told (first_listed (i + 1))) ≡ objects_text directory (map told (first_listed i)) ++ (separator ++ object_of_strings directory json)
+          text-is : objects_text directory (map reported (first_listed (i + 1))) ≡ objects_text directory (map reported (first_listed i)) ++ (separator ++ object_of_strings directory json)
           text-is =
-              ap (λ ns. objects_text directory (map told ns)) listed ∙ ap (objects_text directory) (map-append told (first_listed i) (i ∷ []))
-              ∙ objects-more directory (map told (first_listed i)) (told i)
-              ∙ ap (λ t. objects_text directory (map told (first_listed i)) ++ (t ++ object_text directory (told i))) (sym (so_far.separator_is ∙ separator-same (first_listed i)))
-              ∙ ap (λ t. objects_text directory (map told (first_listed i)) ++ (separator ++ t)) (object-is directory (told i) ∙ ap (object_of_strings directory) (sym (held-some (told i) json some).1))
+              ap (λ ns. objects_text directory (map reported ns)) listed ∙ ap (objects_text directory) (map-append reported (first_listed i) (i ∷ []))
+              ∙ objects-more directory (map reported (first_listed i)) (reported i)
+              ∙ ap (λ t. objects_text directory (map reported (first_listed i)) ++ (t ++ object_text directory (reported i))) (sym (so_far.separator_is ∙ separator-same (first_listed i)))
+              ∙ ap (λ t. objects_text directory (map reported (first_listed i)) ++ (separator ++ t)) (object-is directory (reported i) ∙ ap (object_of_strings directory) (sym (held-some (reported i) json some).1))
 
-          whole-is : before ++ objects_text directory (map told (first_listed i)) ++ (separator ++ object_of_strings directory json) ≡ before ++ objects_text directory (map told (first_listed (i + 1)))
-          whole-is = append_assoc before (objects_text directory (map told (first_listed i))) (separator ++ object_of_strings directory json) ∙ ap (λ t. before ++ t) (sym text-is)
+          whole-is : before ++ objects_text directory (map reported (first_listed i)) ++ (separator ++ object_of_strings directory json) ≡ before ++ objects_text directory (map reported (first_listed (i + 1)))
+          whole-is = append_assoc before (objects_text directory (map reported (first_listed i))) (separator ++ object_of_strings directory json) ∙ ap (λ t. before ++ t) (sym text-is)
 
           separator-next : (ns : List ℕ) → 44 ∷ 10 ∷ [] ≡ separator_after (ns ++ i ∷ [])
           separator-next [] = refl
           separator-next (n ∷ ns) = refl
 
-          pub object-written : (later : SinkState) (after next : List ℕ) → next ≡ 44 ∷ 10 ∷ [] → IsUnderway new later (waiting ++ (separator ++ object_of_strings directory json)) after
+          pub object-written : (later : SinkState) (after next : List ℕ) → next ≡ 44 ∷ 10 ∷ [] → IsUnderway new later (unjoined ++ (separator ++ object_of_strings directory json)) after
               → HasWritten directory old later before after next (i + 1)
           object-written later after next is written = record {
             held = still-held;
             separator_is = is ∙ separator-next (first_listed i) ∙ ap separator_after (sym listed);
-            underway = subst (λ t. IsUnderway old later t after) whole-is (IsUnderway-more old new later _ waiting _ after so_far.underway written);
+            underway = subst (λ t. IsUnderway old later t after) whole-is (IsUnderway-more old new later _ unjoined _ after so_far.underway written);
           }
 
-          pub stops-at_object : (later : SinkState) (fault : ToolFault) → StopsWithin new later (waiting ++ (separator ++ object_of_strings directory json)) fault
+          pub stops-at_object : (later : SinkState) (fault : ToolFault) → StopsWithin new later (unjoined ++ (separator ++ object_of_strings directory json)) fault
               → StopsWithin old later (before ++ objects_text directory (held_before entries rules expand)) fault
-          stops-at_object later fault stops = StopsWithin-whole old later _ _ fault front_next (subst (λ t. StopsWithin old later t fault) whole-is (StopsWithin-more old new later _ waiting _ fault so_far.underway stops))
+          stops-at_object later fault stops = StopsWithin-whole old later _ _ fault front_next (subst (λ t. StopsWithin old later t fault) whole-is (StopsWithin-more old new later _ unjoined _ fault so_far.underway stops))
             where
-              front_next : IsPrefix (before ++ objects_text directory (map told (first_listed (i + 1)))) (before ++ objects_text directory (held_before entries rules expand))
+              front_next : IsPrefix (before ++ objects_text directory (map reported (first_listed (i + 1)))) (before ++ objects_text directory (held_before entries rules expand))
               front_next =
                   let parts = listed-front (i + 1) in
-                  let held = ap (λ ns. take_while is_text (map told ns)) parts.1 ∙ held-front (first_listed (i + 1)) parts.0 still-held in
-                  let objects = objects-front directory (map told (first_listed (i + 1))) (take_while is_text (map told parts.0)) in
-                  (objects.0, ap (λ t. before ++ t) (ap (objects_text directory) held ∙ objects.1) ∙ sym (append_assoc before (objects_text directory (map told (first_listed (i + 1)))) objects.0))
+                  let held = ap (λ ns. take_while is_text (map reported ns)) parts.1 ∙ held-front (first_listed (i + 1)) parts.0 still-held in
+                  let objects = objects-front directory (map reported (first_listed (i + 1))) (take_while is_text (map reported parts.0)) in
+                  (objects.0, ap (λ t. before ++ t) (ap (objects_text directory) held ∙ objects.1) ∙ sym (append_assoc before (objects_text directory (map reported (first_listed (i + 1)))) objects.0))
 
 -- ---- the whole list
 
@@ -364,36 +364,36 @@ module _ (entries : List ReadStatement) (directory : List ℕ) (chosen rules : L
         compdb-with old new _ _ fault result err (StopsWithin-whole old new (first ++ objects) _ fault (end_text (unheld_edge entries chosen expand), parts) stops)
 
     -- memory ran out while text waits
-    pub compdb-no_room : (old new : SinkState) (waiting : List ℕ) (result : Result Unit ToolFault) → IsErrAnd result (λ e. e ≡ OutOfMemory) → IsUnderway old new (first ++ objects) waiting
+    pub compdb-no_capacity : (old new : SinkState) (unjoined : List ℕ) (result : Result Unit ToolFault) → IsErrAnd result (λ e. e ≡ OutOfMemory) → IsUnderway old new (first ++ objects) unjoined
         → WritesCompdb old new (compdb_text entries directory rules expand) (unheld_edge entries rules expand) result
-    compdb-no_room old new waiting result err so_far =
-        compdb-stops old new OutOfMemory result err (TakesFront-whole old new (first ++ objects) waiting _ ([], sym (append-nil (first ++ objects))) so_far)
+    compdb-no_capacity old new unjoined result err so_far =
+        compdb-stops old new OutOfMemory result err (TakesFront-whole old new (first ++ objects) unjoined _ ([], sym (append-nil (first ++ objects))) so_far)
 
     -- JSON cannot hold an edge
-    pub compdb-unheld : (old between new : SinkState) (waiting sent : List ℕ) (edge : EdgeNo) → Some edge.0 ≡ unheld_edge entries chosen expand
-        → IsUnderway old between (first ++ objects) waiting → Takes between new sent → sent ≡ waiting
+    pub compdb-unheld : (old between new : SinkState) (unjoined sent : List ℕ) (edge : EdgeNo) → Some edge.0 ≡ unheld_edge entries chosen expand
+        → IsUnderway old between (first ++ objects) unjoined → Takes between new sent → sent ≡ unjoined
         → (unheld_edge entries rules expand ≡ Some edge.0) × Takes old new (compdb_text entries directory rules expand)
-    compdb-unheld old between new waiting sent edge is so_far taken all = (
+    compdb-unheld old between new unjoined sent edge is so_far taken all = (
       sym (is ∙ unheld-same),
-      subst (Takes old new) (sym (parts ∙ ap (λ u. first ++ objects ++ end_text u) (sym is) ∙ append-nil (first ++ objects))) (Takes-waiting old between new _ waiting sent so_far taken all),
+      subst (Takes old new) (sym (parts ∙ ap (λ u. first ++ objects ++ end_text u) (sym is) ∙ append-nil (first ++ objects))) (Takes-unjoined old between new _ unjoined sent so_far taken all),
     )
 
     -- the end of the list
 
-    module _ (old between : SinkState) (waiting : List ℕ) (all : None ≡ unheld_edge entries chosen expand) (so_far : IsUnderway old between (first ++ objects) waiting) where
+    module _ (old between : SinkState) (unjoined : List ℕ) (all : None ≡ unheld_edge entries chosen expand) (so_far : IsUnderway old between (first ++ objects) unjoined) where
       whole : first ++ objects ++ end_text None ≡ compdb_text entries directory rules expand
       whole = ap (λ u. first ++ objects ++ end_text u) all ∙ sym parts
 
-      ended : IsUnderway old between (compdb_text entries directory rules expand) (waiting ++ end_text None)
-      ended = subst (λ t. IsUnderway old between t (waiting ++ end_text None)) whole (IsUnderway-more old between between _ waiting (end_text None) _ so_far ([], refl, Takes-nil between))
+      ended : IsUnderway old between (compdb_text entries directory rules expand) (unjoined ++ end_text None)
+      ended = subst (λ t. IsUnderway old between t (unjoined ++ end_text None)) whole (IsUnderway-more old between between _ unjoined (end_text None) _ so_far ([], refl, Takes-nil between))
 
-      pub compdb-fails : (new : SinkState) (sent : List ℕ) (result : Result Unit ToolFault) → IsErrAnd result (λ e. e ≡ Write) → FailsWithin between new sent → sent ≡ waiting ++ end_text None
+      pub compdb-fails : (new : SinkState) (sent : List ℕ) (result : Result Unit ToolFault) → IsErrAnd result (λ e. e ≡ Write) → FailsWithin between new sent → sent ≡ unjoined ++ end_text None
           → WritesCompdb old new (compdb_text entries directory rules expand) (unheld_edge entries rules expand) result
-      compdb-fails new sent result err fails is = compdb-with old new _ _ Write result err (FailsWithin-waiting old between new _ _ sent ended fails is)
+      compdb-fails new sent result err fails is = compdb-with old new _ _ Write result err (FailsWithin-unjoined old between new _ _ sent ended fails is)
 
-      pub compdb-done : (new : SinkState) (sent : List ℕ) → Takes between new sent → sent ≡ waiting ++ end_text None
+      pub compdb-done : (new : SinkState) (sent : List ℕ) → Takes between new sent → sent ≡ unjoined ++ end_text None
           → (unheld_edge entries rules expand ≡ None) × Takes old new (compdb_text entries directory rules expand)
-      compdb-done new sent taken is = (sym (all ∙ unheld-same), Takes-waiting old between new _ _ sent ended taken is)
+      compdb-done new sent taken is = (sym (all ∙ unheld-same), Takes-unjoined old between new _ _ sent ended taken is)
 
 -- ---- the edge of a fault
 

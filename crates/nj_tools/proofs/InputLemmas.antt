@@ -71,27 +71,27 @@ module _ (files : List FileNo) (i : ℕ) (d : FileNo) (below : i < length files)
         sym (flat_map-append text_of (new_files earlier (take (i + 1) files)) (new_files (with_files earlier (take (i + 1) files)) (drop (i + 1) files)))
         ∙ ap (flat_map text_of) (sym (new_files-append (take (i + 1) files) (drop (i + 1) files) earlier) ∙ ap (new_files earlier) (take-append-drop (i + 1) files))
 
-    pub file-puts : (old between new : SinkState) (before waiting after : List ℕ)
-        → IsUnderway old between (before ++ flat_map text_of (new_files earlier (take i files))) waiting
-        → IsUnderway between new (waiting ++ flat_map text_of (new_file (with_files earlier (take i files)) (get_or files i d))) after
+    pub file-puts : (old between new : SinkState) (before unjoined after : List ℕ)
+        → IsUnderway old between (before ++ flat_map text_of (new_files earlier (take i files))) unjoined
+        → IsUnderway between new (unjoined ++ flat_map text_of (new_file (with_files earlier (take i files)) (get_or files i d))) after
         → IsUnderway old new (before ++ flat_map text_of (new_files earlier (take (i + 1) files))) after
-    file-puts old between new before waiting after first second =
+    file-puts old between new before unjoined after first second =
         subst (λ t. IsUnderway old new (before ++ t) after) text-next
-        (puts-then {X = Unit} old between new before waiting after (flat_map text_of (new_files earlier (take i files)))
+        (puts-then {X = Unit} old between new before unjoined after (flat_map text_of (new_files earlier (take i files)))
         (flat_map text_of (new_file (with_files earlier (take i files)) (get_or files i d))) (Ok tt) first second)
 
     -- what stops within it stops within all of them
-    pub file-stops : {R : Type 0} (old between new : SinkState) (before waiting after : List ℕ) (fault : ToolFault) (result : Result R ToolFault)
+    pub file-stops : {R : Type 0} (old between new : SinkState) (before unjoined after : List ℕ) (fault : ToolFault) (result : Result R ToolFault)
         → IsErrAnd result (λ e. e ≡ fault)
-        → IsUnderway old between (before ++ flat_map text_of (new_files earlier (take i files))) waiting
-        → StopsWithin between new (waiting ++ flat_map text_of (new_file (with_files earlier (take i files)) (get_or files i d))) fault
+        → IsUnderway old between (before ++ flat_map text_of (new_files earlier (take i files))) unjoined
+        → StopsWithin between new (unjoined ++ flat_map text_of (new_file (with_files earlier (take i files)) (get_or files i d))) fault
         → PutsText old new before after (flat_map text_of (new_files earlier files)) result
-    file-stops old between new before waiting after fault result err first stops =
+    file-stops old between new before unjoined after fault result err first stops =
         puts-with old new before after (flat_map text_of (new_files earlier files)) fault result err
         (subst (λ t. StopsWithin old new (before ++ t) fault) text-all
         (puts-stop old new before (flat_map text_of (new_files earlier (take (i + 1) files))) (flat_map text_of (new_files (with_files earlier (take (i + 1) files)) (drop (i + 1) files))) fault
         (subst (λ t. StopsWithin old new (before ++ t) fault) text-next
-        (puts-then {X = Unit} old between new before waiting [] (flat_map text_of (new_files earlier (take i files)))
+        (puts-then {X = Unit} old between new before unjoined [] (flat_map text_of (new_files earlier (take i files)))
         (flat_map text_of (new_file (with_files earlier (take i files)) (get_or files i d))) (Err fault) first stops))))
 
 -- ---- the edges, one after another
@@ -101,19 +101,19 @@ module _ (print : List ℕ → List ℕ) (paths : List (List ℕ)) where
   file_text file = print (path_at paths file)
 
   -- the files that were collected have the texts of the list
-  pub texts-are : (files : List FileNo) (listed : List (List ℕ)) → AreOf paths files listed → flat_map file_text files ≡ flat_map print (each_once listed)
-  texts-are files listed are = sym (flat_map-map print (path_at paths) files) ∙ ap (flat_map print) are.paths_are
+  pub strings-are : (files : List FileNo) (listed : List (List ℕ)) → AreOf paths files listed → flat_map file_text files ≡ flat_map print (each_once listed)
+  strings-are files listed are = sym (flat_map-map print (path_at paths) files) ∙ ap (flat_map print) are.paths_are
 
   row-text : (row files : List FileNo) → flat_map file_text files ++ flat_map file_text (new_files files row) ≡ flat_map file_text (with_files files row)
   row-text row files = sym (flat_map-append file_text files (new_files files row)) ∙ ap (flat_map file_text) (sym (with_files-new row files))
 
   -- the files of one edge more
-  pub row-puts : (row files : List FileNo) (old between new : SinkState) (before waiting after : List ℕ)
-      → IsUnderway old between (before ++ flat_map file_text files) waiting → IsUnderway between new (waiting ++ flat_map file_text (new_files files row)) after
+  pub row-puts : (row files : List FileNo) (old between new : SinkState) (before unjoined after : List ℕ)
+      → IsUnderway old between (before ++ flat_map file_text files) unjoined → IsUnderway between new (unjoined ++ flat_map file_text (new_files files row)) after
       → IsUnderway old new (before ++ flat_map file_text (with_files files row)) after
-  row-puts row files old between new before waiting after first second =
+  row-puts row files old between new before unjoined after first second =
       subst (λ t. IsUnderway old new (before ++ t) after) (row-text row files)
-      (puts-then {X = Unit} old between new before waiting after (flat_map file_text files) (flat_map file_text (new_files files row)) (Ok tt) first second)
+      (puts-then {X = Unit} old between new before unjoined after (flat_map file_text files) (flat_map file_text (new_files files row)) (Ok tt) first second)
 
   module _ (distinct : IsDistinct bytes_eq paths) (inputs : ℕ → List (List ℕ)) (edges : List ℕ) (e : ℕ) (row files : List FileNo)
       (row_are : AreFiles paths row (inputs e)) (known : All (λ file. file.0 < length paths) row) (are : AreOf paths files (flat_map inputs edges)) where
@@ -123,7 +123,7 @@ module _ (print : List ℕ → List ℕ) (paths : List (List ℕ)) where
         let now = flat_map inputs (edges ++ e ∷ []) in
         let front = once-front now (flat_map inputs left) in
         let so_far : flat_map file_text (with_files files row) ≡ flat_map print (each_once now) =
-        texts-are (with_files files row) now (AreOf-row paths distinct inputs edges e row files (with_files files row) row_are known are refl) in
+        strings-are (with_files files row) now (AreOf-row paths distinct inputs edges e row files (with_files files row) row_are known are refl) in
         let whole : flat_map inputs all ≡ now ++ flat_map inputs left =
         ap (flat_map inputs) (is ∙ sym (append_assoc edges (e ∷ []) left)) ∙ flat_map-append inputs (edges ++ e ∷ []) left in (
           flat_map print front.0,
@@ -133,17 +133,17 @@ module _ (print : List ℕ → List ℕ) (paths : List (List ℕ)) where
 
     -- what stops within its files stops within those of all edges
     pub row-stops : {R : Type 0} (all left : List ℕ) → all ≡ edges ++ e ∷ left
-        → (old between new : SinkState) (before waiting after : List ℕ) (fault : ToolFault) (result : Result R ToolFault)
-        → IsErrAnd result (λ e. e ≡ fault) → IsUnderway old between (before ++ flat_map file_text files) waiting
-        → StopsWithin between new (waiting ++ flat_map file_text (new_files files row)) fault
+        → (old between new : SinkState) (before unjoined after : List ℕ) (fault : ToolFault) (result : Result R ToolFault)
+        → IsErrAnd result (λ e. e ≡ fault) → IsUnderway old between (before ++ flat_map file_text files) unjoined
+        → StopsWithin between new (unjoined ++ flat_map file_text (new_files files row)) fault
         → PutsText old new before after (flat_map print (each_once (flat_map inputs all))) result
-    row-stops all left is old between new before waiting after fault result err first stops =
+    row-stops all left is old between new before unjoined after fault result err first stops =
         let front = row-front all left is in
         puts-with old new before after (flat_map print (each_once (flat_map inputs all))) fault result err
         (StopsWithin-whole old new (before ++ flat_map file_text (with_files files row)) (before ++ flat_map print (each_once (flat_map inputs all))) fault
         (front.0, ap (λ t. before ++ t) front.1 ∙ sym (append_assoc before (flat_map file_text (with_files files row)) front.0))
         (subst (λ t. StopsWithin old new (before ++ t) fault) (row-text row files)
-        (puts-then {X = Unit} old between new before waiting [] (flat_map file_text files) (flat_map file_text (new_files files row)) (Err fault) first stops)))
+        (puts-then {X = Unit} old between new before unjoined [] (flat_map file_text files) (flat_map file_text (new_files files row)) (Err fault) first stops)))
 
   -- those of all edges
   pub rows-put : (inputs : ℕ → List (List ℕ)) (all edges left : List ℕ) (files : List FileNo) → all ≡ edges ++ left → left ≡ [] → AreOf paths files (flat_map inputs edges)
@@ -151,6 +151,6 @@ module _ (print : List ℕ → List ℕ) (paths : List (List ℕ)) where
       → IsUnderway old new (before ++ flat_map print (each_once (flat_map inputs all))) after
   rows-put inputs all edges left files is none are old new before after put =
       subst (λ t. IsUnderway old new (before ++ t) after)
-      (texts-are files (flat_map inputs edges) are
+      (strings-are files (flat_map inputs edges) are
       ∙ ap (λ es. flat_map print (each_once (flat_map inputs es))) (sym (is ∙ ap (λ es. edges ++ es) none ∙ append-nil edges)))
       put

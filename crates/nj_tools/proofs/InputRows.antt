@@ -5,7 +5,7 @@ use Rattle.nj_text.specs.Quotes.{quoted}
 use Rattle.nj_edges.specs.Edges.{EdgePaths}
 use Rattle.nj_graph.specs.Graph.{sorted_by, insert_by}
 use Rattle.nj_tools.specs.declared.style.InputsStyle.{InputsStyle}
-use Rattle.nj_tools.specs.Listings.{plain_style, printed, terminated, printed_texts, needed_inputs, inputs_text}
+use Rattle.nj_tools.specs.Listings.{plain_style, printed, terminated, printed_strings, needed_inputs, inputs_text}
 
 abbrev build : (output : List ℕ) → (explicit implicit order_only : List (List ℕ)) → EdgePaths
 build output explicit implicit order_only = record {
@@ -78,10 +78,10 @@ row-raw_paths = refl
 abbrev three : List EdgePaths
 three = build (codes "t") (codes "b" ∷ codes "z" ∷ []) [] [] ∷ build (codes "z") (codes "s" ∷ []) [] [] ∷ build (codes "b") (codes "q" ∷ []) [] [] ∷ []
 
-pub row-in_byte_order : printed_texts plain_style (needed_inputs three (codes "t" ∷ [])) ≡ codes "b" ∷ codes "q" ∷ codes "s" ∷ codes "z" ∷ []
+pub row-in_byte_order : printed_strings plain_style (needed_inputs three (codes "t" ∷ [])) ≡ codes "b" ∷ codes "q" ∷ codes "s" ∷ codes "z" ∷ []
 unfolding quoted sorted_by insert_by
 row-in_byte_order = refl
 
-pub row-in_needed_order : printed_texts as_needed (needed_inputs three (codes "t" ∷ [])) ≡ codes "q" ∷ codes "s" ∷ codes "b" ∷ codes "z" ∷ []
+pub row-in_needed_order : printed_strings as_needed (needed_inputs three (codes "t" ∷ [])) ≡ codes "q" ∷ codes "s" ∷ codes "b" ∷ codes "z" ∷ []
 unfolding quoted
 row-in_needed_order = refl

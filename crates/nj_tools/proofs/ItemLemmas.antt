@@ -28,23 +28,23 @@ module _ {X : Type 0} (f : X → List ℕ) (xs : List X) (i : ℕ) (d : X) (belo
       ∙ ap (λ t. t ++ flat_map f (drop (i + 1) xs)) (flat_map-next f xs i d below)
 
   -- the text of one element more
-  pub item-puts : (old between new : SinkState) (before waiting after text : List ℕ) → text ≡ f (get_or xs i d)
-      → IsUnderway old between (before ++ flat_map f (take i xs)) waiting → IsUnderway between new (waiting ++ text) after
+  pub item-puts : (old between new : SinkState) (before unjoined after text : List ℕ) → text ≡ f (get_or xs i d)
+      → IsUnderway old between (before ++ flat_map f (take i xs)) unjoined → IsUnderway between new (unjoined ++ text) after
       → IsUnderway old new (before ++ flat_map f (take (i + 1) xs)) after
-  item-puts old between new before waiting after text is first second =
+  item-puts old between new before unjoined after text is first second =
       subst (λ t. IsUnderway old new (before ++ t) after) (ap (λ t. flat_map f (take i xs) ++ t) is ∙ sym (flat_map-next f xs i d below))
-      (puts-then {X = Unit} old between new before waiting after (flat_map f (take i xs)) text (Ok tt) first second)
+      (puts-then {X = Unit} old between new before unjoined after (flat_map f (take i xs)) text (Ok tt) first second)
 
   -- what stops within that text stops within those of all
-  pub item-stops : {R : Type 0} (whole : List ℕ) → whole ≡ flat_map f xs → (old between new : SinkState) (before waiting after text : List ℕ) (fault : ToolFault) (result : Result R ToolFault)
+  pub item-stops : {R : Type 0} (whole : List ℕ) → whole ≡ flat_map f xs → (old between new : SinkState) (before unjoined after text : List ℕ) (fault : ToolFault) (result : Result R ToolFault)
       → IsErrAnd result (λ e. e ≡ fault) → text ≡ f (get_or xs i d)
-      → IsUnderway old between (before ++ flat_map f (take i xs)) waiting → StopsWithin between new (waiting ++ text) fault
+      → IsUnderway old between (before ++ flat_map f (take i xs)) unjoined → StopsWithin between new (unjoined ++ text) fault
       → PutsText old new before after whole result
-  item-stops whole whole_is old between new before waiting after text fault result err is first stops =
+  item-stops whole whole_is old between new before unjoined after text fault result err is first stops =
       puts-with old new before after whole fault result err
       (subst (λ t. StopsWithin old new (before ++ t) fault) (ap (λ t. (flat_map f (take i xs) ++ t) ++ flat_map f (drop (i + 1) xs)) is ∙ sym all ∙ sym whole_is)
       (puts-stop old new before (flat_map f (take i xs) ++ text) (flat_map f (drop (i + 1) xs)) fault
-      (puts-then {X = Unit} old between new before waiting [] (flat_map f (take i xs)) text (Err fault) first stops)))
+      (puts-then {X = Unit} old between new before unjoined [] (flat_map f (take i xs)) text (Err fault) first stops)))
 
 -- all were put
 pub items-put : {X : Type 0} (f : X → List ℕ) (xs : List X) (i : ℕ) → length xs ≤ i → (whole : List ℕ) → whole ≡ flat_map f xs → (old new : SinkState) (before after : List ℕ)

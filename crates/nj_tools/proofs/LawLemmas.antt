@@ -14,9 +14,9 @@ use Rattle.nj_graph.specs.Graph.{is_before}
 use Rattle.nj_graph.proofs.NameLemmas.{strict-sorted, permuted-sorted, contains-here, contains-later, contains-cases}
 use Rattle.nj_text.specs.Quotes.{quoted}
 use Rattle.nj_text.specs.QuoteLaws.{shell_word}
-use Rattle.nj_text.proofs.QuotedTexts.{takes_the_path}
+use Rattle.nj_text.proofs.QuotedStrings.{takes_the_path}
 use Rattle.nj_tools.specs.declared.style.InputsStyle.{InputsStyle}
-use Rattle.nj_tools.specs.Listings.{each_once, sorted, printed, printed_texts, inputs_text, LinesRise, ListedHaveLines}
+use Rattle.nj_tools.specs.Listings.{each_once, sorted, printed, printed_strings, inputs_text, LinesRise, ListedHaveLines}
 use Rattle.nj_tools.specs.Listings.{PlainInputsAreSortedQuotes}
 use Rattle.nj_tools.proofs.CollectedLemmas.{among-once}
 
@@ -127,21 +127,21 @@ printed-apart style x y h = by style.shell_escape h
     by false same = same
 
 module _ (style : InputsStyle) where
-  texts-differ : (x y : List ℕ) → bytes_eq x y ≡ false → bytes_eq (printed style x) (printed style y) ≡ false
-  texts-differ x y h = by (bytes_eq (printed style x) (printed style y)) (bytes_eq-Decides (printed style x) (printed style y)).0
+  strings-differ : (x y : List ℕ) → bytes_eq x y ≡ false → bytes_eq (printed style x) (printed style y) ≡ false
+  strings-differ x y h = by (bytes_eq (printed style x) (printed style y)) (bytes_eq-Decides (printed style x) (printed style y)).0
     where
       by : (b : Bool) → (b ≡ true → printed style x ≡ printed style y) → b ≡ false
       by true same = absurd (true≢false (sym ((bytes_eq-Decides x y).1 (printed-apart style x y (same refl))) ∙ h))
       by false same = refl
 
-  all-texts : (x : List ℕ) (ys : List (List ℕ)) → AllByRecursion (λ y. bytes_eq x y ≡ false) ys → AllByRecursion (λ z. bytes_eq (printed style x) z ≡ false) (map (printed style) ys)
-  all-texts x [] all = tt
-  all-texts x (y ∷ ys) all = (texts-differ x y all.0, all-texts x ys all.1)
+  all-strings : (x : List ℕ) (ys : List (List ℕ)) → AllByRecursion (λ y. bytes_eq x y ≡ false) ys → AllByRecursion (λ z. bytes_eq (printed style x) z ≡ false) (map (printed style) ys)
+  all-strings x [] all = tt
+  all-strings x (y ∷ ys) all = (strings-differ x y all.0, all-strings x ys all.1)
 
-  distinct-texts : (xs : List (List ℕ)) → IsDistinct bytes_eq xs → IsDistinct bytes_eq (map (printed style) xs)
+  distinct-strings : (xs : List (List ℕ)) → IsDistinct bytes_eq xs → IsDistinct bytes_eq (map (printed style) xs)
   unfolding IsDistinct
-  distinct-texts [] distinct = tt
-  distinct-texts (x ∷ xs) distinct = (all-texts x xs distinct.0, distinct-texts xs distinct.1)
+  distinct-strings [] distinct = tt
+  distinct-strings (x ∷ xs) distinct = (all-strings x xs distinct.0, distinct-strings xs distinct.1)
 
   path-of : (xs : List (List ℕ)) (text : List ℕ) → Contains (map (printed style) xs) text → (path : List ℕ) × Contains xs path × (printed style path ≡ text)
   path-of [] text c = absurd (omega (arith, c.1))
@@ -168,9 +168,9 @@ bytes-alike = nat_list_eq_equiv
 
 module _ (style : InputsStyle) (paths : List (List ℕ)) where
   distinct : IsDistinct bytes_eq (map (printed style) (each_once paths))
-  distinct = distinct-texts style (each_once paths) (distinct-once paths)
+  distinct = distinct-strings style (each_once paths) (distinct-once paths)
 
-  pub sorted-rise : style.dependency_order ≡ false → IsStrictlySortedBy (slice_cmp nat_cmp) (printed_texts style paths)
+  pub sorted-rise : style.dependency_order ≡ false → IsStrictlySortedBy (slice_cmp nat_cmp) (printed_strings style paths)
   sorted-rise h = by style.dependency_order h
     where
       by : (b : Bool) → b ≡ false
@@ -178,7 +178,7 @@ module _ (style : InputsStyle) (paths : List (List ℕ)) where
       by true in_order = absurd (true≢false in_order)
       by false in_order = strict-sorted (map (printed style) (each_once paths)) distinct
 
-  pub printed-differ : IsDistinct bytes_eq (printed_texts style paths)
+  pub printed-differ : IsDistinct bytes_eq (printed_strings style paths)
   printed-differ = by style.dependency_order
     where
       by : (b : Bool) → IsDistinct bytes_eq (if b then map (printed style) (each_once paths) else sorted (map (printed style) (each_once paths)))
@@ -187,7 +187,7 @@ module _ (style : InputsStyle) (paths : List (List ℕ)) where
           let all = map (printed style) (each_once paths) in
           IsDistinct-IsPermutation bytes_eq bytes-alike.symm all (sorted all) (permuted-sorted is_before all) distinct
 
-  pub listed-printed : (text : List ℕ) → Contains (printed_texts style paths) text ↔ ((path : List ℕ) × Contains paths path × (printed style path ≡ text))
+  pub listed-printed : (text : List ℕ) → Contains (printed_strings style paths) text ↔ ((path : List ℕ) × Contains paths path × (printed style path ≡ text))
   listed-printed text =
       let once = each_once paths in
       let same = either style.dependency_order in (

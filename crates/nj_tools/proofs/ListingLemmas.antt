@@ -14,7 +14,7 @@ use Rattle.nj_edges.specs.Files.{path_at, AreFiles}
 use Rattle.nj_statements.specs.EdgeList.{EdgeText, edges_read}
 use Rattle.nj_statements.proofs.LateLemmas.{paths-are}
 use Rattle.nj_graph.specs.Graph.{GraphText, edges_of, files_of, IsGraphOf, rule_name_of, rule_name_at}
-use Rattle.nj_graph.proofs.EdgeTexts.{there}
+use Rattle.nj_graph.proofs.EdgeStrings.{there}
 use Rattle.nj_tools.specs.Inside.Collections.{with_files, AreOf}
 use Rattle.nj_tools.specs.declared.style.InputsStyle.{InputsStyle}
 use Rattle.nj_tools.specs.Listings.{each_once, sorted, needed_inputs, printed, terminated, inputs_text, outputs_text, made_line}
@@ -127,17 +127,17 @@ pub inputs-as_needed : (style : InputsStyle) (edges : List EdgePaths) (targets :
     → flat_map (λ path. terminated style (printed style path)) (each_once (needed_inputs edges targets)) ≡ inputs_text style edges targets
 unfolding inputs_text
 inputs-as_needed style edges targets in_order =
-    let texts = map (printed style) (each_once (needed_inputs edges targets)) in
+    let strings = map (printed style) (each_once (needed_inputs edges targets)) in
     sym (flat_map-map (terminated style) (printed style) (each_once (needed_inputs edges targets)))
-    ∙ ap (λ b. flat_map (terminated style) (if b then texts else sorted texts)) (sym in_order)
+    ∙ ap (λ b. flat_map (terminated style) (if b then strings else sorted strings)) (sym in_order)
 
 pub inputs-sorted : (style : InputsStyle) (edges : List EdgePaths) (targets paths : List (List ℕ)) → style.dependency_order ≡ false → paths ≡ each_once (needed_inputs edges targets)
     → flat_map (terminated style) (sorted (map (printed style) paths)) ≡ inputs_text style edges targets
 unfolding inputs_text
 inputs-sorted style edges targets paths in_order are =
-    let texts = map (printed style) (each_once (needed_inputs edges targets)) in
+    let strings = map (printed style) (each_once (needed_inputs edges targets)) in
     ap (λ ps. flat_map (terminated style) (sorted (map (printed style) ps))) are
-    ∙ ap (λ b. flat_map (terminated style) (if b then texts else sorted texts)) (sym in_order)
+    ∙ ap (λ b. flat_map (terminated style) (if b then strings else sorted strings)) (sym in_order)
 
 -- ---- files without a maker
 

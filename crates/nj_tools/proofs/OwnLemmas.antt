@@ -15,7 +15,7 @@ use Rattle.nj_needs.specs.Graphs.{row_of, is_phony}
 use Rattle.nj_needs.specs.Marks.{without}
 use Rattle.nj_needs.specs.Order.{made_by, first_occurrences}
 use Rattle.nj_needs.proofs.Striking.{filter-filter, without-none}
-use Rattle.nj_tools.specs.CommandTexts.{command_lines, single, own_makers_in, own_commands}
+use Rattle.nj_tools.specs.CommandStrings.{command_lines, single, own_makers_in, own_commands}
 use Rattle.nj_tools.specs.Inside.Collections.{own_makers}
 use Rattle.nj_tools.specs.Inside.Seen.{AreSeen, new_commands}
 use Rattle.nj_tools.proofs.CommandLemmas.{lines-front}

@@ -47,9 +47,9 @@ output_lines-are edges (edge ∷ numbers) =
 abbrev pub file_text : List ReadStatement → GraphText → FileNo → List ℕ
 file_text entries g file = query_in entries (edges_of g) (path_at (files_of g) file)
 
-pub file_texts-are : (entries : List ReadStatement) (g : GraphText) (numbers : List FileNo) → IsGraphOf g entries
+pub file_strings-are : (entries : List ReadStatement) (g : GraphText) (numbers : List FileNo) → IsGraphOf g entries
     → flat_map (file_text entries g) numbers ≡ query_text entries (map (path_at (files_of g)) numbers)
-file_texts-are entries g numbers is =
+file_strings-are entries g numbers is =
     ap (λ edges. flat_map (λ file. query_in entries edges (path_at (files_of g) file)) numbers) (graph-edges is)
     ∙ sym (flat_map-map (file_query entries) (path_at (files_of g)) numbers)
 

@@ -17,20 +17,20 @@ stops-first old new before after text more fault result err stops =
     puts-with old new before after (text ++ more) fault result err (puts-stop old new before text more fault stops)
 
 -- a part more
-pub puts-next : (old between new : SinkState) (before waiting after so_far part next : List ℕ) → next ≡ so_far ++ part
-    → IsUnderway old between (before ++ so_far) waiting → IsUnderway between new (waiting ++ part) after → IsUnderway old new (before ++ next) after
-puts-next old between new before waiting after so_far part next is first second =
+pub puts-next : (old between new : SinkState) (before unjoined after so_far part next : List ℕ) → next ≡ so_far ++ part
+    → IsUnderway old between (before ++ so_far) unjoined → IsUnderway between new (unjoined ++ part) after → IsUnderway old new (before ++ next) after
+puts-next old between new before unjoined after so_far part next is first second =
     subst (λ t. IsUnderway old new t after) (append_assoc before so_far part ∙ sym (ap (λ t. before ++ t) is))
-    (IsUnderway-more old between new (before ++ so_far) waiting part after first second)
+    (IsUnderway-more old between new (before ++ so_far) unjoined part after first second)
 
 -- what stops within a part more stops within the whole
-pub stops-next : (old between new : SinkState) (before waiting so_far part rest whole : List ℕ) (fault : ToolFault) → whole ≡ (so_far ++ part) ++ rest
-    → IsUnderway old between (before ++ so_far) waiting → StopsWithin between new (waiting ++ part) fault → StopsWithin old new (before ++ whole) fault
-stops-next old between new before waiting so_far part rest whole fault is first stops =
+pub stops-next : (old between new : SinkState) (before unjoined so_far part rest whole : List ℕ) (fault : ToolFault) → whole ≡ (so_far ++ part) ++ rest
+    → IsUnderway old between (before ++ so_far) unjoined → StopsWithin between new (unjoined ++ part) fault → StopsWithin old new (before ++ whole) fault
+stops-next old between new before unjoined so_far part rest whole fault is first stops =
     subst (λ t. StopsWithin old new (before ++ t) fault) (sym is)
     (puts-stop old new before (so_far ++ part) rest fault
     (subst (λ t. StopsWithin old new t fault) (append_assoc before so_far part)
-    (StopsWithin-more old between new (before ++ so_far) waiting part fault first stops)))
+    (StopsWithin-more old between new (before ++ so_far) unjoined part fault first stops)))
 
 -- ---- a text for each item
 
@@ -49,25 +49,25 @@ items-split f items i d below =
     ∙ ap (λ t. t ++ flat_map f (drop (i + 1) items)) (items-more f items i d below)
 
 -- the text of one item more was added
-pub puts-item : {X : Type 0} (f : X → List ℕ) (items : List X) (i : ℕ) (d : X) (old between new : SinkState) (before waiting after part : List ℕ)
+pub puts-item : {X : Type 0} (f : X → List ℕ) (items : List X) (i : ℕ) (d : X) (old between new : SinkState) (before unjoined after part : List ℕ)
     → i < length items → part ≡ f (get_or items i d)
-    → IsUnderway old between (before ++ flat_map f (take i items)) waiting → IsUnderway between new (waiting ++ part) after
+    → IsUnderway old between (before ++ flat_map f (take i items)) unjoined → IsUnderway between new (unjoined ++ part) after
     → IsUnderway old new (before ++ flat_map f (take (i + 1) items)) after
-puts-item f items i d old between new before waiting after part below is first second =
-    puts-next old between new before waiting after (flat_map f (take i items)) part (flat_map f (take (i + 1) items))
+puts-item f items i d old between new before unjoined after part below is first second =
+    puts-next old between new before unjoined after (flat_map f (take i items)) part (flat_map f (take (i + 1) items))
     (items-more f items i d below ∙ sym (ap (λ t. flat_map f (take i items) ++ t) is)) first second
 
 -- what stops within the text of one item stops within those of all
-pub stops-item : {X : Type 0} (f : X → List ℕ) (items : List X) (i : ℕ) (d : X) (old between new : SinkState) (before waiting part whole : List ℕ) (fault : ToolFault)
+pub stops-item : {X : Type 0} (f : X → List ℕ) (items : List X) (i : ℕ) (d : X) (old between new : SinkState) (before unjoined part whole : List ℕ) (fault : ToolFault)
     → i < length items → part ≡ f (get_or items i d) → flat_map f items ≡ whole
-    → IsUnderway old between (before ++ flat_map f (take i items)) waiting → StopsWithin between new (waiting ++ part) fault
+    → IsUnderway old between (before ++ flat_map f (take i items)) unjoined → StopsWithin between new (unjoined ++ part) fault
     → StopsWithin old new (before ++ whole) fault
-stops-item f items i d old between new before waiting part whole fault below is all first stops =
-    stops-next old between new before waiting (flat_map f (take i items)) part (flat_map f (drop (i + 1) items)) whole fault
+stops-item f items i d old between new before unjoined part whole fault below is all first stops =
+    stops-next old between new before unjoined (flat_map f (take i items)) part (flat_map f (drop (i + 1) items)) whole fault
     (sym all ∙ items-split f items i d below ∙ sym (ap (λ t. (flat_map f (take i items) ++ t) ++ flat_map f (drop (i + 1) items)) is)) first stops
 
 -- the texts of all were added
-pub puts-items : {X : Type 0} (f : X → List ℕ) (items : List X) (i : ℕ) (old new : SinkState) (before waiting whole : List ℕ)
-    → length items ≤ i → flat_map f items ≡ whole → IsUnderway old new (before ++ flat_map f (take i items)) waiting → IsUnderway old new (before ++ whole) waiting
-puts-items f items i old new before waiting whole all is so_far =
-    subst (λ t. IsUnderway old new (before ++ t) waiting) (ap (flat_map f) (take_all i items all) ∙ is) so_far
+pub puts-items : {X : Type 0} (f : X → List ℕ) (items : List X) (i : ℕ) (old new : SinkState) (before unjoined whole : List ℕ)
+    → length items ≤ i → flat_map f items ≡ whole → IsUnderway old new (before ++ flat_map f (take i items)) unjoined → IsUnderway old new (before ++ whole) unjoined
+puts-items f items i old new before unjoined whole all is so_far =
+    subst (λ t. IsUnderway old new (before ++ t) unjoined) (ap (flat_map f) (take_all i items all) ∙ is) so_far

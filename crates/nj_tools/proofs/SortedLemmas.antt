@@ -15,5 +15,5 @@ module _ {X : Type 0} (text : X → List ℕ) where
   pub by_text : IsStrictWeakOrder comes_before
   by_text = ranks_by nat_list_cmp_total text
 
-  pub sorted-texts : (xs ys : List X) → IsSortedBy comes_before ys → IsStableBy comes_before xs ys → map text ys ≡ sorted (map text xs)
-  sorted-texts xs ys up stable = ap (map text) (stable_sort-is comes_before by_text xs ys up stable) ∙ sorted_by-map text is_before xs
+  pub sorted-strings : (xs ys : List X) → IsSortedBy comes_before ys → IsStableBy comes_before xs ys → map text ys ≡ sorted (map text xs)
+  sorted-strings xs ys up stable = ap (map text) (stable_sort-is comes_before by_text xs ys up stable) ∙ sorted_by-map text is_before xs

@@ -233,8 +233,8 @@ few-rows edges levels rows path paths below = few (nat_lt (length rows + 1) leve
     few true is =
         let new = length-append (rows ++ paths ∷ []) (made ∷ []) in
         let between = length-append rows (paths ∷ []) in
-        let room : length rows + 1 < levels = grind (arith, nat_tests, is) in
-        omega (arith, new, between, room)
+        let capacity : length rows + 1 < levels = grind (arith, nat_tests, is) in
+        omega (arith, new, between, capacity)
     few false is =
         let new = length-append rows (paths ∷ []) in
         omega (arith, new, below)

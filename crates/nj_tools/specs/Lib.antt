@@ -2,7 +2,7 @@
 pub mod Sinks
 pub mod Texts
 pub mod Lines
-pub mod CommandTexts
+pub mod CommandStrings
 pub mod Listings
 pub mod Queries
 pub mod RuleLists

@@ -7,7 +7,7 @@ line text = text ++ 10 ∷ []
 
 -- each text as a line
 abbrev pub lines : List (List ℕ) → List ℕ
-lines texts = flat_map line texts
+lines strings = flat_map line strings
 
 -- each path as a line, after the same beginning
 abbrev pub lines_after : (beginning : List ℕ) → (paths : List (List ℕ)) → List ℕ

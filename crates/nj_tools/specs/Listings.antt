@@ -24,7 +24,7 @@ use Rattle.nj_tools.specs.declared.view.TargetsView.TheVariants.{OfRule, Sources
 
 -- in byte order
 abbrev pub sorted : List (List ℕ) → List (List ℕ)
-sorted texts = sorted_by is_before texts
+sorted strings = sorted_by is_before strings
 
 -- ---- `inputs`
 
@@ -43,12 +43,12 @@ abbrev pub printed : InputsStyle → (path : List ℕ) → List ℕ
 printed style path = if style.shell_escape then quoted path else path
 
 -- texts in the order in which their paths are needed, or in byte order
-abbrev pub arranged : InputsStyle → (texts : List (List ℕ)) → List (List ℕ)
-arranged style texts = if style.dependency_order then texts else sorted texts
+abbrev pub arranged : InputsStyle → (strings : List (List ℕ)) → List (List ℕ)
+arranged style strings = if style.dependency_order then strings else sorted strings
 
 -- the printed texts of a list of paths, of each path once
-abbrev pub printed_texts : InputsStyle → (paths : List (List ℕ)) → List (List ℕ)
-printed_texts style paths = arranged style (map (printed style) (each_once paths))
+abbrev pub printed_strings : InputsStyle → (paths : List (List ℕ)) → List (List ℕ)
+printed_strings style paths = arranged style (map (printed style) (each_once paths))
 
 -- a text and what ends it: the byte 0, or a line end
 abbrev pub terminated : InputsStyle → (text : List ℕ) → List ℕ
@@ -56,7 +56,7 @@ terminated style text = text ++ (if style.zero then 0 else 10) ∷ []
 
 -- the inputs, each once, as they are printed
 unfoldable pub inputs_text : InputsStyle → List EdgePaths → (targets : List (List ℕ)) → List ℕ
-inputs_text style edges targets = flat_map (terminated style) (printed_texts style (needed_inputs edges targets))
+inputs_text style edges targets = flat_map (terminated style) (printed_strings style (needed_inputs edges targets))
 
 -- ---- `targets`: lists
 
@@ -138,16 +138,16 @@ ListedHaveLines = (paths : List (List ℕ)) (path : List ℕ) → Contains (sort
 -- The texts of `inputs` that are sorted are in strictly ascending byte order.
 abbrev pub SortedInputsRise : Type 0
 SortedInputsRise = (style : InputsStyle) (paths : List (List ℕ)) → style.dependency_order ≡ false
-    → IsStrictlySortedBy (slice_cmp nat_cmp) (printed_texts style paths)
+    → IsStrictlySortedBy (slice_cmp nat_cmp) (printed_strings style paths)
 
 -- In each style no two texts of `inputs` are the same.
-abbrev pub PrintedTextsDiffer : Type 0
-PrintedTextsDiffer = (style : InputsStyle) (paths : List (List ℕ)) → IsDistinct bytes_eq (printed_texts style paths)
+abbrev pub PrintedStringsDiffer : Type 0
+PrintedStringsDiffer = (style : InputsStyle) (paths : List (List ℕ)) → IsDistinct bytes_eq (printed_strings style paths)
 
 -- A text is one of them exactly when a path that is listed is printed as that text.
 abbrev pub ListedArePrinted : Type 0
 ListedArePrinted = (style : InputsStyle) (paths : List (List ℕ)) (text : List ℕ)
-    → Contains (printed_texts style paths) text ↔ ((path : List ℕ) × Contains paths path × (printed style path ≡ text))
+    → Contains (printed_strings style paths) text ↔ ((path : List ℕ) × Contains paths path × (printed style path ≡ text))
 
 -- Without options the inputs are quoted for a shell, in byte order of the quotes, a line each.
 abbrev pub PlainInputsAreSortedQuotes : Type 0

@@ -1,7 +1,7 @@
 -- What `rules` writes.
 use Rattle.std.specs.Prelude.{ℕ, Bool, ◌&&◌, if◌then◌else◌, List, [], ◌++◌, flat_map, codes}
 use Rattle.nj_scope.specs.Rules.{RuleText}
-use Rattle.nj_scope.specs.ReadingList.{ReadStatement, rule_texts}
+use Rattle.nj_scope.specs.ReadingList.{ReadStatement, rules_read}
 use Rattle.nj_graph.specs.Graph.{main_rules_of, has_description, description_text}
 use Rattle.nj_tools.specs.Lines.{line}
 
@@ -12,4 +12,4 @@ rule_line descriptions rule =
 
 -- the rules of the main file's scope, by name
 abbrev pub rules_text : List ReadStatement → (descriptions : Bool) → List ℕ
-rules_text entries descriptions = flat_map (rule_line descriptions) (main_rules_of (rule_texts entries))
+rules_text entries descriptions = flat_map (rule_line descriptions) (main_rules_of (rules_read entries))

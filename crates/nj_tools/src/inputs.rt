@@ -228,15 +228,15 @@ fn write_sorted<S: Sink>(
 // The paths of files, quoted for a shell, in byte order of the quotes.
 fn quoted_paths(alloc: Global, graph: &Graph, files: &[FileNo]) -> Result<Vec<Vec<u8>>, AllocError>
     requires { All (λ file. file.0 < length (files_of graph.now)) files.now }
-    ensures { IfOk result (λ texts. map (λ text. text.items) texts.items
+    ensures { IfOk result (λ strings. map (λ text. text.items) strings.items
         ≡ sorted (map quoted (map (path_at (files_of graph.now)) files.now))) }
 {
-    let mut texts = Vec::with_capacity(alloc, files.len())?;
+    let mut strings = Vec::with_capacity(alloc, files.len())?;
     'files: for file in files {
-        texts.push(quoted_path(alloc, graph, *file)?)?;
+        strings.push(quoted_path(alloc, graph, *file)?)?;
     }
-    texts.sort_by(|one, other| one.as_slice().cmp(other.as_slice()))?;
-    Ok(texts)
+    strings.sort_by(|one, other| one.as_slice().cmp(other.as_slice()))?;
+    Ok(strings)
 }
 
 // The path of a file, quoted for a shell.

@@ -5,7 +5,7 @@ ghost use Rattle.nj_tools.specs.Laws.{DepthZeroShowsAll};
 ghost use Rattle.nj_tools.specs.Listings.{LinesRise, ListedHaveLines};
 ghost use Rattle.nj_tools.specs.Listings.{
   SortedInputsRise,
-  PrintedTextsDiffer,
+  PrintedStringsDiffer,
   ListedArePrinted,
   PlainInputsAreSortedQuotes,
 };
@@ -28,7 +28,7 @@ pub fn list_law()
 /// byte order. Without options they are the quotes of the inputs, a line each.
 pub fn input_lines_law()
     ensures rise { SortedInputsRise }
-    ensures differ { PrintedTextsDiffer }
+    ensures differ { PrintedStringsDiffer }
     ensures listed { ListedArePrinted }
     ensures plain { PlainInputsAreSortedQuotes }
 {}

@@ -71,7 +71,7 @@ fn order_only_inputs_count_and_validations_do_not(rt: HostRuntime) -> Result<(),
 }
 
 #[test]
-fn files_may_stand_twice_or_have_no_users(rt: HostRuntime) -> Result<(), Fail> {
+fn files_may_come_twice_or_have_no_users(rt: HostRuntime) -> Result<(), Fail> {
     affects(
         &rt,
         "a: s, b: s s, c: t",

@@ -73,7 +73,7 @@ fn two_names_in_a_text(rt: HostRuntime) -> Result<(), Fail> {
 }
 
 #[test]
-fn newer_versions_are_told(rt: HostRuntime) {
+fn newer_versions_are_reported(rt: HostRuntime) {
     let versions: [(&[u8], bool); 7] = [
         (b"1.13", true),
         (b"2.0", true),

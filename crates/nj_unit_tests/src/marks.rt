@@ -16,7 +16,7 @@ fn read_and_written(alloc: Global, text: &str) -> Result<String, AllocError> {
 }
 
 /// Each text is read, and written again as what is beside it.
-fn says(rt: &(impl Abort + AllocGlobal), rows: &[(&str, &str)]) -> Result<(), Fail> {
+fn gives(rt: &(impl Abort + AllocGlobal), rows: &[(&str, &str)]) -> Result<(), Fail> {
     'rows: for (text, want) in rows {
         let found = read_and_written(rt.alloc(), text)?;
         assert_eq!(rt; found.as_str(), *want);
@@ -25,7 +25,7 @@ fn says(rt: &(impl Abort + AllocGlobal), rows: &[(&str, &str)]) -> Result<(), Fa
 }
 
 #[test]
-fn texts_of_marks(rt: HostRuntime) -> Result<(), Fail> {
+fn strings_of_marks(rt: HostRuntime) -> Result<(), Fail> {
     let rows = [
         ("start", "start"),
         ("0", "0"),
@@ -33,7 +33,7 @@ fn texts_of_marks(rt: HostRuntime) -> Result<(), Fail> {
         ("10.20", "10.20"),
         ("18446744073709551615", "18446744073709551615"),
     ];
-    says(&rt, &rows)
+    gives(&rt, &rows)
 }
 
 #[test]
@@ -51,7 +51,7 @@ fn bad_marks(rt: HostRuntime) -> Result<(), Fail> {
         ("+1", "bad mark"),
         ("0.-1", "bad mark"),
     ];
-    says(&rt, &rows)
+    gives(&rt, &rows)
 }
 
 #[test]

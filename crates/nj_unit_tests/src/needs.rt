@@ -31,8 +31,8 @@ fn target(alloc: Global, graph: &EdgeGraph, path: &[u8]) -> Result<Vec<FileNo>, 
 
 fn put_mark(alloc: Global, text: &mut String, needs: &Needs<'_>) -> Result<(), AllocError> {
     let mark = needs.mark(alloc)?;
-    let said = mark.to_text(alloc)?;
-    text.push_str(said.as_str())
+    let meant = mark.to_text(alloc)?;
+    text.push_str(meant.as_str())
 }
 
 fn put_edge(

@@ -37,9 +37,9 @@ fn put_fault(text: &mut String, fault: SourceFault) -> Result<(), AllocError> {
 
 fn put_read(
     text: &mut String,
-    answer: Result<Option<Vec<u8>>, SourceFault>,
+    outcome: Result<Option<Vec<u8>>, SourceFault>,
 ) -> Result<(), AllocError> {
-    match answer {
+    match outcome {
         Ok(Some(bytes)) => put_bytes(text, Some(bytes.as_slice())),
         Ok(None) => put_bytes(text, None),
         Err(fault) => put_fault(text, fault),
@@ -48,9 +48,9 @@ fn put_read(
 
 fn put_opened(
     text: &mut String,
-    answer: Result<Option<RcSlice<u8>>, SourceFault>,
+    outcome: Result<Option<RcSlice<u8>>, SourceFault>,
 ) -> Result<(), AllocError> {
-    match answer {
+    match outcome {
         Ok(Some(bytes)) => put_bytes(text, Some(bytes.as_slice())),
         Ok(None) => put_bytes(text, None),
         Err(fault) => put_fault(text, fault),
@@ -73,7 +73,7 @@ fn fail_at(files: &mut MemoryFiles, reading: &str) {
 }
 
 /// Makes a call that answers, and appends the answer.
-fn put_answer(
+fn put_outcome(
     alloc: Global,
     text: &mut String,
     files: &mut MemoryFiles,
@@ -116,7 +116,7 @@ fn put_step(
         }
         _ => {
             text.push_str(": ")?;
-            put_answer(alloc, text, files, table, (call, path))
+            put_outcome(alloc, text, files, table, (call, path))
         }
     }
 }
@@ -261,8 +261,8 @@ fn expands_at_once(rt: &(impl Abort + AllocGlobal), declared: &mut Declarations)
     bind(rt.alloc(), declared, 0, b"x", b"1")?;
     bind(rt.alloc(), declared, 0, b"y", b"a$x${unknown}$$b$ ")?;
     bind(rt.alloc(), declared, 0, b"x", b"2")?;
-    let said = expanded(rt.alloc(), declared, 0, b"$x,$y")?;
-    assert_eq!(rt; said.as_slice(), b"2,a1$b ".as_slice());
+    let meant = expanded(rt.alloc(), declared, 0, b"$x,$y")?;
+    assert_eq!(rt; meant.as_slice(), b"2,a1$b ".as_slice());
     Ok(())
 }
 

@@ -24,8 +24,8 @@ fn put_fault(text: &mut String, fault: LexFault) -> Result<(), AllocError> {
     put_spot(text, spot)
 }
 
-fn put_line(text: &mut String, answer: Result<LineStart, LexFault>) -> Result<(), AllocError> {
-    match answer {
+fn put_line(text: &mut String, outcome: Result<LineStart, LexFault>) -> Result<(), AllocError> {
+    match outcome {
         Ok(LineStart::End) => text.push_str("end"),
         Ok(LineStart::Blank) => text.push_str("blank"),
         Ok(LineStart::Indented) => text.push_str("indented"),
@@ -35,8 +35,11 @@ fn put_line(text: &mut String, answer: Result<LineStart, LexFault>) -> Result<()
     }
 }
 
-fn put_ident(text: &mut String, answer: Result<Option<&[u8]>, LexFault>) -> Result<(), AllocError> {
-    match answer {
+fn put_ident(
+    text: &mut String,
+    outcome: Result<Option<&[u8]>, LexFault>,
+) -> Result<(), AllocError> {
+    match outcome {
         Ok(Some(name)) => text.push_str(ascii(name)),
         Ok(None) => text.push_str("none"),
         Err(fault) => put_fault(text, fault),
@@ -45,17 +48,17 @@ fn put_ident(text: &mut String, answer: Result<Option<&[u8]>, LexFault>) -> Resu
 
 fn put_path_word(
     text: &mut String,
-    answer: Result<Option<Word<'_>>, LexFault>,
+    outcome: Result<Option<Word<'_>>, LexFault>,
 ) -> Result<(), AllocError> {
-    match answer {
+    match outcome {
         Ok(Some(word)) => put_word(text, &word),
         Ok(None) => text.push_str("none"),
         Err(fault) => put_fault(text, fault),
     }
 }
 
-fn put_value(text: &mut String, answer: Result<Word<'_>, LexFault>) -> Result<(), AllocError> {
-    match answer {
+fn put_value(text: &mut String, outcome: Result<Word<'_>, LexFault>) -> Result<(), AllocError> {
+    match outcome {
         Ok(value) => put_word(text, &value),
         Err(fault) => put_fault(text, fault),
     }
@@ -90,7 +93,7 @@ fn put_sign(text: &mut String, lexer: &mut Lexer<'_>, sign: Sign) -> Result<(), 
 }
 
 /// Makes a call, and appends what it answers.
-fn put_answer(
+fn put_outcome(
     alloc: Global,
     text: &mut String,
     lexer: &mut Lexer<'_>,
@@ -121,7 +124,7 @@ fn put_step(
     step: &str,
 ) -> Result<(), AllocError> {
     let call = match step.split_once(' ') {
-        Some((call, _answer)) => call,
+        Some((call, _outcome)) => call,
         None => step,
     };
     if !text.as_str().is_empty() {
@@ -129,7 +132,7 @@ fn put_step(
     }
     text.push_str(call)?;
     text.push(' ')?;
-    put_answer(alloc, text, lexer, call)
+    put_outcome(alloc, text, lexer, call)
 }
 
 /// The steps with what the calls answer.
@@ -315,7 +318,7 @@ fn open_references(rt: HostRuntime) -> Result<(), Fail> {
 }
 
 /// What the bytes say by this call, as bytes.
-fn said(alloc: Global, call: &str, bytes: &[u8]) -> Result<Vec<u8>, AllocError> {
+fn meant(alloc: Global, call: &str, bytes: &[u8]) -> Result<Vec<u8>, AllocError> {
     match call {
         "number" => match leading_number(bytes) {
             Some(number) => Ok(format!(in alloc; "{number}")?.into_bytes()),
@@ -339,9 +342,9 @@ fn said(alloc: Global, call: &str, bytes: &[u8]) -> Result<Vec<u8>, AllocError> 
 }
 
 /// Each text says by the call what stands beside it.
-fn says(rt: &(impl Abort + AllocGlobal), call: &str, rows: &[(&[u8], &[u8])]) -> Result<(), Fail> {
+fn gives(rt: &(impl Abort + AllocGlobal), call: &str, rows: &[(&[u8], &[u8])]) -> Result<(), Fail> {
     'rows: for (text, want) in rows {
-        let found = said(rt.alloc(), call, text)?;
+        let found = meant(rt.alloc(), call, text)?;
         assert_eq!(rt; found.as_slice(), *want);
     }
     Ok(())
@@ -366,7 +369,7 @@ fn numbers_at_the_front(rt: HostRuntime) -> Result<(), Fail> {
         (b"18446744073709551616", b"18446744073709551615"),
         (b"100000000000000000000000000007", b"18446744073709551615"),
     ];
-    says(&rt, "number", &rows)
+    gives(&rt, "number", &rows)
 }
 
 #[test]
@@ -387,7 +390,7 @@ fn versions(rt: HostRuntime) -> Result<(), Fail> {
         (b"1.18446744073709551616", b"1.18446744073709551615"),
         (b"18446744073709551616.1", b"18446744073709551615.1"),
     ];
-    says(&rt, "version", &rows)
+    gives(&rt, "version", &rows)
 }
 
 const PATHS: [(&[u8], &[u8]); 24] = [
@@ -425,8 +428,8 @@ const PATHS: [(&[u8], &[u8]); 24] = [
 
 #[test]
 fn clean_paths(rt: HostRuntime) -> Result<(), Fail> {
-    says(&rt, "clean", &PATHS)?;
-    says(&rt, "clean", &[(b"", b"empty path")])
+    gives(&rt, "clean", &PATHS)?;
+    gives(&rt, "clean", &[(b"", b"empty path")])
 }
 
 #[test]
@@ -440,13 +443,13 @@ fn only_clean_paths_are_clean(rt: HostRuntime) {
 #[test]
 fn clean_paths_are_appended(rt: HostRuntime) {
     let mut out = Vec::new(rt.alloc());
-    let answers = [
+    let outcomes = [
         clean_into(&mut out, b"a/./b"),
         clean_into(&mut out, b"../c"),
         clean_into(&mut out, b""),
         clean_into(&mut out, b"/.."),
     ];
-    assert!(rt; answers == [Ok(()), Ok(()), Err(TextFault::EmptyPath), Ok(())]);
+    assert!(rt; outcomes == [Ok(()), Ok(()), Err(TextFault::EmptyPath), Ok(())]);
     assert_eq!(rt; out.as_slice(), b"a/b../c/".as_slice());
 }
 
@@ -473,14 +476,14 @@ fn quotes(rt: HostRuntime) -> Result<(), Fail> {
         (b"~", b"'~'"),
         (b"a\xff", b"'a\xff'"),
     ];
-    says(&rt, "quote", &rows)
+    gives(&rt, "quote", &rows)
 }
 
 #[test]
 fn quotes_are_appended(rt: HostRuntime) {
     let mut out = Vec::new(rt.alloc());
-    let answers = [quote_into(&mut out, b"a b"), quote_into(&mut out, b"c")];
-    assert!(rt; answers == [Ok(()), Ok(())]);
+    let outcomes = [quote_into(&mut out, b"a b"), quote_into(&mut out, b"c")];
+    assert!(rt; outcomes == [Ok(()), Ok(())]);
     assert_eq!(rt; out.as_slice(), b"'a b'c".as_slice());
 }
 

@@ -4,16 +4,16 @@ use Rattle.std.specs.Borrow.{Bor}
 use Rattle.std.specs.Option.{option_copied}
 use Rattle.clap.specs.declared.error.kind.ErrorKind.{ErrorKind}
 use Rattle.clap.specs.declared.error.kind.ErrorKind.TheVariants as kind
-use Rattle.nj_args.specs.Fields.{FieldTexts}
+use Rattle.nj_args.specs.Fields.{FieldStrings}
 use Rattle.nj_args.specs.declared.fields.Fields.{Fields}
 use Rattle.nj_args.specs.declared.faults.UsageFault.{UsageFault}
 use Rattle.nj_args.specs.declared.faults.UsageFault.TheVariants.{Unparsed, OutOfMemory}
 
-abbrev pub word_texts : Option (Bor (List (Bor (List ℕ)))) → List (List ℕ)
-word_texts words = unwrap_or (option_map (λ texts. map (λ text. text.now) texts.now) words) []
+abbrev pub word_strings : Option (Bor (List (Bor (List ℕ)))) → List (List ℕ)
+word_strings words = unwrap_or (option_map (λ strings. map (λ text. text.now) strings.now) words) []
 
-abbrev pub field_texts : Fields → FieldTexts
-field_texts fields = record {
+abbrev pub field_strings : Fields → FieldStrings
+field_strings fields = record {
   tool = option_copied fields.tool;
   file = option_copied fields.file;
   take = option_copied fields.take;
@@ -28,7 +28,7 @@ field_texts fields = record {
   dependency_order = fields.dependency_order;
   no_shell_escape = fields.no_shell_escape;
   print0 = fields.print0;
-  words = word_texts fields.words;
+  words = word_strings fields.words;
 }
 
 -- a sign that the standard library's reading of numbers takes

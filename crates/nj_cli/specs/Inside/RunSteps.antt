@@ -57,15 +57,15 @@ fault_of_tool tool.Write = fault.Write
 fault_of_tool tool.OutOfMemory = fault.OutOfMemory
 
 -- what was output, and how the run ends accordingly
-abbrev pub AnswersTo : List ReadStatement → ActionText → (old new : SinkState) → Result (Option (List ℕ)) RunFault → Type 0
-AnswersTo entries action old new (Ok None) = EndsWith entries action finished × Takes old new (output_of entries action)
-AnswersTo entries action old new (Ok (Some mark)) = EndsWith entries action (stopped mark) × Takes old new (output_of entries action)
-AnswersTo entries action old new (Err (fault.Graph f)) =
+abbrev pub ReturnsFor : List ReadStatement → ActionText → (old new : SinkState) → Result (Option (List ℕ)) RunFault → Type 0
+ReturnsFor entries action old new (Ok None) = EndsWith entries action finished × Takes old new (output_of entries action)
+ReturnsFor entries action old new (Ok (Some mark)) = EndsWith entries action (stopped mark) × Takes old new (output_of entries action)
+ReturnsFor entries action old new (Err (fault.Graph f)) =
     ((f ≡ no_memory) × (new ≡ old)) ⊎ (EndsWith entries action (faulty (fault_line f)) × Takes old new (output_of entries action))
-AnswersTo entries action old new (Err fault.MarkOutOfRange) =
+ReturnsFor entries action old new (Err fault.MarkOutOfRange) =
     EndsWith entries action (faulty out_of_range) × Takes old new (output_of entries action)
-AnswersTo entries action old new (Err fault.Write) = FailsWithin old new (output_of entries action)
-AnswersTo entries action old new (Err fault.OutOfMemory) = TakesFront old new (output_of entries action)
+ReturnsFor entries action old new (Err fault.Write) = FailsWithin old new (output_of entries action)
+ReturnsFor entries action old new (Err fault.OutOfMemory) = TakesFront old new (output_of entries action)
 
 -- the line was reported, or out of memory if there was no room to make it
 abbrev pub ReportsLine : (old new : SinkState) → (line : List ℕ) → Type 0

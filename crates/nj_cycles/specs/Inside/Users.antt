@@ -16,7 +16,7 @@ with_user lists None user = lists
 with_user lists (Some edge) user = slice_set lists edge (slice_index_or lists edge [] ++ user ∷ [])
 
 -- the users of each edge m are those edges e with P e m
-pub record HoldUsers (count : ℕ) (P : ℕ → ℕ → Type 0) (users : List (Vec ℕ)) : Type 0 where
+pub record HaveUsers (count : ℕ) (P : ℕ → ℕ → Type 0) (users : List (Vec ℕ)) : Type 0 where
   pub len : length users ≡ count
   pub sound : (m e : ℕ) → m < count → Contains (users_of users m) e → P e m
   pub all : (m e : ℕ) → m < count → P e m → Contains (users_of users m) e

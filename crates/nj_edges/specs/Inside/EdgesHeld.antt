@@ -81,8 +81,8 @@ abbrev pub output_rows : (outputs : List FileNo) → (open_outputs : ℕ) → Li
 output_rows outputs open_outputs rows = map (λ row. within outputs row.outputs) rows ++ drop open_outputs outputs ∷ []
 
 -- the maker of each file: the first edge that has it as an output
-abbrev pub HoldMakers : (output_rows : List (List FileNo)) → (makers : List (Option ℕ)) → Type 0
-HoldMakers rows makers = (n : ℕ) → n < length makers → slice_get makers n ≡ Some (first_edge (has_number n) rows)
+abbrev pub HaveMakers : (output_rows : List (List FileNo)) → (makers : List (Option ℕ)) → Type 0
+HaveMakers rows makers = (n : ℕ) → n < length makers → slice_get makers n ≡ Some (first_edge (has_number n) rows)
 
 -- the makers of the files with one that is named: a new file has none
 abbrev pub with_maker : (files : List (List ℕ)) → (path : List ℕ) → (makers : List (Option ℕ)) → List (Option ℕ)
@@ -105,7 +105,7 @@ pub record EdgesAreHeld (files : List (List ℕ)) (makers : List (Option ℕ)) (
     (rows : List EdgeRow) (starts : OpenStarts) : Type 0 where
   pub distinct : IsDistinct bytes_eq files
   pub makers_count : length makers ≡ length files
-  pub makers_are : HoldMakers (output_rows outputs starts.outputs rows) makers
+  pub makers_are : HaveMakers (output_rows outputs starts.outputs rows) makers
   pub outputs_are : AreNumbers (length files) outputs
   pub inputs_are : AreNumbers (length files) inputs
   pub validations_are : AreNumbers (length files) validations

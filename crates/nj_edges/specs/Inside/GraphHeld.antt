@@ -10,7 +10,7 @@ use Rattle.nj_edges.specs.Edges.{roots_of}
 use Rattle.nj_edges.specs.Inside.EdgesHeld.{EdgesAreHeld, AreNamed, edges_of}
 use Rattle.nj_edges.specs.Files.{AreFiles}
 use Rattle.nj_edges.specs.Needs.{makers_of_inputs}
-use Rattle.nj_edges.specs.Inside.UsersHeld.{HoldUsers, numbers_of, using_edges}
+use Rattle.nj_edges.specs.Inside.UsersHeld.{HaveUsers, numbers_of, using_edges}
 
 -- no edge is being read
 abbrev pub ends_of : (outputs inputs validations : List FileNo) → OpenStarts
@@ -22,6 +22,6 @@ pub record GraphIsHeld (files : List (List ℕ)) (makers : List (Option ℕ)) (o
   pub named : AreNamed (length files) outputs inputs validations
   pub acyclic : IsAcyclic (makers_of_inputs (edges_of files outputs inputs validations rows)) (length rows)
   pub roots_are : AreFiles files roots (roots_of (edges_of files outputs inputs validations rows))
-  pub users_are : HoldUsers (length files) users.starts.items (numbers_of users.edges.items) (using_edges inputs Inputs 0 rows)
-  pub validation_users_are : HoldUsers (length files) validation_users.starts.items (numbers_of validation_users.edges.items)
+  pub users_are : HaveUsers (length files) users.starts.items (numbers_of users.edges.items) (using_edges inputs Inputs 0 rows)
+  pub validation_users_are : HaveUsers (length files) validation_users.starts.items (numbers_of validation_users.edges.items)
       (using_edges validations Validations 0 rows)

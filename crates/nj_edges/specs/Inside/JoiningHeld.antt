@@ -7,7 +7,7 @@ use Rattle.nj_edges.specs.declared.edges.EdgeRow.{EdgeRow}
 use Rattle.nj_edges.specs.declared.edges.Span.{Span}
 use Rattle.nj_edges.specs.declared.joining.AddedSpans.{AddedSpans}
 use Rattle.nj_edges.specs.Edges.{EdgePaths, first_edge}
-use Rattle.nj_edges.specs.Inside.EdgesHeld.{EdgesAreHeld, AreNumbers, HoldMakers, IsWithin, paths_at, within, edges_of, has_number}
+use Rattle.nj_edges.specs.Inside.EdgesHeld.{EdgesAreHeld, AreNumbers, HaveMakers, IsWithin, paths_at, within, edges_of, has_number}
 use Rattle.nj_edges.specs.Inside.GraphHeld.{ends_of}
 use Rattle.nj_edges.specs.Joining.{AddedFiles, JoinTable, with_added}
 
@@ -95,7 +95,7 @@ pub record JoinListsAreHeld (files : List (List ℕ)) (makers : List (Option ℕ
     (open_outputs open_inputs : ℕ) : Type 0 where
   pub stated_are : EdgesAreHeld files makers outputs inputs validations rows (ends_of outputs inputs validations)
   pub makers_count : length added_makers ≡ length files
-  pub makers_are : HoldMakers (added_output_rows added_outputs added open_outputs) added_makers
+  pub makers_are : HaveMakers (added_output_rows added_outputs added open_outputs) added_makers
   pub apart : AreApart (stated_rows outputs rows) (added_output_rows added_outputs added open_outputs)
   pub next_are_new : NextAreNew (map (added_outputs_of added_outputs) added) (drop open_outputs added_outputs)
   pub outputs_are : AreNumbers (length files) added_outputs

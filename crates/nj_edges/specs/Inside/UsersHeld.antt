@@ -33,7 +33,7 @@ pub record IsPart (numbers : List ℕ) (start end : ℕ) (users : List ℕ) : Ty
 abbrev pub AreParts : (starts numbers : List ℕ) → (users : ℕ → List ℕ) → Type 0
 AreParts starts numbers users = (n : ℕ) → n + 1 < length starts → IsPart numbers (slice_index_or starts n 0) (slice_index_or starts (n + 1) 0) (users n)
 
-pub record HoldUsers (count : ℕ) (starts numbers : List ℕ) (users : ℕ → List ℕ) : Type 0 where
+pub record HaveUsers (count : ℕ) (starts numbers : List ℕ) (users : ℕ → List ℕ) : Type 0 where
   pub count_is : length starts ≡ count + 1
   pub parts_are : AreParts starts numbers users
 
@@ -92,5 +92,5 @@ pub record ArePlaced (all uses : ℕ → List ℕ) (places marks : List ℕ) (ed
   pub marks_are : AreMarks marks uses
 
 -- no file has more of these uses than of all
-abbrev pub HaveRoom : (all uses : ℕ → List ℕ) → Type 0
-HaveRoom all uses = (n : ℕ) → length (uses n) ≤ length (all n)
+abbrev pub HaveCapacity : (all uses : ℕ → List ℕ) → Type 0
+HaveCapacity all uses = (n : ℕ) → length (uses n) ≤ length (all n)

@@ -8,8 +8,8 @@ use Rattle.nj_statements.specs.Built.{BuiltText, EdgeDetail}
 use Rattle.nj_graph.specs.Graph.{main_rules_of}
 
 -- their numbers, in the order in which they are listed
-abbrev pub HoldsMainRules : List RuleText → (numbers : List ℕ) → Type 0
-HoldsMainRules rules numbers = map (slice_get rules) numbers ≡ map (λ r. Some r) (main_rules_of rules)
+abbrev pub HasMainRules : List RuleText → (numbers : List ℕ) → Type 0
+HasMainRules rules numbers = map (slice_get rules) numbers ≡ map (λ r. Some r) (main_rules_of rules)
 
 -- the scope and the rule of an edge are there
 abbrev pub IsKnown : DeclarationsText → EdgeDetail → Type 0
@@ -17,7 +17,7 @@ IsKnown declarations d = (d.scope < length declarations.scopes) × (d.rule < len
 
 -- what holds of the fields of a graph
 pub record IsGraph (declarations : DeclarationsText) (built : BuiltText) (numbers : List ℕ) : Type 0 where
-  pub listed : HoldsMainRules declarations.rules numbers
+  pub listed : HasMainRules declarations.rules numbers
   pub outermost : parent_at declarations.scopes 0 ≡ None
   pub count : length built.details ≡ length built.graph.edges
   pub known : AllByRecursion (IsKnown declarations) built.details

@@ -17,7 +17,7 @@ use Rattle.nj_faults.specs.declared.fault.Cause.TheVariants.{PathNotText}
 use Rattle.nj_faults.specs.Faults.{fault_in, no_memory}
 use Rattle.nj_statements.specs.EdgeList.{Pending}
 use Rattle.nj_statements.specs.Joining.{lacking_fault}
-use Rattle.nj_statements.specs.JoiningHeld.{JoiningText, HoldsJoined}
+use Rattle.nj_statements.specs.JoiningHeld.{JoiningText, HasJoined}
 use Rattle.nj_graph.specs.Reading.{End, Whole, Refused, end_by, with_all_new}
 use Rattle.nj_graph.specs.Runs.{IsRead, IsEnd, IsLacking, paths_with, Stops}
 use Rattle.nj_graph.specs.Inside.ReaderContracts.{ReadsAll}
@@ -51,7 +51,7 @@ NextEntryIs file before after result = NextEntryOf file (entry_of before) after 
 -- All entries are joined. It remains to check whether an edge waits for the file.
 pub record TextJoined (file : List ℕ) (stated : List ReadStatement) (text : List ℕ) (joined : List ReadStatement) (held : JoiningText) : Type 0 where
   pub now : List ReadStatement
-  pub holds : HoldsJoined held stated now
+  pub has : HasJoined held stated now
   pub joins : text_joined file stated text joined ≡ record { entries = now; end = end_by (lacking_fault file now) }
 
 -- an entry is refused, or the text is
@@ -73,7 +73,7 @@ pub record FileJoined (stated joined : List ReadStatement) (p : Pending) (before
   pub reads : ReadsAll before after old files table
   pub came_to : with_all_new (paths_of old) (path_asked p) ≡ paths_of files
   pub now : List ReadStatement
-  pub holds : HoldsJoined held stated now
+  pub has : HasJoined held stated now
   pub joins : (all : List Reading) → IsPrefix files all → file_joined all stated p joined ≡ record { entries = now; end = Whole }
 
 pub record FileLacksMemory (p : Pending) (before after : SourceState) (old files : List Reading) (fault : GraphFault) : Type 0 where
@@ -109,7 +109,7 @@ pub record FilesJoined (stated : List ReadStatement) (before after : SourceState
   pub files : List Reading
   pub reads : ReadsAll before after old files table
   pub now : List ReadStatement
-  pub holds : HoldsJoined held stated now
+  pub has : HasJoined held stated now
   pub paths : List (List ℕ)
   pub came_to : with_all_new (paths_of old) paths ≡ paths_of files
   pub joins : (all : List Reading) → IsPrefix files all

@@ -28,7 +28,7 @@ use Rattle.nj_graph.specs.declared.reader.Reader.{Reader}
 use Rattle.nj_graph.specs.declared.reader.OpenFile.{OpenFile}
 use Rattle.nj_graph.specs.declared.reader.Opened.{Opened}
 use Rattle.nj_faults.specs.Faults.{IsFault, fault_in, no_memory}
-use Rattle.nj_statements.specs.Answers.{HoldsEdges}
+use Rattle.nj_statements.specs.Answers.{HasEdges}
 pub use Rattle.nj_statements.specs.Answers.{Checks}
 use Rattle.nj_graph.specs.Graph.{IsOpenScope}
 use Rattle.nj_graph.specs.Origins.{origins_read}
@@ -46,14 +46,14 @@ site_scope site = site.number ∷ site.around
 pub record IsNew (main : List ℕ) (held : Reader) : Type 0 where
   pub declares : DeclaredBy held.declarations []
   pub outermost : parent_at held.declarations.scopes 0 ≡ None
-  pub edges : HoldsEdges held.building []
+  pub edges : HasEdges held.building []
   pub files : held.files ≡ []
   pub origins : held.origins ≡ origins_read main []
 
 -- It holds what these statements say, of which the last read stands first.
-pub record Holds (main : List ℕ) (held : Reader) (entries : List ReadStatement) : Type 0 where
+pub record Has (main : List ℕ) (held : Reader) (entries : List ReadStatement) : Type 0 where
   pub declares : DeclaredBy held.declarations entries
-  pub edges : HoldsEdges held.building entries
+  pub edges : HasEdges held.building entries
   pub scopes : AllByRecursion (λ e. IsOpenScope held.declarations.scopes e.number e.around) entries
   pub origins : held.origins ≡ origins_read main entries
   pub paths_are : paths_of held.files ≡ paths_read main entries
@@ -77,7 +77,7 @@ IsOpenIn held file around = IsOpenScope held.declarations.scopes file.scope arou
 -- The property holds of the main file, of the site at which the file is open, and of the statements that were read, whichever they are.
 abbrev pub InFile : Reader → OpenFile → ((main : List ℕ) → Site → List ReadStatement → Type 0) → Type 0
 InFile held file P =
-    (main : List ℕ) (entries : List ReadStatement) (around : List ℕ) (depth : ℕ) → Holds main held entries → IsOpenIn held file around
+    (main : List ℕ) (entries : List ReadStatement) (around : List ℕ) (depth : ℕ) → Has main held entries → IsOpenIn held file around
     → P main (site_of file around depth) entries
 
 -- The property holds of the scope of the file and of the statements that are declared, whichever they are.
@@ -90,7 +90,7 @@ InScope held file P =
 
 -- the statement has no fault and is held, or its fault is answered
 abbrev pub Declares : (main : List ℕ) → (after : Reader) → ReadStatement → (before : List ReadStatement) → Result (Unit {0}) GraphFault → Type 0
-Declares main after e before (Ok done) = (own_fault e before ≡ None) × Holds main after (e ∷ before)
+Declares main after e before (Ok done) = (own_fault e before ≡ None) × Has main after (e ∷ before)
 Declares main after e before (Err fault) = IsFault (own_fault e before) fault
 
 -- ---- files
@@ -106,11 +106,11 @@ place_in file spot = record { file = file.name.now; spot = spot }
 
 -- What is answered for the file at a path that a word at this place names, by what the table did when it opened the file: the text, or the
 -- fault. Out of memory may also come before the table is asked.
-abbrev pub AnswersText : (before after : SourceState) → (old new : List Reading) → Place → (path : List ℕ)
+abbrev pub ReturnsText : (before after : SourceState) → (old new : List Reading) → Place → (path : List ℕ)
     → Result (RcSlice ℕ Global) GraphFault → Type 0
-AnswersText before after old new place path (Ok text) = table.OpensFile before after old new path (Ok (Some text))
-AnswersText before after old new place path (Err fault) =
-    ((fault ≡ no_memory) × table.LacksRoom before after old new path)
+ReturnsText before after old new place path (Ok text) = table.OpensFile before after old new path (Ok (Some text))
+ReturnsText before after old new place path (Err fault) =
+    ((fault ≡ no_memory) × table.LacksCapacity before after old new path)
     ⊎ (((fault ≡ record { place = Some place; cause = Io path }) × table.CannotBeRead before after old new path)
     ⊎ ((fault ≡ record { place = Some place; cause = Missing path }) × table.OpensFile before after old new path (Ok None)))
 
@@ -122,9 +122,9 @@ pub record StopsAt (main : List ℕ) (before after : SourceState) (old : List Re
   pub stops : Stops before after files (λ all. reached_from main (reading all)) fault
 
 -- the path that a word says, or its fault
-abbrev pub SaysPath : {Z : Type 0} → Option GraphFault → (says : List ℕ) → Result (String Z) GraphFault → Type 0
-SaysPath expected says (Ok path) = (expected ≡ None) × (string_bytes path ≡ says)
-SaysPath expected says (Err fault) = IsFault expected fault
+abbrev pub GivesPath : {Z : Type 0} → Option GraphFault → (gives : List ℕ) → Result (String Z) GraphFault → Type 0
+GivesPath expected gives (Ok path) = (expected ≡ None) × (string_bytes path ≡ gives)
+GivesPath expected gives (Err fault) = IsFault expected fault
 
 -- A file is open: what is read of it from here on is its text.
 pub record OpensText (main : List ℕ) (before after : SourceState) (old held : Reader) (left : ℕ) (place : Place) (path : List ℕ)
@@ -167,7 +167,7 @@ pub record EntersScope (held : Reader) (number : ℕ) (inner : Site) (e : ReadSt
 pub record ReadsOne (main : List ℕ) (before after : SourceState) (old held : Reader) (e : ReadStatement) (entries : List ReadStatement)
     : Type 0 where
   pub reads : ReadsAll before after old.files old.files held.files
-  pub holds : Holds main held (e ∷ entries)
+  pub has : Has main held (e ∷ entries)
   pub read : (opens : Opens) → statement_read opens e entries ≡ record { entries = e ∷ entries; end = Whole }
 
 -- What a statement names is open: what is read from here on is the text of the file, and what was read before that is held.
@@ -175,7 +175,7 @@ pub record OpensNamed (main : List ℕ) (before after : SourceState) (old held :
     (e : ReadStatement) (entries : List ReadStatement) : Type 0 where
   pub files : List Reading
   pub reads : ReadsAll before after old.files files held.files
-  pub holds : Holds main held (e ∷ entries)
+  pub has : Has main held (e ∷ entries)
   pub within : ℕ
   pub left_is : left ≡ suc within
   pub read : (all : List Reading) → IsPrefix files all
@@ -213,7 +213,7 @@ pub record ReadsText (main : List ℕ) (before after : SourceState) (old held : 
   pub files : List Reading
   pub reads : ReadsAll before after old.files files held.files
   pub entries : List ReadStatement
-  pub holds : Holds main held entries
+  pub has : Has main held entries
   pub read : (all : List Reading) → IsPrefix files all → reading all ≡ record { entries = entries; end = Whole }
 
 abbrev pub ReadsOrStops : (main : List ℕ) → (before after : SourceState) → (old held : Reader) → (reading : List Reading → ReadingText)

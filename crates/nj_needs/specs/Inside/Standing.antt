@@ -35,7 +35,7 @@ pub record IsWalkAt (g : EdgeGraph) (targets : List FileNo) (turns : ℕ)
   pub inside : AreWithin (row_of g targets) (count_of g)
   pub standing : IsStanding (makers_of g) (count_of g) (row_of g targets) path.items place flags
   -- there is room for every path
-  pub room : count_of g ≤ vec_capacity path
+  pub capacity : count_of g ≤ vec_capacity path
   -- the turns that were taken and those that are left are all turns
   pub counted : (total : ℕ) × (turns ≡ saturated total) × (total + turns_left_of g targets path.items place ≡ bound_of g targets + begun)
 

@@ -21,6 +21,6 @@ state_of w s = record {
 pub record IsNeeds (w : Walk) (s : Saved) : Type 0 where
   pub walk : IsWalk w
   pub front : KeepsFront s w.path.items
-  pub room : count_of w.turns.graph.now ≤ vec_capacity s.numbers
+  pub capacity : count_of w.turns.graph.now ≤ vec_capacity s.numbers
   pub rest : left_of w.turns.graph.now w.turns.targets.now w.path.items w.place
       ≡ rest_of w.turns.graph.now w.turns.targets.now s.numbers.items

@@ -4,10 +4,10 @@ use Rattle.nj_scope.specs.declared.memory.MemoryFile.{MemoryFile}
 use Rattle.nj_scope.specs.declared.memory.MemoryReading.{MemoryReading}
 use Rattle.nj_scope.specs.Memory.{Added}
 use Rattle.nj_scope.specs.Readings.{Reading}
-use Rattle.nj_scope.specs.Sources.{answer_bytes}
+use Rattle.nj_scope.specs.Sources.{outcome_bytes}
 
 abbrev pub file_held : MemoryFile → Added
 file_held f = record { name = string_bytes f.name; bytes = f.bytes.items }
 
 abbrev pub reading_held : MemoryReading → Reading
-reading_held r = record { path = string_bytes r.path; bytes = answer_bytes r.bytes }
+reading_held r = record { path = string_bytes r.path; bytes = outcome_bytes r.bytes }

@@ -7,8 +7,8 @@ use Rattle.nj_statements.specs.EdgeList.{AssignedText}
 use Rattle.nj_statements.specs.Answers.{numbered}
 
 -- the text of a number; past the last one it is empty
-abbrev pub text_at : (texts : List (List ℕ)) → (number : ℕ) → List ℕ
-text_at texts number = unwrap_or (slice_get texts number) []
+abbrev pub text_at : (strings : List (List ℕ)) → (number : ℕ) → List ℕ
+text_at strings number = unwrap_or (slice_get strings number) []
 
 abbrev pub spot_of : Detail → Spot
 spot_of d = record { line = d.line; column = d.column }
@@ -21,14 +21,14 @@ pub record IsDetailOf (file : ℕ) (spot : Spot) (scope rule : ℕ) (d : Detail)
   pub rule_is : d.rule ≡ rule
 
 -- the text of a number that counts from 1; past the last one there is none
-abbrev pub numbered_at : (texts : List (List ℕ)) → (number : ℕ) → Option (List ℕ)
-numbered_at texts number = slice_index_or (numbered texts) number None
+abbrev pub numbered_at : (strings : List (List ℕ)) → (number : ℕ) → Option (List ℕ)
+numbered_at strings number = slice_index_or (numbered strings) number None
 
 -- there is a text of this number, which counts from 1
-abbrev pub IsNumbered : (texts : List (List ℕ)) → (number : ℕ) → Type 0
-IsNumbered texts number = number < length (numbered texts)
+abbrev pub IsNumbered : (strings : List (List ℕ)) → (number : ℕ) → Type 0
+IsNumbered strings number = number < length (numbered strings)
 
 -- the numbers of what is assigned
-pub record AreNumbersOf (names : List (List ℕ)) (a : Assigned) (said : AssignedText) : Type 0 where
-  pub pool : slice_get (numbered names) a.pool ≡ Some said.pool
-  pub dyndep : slice_get (numbered names) a.dyndep ≡ Some said.dyndep
+pub record AreNumbersOf (names : List (List ℕ)) (a : Assigned) (meant : AssignedText) : Type 0 where
+  pub pool : slice_get (numbered names) a.pool ≡ Some meant.pool
+  pub dyndep : slice_get (numbered names) a.dyndep ≡ Some meant.dyndep

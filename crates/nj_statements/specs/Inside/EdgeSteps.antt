@@ -13,13 +13,13 @@ use Rattle.nj_edges.specs.Edges.{EdgePaths, is_among}
 use Rattle.nj_edges.specs.EdgeTables.{EdgeTable, no_files, with_output, with_input, with_validation}
 use Rattle.nj_edges.specs.Files.{AreFiles}
 use Rattle.nj_edge_env.specs.declared.edge.LateEdge.{LateEdge}
-use Rattle.nj_edge_env.specs.LateTexts.{LateNames, asked_text}
+use Rattle.nj_edge_env.specs.LateStrings.{LateNames, asked_text}
 use Rattle.nj_edge_env.specs.LateEdges.{late_names}
 use Rattle.nj_edge_env.specs.ReferencesHeld.{ReferringKeyText}
 use Rattle.nj_statements.specs.declared.context.Context.{Context}
 use Rattle.nj_statements.specs.declared.detail.Detail.{Detail}
 use Rattle.nj_statements.specs.declared.building.DyndepEdge.{DyndepEdge}
-use Rattle.nj_statements.specs.EdgeList.{Values, Block, AssignedText, on_line, paths_said, name_said, file_said}
+use Rattle.nj_statements.specs.EdgeList.{Values, Block, AssignedText, on_line, paths_given, name_given, file_given}
 use Rattle.nj_statements.specs.Answers.{DetailText}
 use Rattle.nj_statements.specs.Inside.Details.{spot_of}
 
@@ -63,13 +63,13 @@ pub record Grows (outputs : ℕ) (before after : EdgeTable) : Type 0 where
 pub record AddsInputs (loses_own : Bool) (values : Values) (inputs : InputsText) (before after : EdgeTable) (ends : ℕ × ℕ)
     : Type 0 where
   pub explicit : EdgeTable
-  pub explicit_is : explicit ≡ with_inputs loses_own before (paths_said values inputs.explicit)
+  pub explicit_is : explicit ≡ with_inputs loses_own before (paths_given values inputs.explicit)
   pub explicit_end : ends.0 ≡ length explicit.«open».inputs
   pub implicit : EdgeTable
-  pub implicit_is : implicit ≡ with_inputs loses_own explicit (paths_said values inputs.implicit)
+  pub implicit_is : implicit ≡ with_inputs loses_own explicit (paths_given values inputs.implicit)
   pub implicit_end : ends.1 ≡ length implicit.«open».inputs
-  pub after_is : after ≡ with_validations (with_inputs loses_own implicit (paths_said values inputs.order_only))
-      (paths_said values inputs.validations)
+  pub after_is : after ≡ with_validations (with_inputs loses_own implicit (paths_given values inputs.order_only))
+      (paths_given values inputs.validations)
 
 -- one edge is added; files keep their numbers
 pub record AddsEdge (before after : EdgeTable) (edge : EdgePaths) : Type 0 where
@@ -103,11 +103,11 @@ pub record SeesLate (edge : LateEdge) (entries : List ReadStatement) (n : LateNa
 
 -- what is assigned to an edge whose names depend on these
 abbrev pub assigned_by : LateNames → AssignedText
-assigned_by n = record { pool = name_said (asked_text n (codes "pool")); dyndep = file_said (asked_text n (codes "dyndep")) }
+assigned_by n = record { pool = name_given (asked_text n (codes "pool")); dyndep = file_given (asked_text n (codes "dyndep")) }
 
 -- the number of the file at this path, if there is one
-abbrev pub IsFileSaid : (files : List (List ℕ)) → Option FileNo → Option (List ℕ) → Type 0
-IsFileSaid files number path = option_map (λ f. slice_get files f.0) number ≡ option_map Some path
+abbrev pub IsFileGiven : (files : List (List ℕ)) → Option FileNo → Option (List ℕ) → Type 0
+IsFileGiven files number path = option_map (λ f. slice_get files f.0) number ≡ option_map Some path
 
 -- the same is kept of each rule
 abbrev pub SameReferences : (kept others : List (Option (List ReferringKeyText))) → Type 0

@@ -14,13 +14,13 @@ use Rattle.nj_faults.specs.declared.fault.Cause.TheVariants.{DyndepExtra, Dyndep
 use Rattle.nj_faults.specs.Faults.{fault_at}
 use Rattle.nj_statements.specs.declared.detail.Detail.{Detail}
 use Rattle.nj_statements.specs.declared.building.DyndepEdge.{DyndepEdge}
-use Rattle.nj_statements.specs.EdgeList.{path_said}
+use Rattle.nj_statements.specs.EdgeList.{path_given}
 use Rattle.nj_statements.specs.BuildFaults.{fault_if}
 use Rattle.nj_statements.specs.Built.{EdgeDetail}
 use Rattle.nj_statements.specs.Inside.BuiltHeld.{detail_named, assigned_named, pending_named}
 use Rattle.nj_statements.specs.Inside.Details.{IsNumbered}
 use Rattle.nj_statements.specs.Joining.{no_values, dyndep_files}
-use Rattle.nj_statements.specs.JoiningHeld.{still_waiting, JoiningText}
+use Rattle.nj_statements.specs.JoiningHeld.{still_pending, JoiningText}
 
 abbrev pub is_bound_to : Option FileNo → FileNo → Bool
 is_bound_to (Some bound) file = bound.0 == file.0
@@ -31,9 +31,9 @@ one_if true = 1
 one_if false = 0
 
 -- how many of these wait for a file
-abbrev pub count_waiting : FileNo → (waiting : List (Option FileNo)) → ℕ
-count_waiting file [] = 0
-count_waiting file (w ∷ waiting) = one_if (is_bound_to w file) + count_waiting file waiting
+abbrev pub count_pending : FileNo → (unjoined : List (Option FileNo)) → ℕ
+count_pending file [] = 0
+count_pending file (w ∷ unjoined) = one_if (is_bound_to w file) + count_pending file unjoined
 
 -- how many of these edges are bound to a file
 abbrev pub count_bound : FileNo → List DyndepEdge → ℕ
@@ -59,13 +59,13 @@ if_bound bound file None = None
 if_bound bound file (Some edge) = if is_bound_to (slice_index_or bound edge None) file then Some edge else None
 
 abbrev pub maker_fault : (name : List ℕ) → WordText → JoinTable → Option ℕ → Option GraphFault
-maker_fault name word table None = Some (fault_at name word.spot (DyndepExtra (path_said no_values word)))
+maker_fault name word table None = Some (fault_at name word.spot (DyndepExtra (path_given no_values word)))
 maker_fault name word table (Some edge) =
-    fault_if (is_joined table edge) (fault_at name word.spot (DyndepTwice (path_said no_values word)))
+    fault_if (is_joined table edge) (fault_at name word.spot (DyndepTwice (path_given no_values word)))
 
 -- the edge that makes what a word says, if it is bound to a file
 abbrev pub edge_bound : JoinTable → (bound : List (Option FileNo)) → FileNo → WordText → Option ℕ
-edge_bound table bound file word = if_bound bound file (maker_of table.stated (path_said no_values word))
+edge_bound table bound file word = if_bound bound file (maker_of table.stated (path_given no_values word))
 
 -- this edge, to which nothing was joined yet
 pub record IsMeant (table : JoinTable) (bound : List (Option FileNo)) (file : FileNo) (word : WordText) (edge : ℕ) : Type 0 where
@@ -74,8 +74,8 @@ pub record IsMeant (table : JoinTable) (bound : List (Option FileNo)) (file : Fi
   pub first : is_joined table edge ≡ false
 
 -- the fault of an edge that waits for a file to the end of that file
-abbrev pub fault_of_waiting : (path : List ℕ) → EdgeDetail → EdgePaths → GraphFault
-fault_of_waiting path detail e =
+abbrev pub fault_of_pending : (path : List ℕ) → EdgeDetail → EdgePaths → GraphFault
+fault_of_pending path detail e =
     fault_at detail.file detail.spot (DyndepNoStatement (unwrap_or (first_output e) []) path)
 
 abbrev pub with_added_outputs : JoinTable → (paths : List (List ℕ)) → JoinTable
@@ -101,7 +101,7 @@ joining_of table blocks names details defaults dyndep_files bound = record {
 -- For each edge there is a detail, and what is joined to it. All numbers are those of files and edges. For each file at most as many edges
 -- wait as are counted.
 pub record JoiningIsHeld (table : JoinTable) (names : List (List ℕ)) (details : List Detail) (defaults : List FileNo)
-    (dyndep_files : List DyndepEdge) (bound : List (Option FileNo)) (waiting : List ℕ) : Type 0 where
+    (dyndep_files : List DyndepEdge) (bound : List (Option FileNo)) (unjoined : List ℕ) : Type 0 where
   pub each_path_once : IsDistinct bytes_eq table.files
   pub as_many_joined : length table.joined ≡ length table.stated
   pub as_many_was : length table.was_joined ≡ length table.stated
@@ -113,6 +113,6 @@ pub record JoiningIsHeld (table : JoinTable) (names : List (List ℕ)) (details 
   pub defaults_known : AreNumbers (length table.files) defaults
   pub dyndep_files_known : AllByRecursion (λ d. d.file.0 < length table.files) dyndep_files
   pub dyndep_edges_known : AllByRecursion (λ d. d.edge < length table.stated) dyndep_files
-  pub bound_known : AllByRecursion (λ file. IfSome file (λ f. f.0 < length waiting)) bound
-  pub waiting_known : length waiting ≤ length table.files
-  pub enough_wait : (file : FileNo) → count_waiting file (still_waiting bound table.was_joined) ≤ slice_index_or waiting file.0 0
+  pub bound_known : AllByRecursion (λ file. IfSome file (λ f. f.0 < length unjoined)) bound
+  pub pending_known : length unjoined ≤ length table.files
+  pub enough_pending : (file : FileNo) → count_pending file (still_pending bound table.was_joined) ≤ slice_index_or unjoined file.0 0

@@ -6,8 +6,8 @@ use Rattle.nj_tools.specs.declared.sinks.SinkFault.{SinkFault}
 use Rattle.nj_tools.specs.declared.fault.ToolFault.{ToolFault}
 
 -- the sink took a prefix of the text since the old state, and what waits is the rest
-abbrev pub IsUnderway : (old new : SinkState) → (text waiting : List ℕ) → Type 0
-IsUnderway old new text waiting = (front : List ℕ) × (text ≡ front ++ waiting) × Takes old new front
+abbrev pub IsUnderway : (old new : SinkState) → (text unjoined : List ℕ) → Type 0
+IsUnderway old new text unjoined = (front : List ℕ) × (text ≡ front ++ unjoined) × Takes old new front
 
 -- the sink took a prefix of what waits, or failed within it
 abbrev pub PutsBlock : (old new : SinkState) → (before after : List ℕ) → Result Unit SinkFault → Type 0

@@ -5,7 +5,7 @@ use Rattle.nj_edges.specs.Inside.EdgesHeld.{has_number}
 use Rattle.nj_edges.specs.Files.{path_at}
 use Rattle.nj_tools.specs.Listings.{each_once}
 use Rattle.nj_edges.specs.EdgeGraphs.{EdgeGraph}
-use Rattle.nj_tools.specs.CommandTexts.{own_makers_in}
+use Rattle.nj_tools.specs.CommandStrings.{own_makers_in}
 
 -- the same for files by their numbers
 abbrev pub own_makers : EdgeGraph → (files : List FileNo) → List ℕ

@@ -4,7 +4,7 @@ use Rattle.nj_graph.specs.Files.{path_at}
 use Rattle.nj_graph.specs.Graph.{edges_of, files_of}
 use Rattle.draw_graph.specs.Needed.{MakesOneOf}
 use Rattle.draw_graph.specs.Inside.Found.{FindsMore, numbers_of}
-use Rattle.draw_graph.proofs.FoundLemmas.{count-numbers, files-paths, finding-begins, finding-ends, finding-goes-on, known-edges, number-at, place-below}
+use Rattle.draw_graph.proofs.FoundLemmas.{count-numbers, files-paths, finding-begins, finding-ends, finding-continues, known-edges, number-at, place-below}
 use Rattle.draw_graph.proofs.needed.needed_edges.Goals as goal
 
 pub edges-init : goal.edges-init
@@ -31,7 +31,7 @@ edges-preserved c =
     let same = number-at found c.edges.place c.index-edge.result.now below ∙ ap (λ e. e.0) (sym c.index-edge.ensures) in
     let are = rw c.deref-in-edges.ensures at c.inputs.ensures.files in
     let inputs = files-paths (λ file. slice_get (files_of c.args.graph.now) file.0) c.inputs.result.now (inputs_of (edge_at edges c.index-edge.result.now.0)) are in
-    finding-goes-on edges (map (path_at (files_of c.args.graph.now)) c.args.files.now) found c.add_makers-in-edges.new.self c.edges.place within c.edges.invariant
+    finding-continues edges (map (path_at (files_of c.args.graph.now)) c.args.files.now) found c.add_makers-in-edges.new.self c.edges.place within c.edges.invariant
     (subst (λ paths. FindsMore (MakesOneOf edges paths) found c.add_makers-in-edges.new.self) (inputs ∙ ap (λ n. inputs_of (edge_at edges n)) (sym same)) c.in_ok-add_makers-2.ensures)
 
 pub returns-clause-needed : goal.returns-clause-needed

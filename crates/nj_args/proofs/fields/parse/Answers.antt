@@ -17,5 +17,5 @@ returns-in-Ok-clause-rows c =
 pub returns-in-Err-clause-err : goal.returns-in-Err-clause-err
 returns-in-Err-clause-err c =
     let kinds = c.in-Err.ensures.kinds (ap is_simple_and_free c.in_ok-made.ensures ∙ simple_and_free) in
-    let told = refused (kind_of c.in-Err.error) (fault_of (app_of c.in_ok-made.made) (map string_bytes c.args.words.now)) kinds in
-    rw (c.refusal.ensures, c.kind.ensures, ← c.in_ok-made.ensures) told
+    let reported = refused (kind_of c.in-Err.error) (fault_of (app_of c.in_ok-made.made) (map string_bytes c.args.words.now)) kinds in
+    rw (c.refusal.ensures, c.kind.ensures, ← c.in_ok-made.ensures) reported

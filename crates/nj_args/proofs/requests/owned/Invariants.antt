@@ -2,4 +2,4 @@ use Rattle.std.proofs.Common.{◌≡◌, map, string_bytes, take}
 use Rattle.nj_args.proofs.requests.owned.Given as goal
 
 abbrev pub invariant-words : goal.invariant-words
-invariant-words l = map string_bytes l.texts.items ≡ map (λ word. word.now) (take l.word-index l.words)
+invariant-words l = map string_bytes l.strings.items ≡ map (λ word. word.now) (take l.word-index l.words)

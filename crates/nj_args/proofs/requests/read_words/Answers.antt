@@ -10,6 +10,6 @@ pub returns-in-len1-up : goal.returns-in-len1-up
 returns-in-len1-up c =
     let same = of_some c.args.words.now c.in-len1-up.len_at_least in
     record {
-      ok = IfOk-weaker c.given_request.result _ _ (λ request said. same ∙ said) c.given_request.ensures.ok;
-      err = IfErr-weaker c.given_request.result _ _ (λ fault said. same_fault _ _ fault same said) c.given_request.ensures.err;
+      ok = IfOk-weaker c.given_request.result _ _ (λ request meant. same ∙ meant) c.given_request.ensures.ok;
+      err = IfErr-weaker c.given_request.result _ _ (λ fault meant. same_fault _ _ fault same meant) c.given_request.ensures.err;
     }

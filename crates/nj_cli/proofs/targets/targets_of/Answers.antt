@@ -6,7 +6,7 @@ use Rattle.nj_graph.specs.Graph.{edges_of, files_of}
 use Rattle.nj_needs.specs.Growing.{grown_targets}
 use Rattle.nj_edges.proofs.GraphLemmas.{files-known}
 use Rattle.nj_cli.specs.Targets.{edges_by_path, or_defaults, with_validations}
-use Rattle.nj_cli.proofs.AnswerLemmas.{grown-are, targets-picked}
+use Rattle.nj_cli.proofs.ReturnLemmas.{grown-are, targets-picked}
 use Rattle.nj_cli.proofs.targets.targets_of.Goals as goal
 
 pub or_defaults-requires : goal.or_defaults-requires

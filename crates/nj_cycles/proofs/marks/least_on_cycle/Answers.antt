@@ -3,7 +3,7 @@ use Rattle.std.specs.Prelude.{slice_index, slice_index_or}
 use Rattle.std.proofs.lemmas.Bool.{both_ways}
 use Rattle.std.proofs.lemmas.List.{get_or_read}
 use Rattle.nj_cycles.specs.Cycles.{Needs}
-use Rattle.nj_cycles.specs.Inside.Users.{HoldUsers}
+use Rattle.nj_cycles.specs.Inside.Users.{HaveUsers}
 use Rattle.nj_cycles.specs.Inside.Marks.{IsMarked, AreMarks, IsLeastOf}
 use Rattle.nj_cycles.proofs.Ranks.{stepped, marked-on_cycle, on_cycle-marked, least_past, least_more}
 use Rattle.nj_cycles.proofs.UserLemmas.{users_known}
@@ -22,7 +22,7 @@ edges-preserved-then-index g c =
     let flags = c.mark_needing.new.self.flags.items in
     let step = stepped order index (omega arith) (omega arith) in
     let lt : e < length flags = omega (arith, c.requires.walked.within (index - 1) (omega arith), c.in_ok-mark_needing.ensures.len_after, c.requires.users.len, c.mark_needing.new.self.flags.ok.0) in
-    let marks = subst (λ es. AreMarks makers es flags) (sym step) (c.in_ok-mark_needing.ensures.marks makers (drop index order) (subst (λ n. HoldUsers n (Needs makers) c.args.users.now) (sym c.requires.users.len) c.requires.users) c.edges.invariant.marks) in
+    let marks = subst (λ es. AreMarks makers es flags) (sym step) (c.in_ok-mark_needing.ensures.marks makers (drop index order) (subst (λ n. HaveUsers n (Needs makers) c.args.users.now) (sym c.requires.users.len) c.requires.users) c.edges.invariant.marks) in
     let marked : IsMarked flags e = sym (get_or_read flags e c.index.result.now lt c.index.ensures false) ∙ c.if-index.true in
     record {
       len = c.in_ok-mark_needing.ensures.len_after;
@@ -42,7 +42,7 @@ edges-preserved g c =
     let flags = c.mark_needing.new.self.flags.items in
     let step = stepped order index (omega arith) (omega arith) in
     let lt : e < length flags = omega (arith, c.requires.walked.within (index - 1) (omega arith), c.in_ok-mark_needing.ensures.len_after, c.requires.users.len, c.mark_needing.new.self.flags.ok.0) in
-    let grown = c.in_ok-mark_needing.ensures.marks makers (drop index order) (subst (λ n. HoldUsers n (Needs makers) c.args.users.now) (sym c.requires.users.len) c.requires.users) c.edges.invariant.marks in
+    let grown = c.in_ok-mark_needing.ensures.marks makers (drop index order) (subst (λ n. HaveUsers n (Needs makers) c.args.users.now) (sym c.requires.users.len) c.requires.users) c.edges.invariant.marks in
     let unmarked : slice_index_or flags e false ≡ false = sym (get_or_read flags e c.index.result.now lt c.index.ensures false) ∙ c.if-index.false in
     record {
       len = c.in_ok-mark_needing.ensures.len_after;

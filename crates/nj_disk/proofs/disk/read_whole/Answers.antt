@@ -7,6 +7,6 @@ reads-preserved g c =
     let piece = c.in_ok-count.ensures in
     record {
       read = Consumes-piece _ _ _ _ _ c.reads.filled c.in_ok-count.count c.reads.invariant.read piece.front piece.piece;
-      in_room = omega arith;
+      in_capacity = omega arith;
       within = omega arith;
     }

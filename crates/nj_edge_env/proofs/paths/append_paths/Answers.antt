@@ -1,6 +1,6 @@
 use Rattle.std.proofs.Common.{◌≡◌, ◌∙◌, ap, inl, inr, map, take, arith}
 use Rattle.nj_edges.specs.Files.{path_at}
-use Rattle.nj_edge_env.specs.LateTexts.{paths_text}
+use Rattle.nj_edge_env.specs.LateStrings.{paths_text}
 use Rattle.nj_edge_env.proofs.PathLemmas.{on-err, paths_begin, paths_turn}
 use Rattle.nj_edge_env.proofs.paths.append_paths.Goals as goal
 use Rattle.nj_edge_env.proofs.paths.append_paths.Goals.{then-index-gt0+in_ok-push, else-index-gt0}

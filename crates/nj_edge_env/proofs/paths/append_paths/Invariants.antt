@@ -1,6 +1,6 @@
 use Rattle.std.proofs.Common.{◌≡◌, ◌++◌, map, take}
 use Rattle.nj_edges.specs.Files.{path_at}
-use Rattle.nj_edge_env.specs.LateTexts.{paths_text}
+use Rattle.nj_edge_env.specs.LateStrings.{paths_text}
 use Rattle.nj_edge_env.proofs.paths.append_paths.Given as goal
 
 abbrev pub invariant-paths : goal.invariant-paths

@@ -1,11 +1,11 @@
 use Rattle.std.proofs.Common.{◌≡◌, ◌∙◌, ◌-◌, ap, arith, drop, length, subst, sym}
-use Rattle.nj_edges.specs.Inside.UsersHeld.{ArePlaced, HaveRoom, using_edges}
+use Rattle.nj_edges.specs.Inside.UsersHeld.{ArePlaced, HaveCapacity, using_edges}
 use Rattle.nj_edges.proofs.ListLemmas.{lent-back}
-use Rattle.nj_edges.proofs.UserLemmas.{placed-all, rows-next, rows-room}
+use Rattle.nj_edges.proofs.UserLemmas.{placed-all, rows-next, rows-capacity}
 use Rattle.nj_edges.proofs.users.placed_users.Goals as goal
 
-pub place_uses-requires-clause-room : goal.place_uses-requires-clause-room
-place_uses-requires-clause-room c =
+pub place_uses-requires-clause-capacity : goal.place_uses-requires-clause-capacity
+place_uses-requires-clause-capacity c =
     let all = using_edges c.args.files.now c.args.row_part 0 c.args.rows.now in
     let row = c.files_of-edge_files.ensures in
     let after = c.rows-test.true in
@@ -13,7 +13,7 @@ place_uses-requires-clause-room c =
       all,
       using_edges c.args.files.now c.args.row_part c.rows.edge (drop c.rows.edge c.args.rows.now),
       rw (c.deref_mut.ensures.value, c.deref_mut-in-rows.ensures.value) c.rows.invariant.placed,
-      subst (HaveRoom all) (sym next) (rows-room c.args.files.now c.args.row_part c.args.rows.now (c.rows.edge - 1)),
+      subst (HaveCapacity all) (sym next) (rows-capacity c.args.files.now c.args.row_part c.args.rows.now (c.rows.edge - 1)),
     )
 
 pub rows-preserved : goal.rows-preserved
@@ -31,7 +31,7 @@ rows-preserved c =
       within = omega arith;
       placed = subst (λ us. ArePlaced all us c.place_uses.new.places c.place_uses.new.marks c.place_uses.new.edges) next
           (c.place_uses.ensures all uses (rw (c.deref_mut.ensures.value, c.deref_mut-in-rows.ensures.value) c.rows.invariant.placed)
-          (subst (HaveRoom all) (sym next) (rows-room c.args.files.now c.args.row_part c.args.rows.now (c.rows.edge - 1))));
+          (subst (HaveCapacity all) (sym next) (rows-capacity c.args.files.now c.args.row_part c.args.rows.now (c.rows.edge - 1))));
     })
 
 pub returns : goal.returns

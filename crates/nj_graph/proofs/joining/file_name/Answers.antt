@@ -5,8 +5,8 @@ use Rattle.nj_graph.proofs.joining.file_name.Goals as goal
 
 pub returns-in-Ok : goal.returns-in-Ok
 returns-in-Ok c =
-    let says = ap (λ v. v.items) c.in-Ok.ensures.ok ∙ c.in_ok-bytes.ensures.items in
-    (name-utf8 c.args.path.now c.in-Ok.path says, says)
+    let gives = ap (λ v. v.items) c.in-Ok.ensures.ok ∙ c.in_ok-bytes.ensures.items in
+    (name-utf8 c.args.path.now c.in-Ok.path gives, gives)
 
 pub returns : goal.returns
 returns c =

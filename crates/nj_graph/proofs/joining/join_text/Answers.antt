@@ -4,7 +4,7 @@ use Rattle.nj_manifest.specs.DyndepParsers.{entry_text}
 use Rattle.nj_graph.proofs.Comes.{prefix-then}
 use Rattle.nj_manifest.proofs.Handed.{handed}
 use Rattle.nj_graph.proofs.JoiningTables.{get-prefix}
-use Rattle.nj_graph.proofs.JoiningTexts.{text-at-first, text-ends, text-turn, text-refused, next-some, next-none, next-stops, fewer-to-come}
+use Rattle.nj_graph.proofs.JoiningStrings.{text-at-first, text-ends, text-turn, text-refused, next-some, next-none, next-stops, fewer-to-come}
 use Rattle.nj_graph.proofs.joining.join_text.Goals as goal
 
 pub entries-init : goal.entries-init
@@ -15,22 +15,22 @@ entries-init c = (
   c.requires,
   ([], sym (append-nil c.args.joining.now.table.files)),
   refl,
-  λ stated joined holds. text-at-first c.args.name.now stated c.args.text.now joined c.args.joining.now holds,
+  λ stated joined has. text-at-first c.args.name.now stated c.args.text.now joined c.args.joining.now has,
 )
 
 pub returns-in_err-entry-clause-joins : goal.returns-in_err-entry-clause-joins
-returns-in_err-entry-clause-joins c = λ stated joined holds.
+returns-in_err-entry-clause-joins c = λ stated joined has.
     rw (handed c.in_err-entry.field-0.0 c.from_residual.result c.from_residual.ensures)
     (next-stops c.args.name.now stated c.args.text.now joined c.entries.joining c.entries.invariant.0 c.entries.invariant.1 c.entries.parser c.next_entry.new.parser c.in_err-entry.field-0.0
-    (c.entries.invariant.6 stated joined holds) c.entries.invariant.2 c.in_err-entry.ensures)
+    (c.entries.invariant.6 stated joined has) c.entries.invariant.2 c.in_err-entry.ensures)
 
 pub returns-in_err-join_entry-clause-joins : goal.returns-in_err-join_entry-clause-joins
-returns-in_err-join_entry-clause-joins c = λ stated joined holds.
+returns-in_err-join_entry-clause-joins c = λ stated joined has.
     let next = next-some c.args.name.now c.entries.parser c.next_entry.new.parser c.entries.invariant.0 c.entries.invariant.1 c.in_ok-entry.field-0 c.in-Some.entry c.entries.invariant.2 c.in-Some.is c.in_ok-entry.ensures in
-    let u = c.entries.invariant.6 stated joined holds in
+    let u = c.entries.invariant.6 stated joined has in
     rw (handed c.in_err-join_entry.field-0.0 c.from_residual-in_err-join_entry.result c.from_residual-in_err-join_entry.ensures)
     (text-refused c.args.name.now stated c.args.text.now joined c.entries.joining c.entries.invariant.0 c.entries.invariant.1 u (entry_text c.in-Some.entry) next.0 next.1 c.in_err-join_entry.field-0.0
-    (c.in_err-join_entry.ensures.joins stated u.now u.holds))
+    (c.in_err-join_entry.ensures.joins stated u.now u.has))
 
 pub entries-smaller : goal.entries-smaller
 entries-smaller c =
@@ -47,13 +47,13 @@ entries-preserved c =
       get-prefix c.entries.joining.table.files later.table.files c.args.file.0 c.args.name.now c.in_ok-join_entry.ensures.files c.entries.invariant.3,
       prefix-then c.args.joining.now.table.files c.entries.joining.table.files later.table.files c.entries.invariant.4 c.in_ok-join_entry.ensures.files,
       c.in_ok-join_entry.ensures.dyndep_files ∙ c.entries.invariant.5,
-      λ stated joined holds.
-          let u = c.entries.invariant.6 stated joined holds in
-          let joins = c.in_ok-join_entry.ensures.joins stated u.now u.holds in
+      λ stated joined has.
+          let u = c.entries.invariant.6 stated joined has in
+          let joins = c.in_ok-join_entry.ensures.joins stated u.now u.has in
           text-turn c.args.name.now stated c.args.text.now joined c.entries.joining c.entries.invariant.0 c.entries.invariant.1 u (entry_text c.in-Some.entry) next.0 next.1 later joins.0 joins.1,
     )
 
 pub returns-clause-joins : goal.returns-clause-joins
-returns-clause-joins c = λ stated joined holds.
+returns-clause-joins c = λ stated joined has.
     let next = next-none c.args.name.now c.entries.parser c.next_entry.new.parser c.entries.invariant.0 c.entries.invariant.1 c.in_ok-entry.field-0 c.entries.invariant.2 c.in_default.is c.in_ok-entry.ensures in
-    text-ends c.args.name.now stated c.args.text.now joined c.entries.joining c.entries.invariant.0 c.entries.invariant.1 (c.entries.invariant.6 stated joined holds) next.0 next.1
+    text-ends c.args.name.now stated c.args.text.now joined c.entries.joining c.entries.invariant.0 c.entries.invariant.1 (c.entries.invariant.6 stated joined has) next.0 next.1

@@ -3,7 +3,7 @@ use Rattle.std.specs.Prelude.{slice_get}
 use Rattle.std.proofs.lemmas.List.{append-nil, nil_from_length}
 use Rattle.nj_needs.specs.Inside.Standing.{top_of}
 use Rattle.nj_needs.specs.Inside.Tops.{IsTop}
-use Rattle.nj_needs.proofs.GrowingSteps.{stands, below, top-edge, len-flags, pass, pass-less, opened, open-less, ended, close-below, closed, close-less}
+use Rattle.nj_needs.proofs.GrowingSteps.{comes, below, top-edge, len-flags, pass, pass-less, opened, open-less, ended, close-below, closed, close-less}
 use Rattle.nj_needs.proofs.growing.grow_targets.Goals as goal
 
 pub look-found-requires : goal.look-found-requires
@@ -24,7 +24,7 @@ returns-in_default-pop-clause-grown c =
     let graph : c.new.result.graph.now ≡ g = rw c.new.ensures.graph refl in
     let list : c.new.result.targets.now ≡ w.files.items = rw c.new.ensures.targets c.deref.ensures.value in
     let past : slice_get (top_of g w.files.items w.path.items) w.place ≡ None =
-    stands c.new.result.graph.now g c.new.result.targets.now w.files.items c.deref-in-turns.result.now w.path.items c.top_edge.result (None) w.place graph list
+    comes c.new.result.graph.now g c.new.result.targets.now w.files.items c.deref-in-turns.result.now w.path.items c.top_edge.result (None) w.place graph list
     c.deref-in-turns.ensures.value c.top_edge.ensures c.in_default.ensures.found in
     let same : w.path.items ≡ c.pop.new.self.items = c.in_default-pop.ensures.items ∙ append-nil c.pop.new.self.items in
     let empty : w.path.items ≡ [] = same ∙ nil_from_length c.pop.new.self.items (omega (arith, c.in_default-pop.ensures.cases)) in
@@ -39,7 +39,7 @@ index_mut-requires c =
     let graph : c.new.result.graph.now ≡ g = rw c.new.ensures.graph refl in
     let list : c.new.result.targets.now ≡ w.files.items = rw c.new.ensures.targets c.deref.ensures.value in
     let past : slice_get (top_of g w.files.items w.path.items) w.place ≡ None =
-    stands c.new.result.graph.now g c.new.result.targets.now w.files.items c.deref-in-turns.result.now w.path.items c.top_edge.result (None) w.place graph list
+    comes c.new.result.graph.now g c.new.result.targets.now w.files.items c.deref-in-turns.result.now w.path.items c.top_edge.result (None) w.place graph list
     c.deref-in-turns.ensures.value c.top_edge.ensures c.in_default.ensures.found in
     omega (arith, close-below g ts acyclic w.files.items w.path.items w.place w.flags.items w.invariant c.in-Some-pop.frame c.pop.new.self.items c.in-Some-pop.ensures.items past, len-flags g ts acyclic w.files.items w.path.items w.place w.flags.items w.invariant)
 
@@ -52,7 +52,7 @@ add_validations-requires c =
     let graph : c.new.result.graph.now ≡ g = rw c.new.ensures.graph refl in
     let list : c.new.result.targets.now ≡ w.files.items = rw c.new.ensures.targets c.deref.ensures.value in
     let past : slice_get (top_of g w.files.items w.path.items) w.place ≡ None =
-    stands c.new.result.graph.now g c.new.result.targets.now w.files.items c.deref-in-turns.result.now w.path.items c.top_edge.result (None) w.place graph list
+    comes c.new.result.graph.now g c.new.result.targets.now w.files.items c.deref-in-turns.result.now w.path.items c.top_edge.result (None) w.place graph list
     c.deref-in-turns.ensures.value c.top_edge.ensures c.in_default.ensures.found in
     close-below g ts acyclic w.files.items w.path.items w.place w.flags.items w.invariant c.in-Some-pop.frame c.pop.new.self.items c.in-Some-pop.ensures.items past
 
@@ -65,7 +65,7 @@ turns-smaller-in_default c =
     let graph : c.new.result.graph.now ≡ g = rw c.new.ensures.graph refl in
     let list : c.new.result.targets.now ≡ w.files.items = rw c.new.ensures.targets c.deref.ensures.value in
     let past : slice_get (top_of g w.files.items w.path.items) w.place ≡ None =
-    stands c.new.result.graph.now g c.new.result.targets.now w.files.items c.deref-in-turns.result.now w.path.items c.top_edge.result (None) w.place graph list
+    comes c.new.result.graph.now g c.new.result.targets.now w.files.items c.deref-in-turns.result.now w.path.items c.top_edge.result (None) w.place graph list
     c.deref-in-turns.ensures.value c.top_edge.ensures c.in_default.ensures.found in
     close-less g ts acyclic w.files.items w.path.items w.place w.flags.items w.invariant c.in-Some-pop.frame c.pop.new.self.items c.in-Some-pop.ensures.items past
 
@@ -78,7 +78,7 @@ turns-preserved-in_default c =
     let graph : c.new.result.graph.now ≡ g = rw c.new.ensures.graph refl in
     let list : c.new.result.targets.now ≡ w.files.items = rw c.new.ensures.targets c.deref.ensures.value in
     let past : slice_get (top_of g w.files.items w.path.items) w.place ≡ None =
-    stands c.new.result.graph.now g c.new.result.targets.now w.files.items c.deref-in-turns.result.now w.path.items c.top_edge.result (None) w.place graph list
+    comes c.new.result.graph.now g c.new.result.targets.now w.files.items c.deref-in-turns.result.now w.path.items c.top_edge.result (None) w.place graph list
     c.deref-in-turns.ensures.value c.top_edge.ensures c.in_default.ensures.found in
     rw c.in_ok-add_validations.ensures.1 (closed g ts acyclic w.files.items w.path.items w.place w.flags.items w.invariant c.in-Some-pop.frame c.pop.new.self.items c.in-Some-pop.ensures.items past c.in_ok-add_validations.ensures.0 c.in_ok-add_validations.ensures.2)
 
@@ -91,7 +91,7 @@ undone-requires c =
     let graph : c.new.result.graph.now ≡ g = rw c.new.ensures.graph refl in
     let list : c.new.result.targets.now ≡ w.files.items = rw c.new.ensures.targets c.deref.ensures.value in
     let at : slice_get (top_of g w.files.items w.path.items) w.place ≡ Some c.in-Some.maker =
-    stands c.new.result.graph.now g c.new.result.targets.now w.files.items c.deref-in-turns.result.now w.path.items c.top_edge.result (Some c.in-Some.maker) w.place graph list
+    comes c.new.result.graph.now g c.new.result.targets.now w.files.items c.deref-in-turns.result.now w.path.items c.top_edge.result (Some c.in-Some.maker) w.place graph list
     c.deref-in-turns.ensures.value c.top_edge.ensures c.in-Some.ensures.found in
     λ x is.
     let low = below g ts acyclic w.files.items w.path.items w.place w.flags.items w.invariant x (at ∙ ap Some is) in
@@ -106,7 +106,7 @@ turns-smaller-in-Some-undone c =
     let graph : c.new.result.graph.now ≡ g = rw c.new.ensures.graph refl in
     let list : c.new.result.targets.now ≡ w.files.items = rw c.new.ensures.targets c.deref.ensures.value in
     let at : slice_get (top_of g w.files.items w.path.items) w.place ≡ Some c.in-Some.maker =
-    stands c.new.result.graph.now g c.new.result.targets.now w.files.items c.deref-in-turns.result.now w.path.items c.top_edge.result (Some c.in-Some.maker) w.place graph list
+    comes c.new.result.graph.now g c.new.result.targets.now w.files.items c.deref-in-turns.result.now w.path.items c.top_edge.result (Some c.in-Some.maker) w.place graph list
     c.deref-in-turns.ensures.value c.top_edge.ensures c.in-Some.ensures.found in
     let e = c.in-Some-undone.edge in
     let left = c.in-Some-undone.ensures.left in
@@ -122,7 +122,7 @@ turns-preserved-in-Some-undone c =
     let graph : c.new.result.graph.now ≡ g = rw c.new.ensures.graph refl in
     let list : c.new.result.targets.now ≡ w.files.items = rw c.new.ensures.targets c.deref.ensures.value in
     let at : slice_get (top_of g w.files.items w.path.items) w.place ≡ Some c.in-Some.maker =
-    stands c.new.result.graph.now g c.new.result.targets.now w.files.items c.deref-in-turns.result.now w.path.items c.top_edge.result (Some c.in-Some.maker) w.place graph list
+    comes c.new.result.graph.now g c.new.result.targets.now w.files.items c.deref-in-turns.result.now w.path.items c.top_edge.result (Some c.in-Some.maker) w.place graph list
     c.deref-in-turns.ensures.value c.top_edge.ensures c.in-Some.ensures.found in
     let e = c.in-Some-undone.edge in
     let left = c.in-Some-undone.ensures.left in
@@ -138,7 +138,7 @@ turns-smaller c =
     let graph : c.new.result.graph.now ≡ g = rw c.new.ensures.graph refl in
     let list : c.new.result.targets.now ≡ w.files.items = rw c.new.ensures.targets c.deref.ensures.value in
     let at : slice_get (top_of g w.files.items w.path.items) w.place ≡ Some c.in-Some.maker =
-    stands c.new.result.graph.now g c.new.result.targets.now w.files.items c.deref-in-turns.result.now w.path.items c.top_edge.result (Some c.in-Some.maker) w.place graph list
+    comes c.new.result.graph.now g c.new.result.targets.now w.files.items c.deref-in-turns.result.now w.path.items c.top_edge.result (Some c.in-Some.maker) w.place graph list
     c.deref-in-turns.ensures.value c.top_edge.ensures c.in-Some.ensures.found in
     let flagged : (m : ℕ) → c.in-Some.maker ≡ Some m → get_or w.flags.items m false ≡ true =
     λ m is. ap (λ (fs : List Bool). get_or fs m false) (sym c.deref-in-turns-2.ensures.value) ∙ c.in-None.ensures.done m is in
@@ -153,7 +153,7 @@ turns-preserved c =
     let graph : c.new.result.graph.now ≡ g = rw c.new.ensures.graph refl in
     let list : c.new.result.targets.now ≡ w.files.items = rw c.new.ensures.targets c.deref.ensures.value in
     let at : slice_get (top_of g w.files.items w.path.items) w.place ≡ Some c.in-Some.maker =
-    stands c.new.result.graph.now g c.new.result.targets.now w.files.items c.deref-in-turns.result.now w.path.items c.top_edge.result (Some c.in-Some.maker) w.place graph list
+    comes c.new.result.graph.now g c.new.result.targets.now w.files.items c.deref-in-turns.result.now w.path.items c.top_edge.result (Some c.in-Some.maker) w.place graph list
     c.deref-in-turns.ensures.value c.top_edge.ensures c.in-Some.ensures.found in
     let flagged : (m : ℕ) → c.in-Some.maker ≡ Some m → get_or w.flags.items m false ≡ true =
     λ m is. ap (λ (fs : List Bool). get_or fs m false) (sym c.deref-in-turns-2.ensures.value) ∙ c.in-None.ensures.done m is in

@@ -4,7 +4,7 @@ use Rattle.nj_needs.specs.Inside.Paths.{places}
 use Rattle.nj_needs.specs.declared.frame.Frame.{Frame}
 use Rattle.nj_needs.specs.Inside.Saved.{KeepsFront}
 use Rattle.nj_needs.specs.Inside.Standing.{turns_left_of}
-use Rattle.nj_needs.proofs.NeedsLemmas.{looked-left, looked-less, looked-needs, closed-less, closed-front, closed-left, closed-needs, returned-room, returned-needs, returned-first, returned-left, ended-needs, ended-left, ended-turns}
+use Rattle.nj_needs.proofs.NeedsLemmas.{looked-left, looked-less, looked-needs, closed-less, closed-front, closed-left, closed-needs, returned-capacity, returned-needs, returned-first, returned-left, ended-needs, ended-left, ended-turns}
 use Rattle.nj_needs.proofs.Below.{first-below}
 use Rattle.nj_needs.proofs.returned.next_edge.Goals as goal
 
@@ -33,17 +33,17 @@ save-requires-clause-front c =
     rw c.deref.ensures.value (closed-front c.turns.walk c.take_turn.new.self e.graph e.targets c.in-Closed.edge c.in-Closed.phony e.turn c.turns.saved c.back_to.new.self
     c.back_to.ensures.numbers (c.back_to.ensures.kept ∙ ap (λ n. min c.turns.saved.kept n) (let e : c.len.result ≡ length c.take_turn.new.self.path.items = omega (arith, c.len.ensures) in e)) c.turns.invariant.needs.front)
 
-pub save-requires-clause-room : goal.save-requires-clause-room
-save-requires-clause-room c =
+pub save-requires-clause-capacity : goal.save-requires-clause-capacity
+save-requires-clause-capacity c =
     let e = c.in-Closed.ensures in
-    rw c.deref.ensures.value (returned-room c.turns.walk c.take_turn.new.self e.graph e.targets c.in-Closed.edge c.in-Closed.phony e.turn c.turns.saved c.back_to.new.self
+    rw c.deref.ensures.value (returned-capacity c.turns.walk c.take_turn.new.self e.graph e.targets c.in-Closed.edge c.in-Closed.phony e.turn c.turns.saved c.back_to.new.self
     c.back_to.ensures.numbers c.turns.invariant.needs)
 
 pub returns-then-not-phony-clause-after : goal.returns-then-not-phony-clause-after
 returns-then-not-phony-clause-after c =
     let e = c.in-Closed.ensures in
     returned-needs c.turns.walk c.take_turn.new.self e.graph e.targets c.in-Closed.edge c.in-Closed.phony e.turn c.turns.saved c.back_to.new.self c.save.new.self
-    c.back_to.ensures.numbers c.save.ensures.room (subst (KeepsFront c.save.new.self) c.deref.ensures.value c.save.ensures.kept) (c.save.ensures.numbers ∙ ap (λ (p : List Frame). places p ++ (c.take_turn.new.self.place - 1) ∷ []) c.deref.ensures.value) c.turns.invariant.needs e.walk
+    c.back_to.ensures.numbers c.save.ensures.capacity (subst (KeepsFront c.save.new.self) c.deref.ensures.value c.save.ensures.kept) (c.save.ensures.numbers ∙ ap (λ (p : List Frame). places p ++ (c.take_turn.new.self.place - 1) ∷ []) c.deref.ensures.value) c.turns.invariant.needs e.walk
 
 pub returns-then-not-phony-clause-next : goal.returns-then-not-phony-clause-next
 returns-then-not-phony-clause-next c =

@@ -30,10 +30,10 @@ lines-preserved c = record {
       ∙ c.lines.invariant.other_names e other;
   bound = λ entries around declared within e name.
       let values : Values = value_after entries (c.args.scope ∷ around) in
-      let says = c.in_ok-append_expanded.ensures entries around declared within ∙ ap (λ front. front ++ expanded values (word_text c.line-item.result.value).parts) c.clear.ensures.items in
+      let gives = c.in_ok-append_expanded.ensures entries around declared within ∙ ap (λ front. front ++ expanded values (word_text c.line-item.result.value).parts) c.clear.ensures.items in
       let bound = c.in_ok-bind.ensures.bound e name in
       block-turn values c.args.edge e (line_text c.line-item.result) (lines_text (drop (c.lines.line-index + 1) c.args.lines.now)) name (bound_in c.bind.new.self e name) (bound_in c.lines.blocks e name)
-      (bound ∙ ap (λ value. if e == c.args.edge && bytes_eq name c.line-item.result.name.now then Some value else bound_in c.lines.blocks e name) (c.as_slice.ensures.value ∙ says))
+      (bound ∙ ap (λ value. if e == c.args.edge && bytes_eq name c.line-item.result.name.now then Some value else bound_in c.lines.blocks e name) (c.as_slice.ensures.value ∙ gives))
       ∙ sym (at-next (λ (ls : List Line). if e == c.args.edge then option_or (block_of values (lines_text ls) name) (bound_in c.lines.blocks e name) else bound_in c.lines.blocks e name) c.args.lines.now c.lines.line-index c.line-item.result c.lines-test.true c.line-item.is)
       ∙ c.lines.invariant.bound entries around declared within e name;
 }

@@ -2,7 +2,7 @@ use Rattle.std.proofs.Common.{subst, ◌∙◌, arith}
 use Rattle.std.proofs.lemmas.List.{take_all}
 use Rattle.nj_manifest.specs.Contents.{words_text}
 use Rattle.nj_statements.specs.BuildFaults.{target_fault, first_fault}
-use Rattle.nj_statements.specs.EdgeList.{paths_said}
+use Rattle.nj_statements.specs.EdgeList.{paths_given}
 use Rattle.nj_statements.specs.Inside.EdgeSteps.{AddsTargets}
 use Rattle.nj_statements.proofs.Tables.{prefix_push}
 use Rattle.nj_statements.proofs.AddedLemmas.{no-fault-turn}
@@ -35,5 +35,5 @@ words-preserved c =
 pub returns-clause-added : goal.returns-clause-added
 returns-clause-added c = λ values sees.
     let ends = c.words-test.false in
-    subst (λ ws. AddsTargets c.args.edges.now.files c.args.targets.now.items c.words.targets.items (paths_said values (words_text ws))) (take_all c.words.word-index c.args.words.now (omega (arith, ends)))
+    subst (λ ws. AddsTargets c.args.edges.now.files c.args.targets.now.items c.words.targets.items (paths_given values (words_text ws))) (take_all c.words.word-index c.args.words.now (omega (arith, ends)))
     (c.words.invariant.added values sees)

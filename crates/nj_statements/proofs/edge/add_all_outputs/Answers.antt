@@ -1,7 +1,7 @@
 use Rattle.std.proofs.Common.{◌≡◌, None, ◌++◌, ap, sym, subst, ◌∙◌}
 use Rattle.nj_manifest.specs.Contents.{words_text}
 use Rattle.nj_faults.specs.Faults.{IsFault}
-use Rattle.nj_statements.specs.EdgeList.{paths_said}
+use Rattle.nj_statements.specs.EdgeList.{paths_given}
 use Rattle.nj_statements.specs.BuildFaults.{outputs_fault}
 use Rattle.nj_statements.specs.Answers.{Checks}
 use Rattle.nj_statements.specs.Inside.EdgeSteps.{with_outputs}
@@ -17,7 +17,7 @@ returns-in_err-add_outputs-clause-fault c = λ values sees.
     let implicit = words_text c.args.build.now.implicit_outs.items in
     let split = outputs-append file values old.edges old.«open».outputs explicit implicit in
     err-checks c.from_residual.result c.in_err-add_outputs.field-0.0 (outputs_fault file values old.edges old.«open».outputs (explicit ++ implicit)) c.from_residual.ensures.1
-    (subst (λ o. IsFault o c.in_err-add_outputs.field-0.0) (sym split) (fault-first (outputs_fault file values old.edges old.«open».outputs explicit) (outputs_fault file values old.edges (old.«open».outputs ++ paths_said values explicit) implicit) _
+    (subst (λ o. IsFault o c.in_err-add_outputs.field-0.0) (sym split) (fault-first (outputs_fault file values old.edges old.«open».outputs explicit) (outputs_fault file values old.edges (old.«open».outputs ++ paths_given values explicit) implicit) _
     (subst (λ ws. IsFault (outputs_fault file values old.edges old.«open».outputs (words_text ws)) c.in_err-add_outputs.field-0.0) c.as_slice.ensures.value (c.in_err-add_outputs.ensures.fault values sees))))
 
 pub returns-clause-fault : goal.returns-clause-fault
@@ -25,9 +25,9 @@ returns-clause-fault c = λ values sees.
     let file = c.args.context.place.file.now in
     let old = c.args.edges.now in
     let implicit = words_text c.args.build.now.implicit_outs.items in
-    let paths = paths_said values (words_text c.args.build.now.explicit_outs.items) in
+    let paths = paths_given values (words_text c.args.build.now.explicit_outs.items) in
     let split = outputs-append file values old.edges old.«open».outputs (words_text c.args.build.now.explicit_outs.items) implicit in
-    let after = subst (λ ws. c.add_outputs.new.edges ≡ with_outputs old (paths_said values (words_text ws))) c.as_slice.ensures.value (c.in_ok-add_outputs.ensures.added values sees) in
+    let after = subst (λ ws. c.add_outputs.new.edges ≡ with_outputs old (paths_given values (words_text ws))) c.as_slice.ensures.value (c.in_ok-add_outputs.ensures.added values sees) in
     let edges = c.in_ok-add_outputs.ensures.keeps.edges in
     let outputs = ap (λ t. t.«open».outputs) after ∙ ap (λ o. o.outputs) (outputs-open old paths) in
     subst (λ o. Checks o c.add_outputs-2.result) (sym split)

@@ -4,11 +4,11 @@ use Rattle.nj_manifest.specs.Contents.{outputs_text, inputs_text}
 use Rattle.nj_scope.specs.ReadingList.{value_after, pools}
 use Rattle.nj_edges.specs.Edges.{EdgePaths, inputs_of}
 use Rattle.nj_edges.specs.EdgeTables.{edge_read}
-use Rattle.nj_edge_env.specs.LateTexts.{LateNames, asked_text}
+use Rattle.nj_edge_env.specs.LateStrings.{LateNames, asked_text}
 use Rattle.nj_faults.specs.Faults.{IsFault}
-use Rattle.nj_statements.specs.EdgeList.{stated_paths, edge_paths, file_said}
+use Rattle.nj_statements.specs.EdgeList.{stated_paths, edge_paths, file_given}
 use Rattle.nj_statements.specs.BuildFaults.{paths_fault, names_fault}
-use Rattle.nj_statements.specs.Inside.EdgeSteps.{IsFileSaid, SeesLate, bound_by, names_read}
+use Rattle.nj_statements.specs.Inside.EdgeSteps.{IsFileGiven, SeesLate, bound_by, names_read}
 use Rattle.nj_statements.proofs.Faults.{fault-second, both-none, err-checks}
 use Rattle.nj_statements.proofs.Adding.{adds-edge}
 use Rattle.nj_statements.proofs.LateLemmas.{inputs-read, sees-late}
@@ -68,7 +68,7 @@ returns-clause-dyndep c = λ values sees none.
     let named = c.in_ok-kinds.ensures.named values sees none in
     let late : SeesLate c.late_edge-edge.result sees.entries n = sees-late c.late_edge-edge.result c.args.context.declarations.now c.args.context.scope sees.entries sees.around (edge_read open_edge c.in_ok-kinds.kinds (c.args.rule.number == 0)) paths block c.args.rule.rule.now
     c.late_edge-edge.ensures.declarations c.late_edge-edge.ensures.scope c.late_edge-edge.ensures.names named sees.declared sees.within in
-    subst (λ t. IsFileSaid t.files c.in_ok-assigned.assigned.file (file_said (asked_text n (codes "dyndep")))) (sym c.in_ok-end_edge.ensures.ended) (c.in_ok-assigned.ensures.file sees.entries n late)
+    subst (λ t. IsFileGiven t.files c.in_ok-assigned.assigned.file (file_given (asked_text n (codes "dyndep")))) (sym c.in_ok-end_edge.ensures.ended) (c.in_ok-assigned.ensures.file sees.entries n late)
 
 pub returns-clause-assigned : goal.returns-clause-assigned
 returns-clause-assigned c = λ values sees none.

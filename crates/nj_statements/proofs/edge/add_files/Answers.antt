@@ -3,7 +3,7 @@ use Rattle.std.proofs.lemmas.List.{length-map}
 use Rattle.nj_manifest.specs.Contents.{words_text, outputs_text, inputs_text}
 use Rattle.nj_text.specs.Words.{word_text}
 use Rattle.nj_faults.specs.Faults.{IsFault}
-use Rattle.nj_statements.specs.EdgeList.{path_said}
+use Rattle.nj_statements.specs.EdgeList.{path_given}
 use Rattle.nj_statements.specs.BuildFaults.{outputs_fault, inputs_fault, paths_fault}
 use Rattle.nj_statements.proofs.Faults.{fault-first, err-checks}
 use Rattle.nj_statements.proofs.Adding.{edge-named}
@@ -24,4 +24,4 @@ pub returns-clause-named : goal.returns-clause-named
 returns-clause-named c = λ values sees none.
     edge-named values (outputs_text c.args.build.now) (inputs_text c.args.build.now) c.args.is_phony c.loses_own-loses_own.result c.args.edges.now c.add_all_outputs.new.edges c.add_all_inputs.new.edges (c.in_ok-explicit_inputs.explicit_inputs, c.in_ok-explicit_inputs.implicit_inputs)
     none (c.loses_own-loses_own.ensures values) (c.in_ok-add_all_outputs.ensures.added values sees) (c.in_ok-explicit_inputs.ensures.added values sees)
-    (length c.as_slice.result.now) (ap length c.as_slice.ensures.value ∙ sym (length-map (words_text c.args.build.now.explicit_outs.items) (path_said values) ∙ length-map c.args.build.now.explicit_outs.items word_text))
+    (length c.as_slice.result.now) (ap length c.as_slice.ensures.value ∙ sym (length-map (words_text c.args.build.now.explicit_outs.items) (path_given values) ∙ length-map c.args.build.now.explicit_outs.items word_text))

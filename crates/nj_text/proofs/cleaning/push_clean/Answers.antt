@@ -1,6 +1,6 @@
 use Rattle.std.proofs.Common.{◌≡◌, ◌≢◌, true, sym, ap, ◌∙◌, ◌++◌, arith, length}
 use Rattle.nj_text.specs.Inside.Cleaning.{text_kept}
-use Rattle.nj_text.proofs.CleanTexts.{kept_of}
+use Rattle.nj_text.proofs.CleanStrings.{kept_of}
 use Rattle.nj_text.proofs.CleanPaths.{pushed-absolute, pushed-none, pushed-some}
 use Rattle.nj_text.proofs.cleaning.push_clean.Goals as goal
 

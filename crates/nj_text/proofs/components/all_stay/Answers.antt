@@ -1,7 +1,7 @@
 use Rattle.std.proofs.Common.{sym, ◌∙◌}
 use Rattle.std.specs.List.{slice_split}
 use Rattle.nj_text.specs.Paths.{is_slash}
-use Rattle.nj_text.proofs.CleanTexts.{stay-names}
+use Rattle.nj_text.proofs.CleanStrings.{stay-names}
 use Rattle.nj_text.proofs.components.all_stay.Goals as goal
 
 pub returns-then-are_names : goal.returns-then-are_names

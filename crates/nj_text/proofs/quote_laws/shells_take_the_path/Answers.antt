@@ -1,4 +1,4 @@
-use Rattle.nj_text.proofs.QuotedTexts.{takes_the_path}
+use Rattle.nj_text.proofs.QuotedStrings.{takes_the_path}
 use Rattle.nj_text.proofs.quote_laws.shells_take_the_path.Goals as goal
 
 pub returns : goal.returns

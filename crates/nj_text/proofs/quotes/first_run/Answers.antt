@@ -2,7 +2,7 @@ use Rattle.std.proofs.Common.{◌∙◌, ap, sym, ◌∷◌, ◌+◌, ◌++◌, 
 use Rattle.std.specs.List.{flat_map}
 use Rattle.std.proofs.lemmas.List.{take_rest}
 use Rattle.nj_text.specs.Quotes.{within_quotes}
-use Rattle.nj_text.proofs.QuotedTexts.{run-quote}
+use Rattle.nj_text.proofs.QuotedStrings.{run-quote}
 use Rattle.nj_text.proofs.quotes.first_run.Goals as goal
 
 pub returns-then-byte-eq39-clause-run : goal.returns-then-byte-eq39-clause-run

@@ -1,4 +1,4 @@
-use Rattle.nj_text.proofs.QuotedTexts.{quoting-none}
+use Rattle.nj_text.proofs.QuotedStrings.{quoting-none}
 use Rattle.nj_text.proofs.quotes.push_quoted.Goals as goal
 
 pub runs-init : goal.runs-init

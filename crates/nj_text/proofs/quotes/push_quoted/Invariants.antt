@@ -1,5 +1,5 @@
 use Rattle.std.specs.Option.{option_copied}
-use Rattle.nj_text.proofs.QuotedTexts.{IsQuoting, bytes_left}
+use Rattle.nj_text.proofs.QuotedStrings.{IsQuoting, bytes_left}
 use Rattle.nj_text.proofs.quotes.push_quoted.Given as goal
 
 abbrev pub invariant-runs : goal.invariant-runs

@@ -3,7 +3,7 @@ use Rattle.std.specs.List.{list_all, prefix_len}
 use Rattle.std.proofs.lemmas.List.Sums.{prefix_len-le-length}
 use Rattle.nj_text.specs.Quotes.{in_quotes, is_plain_byte}
 use Rattle.nj_text.proofs.PlainFronts.{front_passes, some_fails}
-use Rattle.nj_text.proofs.QuotedTexts.{quoted-plain, quoted-in_quotes}
+use Rattle.nj_text.proofs.QuotedStrings.{quoted-plain, quoted-in_quotes}
 use Rattle.nj_text.proofs.quotes.quote_into.Goals as goal
 
 pub returns-then-plain-path-clause-ok : goal.returns-then-plain-path-clause-ok

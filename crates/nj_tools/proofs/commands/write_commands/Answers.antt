@@ -1,8 +1,8 @@
 use Rattle.std.proofs.Common.{◌≡◌, ◌≢◌, Some, [], ◌∷◌, ◌++◌, ap, subst, ◌∙◌, rules}
 use Rattle.nj_scope.specs.Readings.{IsPrefix}
 use Rattle.nj_tools.specs.declared.fault.ToolFault.TheVariants.{Write, OutOfMemory}
-use Rattle.nj_tools.specs.CommandTexts.{command_line, command_lines, written, left_after}
-use Rattle.nj_tools.proofs.BlockLemmas.{IsUnderway-more, FailsWithin-waiting, FailsWithin-whole, Takes-waiting, stops-at_line, stops-with}
+use Rattle.nj_tools.specs.CommandStrings.{command_line, command_lines, written, left_after}
+use Rattle.nj_tools.proofs.BlockLemmas.{IsUnderway-more, FailsWithin-unjoined, FailsWithin-whole, Takes-unjoined, stops-at_line, stops-with}
 use Rattle.nj_tools.proofs.CommandLemmas.{fewer, written-nil, left-next, so_far-next, so_far-all, lines-last, lines-front, IsMarkAfter-next}
 use Rattle.nj_tools.proofs.commands.write_commands.Goals as goal
 
@@ -11,14 +11,14 @@ returns-in_err-write_whole-clause-writes g c entries graph =
     let i = c.commands.invariant in
     stops-with _ _ _ Write c.from_residual.result c.from_residual.ensures.1
     (FailsWithin-whole _ _ _ _ (lines-front entries i.edges _ _ i.written)
-    (FailsWithin-waiting _ _ _ _ _ _ (i.underway entries graph) (c.in_err-write_whole.ensures) c.deref.ensures.value))
+    (FailsWithin-unjoined _ _ _ _ _ _ (i.underway entries graph) (c.in_err-write_whole.ensures) c.deref.ensures.value))
 
 pub returns-in_default-clause-writes : goal.returns-in_default-clause-writes
 returns-in_default-clause-writes g c entries graph =
     let i = c.commands.invariant in
     let none = ap (written c.commands.remaining) c.in_default.ensures.next.none ∙ written-nil c.commands.remaining in
     let all = so_far-all c.args.take c.args.needs.now.left i.edges c.commands.remaining c.commands.needs.left none i.written in
-    rw all (Takes-waiting _ _ _ _ _ _ (i.underway entries graph) (c.in_ok-write_whole.ensures) c.deref.ensures.value)
+    rw all (Takes-unjoined _ _ _ _ _ _ (i.underway entries graph) (c.in_ok-write_whole.ensures) c.deref.ensures.value)
 
 pub returns-in_err-write_command-clause-writes : goal.returns-in_err-write_command-clause-writes
 returns-in_err-write_command-clause-writes g c entries graph =
@@ -53,13 +53,13 @@ returns-in_err-write_whole-2-clause-writes g c entries graph =
     let i = c.commands.invariant in
     stops-with _ _ _ Write c.from_residual-in_err-write_whole-2.result c.from_residual-in_err-write_whole-2.ensures.1
     (FailsWithin-whole _ _ _ _ (lines-front entries i.edges _ _ i.written)
-    (FailsWithin-waiting _ _ _ _ _ _ (i.underway entries graph) (c.in_err-write_whole-2.ensures) c.deref-2.ensures.value))
+    (FailsWithin-unjoined _ _ _ _ _ _ (i.underway entries graph) (c.in_err-write_whole-2.ensures) c.deref-2.ensures.value))
 
 pub returns-in_err-mark-clause-writes : goal.returns-in_err-mark-clause-writes
 returns-in_err-mark-clause-writes g c entries graph =
     let i = c.commands.invariant in
     stops-with _ _ _ OutOfMemory c.from_residual-in_err-mark.result c.from_residual-in_err-mark.ensures.1
-    (command_lines entries i.edges, lines-front entries i.edges _ _ i.written, Takes-waiting _ _ _ _ _ _ (i.underway entries graph) (c.in_ok-write_whole-2.ensures) c.deref-2.ensures.value)
+    (command_lines entries i.edges, lines-front entries i.edges _ _ i.written, Takes-unjoined _ _ _ _ _ _ (i.underway entries graph) (c.in_ok-write_whole-2.ensures) c.deref-2.ensures.value)
 
 pub returns-clause-writes : goal.returns-clause-writes
 returns-clause-writes g c entries graph =
@@ -67,4 +67,4 @@ returns-clause-writes g c entries graph =
     let end : c.commands.remaining ≡ Some 0 = search rules in
     let none = ap (λ limit. written limit c.commands.needs.left) end in
     let all = so_far-all c.args.take c.args.needs.now.left i.edges c.commands.remaining c.commands.needs.left none i.written in
-    rw all (Takes-waiting _ _ _ _ _ _ (i.underway entries graph) (c.in_ok-write_whole-2.ensures) c.deref-2.ensures.value)
+    rw all (Takes-unjoined _ _ _ _ _ _ (i.underway entries graph) (c.in_ok-write_whole-2.ensures) c.deref-2.ensures.value)

@@ -4,7 +4,7 @@ use Rattle.nj_graph.specs.Graph.{IsGraphOf}
 use Rattle.nj_needs.specs.Graphs.{row_of, makers_of, count_of}
 use Rattle.nj_needs.specs.Pages.{IsMarkAfter}
 use Rattle.nj_tools.specs.Inside.Blocks.{IsUnderway}
-use Rattle.nj_tools.specs.CommandTexts.{command_lines, written, left_after}
+use Rattle.nj_tools.specs.CommandStrings.{command_lines, written, left_after}
 use Rattle.nj_tools.proofs.commands.write_commands.Given as goal
 
 abbrev pub invariant-commands : goal.invariant-commands

@@ -2,11 +2,11 @@ use Rattle.std.proofs.Common.{◌+◌, [], ◌∷◌, length, take, drop, ap, su
 use Rattle.nj_scope.specs.Readings.{IsPrefix}
 use Rattle.nj_tools.specs.declared.fault.ToolFault.TheVariants.{Write}
 use Rattle.std.proofs.lemmas.List.{take_all, take_at, append-nil}
-use Rattle.nj_tools.specs.CommandTexts.{command_line, command_lines, own_commands}
+use Rattle.nj_tools.specs.CommandStrings.{command_line, command_lines, own_commands}
 use Rattle.nj_tools.specs.Inside.Collections.{own_makers}
 use Rattle.nj_tools.specs.Inside.Seen.{AreSeen}
 use Rattle.nj_tools.specs.Sinks.{Takes}
-use Rattle.nj_tools.proofs.BlockLemmas.{IsUnderway-more, FailsWithin-waiting, FailsWithin-whole, Takes-waiting, stops-at_line, stops-with}
+use Rattle.nj_tools.proofs.BlockLemmas.{IsUnderway-more, FailsWithin-unjoined, FailsWithin-whole, Takes-unjoined, stops-at_line, stops-with}
 use Rattle.nj_tools.proofs.CommandLemmas.{lines-last}
 use Rattle.nj_tools.proofs.OwnLemmas.{own-more, own-front, AreSeen-more}
 use Rattle.nj_tools.proofs.commands.write_single_commands.Goals as goal
@@ -54,10 +54,10 @@ returns-in_err-write_whole g c entries graph =
     let all = take_all c.targets.target-index c.args.targets.now (omega arith) in
     stops-with _ _ _ Write c.from_residual-in_err-write_whole.result c.from_residual-in_err-write_whole.ensures.1
     (FailsWithin-whole _ _ _ _ (own-front entries c.args.graph.now.built.graph c.args.targets.now c.targets.target-index)
-    (FailsWithin-waiting _ _ _ _ _ _ (c.targets.invariant.underway entries graph) c.in_err-write_whole.ensures c.deref-2.ensures.value))
+    (FailsWithin-unjoined _ _ _ _ _ _ (c.targets.invariant.underway entries graph) c.in_err-write_whole.ensures c.deref-2.ensures.value))
 
 pub returns : goal.returns
 returns g c entries graph =
     let all = take_all c.targets.target-index c.args.targets.now (omega arith) in
     let lines = ap (λ files. command_lines entries (own_commands c.args.graph.now.built.graph files)) all in
-    subst (Takes _ _) lines (Takes-waiting _ _ _ _ _ _ (c.targets.invariant.underway entries graph) c.in_ok-write_whole.ensures c.deref-2.ensures.value)
+    subst (Takes _ _) lines (Takes-unjoined _ _ _ _ _ _ (c.targets.invariant.underway entries graph) c.in_ok-write_whole.ensures c.deref-2.ensures.value)

@@ -2,7 +2,7 @@ use Rattle.std.proofs.Common.{List, take}
 use Rattle.nj_scope.specs.ReadingList.{ReadStatement}
 use Rattle.nj_graph.specs.Graph.{IsGraphOf}
 use Rattle.nj_tools.specs.Inside.Blocks.{IsUnderway}
-use Rattle.nj_tools.specs.CommandTexts.{command_lines, own_commands}
+use Rattle.nj_tools.specs.CommandStrings.{command_lines, own_commands}
 use Rattle.nj_tools.specs.Inside.Collections.{own_makers}
 use Rattle.nj_tools.specs.Inside.Seen.{AreSeen}
 use Rattle.nj_tools.proofs.commands.write_single_commands.Given as goal

@@ -2,8 +2,8 @@ use Rattle.std.proofs.Common.{length, map, string_bytes, option_map, ap, sym, �
 use Rattle.nj_edges.specs.declared.edges.EdgeNo.{EdgeNo}
 use Rattle.nj_graph.specs.Graph.{edges_of}
 use Rattle.nj_tools.specs.declared.fault.ToolFault.TheVariants.{Write}
-use Rattle.nj_tools.proofs.BlockLemmas.{FailsWithin-waiting}
-use Rattle.nj_tools.proofs.CompdbLemmas.{compdb-no_memory, compdb-stops, compdb-no_room, compdb-unheld, compdb-fails, compdb-done, names-with}
+use Rattle.nj_tools.proofs.BlockLemmas.{FailsWithin-unjoined}
+use Rattle.nj_tools.proofs.CompdbLemmas.{compdb-no_memory, compdb-stops, compdb-no_capacity, compdb-unheld, compdb-fails, compdb-done, names-with}
 use Rattle.nj_tools.proofs.compdb.write_compdb.Goals as goal
 
 pub returns-in_err-chosen-clause-writes : goal.returns-in_err-chosen-clause-writes
@@ -24,7 +24,7 @@ returns-in_err-write_whole-in-Some-clause-writes g c entries graph =
     compdb-stops entries c.args.directory.now c.in_ok-chosen.chosen (map string_bytes c.args.rules.now) c.args.expand c.in_ok-chosen.ensures
     c.in_ok-text.text.items c.deref.result.now c.in_ok-text.ensures.items (c.deref.ensures.value ∙ c.in_ok-directory.ensures)
     _ _ Write c.from_residual-in_err-write_whole-in-Some.result c.from_residual-in_err-write_whole-in-Some.ensures.1
-    (FailsWithin-waiting _ _ _ _ _ _ (c.in_ok-edge.ensures.text entries graph) c.in_err-write_whole-in-Some.ensures c.deref-in-Some.ensures.value)
+    (FailsWithin-unjoined _ _ _ _ _ _ (c.in_ok-edge.ensures.text entries graph) c.in_err-write_whole-in-Some.ensures c.deref-in-Some.ensures.value)
 
 pub returns-in-Some-clause-writes : goal.returns-in-Some-clause-writes
 returns-in-Some-clause-writes g c entries graph =
@@ -35,7 +35,7 @@ returns-in-Some-clause-writes g c entries graph =
 
 pub returns-in_err-extend_from_slice-in-None-clause-writes : goal.returns-in_err-extend_from_slice-in-None-clause-writes
 returns-in_err-extend_from_slice-in-None-clause-writes g c entries graph =
-    compdb-no_room entries c.args.directory.now c.in_ok-chosen.chosen (map string_bytes c.args.rules.now) c.args.expand c.in_ok-chosen.ensures
+    compdb-no_capacity entries c.args.directory.now c.in_ok-chosen.chosen (map string_bytes c.args.rules.now) c.args.expand c.in_ok-chosen.ensures
     c.in_ok-text.text.items c.deref.result.now c.in_ok-text.ensures.items (c.deref.ensures.value ∙ c.in_ok-directory.ensures)
     _ _ _ c.from_residual-in_err-extend_from_slice-in-None.result c.from_residual-in_err-extend_from_slice-in-None.ensures.1
     (c.in_ok-edge.ensures.text entries graph)

@@ -5,4 +5,4 @@ use Rattle.nj_graph.specs.Graph.{files_of}
 use Rattle.nj_tools.proofs.inputs.quoted_paths.Given as goal
 
 abbrev pub invariant-files : goal.invariant-files
-invariant-files l = map (λ text. text.items) l.texts.items ≡ map quoted (map (path_at (files_of l.graph)) (take l.file-index l.files))
+invariant-files l = map (λ text. text.items) l.strings.items ≡ map quoted (map (path_at (files_of l.graph)) (take l.file-index l.files))

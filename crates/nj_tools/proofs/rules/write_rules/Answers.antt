@@ -6,7 +6,7 @@ use Rattle.nj_graph.specs.Graph.{GraphText, IsGraphOf, main_rules, main_rules_of
 use Rattle.nj_graph.proofs.Stated.{graph-rules}
 use Rattle.nj_tools.specs.RuleLists.{rule_line, rules_text}
 use Rattle.nj_tools.specs.declared.fault.ToolFault.TheVariants.{Write}
-use Rattle.nj_tools.proofs.BlockLemmas.{stops-with, FailsWithin-waiting, Takes-waiting}
+use Rattle.nj_tools.proofs.BlockLemmas.{stops-with, FailsWithin-unjoined, Takes-unjoined}
 use Rattle.nj_tools.proofs.SequenceLemmas.{puts-item, stops-item, puts-items}
 use Rattle.nj_tools.proofs.rules.write_rules.Goals as goal
 
@@ -30,10 +30,10 @@ returns-in_err-write_whole g c entries graph =
     let all = puts-items (rule_line c.args.descriptions) (main_rules c.args.graph.now) c.rules.index _ _ [] c.rules.text.items _ (omega arith)
     (rule_lines-are entries c.args.graph.now c.args.descriptions graph) c.rules.invariant in
     stops-with _ _ _ Write c.from_residual-in_err-write_whole.result c.from_residual-in_err-write_whole.ensures.1
-    (FailsWithin-waiting _ _ _ _ _ _ all c.in_err-write_whole.ensures c.deref.ensures.value)
+    (FailsWithin-unjoined _ _ _ _ _ _ all c.in_err-write_whole.ensures c.deref.ensures.value)
 
 pub returns : goal.returns
 returns g c entries graph =
     let all = puts-items (rule_line c.args.descriptions) (main_rules c.args.graph.now) c.rules.index _ _ [] c.rules.text.items _ (omega arith)
     (rule_lines-are entries c.args.graph.now c.args.descriptions graph) c.rules.invariant in
-    Takes-waiting _ _ _ _ _ _ all c.in_ok-write_whole.ensures c.deref.ensures.value
+    Takes-unjoined _ _ _ _ _ _ all c.in_ok-write_whole.ensures c.deref.ensures.value

@@ -3,7 +3,7 @@ use Rattle.std.specs.Prelude.{Contains, slice_index_or}
 use Rattle.std.proofs.lemmas.List.Elements.{Contains-append_left, Contains-get_or, Contains-push, Contains-push_cases}
 use Rattle.nj_cycles.specs.declared.marks.Marks.{Marks}
 use Rattle.nj_cycles.specs.Cycles.{Needs}
-use Rattle.nj_cycles.proofs.Marking.{Marking, more_none, more_then, marking_begins, marking_goes_on, marking_ends, no_member}
+use Rattle.nj_cycles.proofs.Marking.{Marking, more_none, more_then, marking_begins, marking_continues, marking_ends, no_member}
 use Rattle.nj_cycles.proofs.marks.Marks.mark_needing.Goals as goal
 
 pub pending-init : goal.pending-init
@@ -42,7 +42,7 @@ pending-preserved c =
       marking = λ makers edges held h.
           let old : Marks = record { flags = c.pending.self.flags; pending = c.pop.new.self } in
           let w_in = c.pending.invariant.inside w (subst (λ xs. Contains xs w) (sym popped) (Contains-push c.pop.new.self.items w)) in
-          marking_goes_on makers (c.args.edge ∷ edges) old c.mark_all.new.self c.pending.self.pending.items w popped (c.pending.invariant.marking makers edges held h)
+          marking_continues makers (c.args.edge ∷ edges) old c.mark_all.new.self c.pending.self.pending.items w popped (c.pending.invariant.marking makers edges held h)
           (more_then (λ e. Needs makers e w) (Contains c.users_of.result.now) old old c.mark_all.new.self (λ e user. held.sound w e w_in (subst (λ us. Contains us e) users user)) (more_none (λ e. Needs makers e w) old) more)
           (λ e needs. c.in_ok-mark_all.ensures.marked e (subst (λ us. Contains us e) (sym users) (held.all w e w_in needs)));
     }

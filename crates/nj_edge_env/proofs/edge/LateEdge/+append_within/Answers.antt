@@ -1,6 +1,6 @@
 use Rattle.std.proofs.Common.{◌+◌, ◌-◌, ◌∙◌, take, sym, ap, subst, arith}
 use Rattle.nj_text.specs.Words.{part_text}
-use Rattle.nj_edge_env.specs.Inside.TextsHeld.{AppendsPlain, AppendsLate}
+use Rattle.nj_edge_env.specs.Inside.StringsHeld.{AppendsPlain, AppendsLate}
 use Rattle.nj_edge_env.proofs.MemoLemmas.{PartsSoFar, plain_appended, known_appended, parts_bytes, parts_name, parts_cut, line_appended, grows_on}
 use Rattle.nj_edge_env.proofs.PathLemmas.{on-err}
 use Rattle.nj_edge_env.proofs.edge.LateEdge.+append_within.Goals as goal

@@ -1,6 +1,6 @@
 use Rattle.std.proofs.Common.{◌∷◌, ◌++◌, ◌∙◌, suc, length, ap}
 use Rattle.nj_scope.specs.ReadingList.{value_after}
-use Rattle.nj_edge_env.specs.LateTexts.{late_in}
+use Rattle.nj_edge_env.specs.LateStrings.{late_in}
 use Rattle.nj_edge_env.specs.LateEdges.{late_names}
 use Rattle.nj_edge_env.proofs.edge.LateEdge.append_late_text.Goals as goal
 

@@ -4,7 +4,7 @@ use Rattle.std.proofs.lemmas.List.{get_or_read}
 use Rattle.nj_edges.specs.Edges.{edge_at, outputs_of}
 use Rattle.nj_edges.specs.Files.{path_at}
 use Rattle.nj_edges.specs.Inside.ChangesHeld.{FindsMore, HasInputOf}
-use Rattle.nj_edges.proofs.ChangeLemmas.{files-paths, finding-begins, finding-ends, finding-goes-on, place-below}
+use Rattle.nj_edges.proofs.ChangeLemmas.{files-paths, finding-begins, finding-ends, finding-continues, place-below}
 use Rattle.nj_edges.proofs.graph.EdgeGraph.affected_flags.Goals as goal
 
 pub edges-init : goal.edges-init
@@ -27,7 +27,7 @@ edges-preserved c =
     let edge : c.index.result.now ≡ slice_index numbers c.edges.place = get_or_read numbers c.edges.place c.index.result.now below c.index.ensures 0 in
     let edges = c.args.self.now.edges in
     let outputs = files-paths c.args.self.now.files c.outputs.result.now (outputs_of (edge_at edges c.index.result.now)) c.outputs.ensures.files in
-    finding-goes-on edges (map (path_at c.args.self.now.files) c.args.files.now) c.edges.found c.add_users-in-edges.new.self c.edges.place below c.edges.invariant
+    finding-continues edges (map (path_at c.args.self.now.files) c.args.files.now) c.edges.found c.add_users-in-edges.new.self c.edges.place below c.edges.invariant
     (subst (λ paths. FindsMore (HasInputOf edges paths) c.edges.found c.add_users-in-edges.new.self) (outputs ∙ ap (λ n. outputs_of (edge_at edges n)) edge) c.in_ok-add_users-2.ensures)
 
 pub returns-clause-flags : goal.returns-clause-flags

@@ -8,7 +8,7 @@ use Rattle.nj_edges.specs.Files.{AreFiles}
 use Rattle.nj_scope.specs.Declarations.{DeclarationsText, DeclaredBy}
 use Rattle.nj_statements.specs.Built.{BuiltText, detail_at}
 use Rattle.nj_graph.specs.Graph.{GraphText}
-use Rattle.nj_graph.proofs.EdgeTexts.{edge, edge-open, detail-is, names-same, text-same}
+use Rattle.nj_graph.proofs.EdgeStrings.{edge, edge-open, detail-is, names-same, text-same}
 use Rattle.nj_graph.proofs.graph.Graph.append_variable.Goals as goal
 
 pub returns-clause-appended : goal.returns-clause-appended

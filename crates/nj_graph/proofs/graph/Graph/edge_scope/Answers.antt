@@ -2,7 +2,7 @@ use Rattle.std.proofs.Common.{◌<◌, length, ap, sym, subst, ◌∙◌}
 use Rattle.nj_statements.specs.Built.{detail_at}
 use Rattle.nj_graph.specs.Graph.{GraphText, edges_of}
 use Rattle.nj_graph.specs.Inside.GraphHeld.{IsKnown}
-use Rattle.nj_graph.proofs.EdgeTexts.{known-at}
+use Rattle.nj_graph.proofs.EdgeStrings.{known-at}
 use Rattle.nj_graph.proofs.graph.Graph.edge_scope.Goals as goal
 
 pub returns-clause-there : goal.returns-clause-there

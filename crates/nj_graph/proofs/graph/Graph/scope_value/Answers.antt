@@ -4,7 +4,7 @@ use Rattle.nj_scope.specs.ReadingList.{value_if_bound}
 use Rattle.nj_scope.specs.Scopes.{IsScope, outermost, parent_at}
 use Rattle.nj_scope.specs.Declarations.{DeclarationsText, DeclaredBy}
 use Rattle.nj_graph.specs.Graph.{GraphText, IsOpenScope}
-use Rattle.nj_graph.proofs.EdgeTexts.{known-at}
+use Rattle.nj_graph.proofs.EdgeStrings.{known-at}
 use Rattle.nj_graph.proofs.graph.Graph.scope_value.Goals as goal
 
 pub returns-clause-main : goal.returns-clause-main

@@ -2,7 +2,7 @@ use Rattle.std.proofs.Common.{◌≡◌, ℕ, ◌+◌, ◌*◌, List}
 use Rattle.nj_text.specs.Lines.{Line}
 use Rattle.nj_manifest.specs.Statements.{Lines}
 use Rattle.nj_scope.specs.ReadingList.{ReadStatement}
-use Rattle.nj_graph.specs.Inside.ReaderContracts.{Holds, Grows, IsOpenIn, site_of}
+use Rattle.nj_graph.specs.Inside.ReaderContracts.{Has, Grows, IsOpenIn, site_of}
 use Rattle.nj_graph.proofs.Turns.{Underway, lines_left}
 use Rattle.nj_graph.proofs.reader.Reader.+reading.Given as goal
 
@@ -16,7 +16,7 @@ abbrev pub invariant-read_text-statements : goal.invariant-read_text-statements
 invariant-read_text-statements g l =
     Grows l.initial.self.declarations.scopes l.self.declarations.scopes
     × (lines : List Line) × (l.parser ≡ Lines lines)
-    × ((main : List ℕ) (entries : List ReadStatement) (around : List ℕ) (depth : ℕ) → Holds main l.initial.self entries → IsOpenIn l.initial.self l.file around
+    × ((main : List ℕ) (entries : List ReadStatement) (around : List ℕ) (depth : ℕ) → Has main l.initial.self entries → IsOpenIn l.initial.self l.file around
     → Underway main (g.S.FileSource.state l.initial.source) (g.S.FileSource.state l.source)
     l.initial.self l.self l.file.left (site_of l.file around depth) l.text entries lines)
 

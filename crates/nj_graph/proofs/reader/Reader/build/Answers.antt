@@ -12,12 +12,12 @@ use Rattle.nj_graph.proofs.Holding.{built-declares, placed-entry}
 use Rattle.nj_graph.proofs.reader.Reader.build.Goals as goal
 
 pub returns-clause-declares : goal.returns-clause-declares
-returns-clause-declares c = λ main entries around depth holds inside.
+returns-clause-declares c = λ main entries around depth has inside.
     let b = c.args.build.now in
     let e : ReadStatement = entry_at (site_of c.args.file around depth) (record { spot = c.args.spot; item = build_text b }) in
     let held : Reader = record { declarations = c.args.self.now.declarations; building = c.read_build.new.self; files = c.args.self.now.files; origins = c.args.self.now.origins } in
-    let takes = takes-build c.args.self.now.declarations c.args.file.scope around (outputs_text b) (used_rule b) (inputs_text b) (lines_text b.lines.items) entries c.args.file.name.now c.args.spot depth holds.declares in
-    built-declares main c.args.self.now held entries e c.read_build.result holds takes refl refl refl (grows-self c.args.self.now.declarations.scopes) inside
+    let takes = takes-build c.args.self.now.declarations c.args.file.scope around (outputs_text b) (used_rule b) (inputs_text b) (lines_text b.lines.items) entries c.args.file.name.now c.args.spot depth has.declares in
+    built-declares main c.args.self.now held entries e c.read_build.result has takes refl refl refl (grows-self c.args.self.now.declarations.scopes) inside
     (subst (λ x. ReadsStatement c.read_build.new.self (build_fault x entries (outputs_text b) (used_rule b) (inputs_text b) (lines_text b.lines.items)) x entries c.read_build.result)
     (placed-entry c.args.file c.place-place.result c.args.spot around depth (build_text b) c.place-place.ensures.file c.place-place.ensures.spot)
-    (c.read_build.ensures.reads entries around depth holds.declares inside.within holds.edges))
+    (c.read_build.ensures.reads entries around depth has.declares inside.within has.edges))

@@ -19,6 +19,6 @@ short l numbers acyclic inside valid =
 
 pub new-requires-2 : goal.new-requires-2
 new-requires-2 c =
-    let e = c.edge_count-room.ensures in
+    let e = c.edge_count-capacity.ensures in
     let len = short c.new-turns.result c.numbers-numbers.result.now e.acyclic e.within (sym c.leads.ensures.valid ∙ c.if-not-leads.false) in
     omega (arith, len, e.count)

@@ -4,5 +4,5 @@ use Rattle.nj_needs.proofs.saved.Saved.new.Given as goal
 abbrev pub invariant-copied : goal.invariant-copied
 invariant-copied l = record {
   so_far : l.held.items ≡ take l.number-index l.numbers;
-  room : l.fn.room ≤ vec_capacity l.held;
+  capacity : l.fn.capacity ≤ vec_capacity l.held;
 }

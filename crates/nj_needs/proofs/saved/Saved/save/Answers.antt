@@ -28,5 +28,5 @@ changed-preserved c =
           ∙ ap (λ (k : ℕ). take (k + (i + 1)) (places path)) (sym same);
       rest = items ∙ ap (λ (k : ℕ). drop k path) (sym same);
       kept = same;
-      room = omega (arith, c.push_within.ensures.room, c.changed.invariant.room);
+      capacity = omega (arith, c.push_within.ensures.capacity, c.changed.invariant.capacity);
     }

@@ -7,5 +7,5 @@ invariant-changed l = record {
   so_far : l.self.numbers.items ≡ take (l.self.kept + l.frame-index) (places l.path);
   rest : l.frame-items ≡ drop l.self.kept l.path;
   kept : l.self.kept ≡ l.fn.self.kept;
-  room : vec_capacity l.fn.self.numbers ≤ vec_capacity l.self.numbers;
+  capacity : vec_capacity l.fn.self.numbers ≤ vec_capacity l.self.numbers;
 }

@@ -9,13 +9,13 @@ use Rattle.nj_needs.specs.Inside.Tops.{IsTop}
 use Rattle.nj_needs.specs.declared.frame.Frame.{Frame}
 use Rattle.nj_needs.specs.declared.walk.Walk.{Walk}
 use Rattle.nj_needs.proofs.Members.{In}
-use Rattle.nj_needs.proofs.TurnLemmas.{walk-pass, turn-pass, walk-open, turn-open, room-open, row-top, top-is_edge, top-edge_within}
+use Rattle.nj_needs.proofs.TurnLemmas.{walk-pass, turn-pass, walk-open, turn-open, capacity-open, row-top, top-is_edge, top-edge_within}
 use Rattle.nj_needs.proofs.walk.Walk.take_turn.Goals as goal
 
 -- what was found stands in the row on top
-stands : (w : Walk) (path : List Frame) (edge : Option ℕ) (found : Option (Option ℕ)) → path ≡ w.path.items → IsTop path edge
+comes : (w : Walk) (path : List Frame) (edge : Option ℕ) (found : Option (Option ℕ)) → path ≡ w.path.items → IsTop path edge
     → found ≡ slice_get (row_in w.turns.graph.now w.turns.targets.now edge) w.place → slice_get (top_of w.turns.graph.now w.turns.targets.now w.path.items) w.place ≡ found
-stands w path edge found same top is =
+comes w path edge found same top is =
     ap (λ (r : List (Option ℕ)). slice_get r w.place) (sym (row-top w.turns.graph.now w.turns.targets.now w.path.items edge (subst (λ p. IsTop p edge) same top))) ∙ sym is
 
 pub look-requires : goal.look-requires
@@ -27,13 +27,13 @@ look-requires c =
 pub close-requires-clause-past : goal.close-requires-clause-past
 close-requires-clause-past c =
     let w = c.args.self.now in
-    rw (c.look.ensures.graph, c.look.ensures.targets) (stands w c.deref.result.now c.top_edge-edge.result None c.deref.ensures.value c.top_edge-edge.ensures c.in_default.ensures.found)
+    rw (c.look.ensures.graph, c.look.ensures.targets) (comes w c.deref.result.now c.top_edge-edge.result None c.deref.ensures.value c.top_edge-edge.ensures c.in_default.ensures.found)
 
 -- a source
 pub returns-in_default-found-clause-walk : goal.returns-in_default-found-clause-walk
 returns-in_default-found-clause-walk c =
     let w = c.args.self.now in
-    let at = stands w c.deref.result.now c.top_edge-edge.result (Some c.in-Some.found) c.deref.ensures.value c.top_edge-edge.ensures c.in-Some.ensures.found in
+    let at = comes w c.deref.result.now c.top_edge-edge.result (Some c.in-Some.found) c.deref.ensures.value c.top_edge-edge.ensures c.in-Some.ensures.found in
     let base : IsWalkAt w.turns.graph.now w.turns.targets.now (counted w.turns.taken) w.path (w.place + 1) w.flags.items w.begun =
     walk-pass w.turns.graph.now w.turns.targets.now w.turns.taken w.path w.place w.flags.items w.begun c.requires c.in-Some.found at
     (λ m is. absurd (c.in_default-found.not-Some m is)) in
@@ -42,7 +42,7 @@ returns-in_default-found-clause-walk c =
 pub returns-in_default-found-clause-turn : goal.returns-in_default-found-clause-turn
 returns-in_default-found-clause-turn c =
     let w = c.args.self.now in
-    let at = stands w c.deref.result.now c.top_edge-edge.result (Some c.in-Some.found) c.deref.ensures.value c.top_edge-edge.ensures c.in-Some.ensures.found in
+    let at = comes w c.deref.result.now c.top_edge-edge.result (Some c.in-Some.found) c.deref.ensures.value c.top_edge-edge.ensures c.in-Some.ensures.found in
     turn-pass w.turns.graph.now w.turns.targets.now w.turns.taken w.path w.place w.flags.items w.begun c.requires c.in-Some.found at
     (λ m is. absurd (c.in_default-found.not-Some m is))
 
@@ -50,7 +50,7 @@ returns-in_default-found-clause-turn c =
 maker_at : (w : Walk) (path : List Frame) (edge : Option ℕ) (found : Option ℕ) (maker : ℕ) → path ≡ w.path.items → IsTop path edge
     → Some found ≡ slice_get (row_in w.turns.graph.now w.turns.targets.now edge) w.place → found ≡ Some maker
     → slice_get (top_of w.turns.graph.now w.turns.targets.now w.path.items) w.place ≡ Some (Some maker)
-maker_at w path edge found maker same top is made = stands w path edge (Some found) same top is ∙ ap Some made
+maker_at w path edge found maker same top is made = comes w path edge (Some found) same top is ∙ ap Some made
 
 maker_in : (w : Walk) → IsWalkAt w.turns.graph.now w.turns.targets.now w.turns.taken w.path w.place w.flags.items w.begun → (maker : ℕ)
     → slice_get (top_of w.turns.graph.now w.turns.targets.now w.path.items) w.place ≡ Some (Some maker) → maker < length w.flags.items
@@ -104,8 +104,8 @@ push_within-requires c =
     let w = c.args.self.now in
     let m = c.in-Some-found.maker in
     let at = maker_at w c.deref.result.now c.top_edge-edge.result c.in-Some.found m c.deref.ensures.value c.top_edge-edge.ensures c.in-Some.ensures.found c.in-Some-found.is in
-    let room = room-open w.turns.graph.now w.turns.targets.now w.turns.taken w.path w.place w.flags.items w.begun c.requires w.place m at in
-    omega (arith, room)
+    let capacity = capacity-open w.turns.graph.now w.turns.targets.now w.turns.taken w.path w.place w.flags.items w.begun c.requires w.place m at in
+    omega (arith, capacity)
 
 pub returns-clause-walk : goal.returns-clause-walk
 returns-clause-walk c =
@@ -115,7 +115,7 @@ returns-clause-walk c =
     let fresh : get_or w.flags.items m false ≡ false = is_done w c.requires m c.index.result.now at c.index.ensures ∙ c.if-index.false in
     let base : IsWalkAt w.turns.graph.now w.turns.targets.now (counted w.turns.taken) c.push_within.new.path 0 w.flags.items w.begun =
     walk-open w.turns.graph.now w.turns.targets.now w.turns.taken w.path w.place w.flags.items w.begun c.requires _ c.push_within.new.path
-    c.push_within.ensures.items c.push_within.ensures.room refl at fresh in
+    c.push_within.ensures.items c.push_within.ensures.capacity refl at fresh in
     rw (c.look.ensures.graph, c.look.ensures.targets, c.in-Some.ensures.turn) base
 
 pub returns-clause-turn : goal.returns-clause-turn
@@ -125,4 +125,4 @@ returns-clause-turn c =
     let at = maker_at w c.deref.result.now c.top_edge-edge.result c.in-Some.found m c.deref.ensures.value c.top_edge-edge.ensures c.in-Some.ensures.found c.in-Some-found.is in
     let fresh : get_or w.flags.items m false ≡ false = is_done w c.requires m c.index.result.now at c.index.ensures ∙ c.if-index.false in
     turn-open w.turns.graph.now w.turns.targets.now w.turns.taken w.path w.place w.flags.items w.begun c.requires _ c.push_within.new.path
-    c.push_within.ensures.items c.push_within.ensures.room refl at fresh
+    c.push_within.ensures.items c.push_within.ensures.capacity refl at fresh

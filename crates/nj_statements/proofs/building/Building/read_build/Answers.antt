@@ -11,7 +11,7 @@ use Rattle.nj_statements.specs.Answers.{ReadsStatement, entry_at_place}
 use Rattle.nj_statements.proofs.building.Building.read_build.Goals as goal
 
 pub returns-clause-reads : goal.returns-clause-reads
-returns-clause-reads c = λ entries around depth by within holds.
+returns-clause-reads c = λ entries around depth by within has.
     let lines = lines_text c.args.build.now.lines.items in
     let outputs = outputs_text c.args.build.now in
     let inputs = inputs_text c.args.build.now in
@@ -21,4 +21,4 @@ returns-clause-reads c = λ entries around depth by within holds.
     (late_fault entries (edge_of_build e entries outputs (used_rule c.args.build.now) inputs lines)) in
     subst (λ o. ReadsStatement c.read_edge.new.self (option_or o other) e entries c.read_edge.result)
     (sym (ap (λ (o : Option ℕ). fault_if (not (is_some o)) (fault_at c.args.place.file.now c.args.build.now.rule_spot (UnknownRule c.args.build.now.rule.now))) rule_is))
-    (c.read_edge.ensures.reads entries around depth by within rule_is (c.in-Some.ensures.rule entries by) holds)
+    (c.read_edge.ensures.reads entries around depth by within rule_is (c.in-Some.ensures.rule entries by) has)

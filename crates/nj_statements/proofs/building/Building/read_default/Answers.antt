@@ -7,33 +7,33 @@ use Rattle.nj_scope.specs.ReadingList.{value_after}
 use Rattle.nj_faults.specs.Faults.{IsFault}
 use Rattle.nj_statements.specs.EdgeList.{Values}
 use Rattle.nj_statements.specs.BuildFaults.{first_fault, target_fault}
-use Rattle.nj_statements.specs.Answers.{BuildingText, HoldsEdges, entry_at_place}
+use Rattle.nj_statements.specs.Answers.{BuildingText, HasEdges, entry_at_place}
 use Rattle.nj_statements.specs.Inside.EdgeSteps.{Sees, detail_text}
-use Rattle.nj_statements.proofs.Holding.{no-block, holds-default}
+use Rattle.nj_statements.proofs.Holding.{no-block, has-default}
 use Rattle.nj_statements.proofs.building.Building.read_default.Goals as goal
 
 pub returns-in-Ok-clause-reads : goal.returns-in-Ok-clause-reads
-returns-in-Ok-clause-reads c = λ entries around depth by within holds.
+returns-in-Ok-clause-reads c = λ entries around depth by within has.
     let values : Values = value_after entries (c.args.scope ∷ around) in
     let words = words_text c.args.words.now in
     let e = entry_at_place c.args.place c.args.scope around depth (DefaultText words) in
     let old : BuildingText = record { table = c.self.inside.edges; blocks = c.self.inside.block_values; names = c.self.inside.names; details = map detail_text c.self.inside.details.items; defaults = c.self.inside.defaults.items; dyndeps = c.self.inside.dyndeps.items; references = c.self.inside.references.items } in
     let new : BuildingText = record old { defaults = c.add_targets.new.targets.items } in
-    let held : HoldsEdges old entries = subst (λ b. HoldsEdges b entries) (sym c.self.view_is) holds in
+    let held : HasEdges old entries = subst (λ b. HasEdges b entries) (sym c.self.view_is) has in
     let edge = length c.as_slice.result.now in
     let count : edge ≡ length old.details = ap length c.as_slice.ensures.value ∙ sym (length-map c.self.inside.details.items detail_text) in
     let none = no-block old entries edge held count in
     let sees : Sees c.args.declarations.now c.args.scope (bound_in old.blocks edge) values = record { entries = entries; around = around; declared = by; within = within; are = λ name. ap (λ o. unwrap_or o (values name)) (sym (none name)) } in (
       subst (λ es. first_fault (target_fault c.args.place.file.now values es) words ≡ None) held.edges (c.in-Ok.ensures.fault values sees held.none_open),
-      holds-default old new e entries words held refl refl refl refl (c.in-Ok.ensures.added values sees) refl refl,
+      has-default old new e entries words held refl refl refl refl (c.in-Ok.ensures.added values sees) refl refl,
     )
 
 pub returns-in-Err-clause-reads : goal.returns-in-Err-clause-reads
-returns-in-Err-clause-reads c = λ entries around depth by within holds.
+returns-in-Err-clause-reads c = λ entries around depth by within has.
     let values : Values = value_after entries (c.args.scope ∷ around) in
     let words = words_text c.args.words.now in
     let old : BuildingText = record { table = c.self.inside.edges; blocks = c.self.inside.block_values; names = c.self.inside.names; details = map detail_text c.self.inside.details.items; defaults = c.self.inside.defaults.items; dyndeps = c.self.inside.dyndeps.items; references = c.self.inside.references.items } in
-    let held : HoldsEdges old entries = subst (λ b. HoldsEdges b entries) (sym c.self.view_is) holds in
+    let held : HasEdges old entries = subst (λ b. HasEdges b entries) (sym c.self.view_is) has in
     let edge = length c.as_slice.result.now in
     let count : edge ≡ length old.details = ap length c.as_slice.ensures.value ∙ sym (length-map c.self.inside.details.items detail_text) in
     let none = no-block old entries edge held count in

@@ -5,7 +5,7 @@ use Rattle.nj_edges.specs.Joining.{JoinTable, join_of}
 use Rattle.nj_statements.specs.declared.building.DyndepEdge.{DyndepEdge}
 use Rattle.nj_statements.specs.Built.{BuiltText, IsBuiltOf}
 use Rattle.nj_statements.specs.Inside.JoiningSteps.{first_edges, bind_all, count_bound}
-use Rattle.nj_statements.proofs.StartLemmas.{start-held, start-holds}
+use Rattle.nj_statements.proofs.StartLemmas.{start-held, start-keeps}
 use Rattle.nj_statements.proofs.built.Built.join.Goals as goal
 
 pub invariant_of-result : goal.invariant_of-result
@@ -19,10 +19,10 @@ invariant_of-result c =
     let bound = c.in_ok-bound.bound.items in
     let bound_are : bound ≡ bind_all ds (replicate (length graph.edges) None) =
     c.in_ok-bound.ensures ∙ ap (λ (xs : List DyndepEdge). bind_all xs (replicate c.edge_count.result None)) c.deref.ensures.value ∙ ap (λ n. bind_all ds (replicate n None)) c.edge_count.ensures.count in
-    let waiting = c.in_ok-dyndep_files.field-0.waiting.items in
-    let count : length waiting ≡ length graph.files = c.in_ok-dyndep_files.ensures.count ∙ c.count.ensures.count ∙ ap length c.files.ensures.files ∙ ap (λ (t : JoinTable). length t.files) table_is in
-    let waiting_are : (file : FileNo) → get_or waiting file.0 0 ≡ count_bound file ds = λ file. c.in_ok-dyndep_files.ensures.waiting file ∙ ap (count_bound file) c.deref-2.ensures.value in
-    start-held graph c.self.inside.blocks c.self.inside.names c.self.inside.details.items c.self.inside.defaults.items ds c.self.invariant once c.in_ok-edges.edges table_is firsts firsts_are bound bound_are waiting count waiting_are
+    let unjoined = c.in_ok-dyndep_files.field-0.unjoined.items in
+    let count : length unjoined ≡ length graph.files = c.in_ok-dyndep_files.ensures.count ∙ c.count.ensures.count ∙ ap length c.files.ensures.files ∙ ap (λ (t : JoinTable). length t.files) table_is in
+    let pending_are : (file : FileNo) → get_or unjoined file.0 0 ≡ count_bound file ds = λ file. c.in_ok-dyndep_files.ensures.unjoined file ∙ ap (count_bound file) c.deref-2.ensures.value in
+    start-held graph c.self.inside.blocks c.self.inside.names c.self.inside.details.items c.self.inside.defaults.items ds c.self.invariant once c.in_ok-edges.edges table_is firsts firsts_are bound bound_are unjoined count pending_are
 
 pub returns : goal.returns
 returns c = λ stated is.
@@ -35,7 +35,7 @@ returns c = λ stated is.
     let bound = c.in_ok-bound.bound.items in
     let bound_are : bound ≡ bind_all ds (replicate (length graph.edges) None) =
     c.in_ok-bound.ensures ∙ ap (λ (xs : List DyndepEdge). bind_all xs (replicate c.edge_count.result None)) c.deref.ensures.value ∙ ap (λ n. bind_all ds (replicate n None)) c.edge_count.ensures.count in
-    let waiting = c.in_ok-dyndep_files.field-0.waiting.items in
-    let count : length waiting ≡ length graph.files = c.in_ok-dyndep_files.ensures.count ∙ c.count.ensures.count ∙ ap length c.files.ensures.files ∙ ap (λ (t : JoinTable). length t.files) table_is in
-    let waiting_are : (file : FileNo) → get_or waiting file.0 0 ≡ count_bound file ds = λ file. c.in_ok-dyndep_files.ensures.waiting file ∙ ap (count_bound file) c.deref-2.ensures.value in
-    start-holds graph c.self.inside.blocks c.self.inside.names c.self.inside.details.items c.self.inside.defaults.items ds c.self.invariant once c.in_ok-edges.edges table_is firsts firsts_are bound bound_are waiting count waiting_are stated (subst (λ (b : BuiltText). IsBuiltOf b stated) (sym c.self.view_is) is)
+    let unjoined = c.in_ok-dyndep_files.field-0.unjoined.items in
+    let count : length unjoined ≡ length graph.files = c.in_ok-dyndep_files.ensures.count ∙ c.count.ensures.count ∙ ap length c.files.ensures.files ∙ ap (λ (t : JoinTable). length t.files) table_is in
+    let pending_are : (file : FileNo) → get_or unjoined file.0 0 ≡ count_bound file ds = λ file. c.in_ok-dyndep_files.ensures.unjoined file ∙ ap (count_bound file) c.deref-2.ensures.value in
+    start-keeps graph c.self.inside.blocks c.self.inside.names c.self.inside.details.items c.self.inside.defaults.items ds c.self.invariant once c.in_ok-edges.edges table_is firsts firsts_are bound bound_are unjoined count pending_are stated (subst (λ (b : BuiltText). IsBuiltOf b stated) (sym c.self.view_is) is)

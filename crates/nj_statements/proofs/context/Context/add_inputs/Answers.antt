@@ -1,7 +1,7 @@
 use Rattle.std.proofs.Common.{List, ◌+◌, drop, sym, ap, ◌∙◌}
 use Rattle.nj_text.specs.declared.word.Word.{Word}
 use Rattle.nj_manifest.specs.Contents.{words_text}
-use Rattle.nj_statements.specs.EdgeList.{paths_said}
+use Rattle.nj_statements.specs.EdgeList.{paths_given}
 use Rattle.nj_statements.specs.BuildFaults.{empty_path}
 use Rattle.nj_statements.specs.Inside.EdgeSteps.{with_input_unless, with_inputs}
 use Rattle.nj_statements.proofs.Lists.{at-next}
@@ -24,8 +24,8 @@ words-preserved c =
       grows = grows-input c.args.edges.now t new path loses c.words.invariant.grows adds;
       keeps = keeps_input c.args.edges.now t new path loses c.words.invariant.keeps adds;
       added = λ values sees.
-          ap (λ u. with_inputs loses u (paths_said values (words_text (drop (i + 1) words)))) (adds ∙ ap (with_input_unless loses t) (c.in_ok-path.ensures.path values sees))
-          ∙ sym (at-next (λ (ws : List Word). with_inputs loses t (paths_said values (words_text ws))) words i word c.words-test.true c.word-item.is)
+          ap (λ u. with_inputs loses u (paths_given values (words_text (drop (i + 1) words)))) (adds ∙ ap (with_input_unless loses t) (c.in_ok-path.ensures.path values sees))
+          ∙ sym (at-next (λ (ws : List Word). with_inputs loses t (paths_given values (words_text ws))) words i word c.words-test.true c.word-item.is)
           ∙ c.words.invariant.added values sees;
       fault = λ values sees.
           no-fault-turn (empty_path c.args.self.place.file.now values) words i word c.words-test.true c.word-item.is (c.in_ok-path.ensures.fault values sees)

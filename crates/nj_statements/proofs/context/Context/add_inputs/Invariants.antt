@@ -1,6 +1,6 @@
 use Rattle.std.proofs.Common.{◌≡◌, drop}
 use Rattle.nj_manifest.specs.Contents.{words_text}
-use Rattle.nj_statements.specs.EdgeList.{Values, paths_said}
+use Rattle.nj_statements.specs.EdgeList.{Values, paths_given}
 use Rattle.nj_statements.specs.BuildFaults.{empty_path, first_fault}
 use Rattle.nj_statements.specs.Answers.{KeepsRead}
 use Rattle.nj_statements.specs.Inside.EdgeSteps.{SeesNames, Grows, with_inputs}
@@ -11,7 +11,7 @@ invariant-words l = record {
   grows : Grows 0 l.fn.edges l.edges;
   keeps : KeepsRead l.fn.edges l.edges;
   added : (values : Values) → SeesNames l.self values
-      → with_inputs l.loses_own l.edges (paths_said values (words_text (drop l.word-index l.words))) ≡ with_inputs l.loses_own l.fn.edges (paths_said values (words_text l.words));
+      → with_inputs l.loses_own l.edges (paths_given values (words_text (drop l.word-index l.words))) ≡ with_inputs l.loses_own l.fn.edges (paths_given values (words_text l.words));
   fault : (values : Values) → SeesNames l.self values
       → first_fault (empty_path l.self.place.file.now values) (words_text (drop l.word-index l.words))
       ≡ first_fault (empty_path l.self.place.file.now values) (words_text l.words);

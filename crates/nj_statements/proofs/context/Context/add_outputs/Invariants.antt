@@ -1,6 +1,6 @@
 use Rattle.std.proofs.Common.{◌≡◌, drop, take, length}
 use Rattle.nj_manifest.specs.Contents.{words_text}
-use Rattle.nj_statements.specs.EdgeList.{Values, paths_said}
+use Rattle.nj_statements.specs.EdgeList.{Values, paths_given}
 use Rattle.nj_statements.specs.BuildFaults.{outputs_fault}
 use Rattle.nj_statements.specs.Answers.{KeepsRead}
 use Rattle.nj_statements.specs.Inside.EdgeSteps.{SeesNames, Grows, with_outputs}
@@ -11,7 +11,7 @@ invariant-words l = record {
   grows : Grows (length (take l.word-index l.words)) l.fn.edges l.edges;
   keeps : KeepsRead l.fn.edges l.edges;
   added : (values : Values) → SeesNames l.self values
-      → with_outputs l.edges (paths_said values (words_text (drop l.word-index l.words))) ≡ with_outputs l.fn.edges (paths_said values (words_text l.words));
+      → with_outputs l.edges (paths_given values (words_text (drop l.word-index l.words))) ≡ with_outputs l.fn.edges (paths_given values (words_text l.words));
   fault : (values : Values) → SeesNames l.self values
       → outputs_fault l.self.place.file.now values l.edges.edges l.edges.«open».outputs (words_text (drop l.word-index l.words))
       ≡ outputs_fault l.self.place.file.now values l.fn.edges.edges l.fn.edges.«open».outputs (words_text l.words);

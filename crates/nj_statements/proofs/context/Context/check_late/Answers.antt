@@ -1,11 +1,11 @@
 use Rattle.std.proofs.Common.{◌≡◌, Some, option_map, slice_get, codes, ap, ◌∙◌}
 use Rattle.std.specs.Option.{option_or}
 use Rattle.nj_scope.specs.ReadingList.{pools}
-use Rattle.nj_edge_env.specs.LateTexts.{asked_text}
+use Rattle.nj_edge_env.specs.LateStrings.{asked_text}
 use Rattle.nj_edges.specs.Files.{path_at}
-use Rattle.nj_statements.specs.EdgeList.{file_said}
+use Rattle.nj_statements.specs.EdgeList.{file_given}
 use Rattle.nj_statements.specs.BuildFaults.{variable_cycle_fault, unknown_pool, dyndep_not_input}
-use Rattle.nj_statements.proofs.AssignedLemmas.{path-said, numbered-longer}
+use Rattle.nj_statements.proofs.AssignedLemmas.{path-meant, numbered-longer}
 use Rattle.nj_statements.proofs.Faults.{fault-first, fault-second, both-none, err-checks}
 use Rattle.nj_statements.proofs.context.Context.check_late.Goals as goal
 
@@ -53,8 +53,8 @@ returns-clause-fault c = λ entries n sees tells.
 
 pub returns-clause-assigned : goal.returns-clause-assigned
 returns-clause-assigned c = λ entries n sees. record {
-  pool = numbered-longer c.check_pool.new.texts c.path_number.new.texts c.in_ok-pool.pool _ c.in_ok-dyndep.ensures.grows (c.in_ok-pool.ensures.number entries n sees);
+  pool = numbered-longer c.check_pool.new.strings c.path_number.new.strings c.in_ok-pool.pool _ c.in_ok-dyndep.ensures.grows (c.in_ok-pool.ensures.number entries n sees);
   dyndep =
       c.in_ok-dyndep.ensures.number ∙ ap (λ files. Some (option_map (path_at files) c.in_ok-file.file)) c.files.ensures.files
-      ∙ ap Some (path-said c.args.edges.now.files c.in_ok-file.file (file_said (asked_text n (codes "dyndep"))) (c.in_ok-file.ensures.file entries n sees));
+      ∙ ap Some (path-meant c.args.edges.now.files c.in_ok-file.file (file_given (asked_text n (codes "dyndep"))) (c.in_ok-file.ensures.file entries n sees));
 }

@@ -8,7 +8,7 @@ use Rattle.nj_statements.proofs.context.Context.expand.Goals as goal
 
 pub parts-preserved : goal.parts-preserved
 parts-preserved c = λ values sees.
-    text-turn values c.parts.text.items c.part_said.result.now c.extend_from_slice.new.self.items c.as_slice-part-items.result.now c.parts.part-index _ c.parts-test.true (c.part_said.ensures values sees) c.in_ok-extend_from_slice.ensures.items
+    text-turn values c.parts.text.items c.part_given.result.now c.extend_from_slice.new.self.items c.as_slice-part-items.result.now c.parts.part-index _ c.parts-test.true (c.part_given.ensures values sees) c.in_ok-extend_from_slice.ensures.items
     ∙ c.parts.invariant values sees
 
 pub returns : goal.returns

@@ -9,7 +9,7 @@ returns-in-Between c =
     let cursor = c.self.inside.cursor in
     let state = sym c.self.view_is ∙ ap (λ st. state_at st cursor.spot cursor.rest.now) c.in-Between.is in
     let found = ap value_of state ∙ value_between cursor.spot cursor.rest.now c.new-parts.result.items c.new-parts.ensures.items in
-    (ap (λ r. r.answer) found, state ∙ ap (λ r. r.after) (sym found))
+    (ap (λ r. r.outcome) found, state ∙ ap (λ r. r.after) (sym found))
 
 pub returns-in-OpeningJoin : goal.returns-in-OpeningJoin
 returns-in-OpeningJoin c =

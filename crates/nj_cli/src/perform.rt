@@ -1,0 +1,200 @@
+//! What a run answers, by the graph of its files.
+
+ghost use Rattle.std.specs.Prelude.{◌≡◌, ℕ, ◌<◌, List, length, map, slice_get, string_bytes, IfOk};
+ghost use Rattle.nj_scope.specs.ReadingList.{ReadStatement};
+ghost use Rattle.nj_statements.specs.EdgeList.{edges_read};
+ghost use Rattle.nj_graph.specs.Graph.{edges_of, IsGraphOf};
+ghost use Rattle.nj_args.specs.Requests.{action_text, commands, single_commands};
+ghost use Rattle.nj_args.specs.Requests as ask;
+ghost use Rattle.nj_cli.specs.Answers.{text_fault, follows_validations};
+ghost use Rattle.nj_cli.specs.Inside.RunSteps.{ReturnsFor};
+
+use crate::fault::RunFault;
+use crate::targets::{pick_targets, targets_of};
+use nj_args::Action;
+use nj_graph::{Cause, EdgeNo, Graph, GraphFault};
+use nj_needs::{Mark, Needs};
+use nj_tools::{
+    InputsStyle, Sink, TargetsView, ToolFault, write_commands, write_compdb, write_inputs,
+    write_query, write_rules, write_single_commands, write_targets,
+};
+use std::alloc::{AllocError, Global};
+
+/// Writes what is asked for. Returns the mark at which the run stopped, if it did before its end.
+pub(crate) fn perform<O: Sink>(
+    alloc: Global,
+    graph: &Graph,
+    action: &Action,
+    out: &mut O,
+) -> Result<Option<Mark>, RunFault>
+    ensures { (entries : List ReadStatement) → IsGraphOf graph.now entries
+        → ReturnsFor entries (action_text action.now) (O.state out.old) (O.state out.new) result }
+{
+    match action {
+        Action::Commands {
+            targets,
+            validations,
+            take,
+            start,
+        } => run_commands(alloc, graph, targets, *validations, *take, start, out),
+        Action::SingleCommands { targets } => run_single_commands(alloc, graph, targets, out),
+        Action::Inputs {
+            targets,
+            validations,
+            style,
+        } => run_inputs(alloc, graph, targets, *validations, *style, out),
+        Action::Targets { view } => run_targets(alloc, graph, view, out),
+        Action::Query { files } => run_query(alloc, graph, files, out),
+        Action::Rules { descriptions } => run_rules(alloc, graph, *descriptions, out),
+        Action::Compdb {
+            rules,
+            directory,
+            expand,
+        } => run_compdb(alloc, graph, rules, directory, *expand, out),
+    }
+}
+
+/// Whether what is to be validated is asked for with the targets.
+pub(crate) fn follows_validations(action: &Action) -> bool
+    ensures { result ≡ follows_validations (action_text action.now) }
+{
+    match action {
+        Action::Commands { validations, .. } | Action::Inputs { validations, .. } => *validations,
+        _ => false,
+    }
+}
+
+// The commands that the targets need, from a mark on.
+fn run_commands<O: Sink>(
+    alloc: Global,
+    graph: &Graph,
+    words: &[String],
+    validations: bool,
+    take: Option<u64>,
+    start: &Mark,
+    out: &mut O,
+) -> Result<Option<Mark>, RunFault>
+    ensures { (entries : List ReadStatement) → IsGraphOf graph.now entries
+        → ReturnsFor entries (commands (map string_bytes words.now) validations take start.now)
+        (O.state out.old) (O.state out.new) result }
+{
+    let targets = targets_of(alloc, graph, words, validations)?;
+    let mut needs = Needs::resume(alloc, graph.edge_graph(), &targets, start)?;
+    let mark = write_commands(alloc, graph, &mut needs, take, out)?;
+    Ok(mark)
+}
+
+// The commands of the edges that make the targets.
+fn run_single_commands<O: Sink>(
+    alloc: Global,
+    graph: &Graph,
+    words: &[String],
+    out: &mut O,
+) -> Result<Option<Mark>, RunFault>
+    ensures { (entries : List ReadStatement) → IsGraphOf graph.now entries
+        → ReturnsFor entries (single_commands (map string_bytes words.now))
+        (O.state out.old) (O.state out.new) result }
+{
+    let targets = targets_of(alloc, graph, words, false)?;
+    write_single_commands(alloc, graph, &targets, out)?;
+    Ok(None)
+}
+
+// The inputs that the targets need.
+fn run_inputs<O: Sink>(
+    alloc: Global,
+    graph: &Graph,
+    words: &[String],
+    validations: bool,
+    style: InputsStyle,
+    out: &mut O,
+) -> Result<Option<Mark>, RunFault>
+    ensures { (entries : List ReadStatement) → IsGraphOf graph.now entries
+        → ReturnsFor entries (ask.inputs (map string_bytes words.now) validations style)
+        (O.state out.old) (O.state out.new) result }
+{
+    let targets = targets_of(alloc, graph, words, validations)?;
+    write_inputs(alloc, graph, &targets, style, out)?;
+    Ok(None)
+}
+
+// Lists of targets.
+fn run_targets<O: Sink>(
+    alloc: Global,
+    graph: &Graph,
+    view: &TargetsView,
+    out: &mut O,
+) -> Result<Option<Mark>, RunFault>
+    ensures { (entries : List ReadStatement) → IsGraphOf graph.now entries
+        → ReturnsFor entries (ask.targets view.now) (O.state out.old) (O.state out.new) result }
+{
+    write_targets(alloc, graph, view, out)?;
+    Ok(None)
+}
+
+// What files are made of, and what is made of them.
+fn run_query<O: Sink>(
+    alloc: Global,
+    graph: &Graph,
+    words: &[String],
+    out: &mut O,
+) -> Result<Option<Mark>, RunFault>
+    ensures { (entries : List ReadStatement) → IsGraphOf graph.now entries
+        → ReturnsFor entries (ask.query (map string_bytes words.now))
+        (O.state out.old) (O.state out.new) result }
+{
+    let files = pick_targets(alloc, graph, words)?;
+    write_query(alloc, graph, &files, out)?;
+    Ok(None)
+}
+
+// The rules of the main file.
+fn run_rules<O: Sink>(
+    alloc: Global,
+    graph: &Graph,
+    descriptions: bool,
+    out: &mut O,
+) -> Result<Option<Mark>, RunFault>
+    ensures { (entries : List ReadStatement) → IsGraphOf graph.now entries
+        → ReturnsFor entries (ask.rules descriptions) (O.state out.old) (O.state out.new) result }
+{
+    write_rules(alloc, graph, descriptions, out)?;
+    Ok(None)
+}
+
+// The compilation database.
+fn run_compdb<O: Sink>(
+    alloc: Global,
+    graph: &Graph,
+    rules: &[String],
+    directory: &str,
+    expand: bool,
+    out: &mut O,
+) -> Result<Option<Mark>, RunFault>
+    ensures { (entries : List ReadStatement) → IsGraphOf graph.now entries
+        → ReturnsFor entries (ask.compdb (map string_bytes rules.now) directory.now expand)
+        (O.state out.old) (O.state out.new) result }
+{
+    match write_compdb(alloc, graph, directory, rules, expand, out) {
+        Ok(()) => Ok(None),
+        Err(ToolFault::TextNotUtf8(edge)) => {
+            let fault = text_fault(alloc, graph, edge)?;
+            Err(RunFault::Graph(fault))
+        }
+        Err(ToolFault::Write) => Err(RunFault::Write),
+        Err(ToolFault::OutOfMemory) => Err(RunFault::OutOfMemory),
+    }
+}
+
+// The fault of an edge with a text that JSON cannot hold.
+fn text_fault(alloc: Global, graph: &Graph, edge: EdgeNo) -> Result<GraphFault, AllocError>
+    requires { edge.0 < length (edges_of graph.now) }
+    ensures { (entries : List ReadStatement) → IsGraphOf graph.now entries
+        → IfOk result (λ fault. fault ≡ text_fault (slice_get (edges_read entries) edge.0)) }
+{
+    let place = graph.edge_place(edge).to_place(alloc)?;
+    Ok(GraphFault {
+        place: Some(place),
+        cause: Cause::TextNotUtf8,
+    })
+}

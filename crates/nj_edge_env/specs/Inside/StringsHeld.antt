@@ -1,0 +1,81 @@
+-- How a late text is appended: the text of a key that was appended already is copied.
+use Rattle.std.specs.Prelude.{◌≡◌, ◌≤◌, ℕ, zero, suc, ◌+◌, max, Bool, true, nat_le, if◌then◌else◌, Option, Some, None, is_some, IfSome}
+use Rattle.std.specs.Prelude.{List, ◌∷◌, ◌++◌, length, slice_get, slice_set, slice_range}
+use Rattle.nj_scope.specs.Declarations.{DeclaredBy}
+use Rattle.nj_scope.specs.ReadingList.{ReadStatement, value_after}
+use Rattle.nj_scope.specs.Readings.{IsPrefix}
+use Rattle.nj_scope.specs.Rules.{RuleLineText}
+use Rattle.nj_scope.specs.RulesHeld.{key_at, IsNumber}
+use Rattle.nj_scope.specs.Scopes.{IsScope, parent_at}
+use Rattle.nj_edge_env.specs.Blocks.{bound_in}
+use Rattle.nj_edge_env.specs.declared.edge.LateEdge.{LateEdge}
+use Rattle.nj_edge_env.specs.declared.memo.KeyText.{KeyText}
+use Rattle.nj_edge_env.specs.LateStrings.{LateNames, rule_value, late_in}
+use Rattle.nj_edge_env.specs.LateEdges.{late_names}
+use Rattle.nj_edge_env.specs.VariableCycles.{RefersTo}
+
+-- references from the name end within `depth` lines
+abbrev pub Settles : (block : List ℕ → Option (List ℕ)) → List RuleLineText → (depth : ℕ) → (name : List ℕ) → Type 0
+Settles block lines zero name = ⊥
+Settles block lines (suc depth) name = (other : List ℕ) → RefersTo block lines name other → Settles block lines depth other
+
+-- whatever the statements are of which the declarations are held
+abbrev pub ForEdge : LateEdge → (LateNames → Type 0) → Type 0
+ForEdge e P = (entries : List ReadStatement) (around : List ℕ) → DeclaredBy e.declarations.now entries
+    → IsScope (parent_at e.declarations.now.scopes) e.scope (e.scope ∷ around) → P (late_names e (value_after entries (e.scope ∷ around)))
+
+-- the same by the block and the rule of an edge
+abbrev pub SettlesIn : LateEdge → (depth : ℕ) → (name : List ℕ) → Type 0
+SettlesIn e depth name = Settles (bound_in e.blocks.now e.edge) e.rule.now.lines depth name
+
+-- ---- the texts of keys
+
+-- this part of the bytes is the text of the key, which is the same through each number of lines from its height on
+pub record IsKeyText (quoting : Bool) (e : LateEdge) (number : ℕ) (t : KeyText) (bytes : List ℕ) : Type 0 where
+  pub from : t.start ≤ t.end
+  pub to : t.end ≤ length bytes
+  pub settles : SettlesIn e (suc t.height) (key_at e.rule.now.lines number)
+  pub text : ForEdge e (λ n. slice_range bytes t.start t.end ≡ late_in (suc t.height) quoting n (key_at e.rule.now.lines number))
+
+abbrev pub AreKeyStrings : (quoting : Bool) → LateEdge → (known : List (Option KeyText)) → (bytes : List ℕ) → Type 0
+AreKeyStrings quoting e known bytes =
+    (number : ℕ) (t : KeyText) → slice_get known number ≡ Some (Some t) → IsKeyText quoting e number t bytes
+
+-- the text of the key, if it is no higher than this
+abbrev pub no_higher : Option (Option KeyText) → (depth : ℕ) → Option KeyText
+no_higher (Some (Some t)) depth = if nat_le t.height depth then Some t else None
+no_higher (Some None) depth = None
+no_higher None depth = None
+
+abbrev pub text_known : (known : List (Option KeyText)) → (number depth : ℕ) → Option KeyText
+text_known known number depth = no_higher (slice_get known number) depth
+
+-- the height of a line with one more reference; `None` if one was cut off
+abbrev pub taller : (height below : Option ℕ) → Option ℕ
+taller (Some height) (Some below) = Some (max height (below + 1))
+taller (Some height) None = None
+taller None below = None
+
+-- the text of the key is known too
+abbrev pub with_text : (known : List (Option KeyText)) → (number start end : ℕ) → (height : Option ℕ) → List (Option KeyText)
+with_text known number start end None = known
+with_text known number start end (Some height) = slice_set known number (Some (record { start = start; end = end; height = height }))
+
+-- ---- steps
+
+-- what the name says is appended, where no line of the rule says it; else nothing is, and this is the number of its key
+abbrev pub AppendsPlain : (quoting : Bool) → LateEdge → (name old new : List ℕ) → (number : Option ℕ) → Type 0
+AppendsPlain quoting e name old new None =
+    (rule_value (bound_in e.blocks.now e.edge) e.rule.now.lines name ≡ None) × IsPrefix old new
+    × ForEdge e (λ n. (depth : ℕ) → new ≡ old ++ late_in (suc depth) quoting n name)
+AppendsPlain quoting e name old new (Some number) =
+    (new ≡ old) × IsNumber e.rule.now.lines name number
+    × (is_some (rule_value (bound_in e.blocks.now e.edge) e.rule.now.lines name) ≡ true)
+
+-- what the name says is appended, through at most `depth` lines after its own; no more than its height are nested
+pub record AppendsLate (quoting : Bool) (e : LateEdge) (depth : ℕ) (name old : List ℕ) (known : List (Option KeyText))
+    (new : List ℕ) (height : Option ℕ) : Type 0 where
+  pub grows : IsPrefix old new
+  pub text : ForEdge e (λ n. new ≡ old ++ late_in (suc depth) quoting n name)
+  pub strings : AreKeyStrings quoting e known new
+  pub settles : IfSome height (λ d. (d ≤ depth) × SettlesIn e (suc d) name)

@@ -1,0 +1,107 @@
+-- Late texts: what the variables of a rule say when an edge uses them.
+use Rattle.std.specs.Prelude.{◌≡◌, ℕ, zero, suc, Bool, true, false, not, ◌&&◌, ◌||◌, if◌then◌else◌, Option, Some, None, is_some}
+use Rattle.std.specs.Option.{option_or}
+use Rattle.std.specs.Prelude.{unwrap_or, option_map, List, [], ◌∷◌, ◌++◌, map, length, codes, bytes_eq}
+use Rattle.std.specs.List.{list_any, flat_map}
+use Rattle.nj_text.specs.Quotes.{quoted}
+use Rattle.nj_text.specs.Words.{PartText, Text, Name}
+use Rattle.nj_scope.specs.Rules.{RuleLineText, given}
+use Rattle.nj_scope.specs.Scopes.{expanded}
+
+-- What an edge's names depend on: the paths of its explicit inputs and outputs, the values that its block binds, the lines of
+-- its rule, whether that is `phony`, and the values of names in the file that has the edge.
+pub record LateNames : Type 0 where
+  pub inputs : List (List ℕ)
+  pub outputs : List (List ℕ)
+  pub block : List ℕ → Option (List ℕ)
+  pub lines : List RuleLineText
+  pub is_phony : Bool
+  pub file : List ℕ → List ℕ
+
+-- ---- paths
+
+-- texts with a byte between each two
+abbrev pub joined : (separator : ℕ) → List (List ℕ) → List ℕ
+joined separator [] = []
+joined separator (text ∷ strings) = text ++ flat_map (λ t. separator ∷ t) strings
+
+-- paths, joined; each is quoted for a shell by itself
+abbrev pub paths_text : (quoting : Bool) → (separator : ℕ) → List (List ℕ) → List ℕ
+paths_text quoting separator paths = joined separator (map (λ path. if quoting then quoted path else path) paths)
+
+-- the names of paths: a space stands between them, and a line feed in `in_newline`
+abbrev pub text_of_paths : (quoting : Bool) → (inputs outputs : List (List ℕ)) → (name : List ℕ) → Option (List ℕ)
+text_of_paths quoting inputs outputs name =
+    if bytes_eq name (codes "in") then Some (paths_text quoting 32 inputs)
+    else (if bytes_eq name (codes "in_newline") then Some (paths_text quoting 10 inputs)
+    else (if bytes_eq name (codes "out") then Some (paths_text quoting 32 outputs) else None))
+
+abbrev pub is_one_of : List (List ℕ) → (name : List ℕ) → Bool
+is_one_of names name = list_any (bytes_eq name) names
+
+abbrev pub names_paths : (name : List ℕ) → Bool
+names_paths name = is_one_of (codes "in" ∷ codes "in_newline" ∷ codes "out" ∷ []) name
+
+-- ---- lines of the rule
+
+-- the names that say what an edge runs
+abbrev pub is_of_command : (name : List ℕ) → Bool
+is_of_command name = is_one_of (codes "command" ∷ codes "rspfile" ∷ codes "rspfile_content" ∷ []) name
+
+-- a value without any part
+abbrev pub unless_empty : Bool → Option (List PartText) → Option (List PartText)
+unless_empty true (Some []) = None
+unless_empty unless value = value
+
+-- The value that the rule gives: of its last line of this key. For a name that says what an edge runs, a value without parts is not given.
+abbrev pub value_given : List RuleLineText → (key : List ℕ) → Option (List PartText)
+value_given lines key = unless_empty (is_of_command key) (given lines key)
+
+-- the value of the rule that counts: no path, and nothing that the block binds, has its name
+abbrev pub rule_value : (block : List ℕ → Option (List ℕ)) → List RuleLineText → (name : List ℕ) → Option (List PartText)
+rule_value block lines name = if names_paths name || is_some (block name) then None else value_given lines name
+
+-- the file's value; a phony edge runs nothing
+abbrev pub file_value : LateNames → (name : List ℕ) → List ℕ
+file_value n name = if n.is_phony && is_of_command name then [] else n.file name
+
+-- ---- what a name says
+
+abbrev pub refers_in : PartText → (name : List ℕ) → Bool
+refers_in (Text bytes) name = false
+refers_in (Name other) name = bytes_eq name other
+
+-- whether a value has a reference to this name
+abbrev pub refers : List PartText → (name : List ℕ) → Bool
+refers parts name = list_any (λ part. refers_in part name) parts
+
+-- What a name says, in no order of evaluation: the paths of the edge, else the value of the block, else the rule's value, where
+-- each name in it says what it says itself, else the file's value.
+pub data Denotes (quoting : Bool) (n : LateNames) : List ℕ → List ℕ → Type 0 where
+  by_paths : {name text : List ℕ} → text_of_paths quoting n.inputs n.outputs name ≡ Some text → Denotes quoting n name text
+  by_block : {name text : List ℕ} → names_paths name ≡ false → n.block name ≡ Some text → Denotes quoting n name text
+  by_rule : {name : List ℕ} → (parts : List PartText) → (value : List ℕ → List ℕ) → rule_value n.block n.lines name ≡ Some parts
+      → ((other : List ℕ) → refers parts other ≡ true → Denotes quoting n other (value other)) → Denotes quoting n name (expanded value parts)
+  by_file : {name : List ℕ} → names_paths name ≡ false → n.block name ≡ None → value_given n.lines name ≡ None
+      → Denotes quoting n name (file_value n name)
+
+-- the same, computed: through at most `depth` lines of the rule, the last of which says nothing
+abbrev pub late_in : (depth : ℕ) → (quoting : Bool) → LateNames → (name : List ℕ) → List ℕ
+late_in zero quoting n name = []
+late_in (suc depth) quoting n name =
+    unwrap_or
+    (option_or (text_of_paths quoting n.inputs n.outputs name)
+    (option_or (n.block name) (option_map (expanded (late_in depth quoting n)) (rule_value n.block n.lines name))))
+    (file_value n name)
+
+-- unless lines of the rule refer to each other in a cycle, no more of them are nested than the rule has
+abbrev pub late_text : (quoting : Bool) → LateNames → (name : List ℕ) → List ℕ
+late_text quoting n name = late_in (suc (length n.lines)) quoting n name
+
+-- The name that is asked for decides whether paths are quoted, also in what it refers to: the names of files are no part of a
+-- shell's command.
+abbrev pub is_quoted : (asked : List ℕ) → Bool
+is_quoted asked = not (is_one_of (codes "rspfile" ∷ codes "depfile" ∷ codes "dyndep" ∷ []) asked)
+
+abbrev pub asked_text : LateNames → (asked : List ℕ) → List ℕ
+asked_text n asked = late_text (is_quoted asked) n asked

@@ -1,5 +1,0 @@
-use Rattle.nj_manifest.proofs.DyndepUnits.{units_are_apart}
-use Rattle.nj_manifest.proofs.laws.units_of_texts_are_apart.Goals as goal
-
-pub returns : goal.returns
-returns c = units_are_apart
