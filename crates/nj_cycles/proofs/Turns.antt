@@ -8,7 +8,7 @@ use Rattle.nj_cycles.specs.declared.walk.Stage.{Stage}
 use Rattle.nj_cycles.specs.declared.walk.Stage.TheVariants.{Unseen, Open, Done}
 use Rattle.nj_cycles.specs.declared.walk.Walk.{Walk}
 use Rattle.nj_cycles.specs.Cycles.{Needs, AreEdges}
-use Rattle.nj_cycles.specs.Inside.Walks.{stage_of, stage_of_maker, turns_of, Consistent, WalkIsConsistent, IsConsistentAt, EndsAt, TakesTurn, Walked}
+use Rattle.nj_cycles.specs.Inside.Walks.{stage_of, stage_of_maker, turns_of, Sound, WalkIsSound, IsSoundAt, EndsAt, TakesTurn, Walked}
 use Rattle.nj_cycles.proofs.Places.{index_of, needs_got}
 use Rattle.nj_cycles.proofs.Walking.{stage_cases, kept_by_set, open_is_seen, done_is_seen, passes, opens, top_in, top_open, top_links, finishes}
 
@@ -17,26 +17,26 @@ on_ok_both (Ok x) h p q = h p q
 on_ok_both (Err e) h p q = p
 
 pub to_comes : (makers : ℕ → List (Option ℕ)) (count : ℕ) (w : Walk) (stages : List Stage) (next path order : List ℕ) (meets : Bool) → w.stages.items ≡ stages → w.next.items ≡ next → w.path.items ≡ path → w.order.items ≡ order → w.meets_open ≡ meets
-    → Consistent makers count stages next path order meets → WalkIsConsistent makers count w
+    → Sound makers count stages next path order meets → WalkIsSound makers count w
 to_comes makers count w stages next path order meets a b c d e s =
-    subst (λ x. Consistent makers count x w.next.items w.path.items w.order.items w.meets_open) (sym a)
-    (subst (λ x. Consistent makers count stages x w.path.items w.order.items w.meets_open) (sym b)
-    (subst (λ x. Consistent makers count stages next x w.order.items w.meets_open) (sym c)
-    (subst (λ x. Consistent makers count stages next path x w.meets_open) (sym d)
-    (subst (λ x. Consistent makers count stages next path order x) (sym e) s))))
+    subst (λ x. Sound makers count x w.next.items w.path.items w.order.items w.meets_open) (sym a)
+    (subst (λ x. Sound makers count stages x w.path.items w.order.items w.meets_open) (sym b)
+    (subst (λ x. Sound makers count stages next x w.order.items w.meets_open) (sym c)
+    (subst (λ x. Sound makers count stages next path x w.meets_open) (sym d)
+    (subst (λ x. Sound makers count stages next path order x) (sym e) s))))
 
 fewer_by_set : (stages : List Stage) (m : ℕ) (old new : Stage) → m < length stages → stage_of stages m ≡ old → turns_of new < turns_of old → sum_by turns_of (set stages m new) < sum_by turns_of stages
 fewer_by_set stages m old new lt is less = omega (arith, sum_by-set turns_of stages m new Unseen lt, ap turns_of is, less)
 
 same_old : (makers : ℕ → List (Option ℕ)) (count : ℕ) (old mid new : Walk) → mid.stages.items ≡ old.stages.items → TakesTurn makers count mid new → TakesTurn makers count old new
 same_old makers count old mid new same t = record {
-  consistent = t.consistent;
+  sound = t.sound;
   fewer = subst (λ ss. sum_by turns_of new.stages.items < sum_by turns_of ss) same t.fewer;
   kept = subst (λ ss. (e : ℕ) → stage_of ss e ≢ Unseen → stage_of new.stages.items e ≢ Unseen) same t.kept;
 }
 
 module _ (makers : ℕ → List (Option ℕ)) (count : ℕ) (old mid new : Walk) (e : ℕ) (same : mid.stages.items ≡ old.stages.items)
-    (s : IsConsistentAt makers count mid e)
+    (s : IsSoundAt makers count mid e)
     (same_next : new.next.items ≡ mid.next.items) (same_meets : new.meets_open ≡ mid.meets_open) where
   pub turn-opens : (m : ℕ) (grown : List ℕ) → AreEdges makers count → EndsAt makers e mid (Some m)
       → new.order.items ≡ mid.order.items → grown ≡ mid.path.items ++ e ∷ []
@@ -47,7 +47,7 @@ module _ (makers : ℕ → List (Option ℕ)) (count : ℕ) (old mid new : Walk)
       let m_in : m < count = (edges e m needs).1 in
       let inside : m < length mid.stages.items = omega (arith, m_in, s.stages_len) in
       same_old makers count old mid new same (record {
-        consistent = to_comes makers count new (set mid.stages.items m Open) mid.next.items ((mid.path.items ++ e ∷ []) ++ m ∷ []) mid.order.items mid.meets_open stages same_next (path ∙ ap (λ (p : List ℕ). p ++ m ∷ []) with_e) same_order same_meets
+        sound = to_comes makers count new (set mid.stages.items m Open) mid.next.items ((mid.path.items ++ e ∷ []) ++ m ∷ []) mid.order.items mid.meets_open stages same_next (path ∙ ap (λ (p : List ℕ). p ++ m ∷ []) with_e) same_order same_meets
             (opens makers count mid.stages.items mid.next.items (mid.path.items ++ e ∷ []) mid.order.items mid.meets_open s m m_in ends.1 (top_links makers count mid.stages.items mid.next.items mid.path.items mid.order.items mid.meets_open e s m needs));
         fewer = rw stages (fewer_by_set mid.stages.items m Unseen Open inside ends.1 (omega arith));
         kept = rw stages (kept_by_set mid.stages.items m Open inside open_is_seen);
@@ -60,7 +60,7 @@ module _ (makers : ℕ → List (Option ℕ)) (count : ℕ) (old mid new : Walk)
       let e_in : e < count = top_in makers count mid.stages.items mid.next.items mid.path.items mid.order.items mid.meets_open e s in
       let inside : e < length mid.stages.items = omega (arith, e_in, s.stages_len) in
       same_old makers count old mid new same (record {
-        consistent = to_comes makers count new (set mid.stages.items e Done) mid.next.items mid.path.items (mid.order.items ++ e ∷ []) mid.meets_open stages same_next path grown same_meets
+        sound = to_comes makers count new (set mid.stages.items e Done) mid.next.items mid.path.items (mid.order.items ++ e ∷ []) mid.meets_open stages same_next path grown same_meets
             (finishes makers count mid.stages.items mid.next.items mid.path.items mid.order.items mid.meets_open e s passed);
         fewer = rw stages (fewer_by_set mid.stages.items e Open Done inside (top_open makers count mid.stages.items mid.next.items mid.path.items mid.order.items mid.meets_open e s) (omega arith));
         kept = rw stages (kept_by_set mid.stages.items e Done inside done_is_seen);
@@ -84,11 +84,11 @@ pub fewer_left : (makers : ℕ → List (Option ℕ)) (next : List ℕ) (e i : �
 fewer_left makers next e i m lt at got = omega (arith, at, get_or-set_same next e (i + 1) 0 lt, slice_get_within (makers e) (slice_index next e) m got)
 
 -- the maker of the input is not unseen, and where it is open that was noted
-pub passes_next : (makers : ℕ → List (Option ℕ)) (count : ℕ) (old : Walk) (e i : ℕ) (m : Option ℕ) (stage : Stage) (after : Bool) → IsConsistentAt makers count old e → i ≡ slice_index old.next.items e
+pub passes_next : (makers : ℕ → List (Option ℕ)) (count : ℕ) (old : Walk) (e i : ℕ) (m : Option ℕ) (stage : Stage) (after : Bool) → IsSoundAt makers count old e → i ≡ slice_index old.next.items e
     → slice_get (makers e) (slice_index old.next.items e) ≡ Some m → stage ≡ stage_of_maker old.stages.items m → stage ≢ Unseen → (after ≡ false → (old.meets_open ≡ false) × (stage ≢ Open))
-    → Consistent makers count old.stages.items (set old.next.items e (i + 1)) (old.path.items ++ e ∷ []) old.order.items after
+    → Sound makers count old.stages.items (set old.next.items e (i + 1)) (old.path.items ++ e ∷ []) old.order.items after
 passes_next makers count old e i m stage after s at got is seen done =
-    subst (λ k. Consistent makers count old.stages.items (set old.next.items e (k + 1)) (old.path.items ++ e ∷ []) old.order.items after) (sym at)
+    subst (λ k. Sound makers count old.stages.items (set old.next.items e (k + 1)) (old.path.items ++ e ∷ []) old.order.items after) (sym at)
     (passes makers count old.stages.items old.next.items (old.path.items ++ e ∷ []) old.order.items old.meets_open s e after (top_in makers count old.stages.items old.next.items old.path.items old.order.items old.meets_open e s)
     (top_open makers count old.stages.items old.next.items old.path.items old.order.items old.meets_open e s)
     (λ f made un. seen (here f made ∙ un))
@@ -106,15 +106,15 @@ passes_next makers count old e i m stage after s at got is seen done =
 -- ---- the walk
 
 -- the walk begins at an unseen edge with nothing open
-pub begins : (makers : ℕ → List (Option ℕ)) (count : ℕ) (old new : Walk) (m : ℕ) → WalkIsConsistent makers count old → old.path.items ≡ [] → m < count → stage_of old.stages.items m ≡ Unseen
+pub begins : (makers : ℕ → List (Option ℕ)) (count : ℕ) (old new : Walk) (m : ℕ) → WalkIsSound makers count old → old.path.items ≡ [] → m < count → stage_of old.stages.items m ≡ Unseen
     → new.path.items ≡ old.path.items ++ m ∷ [] → new.stages.items ≡ set old.stages.items m Open → new.next.items ≡ old.next.items → new.order.items ≡ old.order.items → new.meets_open ≡ old.meets_open
-    → WalkIsConsistent makers count new
+    → WalkIsSound makers count new
 begins makers count old new m s none lt unseen path stages same_next same_order same_meets =
     to_comes makers count new (set old.stages.items m Open) old.next.items (old.path.items ++ m ∷ []) old.order.items old.meets_open stages same_next path same_order same_meets
     (opens makers count old.stages.items old.next.items old.path.items old.order.items old.meets_open s m lt unseen (λ i h. absurd (omega (arith, h, ap length none))))
 
 -- where nothing is open and each edge is seen, all are finished
-pub ends : (makers : ℕ → List (Option ℕ)) (count : ℕ) (w : Walk) → WalkIsConsistent makers count w → w.path.items ≡ [] → AreEdges makers count → ((e : ℕ) → e < count → stage_of w.stages.items e ≢ Unseen) → Walked makers count w.order.items
+pub ends : (makers : ℕ → List (Option ℕ)) (count : ℕ) (w : Walk) → WalkIsSound makers count w → w.path.items ≡ [] → AreEdges makers count → ((e : ℕ) → e < count → stage_of w.stages.items e ≢ Unseen) → Walked makers count w.order.items
 ends makers count w s none edges seen = record {
   known = edges;
   all = λ e lt. elim (stage_cases (stage_of w.stages.items e)) [

@@ -9,7 +9,7 @@ use Rattle.nj_cycles.specs.declared.walk.Stage.{Stage}
 use Rattle.nj_cycles.specs.declared.walk.Stage.TheVariants.{Unseen, Open, Done}
 use Rattle.nj_cycles.specs.Cycles.{Needs, NeedsByChain}
 use Rattle.nj_cycles.specs.Cycles.Chain.{one}
-use Rattle.nj_cycles.specs.Inside.Walks.{Reaches, stage_of, turns_of, IsSettled, IsFalling, Consistent}
+use Rattle.nj_cycles.specs.Inside.Walks.{Reaches, stage_of, turns_of, IsSettled, IsFalling, Sound}
 use Rattle.nj_cycles.proofs.Chains.{chain_push}
 use Rattle.nj_cycles.proofs.Places.{at_push, at_left, at_end, at_set, index_of, maker_got}
 
@@ -31,12 +31,12 @@ open_is_seen e = cc
 pub done_is_seen : Done ≢ Unseen
 done_is_seen e = cc
 
-module _ (makers : ℕ → List (Option ℕ)) (count : ℕ) (stages : List Stage) (next path order : List ℕ) (meets : Bool) (s : Consistent makers count stages next path order meets) where
+module _ (makers : ℕ → List (Option ℕ)) (count : ℕ) (stages : List Stage) (next path order : List ℕ) (meets : Bool) (s : Sound makers count stages next path order meets) where
   -- an open edge passes its next input, whose maker is seen
   pub passes : (e : ℕ) (after : Bool) → e < count → stage_of stages e ≡ Open
       → ((f : ℕ) → slice_get (makers e) (slice_index next e) ≡ Some (Some f) → stage_of stages f ≢ Unseen)
       → (after ≡ false → (meets ≡ false) × ((f : ℕ) → slice_get (makers e) (slice_index next e) ≡ Some (Some f) → stage_of stages f ≡ Done))
-      → Consistent makers count stages (set next e (slice_index next e + 1)) path order after
+      → Sound makers count stages (set next e (slice_index next e + 1)) path order after
   passes e after lt is_open seen done = record {
     stages_len = s.stages_len;
     next_len = length-set next e (slice_index next e + 1) ∙ s.next_len;
@@ -78,7 +78,7 @@ module _ (makers : ℕ → List (Option ℕ)) (count : ℕ) (stages : List Stage
 
   -- an unseen edge that each open one needs is opened
   pub opens : (m : ℕ) → m < count → stage_of stages m ≡ Unseen → ((i : ℕ) → i < length path → NeedsByChain makers (slice_index path i) m)
-      → Consistent makers count (set stages m Open) next (path ++ m ∷ []) order meets
+      → Sound makers count (set stages m Open) next (path ++ m ∷ []) order meets
   opens m lt unseen links = record {
     stages_len = length-set stages m Open ∙ s.stages_len;
     next_len = s.next_len;
@@ -131,7 +131,7 @@ module _ (makers : ℕ → List (Option ℕ)) (count : ℕ) (stages : List Stage
         | inr q ↦ sym q.1 ∙ h
       ]
 
-module _ (makers : ℕ → List (Option ℕ)) (count : ℕ) (stages : List Stage) (next below order : List ℕ) (meets : Bool) (e : ℕ) (s : Consistent makers count stages next (below ++ e ∷ []) order meets) where
+module _ (makers : ℕ → List (Option ℕ)) (count : ℕ) (stages : List Stage) (next below order : List ℕ) (meets : Bool) (e : ℕ) (s : Sound makers count stages next (below ++ e ∷ []) order meets) where
   at_top : length below < length (below ++ e ∷ [])
   at_top = omega (arith, length_push below e)
 
@@ -216,7 +216,7 @@ module _ (makers : ℕ → List (Option ℕ)) (count : ℕ) (stages : List Stage
     done_stays x h = elim (at_stage stages e Done x inside) [ inl q ↦ q.1 | inr q ↦ q.1 ∙ h ]
 
     -- the last open edge is finished
-    pub finishes : Consistent makers count (set stages e Done) next below (order ++ e ∷ []) meets
+    pub finishes : Sound makers count (set stages e Done) next below (order ++ e ∷ []) meets
     finishes = record {
       stages_len = length-set stages e Done ∙ s.stages_len;
       next_len = s.next_len;

@@ -1,7 +1,7 @@
 //! The depth-first walk over the edges, in the order of their numbers.
 ghost use Rattle.std.specs.Prelude.{◌≡◌, ℕ, ◌<◌, false, [], ◌∷◌, ◌++◌, vec_len, length, slice_set, IfOk, OnOk, IfSome};
 ghost use Rattle.nj_cycles.specs.Cycles.{AreEdges};
-ghost use Rattle.nj_cycles.specs.Inside.Walks.{stage_of, stage_of_maker, IsSeen, IsConsistentAt, WalkIsConsistent, EndsAt, TakesTurn, IsFalling, Walked};
+ghost use Rattle.nj_cycles.specs.Inside.Walks.{stage_of, stage_of_maker, IsSeen, IsSoundAt, WalkIsSound, EndsAt, TakesTurn, IsFalling, Walked};
 
 use crate::inputs::EdgeInputs;
 use std::alloc::{AllocError, Global};
@@ -46,8 +46,8 @@ fn stage_of_maker(stages: &[Stage], maker: Option<usize>) -> Stage
 impl Walk {
     /// No edge is seen.
     fn new<I: EdgeInputs>(alloc: Global, inputs: &I) -> Result<Self, AllocError>
-        ensures consistent { IfOk result (λ walk.
-            WalkIsConsistent (I.makers inputs.now) (I.count inputs.now) walk) }
+        ensures sound { IfOk result (λ walk.
+            WalkIsSound (I.makers inputs.now) (I.count inputs.now) walk) }
         ensures path { IfOk result (λ walk. walk.path.items ≡ []) }
     {
         let count = inputs.edge_count();
@@ -94,8 +94,8 @@ impl Walk {
     /// maker is unseen, and returns that maker.
     fn pass_inputs<I: EdgeInputs>(&mut self, inputs: &I, edge: usize) -> Option<usize>
         requires edges { AreEdges (I.makers inputs.now) (I.count inputs.now) }
-        requires consistent { IsConsistentAt (I.makers inputs.now) (I.count inputs.now) self.old edge }
-        ensures comes_after { IsConsistentAt (I.makers inputs.now) (I.count inputs.now) self.new edge }
+        requires sound { IsSoundAt (I.makers inputs.now) (I.count inputs.now) self.old edge }
+        ensures comes_after { IsSoundAt (I.makers inputs.now) (I.count inputs.now) self.new edge }
         ensures stages { self.new.stages.items ≡ self.old.stages.items }
         ensures ends { EndsAt (I.makers inputs.now) edge self.new result }
     {
@@ -116,7 +116,7 @@ impl Walk {
     /// or finishes it.
     fn take_turn<I: EdgeInputs>(&mut self, inputs: &I, edge: usize) -> Result<(), AllocError>
         requires edges { AreEdges (I.makers inputs.now) (I.count inputs.now) }
-        requires consistent { IsConsistentAt (I.makers inputs.now) (I.count inputs.now) self.old edge }
+        requires sound { IsSoundAt (I.makers inputs.now) (I.count inputs.now) self.old edge }
         ensures { OnOk result (TakesTurn (I.makers inputs.now) (I.count inputs.now)
             self.old self.new) }
     {
@@ -132,12 +132,12 @@ impl Walk {
     /// Finishes an unseen edge, and before it all unseen ones that it needs.
     fn visit<I: EdgeInputs>(&mut self, inputs: &I, edge: usize) -> Result<(), AllocError>
         requires edges { AreEdges (I.makers inputs.now) (I.count inputs.now) }
-        requires consistent { WalkIsConsistent (I.makers inputs.now) (I.count inputs.now) self.old }
+        requires sound { WalkIsSound (I.makers inputs.now) (I.count inputs.now) self.old }
         requires path { self.old.path.items ≡ [] }
         requires edge_in { edge < I.count inputs.now }
         requires unseen { stage_of self.old.stages.items edge ≡ Stage.Unseen }
         ensures comes_after { OnOk result
-            (WalkIsConsistent (I.makers inputs.now) (I.count inputs.now) self.new) }
+            (WalkIsSound (I.makers inputs.now) (I.count inputs.now) self.new) }
         ensures path_after { OnOk result (self.new.path.items ≡ []) }
         ensures seen { OnOk result (IsSeen self.new.stages.items edge) }
         ensures kept { OnOk result ((e : ℕ) → IsSeen self.old.stages.items e

@@ -49,7 +49,7 @@ HasNoRepeat order = (i j : ℕ) → i < j → j < length order → slice_index o
 
 -- between two turns: for each edge its stage and the index of its next input, the path of open edges, the first
 -- opened one first, and the edges that are finished, in that order
-pub record Consistent (makers : ℕ → List (Option ℕ)) (count : ℕ) (stages : List Stage) (next path order : List ℕ)
+pub record Sound (makers : ℕ → List (Option ℕ)) (count : ℕ) (stages : List Stage) (next path order : List ℕ)
     (meets_open : Bool) : Type 0 where
   pub stages_len : length stages ≡ count
   pub next_len : length next ≡ count
@@ -72,13 +72,13 @@ pub record Consistent (makers : ℕ → List (Option ℕ)) (count : ℕ) (stages
   pub falling : meets_open ≡ false → IsFalling makers order
   pub turns : sum_by turns_of stages + 2 * length order + length path ≡ 2 * count
 
-abbrev pub WalkIsConsistent : (makers : ℕ → List (Option ℕ)) → (count : ℕ) → Walk → Type 0
-WalkIsConsistent makers count w = Consistent makers count w.stages.items w.next.items w.path.items w.order.items w.meets_open
+abbrev pub WalkIsSound : (makers : ℕ → List (Option ℕ)) → (count : ℕ) → Walk → Type 0
+WalkIsSound makers count w = Sound makers count w.stages.items w.next.items w.path.items w.order.items w.meets_open
 
 -- the same, where the last edge of the path was taken from it
-abbrev pub IsConsistentAt : (makers : ℕ → List (Option ℕ)) → (count : ℕ) → Walk → (edge : ℕ) → Type 0
-IsConsistentAt makers count w edge =
-    Consistent makers count w.stages.items w.next.items (w.path.items ++ edge ∷ []) w.order.items w.meets_open
+abbrev pub IsSoundAt : (makers : ℕ → List (Option ℕ)) → (count : ℕ) → Walk → (edge : ℕ) → Type 0
+IsSoundAt makers count w edge =
+    Sound makers count w.stages.items w.next.items (w.path.items ++ edge ∷ []) w.order.items w.meets_open
 
 -- where an edge has passed inputs: after the last one, or up to the first whose maker is unseen
 abbrev pub EndsAt : (makers : ℕ → List (Option ℕ)) → (edge : ℕ) → Walk → Option ℕ → Type 0
@@ -88,7 +88,7 @@ EndsAt makers edge w (Some maker) =
 
 -- what a turn leaves
 pub record TakesTurn (makers : ℕ → List (Option ℕ)) (count : ℕ) (old new : Walk) : Type 0 where
-  pub consistent : WalkIsConsistent makers count new
+  pub sound : WalkIsSound makers count new
   pub fewer : sum_by turns_of new.stages.items < sum_by turns_of old.stages.items
   pub kept : (e : ℕ) → IsSeen old.stages.items e → IsSeen new.stages.items e
 

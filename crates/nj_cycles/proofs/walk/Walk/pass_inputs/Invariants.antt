@@ -1,11 +1,11 @@
 use Rattle.std.proofs.Common.{◌≡◌, ◌-◌, length}
 use Rattle.std.specs.Prelude.{slice_index}
-use Rattle.nj_cycles.specs.Inside.Walks.{IsConsistentAt}
+use Rattle.nj_cycles.specs.Inside.Walks.{IsSoundAt}
 use Rattle.nj_cycles.proofs.walk.Walk.pass_inputs.Given as goal
 
 abbrev pub invariant-inputs : goal.invariant-inputs
 invariant-inputs g l = record {
-  consistent : IsConsistentAt (g.I.EdgeInputs.makers l.inputs) (g.I.EdgeInputs.count l.inputs) l.self l.edge;
+  sound : IsSoundAt (g.I.EdgeInputs.makers l.inputs) (g.I.EdgeInputs.count l.inputs) l.self l.edge;
   stages : l.self.stages.items ≡ l.fn.self.stages.items;
 }
 

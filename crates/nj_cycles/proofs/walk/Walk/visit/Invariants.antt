@@ -1,11 +1,11 @@
 use Rattle.std.proofs.Common.{◌≢◌, ℕ, sum_by}
 use Rattle.nj_cycles.specs.declared.walk.Stage.TheVariants.{Unseen}
-use Rattle.nj_cycles.specs.Inside.Walks.{stage_of, turns_of, WalkIsConsistent}
+use Rattle.nj_cycles.specs.Inside.Walks.{stage_of, turns_of, WalkIsSound}
 use Rattle.nj_cycles.proofs.walk.Walk.visit.Given as goal
 
 abbrev pub invariant-turns : goal.invariant-turns
 invariant-turns g l = record {
-  consistent : WalkIsConsistent (g.I.EdgeInputs.makers l.inputs) (g.I.EdgeInputs.count l.inputs) l.self;
+  sound : WalkIsSound (g.I.EdgeInputs.makers l.inputs) (g.I.EdgeInputs.count l.inputs) l.self;
   seen : stage_of l.self.stages.items l.edge ≢ Unseen;
   kept : (e : ℕ) → stage_of l.fn.self.stages.items e ≢ Unseen → stage_of l.self.stages.items e ≢ Unseen;
 }
