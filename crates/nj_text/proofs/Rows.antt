@@ -144,7 +144,7 @@ data Expected : Type 0 where
   There : Bool → Expected
   Word : Spot → List PartText → Expected
   NoWord : Expected
-  Consistent : Spot → Expected
+  Placed : Spot → Expected
   Fault : UnitFault → Expected
 
 -- a call: its answer, and where it leaves the lexer
@@ -181,7 +181,7 @@ abbrev value : Call
 value = shown found_word value_of
 
 abbrev spot : Call
-spot s = (Consistent (spot_of s), s)
+spot s = (Placed (spot_of s), s)
 
 abbrev run : List Call → State → List Expected
 run [] s = []
@@ -201,7 +201,7 @@ escaped_spaces : outcomes (codes "build o$ 1: cp it's$ x") (start ∷ ident ∷ 
 unfolding outcomes cut
 escaped_spaces = refl
 
-join_in_a_word : outcomes (codes "build o: cp a$\n  b") (start ∷ ident ∷ word ∷ sign Colon ∷ ident ∷ word ∷ word ∷ spot ∷ sign line_end ∷ []) ≡ Begins Plain ∷ some (codes "build") ∷ Word (at 1 7) (Text (codes "o") ∷ []) ∷ There true ∷ some (codes "cp") ∷ Word (at 1 13) (Text (codes "a") ∷ Text (codes "b") ∷ []) ∷ NoWord ∷ Consistent (at 2 4) ∷ There true ∷ []
+join_in_a_word : outcomes (codes "build o: cp a$\n  b") (start ∷ ident ∷ word ∷ sign Colon ∷ ident ∷ word ∷ word ∷ spot ∷ sign line_end ∷ []) ≡ Begins Plain ∷ some (codes "build") ∷ Word (at 1 7) (Text (codes "o") ∷ []) ∷ There true ∷ some (codes "cp") ∷ Word (at 1 13) (Text (codes "a") ∷ Text (codes "b") ∷ []) ∷ NoWord ∷ Placed (at 2 4) ∷ There true ∷ []
 unfolding outcomes cut
 join_in_a_word = refl
 
@@ -213,13 +213,13 @@ references_in_words : outcomes (codes "a ${b.c}d$e-f.g|$$#") (start ∷ ident �
 unfolding outcomes cut
 references_in_words = refl
 
-identifiers : outcomes (codes "a-b_C.9  d:") (start ∷ ident ∷ spot ∷ ident ∷ ident ∷ spot ∷ []) ≡ Begins Plain ∷ some (codes "a-b_C.9") ∷ Consistent (at 1 8) ∷ some (codes "d") ∷ Found None ∷ Consistent (at 1 11) ∷ []
+identifiers : outcomes (codes "a-b_C.9  d:") (start ∷ ident ∷ spot ∷ ident ∷ ident ∷ spot ∷ []) ≡ Begins Plain ∷ some (codes "a-b_C.9") ∷ Placed (at 1 8) ∷ some (codes "d") ∷ Found None ∷ Placed (at 1 11) ∷ []
 unfolding outcomes cut
 identifiers = refl
 
 -- values
 
-trailing_spaces_stay : outcomes (codes "x =  a $b  c$:  \ny") (start ∷ ident ∷ sign Equals ∷ value ∷ spot ∷ value ∷ sign line_end ∷ spot ∷ []) ≡ Begins Plain ∷ some (codes "x") ∷ There true ∷ Word (at 1 6) (Text (codes "a ") ∷ Name (codes "b") ∷ Text (codes "  c") ∷ Text (codes ":") ∷ Text (codes "  ") ∷ []) ∷ Consistent (at 1 17) ∷ Word (at 1 17) [] ∷ There true ∷ Consistent (at 2 1) ∷ []
+trailing_spaces_stay : outcomes (codes "x =  a $b  c$:  \ny") (start ∷ ident ∷ sign Equals ∷ value ∷ spot ∷ value ∷ sign line_end ∷ spot ∷ []) ≡ Begins Plain ∷ some (codes "x") ∷ There true ∷ Word (at 1 6) (Text (codes "a ") ∷ Name (codes "b") ∷ Text (codes "  c") ∷ Text (codes ":") ∷ Text (codes "  ") ∷ []) ∷ Placed (at 1 17) ∷ Word (at 1 17) [] ∷ There true ∷ Placed (at 2 1) ∷ []
 unfolding outcomes cut
 trailing_spaces_stay = refl
 
@@ -227,7 +227,7 @@ join_in_a_value : outcomes (codes "x = a$\n   b : c | $\r\nd") (start ∷ ident 
 unfolding outcomes cut
 join_in_a_value = refl
 
-empty_value : outcomes (codes "x =  \n") (start ∷ ident ∷ sign Equals ∷ value ∷ spot ∷ []) ≡ Begins Plain ∷ some (codes "x") ∷ There true ∷ Word (at 1 6) [] ∷ Consistent (at 1 6) ∷ []
+empty_value : outcomes (codes "x =  \n") (start ∷ ident ∷ sign Equals ∷ value ∷ spot ∷ []) ≡ Begins Plain ∷ some (codes "x") ∷ There true ∷ Word (at 1 6) [] ∷ Placed (at 1 6) ∷ []
 unfolding outcomes cut
 empty_value = refl
 
@@ -237,41 +237,41 @@ longest_sign : outcomes (codes "| || |@ |||") (start ∷ sign Pipe2 ∷ sign Pip
 unfolding outcomes cut
 longest_sign = refl
 
-signs_and_places : outcomes (codes "a: =b") (start ∷ sign Colon ∷ ident ∷ sign Equals ∷ sign line_end ∷ sign Colon ∷ spot ∷ sign Equals ∷ spot ∷ []) ≡ Begins Plain ∷ There false ∷ some (codes "a") ∷ There false ∷ There false ∷ There true ∷ Consistent (at 1 3) ∷ There true ∷ Consistent (at 1 5) ∷ []
+signs_and_places : outcomes (codes "a: =b") (start ∷ sign Colon ∷ ident ∷ sign Equals ∷ sign line_end ∷ sign Colon ∷ spot ∷ sign Equals ∷ spot ∷ []) ≡ Begins Plain ∷ There false ∷ some (codes "a") ∷ There false ∷ There false ∷ There true ∷ Placed (at 1 3) ∷ There true ∷ Placed (at 1 5) ∷ []
 unfolding outcomes cut
 signs_and_places = refl
 
 -- faults
 
-bad_escape_in_a_value : outcomes (codes "x = $!") (start ∷ ident ∷ sign Equals ∷ spot ∷ value ∷ spot ∷ start ∷ ident ∷ sign line_end ∷ word ∷ value ∷ spot ∷ []) ≡ Begins Plain ∷ some (codes "x") ∷ There true ∷ Consistent (at 1 4) ∷ Fault (bad_escape (at 1 5)) ∷ Consistent (at 1 5) ∷ Fault (bad_escape (at 1 5)) ∷ Fault (bad_escape (at 1 5)) ∷ Fault (bad_escape (at 1 5)) ∷ Fault (bad_escape (at 1 5)) ∷ Fault (bad_escape (at 1 5)) ∷ Consistent (at 1 5) ∷ []
+bad_escape_in_a_value : outcomes (codes "x = $!") (start ∷ ident ∷ sign Equals ∷ spot ∷ value ∷ spot ∷ start ∷ ident ∷ sign line_end ∷ word ∷ value ∷ spot ∷ []) ≡ Begins Plain ∷ some (codes "x") ∷ There true ∷ Placed (at 1 4) ∷ Fault (bad_escape (at 1 5)) ∷ Placed (at 1 5) ∷ Fault (bad_escape (at 1 5)) ∷ Fault (bad_escape (at 1 5)) ∷ Fault (bad_escape (at 1 5)) ∷ Fault (bad_escape (at 1 5)) ∷ Fault (bad_escape (at 1 5)) ∷ Placed (at 1 5) ∷ []
 unfolding outcomes cut
 bad_escape_in_a_value = refl
 
-dollar_ends_the_text : outcomes (codes "x = $") (start ∷ ident ∷ sign Equals ∷ value ∷ spot ∷ []) ≡ Begins Plain ∷ some (codes "x") ∷ There true ∷ Fault (bad_escape (at 1 5)) ∷ Consistent (at 1 5) ∷ []
+dollar_ends_the_text : outcomes (codes "x = $") (start ∷ ident ∷ sign Equals ∷ value ∷ spot ∷ []) ≡ Begins Plain ∷ some (codes "x") ∷ There true ∷ Fault (bad_escape (at 1 5)) ∷ Placed (at 1 5) ∷ []
 unfolding outcomes cut
 dollar_ends_the_text = refl
 
-tab_begins_a_line : outcomes (codes "rule r\n\tcommand = x") (start ∷ ident ∷ ident ∷ sign line_end ∷ start ∷ spot ∷ ident ∷ start ∷ []) ≡ Begins Plain ∷ some (codes "rule") ∷ some (codes "r") ∷ There true ∷ Fault (Tab (at 2 1)) ∷ Consistent (at 2 1) ∷ Fault (Tab (at 2 1)) ∷ Fault (Tab (at 2 1)) ∷ []
+tab_begins_a_line : outcomes (codes "rule r\n\tcommand = x") (start ∷ ident ∷ ident ∷ sign line_end ∷ start ∷ spot ∷ ident ∷ start ∷ []) ≡ Begins Plain ∷ some (codes "rule") ∷ some (codes "r") ∷ There true ∷ Fault (Tab (at 2 1)) ∷ Placed (at 2 1) ∷ Fault (Tab (at 2 1)) ∷ Fault (Tab (at 2 1)) ∷ []
 unfolding outcomes cut
 tab_begins_a_line = refl
 
-tab_after_leading_spaces : outcomes (codes "x\n  \t# c") (start ∷ ident ∷ sign line_end ∷ start ∷ spot ∷ []) ≡ Begins Plain ∷ some (codes "x") ∷ There true ∷ Fault (Tab (at 2 3)) ∷ Consistent (at 2 3) ∷ []
+tab_after_leading_spaces : outcomes (codes "x\n  \t# c") (start ∷ ident ∷ sign line_end ∷ start ∷ spot ∷ []) ≡ Begins Plain ∷ some (codes "x") ∷ There true ∷ Fault (Tab (at 2 3)) ∷ Placed (at 2 3) ∷ []
 unfolding outcomes cut
 tab_after_leading_spaces = refl
 
-fault_in_a_word : outcomes (codes "build o $\n  a$!b") (start ∷ ident ∷ word ∷ word ∷ spot ∷ sign Colon ∷ []) ≡ Begins Plain ∷ some (codes "build") ∷ Word (at 1 7) (Text (codes "o") ∷ []) ∷ Fault (bad_escape (at 2 4)) ∷ Consistent (at 2 4) ∷ Fault (bad_escape (at 2 4)) ∷ []
+fault_in_a_word : outcomes (codes "build o $\n  a$!b") (start ∷ ident ∷ word ∷ word ∷ spot ∷ sign Colon ∷ []) ≡ Begins Plain ∷ some (codes "build") ∷ Word (at 1 7) (Text (codes "o") ∷ []) ∷ Fault (bad_escape (at 2 4)) ∷ Placed (at 2 4) ∷ Fault (bad_escape (at 2 4)) ∷ []
 unfolding outcomes cut
 fault_in_a_word = refl
 
-fault_after_a_word : outcomes (codes "build o \rb") (start ∷ ident ∷ word ∷ word ∷ spot ∷ []) ≡ Begins Plain ∷ some (codes "build") ∷ Word (at 1 7) (Text (codes "o") ∷ []) ∷ Fault (bad_byte (at 1 9)) ∷ Consistent (at 1 9) ∷ []
+fault_after_a_word : outcomes (codes "build o \rb") (start ∷ ident ∷ word ∷ word ∷ spot ∷ []) ≡ Begins Plain ∷ some (codes "build") ∷ Word (at 1 7) (Text (codes "o") ∷ []) ∷ Fault (bad_byte (at 1 9)) ∷ Placed (at 1 9) ∷ []
 unfolding outcomes cut
 fault_after_a_word = refl
 
-fault_before_an_identifier : outcomes (codes "x \0") (start ∷ ident ∷ ident ∷ spot ∷ []) ≡ Begins Plain ∷ some (codes "x") ∷ Fault (bad_byte (at 1 3)) ∷ Consistent (at 1 3) ∷ []
+fault_before_an_identifier : outcomes (codes "x \0") (start ∷ ident ∷ ident ∷ spot ∷ []) ≡ Begins Plain ∷ some (codes "x") ∷ Fault (bad_byte (at 1 3)) ∷ Placed (at 1 3) ∷ []
 unfolding outcomes cut
 fault_before_an_identifier = refl
 
-fault_before_a_sign : outcomes (codes "x $(") (start ∷ ident ∷ sign Colon ∷ spot ∷ []) ≡ Begins Plain ∷ some (codes "x") ∷ Fault (bad_escape (at 1 3)) ∷ Consistent (at 1 3) ∷ []
+fault_before_a_sign : outcomes (codes "x $(") (start ∷ ident ∷ sign Colon ∷ spot ∷ []) ≡ Begins Plain ∷ some (codes "x") ∷ Fault (bad_escape (at 1 3)) ∷ Placed (at 1 3) ∷ []
 unfolding outcomes cut
 fault_before_a_sign = refl
 
@@ -281,15 +281,15 @@ first_fault_of_a_value = refl
 
 -- where lines begin and end
 
-empty_text : outcomes (codes "") (start ∷ ident ∷ sign line_end ∷ word ∷ value ∷ spot ∷ start ∷ []) ≡ Begins End ∷ Found None ∷ There false ∷ NoWord ∷ Word (at 1 1) [] ∷ Consistent (at 1 1) ∷ Begins End ∷ []
+empty_text : outcomes (codes "") (start ∷ ident ∷ sign line_end ∷ word ∷ value ∷ spot ∷ start ∷ []) ≡ Begins End ∷ Found None ∷ There false ∷ NoWord ∷ Word (at 1 1) [] ∷ Placed (at 1 1) ∷ Begins End ∷ []
 unfolding outcomes cut
 empty_text = refl
 
-nothing_between_lines : outcomes (codes "a") (ident ∷ word ∷ sign line_end ∷ value ∷ spot ∷ start ∷ start ∷ ident ∷ start ∷ sign line_end ∷ sign line_end ∷ start ∷ []) ≡ Found None ∷ NoWord ∷ There false ∷ Word (at 1 1) [] ∷ Consistent (at 1 1) ∷ Begins Plain ∷ Begins Middle ∷ some (codes "a") ∷ Begins Middle ∷ There true ∷ There false ∷ Begins End ∷ []
+nothing_between_lines : outcomes (codes "a") (ident ∷ word ∷ sign line_end ∷ value ∷ spot ∷ start ∷ start ∷ ident ∷ start ∷ sign line_end ∷ sign line_end ∷ start ∷ []) ≡ Found None ∷ NoWord ∷ There false ∷ Word (at 1 1) [] ∷ Placed (at 1 1) ∷ Begins Plain ∷ Begins Middle ∷ some (codes "a") ∷ Begins Middle ∷ There true ∷ There false ∷ Begins End ∷ []
 unfolding outcomes cut
 nothing_between_lines = refl
 
-join_opens_a_line : outcomes (codes "$\n  a = b\nc") (start ∷ spot ∷ ident ∷ word ∷ sign line_end ∷ spot ∷ start ∷ value ∷ spot ∷ sign line_end ∷ spot ∷ []) ≡ Begins Plain ∷ Consistent (at 1 1) ∷ Found None ∷ NoWord ∷ There false ∷ Consistent (at 1 1) ∷ Begins Middle ∷ Word (at 2 3) (Text (codes "a = b") ∷ []) ∷ Consistent (at 2 8) ∷ There true ∷ Consistent (at 3 1) ∷ []
+join_opens_a_line : outcomes (codes "$\n  a = b\nc") (start ∷ spot ∷ ident ∷ word ∷ sign line_end ∷ spot ∷ start ∷ value ∷ spot ∷ sign line_end ∷ spot ∷ []) ≡ Begins Plain ∷ Placed (at 1 1) ∷ Found None ∷ NoWord ∷ There false ∷ Placed (at 1 1) ∷ Begins Middle ∷ Word (at 2 3) (Text (codes "a = b") ∷ []) ∷ Placed (at 2 8) ∷ There true ∷ Placed (at 3 1) ∷ []
 unfolding outcomes cut
 join_opens_a_line = refl
 
@@ -297,22 +297,22 @@ joins_open_a_line : outcomes (codes "$\n$\n a") (start ∷ value ∷ []) ≡ Beg
 unfolding outcomes cut
 joins_open_a_line = refl
 
-indented_line : outcomes (codes "r\n  a\n   $\n b") (start ∷ sign line_end ∷ ident ∷ sign line_end ∷ start ∷ spot ∷ ident ∷ sign line_end ∷ start ∷ spot ∷ ident ∷ spot ∷ []) ≡ Begins Plain ∷ There false ∷ some (codes "r") ∷ There true ∷ Begins Indented ∷ Consistent (at 2 3) ∷ some (codes "a") ∷ There true ∷ Begins Indented ∷ Consistent (at 3 4) ∷ some (codes "b") ∷ Consistent (at 4 3) ∷ []
+indented_line : outcomes (codes "r\n  a\n   $\n b") (start ∷ sign line_end ∷ ident ∷ sign line_end ∷ start ∷ spot ∷ ident ∷ sign line_end ∷ start ∷ spot ∷ ident ∷ spot ∷ []) ≡ Begins Plain ∷ There false ∷ some (codes "r") ∷ There true ∷ Begins Indented ∷ Placed (at 2 3) ∷ some (codes "a") ∷ There true ∷ Begins Indented ∷ Placed (at 3 4) ∷ some (codes "b") ∷ Placed (at 4 3) ∷ []
 unfolding outcomes cut
 indented_line = refl
 
-comment_ends_the_text : outcomes (codes "a\n  # $! \0") (start ∷ ident ∷ sign line_end ∷ spot ∷ start ∷ spot ∷ []) ≡ Begins Plain ∷ some (codes "a") ∷ There true ∷ Consistent (at 2 1) ∷ Begins End ∷ Consistent (at 2 9) ∷ []
+comment_ends_the_text : outcomes (codes "a\n  # $! \0") (start ∷ ident ∷ sign line_end ∷ spot ∷ start ∷ spot ∷ []) ≡ Begins Plain ∷ some (codes "a") ∷ There true ∷ Placed (at 2 1) ∷ Begins End ∷ Placed (at 2 9) ∷ []
 unfolding outcomes cut
 comment_ends_the_text = refl
 
-comments_and_a_blank_line : outcomes (codes "# c\n#\r\n \r\na") (start ∷ spot ∷ start ∷ spot ∷ ident ∷ []) ≡ Begins Blank ∷ Consistent (at 4 1) ∷ Begins Plain ∷ Consistent (at 4 1) ∷ some (codes "a") ∷ []
+comments_and_a_blank_line : outcomes (codes "# c\n#\r\n \r\na") (start ∷ spot ∷ start ∷ spot ∷ ident ∷ []) ≡ Begins Blank ∷ Placed (at 4 1) ∷ Begins Plain ∷ Placed (at 4 1) ∷ some (codes "a") ∷ []
 unfolding outcomes cut
 comments_and_a_blank_line = refl
 
-blank_line_ends_the_text : outcomes (codes "a\r\n   ") (start ∷ ident ∷ sign line_end ∷ spot ∷ start ∷ spot ∷ start ∷ []) ≡ Begins Plain ∷ some (codes "a") ∷ There true ∷ Consistent (at 2 1) ∷ Begins Blank ∷ Consistent (at 2 4) ∷ Begins End ∷ []
+blank_line_ends_the_text : outcomes (codes "a\r\n   ") (start ∷ ident ∷ sign line_end ∷ spot ∷ start ∷ spot ∷ start ∷ []) ≡ Begins Plain ∷ some (codes "a") ∷ There true ∷ Placed (at 2 1) ∷ Begins Blank ∷ Placed (at 2 4) ∷ Begins End ∷ []
 unfolding outcomes cut
 blank_line_ends_the_text = refl
 
-places_after_joins : outcomes (codes "a $\r\n  b$\nc") (start ∷ ident ∷ spot ∷ ident ∷ spot ∷ ident ∷ spot ∷ []) ≡ Begins Plain ∷ some (codes "a") ∷ Consistent (at 1 2) ∷ some (codes "b") ∷ Consistent (at 2 4) ∷ some (codes "c") ∷ Consistent (at 3 2) ∷ []
+places_after_joins : outcomes (codes "a $\r\n  b$\nc") (start ∷ ident ∷ spot ∷ ident ∷ spot ∷ ident ∷ spot ∷ []) ≡ Begins Plain ∷ some (codes "a") ∷ Placed (at 1 2) ∷ some (codes "b") ∷ Placed (at 2 4) ∷ some (codes "c") ∷ Placed (at 3 2) ∷ []
 unfolding outcomes cut
 places_after_joins = refl
