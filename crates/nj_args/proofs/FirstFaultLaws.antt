@@ -2,10 +2,11 @@
 use Rattle.std.proofs.Common.{◌≡◌, ℕ, Bool, true, false, List, [], ◌∷◌, ◌++◌, map, take, Option, Some, None, Result, Ok, Err, MatchOption, refl, sym, ap, subst, ◌∙◌}
 use Rattle.std.specs.Prelude.{not, ok_or, option_map, unwrap_or, ◌↔◌, if◌then◌else◌, IsOk}
 use Rattle.std.specs.Option.{option_map_or}
+use Rattle.nj_manifest.specs.LineSteps.{◌>>=◌}
 use Rattle.nj_args.specs.Fields.{FieldStrings, fields_of}
 use Rattle.nj_args.specs.FirstFaults.{Mistake, no_tool, unknown_tool, foreign_option, bad_take, bad_mark, bad_words, bad_depth, all_mistakes, NamesTool, HasMistake, toolless, unknown, no_number, no_mark, Lacks, HasNoMistake, IsFirstOf, first, later, FirstFaultIsReported, FaultlessWordsAreRequests}
 use Rattle.nj_args.specs.Numbers.{given_number}
-use Rattle.nj_args.specs.Requests.{ActionText, commands, single_commands, inputs, targets, query, rules, compdb, RequestText, main_file, here, style_of, ◌>>=◌, request_of, request_in, action_of, asked_of, commands_of, take_of, start_of, query_of, rules_of}
+use Rattle.nj_args.specs.Requests.{ActionText, commands, single_commands, inputs, targets, query, rules, compdb, RequestText, main_file, here, style_of, request_of, request_in, action_of, asked_of, commands_of, take_of, start_of, query_of, rules_of}
 use Rattle.nj_args.specs.RunMarks.{given_run_mark}
 use Rattle.nj_args.specs.Tools.{tool_named, goes_with, first_foreign, all_options}
 use Rattle.nj_args.specs.declared.faults.ToolOption.{ToolOption}
@@ -168,7 +169,7 @@ unfolding request_of
 first_fault-is_reported [] some fault = absurd (some refl)
 first_fault-is_reported (word ∷ words) some fault = first_reported (fields_of (word ∷ words)) fault
 
--- where there is a value there is no mistake, and the other way
+-- where there is a value there is no mistake, and conversely
 lacks_all : {A : Type 0} {fields : FieldStrings} {mistakes : List Mistake} {result : Result A UsageFault} → Ends fields mistakes result
     → IsOk result → LacksAll fields mistakes
 lacks_all (in_value none) ok = none

@@ -5,10 +5,11 @@ use Rattle.std.specs.Borrow.{Bor}
 use Rattle.clap.specs.Words.{Row, matched_of, matches_of, raw_values, rows_of}
 use Rattle.clap.specs.declared.parser.matches.Found.{Found}
 use Rattle.clap.proofs.WalkLemmas.{raw_values-rows}
+use Rattle.nj_manifest.specs.LineSteps.{◌>>=◌}
 use Rattle.nj_args.specs.CommandLine.{command}
 use Rattle.nj_args.specs.Fields.{FieldStrings, fields_in, is_refused, words_in}
 use Rattle.nj_args.specs.Inside.Held.{word_strings}
-use Rattle.nj_args.specs.Requests.{RequestText, given_request, request_in, request_of, wordless, ◌>>=◌}
+use Rattle.nj_args.specs.Requests.{RequestText, given_request, request_in, request_of, wordless}
 use Rattle.nj_args.specs.declared.faults.UsageFault.{UsageFault}
 use Rattle.nj_args.specs.declared.faults.UsageFault.TheVariants.{Unparsed, OutOfMemory}
 

@@ -1,9 +1,9 @@
 -- Mistakes in what is read in the words, and computations that end with the fault of the first.
 use Rattle.std.proofs.Common.{◌≡◌, ◌≢◌, ℕ, Bool, true, false, cond, List, [], ◌∷◌, ◌++◌, map, take, drop, Option, Some, None, Result, Ok, Err, refl, sym, ap, subst, ◌∙◌}
 use Rattle.std.specs.Prelude.{⊤, codes, not, ◌&&◌, is_some, find}
+use Rattle.nj_manifest.specs.LineSteps.{◌>>=◌}
 use Rattle.nj_args.specs.Fields.{FieldStrings}
 use Rattle.nj_args.specs.FirstFaults.{Mistake, foreign_option, bad_take, bad_mark, bad_words, bad_depth, TakesWords, NamesTool, HasMistake, toolless, unknown, foreign, no_number, no_mark, wrong_words, no_depth, Lacks, IsFirstOf, first, later}
-use Rattle.nj_args.specs.Requests.{◌>>=◌}
 use Rattle.nj_args.specs.Tools.{tool_named, is_foreign, first_foreign, all_options}
 use Rattle.nj_args.specs.declared.faults.ToolOption.{ToolOption}
 use Rattle.nj_args.specs.declared.faults.ToolOption.TheVariants as option

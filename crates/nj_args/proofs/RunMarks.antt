@@ -1,4 +1,4 @@
--- The texts of the marks of runs.
+-- How the marks of runs are written.
 use Rattle.std.proofs.Common.{◌≡◌, ◌≢◌, ℕ, Bool, true, false, Option, Some, None, List, [], ◌∷◌, refl, sym, ap, ◌∙◌, arith}
 use Rattle.std.specs.Prelude.{◌==◌, if◌then◌else◌, MatchOption, IfNone}
 use Rattle.std.specs.Borrow.{Bor}
