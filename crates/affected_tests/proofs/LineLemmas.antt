@@ -13,7 +13,7 @@ flat-more f before text after items i d below is more =
     more ∙ ap (λ t. t ++ f (get_or items i d)) is ∙ flat_map_more f before (take i items) (get_or items i d)
     ∙ ap (λ xs. before ++ flat_map f xs) (sym (take_more items i d below))
 
--- the texts of all items
+-- the byte strings of all items
 pub flat-all : {X : Type 0} (f : X → List ℕ) (before text : List ℕ) (items : List X) (i : ℕ) → length items ≤ i
     → text ≡ before ++ flat_map f (take i items) → text ≡ before ++ flat_map f items
 flat-all f before text items i past is = is ∙ ap (λ xs. before ++ flat_map f xs) (take_all i items past)

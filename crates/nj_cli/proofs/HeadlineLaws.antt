@@ -120,7 +120,7 @@ run-is words validations limit resume run start meant (other, given_too, is) =
     let e : Ok other ≡ Ok start = sym given_too ∙ meant in
     let same : other ≡ start = cc in is ∙ ap (commands words validations limit) same
 
--- a mark that reads back is that of its text
+-- a mark that reads back is the mark of its text
 start-meant : (validations : Bool) (mark : List ℕ) → ReadsBack mark → start_of validations (Some (run_mark_text validations mark)) ≡ Ok mark
 start-meant validations mark back =
     ap (λ (meant : Option (List ℕ)). ok_or meant (BadMark (run_mark_text validations mark))) (run-mark_reads_back validations mark back)

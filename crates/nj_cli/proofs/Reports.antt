@@ -1,4 +1,4 @@
--- What is told of words that ask for nothing.
+-- What is reported where the words ask for nothing.
 use Rattle.std.proofs.Common.{◌≡◌, ◌≢◌, ◌⊎◌, inl, inr, ℕ, Result, Err, List, refl, sym, subst}
 use Rattle.nj_args.specs.FaultLines as lines
 use Rattle.nj_args.specs.declared.faults.UsageFault.{UsageFault}

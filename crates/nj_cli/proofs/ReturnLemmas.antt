@@ -1,4 +1,4 @@
--- What a run answers, by the graph of its files.
+-- The outcome of a run, by the graph of its files.
 use Rattle.std.proofs.Common.{◌≡◌, ◌≢◌, ◌⊎◌, inl, inr, ℕ, Bool, true, false, if◌then◌else◌, Option, Some, None, Result, Ok, Err, IsErrAnd, List, [], length, map, filter, not, refl, sym, ap, subst, ◌∙◌}
 use Rattle.std.specs.List.{flat_map}
 use Rattle.std.specs.Prelude.{slice_get}
@@ -46,7 +46,7 @@ use Rattle.nj_cli.specs.declared.fault.RunFault.TheVariants as fault
 pub TakesFront-none : (s : SinkState) (text : List ℕ) → TakesFront s s text
 TakesFront-none s text = ([], (text, refl), Takes-nil s)
 
--- a fault is the answer
+-- the outcome is a fault
 pub ReturnsFor-err : (entries : List ReadStatement) (action : ActionText) (old new : SinkState) (result : Result (Option (List ℕ)) RunFault) (f : RunFault)
     → IsErrAnd result (λ e. e ≡ f) → ReturnsFor entries action old new (Err f) → ReturnsFor entries action old new result
 ReturnsFor-err entries action old new (Ok mark) f is outcomes = absurd is
@@ -89,7 +89,7 @@ module _ (entries : List ReadStatement) (g : GraphText) (is : IsGraphOf g entrie
       ap (grown_targets (edges_of g)) (paths-at (files_of g) numbers targets are) ∙ ap (λ (es : List EdgePaths). grown_targets es targets) edges-are in
       subst (AreFiles (files_of g) grown) paths is_grown
 
-  -- the defaults of the graph are those of the statements
+  -- the defaults of the graph are the defaults of the statements
   pub defaults-are : (numbers : List FileNo) → AreFiles (files_of g) numbers (defaults_in_force g.built.defaults (edges_of g))
       → AreFiles (files_of g) numbers (or_defaults entries [])
   defaults-are numbers are =
@@ -97,7 +97,7 @@ module _ (entries : List ReadStatement) (g : GraphText) (is : IsGraphOf g entrie
       ap (λ (ds : List (List ℕ)). defaults_in_force ds (edges_of g)) is.built.defaults ∙ ap (λ (es : List EdgePaths). defaults_in_force (defaults_read entries) es) edges-are in
       subst (AreFiles (files_of g) numbers) lines are
 
-  -- no target: the fault is the answer
+  -- no target: the outcome is the fault
   pub commands-refused : (words : List (List ℕ)) (validations : Bool) (take : Option ℕ) (start : List ℕ) (f : GraphFault) (s : SinkState)
       → (f ≡ no_memory) ⊎ (targets_of entries validations words ≡ Err f) → ReturnsFor entries (commands words validations take start) s s (Err (fault.Graph f))
   commands-refused words validations take start f s (inl none) = inl (none, refl)
@@ -162,7 +162,7 @@ module _ (entries : List ReadStatement) (g : GraphText) (is : IsGraphOf g entrie
         → ReturnsFor entries (ask.query words) old new (Err (fault_of_tool f))
     query-failed old new f stopped_so = stops (ask.query words) old new f (subst (λ t. StopsWithin old new t f) query-text stopped_so)
 
-  -- ---- a text that JSON cannot hold
+  -- ---- a string that JSON cannot contain
 
   pub compdb-unheld : (names : List (List ℕ)) (directory : List ℕ) (expand : Bool) (edge : ℕ) (f : GraphFault) (old new : SinkState)
       → unheld_edge entries names expand ≡ Some edge → f ≡ text_fault (slice_get (edges_read entries) edge)

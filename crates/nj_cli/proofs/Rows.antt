@@ -1,4 +1,4 @@
--- Worked rows, computed on the definitions: what runs answer about one small file.
+-- Worked rows, computed on the definitions: the outcomes of runs over one small file.
 use Rattle.std.proofs.Common.{◌≡◌, ℕ, Bool, true, false, true≢false, Some, None, List, [], ◌∷◌, refl, ap}
 use Rattle.std.specs.Fmt.{digits}
 use Rattle.std.specs.Prelude.{⊤, ◌≢◌, codes}
@@ -48,7 +48,7 @@ made line output column inputs = entry line (BuildText
     (record { explicit = inputs; implicit = []; order_only = []; validations = [] })
     [])
 
--- the statements of the file, of which the last read stands first; the edges are 0 for a, 1 for b1, 2 for b2 and 3 for d
+-- the statements of the file, the last read first; the edges are 0 for a, 1 for b1, 2 for b2 and 3 for d
 abbrev entries : List ReadStatement
 entries =
     made 6 (codes "d") 10 (word 6 13 (codes "b1") ∷ word 6 16 (codes "b2") ∷ [])
@@ -121,7 +121,7 @@ reads_0_1 : ReadsBack (0 ∷ 1 ∷ [])
 unfolding digits given_mark
 reads_0_1 = refl
 
--- ---- at most so many
+-- ---- at most a given number
 
 two : outputs (commands d false (Some 2) []) (codes "mk a\nmk b1\n")
 unfolding on_entries
@@ -235,7 +235,7 @@ two_and_rest =
     stops (commands d false (Some 2) []) (0 ∷ 0 ∷ []) from_start two_stops two
     (no_runs (commands d false None (0 ∷ 0 ∷ [])) rest_from_text from_0_0)
 
--- ---- what is told
+-- ---- what is reported
 
 error_of_ended : error_of false finished ≡ []
 error_of_ended = refl

@@ -40,7 +40,7 @@ module _ (entries : List ReadStatement) (action : ActionText) (old new : Around)
   reported-fault text ends took (inl reported_so) = known (record { ending = faulty text; ends = ends; output = took; error = reported_so; status_is = refl })
   reported-fault text ends took (inr failed) = untold (record { ending = faulty text; ends = ends; output = took; error = failed; status_is = refl })
 
-  -- there was no room for the line of a fault
+  -- there was no memory for the line of a fault
   late : Takes old.output new.output (output_of entries action) → Reported old.error new.error (with_line_end out_of_memory) → RunEnds entries action old new Fault
   late took reported =
       memory_failed (record { output = (output_of entries action, ([], sym (append-nil (output_of entries action))), took); error = reported; status_is = refl })

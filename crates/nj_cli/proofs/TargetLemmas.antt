@@ -71,7 +71,7 @@ files-push files numbers paths file path are is =
     ∙ ap (λ o. map Some paths ++ o ∷ []) is
     ∙ sym (map_push Some paths path)
 
--- a fault is the answer
+-- the outcome is a fault
 pub PicksTargets-err : (files : List (List ℕ)) (expected : Result (List (List ℕ)) GraphFault) (result : Result (Vec FileNo) GraphFault) (fault : GraphFault)
     → IsErrAnd result (λ e. e ≡ fault) → (fault ≡ no_memory) ⊎ (expected ≡ Err fault) → PicksTargets files expected result
 PicksTargets-err files expected (Ok numbers) fault is why = absurd is

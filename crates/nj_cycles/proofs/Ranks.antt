@@ -46,7 +46,7 @@ module _ (makers : ℕ → List (Option ℕ)) (count : ℕ) (order : List ℕ) (
     },
   )
 
-  -- where no edge lies on a cycle, each stands after what it needs
+  -- where no edge lies on a cycle, each edge comes after what it needs
   pub falls : ((e : ℕ) → Contains order e → ¬ IsOnCycle makers e) → IsFalling makers order
   falls none a f lt needs = elim (w.settled a a f (omega arith) lt needs) [
     | inl c ↦ c
@@ -90,7 +90,7 @@ module _ (makers : ℕ → List (Option ℕ)) (count : ℕ) (order : List ℕ) (
   pub on_cycle-marked : (e : ℕ) (edges : List ℕ) (flags : List Bool) → AreMarks makers (e ∷ edges) flags → IsOnCycle makers e → IsMarked flags e
   on_cycle-marked e edges flags marks h = closed_chain (e ∷ edges) flags marks e e h (Contains-append_left (e ∷ []) edges e (0, omega arith, refl))
 
-  -- ---- the answer
+  -- ---- the result
 
   pub answered : (least : Option ℕ) → IsLeastOf makers order least → IsFirstOnCycle makers count least
   answered None none = ranked (falls none)
@@ -100,7 +100,7 @@ module _ (makers : ℕ → List (Option ℕ)) (count : ℕ) (order : List ℕ) (
       starts_in e f (one n) = (w.known e f n).0
       starts_in e f (more {g = h} n c) = (w.known e h n).0
 
--- ---- the least edge so far
+-- ---- the lowest-numbered edge so far
 
 head_or_tail : (e : ℕ) (edges : List ℕ) (x : ℕ) → Contains (e ∷ edges) x → (e ≡ x) ⊎ Contains edges x
 head_or_tail e edges x c = elim (Contains-append_cases (e ∷ []) edges x c) [

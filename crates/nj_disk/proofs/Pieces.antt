@@ -4,7 +4,7 @@ use Rattle.std.proofs.KnownBytes.{Consumes-trans}
 use Rattle.std.proofs.Math.Seq.{take-add}
 use Rattle.std.specs.Io.KnownBytes.{Consumes}
 
--- the reader's first bytes stand at the front of the room
+-- the reader's first bytes are at the front of the buffer
 pub record IsFilled (first now : Option (List ℕ)) (capacity : List ℕ) (filled : ℕ) : Type 0 where
   pub read : Consumes first now (take filled capacity)
   pub in_capacity : filled ≤ length capacity

@@ -246,7 +246,7 @@ lesser_at x y = by (order x y) refl
     by Equal e = (not_less_own x, λ h. let r = turned x y Equal e in cc)
     by Greater e = (λ h. cc, not_less_own y)
 
--- what is not below another is not below what is no greater
+-- what is not below another is not below anything that is no greater
 no_less : (x y z : List ℕ) → order x y ≢ Less → order y z ≢ Less → order x z ≢ Less
 no_less x y z p q h = by (order z y) refl
   where
@@ -306,7 +306,7 @@ computed_found block lines = by (keys_on_cycles block lines) refl
 same_text : (x y : List ℕ) → order x y ≡ Equal → x ≡ y
 same_text x y e = same_name x y (texts_ties x y ∙ ap is_eq e)
 
--- there is one answer
+-- there is only one result
 one_found : (block : List ℕ → Option (List ℕ)) (lines : List RuleLineText) (outcome other : Option (List ℕ)) → IsCycleFound block lines outcome → IsCycleFound block lines other → outcome ≡ other
 one_found block lines None None p q = refl
 one_found block lines None (Some y) p q = absurd (p y q.0)

@@ -74,7 +74,7 @@ module _ (block : List ℕ → Option (List ℕ)) (lines : List RuleLineText) (k
       of None e h = absurd (true≢false (sym h))
       of (Some parts) e h = let is = rule_value_is unbound lines key parts e in (parts, rule_value_of block lines key is.no_paths free ∙ is.given, h)
 
-  -- a number that refers to another is that of a key that refers to the other's
+  -- a number that refers to another is the number of a key that refers to the other's key
   refers_to : (a b : ℕ) → Refers keys counts a b → RefersTo block lines (key_at lines a) (key_at lines b)
   refers_to a b (m, r) =
       let within = row_within keys a b r in
@@ -118,7 +118,7 @@ module _ (block : List ℕ → Option (List ℕ)) (lines : List RuleLineText) (k
     λ x on less. let k = loop_of x on in so.2 k.0 k.1 k.3 (subst (λ y. slice_cmp nat_cmp y (name_at keys m) ≡ Less) (sym k.2) less),
   )
 
-  -- so the least number is that of the key that is computed
+  -- so the lowest number is the number of the key that is computed
   least_computed : (least : Option ℕ) → IsLeastLoop keys counts least → option_map (name_at keys) least ≡ variable_cycle_of block lines
   least_computed least so = is_computed block lines (option_map (name_at keys) least) (least_found least so)
 

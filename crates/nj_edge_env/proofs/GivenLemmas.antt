@@ -1,4 +1,4 @@
--- What names say: late texts, where no variable of a rule refers back to itself.
+-- What names give: late strings, where no variable of a rule refers back to itself.
 use Rattle.std.proofs.Common.{◌≡◌, ℕ, zero, suc, ◌<◌, ◌≤◌, Bool, true, false, ◌||◌, if◌then◌else◌, List, [], ◌∷◌, ◌++◌, length, Option, None, Some, unwrap_or, option_map, bytes_eq, refl, sym, ap, subst, ◌∙◌, true≢false, arith}
 use Rattle.std.specs.Option.{option_or}
 use Rattle.std.specs.Prelude.{is_some, codes, find, reverse, ◌⊎◌}
@@ -211,7 +211,7 @@ reached_push : (block : List ℕ → Option (List ℕ)) (lines : List RuleLineTe
 reached_push block lines key next other (one r) s = more r (one s)
 reached_push block lines key next other (more {g = middle} r c) s = more r (reached_push block lines middle next other c s)
 
--- a value of the rule that counts stands in a line
+-- a value of the rule that counts comes from a line
 pub counts_in_line : (block : List ℕ → Option (List ℕ)) (lines : List RuleLineText) (name : List ℕ) (parts : List PartText) → rule_value block lines name ≡ Some parts → has_key lines name ≡ true
 counts_in_line block lines name parts h =
     sym (has_reversed lines name) ∙ found_last (reverse lines) name parts (given_at lines name parts (rule_value_is block lines name parts h).given)
@@ -252,7 +252,7 @@ from_block quoting n name value u p h (by_block q e) = let t = sym e ∙ h in cc
 from_block quoting n name value u p h (by_rule parts v e f) = let t = sym (rule_value_is n.block n.lines name parts e).unbound ∙ h in cc
 from_block quoting n name value u p h (by_file q o e) = let t = sym o ∙ h in cc
 
--- what a name says whose value is the rule's
+-- what a name gives whose value is the rule's
 from_rule : (quoting : Bool) (n : LateNames) (name u : List ℕ) (parts : List PartText) → rule_value n.block n.lines name ≡ Some parts → Denotes quoting n name u
     → (value : List ℕ → List ℕ) × ((other : List ℕ) → refers parts other ≡ true → Denotes quoting n other (value other)) × (u ≡ expanded value parts)
 from_rule quoting n name u parts h (by_paths e) = let t = sym (without_paths quoting n.inputs n.outputs name (rule_value_is n.block n.lines name parts h).no_paths) ∙ e in absurd cc

@@ -1,4 +1,4 @@
--- Lemmas on texts of keys that are copied.
+-- Lemmas on copied strings of keys.
 use Rattle.std.proofs.Common.{◌≡◌, ◌<◌, ◌≤◌, ◌+◌, ◌-◌, ◌⊎◌, inl, inr, ℕ, zero, suc, Bool, true, false, ◌||◌, if◌then◌else◌, List, [], ◌∷◌, ◌++◌, take, drop, length, slice_get, max, Option, None, Some, is_some, refl, sym, ap, subst, ◌∙◌, true≢false, arith, append_assoc, length-append}
 use Rattle.std.specs.Prelude.{slice_range, slice_set, nat_le, IfSome}
 use Rattle.std.proofs.lemmas.List.{append-nil, drop-append-le, take-append-le, length-drop}
@@ -60,7 +60,7 @@ grows_on old middle new (more, e) (rest, f) = (more ++ rest, f ∙ ap (λ bytes.
 grows_longer : (old new : List ℕ) → IsPrefix old new → length old ≤ length new
 grows_longer old new (more, e) = let n = ap length e ∙ length-append old more in omega arith
 
--- ---- the texts of keys
+-- ---- the strings of keys
 
 module _ (quoting : Bool) (e : LateEdge) where
   key_text_kept : (number : ℕ) (t : KeyText) (old new : List ℕ) → IsPrefix old new → IsKeyText quoting e number t old → IsKeyText quoting e number t new
@@ -105,7 +105,7 @@ set_at (z ∷ xs) (suc i) zero x y h = inr h
 set_at (z ∷ xs) (suc i) (suc j) x y h = elim (set_at xs i j x y h) [ inl e ↦ inl (ap suc e.0, e.1) | inr rest ↦ inr rest ]
 
 module _ (quoting : Bool) (e : LateEdge) (depth : ℕ) (old : List ℕ) where
-  -- ---- a name that no line of the rule says, and one whose text is known
+  -- ---- a name that no line of the rule binds, and one whose string is known
 
   none_settles : (name : List ℕ) → rule_value (bound_in e.blocks.now e.edge) e.rule.now.lines name ≡ None → (d : ℕ) → SettlesIn e (suc d) name
   none_settles name none d = λ other r. let h = sym none ∙ r.1 in absurd cc

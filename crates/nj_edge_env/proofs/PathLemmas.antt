@@ -1,4 +1,4 @@
--- Lemmas on the paths of an edge, as texts.
+-- Lemmas on the paths of an edge, as byte strings.
 use Rattle.std.proofs.Common.{◌≡◌, ◌<◌, ◌+◌, ◌⊎◌, inl, inr, ℕ, zero, suc, Bool, List, [], ◌∷◌, ◌++◌, map, take, slice_get, Some, is_some, unwrap_or, if◌then◌else◌, sym, ap, ◌∙◌, true≢false, arith, add-one, append_assoc, Result, Ok, Err, OnErr}
 use Rattle.std.specs.List.{flat_map}
 use Rattle.std.proofs.lemmas.Grind.{flat_map-append}
@@ -57,7 +57,7 @@ pub on-err : {A E P : Type 0} (r : Result A E) → P → OnErr r P
 on-err (Ok a) p = tt
 on-err (Err e) p = p
 
--- nothing or a separator was appended to the texts so far
+-- nothing or a separator was appended to the bytes so far
 pub paths_begin : (start text : List ℕ) (separator : ℕ) (before pushed after : List ℕ) → before ≡ start ++ text → (pushed ≡ before ++ separator ∷ []) ⊎ (pushed ≡ before) → after ≡ pushed
     → IsPrefix start after
 paths_begin start text separator before pushed after so (inl more) same = (text ++ separator ∷ [], same ∙ more ∙ ap (λ bytes. bytes ++ separator ∷ []) so ∙ append_assoc start text (separator ∷ []))

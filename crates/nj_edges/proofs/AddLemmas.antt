@@ -73,7 +73,7 @@ has-below count n (f ∷ ns) are h = by (eqb_tells n f.0) are.0 h (has-below cou
 
 -- ---- the list of makers
 
--- where the file's number is that of the next maker, it is new
+-- where the file's number is the number of the next maker, it is new
 pub maker-then : (files : List (List ℕ)) (path : List ℕ) (makers : List (Option ℕ)) (n : ℕ) → length makers ≡ length files → slice_get (with_path files path) n ≡ Some path → n ≡ length makers → makers ++ None ∷ [] ≡ with_maker files path makers
 maker-then files path makers n count here next = by (list_any (bytes_eq path) files) here
   where

@@ -39,7 +39,7 @@ input-of path paths e is input =
 abbrev no-edge : EdgePaths
 no-edge = edge_at [] 0
 
--- what is some edge's output is that of an edge that is there
+-- an output of some edge is an output of an edge of the graph
 made-below : (edges : List EdgePaths) (f : ℕ) (path : List ℕ) → is_among (outputs_of (edge_at edges f)) path ≡ true → f < length edges
 made-below edges f path is = elim (cases_lt f (length edges)) [
   | inl below ↦ below

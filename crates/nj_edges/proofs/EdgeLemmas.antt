@@ -193,7 +193,7 @@ named-cases files path n h = by (list_any (bytes_eq path) files) refl
 
 -- ---- makers
 
--- a number that is no file's is not among files
+-- a number that no file has is not among files
 pub none-has : (n : ℕ) (ns : List FileNo) → AreNumbers n ns → has_number n ns ≡ false
 none-has n [] are = refl
 none-has n (f ∷ ns) are = by (eqb_tells n f.0) are.0 (none-has n ns are.1)
@@ -264,7 +264,7 @@ module _ (files : List (List ℕ)) (makers : List (Option ℕ)) (outputs inputs 
         validations_start = held.validations_start;
       }
 
-  -- where the file's number is that of the next maker, it is new
+  -- where the file's number is the number of the next maker, it is new
   pub held-then : (new : List (List ℕ)) (n : ℕ) → new ≡ with_path files path → IsDistinct bytes_eq new → slice_get new n ≡ Some path → n ≡ length makers → EdgesAreHeld new (makers ++ None ∷ []) outputs inputs validations rows starts
   held-then new n is distinct here next = by (named-cases files path n (ap (λ fs. slice_get fs n) (sym is) ∙ here))
     where

@@ -114,7 +114,7 @@ was-changed [] edge spans = refl
 was-changed (found ∷ added) zero spans = refl
 was-changed (found ∷ added) (suc edge) spans = ap (λ xs. is_some found ∷ xs) (was-changed added edge spans)
 
--- where the collected files stand
+-- where the collected files are
 abbrev pub next_spans : (open_outputs open_inputs : ℕ) → (added_outputs added_inputs : List FileNo) → AddedSpans
 next_spans open_outputs open_inputs added_outputs added_inputs = record {
   outputs = record { start = open_outputs; end = length added_outputs };

@@ -19,7 +19,7 @@ use Rattle.nj_edges.proofs.ListLemmas.{slice_range-append, slice_range-rest}
 
 -- ---- the index of a path
 
--- a path that has an index stands there
+-- a path that has an index is found there
 pub found-at : (path : List ℕ) (paths : List (List ℕ)) (i : ℕ) → position (bytes_eq path) paths ≡ Some i → slice_get paths i ≡ Some path
 found-at path paths i h =
     let p = position-Some (bytes_eq path) paths i [] h in
@@ -209,7 +209,7 @@ module _ (hash : Hash) (paths : List (List ℕ)) (path : List ℕ) where
           ∙ sym (newest-more hash paths (path ∷ []) (hash (path_of paths n)) n (omega arith))
           ∙ ap (λ p. newest_below hash longer (hash p) n) (sym (path_of-more paths (path ∷ []) n within))
 
-  -- the path is the newest of its hash, and those of other hashes are what they were
+  -- the path is the newest of its hash, and those of other hashes stay
   pub newest-push : (wanted : ℕ) → newest_below hash longer wanted (length longer) ≡ cond (hash path == wanted) (length paths + 1) (newest_below hash paths wanted (length paths))
   newest-push wanted =
       ap (newest_below hash longer wanted) longer-count

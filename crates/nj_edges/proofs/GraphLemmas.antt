@@ -139,7 +139,7 @@ chain-below edges e f (one s) = needs-below edges e f s
 chain-below edges e f (more {g = g} s c) = needs-below edges e g s
 
 module _ (files : List (List ℕ)) (makers : List (Option ℕ)) (outputs inputs validations : List FileNo) (rows : List EdgeRow) (held : EdgesAreHeld files makers outputs inputs validations rows (ends_of outputs inputs validations)) (t : EdgeTable) where
-  -- the answer of the check, of the edges of the table
+  -- the result of the check, for the edges of the table
   pub first-table : (starts : OpenStarts) → table_of files outputs inputs validations rows starts ≡ t → (first : Option ℕ) → IsFirstOnCycle (makers_in_rows inputs rows makers) (length rows) first → IsFirstOnCycle (makers_of_inputs t.edges) (length t.edges) first
   first-table starts is first h =
       let count : length (edges_of files outputs inputs validations rows) ≡ length rows = length-map rows (edge_of files outputs inputs validations) in
@@ -160,12 +160,12 @@ get-map f [] i x d h = absurd (true≢false (sym (ap is_some h)))
 get-map f (y ∷ xs) zero x d h = ap f (ap (λ o. unwrap_or o y) h)
 get-map f (y ∷ xs) (suc i) x d h = get-map f xs i x d h
 
--- numbers of files are those of their paths
+-- numbers of files are the numbers of their paths
 pub files-at : (files : List (List ℕ)) (ns : List FileNo) → AreNumbers (length files) ns → AreFiles files ns (paths_at files ns)
 files-at files [] are = refl
 files-at files (f ∷ ns) are = let first = get-path files f are.0 in let rest = files-at files ns are.1 in cc
 
--- and numbers that have paths are those of files
+-- and numbers that have paths are the numbers of files
 pub files-numbers : (files : List (List ℕ)) (ns : List FileNo) (paths : List (List ℕ)) → AreFiles files ns paths → AreNumbers (length files) ns
 files-numbers files [] paths are = tt
 files-numbers files (n ∷ ns) [] are = absurd (omega (arith, ap length are))

@@ -170,7 +170,7 @@ module _ (files : List (List ℕ)) (outputs inputs validations added_outputs add
 
 -- ---- all edges
 
--- rows that stand for edges with what was added to them
+-- rows that represent edges, with what was added to them
 pub record AreJoinedRows (files : List (List ℕ)) (outputs inputs validations added_outputs added_inputs : List FileNo) (rows : List EdgeRow) (added : List (Option AddedSpans))
     (new_outputs new_inputs : List FileNo) (new : List EdgeRow) : Type 0 where
   pub outputs_are : map (λ (row : EdgeRow). within new_outputs row.outputs) new ≡ joined_with (joined_outputs outputs added_outputs) rows added

@@ -43,7 +43,7 @@ any-parts p q r (e ∷ es) = ap (λ b. (p e || q e || r e) || b) (any-parts p q 
 
 -- ---- numbers
 
--- a path that is among them stands somewhere
+-- a path that is among them has a position
 found-get : (path : List ℕ) (files : List (List ℕ)) → list_any (bytes_eq path) files ≡ true → (n : ℕ) × (slice_get files n ≡ Some path)
 found-get path [] h = absurd (true≢false (sym h))
 found-get path (p ∷ files) h = by (bytes_eq path p) refl h (found-get path files)

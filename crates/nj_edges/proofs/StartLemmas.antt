@@ -13,7 +13,7 @@ use Rattle.nj_edges.specs.Joining.{join_of}
 use Rattle.nj_edges.specs.Inside.JoiningHeld.{AddedInputsAreWithin, AddedOutputsAreWithin, JoinIsHeld, added_input_rows, added_output_rows, is_in_rows, join_held, joined_by, with_found}
 use Rattle.nj_edges.proofs.JoiningLemmas.{have-from}
 
--- for each of so many edges nothing
+-- nothing for each of this many edges
 abbrev pub IsNothing : Option AddedSpans → Type 0
 IsNothing found = found ≡ None
 

@@ -1,10 +1,10 @@
--- Small texts, worked out on the definitions: versions.
+-- Small examples, worked out on the definitions: versions.
 use Rattle.std.proofs.Common.{◌≡◌, true, false, refl}
 use Rattle.std.specs.Prelude.{codes}
 use Rattle.nj_text.specs.Numbers.{value_of_digits, version_pair_of}
 use Rattle.nj_faults.specs.Versions.{reader_version, reader_version_text, is_newer}
 
--- the text is that of the two numbers
+-- the text consists of the two numbers
 text_of_version : version_pair_of reader_version_text ≡ reader_version
 unfolding value_of_digits
 text_of_version = refl

@@ -1,4 +1,4 @@
--- What variables say for an edge of the graph of statements.
+-- The values of variables for an edge of the graph of statements.
 use Rattle.std.proofs.Common.{◌≡◌, ℕ, zero, suc, ◌<◌, ◌∷◌, Bool, Option, Some, option_map, unwrap_or, List, [], map, length, get_or, slice_get, slice_index_or, bytes_eq, sym, ap, subst, ◌∙◌, arith, true≢false, is_some}
 use Rattle.std.specs.List.{AllByRecursion}
 use Rattle.std.proofs.lemmas.List.{length-map}
@@ -74,7 +74,7 @@ module _ (g : GraphText) (entries : List ReadStatement) (is : IsGraphOf g entrie
   block-is : (λ name. bound_in g.built.blocks n name) ≡ edge.block
   block-is = same-everywhere (λ name. bound_in g.built.blocks n name) edge.block (λ name. is.built.blocks n name ∙ ap (λ o. block_of_edge o name) there.1)
 
-  -- the names of the edge are those of its statement
+  -- the names of the edge are the names of its statement
   pub names-same : (files : List (List ℕ)) (ins outs : List FileNo) (blocks : BlocksText) (rule : RuleText) (scope : ℕ)
       → files ≡ files_of g → AreFiles (files_of g) ins (edge_at (edges_of g) n).explicit_inputs → AreFiles (files_of g) outs (edge_at (edges_of g) n).explicit_outputs
       → blocks ≡ g.built.blocks → rule ≡ get_or g.declarations.rules (detail_at g.built.details n).rule rule → scope ≡ (detail_at g.built.details n).scope

@@ -50,7 +50,7 @@ pub record HasNoMemory (before after : SourceState) (old : List Reading) (path :
   pub came_to : (paths_of files ≡ paths_of old) ⊎ ((paths_of files ≡ with_new (paths_of old) path) × (is_read files path ≡ true))
   pub answered : fault ≡ no_memory
 
--- a fault is that of the word, where its file has this name
+-- a fault of the word is the fault, where its file has this name
 pub outcomes-named : (before after : SourceState) (old held : List Reading) (name file : List ℕ) (at spot : Spot) (path : List ℕ) (fault : GraphFault) → name ≡ file → at ≡ spot
     → ReturnsText before after old held (record { file = name; spot = at }) path (Err fault) → ReturnsText before after old held (record { file = file; spot = spot }) path (Err fault)
 outcomes-named before after old held name file at spot path fault is there outcomes =

@@ -1,4 +1,4 @@
--- What a reader holds after one statement more.
+-- What a reader has after one statement more.
 use Rattle.std.proofs.Common.{◌≡◌, ℕ, ◌==◌, ◌&&◌, if◌then◌else◌, Bool, true, false, not, cond, Some, None, option_map, option_and_then, unwrap_or, Result, Ok, Err, List, [], ◌∷◌, length, slice_get, ◌-◌, find, refl, sym, ap, subst, ◌∙◌, true≢false, arith}
 use Rattle.std.specs.Option.{option_or}
 use mathlib.Core.Path.{fun_ext}
@@ -104,7 +104,7 @@ depth-same e entries nothing scope lines =
 pub same-grows : (before after : DeclarationsText) → SameScopes before after → Grows before.scopes after.scopes
 same-grows before after same = let count = same.count in record { count = omega (arith, count); parents = λ n below. same.parents n }
 
--- ---- statements that say what is built
+-- ---- `build` and `default` statements
 
 -- a statement at a place of an open file
 pub placed-entry : (file : OpenFile) (place : PlaceRef) (spot : Spot) (around : List ℕ) (depth : ℕ) (item : StatementText)
@@ -119,7 +119,7 @@ pub placed-text : (place : PlaceRef) (file : List ℕ) (spot : Spot) → place.f
 placed-text place file spot file_is spot_is =
     ap (λ (name : List ℕ). record { file = name; spot = place.spot }) file_is ∙ ap (λ (s : Spot). record { file = file; spot = s }) spot_is
 
--- a statement by which the declarations stay, and the edges are those of one statement more
+-- a statement that leaves the declarations as they are and adds the edges of one statement
 pub built-declares : (main : List ℕ) (old held : Reader) (entries : List ReadStatement) (e : ReadStatement) (result : Result (Unit {0}) GraphFault) → Has main old entries
     → DeclaredBy held.declarations (e ∷ entries) → held.origins ≡ origins_with e entries old.origins → held.files ≡ old.files → path_named e entries e.item ≡ []
     → Grows old.declarations.scopes held.declarations.scopes → IsOpenScope old.declarations.scopes e.number e.around

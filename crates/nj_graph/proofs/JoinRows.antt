@@ -80,7 +80,7 @@ accepted_paths : (joined_by one_edge (codes "build o: dyndep\n")).paths ≡ code
 unfolding on_dyndeps
 accepted_paths = refl
 
--- then no edge waits
+-- then no edge is pending
 accepted_is_pending : pending_read (joined_by one_edge (codes "build o: dyndep\n")).read.entries ≡ []
 unfolding on_dyndeps
 accepted_is_pending = refl

@@ -145,7 +145,7 @@ module _ (stated joined : List ReadStatement) (p : Pending) where
       stops-text fault (inr r) = stops-refused fault r
 
       module _ (held : JoiningText) (t : TextJoined p.file stated text joined held) where
-        -- an edge waits for it
+        -- an edge is pending on it
         stops-unjoined : (fault : GraphFault) → IsFault (lacking_fault p.file t.now) fault → FileStops stated joined p before after old fault
         stops-unjoined fault (inl none) = stops-text fault (inl none)
         stops-unjoined fault (inr is) = stops-refused fault (record { now = t.now; joins = t.joins ∙ ap (λ f. record { entries = t.now; end = end_by f }) is })

@@ -122,7 +122,7 @@ module _ (stated : List ReadStatement) (before after : SourceState) (old : List 
       details-same : built.details ≡ g.built.details
       details-same = comes.0.details ∙ sym f.has.details ∙ f.has.stated_details ∙ sym is.built.details
 
-      -- and it holds what a graph holds
+      -- and it has what a graph has
       pub joined-held : (numbers : List ℕ) → IsGraph g.declarations g.built numbers → IsGraph g.declarations built numbers
       joined-held numbers h = record {
         listed = h.listed;

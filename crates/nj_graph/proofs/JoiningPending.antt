@@ -1,4 +1,4 @@
--- Which edges wait for dyndep files, as these are joined one after the other.
+-- Which edges are pending on dyndep files, as these are joined one after another.
 use Rattle.std.proofs.Common.{◌≡◌, ℕ, zero, suc, ◌<◌, ◌==◌, Bool, true, false, cond, not, ◌||◌, Option, Some, None, option_map, List, [], ◌∷◌, find, filter, length, slice_get, bytes_eq, option_and_then, arith, refl, sym, ap, subst, ◌∙◌, true≢false}
 use Rattle.std.specs.List.{AllByRecursion, list_any}
 use Rattle.std.specs.Str.{is_utf8}
@@ -115,7 +115,7 @@ module _ (P : List ReadStatement → Type 0) (keeps : (edge : ℕ) (found : Disc
   unfolding all_joined
   kept-by-all files stated h = kept-by-files files stated (dyndep_files (pending_read stated)) stated h
 
--- ---- after a whole file no edge waits for it
+-- ---- after a whole file no edge is pending on it
 
 entries-whole : (file : List ℕ) (stated : List ReadStatement) (entries : List EntryText) (fault : Option Fault) (joined : List ReadStatement) → (entries_joined file stated entries fault joined).end ≡ Whole
     → lacking_fault file (entries_joined file stated entries fault joined).entries ≡ None
@@ -158,7 +158,7 @@ file-whole files stated p joined h = by_text (is_utf8 p.file) h
     by_text true e = by_outcome (reading_of files p.file) e
     by_text false e = absurd cc
 
--- an edge that waits is one of the statements
+-- a pending edge is one of the statements
 lacking-none : (file : List ℕ) (joined : List ReadStatement) → lacking_fault file joined ≡ None → AllByRecursion (λ q. bytes_eq q.file file ≡ false) (pending_read joined)
 lacking-none file joined h = find-none (λ q. bytes_eq q.file file) (pending_read joined) (by (find (λ q. bytes_eq q.file file) (pending_read joined)) refl h)
   where
@@ -171,9 +171,9 @@ lacking-none file joined h = find-none (λ q. bytes_eq q.file file) (pending_rea
     by None is none = is
     by (Some q) is none = absurd (there q (all-find (λ q. q.edge < length (edges_read joined)) (λ q. bytes_eq q.file file) (pending_read joined) q (pending-within joined) is) (slice_get (edges_read joined) q.edge) refl none)
 
--- ---- the files for which edges wait
+-- ---- the files on which edges are pending
 
--- an edge waits for one of these
+-- an edge is pending on one of these
 abbrev pending_among : List Pending → Pending → Bool
 pending_among files q = list_any (λ p. bytes_eq q.file p.file) files
 
@@ -212,7 +212,7 @@ files-whole files stated (p ∷ others) joined pends h = by (file_joined files s
     by (Refused fault) later is e = absurd cc
     by (Lacking path place) later is e = absurd cc
 
--- The dyndep files are those for which edges wait.
+-- The dyndep files are those on which edges are pending.
 listed-after : (p q : Pending) (files : List Pending) → bytes_eq q.file p.file ≡ false → pending_among files q ≡ true → pending_among (filter (λ r. not (bytes_eq r.file p.file)) files) q ≡ true
 listed-after p q [] other h = h
 listed-after p q (r ∷ files) other h = by (bytes_eq r.file p.file) (bytes_eq q.file r.file) refl refl h (listed-after p q files other)
@@ -238,7 +238,7 @@ listed (p ∷ ps) = (
     by q true e h = ap (λ b. b || pending_among (filter (λ q. not (bytes_eq q.file p.file)) (dyndep_files ps)) q) e
     by q false e h = ap (λ b. b || pending_among (filter (λ q. not (bytes_eq q.file p.file)) (dyndep_files ps)) q) e ∙ listed-after p q (dyndep_files ps) e h
 
--- After a whole joining no edge waits.
+-- After a whole joining no edge is pending.
 pub none-unjoined : (files : List Reading) (stated : List ReadStatement) → (all_joined files stated).read.end ≡ Whole → pending_read (all_joined files stated).read.entries ≡ []
 unfolding all_joined
 none-unjoined files stated h = files-whole files stated (dyndep_files (pending_read stated)) stated (listed (pending_read stated)) h

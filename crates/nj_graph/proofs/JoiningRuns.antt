@@ -98,7 +98,7 @@ module _ (stated : List ReadStatement) (before : SourceState) (old : List Readin
           there : ReadsAll mid after u.files f.files later_table
           there = subst (λ fs. ReadsAll mid after fs f.files later_table) u.reads.held_is f.reads
 
-      -- the paths begin with that of the file
+      -- the paths begin with the path of the file
       first-asked : (end : End) (entries : List ReadStatement) (k : List ReadStatement → ReachedText) → (more : List (List ℕ)) × ((continued end p entries k).paths ≡ path_asked p ++ more)
       first-asked Whole entries k = ((k entries).paths, refl)
       first-asked (Refused fault) entries k = ([], sym (append-nil (path_asked p)))

@@ -118,7 +118,7 @@ module _ (file : List ℕ) (stated : List ReadStatement) (text : List ℕ) (join
         joins = joins-next ∙ ap (λ f. unless_fault f u.now (entries_joined file stated (entries_left step.0 true rest).items (entries_left step.0 true rest).fault (with_entry stated u.now entry))) is;
       })
 
--- ---- what a parser answers
+-- ---- what a parser returns
 
 abbrev pub lines_to_come : DyndepLeft → ℕ
 lines_to_come (dyndep.WholeFile lines) = ahead lines

@@ -187,7 +187,7 @@ module _ (main : List ℕ) (before after : SourceState) (old held : Reader) (r :
     },
   )
 
-  -- the main file is that of the run
+  -- the main file is the main file of the run
   pub main-is : main_of held.origins ≡ main
   main-is = ap main_of r.has.origins ∙ main-named main r.entries
 

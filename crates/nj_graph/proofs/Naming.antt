@@ -202,7 +202,7 @@ module _ (main : List ℕ) (before after : SourceState) (old : Reader) (entries 
       stops-refused (λ all. statement_read (opened_in all left) e entries) fault fault (λ all. ap (λ f. unless_fault f entries (item_read (opened_in all left) e entries e.item)) reported)
       (item-names e entries e.item fault reported) refl
 
-  -- the same where this is what the statement says
+  -- the same where this is what the statement gives
   pub stops-item : (left : ℕ) (site : Site) (spot : Spot) (item meant : StatementText) (fault : GraphFault) → item ≡ meant
       → IsFault (own_fault (entry_at site (record { spot = spot; item = meant })) entries) fault
       → StopsAt main before after old.files (λ all. statement_read (opened_in all left) (entry_at site (record { spot = spot; item = item })) entries) fault

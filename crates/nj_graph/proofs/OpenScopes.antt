@@ -29,7 +29,7 @@ open-grown before after number around grows comes = record {
   there = still-there (length before) (length after) grows.count (number ∷ around) comes.there;
 }
 
--- the scopes in which statements stand
+-- the scopes of statements
 abbrev pub AreOpen : List ScopeText → List ReadStatement → Type 0
 AreOpen scopes entries = AllByRecursion (λ e. IsOpenScope scopes e.number e.around) entries
 

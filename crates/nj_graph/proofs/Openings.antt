@@ -46,7 +46,7 @@ module _ (all : List Reading) (inner : Site) (place : Place) (e : ReadStatement)
 -- ---- how a run stops there
 
 module _ (main : List ℕ) (before after : SourceState) (old : List Reading) (place : Place) (path : List ℕ) (entries : List ReadStatement) where
-  -- the run stops, where the file is that of the path and the statement names it
+  -- the run stops, where the path is the file's and the statement names it
   abbrev pub StopsHere : (left : ℕ) → GraphFault → Type 0
   StopsHere left f = (inner : Site) (e : ReadStatement) → inner.file ≡ path → path_named e entries e.item ≡ path ∷ [] → StopsAt main before after old (λ all. opened_in all left inner place e entries) f
 
@@ -62,7 +62,7 @@ module _ (main : List ℕ) (before after : SourceState) (old : List Reading) (pl
         (ap (with_new (paths_read main entries)) same ∙ ap (λ before. with_new before path) (sym paths_are) ∙ sym came_to)
         (opened-names main all within inner place e entries (named ∙ ap (λ p. p ∷ []) (sym same)) (lt-ltb (files_opened entries) most_opened capacity))
 
-    -- there is no memory for the answer
+    -- there is no memory for the result
     pub stops-lacking : (left : ℕ) → EachPathOnce old → after ≡ before → (f : GraphFault) → f ≡ no_memory → StopsHere left f
     stops-lacking left once stays f answered inner e same named = record {
       files = old;
@@ -161,7 +161,7 @@ opens-text main before after old held left within place path entries text left_i
       ∙ opened-answered all inner place e entries within _ capacity (ap (reading_of all) same ∙ reading-kept path _ all found.files is found.found);
 }
 
--- by the answer of the table
+-- by what the table returns
 pub opens-answered : (main : List ℕ) (before after : SourceState) (old held : Reader) (left within : ℕ) (place : Place) (path : List ℕ) (entries : List ReadStatement)
     → paths_of old.files ≡ paths_read main entries → left ≡ suc within → files_opened entries < most_opened → EachPathOnce old.files → (result : Result (RcSlice ℕ Global) GraphFault)
     → ReturnsText before after old.files held.files place path result → OpensPath main before after old held left place path entries result

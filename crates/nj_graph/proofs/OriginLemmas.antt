@@ -1,4 +1,4 @@
--- Where rules, pools and files come from: how that is held, and what of it the statements say.
+-- Where rules, pools and files come from: how that is represented, and which part of it the statements give.
 use Rattle.std.proofs.Common.{◌≡◌, ℕ, ◌+◌, ◌-◌, ◌<◌, ◌&&◌, ◌==◌, Bool, true, false, if◌then◌else◌, Option, Some, None, option_map, option_and_then, unwrap_or, IfSome, List, [], ◌∷◌, ◌++◌, length, map, slice_get, refl, sym, ap, ◌∙◌, arith, add-zero, length-append}
 use Rattle.std.specs.List.{AllByRecursion}
 use Rattle.std.proofs.lemmas.List.{map-append}
@@ -170,7 +170,7 @@ main-first main (e ∷ before) = first-kept main e before e.item (openings_read 
 pub main-named : (main : List ℕ) (entries : List ReadStatement) → main_of (origins_read main entries) ≡ main
 main-named main entries = ap (λ (os : List OpeningText). path_opened (slice_get os 0)) (main-first main entries).1
 
--- what is held of the statements after a main file says which file that is
+-- what is kept of the statements after a main file gives that file
 pub origins-of_main : (o : OriginsText) (main : List ℕ) (entries : List ReadStatement) → o ≡ origins_read main entries → o ≡ origins_read (main_of o) entries
 origins-of_main o main entries is = is ∙ ap (λ m. origins_read m entries) (sym (ap main_of is ∙ main-named main entries))
 

@@ -1,4 +1,4 @@
--- Where a part first stands in a text: what a search for it answers.
+-- The first position of a part in a text: the result of a search for it.
 use Rattle.std.proofs.Common.{if◌then◌else◌, ◌≡◌, ℕ, zero, suc, ◌+◌, true, false, List, [], ◌∷◌, Option, Some, None, option_map, take, length, nat_eq, refl, sym, ap, ◌∙◌, arith, ⊎_elim}
 use Rattle.std.specs.List.{starts_with}
 use Rattle.std.proofs.lemmas.Bool.{cases_Bool, cond-true, cond-false, false≢true}

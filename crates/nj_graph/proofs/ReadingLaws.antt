@@ -17,17 +17,17 @@ use Rattle.nj_graph.specs.Reading.{Site, entry_at, fault_if, item_fault, own_fau
 use Rattle.nj_graph.specs.Laws.{Faultless, ReadIsFaultless, OpenFilesAreBounded, OpeningsAreBounded, MainRulesRise}
 use Rattle.nj_graph.proofs.NameLemmas.{names_rise-read}
 
--- there is room for a file that the statement names
+-- there is capacity for a file that the statement names
 abbrev pub HasCapacity : StatementText → (before : List ReadStatement) → Type 0
 HasCapacity item before = opens_file item ≡ 1 → nat_lt (files_opened before) most_opened ≡ true
 
 opens-none : ◌≡◌ {A = ℕ} 0 1 → ⊥
 opens-none e = omega (arith, e)
 
--- What holds of no statement, and of one more that is read, holds of all that are read.
+-- What is true of no statement, and of one more that is read, is true of all that are read.
 module _ (P : List ReadStatement → Type 0) (next : (e : ReadStatement) (before : List ReadStatement) → P before → own_fault e before ≡ None → HasCapacity e.item before → e.depth ≤ most_within → P (e ∷ before)) where
-  -- it holds where a file is opened within which so many more may be open, if it holds with the statement that opens it
-  -- wherever there is room
+  -- it is true where a file is opened within which a given number of files may be open, if it is true with the statement that opens it
+  -- wherever one more may be opened
   abbrev OpensKeep : (left : ℕ) → Opens → Type 0
   OpensKeep left opens = (site : Site) (place : Place) (e : ReadStatement) (before : List ReadStatement) → site.depth + left ≡ suc most_within → P before → (nat_lt (files_opened before) most_opened ≡ true → P (e ∷ before)) → P (opens site place e before).entries
 

@@ -188,12 +188,12 @@ openings_within_itself : length (read_of (codes "include build.ninja\n") []).ent
 unfolding on_files
 openings_within_itself = refl
 
--- the name of the file with so many others after it
+-- the name of the file with a given number of others after it
 abbrev name_remainder : ℕ → List ℕ
 name_remainder zero = codes "x"
 name_remainder (suc n) = codes "a" ++ name_remainder n
 
--- so many files, each of which includes the next; the last one includes `x`, which is not there
+-- a given number of files, each of which includes the next; the last one includes `x`, which is missing
 abbrev chain : ℕ → List Reading
 chain zero = missing (codes "x") ∷ []
 chain (suc n) = file (name_remainder (suc n)) (codes "include " ++ name_remainder n) ∷ chain n
@@ -218,7 +218,7 @@ paths_once : comes_to (codes "subninja s\nsubninja s\n") (a_rule ∷ []) (codes 
 unfolding on_files
 paths_once = refl
 
--- that of a missing file too
+-- the place of a missing file too
 paths_to_missing : comes_to (codes "subninja s\ninclude x\ninclude y\n") (a_rule ∷ missing (codes "x") ∷ []) (codes "s" ∷ codes "x" ∷ [])
 unfolding on_files
 paths_to_missing = refl
@@ -306,7 +306,7 @@ build_without_colon : refuses_alone (codes "build a\n") (at 1 8) (Expected wante
 unfolding on_files
 build_without_colon = refl
 
--- under the name of the file in which it stands
+-- under the name of the file that contains it
 fault_in_included : refuses (codes "include s\n") (file (codes "s") (codes "x = 1\ny = $!\n") ∷ []) (codes "s") (at 2 5) BadEscape
 unfolding on_files
 fault_in_included = refl

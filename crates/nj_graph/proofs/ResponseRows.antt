@@ -3,7 +3,7 @@ use Rattle.std.proofs.Common.{◌≡◌, Some, None, [], refl}
 use Rattle.std.specs.Prelude.{codes}
 use Rattle.nj_graph.specs.ResponseFiles.{first_position, sign_position, with_content}
 
--- ---- where the sign stands
+-- ---- where the sign is
 
 first_of_two : first_position (codes "ab") (codes "aabab") ≡ Some 1
 first_of_two = refl

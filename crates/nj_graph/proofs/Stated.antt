@@ -1,4 +1,4 @@
--- What a graph holds of the statements whose graph it is.
+-- What a graph keeps of the statements whose graph it is.
 use Rattle.std.proofs.Common.{◌≡◌, ℕ, ◌<◌, unwrap_or, option_map, List, [], map, length, sym, ap, ◌∙◌}
 use Rattle.nj_scope.specs.ReadingList.{ReadStatement, rules_read}
 use Rattle.nj_statements.specs.EdgeList.{edges_read, paths_of_edges}
@@ -10,7 +10,7 @@ use Rattle.nj_graph.proofs.EdgeStrings.{there, detail-is}
 pub graph-edges : {g : GraphText} {entries : List ReadStatement} → IsGraphOf g entries → edges_of g ≡ paths_of_edges (edges_read entries)
 graph-edges is = is.built.paths
 
--- where their statements stand, with their scopes and rules
+-- where their statements are, with their scopes and rules
 pub graph-details : {g : GraphText} {entries : List ReadStatement} → IsGraphOf g entries → g.built.details ≡ map detail_of (edges_read entries)
 graph-details is = is.built.details
 

@@ -212,7 +212,7 @@ module _ (main : List ℕ) (before after : SourceState) (old held : Reader) (lef
         stays es (reading.Refused f) k h = refl
         stays es (Lacking path place) k h = refl
 
--- ---- a parser's answers
+-- ---- what a parser returns
 
 pub next-some : (file : List ℕ) (before after : Left) (lines : List Line) (found : Option (Placed Statement)) (s : Placed Statement) → before ≡ Lines lines → found ≡ Some s → NextIs file before after (Ok found)
     → (rest : List Line) × (next_statement lines ≡ Ok (Some (placed_text s), rest)) × (after ≡ Lines rest)

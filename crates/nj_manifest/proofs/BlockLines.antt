@@ -47,12 +47,12 @@ weight-after l ls = by_last l.is_last refl
 
 -- ---- the start of a line
 
--- The lexer stands at the first line of the block that is left.
+-- The lexer is at the first line of the block that is left.
 abbrev pub BeginsLine : Keys → ℕ → Parse (List LineText) → State → Type 0
 BeginsLine allowed limit whole s =
     (l : Line) × (ls : List Line) × (s ≡ Inside (without_spaces l) ls) × (whole ≡ block_by allowed IndentedLine l ls (block allowed ls)) × (lines_weight ls < limit)
 
--- What the start of a line says of the block, and where the lexer stands then. The limit is the weight of the lines
+-- What the start of a line tells about the block, and where the lexer is then. The limit is the weight of the lines
 -- that were left.
 abbrev pub Begins : Keys → (limit : ℕ) → Parse (List LineText) → Result LineStart UnitFault → State → Type 0
 Begins allowed limit whole (Ok start.Indented) s = BeginsLine allowed limit whole s
@@ -99,7 +99,7 @@ begun-kind allowed limit BlankLine l ls e h g = by_end (l.is_last && is_empty l.
 begun-kind allowed limit IndentedLine l ls e h g = let w = indented-weight l e in (l, ls, refl, refl, omega arith)
 begun-kind allowed limit PlainLine l ls e h g = (refl, e)
 
--- a comment says nothing
+-- a comment gives nothing
 block-comment : (allowed : Keys) (k : Kind) (l : Line) (ls : List Line) (others : Parse (List LineText)) → is_comment k ≡ true → block_by allowed k l ls others ≡ or_last l (no_lines (lines_after l (without_comments ls))) others
 block-comment allowed CommentLine l ls others h = refl
 block-comment allowed (TabLine tab) l ls others h = absurd cc
@@ -123,12 +123,12 @@ begun-begins allowed limit (l ∷ ls) h = by_comment (is_comment (kind_of l)) re
     by_comment true e rest =
         subst (λ (whole : Parse (List LineText)). BeginsAs allowed limit whole (begun (lines_after l (without_comments ls)))) (sym (block-comment allowed (kind_of l) l ls (block allowed ls) e)) (by_last l.is_last refl rest)
 
--- what the lexer answers at the start of a line
+-- what the lexer returns at the start of a line
 pub start-begins : (allowed : Keys) (ls : List Line) (outcome : Result LineStart UnitFault) (s : State) → ((start_line_of (Between ls)).outcome ≡ outcome) × (s ≡ (start_line_of (Between ls)).after) → Begins allowed (lines_weight ls) (block allowed ls) outcome s
 start-begins allowed ls outcome s h =
     subst (λ a. Begins allowed (lines_weight ls) (block allowed ls) a s) h.0 (subst (Begins allowed (lines_weight ls) (block allowed ls) (begun (without_comments ls)).outcome) (sym h.1) (begun-begins allowed (lines_weight ls) ls (omega arith)))
 
--- after a line stands the block that follows it
+-- a line is followed by the rest of the block
 pub block-after : (allowed : Keys) (l : Line) (ls : List Line) → block allowed (lines_after l ls) ≡ or_last l (no_lines (lines_after l ls)) (block allowed ls)
 unfolding block
 block-after allowed l ls = by_last l.is_last refl
@@ -161,7 +161,7 @@ still-begins allowed (Failed f) = tt
 abbrev pub Started : LineStart → (before after : State) → Type 0
 Started start before after = Answers {X = LineStart} (λ s. s) (Ok start) after (start_line_of before)
 
--- An indented line stands after the start of a line only.
+-- An indented line comes only after the start of a line.
 started-indented : (allowed : Keys) (s middle : State) → Started start.Indented s middle → (ms : List Line) × (s ≡ Between ms) × BeginsLine allowed (lines_weight ms) (block allowed ms) middle
 started-indented allowed (Between ms) middle h = (ms, refl, start-begins allowed ms (Ok start.Indented) middle h)
 started-indented allowed (Inside l ls) middle h = absurd (middle_is_indented h.0)

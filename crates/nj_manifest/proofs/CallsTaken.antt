@@ -31,7 +31,7 @@ pub handed-on : {X Y : Type 0} (view : X → Y) (f : LexFault) (r : Result X Par
 handed-on view f (Ok x) after whole h so = absurd cc
 handed-on view f (Err e) after whole h so = rw h.1 so
 
--- what a function answers with this fault
+-- what a function returns with this fault
 pub fails-so : {Y : Type 0} (f : ParseFault) (whole : Result Y Fault) → whole ≡ Err (fault_text f) → Fails f whole
 fails-so (fault.Lex lex.OutOfMemory) whole h = tt
 fails-so (fault.Lex (lex.BadByte spot)) whole h = h

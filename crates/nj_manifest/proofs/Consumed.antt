@@ -25,7 +25,7 @@ rest-is {A} x y r rest h = ap (λ p. p.1) (read-is (x, r) (y, rest) h)
     read-is : (p q : A × List Line) → ◌≡◌ {A = Parse A} (Ok p) (Ok q) → p ≡ q
     read-is p q e = cc
 
--- the end of the lines is no statement
+-- the end of the lines is not a statement
 no_statement : {A : Type 0} (ended : List Line) (s : PlacedText) (rest : List Line) → nothing_more ended ≡ Ok (Some s, rest) → A
 no_statement ended s rest h = absurd (apart (ap (λ (r : Parse (Option PlacedText)). found r) h))
   where
@@ -123,7 +123,7 @@ statement-takes l ls s rest e h =
     let taken = fewer l ls (plain-units l e) in
     omega arith
 
--- what is not read is no statement
+-- what is not read is not a statement
 abbrev Takes : List Line → Parse (Option PlacedText) → Type 0
 Takes ls reading = (s : PlacedText) (rest : List Line) → reading ≡ Ok (Some s, rest) → ahead rest < ahead ls
 

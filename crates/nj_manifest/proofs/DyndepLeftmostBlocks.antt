@@ -34,7 +34,7 @@ use Rattle.nj_manifest.proofs.LeftmostKinds.{kind_units, spaces_of, after_spaces
 use Rattle.nj_manifest.proofs.DyndepLeftmostMarks.{real, reported, reported-bind, kept-value, this_word, word-reported}
 use Rattle.nj_manifest.proofs.DyndepLeftmostPaths.{word_turn}
 
--- ---- marks, told
+-- ---- marks, reported
 
 -- the place of a fault as it is meant
 abbrev pub Placed : Fault → Line → Type 0
@@ -118,7 +118,7 @@ module _ (k : State → Result State Fault) where
 
 -- ---- where the block of some lines fails
 
--- From this front the block goes on with these bytes and is whole; or it is whole where the line has no more than the
+-- From this front the block continues with these bytes and is whole; or it is whole where the line has no more than the
 -- spaces with which it begins.
 pub data BlockContinues (k : State → Result State Fault) (before : List Line) (begun : List TextUnit) (fault : Fault) : Type 0 where
   with_text : (bytes : List ℕ) (plain : are_plain bytes ≡ true) (offered : offers fault bytes ≡ true) (end : State) (some : in_lines k (continues before begun (written bytes) []) ≡ Ok end) → BlockContinues k before begun fault
@@ -148,7 +148,7 @@ goes_after : (k j : State → Result State Fault) (l : Line) (before : List Line
 goes_after k j l before begun fault same (with_text bytes plain offered end some) = with_text bytes plain offered end (same (continues before begun (written bytes) []) ∙ some)
 goes_after k j l before begun fault same (with_end spaces gap cut of_spaces of_blanks end some) = with_end spaces gap cut of_spaces of_blanks end (same (continues before spaces (written []) []) ∙ some)
 
--- after a line that says nothing, or is read, and is not the last
+-- after a line that gives nothing, or is read, and is not the last
 lines_after_one : (k j : State → Result State Fault) (l : Line) (ls : List Line) (fault : Fault) → ((ms : List Line) → in_lines j (l ∷ ms) ≡ in_lines k ms) → LinesStuck k ls fault → LinesStuck j (l ∷ ls) fault
 lines_after_one k j l ls fault same r = record {
   before = l ∷ r.before;
@@ -182,7 +182,7 @@ tab_here k l ls tab h =
       on = with_text [] refl refl ends.0 ends.1;
     }
 
--- The fault is that of the first line that is indented.
+-- The fault is the fault of the first line that is indented.
 lines_stuck : (k : State → Result State Fault) (ls : List Line) (fault : Fault) → ((l : Line) (ms : List Line) → kind_of l ≡ IndentedLine → k (at (after_spaces l.units) l ms) ≡ Err fault → LinesStuck k (l ∷ ms) fault) → in_lines k ls ≡ Err fault → LinesStuck k ls fault
 lines_stuck k [] fault here h = no_fault (in_lines k []) (Between []) fault refl h
 lines_stuck k (l ∷ ls) fault here h = by_kind (kind_of l) refl (lines_stuck k ls fault here)
@@ -275,7 +275,7 @@ restat-reported s =
     ended : State → Result State Fault
     ended key = equals_value key >>= λ v. Ok v.1
 
--- what is said of an indented line, by the units after its spaces
+-- the property of an indented line, by the units after its spaces
 abbrev Spaced : (spaces : List TextUnit) → Claim Bool
 Spaced sp x e ms r = (kind_units (sp ++ x) ≡ IndentedLine) × (after_spaces (sp ++ x) ≡ x) × (led_on (restat_line (at x e ms)) ≡ reported r)
 

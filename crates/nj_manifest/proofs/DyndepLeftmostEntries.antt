@@ -133,7 +133,7 @@ some_entry : (s : EntryText) × (rest : List Line) × (next_entry (written (code
 unfolding next_entry opening entry_at entry_line restat_block name_next section_next expect_sign word_of_form output_next no_path no_section added_inputs
 some_entry = (_, _, refl)
 
--- The fault is that of the line's kind, whatever is after its first unit.
+-- The fault is the fault of the line's kind, whatever comes after its first unit.
 of_kind : (l : Line) (ls : List Line) (fault : Fault) → offers fault [] ≡ true → NamesPlaceInEntry fault (with_units (after_spaces l.units) l)
     → ((m : Line) (ms : List Line) → element m.units ≡ element (after_spaces l.units) → next_entry (with_units (spaces_of l.units ++ m.units) m ∷ ms) ≡ Err (met_before m fault)) → EntryComesLeftmost (l ∷ ls) fault
 of_kind l ls fault offered place refuses =
@@ -168,7 +168,7 @@ indented_leftmost l ls k =
     by_kind_entry (with_units (spaces_of l.units ++ m.units) m) ms IndentedLine (kind_replaced l.units m.units sees ∙ k)
     ∙ ap (λ (y : List TextUnit). unexpected_at (with_units y m)) (unspaced (spaces_of l.units) m.units (spaces_pass l.units) (no_space_same l.units m.units sees)))
 
--- after a line that says nothing, and is not the last
+-- after a line that gives nothing, and is not the last
 goes_after : (l : Line) (before : List Line) (begun : List TextUnit) (fault : Fault) → ((ms : List Line) → next_entry (l ∷ ms) ≡ next_entry ms) → SomeEntry before begun fault ⊎ LineTooMany before begun → SomeEntry (l ∷ before) begun fault ⊎ LineTooMany (l ∷ before) begun
 goes_after l before begun fault same (inl r) = inl (record { bytes = r.bytes; lines = r.lines; plain_bytes = r.plain_bytes; offered = r.offered; plain_lines = r.plain_lines; entry = r.entry; rest = r.rest; reads = same (continues before begun (written r.bytes) (map written r.lines)) ∙ r.reads })
 goes_after l before begun fault same (inr r) = inr (record { spaces = r.spaces; gap = r.gap; cut = r.cut; of_spaces = r.of_spaces; of_blanks = r.of_blanks; entry = r.entry; rest = r.rest; reads = same (continues before r.spaces (written []) []) ∙ r.reads })

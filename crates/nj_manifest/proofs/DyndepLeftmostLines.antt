@@ -23,16 +23,16 @@ use Rattle.nj_manifest.proofs.DyndepLeftmostMarks.{reported, this_word, path_ste
 use Rattle.nj_manifest.proofs.DyndepLeftmostOutputs.{OutputSeen, reads_on, ends_here, output_seen, after_output}
 use Rattle.nj_manifest.proofs.DyndepLeftmostPaths.{apart_after, clear_step, path_is_clear, path_is_passed, clear_turn, bar_turn, word_turn}
 
--- what is asked of a line so that a reading of it is that of an entry: if it fails, that its units stand apart
+-- what is required of a line so that reading it reads an entry: if it fails, its units are apart
 abbrev pub Seen : Step EntryText → List TextUnit → Type 0
 Seen (Ok y) us = Unit {0}
 Seen (Err f) us = are_apart us ≡ true
 
--- what is said of the line of an entry
+-- the property of the line of an entry
 abbrev pub EntryPlain : Claim EntryText
 EntryPlain x e ms r = (kind_units x ≡ PlainLine) × (Seen r x → entry_line (at x e ms) ≡ reported r)
 
--- No path stands here, whatever becomes of one that does.
+-- There is no path here, whatever becomes of one that is.
 module _ (k : State → Step EntryText) (g : Bool × State → Step EntryText) (so : (s : State) → k s ≡ (path_step s >>= g)) (begun x : List TextUnit) (d : Line) (ms : List Line) (meant : EntryPlain (begun ++ x) d ms (k (at x d ms))) where
   given_as : (c : Step Bool) → path_step (at x d ms) ≡ c → EntryPlain (begun ++ x) d ms (c >>= g)
   given_as c h = subst (λ (r : Step EntryText). EntryPlain (begun ++ x) d ms r) (so (at x d ms) ∙ ap (λ (r : Step Bool). r >>= g) h) meant
@@ -44,7 +44,7 @@ module _ (k : State → Step EntryText) (g : Bool × State → Step EntryText) (
 along-clear : {whole : List TextUnit} {t : List TextUnit → Bool} {us : List TextUnit} (k : State → Step EntryText) (g : Bool × State → Step EntryText) → ((s : State) → k s ≡ (path_step s >>= g)) → Along EntryPlain whole k t us → Along EntryPlain whole (λ s. clear_step s >>= g) t us
 along-clear k g so a = record { begun = a.begun; cut = a.cut; goes = λ x d ms fit. by_clear k g so a.begun x d ms (a.goes x d ms fit) (clear_step (at x d ms)) refl }
 
--- ---- texts that end what is begun
+-- ---- strings that complete what is begun
 
 abbrev nowhere : List Line → State
 nowhere ms = at [] (written []) ms

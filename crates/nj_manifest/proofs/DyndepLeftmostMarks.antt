@@ -280,7 +280,7 @@ colon-reported : (r : Result State Fault) (f g : State → Step EntryText) → K
 colon-reported (Ok s) f g k h = h s
 colon-reported (Err e) f g k h = ap Err k
 
--- The line, with its marks told.
+-- The line, with its marks reported.
 pub entry-reported : (s : State) → reported (entry_marked s) ≡ entry_line s
 unfolding entry_line
 entry-reported s =

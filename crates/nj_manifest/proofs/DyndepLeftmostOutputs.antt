@@ -45,7 +45,7 @@ pub data OutputSeen (us : List TextUnit) (e : Line) : Type 0 where
 
 -- ---- the place of what is seen alike
 
--- units that are seen alike stand at the same place, if there are some
+-- units that are seen alike are at the same place, if there are any
 pub spot-same : (x y : List TextUnit) (d e : Spot) → front x ≡ front y → is_empty y ≡ false → spot_of_first x d ≡ spot_of_first y e
 spot-same x y d e h n = by_units x y (same-head x y h) n
   where

@@ -1,4 +1,4 @@
--- Where no path and no section may stand, and where one word has to: each is passed, or the line is stuck there.
+-- Where no path and no section may come, and where one word has to: each is passed, or the line is stuck there.
 use Rattle.std.proofs.Common.{◌≡◌, ℕ, Bool, true, false, cond, not, Option, Some, None, Ok, Err, inl, inr, List, [], ◌∷◌, ◌++◌, refl, sym, ap, subst, ◌∙◌}
 use Rattle.std.specs.List.{take_while, list_all}
 use Rattle.std.specs.Str.{bytes_eq}
@@ -50,7 +50,7 @@ apart_dropped p (u ∷ us) h = by_test (p u) (apart_dropped p us (apart_tail u u
     by_test true g = g
     by_test false g = h
 
--- The first of the units that are left does not stand where this one does.
+-- The first of the units that are left is not at the place of this one.
 elsewhere : (p : TextUnit → Bool) (spot end : Spot) (us : List TextUnit) → list_all (λ v. not (is_same_spot v.spot spot)) us ≡ true → is_empty (drop_while p us) ≡ false → is_same_spot (spot_of_first (drop_while p us) end) spot ≡ false
 elsewhere p spot end [] h n = absurd cc
 elsewhere p spot end (u ∷ us) h n = by_test (p u) n (elsewhere p spot end us (and_parts _ _ h).1)
@@ -70,7 +70,7 @@ clear_by None false spot s = Ok (true, s)
 abbrev clear_at : List TextUnit → Line → List Line → Step Bool
 clear_at us e ms = clear_by (next_fault us) (begins opens_word us) (spot_of_first us e.end) (at us e ms)
 
--- No path may stand here, whatever becomes of one that does.
+-- No path may come here, whatever becomes of one that does.
 abbrev pub clear_step : State → Step Bool
 clear_step (Between ls) = Ok (true, Between ls)
 clear_step (Inside l ls) = clear_at (skip l.units) l ls
@@ -142,11 +142,11 @@ word_again us e ms =
     let r = word_by (next_fault w) (begins_word w) (next_fault (drop_while in_word w)) (reply (Some (record { spot = spot_of_first w e.end; parts = parts_of (take_while in_word w) })) (at (drop_while in_word w) e ms)) (reply None (at w e ms)) in
     path_by (spot_of_first (skip us) e.end) r.outcome r.after) (skip_again us)
 
--- Among units that stand apart, both say the same.
+-- Among units that are apart, both give the same.
 pub path_is_clear : (us : List TextUnit) (e : Line) (ms : List Line) → are_apart us ≡ true → path_step (at us e ms) ≡ clear_step (at us e ms)
 path_is_clear us e ms a = word_again us e ms ∙ path_cleared (skip us) e ms (apart_dropped is_blank us a)
 
--- Where no path stands, both say so, whether or not the units stand apart.
+-- Where there is no path, both report it, whether or not the units are apart.
 pub path_is_passed : (us : List TextUnit) (e : Line) (ms : List Line) (y : Bool × State) → clear_step (at us e ms) ≡ Ok y → path_step (at us e ms) ≡ Ok y
 path_is_passed us e ms y h = word_again us e ms ∙ by_fault (next_fault v) (begins opens_word v) refl refl h
   where
@@ -160,7 +160,7 @@ path_is_passed us e ms y h = word_again us e ms ∙ by_fault (next_fault v) (beg
         ap (λ (f : Option UnitFault). by_parts v e ms f (begins_word v) (next_fault (drop_while in_word v))) i
         ∙ (ap (λ (t : Bool). by_parts v e ms None t (next_fault (drop_while in_word v))) (begins_word-is v ∙ o) ∙ g)
 
--- ---- passing on where no path stands
+-- ---- continuing where there is no path
 
 clear_ok : (f : Option UnitFault) (t : Bool) (spot : Spot) (s : State) → f ≡ None → t ≡ false → clear_by f t spot s ≡ Ok (true, s)
 clear_ok f t spot s h g = rw (h, g) refl
@@ -276,12 +276,12 @@ some_unit want n (u ∷ us) h = refl
 
 -- ---- turns
 
--- the same reading, said otherwise
+-- the same reading in another form
 pub along-same : {B : Type 0} {P : Claim B} {whole : List TextUnit} {t : List TextUnit → Bool} {us : List TextUnit} (k k' : State → Step B) → ((s : State) → k s ≡ k' s) → Along P whole k t us → Along P whole k' t us
 along-same {P = P} k k' so a = record { begun = a.begun; cut = a.cut; goes = λ x d ms fit. subst (P (a.begun ++ x) d ms) (so (at x d ms)) (a.goes x d ms fit) }
 
 module _ {B : Type 0} {P : Claim B} {whole : List TextUnit} (e : Line) where
-  -- No path stands here.
+  -- There is no path here.
   pub clear_turn : {t : List TextUnit → Bool} {us : List TextUnit} (k : State → Step B) (g : Bool × State → Step B) → ((s : State) → k s ≡ (clear_step s >>= g)) → Along P whole k t us → ((x : List TextUnit) → after_words x ≡ true → t x ≡ true)
       → (tail : List ℕ) → are_plain tail ≡ true → after_words (text tail) ≡ true → ReadTo (λ ms. clear_step (at (text tail) (written []) ms) >>= g) → (settled (skip us) ≡ true → Along P whole (λ s. g (true, s)) after_words (skip us) → Outcome P whole e) → Outcome P whole e
   clear_turn {t = t} {us = us} k g so a more tail plain fit done next = by_fault (next_fault (skip us)) refl
@@ -309,7 +309,7 @@ module _ {B : Type 0} {P : Claim B} {whole : List TextUnit} (e : Line) where
       by_sign true s = stuck _ (stick k (bar_step want) g so a (bar_fails want us e h s (some_unit want none us s)) [] refl refl done.0 (inl refl) (λ ms. so (at [] (written []) ms) ∙ done.1 ms))
       by_sign false s = next (pass k (bar_step want) g so a (bar_passes want us is h s))
 
-  -- This word stands here.
+  -- This word is here.
   pub word_turn : {t : List TextUnit → Bool} {us : List TextUnit} (word : List ℕ) (want : Wanted) (k next : State → Step B) → ((s : State) → k s ≡ (name_next want s >>= this_word word next)) → Along P whole k t us → (tail : List ℕ) → are_plain tail ≡ true → offers_next want (drop_while is_space tail) ≡ true → t (text tail) ≡ true
       → ReadTo (λ ms. name_next want (at (text tail) (written []) ms) >>= this_word word next) → ((n : NamePasses want t us e) → Along P whole next after_name n.passes.left → Outcome P whole e) → Outcome P whole e
   word_turn {t = t} {us = us} word want k next so a tail plain offered fit done then = name_turn e want k (this_word word next) so a tail plain offered fit done (λ n b. by_word n (bytes_eq n.passes.value.name word) refl b)

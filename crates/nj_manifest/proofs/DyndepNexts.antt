@@ -107,7 +107,7 @@ restat-form ls s h =
     by_start start.Blank m b g = subst (λ (u : State). RestatForm ls (lines_from u)) (oks g) (no_block ls m b.0)
     by_start start.Plain m b g = subst (λ (u : State). RestatForm ls (lines_from u)) (oks g) (no_block ls m b.0)
 
--- what the start of a line answers where a block has no line
+-- what the start of a line gives where a block has no line
 record Quiet (ls rest : List Line) : Type 0 where
   pub begun : LineStart
   pub after : State

@@ -21,7 +21,7 @@ on_dyndeps = tt
 
 -- ---- what a row shows
 
--- the first answer, without the lines after it
+-- the first result, without the lines after it
 abbrev outcome_of : Parse (Option EntryText) → Result (Option EntryText) Fault
 outcome_of (Ok r) = Ok r.0
 outcome_of (Err f) = Err f
@@ -29,11 +29,11 @@ outcome_of (Err f) = Err f
 abbrev first_of : List ℕ → Result (Option EntryText) Fault
 first_of text = outcome_of (entry_of (WholeFile (text_lines text)))
 
--- the first answer after a version
+-- the first result after a version
 abbrev entry_in : List ℕ → Result (Option EntryText) Fault
 entry_in text = outcome_of (next_entry (text_lines text))
 
--- the second answer
+-- the second result
 abbrev second_by : Parse (Option EntryText) → Result (Option EntryText) Fault
 second_by (Ok r) = outcome_of (next_entry r.1)
 second_by (Err f) = Err f

@@ -1,4 +1,4 @@
--- Worked rows, computed on the definitions: texts that begin with no statement.
+-- Worked rows, computed on the definitions: files that do not begin with a statement.
 use Rattle.std.proofs.Common.{◌≡◌, ℕ, Err, List, refl}
 use Rattle.std.specs.Prelude.{codes}
 use Rattle.nj_text.specs.declared.fault.UnitFault.TheVariants as lex
@@ -91,7 +91,7 @@ no_equals_in_block : refuses (codes "rule r\n  command") (Expected (at 2 10) wan
 unfolding on_strings
 no_equals_in_block = refl
 
--- the sections stand in their order
+-- the sections come in their order
 turned_sections : refuses (codes "build a: r || b | c") (Expected (at 1 17) wanted.Newline)
 unfolding on_strings
 turned_sections = refl

@@ -1,4 +1,4 @@
--- Worked rows on the forms of the grammar: a derivation written out, and texts with which no form goes.
+-- Worked rows on the forms of the grammar: a derivation written out, and files that no form matches.
 use Rattle.std.proofs.Common.{◌≡◌, ℕ, true, Option, Some, Result, Ok, Err, List, [], ◌∷◌, refl, sym, ap, ◌∙◌}
 use Rattle.std.specs.Prelude.{codes}
 use Rattle.nj_text.specs.declared.sign.Sign.TheVariants as sign
@@ -80,7 +80,7 @@ statement_row : NextForm (text_lines (codes "build a: r |")) (Some (record { spo
 unfolding on_strings
 statement_row = NextForm.statement refl (HeadForm.build build_row) (StatementForm.build (BlockForm.blank refl))
 
--- ---- texts with which no form goes
+-- ---- files that no form matches
 
 abbrev HasNoForm : List ℕ → Type 0
 HasNoForm text = (found : Option PlacedText) (rest : List Line) → NextForm (text_lines text) found rest → ⊥
@@ -92,7 +92,7 @@ refused text fault h found rest f = absurd (ok_is_err (sym (ap item_of (next-rea
     ok_is_err : ◌≡◌ {A = Result (Option PlacedText) Fault} (Ok found) (Err fault) → ⊥
     ok_is_err e = absurd cc
 
--- the sections stand in their order
+-- the sections come in their order
 turned_sections : HasNoForm (codes "build a: r || b | c")
 unfolding on_strings
 turned_sections = refused (codes "build a: r || b | c") _ refl

@@ -61,7 +61,7 @@ if_allowed-ok : {A : Type 0} (t : Bool) (key : NameText) (others : Result A Faul
 if_allowed-ok true key others y h = (refl, h)
 if_allowed-ok false key others y h = absurd cc
 
--- what a line says
+-- what a line gives
 abbrev LineIs : Keys → Line → List TextUnit → LineText → Type 0
 LineIs allowed l us line = BindingForm us l.end (record { spot = line.spot; name = line.name }) line.value × (allows allowed line.name ≡ true)
 

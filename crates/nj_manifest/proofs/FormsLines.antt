@@ -220,7 +220,7 @@ record PartsForm (us : List TextUnit) (outputs : OutputsText) (rule : NameText) 
 abbrev PartsRead : Line → List Line → List TextUnit → HeadText → State → Type 0
 PartsRead l ls us head s = (outputs : OutputsText) × (rule : NameText) × (inputs : InputsText) × PartsForm us outputs rule inputs × (head ≡ BuildHead outputs rule inputs) × (s ≡ Between (lines_after l ls))
 
--- each step of it, where the lexer stands as the step before left it
+-- each step of it, where the lexer is where the step before left it
 pub colon_after-form : (l : Line) (ls : List Line) (us : List TextUnit) (s s' : State) → s ≡ within l ls (skip us) → expect_sign sign.Colon wanted.Colon s ≡ Ok s' → (rest : List TextUnit) × SignForm sign.Colon us rest × (s' ≡ within l ls rest)
 colon_after-form l ls us s s' e h = after-form sign.Colon wanted.Colon l ls us s' colon_is_not_end (sym (after_skips sign.Colon wanted.Colon l ls us) ∙ sym (ap (expect_sign sign.Colon wanted.Colon) e) ∙ h)
 
@@ -286,7 +286,7 @@ none_of false false false false true u x1 x2 x3 x4 x5 x6 x7 h = absurd cc
 none_of false false false false false true x1 x2 x3 x4 x5 x6 x7 h = absurd cc
 none_of false false false false false false x1 x2 x3 x4 x5 x6 x7 h = refl
 
--- what is read where the word is no keyword
+-- what is read where the word is not a keyword
 no_keyword : (word : List ℕ) (s : State) → list_any (bytes_eq word) keywords ≡ false → head_after word s ≡ as_head (λ value. Alone (BindingText word value)) (equals_value s)
 unfolding head_after
 no_keyword word s h =

@@ -172,11 +172,11 @@ pub sign_skips : (want : Sign) (l : Line) (ls : List Line) (us : List TextUnit) 
 unfolding sign_at_units
 sign_skips want l ls us = ap (sign_at_units want l ls) (skip_again us)
 
--- the lexer after a sign that stands next
+-- the lexer after a sign that comes next
 abbrev after_it : Sign → Line → List Line → List TextUnit → State
 after_it want l ls us = state_after_sign want (with_units us l) ls
 
--- the sign stands next, and the lexer after it
+-- the sign comes next, and the lexer after it
 abbrev IsThere : Sign → Line → List Line → List TextUnit → Bool × State → Type 0
 IsThere want l ls us y = (is_sign want us ≡ true) × (y.0 ≡ true) × (y.1 ≡ after_it want l ls us)
 
@@ -208,7 +208,7 @@ two_bytes b c us gap (u ∷ v ∷ []) rest n e g m =
     let second : v.means ≡ Ordinary c = cc in
     (u, v, skip_gap us gap (u ∷ v ∷ rest) (e ∙ append_assoc gap (u ∷ v ∷ []) rest) g (rw (first, n) refl), first, second)
 
--- what stands next, where it is no word
+-- what comes next, where it is not a word
 pub record Stops (us : List TextUnit) (pipe pipe2 pipe_at : Bool) : Type 0 where
   pub no_fault : next_fault (skip us) ≡ None
   pub no_word : begins_word (skip us) ≡ false
@@ -248,7 +248,7 @@ pipe_at_stops us rest f =
 cut_here : (us run rest : List TextUnit) → skip us ≡ run ++ rest → us ≡ gap_of us ++ run ++ rest
 cut_here us run rest e = gap_cut us ∙ ap (λ (vs : List TextUnit). gap_of us ++ vs) e ∙ sym (append_assoc (gap_of us) run rest)
 
--- a sign that stands after the blanks, and the lexer after it
+-- a sign after the blanks, and the lexer after it
 pub form_of_sign : (want : Sign) (l : Line) (ls : List Line) (us vs : List TextUnit) → (want ≡ sign.LineEnd → ⊥) → skip us ≡ vs → is_sign want vs ≡ true → (rest : List TextUnit) × SignForm want us rest × (after_it want l ls vs ≡ within l ls rest)
 form_of_sign sign.LineEnd l ls us vs n e h = absurd (n refl)
 form_of_sign sign.Colon l ls us [] n e h = absurd cc
@@ -273,7 +273,7 @@ form_of_sign sign.PipeAt l ls us (u ∷ v ∷ vs) n e h =
     let both = and_parts (begins_with_byte 124 (u ∷ v ∷ vs)) (begins_with_byte 64 (v ∷ vs)) h in
     (vs, record { gap = gap_of us; run = u ∷ v ∷ []; cut = cut_here us (u ∷ v ∷ []) vs e; blanks = gap_passes us; of_sign = rw (ordinary_is 124 u.means both.0, ordinary_is 64 v.means both.1) refl; longest = refl }, refl)
 
--- A sign that is read stands there.
+-- A sign that is read is there.
 pub sign-form : (want : Sign) (l : Line) (ls : List Line) (us : List TextUnit) (s : State) → (want ≡ sign.LineEnd → ⊥) → called (sign_of want (within l ls us)) ≡ Ok (true, s) → (rest : List TextUnit) × SignForm want us rest × (s ≡ within l ls rest)
 sign-form want l ls us s n h = by_case (sign-cases want l ls us (true, s) h)
   where
@@ -320,7 +320,7 @@ sign_comes sign.PipeAt l ls us rest n f =
     let it = two_bytes 124 64 us f.gap f.run rest refl f.cut f.blanks f.of_sign in
     record { no_fault = rw (it.2, it.3) refl; is_there = rw (it.2, it.3, it.4) refl; after_is = rw it.2 refl }
 
--- A sign that stands there is read.
+-- A sign that is there is read.
 pub sign-read : (want : Sign) (l : Line) (ls : List Line) (us rest : List TextUnit) → (want ≡ sign.LineEnd → ⊥) → SignForm want us rest → called (sign_of want (within l ls us)) ≡ Ok (true, within l ls rest)
 sign-read want l ls us rest n f =
     let it = sign_comes want l ls us rest n f in
@@ -357,7 +357,7 @@ nothing_there : (us : List TextUnit) → is_empty us ≡ true → us ≡ []
 nothing_there [] h = refl
 nothing_there (u ∷ us) h = absurd cc
 
--- The end of a line is read where blanks stand alone.
+-- The end of a line is read where there are only blanks.
 pub end-form : (miss : Wanted) (l : Line) (ls : List Line) (us : List TextUnit) (s : State) → expect_sign sign.LineEnd miss (within l ls us) ≡ Ok s → AreBlanks us × (s ≡ Between (lines_after l ls))
 end-form miss l ls us s h = by_case (sign-cases sign.LineEnd l ls us (true, s) (after-called sign.LineEnd miss (within l ls us) s h))
   where

@@ -37,7 +37,7 @@ opening_no_blank TextEnd h = refl
 opening_no_blank BadByte h = refl
 opening_no_blank BadEscape h = refl
 
--- a blank is no bad unit
+-- a blank is not a bad unit
 pub fault_after_blanks : (us : List TextUnit) → next_fault (skip us) ≡ None → next_fault us ≡ None
 fault_after_blanks [] h = refl
 fault_after_blanks (u ∷ us) h = by_test (is_blank u) refl h
@@ -143,7 +143,7 @@ no_word-read l ls us n b =
 
 -- ---- words
 
--- the words that are read, and where the lexer stands then
+-- the words that are read, and where the lexer is then
 abbrev WordsRead : Line → List Line → List TextUnit → List WordText → State → Type 0
 WordsRead l ls us words s = (rest : List TextUnit) × WordsForm us words rest × (s ≡ within l ls (skip rest))
 

@@ -30,7 +30,7 @@ pub called-fault : {A : Type 0} (f : Option UnitFault) (r : Reply A) (y : A × S
 called-fault None r y h = h
 called-fault (Some f) r y h = absurd cc
 
--- ---- where the lexer stands then
+-- ---- where the lexer is then
 
 -- within the line, with some units left
 abbrev pub On : Line → List Line → State → Type 0

@@ -1,4 +1,4 @@
--- The statement that begins where the lexer stands, by its first line and its block.
+-- The statement that begins where the lexer is, by its first line and its block.
 use Rattle.std.proofs.Common.{◌≡◌, Some, option_map, Result, Ok, Err, List, refl, subst, ◌∙◌}
 use Rattle.nj_text.specs.declared.spot.Spot.{Spot}
 use Rattle.nj_text.specs.Lines.{Line, line_spot, lines_after}

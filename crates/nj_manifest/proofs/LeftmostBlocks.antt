@@ -35,7 +35,7 @@ pub record BlockStuck (allowed : Keys) (ls : List Line) (fault : Fault) : Type 0
 
 -- ---- one line
 
--- what is said of an indented line, by the units after its spaces
+-- the property of an indented line, by the units after its spaces
 abbrev Spaced : Keys → (spaces : List TextUnit) → Claim LineText
 Spaced allowed sp x e ms r = (kind_units (sp ++ x) ≡ IndentedLine) × (after_spaces (sp ++ x) ≡ x) × (line_next allowed (at x e ms) ≡ r)
 
@@ -86,7 +86,7 @@ same_fault r f g h i = errs (sym i ∙ h)
     errs : {A : Type 0} {x y : Fault} → ◌≡◌ {A = Result A Fault} (Err x) (Err y) → x ≡ y
     errs e = cc
 
--- ---- where the fault stands in the first line
+-- ---- where the fault is in the first line
 
 stuck_here : (allowed : Keys) (l : Line) (ls : List Line) (fault : Fault) → kind_of l ≡ IndentedLine → Stuck (Spaced allowed (spaces_of l.units)) (after_spaces l.units) l fault → BlockStuck allowed (l ∷ ls) fault
 stuck_here allowed l ls fault h s =
@@ -158,9 +158,9 @@ tab_here allowed l ls tab h =
           ∙ one_in_front d.0 (Between ms) (block allowed ms);
     }
 
--- ---- where it stands after the first line
+-- ---- where it is after the first line
 
--- after a line that says nothing, and is not the last
+-- after a line that gives nothing, and is not the last
 stuck_after_comment : (allowed : Keys) (l : Line) (ls : List Line) (fault : Fault) → ((ms : List Line) → block allowed (l ∷ ms) ≡ block allowed ms) → BlockStuck allowed ls fault → BlockStuck allowed (l ∷ ls) fault
 stuck_after_comment allowed l ls fault same r = record {
   before = l ∷ r.before;

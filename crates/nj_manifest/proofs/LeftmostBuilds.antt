@@ -93,7 +93,7 @@ build_is : (s : State) → build_next s ≡ (words_next s >>= with_explicit_outp
 unfolding build_next
 build_is s = outputs_is s
 
--- ---- texts that end what is begun
+-- ---- strings that complete what is begun
 
 abbrev nowhere : List Line → State
 nowhere ms = at [] (written []) ms
@@ -214,7 +214,7 @@ module _ {P : Claim HeadText} {whole : List TextUnit} (e : Line) where
       at_rule left b =
           name_turn e wanted.CommandName (λ s. name_next wanted.CommandName s >>= with_rule outs) (with_rule outs) (λ s. refl) b (32 ∷ 114 ∷ []) refl refl refl (ends_rule outs) (λ n c. at_inputs outs n.passes.value n.passes.left c)
 
-  -- the same reading, said otherwise
+  -- the same reading in another form
   along-same : {t : List TextUnit → Bool} {us : List TextUnit} (k k' : State → Step HeadText) → ((s : State) → k s ≡ k' s) → Along P whole k t us → Along P whole k' t us
   along-same k k' so a = record { begun = a.begun; cut = a.cut; goes = λ x d ms fit. subst (P (a.begun ++ x) d ms) (so (at x d ms)) (a.goes x d ms fit) }
 

@@ -126,7 +126,7 @@ front-append [] x y h = h
 front-append (u ∷ []) x y h = front-after u x y h
 front-append (u ∷ v ∷ used) x y h = front-two u v (used ++ x) (used ++ y)
 
--- a unit that is no `|` is seen alone
+-- a unit that is not `|` is seen alone
 pub front-alone : (u : TextUnit) (x : List TextUnit) → begins_with_byte 124 (u ∷ []) ≡ false → front (u ∷ x) ≡ u ∷ []
 front-alone u x h = ap (λ (t : Bool). element_by false ((t && begins_with_byte 124 x) || (t && begins_with_byte 64 x)) (u ∷ x)) h
 

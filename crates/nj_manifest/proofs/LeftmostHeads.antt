@@ -71,7 +71,7 @@ file_led s = by_found (word_call s)
 file_is : (head : WordText → HeadText) (s : State) → as_head head (file_next s) ≡ (file_word s >>= file_end head)
 file_is head s = ap (as_head head) (file_led s) ∙ file_by head (file_word s)
 
--- ---- texts that end what is begun
+-- ---- strings that complete what is begun
 
 ends_name : (want : Wanted) (head : NameText → HeadText) → ReadTo (λ ms. name_next want (at (text (32 ∷ 114 ∷ [])) (written []) ms) >>= named_end head)
 unfolding name_next expect_sign

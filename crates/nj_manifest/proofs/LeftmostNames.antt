@@ -62,7 +62,7 @@ name_reads want gap run x u e ms b bs g i h n =
     ∙ named_ok want (next_fault ((u ∷ run) ++ x)) (take_while in_identifier ((u ∷ run) ++ x)) (u ∷ run) u.spot u.spot (at (drop_while in_identifier ((u ∷ run) ++ x)) e ms) (at x e ms) b bs
     (identifier_no_fault u i.0) (run_taken in_identifier (u ∷ run) x i n) refl (ap (λ (y : List TextUnit). at y e ms) (run_passed in_identifier (u ∷ run) x i n)) h)
 
--- ---- what a name's reading says
+-- ---- what reading a name gives
 
 -- the same element means the same identifier
 pub same_run : (x y : List TextUnit) → element x ≡ element y → take_while in_identifier x ≡ take_while in_identifier y
@@ -75,7 +75,7 @@ same_run x y h = by_test (begins in_identifier y) refl
     by_test true e = sym (element-identifier x (seen ∙ e)) ∙ (h ∙ element-identifier y e)
     by_test false e = none_taken in_identifier x (seen ∙ e) ∙ sym (none_taken in_identifier y e)
 
--- what stands after the blanks is seen so in place of them
+-- what comes after the blanks is seen as if it came in their place
 pub no_blank_there : (us x : List TextUnit) → element x ≡ element (skip us) → begins is_blank x ≡ false
 no_blank_there us x h = begins-same is_blank x (skip us) (element-front x (skip us) h) ∙ skip_stops us
 

@@ -69,7 +69,7 @@ gap_cut us = both_parts is_blank us
 pub skip_gap : (gap us : List TextUnit) → AllIn is_blank gap → skip (gap ++ us) ≡ skip us
 skip_gap gap us h = drop_while-append is_blank gap us h
 
--- ---- tests on what a unit says
+-- ---- tests on the meaning of a unit
 
 -- an ordinary byte that passes one test and so not another
 pub no_other : (p : ℕ → Bool) (test : Meaning → Bool) → ((b : ℕ) → p b ≡ true → test (Ordinary b) ≡ false) → (m : Meaning) → is_ordinary_in p m ≡ true → test m ≡ false

@@ -71,7 +71,7 @@ pub record Mark (want : Sign) (us : List TextUnit) : Type 0 where
   pub seen : (x : List TextUnit) → follows x ≡ true → front (mark ++ x) ≡ front us
   pub reads : (x : List TextUnit) (e : Line) (ms : List Line) → follows x ≡ true → section_next want (at (mark ++ x) e ms) ≡ words_next (at x e ms)
 
--- what shows that `|` stands alone
+-- what shows that `|` is alone
 abbrev bare : List TextUnit → Bool
 bare us = not (begins_with_byte 124 us) && not (begins_with_byte 64 us)
 

@@ -18,7 +18,7 @@ use Rattle.nj_manifest.proofs.LeftmostFronts.{fault-same, sign-same, element-fro
 use Rattle.nj_manifest.proofs.LeftmostSteps.{at, blank_no_pipe, Fits, fits-alone, fits-gap, Passes, FailsAt, fault-place, ordinary_no_fault, Claim, Along, Outcome, stuck, stick, arrive, OfWanted}
 use Rattle.nj_manifest.proofs.LeftmostNames.{no_blank_there}
 
--- a sign as a step, which says nothing
+-- a sign as a step, which gives nothing
 abbrev pub led_on : Result State Fault → Step Bool
 led_on r = r >>= λ t. Ok (true, t)
 
@@ -29,7 +29,7 @@ sign_step want miss s = led_on (expect_sign want miss s)
 abbrev pub ending : {B : Type 0} → B → Result State Fault → Step B
 ending value r = r >>= λ end. Ok (value, end)
 
--- by the fault there, whether the sign is there, and where the lexer stands then
+-- by the fault there, whether the sign is there, and where the lexer is then
 abbrev sign_by : Wanted → Option UnitFault → Bool → (there other : State) → Result State Fault
 sign_by miss f t there other = called (unless_fault f (cond t (reply true there) (reply false other))) >>= λ t. if_there miss t.0 t.1
 

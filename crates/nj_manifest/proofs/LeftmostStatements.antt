@@ -157,7 +157,7 @@ one_statement = (_, _, refl)
 blank_then : (sp : List TextUnit) → AllIn is_space_unit sp → SomeOf (with_units (sp ++ text []) (written []) ∷ written (codes "a=b") ∷ [])
 blank_then sp a = (one_statement.0, one_statement.1, by_kind_next (with_units (sp ++ []) (written [])) (written (codes "a=b") ∷ []) BlankLine (kind_spaced sp [] a refl) ∙ one_statement.2)
 
--- The fault is that of the line's kind, whatever is after its first unit.
+-- The fault is the fault of the line's kind, whatever comes after its first unit.
 of_kind : (l : Line) (ls : List Line) (fault : Fault) → offers fault [] ≡ true → NamesThePlaceOf fault (with_units (after_spaces l.units) l)
     → ((m : Line) (ms : List Line) → element m.units ≡ element (after_spaces l.units) → next_statement (with_units (spaces_of l.units ++ m.units) m ∷ ms) ≡ Err (met_before m fault)) → ComesLeftmost (l ∷ ls) fault
 of_kind l ls fault offered place refuses =
@@ -190,7 +190,7 @@ indented_leftmost l ls k =
     by_kind_next (with_units (spaces_of l.units ++ m.units) m) ms IndentedLine (kind_replaced l.units m.units sees ∙ k)
     ∙ ap (λ (y : List TextUnit). unexpected_at (with_units y m)) (unspaced (spaces_of l.units) m.units (spaces_pass l.units) (no_space_same l.units m.units sees)))
 
--- after a line that says nothing, and is not the last
+-- after a line that gives nothing, and is not the last
 leftmost_after : (l : Line) (ls : List Line) (fault : Fault) → ((ms : List Line) → next_statement (l ∷ ms) ≡ next_statement ms) → ComesLeftmost ls fault → ComesLeftmost (l ∷ ls) fault
 leftmost_after l ls fault same r = record {
   before = l ∷ r.before;

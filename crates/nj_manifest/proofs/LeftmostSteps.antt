@@ -1,4 +1,4 @@
--- Reading on along a line: where a reading passes, where it fails, and what both say of a whole line.
+-- Reading on along a line: where a reading passes, where it fails, and what both tell about a whole line.
 use Rattle.std.proofs.Common.{◌≡◌, ℕ, Bool, true, false, ◌||◌, ◌==◌, eqb, Option, Some, None, Result, Ok, Err, ◌⊎◌, inl, inr, List, [], ◌∷◌, ◌++◌, map, refl, sym, ap, subst, ◌∙◌, append_assoc}
 use Rattle.std.proofs.lemmas.Bool.{eqb-true}
 use Rattle.nj_text.specs.declared.fault.UnitFault.{UnitFault}
@@ -21,7 +21,7 @@ use Rattle.nj_manifest.proofs.LeftmostFronts.{front, front-append, front-alone, 
 abbrev pub at : List TextUnit → Line → List Line → State
 at us e ms = Inside (with_units us e) ms
 
--- the units of bytes that stand for themselves
+-- the units of bytes that mean themselves
 abbrev pub text : List ℕ → List TextUnit
 text bytes = map written_unit bytes
 
@@ -92,9 +92,9 @@ pub opens-no_fault : (t : ℕ → Bool) (us : List TextUnit) → opens t us ≡ 
 opens-no_fault t [] h = refl
 opens-no_fault t (u ∷ us) h = ordinary_no_fault t u.means u.spot h
 
--- ---- units that stand here in place of others
+-- ---- units that come here in place of others
 
--- a text that may be written, or units that are seen as those that stand here
+-- a string that may be written, or units that are seen as those that are here
 abbrev pub Fits : (List TextUnit → Bool) → List TextUnit → List TextUnit → Type 0
 Fits t us x = (t x ≡ true) ⊎ (front x ≡ front us)
 
@@ -119,7 +119,7 @@ fits-gap t us x g = fits-blanks t us (gap_of us) (skip us) x (gap_passes us) (ga
 
 -- ---- one reading
 
--- It passes some units and stands after them, whatever follows that fits.
+-- It passes some units and is then after them, whatever follows that fits.
 pub record Passes {A : Type 0} (f : State → Step A) (t t' : List TextUnit → Bool) (us : List TextUnit) : Type 0 where
   pub used : List TextUnit
   pub left : List TextUnit
@@ -155,11 +155,11 @@ OfWanted want fault = (bytes : List ℕ) → offers_next want (drop_while is_spa
 
 -- ---- a whole line
 
--- what is said of a line's reading: its units, its end, the lines after it, and the reading
+-- what describes a line's reading: its units, its end, the lines after it, and the reading
 abbrev pub Claim : Type 0 → Type 1
 Claim B = List TextUnit → Line → List Line → Step B → Type 0
 
--- The reading of the whole goes on from here as k says.
+-- The reading of the whole continues from here with k.
 pub record Along {B : Type 0} (P : Claim B) (whole : List TextUnit) (k : State → Step B) (t : List TextUnit → Bool) (us : List TextUnit) : Type 0 where
   pub begun : List TextUnit
   pub cut : whole ≡ begun ++ us

@@ -169,7 +169,7 @@ none_reads x e ms h = word_none _ _ _ _ _ _ (settled_fault x h) (begins_word-is 
 bad_reads : (x : List TextUnit) (e : Line) (ms : List Line) (bad : UnitFault) → next_fault x ≡ Some bad → word_here x e ms ≡ Err (Bad bad)
 bad_reads x e ms bad h = word_bad _ _ _ _ _ _ bad h
 
--- a unit of a word is no blank
+-- a unit of a word is not a blank
 word_no_blank : (m : Meaning) → opens_word_meaning m ≡ true → is_blank_meaning m ≡ false
 word_no_blank (Ordinary b) h = not_byte is_word_byte 32 refl b h
 word_no_blank Join h = absurd cc

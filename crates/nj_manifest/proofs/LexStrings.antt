@@ -1,4 +1,4 @@
--- The text of a fault of the lexer is that of the fault of the parser that it becomes.
+-- The text of a fault of the lexer is the text of the parser's fault that it becomes.
 use Rattle.std.proofs.Common.{◌≡◌, refl}
 use Rattle.nj_text.specs.declared.fault.LexFault.{LexFault}
 use Rattle.nj_text.specs.declared.fault.LexFault.TheVariants as lex

@@ -1,4 +1,4 @@
--- Where the next statement of lines begins, by what the lexer answers at their start.
+-- Where the next statement of lines begins, by what the lexer returns at their start.
 use Rattle.std.proofs.Common.{◌≡◌, ℕ, suc, ◌<◌, ◌≤◌, Bool, true, false, cond, ◌&&◌, Result, Ok, Err, List, [], ◌∷◌, refl, sym, ap, subst, arith}
 use Rattle.nj_text.specs.declared.fault.UnitFault.{UnitFault}
 use Rattle.nj_text.specs.declared.fault.UnitFault.TheVariants as unit_fault
@@ -24,11 +24,11 @@ Next = Result Opening Fault
 abbrev pub front_at : Spot → Spot
 front_at spot = record { line = spot.line; column = 1 }
 
--- The lexer stands at the first unit of a line with which a statement begins.
+-- The lexer is at the first unit of a line with which a statement begins.
 abbrev pub BeginsHere : Next → State → Type 0
 BeginsHere next s = (l : Line) × (ls : List Line) × (s ≡ Inside l ls) × (kind_of l ≡ PlainLine) × (next ≡ Ok (Begun l ls))
 
--- what the start of a line says of the next statement
+-- what the start of a line tells about the next statement
 abbrev pub Begins : Next → Result LineStart UnitFault → State → Type 0
 Begins next (Ok start.End) s = (next ≡ ended (lines_from s)) × (ls : List Line) × (s ≡ Between ls)
 Begins next (Ok start.Blank) s = (ls : List Line) × (s ≡ Between ls) × (next ≡ opening ls)
@@ -90,7 +90,7 @@ begun-next (l ∷ ls) = by_comment (is_comment (kind_of l)) refl (begun-next ls)
     by_comment false e rest = begun-kind (kind_of l) l ls refl e
     by_comment true e rest = rw (next-comment (kind_of l) l ls (opening ls) e) (by_last l.is_last refl rest)
 
--- what the lexer answers at the start of a line
+-- what the lexer returns at the start of a line
 abbrev Answered : Result LineStart UnitFault → (after : State) → Reply LineStart → Type 0
 Answered outcome after r = (r.outcome ≡ outcome) × (after ≡ r.after)
 

@@ -1,4 +1,4 @@
--- Worked rows, computed on the definitions: texts that begin with a statement, and texts without one.
+-- Worked rows, computed on the definitions: files that begin with a statement, and files without one.
 use Rattle.std.proofs.Common.{◌≡◌, ℕ, zero, suc, Option, Some, None, Result, Ok, Err, List, [], ◌∷◌, refl}
 use Rattle.std.specs.Prelude.{⊤, codes}
 use Rattle.nj_text.specs.declared.spot.Spot.{Spot}
@@ -25,12 +25,12 @@ item_of (Err f) = Err f
 abbrev pub first_of : List ℕ → Result (Option PlacedText) Fault
 first_of text = item_of (next_statement (text_lines text))
 
--- an answer before those that follow it; a fault ends them
+-- a result before those that follow it; a fault ends them
 abbrev outcomes_from : Parse (Option PlacedText) → (List Line → List (Result (Option PlacedText) Fault)) → List (Result (Option PlacedText) Fault)
 outcomes_from (Ok r) others = Ok r.0 ∷ others r.1
 outcomes_from (Err f) others = Err f ∷ []
 
--- the answers of so many readings, each from the lines after the one before
+-- the results of this many readings, each from the lines after the one before
 abbrev outcomes : (turns : ℕ) → List Line → List (Result (Option PlacedText) Fault)
 outcomes zero ls = []
 outcomes (suc turns) ls = outcomes_from (next_statement ls) (outcomes turns)
@@ -79,7 +79,7 @@ joined_word : first_of (codes "build o: cp a$\n  b") ≡ placed 1 1 (BuildText
 unfolding on_strings
 joined_word = refl
 
--- a join after a space stands between words
+-- a join after a space comes between words
 parted_words : first_of (codes "build o: cp a $\n  b") ≡ placed 1 1 (BuildText
     (to (word 1 7 (codes "o") ∷ []))
     (name_at 1 10 (codes "cp"))
@@ -126,7 +126,7 @@ whole_of_pool : first_of (codes "pool p\n  depth = 1") ≡ placed 1 1 (PoolText 
 unfolding on_strings
 whole_of_pool = refl
 
--- comments stand among the lines of a block
+-- comments are among the lines of a block
 whole_of_rule : first_of (codes "rule r\n# c\n  command = x $in\n  # d\n  restat =\n") ≡ placed 1 1 (RuleText (name_at 1 6 (codes "r"))
     (line_at 3 3 (codes "command") (record { spot = at 3 13; parts = Text (codes "x ") ∷ Name (codes "in") ∷ [] }) ∷ line_at 5 3 (codes "restat") (record { spot = at 5 11; parts = [] }) ∷ []))
 unfolding on_strings

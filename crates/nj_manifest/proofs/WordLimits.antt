@@ -38,7 +38,7 @@ word_takes (u ∷ us) h =
     let short = drop_while_shortens in_word us in
     rw passes (omega arith)
 
--- the parts of an answer
+-- the parts of a result
 pub ok_parts : {A : Type 0} (x y : A) (s t : State) → ◌≡◌ {A = Step A} (Ok (x, s)) (Ok (y, t)) → (x ≡ y) × (s ≡ t)
 ok_parts {A} x y s t e =
     let same : ◌≡◌ {A = A × State} (x, s) (y, t) = cc in

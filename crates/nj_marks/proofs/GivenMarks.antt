@@ -1,4 +1,4 @@
--- The texts of marks, written and read.
+-- Marks, written and read.
 use Rattle.std.proofs.Common.{◌≡◌, ℕ, ◌^◌, ◌<◌, Bool, true, false, Option, Some, None, List, [], ◌∷◌, ◌++◌, length, get_or, refl, sym, ap, ◌∙◌, subst, arith}
 use Rattle.std.specs.Prelude.{map, codes, decimal, ◌||◌}
 use Rattle.std.specs.List.{slice_split, onto_first, join_with_byte, list_any, All, AllByRecursion}
@@ -34,7 +34,7 @@ parts-written : (n : ℕ) (ns : List ℕ) → AllByRecursion (λ k. k < 2 ^ 64) 
 parts-written n [] h = parts-one (decimal n) (no_dot-decimal n h.0)
 parts-written n (m ∷ ns) h = parts-at (decimal n) (mark_text (m ∷ ns)) (no_dot-decimal n h.0) ∙ ap (λ ps. decimal n ∷ ps) (parts-written m ns h.1)
 
--- ---- what was written is said
+-- ---- what was written is read
 
 numbers-written : (ns : List ℕ) → AllByRecursion (λ k. k < 2 ^ 64) ns → numbers_in (map decimal ns) ≡ Some ns
 numbers-written [] h = refl
@@ -64,7 +64,7 @@ written_given numbers h = meant numbers (recursion_from_All (λ k. k < 2 ^ 64) n
 pub all-fit : (numbers : List ℕ) → ((k : ℕ) → get_or numbers k 0 < 2 ^ 64) → All (λ n. n < 2 ^ 64) numbers
 all-fit numbers h k d lt = subst (λ n. n < 2 ^ 64) (get_or_default numbers k 0 d lt) (h k)
 
--- ---- what is said was written
+-- ---- what is read was written
 
 parts-meant : (ps : List (List ℕ)) (ns : List ℕ) → numbers_in ps ≡ Some ns → map decimal ns ≡ ps
 parts-meant [] ns e = let x : ns ≡ [] = cc in rw x refl
@@ -95,7 +95,7 @@ given_written text numbers e = by_test (bytes_eq text (codes "start")) refl
         let some : 0 < length (map decimal numbers) = omega (arith, ap length parts, length-slice_split is_dot text) in
         text_of numbers some ∙ ap (join_with_byte 46) parts ∙ join_with_byte-slice_split 46 text
 
--- ---- the numbers that a text says fit
+-- ---- the numbers in a mark fit
 
 parts-fit : (ps : List (List ℕ)) (ns : List ℕ) → numbers_in ps ≡ Some ns → AllByRecursion (λ n. n < 2 ^ 64) ns
 parts-fit [] ns e = let x : [] ≡ ns = cc in subst (AllByRecursion (λ n. n < 2 ^ 64)) x tt

@@ -33,7 +33,7 @@ numeral_digits [] h = absurd (cc)
 numeral_digits (d ∷ []) h = (and_of (is_ascii_digit d) true h refl, omega arith)
 numeral_digits (d ∷ e ∷ ds) h = ((and_true (not (eqb d 48)) (all_ascii_digits (d ∷ e ∷ ds)) h).1, omega arith)
 
--- a sign is no digit
+-- a sign is not a digit
 numeral_front : (bs : List ℕ) → is_numeral bs ≡ true → has_plain_front bs ≡ true
 numeral_front [] h = h
 numeral_front (d ∷ []) h = by_test (eqb d 43) refl
@@ -72,7 +72,7 @@ no_plus (d ∷ e ∷ ds) f = λ p. let x : not (eqb 43 43) ≡ true = ap (λ b. 
 pub number-no_front : (bs : List ℕ) → has_plain_front bs ≡ false → number_of bs ≡ None
 number-no_front bs f = number-none bs (λ h l. let x = numeral_front bs h in cc)
 
--- what `parse` says of a part with a plain front; the error does not matter
+-- what `parse` returns for a part with a plain front; the error does not matter
 pub number-parsed : (bs : List ℕ) (x : ℕ) → ParsesUnsigned {E = ℕ} 64 10 bs (Ok x) → has_plain_front bs ≡ true → number_of bs ≡ Some x
 number-parsed bs x p f =
     let meant = parse_plain own {E = ℕ} 64 bs (Ok x) p (no_plus bs f) in

@@ -1,4 +1,4 @@
--- Texts of marks, cut at their dots.
+-- Marks in their written form, cut at their dots.
 use Rattle.std.proofs.Common.{◌≡◌, ℕ, suc, ◌+◌, ◌<◌, Bool, true, false, not, cond, Option, Some, None, List, [], ◌∷◌, ◌++◌, length, take, get_or, refl, sym, ap, ◌∙◌, arith, append_assoc}
 use Rattle.std.specs.Prelude.{codes, decimal}
 use Rattle.std.specs.List.{slice_split, onto_first, position_or_len, before_first, after_first}
@@ -33,7 +33,7 @@ prefixed numbers (Some more) = Some (numbers ++ more)
 abbrev pub AreReadSoFar : List ℕ → List ℕ → List ℕ → Type 0
 AreReadSoFar text numbers rest = numbers_in (slice_split is_dot text) ≡ prefixed numbers (numbers_in (slice_split is_dot rest))
 
--- ---- whole texts
+-- ---- whole marks
 
 pub given_start : (text : List ℕ) → bytes_eq text (codes "start") ≡ true → given_mark text ≡ Some []
 unfolding given_mark

@@ -10,7 +10,7 @@ use Rattle.nj_needs.specs.Needs.{AreWithin}
 use Rattle.nj_needs.specs.Walks.{IsFirstPlaceOf}
 use Rattle.nj_needs.proofs.Members.{Among, Contains-from_Among}
 
--- what stands at an index of a row is among it
+-- an element at an index of a row is among its elements
 Among-at : (row : List (Option ℕ)) (p e : ℕ) → slice_index_or row p None ≡ Some e → Among row e
 Among-at [] p e is = absurd cc
 Among-at (x ∷ row) zero e is = inl is

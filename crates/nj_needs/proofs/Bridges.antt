@@ -26,7 +26,7 @@ first-file files n ns p ps are = cc
 later-files : (files : List (List ℕ)) (n : FileNo) (ns : List FileNo) (p : List ℕ) (ps : List (List ℕ)) → AreFiles files (n ∷ ns) (p ∷ ps) → AreFiles files ns ps
 later-files files n ns p ps are = cc
 
--- files have the paths that they are said to have
+-- files have the paths that are given for them
 pub paths-at : (files : List (List ℕ)) (ns : List FileNo) (paths : List (List ℕ)) → AreFiles files ns paths → map (path_at files) ns ≡ paths
 paths-at files [] [] are = refl
 paths-at files [] (p ∷ ps) are = absurd cc

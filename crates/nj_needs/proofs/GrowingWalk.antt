@@ -27,7 +27,7 @@ without-done done (e ∷ es) all =
     let later : without done es ≡ [] = without-done done es (λ x i. all x (In-tail e es x i)) in
     rw (here, later) refl
 
--- the place of the list at which the walk is, or after which it goes on
+-- the place of the list at which the walk is, or after which it continues
 abbrev pub bottom : List Frame → (place : ℕ) → ℕ
 bottom [] place = place
 bottom (f ∷ path) place = f.at + 1
@@ -65,7 +65,7 @@ module _ (X : Type 0) (makers : ℕ → List (Option ℕ)) (count : ℕ) (rank :
   abbrev pub Growing : List X → List Frame → ℕ → List Bool → Type 0
   Growing files path place flags = IsGrowing X makers count maker checks targets all files path place flags
 
-  -- the list is a beginning of the grown targets
+  -- the list is a prefix of the grown targets
   front-all : (path : List Frame) (place : ℕ) → IsLinked makers row path → IsFront (listed (first_occurrences (done path place))) all
   front-all path place linked =
       let r = done_front makers count rank ranked row inside path place linked in
@@ -77,7 +77,7 @@ module _ (X : Type 0) (makers : ℕ → List (Option ℕ)) (count : ℕ) (rank :
     front-files : IsFront files all
     front-files = subst (λ (xs : List X). IsFront xs all) (sym h.grown) (front-all path place h.standing.linked)
 
-    -- what the walk finds in the list stands in the grown targets
+    -- what the walk finds in the list is in the grown targets
     pub found-all : (x : Option ℕ) → slice_get (top_row makers (map maker files) path) place ≡ Some x → slice_get (top_row makers row path) place ≡ Some x
     found-all x at = by path at
       where
@@ -91,7 +91,7 @@ module _ (X : Type 0) (makers : ℕ → List (Option ℕ)) (count : ℕ) (rank :
         let here : slice_get (map maker files) place ≡ Some x = ap (λ (fs : List Frame). slice_get (top_row makers (map maker files) fs) place) (sym empty) ∙ at in
         omega (arith, slice_get_within (map maker files) place x here, length-map files maker)
 
-    -- an edge that stands there is an edge
+    -- an edge at that place is an edge of the graph
     pub found-below : (m : ℕ) → slice_get (top_row makers (map maker files) path) place ≡ Some (Some m) → m < count
     found-below m at = top-within makers count rank ranked row inside path place m (found-all (Some m) at)
 

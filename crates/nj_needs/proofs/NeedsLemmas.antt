@@ -1,4 +1,4 @@
--- What holds of a walk and its saved address, at the start and after each turn.
+-- What is true of a walk and its saved address, at the start and after each turn.
 use Rattle.std.proofs.Common.{◌≡◌, ℕ, ◌+◌, ◌-◌, ◌<◌, ◌≤◌, min, Bool, true, false, cond, List, [], ◌∷◌, ◌++◌, length, get_or, take, refl, sym, ap, subst, ◌∙◌, inl, inr, arith, vec_capacity}
 use Rattle.std.specs.Global.{Vec}
 use Rattle.std.proofs.lemmas.List.{take-take, take-append-le, map_push, length-map, length_push}
@@ -34,7 +34,7 @@ IsWalkAt-start g targets turns path flags begun acyclic inside count empty wide 
 pub IsSound-from : (w : Walk) (s : Saved) → IsNeeds w s → IsSound (state_of w s)
 IsSound-from w s h = record { left = h.rest; turns = omega arith }
 
--- the count is that of the turns that were taken
+-- the count is the number of turns that were taken
 pub turns-are : (w : Walk) (s : Saved) → IsNeeds w s → w.turns.taken ≡ saturated (state_of w s).turns
 turns-are w s h =
     let t = h.walk.counted in

@@ -1,4 +1,4 @@
--- The needed commands are those of the reached edges, each once, and each after what it needs.
+-- The needed commands are the commands of the reached edges, each once, and each after what it needs.
 use Rattle.std.proofs.Common.{◌≡◌, ℕ, zero, suc, ◌<◌, Bool, true, false, not, cond, Option, Some, None, List, [], ◌∷◌, ◌++◌, length, get_or, take, filter, refl, sym, ap, subst, ◌∙◌, ◌⊎◌, inl, inr, arith}
 use Rattle.std.specs.Prelude.{nat_eq, slice_get}
 use Rattle.std.specs.List.{flat_map, list_any, AllByRecursion, IsDistinct}
@@ -78,7 +78,7 @@ commands-once makers count phony targets =
 
 -- ---- each after what it needs
 
--- what each element wants was seen, or stands before it
+-- what each element wants was seen, or comes before it
 Ordered : (want : ℕ → ℕ → Type 0) → (seen : List ℕ) → List ℕ → Type 0
 Ordered want seen [] = Unit {0}
 Ordered want seen (e ∷ es) = ((f : ℕ) → want e f → In seen f) × Ordered want (e ∷ seen) es

@@ -1,4 +1,4 @@
--- What is left at a mark is an end of the needed commands: what stands after the mark's edge. So pages join.
+-- What is left at a mark is a suffix of the needed commands: what comes after the mark's edge. So pages join.
 use Rattle.std.proofs.Common.{◌≡◌, ℕ, Bool, true, false, not, cond, Option, Some, None, List, [], ◌∷◌, ◌++◌, filter, refl, sym, ap, subst, ◌∙◌, inl, inr, append_assoc}
 use Rattle.std.specs.Prelude.{nat_eq, MatchOption}
 use Rattle.std.specs.List.{list_any, concat, last_or}
@@ -17,7 +17,7 @@ use Rattle.nj_needs.proofs.PlaceLaws.{valid-from_edge, done-front}
 
 -- ---- lists
 
--- the first occurrences of two lists: those of the one, and then those of the other that are not in the one
+-- the first occurrences in two lists: those in the first, and then those in the second that are not in the first
 first-append : (xs ys : List ℕ) → first_occurrences (xs ++ ys) ≡ first_occurrences xs ++ without xs (first_occurrences ys)
 first-append [] ys = sym (without-none (first_occurrences ys))
 first-append (x ∷ xs) ys =
@@ -27,7 +27,7 @@ first-append (x ∷ xs) ys =
     ap (λ (es : List ℕ). x ∷ filter q es) (first-append xs ys)
     ∙ ap (λ (es : List ℕ). x ∷ es) (filter-append q F more ∙ ap (λ (es : List ℕ). filter q F ++ es) (sym (without-cons x xs (first_occurrences ys))))
 
--- an element stands once where all differ
+-- an element occurs once where all differ
 differ-front : (xs : List ℕ) (e : ℕ) (ys : List ℕ) → Differ (xs ++ e ∷ ys) → list_any (nat_eq e) xs ≡ false
 differ-front [] e ys d = refl
 differ-front (x ∷ xs) e ys d = false_from_ne_true (list_any (nat_eq e) (x ∷ xs)) (λ i. elim (In-cons_cases x xs e i) [
@@ -38,7 +38,7 @@ differ-front (x ∷ xs) e ys d = false_from_ne_true (list_any (nat_eq e) (x ∷ 
   | inr t ↦ let never : list_any (nat_eq e) xs ≡ false = differ-front xs e ys d.1 in cc
 ])
 
--- what stands after the first place of an element
+-- what comes after the first occurrence of an element
 same-after : (e : ℕ) (xs ys ms ns : List ℕ) → xs ++ e ∷ ms ≡ ys ++ e ∷ ns → list_any (nat_eq e) xs ≡ false → list_any (nat_eq e) ys ≡ false → ms ≡ ns
 same-after e [] [] ms ns is f g = cc
 same-after e [] (y ∷ ys) ms ns is f g = absurd (let same : e ≡ y = cc in let i : In (y ∷ ys) e = subst (λ z. In (z ∷ ys) e) same (In-head e ys) in cc)
@@ -76,7 +76,7 @@ module _ (phony : ℕ → Bool) where
       ∙ filter-append plain F (without front (first_occurrences whole))
       ∙ ap (λ (es : List ℕ). filter plain F ++ es) (filter_comm plain (λ e. not (list_any (nat_eq e) front)) (first_occurrences whole))
 
-  -- and what is left after the first place of an edge with a command stands after the edge
+  -- and what is left after the first occurrence of an edge with a command comes after the edge
   left-after : (whole before : List ℕ) (e : ℕ) (more : List ℕ) → whole ≡ before ++ e ∷ more → list_any (nat_eq e) before ≡ false → plain e ≡ true
       → filter plain (first_occurrences whole) ≡ filter plain (first_occurrences before) ++ e ∷ without (before ++ e ∷ []) (filter plain (first_occurrences whole))
   left-after whole before e more is fresh command =
@@ -90,7 +90,7 @@ module _ (phony : ℕ → Bool) where
       ∙ ap (λ b. cond b (e ∷ filter plain (without done N)) (filter plain (without done N))) command
       ∙ ap (λ (es : List ℕ). e ∷ es) (filter_comm plain (λ x. not (list_any (nat_eq x) done)) N))
 
-  -- so it is what stands after the edge wherever the edge stands in an end of the commands
+  -- so it is what comes after the edge wherever the edge is in a suffix of the commands
   same-left : (whole before : List ℕ) (e : ℕ) (more taken front left : List ℕ) → whole ≡ before ++ e ∷ more → list_any (nat_eq e) before ≡ false
       → filter plain (first_occurrences whole) ≡ taken ++ (front ++ e ∷ left) → without (before ++ e ∷ []) (filter plain (first_occurrences whole)) ≡ left
   same-left whole before e more taken front left is fresh split =

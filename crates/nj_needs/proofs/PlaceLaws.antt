@@ -15,7 +15,7 @@ use Rattle.nj_needs.proofs.Unfolding.{within, unfolded-row}
 use Rattle.nj_needs.proofs.Walking.{done_at-pass}
 use Rattle.nj_needs.proofs.ResumeLemmas.{valid-step, inputs-some}
 
--- where an element stands first
+-- where an element first occurs
 first_split : (e : ℕ) (xs ys m n : List ℕ) → xs ++ e ∷ m ≡ ys ++ e ∷ n → list_any (nat_eq e) xs ≡ false → list_any (nat_eq e) ys ≡ false → length xs ≡ length ys
 first_split e [] [] m n is f g = refl
 first_split e [] (y ∷ ys) m n is f g = absurd (let same : e ≡ y = cc in let i : In (y ∷ ys) e = subst (λ z. In (z ∷ ys) e) same (In-head e ys) in cc)
@@ -105,7 +105,7 @@ module _ (makers : ℕ → List (Option ℕ)) (count : ℕ) (rank : ℕ → ℕ)
     ])
   ]
 
-  -- an address that goes on does less than one that ends there
+  -- an address that continues has done less than one that ends there
   less-inside : (row : List (Option ℕ)) → ((m : ℕ) → Among row m → m < count) → (p r : ℕ) (x : List ℕ) → is_valid makers row (p ∷ r ∷ x) ≡ true
       → length (done makers count row (p ∷ r ∷ x)) < length (done makers count row (p ∷ []))
   unfolding size
@@ -142,7 +142,7 @@ module _ (makers : ℕ → List (Option ℕ)) (count : ℕ) (rank : ℕ → ℕ)
       (deep ∙ ap (λ n. length (done makers count (makers s.0) (n ∷ y))) (sym number)) in
       ap (λ (n : ℕ). n ∷ x) number ∙ ap (λ (z : List ℕ). t ∷ z) rest
 
-  -- what is done at a valid mark is a beginning of the unfolded order
+  -- what is done at a valid mark is a prefix of the unfolded order
   pub done-front : (row : List (Option ℕ)) → ((m : ℕ) → Among row m → m < count) → (mark : List ℕ) → is_valid makers row mark ≡ true → (more : List ℕ) × (unfolded_row makers count row ≡ done makers count row mark ++ more)
   done-front row inside [] v = (unfolded_row makers count row, refl)
   done-front row inside (p ∷ []) v =

@@ -21,7 +21,7 @@ use Rattle.nj_needs.proofs.Walking.{top_row-push, IsLinked-pop}
 use Rattle.nj_needs.proofs.NeedsLemmas.{looked-left}
 use Rattle.nj_needs.proofs.ResumeLemmas.{valid-step, same-cut}
 
--- the walk stands at the number with index i of the mark
+-- the walk is at the number with index i of the mark
 pub record IsOnWay (w : Walk) (numbers : List ℕ) (i : ℕ) : Type 0 where
   pub walk : IsWalk w
   pub path : places w.path.items ≡ take i numbers
@@ -97,7 +97,7 @@ module _ (w v : Walk) (graph : v.turns.graph ≡ w.turns.graph) (targets : v.tur
   way-step (Closed e phony) t = absurd (let a = there-now in let b = t.past in cc)
   way-step Ended t = absurd (let a = there-now in let b = t.past in cc)
 
--- the next number stands in the row
+-- the next number is in the row
 pub way-place_in : (w : Walk) (numbers : List ℕ) (i p : ℕ) → i < length numbers → p ≡ get_or numbers i p → IsOnWay w numbers i → p ≤ length (top_of w.turns.graph.now w.turns.targets.now w.path.items)
 way-place_in w numbers i p lt number h =
     let from : drop i numbers ≡ p ∷ drop (i + 1) numbers = drop_more numbers i p lt ∙ ap (λ (n : ℕ). n ∷ drop (i + 1) numbers) (sym number) in

@@ -29,7 +29,7 @@ module _ (makers : ℕ → List (Option ℕ)) where
   pub inputs-some : (row : List (Option ℕ)) (p m : ℕ) → slice_get row p ≡ Some (Some m) → inputs_of makers (get_or row p None) ≡ makers m
   inputs-some row p m at = ap (inputs_of makers) (get_or_from_slice_get row p (Some m) None at)
 
-  -- the first step of a valid mark leads to an edge, from which the others go on
+  -- the first step of a valid mark leads to an edge, from which the others continue
   pub valid-step : (row : List (Option ℕ)) (p : ℕ) (mark : List ℕ) → is_valid makers row (p ∷ mark) ≡ true
       → (m : ℕ) × (slice_get row p ≡ Some (Some m)) × (is_valid makers (makers m) mark ≡ true)
   valid-step row p mark h = by_maker (get_or row p None) refl h
@@ -46,7 +46,7 @@ module _ (makers : ℕ → List (Option ℕ)) where
       by_maker (Some m) is k = (m, found m is, k)
 
 module _ (makers : ℕ → List (Option ℕ)) (count : ℕ) (rank : ℕ → ℕ) (ranked : IsRank makers count rank) where
-  -- a valid mark is no longer than the rank of its row
+  -- a valid mark is not longer than the rank of its row
   pub valid-short : (bound : ℕ) (row : List (Option ℕ)) → Below makers count rank ranked bound row → (mark : List ℕ) → is_valid makers row mark ≡ true → length mark ≤ bound
   valid-short bound row below [] h = omega arith
   valid-short bound row below (p ∷ mark) h =
@@ -77,7 +77,7 @@ module _ (makers : ℕ → List (Option ℕ)) (count : ℕ) (rank : ℕ → ℕ)
             In-row_from (unfolded makers count) row s.0 x a (own-row s.0 x (inside s.0 a) deep)
       ]
 
-  -- what is done at a mark that goes on at a place of the row on top: what is done before that place, and some of what its edge unfolds to
+  -- done at a mark that continues at a place of the row on top: what is done before that place, and some of what its edge unfolds to
   pub done-split : (row : List (Option ℕ)) → ((m : ℕ) → Among row m → m < count) → (path : List Frame) → IsLinked makers row path → (q m : ℕ) (mark : List ℕ)
       → slice_get (top_row makers row path) q ≡ Some (Some m) → is_valid makers (makers m) mark ≡ true
       → (more : List ℕ) × (done makers count row (places path ++ q ∷ mark) ≡ done_at makers count row path q ++ more) × ((x : ℕ) → In more x → In (unfolded makers count m) x)

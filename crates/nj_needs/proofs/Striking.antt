@@ -46,7 +46,7 @@ same_and : (a : Bool) → (a && a) ≡ a
 same_and true = refl
 same_and false = refl
 
--- an element that is struck may stand in front, and may be struck before
+-- a struck element may be in front, and may be struck before
 without-struck : (x : ℕ) (xs es : List ℕ) → without (x ∷ xs) (x ∷ filter (λ y. not (nat_eq y x)) es) ≡ without (x ∷ xs) es
 without-struck x xs es =
     let q : ℕ → Bool = λ y. not (nat_eq y x) in
@@ -57,7 +57,7 @@ without-struck x xs es =
     ∙ filter_agree (λ y. q y && q y) q (λ y. same_and (q y)) (without xs es)
     ∙ sym (without-cons x xs es)
 
--- what is done need not stand in front
+-- what is done need not be in front
 pub without-front : (xs ys : List ℕ) → without xs (first_occurrences (xs ++ ys)) ≡ without xs (first_occurrences ys)
 without-front [] ys = refl
 without-front (x ∷ xs) ys =

@@ -39,7 +39,7 @@ module _ (g : EdgeGraph) (targets : List FileNo) (turns : ℕ) (path : Vec Frame
       let t = h.counted in
       (t.0 + 1, ap counted t.1 ∙ counted-more t.0, omega (arith, e, t.2))
 
-  -- an edge that stands at the place is an edge of the graph
+  -- an edge at the place is an edge of the graph
   pub top-edge_within : (p m : ℕ) → slice_get (top_of g targets path.items) p ≡ Some (Some m) → m < count_of g
   top-edge_within p m at = top-within (makers_of g) (count_of g) h.acyclic.0 h.acyclic.1 (row_of g targets) inside path.items p m at
 
@@ -101,7 +101,7 @@ module _ (g : EdgeGraph) (targets : List FileNo) (turns : ℕ) (path : Vec Frame
       moved = inr (f, grown, here, refl);
     }
 
-  -- there is room to open one
+  -- one more can be opened
   pub capacity-open : (p m : ℕ) → slice_get (top_of g targets path.items) p ≡ Some (Some m) → length path.items < vec_capacity path
   capacity-open p m at =
       let short : length path.items < count_of g =
@@ -134,7 +134,7 @@ module _ (g : EdgeGraph) (targets : List FileNo) (turns : ℕ) (path : Vec Frame
       counted = more after (f.at + 1) closed-turn;
     }
 
-    -- its address stands for what is done now
+    -- its address represents what is done now
     address-done : done (makers_of g) (count_of g) (row_of g targets) (places path.items) ≡ done_of g targets after.items (f.at + 1)
     address-done =
         ap (λ (fs : List Frame). done (makers_of g) (count_of g) (row_of g targets) (places fs)) shrunk

@@ -35,7 +35,7 @@ module _ (makers : ℕ → List (Option ℕ)) where
   turns_unseen-same seen other [] same = refl
   turns_unseen-same seen other (e ∷ es) same = rw (same e, turns_unseen-same seen other es same) refl
 
-  -- an edge that does not stand in the list
+  -- an edge that is not in the list
   absent : (seen other es : List ℕ) (m : ℕ) → list_any (nat_eq m) es ≡ false → ((x : ℕ) → (x ≡ m → ⊥) → list_any (nat_eq x) seen ≡ list_any (nat_eq x) other)
       → turns_unseen makers seen es ≡ turns_unseen makers other es
   absent seen other [] m none same = refl

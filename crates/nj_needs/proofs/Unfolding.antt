@@ -1,4 +1,4 @@
--- The unfolded order: that its fuel does not matter, and what it holds.
+-- The unfolded order: its fuel does not matter, and which edges it has.
 use Rattle.std.proofs.Common.{◌≡◌, ℕ, zero, suc, ◌+◌, ◌-◌, ◌<◌, ◌≤◌, Option, Some, None, List, [], ◌∷◌, ◌++◌, refl, sym, ap, ◌∙◌, subst, inl, inr, arith, add-zero}
 use Rattle.std.specs.List.{flat_map}
 use Rattle.nj_cycles.specs.Cycles.{IsRank}
@@ -17,7 +17,7 @@ no_makers f [] none = refl
 no_makers f (None ∷ row) none = no_makers f row (λ m a. none m (inr a))
 no_makers f (Some m ∷ row) none = absurd (none m (inl refl))
 
--- what a row's unfolding holds
+-- the edges in a row's unfolding
 pub In-row : (f : ℕ → List ℕ) (row : List (Option ℕ)) (x : ℕ) → In (flat_map (made_by f) row) x → (m : ℕ) × Among row m × In (f m) x
 In-row f [] x i = absurd cc
 In-row f (None ∷ row) x i = let r = In-row f row x i in (r.0, inr r.1, r.2)

@@ -1,4 +1,4 @@
--- What is done where a walk stands, and each turn: a place is passed, an edge is opened, an edge is closed.
+-- What is done where a walk is, and each turn: a place is passed, an edge is opened, an edge is closed.
 use Rattle.std.proofs.Common.{◌≡◌, ℕ, ◌+◌, ◌<◌, ◌≤◌, Option, Some, List, [], ◌∷◌, ◌++◌, length, take, drop, refl, sym, ap, subst, ◌∙◌, inl, inr, arith, append_assoc}
 use Rattle.std.specs.Prelude.{slice_get}
 use Rattle.std.specs.List.{flat_map}
@@ -61,7 +61,7 @@ module _ (makers : ℕ → List (Option ℕ)) (count : ℕ) (rank : ℕ → ℕ)
   pub Below-makers : (e : ℕ) → Below (rank e) (makers e)
   Below-makers e m a = falls makers count rank ranked e m a
 
-  -- the rank falls along the path, to what stands in its row
+  -- the rank falls along the path, to what is in its row
   pub rank-top : (bound : ℕ) (row : List (Option ℕ)) → Below bound row → (path : List Frame) → IsLinked makers row path
       → (p m : ℕ) → slice_get (top_row makers row path) p ≡ Some (Some m) → rank m < bound
   rank-top bound row below [] h p m at = below m (Among-get row p m at)
@@ -97,7 +97,7 @@ module _ (makers : ℕ → List (Option ℕ)) (count : ℕ) (rank : ℕ → ℕ)
     pub Below-targets : Below count row₀
     Below-targets m a = ranked.bounded m (inside₀ m a)
 
-  -- an edge that stands in the row on top is an edge, and one of the unfolded order
+  -- an edge in the row on top is an edge of the graph, and one of the unfolded order
   pub top-within : (row : List (Option ℕ)) → ((m : ℕ) → Among row m → m < count) → (path : List Frame) → (p m : ℕ) → slice_get (top_row makers row path) p ≡ Some (Some m) → m < count
   top-within row inside [] p m at = inside m (Among-get row p m at)
   top-within row inside (f ∷ path) p m at = top-within (makers f.edge) (within makers count rank ranked f.edge) path p m at
@@ -124,7 +124,7 @@ module _ (makers : ℕ → List (Option ℕ)) (count : ℕ) (rank : ℕ → ℕ)
         | inr there ↦ In-append_right front deep y (done_closed (makers f.edge) (within makers count rank ranked f.edge) path place x y there j)
       ]
 
-  -- what is done is a beginning of the unfolded order
+  -- what is done is a prefix of the unfolded order
   pub done_front : (row : List (Option ℕ)) → ((m : ℕ) → Among row m → m < count) → (path : List Frame) (place : ℕ) → IsLinked makers row path
       → (more : List ℕ) × (unfolded_row makers count row ≡ done_at makers count row path place ++ more)
   done_front row inside [] place h =

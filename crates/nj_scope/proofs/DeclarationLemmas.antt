@@ -79,7 +79,7 @@ module _ (held after : DeclarationsText) (entries : List ReadStatement) (e : Rea
 
 -- ---- statements that bind nothing
 
--- of a statement that is no binding and no rule the scopes' own names stay
+-- a statement that is neither a binding nor a rule leaves the scopes' own names as they are
 bounds-kept : (e : ReadStatement) (entries : List ReadStatement) → ((value : List ℕ → List ℕ) (x : List ℕ) → binds value e.item x ≡ None) → (n : ℕ) (x : List ℕ) → bounds (e ∷ entries) n x ≡ bounds entries n x
 unfolding bounds
 bounds-kept e entries nothing n x = by (n == e.number)

@@ -174,7 +174,7 @@ not_given lines key none = by (given lines key) refl
 
 -- ---- how they are held
 
--- the line at the index that stands at a place
+-- the line at the index that is at a place
 at_place : (all : List RuleLineText) (indexes : List ℕ) (held : List RuleLineText) (n : ℕ) → AreIndexes all indexes held → n < length indexes → slice_get all (slice_index indexes n) ≡ slice_get held n
 at_place all indexes held n are below =
     by (slice_get held n)
@@ -311,7 +311,7 @@ line_passed lines last i n line is are below at =
     subst (λ ls. AreIndexes (map line_held lines) last (last_lines ls)) (sym (line_next lines i line is))
     (subst (λ b. AreIndexes (map line_held lines) last (if b then last_lines rest else last_lines rest ++ line_held line ∷ [])) (sym has) are)
 
--- ---- the same of what a rule holds, where ls and is are read of it
+-- ---- the same for what a rule keeps, where ls and is are read from it
 
 module _ (lines : List RuleLine) (last : List ℕ) (held : List RuleLineText) (same : map line_held lines ≡ held) (are : AreIndexes (map line_held lines) last (last_lines (map line_held lines)))
     (ls : List RuleLine) (is : List ℕ) (e : ls ≡ lines) (f : is ≡ last) where
@@ -343,7 +343,7 @@ module _ (lines : List RuleLine) (last : List ℕ) (held : List RuleLineText) (s
       subst (λ xs. given xs key ≡ None) same
       (none_held lines last key are (λ n below at. none n (subst (λ xs. n < length xs) (sym f) below) (at.0, ap (λ xs. slice_get xs (slice_index is n)) e ∙ ap (λ xs. slice_get lines (slice_index xs n)) f ∙ at.1, at.2)))
 
--- ---- answers
+-- ---- results
 
 pub some_weaker : (o : Option ℕ) (P Q : ℕ → Type 0) → ((n : ℕ) → P n → Q n) → IfSome o P → IfSome o Q
 some_weaker None P Q f h = tt

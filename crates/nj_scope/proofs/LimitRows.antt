@@ -1,4 +1,4 @@
--- Small texts, worked out on the definitions.
+-- Small examples, worked out on the definitions.
 use Rattle.std.proofs.Common.{◌≡◌, true, false, refl}
 use Rattle.std.specs.Prelude.{codes}
 use Rattle.nj_text.specs.Numbers.{value_of_digits}

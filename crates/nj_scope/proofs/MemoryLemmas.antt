@@ -25,7 +25,7 @@ option_map-option_map : {A B C : Type 0} (f : A → B) (g : B → C) (o : Option
 option_map-option_map f g None = refl
 option_map-option_map f g (Some x) = refl
 
--- the bytes that were added last are those of the last entry with the name, where f and g show an entry's name and bytes
+-- the bytes that were added last are the bytes of the last entry with the name, where f and g show an entry's name and bytes
 pub bytes_of_last : {A : Type 0} (f g : A → List ℕ) (name : List ℕ) (es : List A) (r : Option A) → r ≡ find (λ e. bytes_eq name (f e)) (reverse es) → option_map g r ≡ bytes_added (map (λ e. record { name = f e; bytes = g e }) es) name
 bytes_of_last f g name es r e =
     ap (option_map g) e ∙ sym (option_map-option_map (λ x. record { name = f x; bytes = g x }) (λ a. a.bytes) (find (λ x. bytes_eq name (f x)) (reverse es))) ∙ sym (ap (option_map (λ a. a.bytes)) (find-reverse-map (λ x. record { name = f x; bytes = g x }) (λ a. bytes_eq name a.name) es))

@@ -20,7 +20,7 @@ abbrev one_name : (own : Bool) → (name : List ℕ) → List (List ℕ)
 one_name true name = name ∷ []
 one_name false name = []
 
--- the names, with those of one rule more
+-- the names, with the names of one rule more
 names-push : (before : List kept.RuleText) (r : kept.RuleText) (scope : ℕ) → rule_names (before ++ r ∷ []) scope ≡ rule_names before scope ++ one_name (scope == r.scope) r.name
 names-push before r scope =
     ap (λ rs. map (λ x. x.name) rs) (filter-append (λ x. scope == x.scope) before (r ∷ []))
@@ -92,7 +92,7 @@ is_declared-listed (e ∷ before) number name = listed-more before number e e.it
 
 -- ---- the names differ
 
--- the names of a scope, with that of a rule that was new in its scope
+-- the names of a scope, with the name of a rule that was new in its scope
 distinct-more : (before : List kept.RuleText) (r : kept.RuleText) (number : ℕ) → (number ≡ r.scope → list_any (bytes_eq r.name) (rule_names before number) ≡ false)
     → IsDistinct bytes_eq (rule_names before number) → IsDistinct bytes_eq (rule_names (before ++ r ∷ []) number)
 distinct-more before r number new distinct = subst (IsDistinct bytes_eq) (sym (names-push before r number)) (by (number == r.scope) (eqb-true number r.scope))

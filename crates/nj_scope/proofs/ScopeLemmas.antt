@@ -1,4 +1,4 @@
--- Lemmas on what scopes hold.
+-- Lemmas on the contents of scopes.
 use Rattle.std.proofs.Common.{◌≡◌, ℕ, zero, suc, ◌<◌, nat_eq, Bool, true, false, cond, ◌&&◌, ◌⊎◌, inl, inr, ◌≢◌, List, [], ◌∷◌, ◌++◌, map, length, get_or, slice_set, slice_get, Option, Some, None, is_some, option_map, option_and_then, IfSome, bytes_eq, refl, sym, ap, subst, ◌∙◌, true≢false}
 use Rattle.std.specs.Global.{Vec}
 use Rattle.std.specs.Map.{lookup}

@@ -19,11 +19,11 @@ main = 0 ∷ []
 abbrev child : List ℕ
 child = 1 ∷ 0 ∷ []
 
--- a word, whose place says nothing here
+-- a word, whose place does not matter here
 abbrev word : List PartText → WordText
 word parts = record { spot = first_spot; parts = parts }
 
--- where the statements stand; their spots say nothing here
+-- where the statements are; their spots do not matter here
 abbrev at_main : ReadStatement
 at_main = record { file = codes "build.ninja"; spot = first_spot; depth = 0; number = 0; around = []; item = DefaultText []; discovered = None }
 

@@ -15,7 +15,7 @@ use Rattle.nj_statements.specs.Inside.EdgeSteps.{detail_text, IsFileGiven}
 use Rattle.nj_statements.specs.Inside.BuiltHeld.{assigned_named}
 use Rattle.nj_statements.proofs.Lists.{get-longer}
 
--- ---- texts grow at their end
+-- ---- strings are appended
 
 pub prefix_same : {A : Type 0} (xs ys : List A) → ys ≡ xs → IsPrefix xs ys
 prefix_same xs ys is = ([], is ∙ sym (append-nil xs))
@@ -26,7 +26,7 @@ pub numbered-next : (strings : List (List ℕ)) (i n : ℕ) (text : List ℕ) �
 numbered-next strings i zero text is there = absurd (omega (arith, is))
 numbered-next strings i (suc n) text is there = slice_get-map Some strings n ∙ ap (λ m. option_map Some (slice_get strings m)) (let e : n ≡ i = omega (arith, is) in e) ∙ ap (option_map Some) there
 
--- texts keep their numbers
+-- strings keep their numbers
 pub numbered-longer : (strings longer : List (List ℕ)) (n : ℕ) (o : Option (List ℕ)) → IsPrefix strings longer → slice_get (numbered strings) n ≡ Some o → slice_get (numbered longer) n ≡ Some o
 numbered-longer strings longer n o (more, is) there =
     subst (λ (l : List (List ℕ)). slice_get (numbered l) n ≡ Some o) (sym is)

@@ -1,4 +1,4 @@
--- What is discovered for an edge: which edges change by it, and which ones wait from then on.
+-- What is discovered for an edge: which edges it changes, and which ones are pending from then on.
 use Rattle.std.proofs.Common.{slice_index_or, ◌≡◌, ◌≢◌, ◌⊎◌, inl, inr, ℕ, zero, suc, ◌+◌, ◌<◌, ◌≤◌, ◌==◌, ◌||◌, Bool, true, false, not, cond, true≢false, if◌then◌else◌, List, [], ◌∷◌, ◌++◌, length, map, Option, Some, None, unwrap_or, slice_get, bytes_eq, is_some, refl, sym, ap, ◌∙◌, subst, arith}
 use Rattle.std.specs.Option.{option_or}
 use Rattle.std.specs.Prelude.{codes, filter, ◌&&◌}
@@ -134,7 +134,7 @@ map-same g unseen (e ∷ edges) [] same = absurd same
 map-same g unseen (e ∷ edges) (o ∷ others) same =
     ap (λ x. x ∷ map g others) (ap g same.0 ∙ unseen e o.paths.implicit_outputs o.paths.implicit_inputs) ∙ ap (λ xs. g e ∷ xs) (map-same g unseen edges others same.1)
 
--- What does not look at implicit files says the same of each edge.
+-- What does not look at implicit files gives the same for each edge.
 pub map-discover : {X : Type 0} (g : EdgeText → X) → ((e : EdgeText) (outs ins : List (List ℕ)) → g (record e { paths = record e.paths { implicit_outputs = outs; implicit_inputs = ins } }) ≡ g e)
     → (edge : ℕ) (found : Discovered) (entries : List ReadStatement) → map g (edges_read (discover edge found entries)) ≡ map g (edges_read entries)
 map-discover g unseen edge found entries = map-same g unseen (edges_read entries) (edges_read (discover edge found entries)) (same-edges edge found entries)
@@ -171,12 +171,12 @@ all-same P kept [] (o ∷ others) same all = absurd same
 all-same P kept (e ∷ edges) [] same all = absurd same
 all-same P kept (e ∷ edges) (o ∷ others) same all = (subst P (sym same.0) (kept e o.paths.implicit_outputs o.paths.implicit_inputs all.0), all-same P kept edges others same.1 all.1)
 
--- What holds of each edge, whatever its implicit files are, holds still.
+-- What is true of each edge, whatever its implicit files are, stays true.
 pub all_edges-discover : (P : EdgeText → Type 0) → ((e : EdgeText) (outs ins : List (List ℕ)) → P e → P (record e { paths = record e.paths { implicit_outputs = outs; implicit_inputs = ins } }))
     → (edge : ℕ) (found : Discovered) (entries : List ReadStatement) → AllByRecursion P (edges_read entries) → AllByRecursion P (edges_read (discover edge found entries))
 all_edges-discover P kept edge found entries = all-same P kept (edges_read entries) (edges_read (discover edge found entries)) (same-edges edge found entries)
 
--- ---- lists of edges that wait
+-- ---- lists of pending edges
 
 all-append : {X : Type 0} (P : X → Type 0) (xs ys : List X) → AllByRecursion P xs → AllByRecursion P ys → AllByRecursion P (xs ++ ys)
 all-append P [] ys all others = others
@@ -193,7 +193,7 @@ none-unjoined : (n : ℕ) (ps : List Pending) → AreBelow n ps → list_any (λ
 none-unjoined n [] below = refl
 none-unjoined n (p ∷ ps) below = ap (λ b. b || list_any (λ q. q.edge == n) ps) (ne_eqb p.edge n (λ is. omega (arith, is, below.0))) ∙ none-unjoined n ps below.1
 
--- an edge that waits is one of those edges
+-- a pending edge is one of those edges
 pub unjoined-below : (n : ℕ) (most : ℕ) (ps : List Pending) → AreBelow most ps → list_any (λ p. p.edge == n) ps ≡ true → n < most
 unjoined-below n most [] below pends = absurd (true≢false (sym pends))
 unjoined-below n most (p ∷ ps) below pends = by (p.edge == n) (eqb-true p.edge n) (unjoined-below n most ps below.1) pends
@@ -215,7 +215,7 @@ rising-append n (p ∷ ps) qs rising below others above = (
   rising-append n ps qs rising.1 below.1 others above,
 )
 
--- ---- the edge of a statement that may wait
+-- ---- the edge of a statement that may be pending
 
 at-below : (n : ℕ) (d : Option Discovered) (file : Option (List ℕ)) (most : ℕ) → n < most → AreBelow most (pending_at n d file)
 at-below n (Some found) file most within = tt
@@ -251,7 +251,7 @@ at-kept n edge (Some found) file other = refl
 at-kept n edge None (Some file) other = ap (λ b. cond (not b) (record { edge = n; file = file } ∷ []) []) other
 at-kept n edge None None other = refl
 
--- ---- they stand by number
+-- ---- they are ordered by number
 
 comes-build : (e : ReadStatement) (before : List ReadStatement) (outputs : OutputsText) (rule : NameText) (inputs : InputsText) (lines : List LineText) → AreByNumber before
     → AreByNumber (record e { item = BuildText outputs rule inputs lines } ∷ before)
@@ -291,7 +291,7 @@ pending-within entries = (pending_rise entries).within
 pub pending-rising : (entries : List ReadStatement) → AreRising (pending_read entries)
 pending-rising entries = (pending_rise entries).rising
 
--- ---- which edges wait from then on
+-- ---- which edges are pending from then on
 
 dyndep-same : (edge : ℕ) (found : Discovered) (before : List ReadStatement) (e : EdgeText) → dyndep_of (discover edge found before) e ≡ dyndep_of before e
 dyndep-same edge found before e = ap (λ (n : LateNames). file_given (asked_text n (codes "dyndep"))) (names_of_edge-discover edge found before e)
@@ -473,7 +473,7 @@ paths-discover edge found entries pends =
     ap paths_of_edges (edges-discover edge found entries pends)
     ∙ map-changed (λ (e : EdgeText). e.paths) (with_found found) (with_added (record { outputs = found.outputs; inputs = found.inputs })) (λ e. refl) edge (edges_read entries)
 
--- ---- an edge that waits for a file
+-- ---- an edge that is pending on a file
 
 pends-some : (file : List ℕ) (edge : ℕ) (ps : List Pending) → pending_on file ps (Some edge) ≡ true → list_any (λ p. p.edge == edge) ps ≡ true
 pends-some file edge [] pends = absurd (true≢false (sym pends))

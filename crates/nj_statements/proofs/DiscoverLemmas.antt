@@ -1,4 +1,4 @@
--- What is discovered for a statement changes nothing else that statements say.
+-- What is discovered for a statement changes nothing else that the statements give.
 use Rattle.std.proofs.Common.{◌≡◌, ℕ, suc, ◌+◌, ◌==◌, ◌&&◌, Bool, true, false, if◌then◌else◌, List, [], ◌∷◌, ◌++◌, length, map, Option, Some, None, slice_get, bytes_eq, refl, sym, ap, ◌∙◌, subst}
 use Rattle.std.specs.Option.{option_or}
 use Rattle.std.specs.List.{AllByRecursion}
@@ -70,7 +70,7 @@ rules_read-discover = kept-by rules_read rules_read-as_read
 abbrev pub Declared : Type 0
 Declared = ℕ → List ℕ → Option ℕ
 
--- one statement more, after so many rules
+-- one statement more, after this many rules
 abbrev declared_with : ReadStatement → (strings : List kept.RuleText) → Declared → Declared
 declared_with e strings own number name = option_or (if number == e.number && declares e.item name then Some (length strings) else None) (own number name)
 
@@ -205,7 +205,7 @@ length-as_read (e ∷ before) = ap suc (length-as_read before)
 pub length-discover : (edge : ℕ) (found : Discovered) (entries : List ReadStatement) → length (discover edge found entries) ≡ length entries
 length-discover = kept-by length length-as_read
 
--- What holds of each statement, whatever was discovered for it, holds still.
+-- What is true of each statement, whatever was discovered for it, stays true.
 pub all-discover : (P : ReadStatement → Type 0) → ((e : ReadStatement) (d : Option Discovered) → P e → P (record e { discovered = d }))
     → (edge : ℕ) (found : Discovered) (entries : List ReadStatement) → AllByRecursion P entries → AllByRecursion P (discover edge found entries)
 unfolding discover
@@ -216,7 +216,7 @@ all-discover P kept edge found (e ∷ before) all = by (is_build e.item && lengt
     by true rest = (kept e (Some found) all.0, all.1)
     by false rest = (all.0, rest)
 
--- What holds of statements, and of them with what is discovered for any edge, holds of them with what an entry adds.
+-- What is true of statements, and of them with what is discovered for any edge, is true of them with what an entry adds.
 pub with_entry-by : (P : List ReadStatement → Type 0) (stated joined : List ReadStatement) (entry : EntryText) → P joined
     → ((edge : ℕ) → P (discover edge (discovered_by entry) joined)) → P (with_entry stated joined entry)
 with_entry-by P stated joined entry same more = by (edge_meant stated entry)

@@ -1,4 +1,4 @@
--- The dyndep files of edges that wait for them.
+-- The dyndep files of the edges that are pending on them.
 use Rattle.std.proofs.Common.{◌≡◌, ℕ, ◌<◌, Bool, true, false, true≢false, not, cond, List, [], ◌∷◌, map, find, filter, Some, bytes_eq, refl, sym, ap, ◌∙◌}
 use Rattle.std.specs.List.{AllByRecursion, IsDistinct}
 use Rattle.std.proofs.lemmas.Bool.{false_from_ne_true}
@@ -56,7 +56,7 @@ find-filter test keep kept (x ∷ xs) = by (keep x) (kept x) (find-filter test k
     by true kept rest = ap (cond (test x) (Some x)) rest
     by false kept rest = rest ∙ sym (ap (λ t. cond t (Some x) (find test xs)) (false_from_ne_true (test x) (λ is. true≢false (sym (kept is)))))
 
--- ---- edges that wait for another file
+-- ---- edges that are pending on another file
 
 -- they differ either way
 apart-sym : (file other : List ℕ) → bytes_eq file other ≡ false → bytes_eq other file ≡ false
@@ -78,7 +78,7 @@ others-differ file (p ∷ ps) = by (bytes_eq p.file file) (apart-sym p.file file
     by true apart others = others
     by false apart others = (apart refl, others)
 
--- an edge that waits for a file does not wait for another one
+-- an edge that is pending on a file is not pending on another one
 kept-others : (file other : List ℕ) → bytes_eq other file ≡ false → (p : Pending) → bytes_eq p.file file ≡ true → not (bytes_eq p.file other) ≡ true
 kept-others file other apart p is = by (bytes_eq p.file other) (bytes_eq-Decides p.file other).0
   where

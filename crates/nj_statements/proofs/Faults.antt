@@ -24,7 +24,7 @@ fault-first a b f (inl m) = inl m
 fault-first (Some x) b f (inr e) = inr e
 fault-first None b f (inr e) = absurd (cc)
 
--- what the exit of a `?` answers
+-- what the exit of a `?` returns
 pub err-checks : {A : Type 0} (r : Result A GraphFault) (f : GraphFault) (a : Option GraphFault) → IsErrAnd r (λ y. y ≡ f) → IsFault a f → Checks a r
 err-checks (Err y) f a is h = subst (IsFault a) (sym is) h
 err-checks (Ok x) f a is h = absurd is
@@ -63,7 +63,7 @@ first-four fault_of a b c d =
     first-append fault_of a (b ++ (c ++ d))
     ∙ ap (option_or (first_fault fault_of a)) (first-append fault_of b (c ++ d) ∙ ap (option_or (first_fault fault_of b)) (first-append fault_of c d))
 
--- the fault of the next word is that of all of them, where those before it have none
+-- the fault of the next word is the fault of all of them, where the ones before it have none
 pub next-fault : (fault_of : WordText → Option GraphFault) (words : List Word) (i : ℕ) (word : Word) (f : GraphFault) → i < length words → word ≡ get_or words i word
     → first_fault fault_of (words_text (drop i words)) ≡ first_fault fault_of (words_text words)
     → IsFault (fault_of (word_text word)) f → IsFault (first_fault fault_of (words_text words)) f

@@ -53,7 +53,7 @@ in-force held built ns defaults is same paths are some =
     by [] some are = absurd (true≢false (sym some))
     by (f ∷ fs) some are = files-at held.graph.files (f ∷ fs) are
 
--- ---- edges that wait
+-- ---- pending edges
 
 pending-named : (files : List (List ℕ)) (ds : List DyndepEdge) (ps : List Pending) → map (λ d. d.edge) ds ≡ map (λ p. p.edge) ps
     → AreFiles files (map (λ d. d.file) ds) (map (λ p. p.file) ps) → map (pending_named files) ds ≡ ps
@@ -112,7 +112,7 @@ unjoined-last edge (Some found) file = tt
 unjoined-last edge None (Some file) = (omega arith, tt)
 unjoined-last edge None None = tt
 
--- what waits is an edge that was read
+-- a pending edge is an edge that was read
 pub unjoined-known : (entries : List ReadStatement) → AllByRecursion (λ (p : Pending). p.edge < length (edges_read entries)) (pending_read entries)
 unfolding edges_read pending_read
 unjoined-known [] = tt

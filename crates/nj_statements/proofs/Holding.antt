@@ -195,7 +195,7 @@ names-more edges e n new old was here others = by (eqb_tells n (length edges)) (
     by (inr (other, apart)) (inr above) =
         others other ∙ was ∙ get_or_past all n [] (omega (arith, above, count)) ∙ sym (get_or_past (all ++ one) n [] (omega (arith, above, apart, whole, count))) ∙ sym appended
 
--- what waits with one edge more
+-- what is pending with one edge more
 pending-more : (files longer : List (List ℕ)) (held : List DyndepEdge) (expected : List Pending) (edge : ℕ) (number : Option FileNo) (file : Option (List ℕ))
     → IsPrefix files longer → ArePending files held expected → IsFileGiven longer number file → ArePending longer (with_dyndep edge number held) (expected ++ pending_at edge None file)
 pending-more files longer held expected edge None None grows are meant =

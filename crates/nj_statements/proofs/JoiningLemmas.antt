@@ -1,4 +1,4 @@
--- What is held while dyndep files are joined is what the statements say.
+-- What is kept while dyndep files are joined is what the statements give.
 use Rattle.std.proofs.Common.{◌≡◌, ◌⊎◌, inl, inr, ℕ, zero, suc, ◌+◌, ◌-◌, ◌<◌, ◌≤◌, ◌==◌, Bool, true, false, not, if◌then◌else◌, true≢false, ◌≢◌, List, [], ◌∷◌, length, get_or, set, map, slice_get, Option, Some, None, Result, Ok, Err, IsErrAnd, option_map, option_and_then, IfSome, is_some, unwrap_or, find, bytes_eq, refl, sym, ap, subst, ◌∙◌, arith}
 use Rattle.std.specs.Option.{option_or}
 use Rattle.std.specs.List.{AllByRecursion, IsDistinct, filter}
@@ -33,9 +33,9 @@ use Rattle.nj_statements.proofs.PendingLemmas.{is_path, find-first, find-none, n
 use Rattle.nj_statements.proofs.DiscoverLemmas.{defaults_read-discover}
 use Rattle.nj_statements.proofs.DiscoverEdges.{details-discover, assigned-discover, block_at-discover, block_names_at-discover, pending-discover, paths-discover, is_pending-from_pending}
 
--- ---- answers
+-- ---- results
 
--- what the exit of a `?` answers
+-- what the exit of a `?` returns
 pub joins-err : (after : JoiningText) (expected : Option GraphFault) (stated joined : List ReadStatement) (r : Result (Unit {0}) GraphFault) (f : GraphFault)
     → IsErrAnd r (λ y. y ≡ f) → IsFault expected f → JoinsEntry after expected stated joined r
 joins-err after expected stated joined (Err y) f is h = subst (IsFault expected) (sym is) h
@@ -43,7 +43,7 @@ joins-err after expected stated joined (Ok x) f is h = absurd is
 
 -- ---- files and their numbers
 
--- these are bound to files of which there are so many
+-- these are bound to files, of which there are this many
 abbrev pub AreKnown : (count : ℕ) → List (Option FileNo) → Type 0
 AreKnown count bound = AllByRecursion (λ file. IfSome file (λ f. f.0 < count)) bound
 
@@ -71,7 +71,7 @@ get-named files [] n = refl
 get-named files (b ∷ bound) zero = refl
 get-named files (b ∷ bound) (suc n) = get-named files bound n
 
--- A path is that of one file.
+-- A path is the path of one file.
 pub path-bound : (files : List (List ℕ)) → IsDistinct bytes_eq files → (b : Option FileNo) (file : FileNo) (path : List ℕ) → slice_get files file.0 ≡ Some path → IfSome b (λ f. f.0 < length files)
     → is_path (file_named files b) path ≡ is_bound_to b file
 path-bound files once None file path here known = refl
@@ -309,7 +309,7 @@ module _ (table : JoinTable) (blocks : BlocksText) (names : List (List ℕ)) (de
           ∙ path-bound table.files held.each_path_once (get_or ws edge None) file name here (known-at (length table.files) ws (known-still (length table.files) bound table.was_joined bound-files) edge)
           ∙ ap (λ b. is_bound_to b file) (still-at bound table.was_joined edge)
 
-      -- the first edge that waits for a file
+      -- the first edge that is pending on a file
       pub first-lacking : find (λ p. bytes_eq p.file name) (pending_read joined) ≡ find (λ p. bytes_eq p.file name) (pending_from 0 (map (file_named table.files) (still_pending bound table.was_joined)))
       first-lacking = ap (find (λ (p : Pending). bytes_eq p.file name)) (has.unjoined ∙ ap (pending_from 0) (sym (still-map (path_at table.files) bound table.was_joined)))
 

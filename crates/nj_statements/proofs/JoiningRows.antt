@@ -77,7 +77,7 @@ pub row-accepted : wrong_with of_o ≡ None
 unfolding clean_path_of without_leftmost_pair edges_read bounds pending_read discover
 row-accepted = refl
 
--- the discovered files stand after the implicit ones, before the order-only inputs
+-- the discovered files come after the implicit ones, before the order-only inputs
 pub row-joined : edge_at (paths_of_edges (edges_read joined)) 0 ≡ record {
   explicit_outputs = codes "o" ∷ [];
   implicit_outputs = codes "m" ∷ codes "o2" ∷ [];
@@ -95,7 +95,7 @@ pub row-others : edge_at (paths_of_edges (edges_read joined)) 2 ≡ edge_at (pat
 unfolding clean_path_of without_leftmost_pair edges_read bounds pending_read discover
 row-others = refl
 
--- the edge does not wait any more
+-- the edge is not pending any more
 pub row-unjoined : pending_read joined ≡ pending 1 (codes "ee") ∷ pending 2 (codes "dd") ∷ []
 unfolding clean_path_of without_leftmost_pair edges_read bounds pending_read discover
 row-unjoined = refl
@@ -157,7 +157,7 @@ pub row-lacking : lacking_fault (codes "dd") joined ≡ Some (fault_at (codes "b
 unfolding clean_path_of without_leftmost_pair edges_read bounds pending_read discover
 row-lacking = refl
 
--- `build q: dyndep` after it: no edge waits for `dd`
+-- `build q: dyndep` after it: no edge is pending on `dd`
 pub row-none_lacking : lacking_fault (codes "dd") (with_entry stated joined (entry (codes "q") [] [])) ≡ None
 unfolding clean_path_of without_leftmost_pair edges_read bounds pending_read discover
 row-none_lacking = refl

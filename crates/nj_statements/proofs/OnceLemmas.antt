@@ -42,7 +42,7 @@ once-append (x ∷ xs) ys =
     ap (λ ps. x ∷ filter p ps) (once-append xs ys)
     ∙ ap (λ ps. x ∷ ps) (filter-append p (each_once xs) (fresh xs (each_once ys)) ∙ ap (λ ps. filter p (each_once xs) ++ ps) (fresh-cons x xs (each_once ys)))
 
--- with more after it, a list without its repeats goes on
+-- with more after it, a list without its repeats continues
 pub once-front : (xs ys : List (List ℕ)) → IsPrefix (each_once xs) (each_once (xs ++ ys))
 once-front xs ys = (fresh xs (each_once ys), once-append xs ys)
 

@@ -1,4 +1,4 @@
--- Lemmas on the edges that wait for dyndep files.
+-- Lemmas on the edges that are pending on dyndep files.
 use Rattle.std.proofs.Common.{◌≡◌, ◌⊎◌, inl, inr, ℕ, zero, suc, ◌+◌, ◌<◌, ◌≤◌, ◌==◌, ◌&&◌, ◌||◌, if◌then◌else◌, Bool, true, false, not, cond, true≢false, ◌≢◌, List, [], ◌∷◌, ◌++◌, length, get_or, set, replicate, take, drop, map, slice_get, Option, Some, None, option_map, IfSome, is_some, unwrap_or, refl, sym, ap, subst, ◌∙◌, arith}
 use Rattle.std.specs.List.{AllByRecursion, IsDistinct, filter}
 use Rattle.std.specs.Prelude.{bytes_eq, find}
@@ -19,13 +19,13 @@ use Rattle.nj_statements.specs.Joining.{dyndep_files, pending_on}
 use Rattle.nj_statements.specs.JoiningHeld.{unless_joined, still_pending, pending_of, pending_from}
 use Rattle.nj_statements.specs.Inside.JoiningSteps.{is_bound_to, one_if, count_pending, count_bound, bind_all, first_edges, file_named}
 
--- ---- what still waits
+-- ---- what is still pending
 
 none-joined : {A : Type 0} (b : Option A) (was : Bool) → b ≡ None → unless_joined b was ≡ None
 none-joined b true is = refl
 none-joined b false is = is
 
--- what an edge waits for
+-- what an edge is pending on
 pub still-at : {A : Type 0} (bound : List (Option A)) (was : List Bool) (n : ℕ) → get_or (still_pending bound was) n None ≡ unless_joined (get_or bound n None) (get_or was n false)
 still-at [] was n = sym (none-joined None (get_or was n false) refl)
 still-at (b ∷ bound) [] n = refl
@@ -37,7 +37,7 @@ still-length [] was = refl
 still-length (b ∷ bound) [] = refl
 still-length (b ∷ bound) (j ∷ was) = ap suc (still-length bound was)
 
--- where nothing is joined, all of them wait
+-- where nothing is joined, all of them are pending
 pub still-all : {A B : Type 0} (bound : List (Option A)) (others : List B) → still_pending bound (map (λ e. false) others) ≡ bound
 still-all [] others = refl
 still-all (b ∷ bound) [] = refl
@@ -52,7 +52,7 @@ still-map g [] was = refl
 still-map g (b ∷ bound) [] = refl
 still-map g (b ∷ bound) (j ∷ was) = ap (λ w. w ∷ map (option_map g) (still_pending bound was)) (map-unless g b j) ∙ ap (λ ws. unless_joined (option_map g b) j ∷ ws) (still-map g bound was)
 
--- once it is joined, an edge waits no more
+-- once it is joined, an edge is no longer pending
 pub still-changed : {A : Type 0} (bound : List (Option A)) (was : List Bool) (n : ℕ) → n < length was → still_pending bound (changed_at (λ w. true) n was) ≡ changed_at (λ w. None) n (still_pending bound was)
 unfolding changed_at
 still-changed [] was n below = refl
@@ -60,9 +60,9 @@ still-changed (b ∷ bound) [] n below = absurd (omega arith)
 still-changed (b ∷ bound) (j ∷ was) zero below = refl
 still-changed (b ∷ bound) (j ∷ was) (suc n) below = ap (λ ws. unless_joined b j ∷ ws) (still-changed bound was n (omega arith))
 
--- ---- the edges that wait, by number
+-- ---- the pending edges, by number
 
--- a path that an edge waits for
+-- a path on which an edge is pending
 abbrev pub is_path : Option (List ℕ) → (path : List ℕ) → Bool
 is_path None path = false
 is_path (Some file) path = bytes_eq file path
@@ -214,7 +214,7 @@ pub count-more : (file : FileNo) (ds : List DyndepEdge) (d : DyndepEdge) → cou
 count-more file [] d = omega arith
 count-more file (x ∷ ds) d = let is = count-more file ds d in omega (arith, is)
 
--- where none waits for it, there is no first one
+-- where none is pending on it, there is no first one
 pub none-first : (file : FileNo) (ws : List (Option FileNo)) → count_pending file ws ≡ 0 → first_edge (λ w. is_bound_to w file) ws ≡ None
 none-first file [] none = refl
 none-first file (w ∷ ws) none = by (is_bound_to w file) none (none-first file ws)
@@ -353,7 +353,7 @@ named-none : (files : List (List ℕ)) (n : ℕ) → map (file_named files) (rep
 named-none files zero = refl
 named-none files (suc n) = ap (λ os. None ∷ os) (named-none files n)
 
--- the edges that wait are those that are bound
+-- the pending edges are the edges that are bound
 pub bind-unjoined : (files : List (List ℕ)) (ds : List DyndepEdge) (ws : List (Option (List ℕ))) (count : ℕ) → map (pending_named files) ds ≡ pending_from 0 ws → length ws ≡ count
     → map (file_named files) (bind_all ds (replicate count None)) ≡ ws
 bind-unjoined files ds ws count is many =
@@ -396,7 +396,7 @@ first-nowhere test (x ∷ xs) d none =
     ap (λ b. if b then Some 0 else option_map (λ n. n + 1) (first_edge test xs)) (none 0 (omega arith))
     ∙ ap (option_map (λ n. n + 1)) (first-nowhere test xs d (λ m h. none (suc m) (omega (arith, h))))
 
--- what stands there passes the test
+-- the element at that position passes the test
 pub first-passes : {X : Type 0} (test : X → Bool) (xs : List X) (n : ℕ) (d : X) → first_edge test xs ≡ Some n → (n < length xs) × (test (get_or xs n d) ≡ true)
 first-passes test [] n d first = absurd (true≢false (sym (ap is_some first)))
 first-passes test (x ∷ xs) n d first = by (test x) n refl first (λ j. first-passes test xs j d)
@@ -410,7 +410,7 @@ first-passes test (x ∷ xs) n d first = by (test x) n refl first (λ j. first-p
         let below = found.0 in
         subst (λ i. (i < length (x ∷ xs)) × (test (get_or (x ∷ xs) i d) ≡ true)) (sym next.2) (omega (arith, below), found.1)
 
--- whether an edge waits for a file
+-- whether an edge is pending on a file
 pub still-bound : (bound : List (Option FileNo)) (was : List Bool) (n : ℕ) (file : FileNo) → is_bound_to (get_or (still_pending bound was) n None) file ≡ (is_bound_to (get_or bound n None) file && not (get_or was n false))
 still-bound bound was n file = ap (λ b. is_bound_to b file) (still-at bound was n) ∙ by (get_or bound n None) (get_or was n false)
   where

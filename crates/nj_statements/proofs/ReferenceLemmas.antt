@@ -18,7 +18,7 @@ references-longer kept rules more held number keys is = let (rule, there, tells)
 pub references-same : (kept others : List (Option (List ReferringKeyText))) (rules : List RuleText) → SameReferences kept others → HasReferences kept rules → HasReferences others rules
 references-same kept others rules same held number keys is = held number keys (same number ∙ is)
 
--- room for one more
+-- capacity for one more
 pub same-pushed : (kept : List (Option (List ReferringKeyText))) → SameReferences kept (kept ++ None ∷ [])
 same-pushed [] zero = refl
 same-pushed [] (suc number) = refl

@@ -53,7 +53,7 @@ entries items = map entry items
 abbrev line : (name value : List ℕ) → LineText
 line name value = record { spot = at 3; name = name; value = word 7 (Text value) }
 
--- what is wrong with a build statement after these statements, of which the last stands first
+-- what is wrong with a build statement after these statements, the last one first
 abbrev wrong_with : List StatementText → OutputsText → NameText → InputsText → List LineText → Option GraphFault
 wrong_with before outputs rule inputs lines = build_fault (entry (BuildText outputs rule inputs lines)) (entries before) outputs rule inputs lines
 
@@ -214,7 +214,7 @@ pub row-dyndep_input : wrong_after (plain ∷ []) (record no_inputs { order_only
 unfolding clean_path_of without_leftmost_pair edges_read bounds variable_cycle_of
 row-dyndep_input = refl
 
--- `build a: r |@ dd` with `dyndep = dd`: a validation is no input
+-- `build a: r |@ dd` with `dyndep = dd`: a validation is not an input
 pub row-dyndep_validation : wrong_after (plain ∷ []) (record no_inputs { validations = path (codes "dd") ∷ [] }) (line (codes "dyndep") (codes "dd") ∷ []) ≡ wrong 1 (DyndepNotInput (codes "dd"))
 unfolding clean_path_of without_leftmost_pair edges_read bounds variable_cycle_of
 row-dyndep_validation = refl
@@ -229,9 +229,9 @@ pub row-dyndep_of_file : wrong_with (BindingText (codes "dyndep") (path (codes "
 unfolding clean_path_of without_leftmost_pair edges_read bounds variable_cycle_of
 row-dyndep_of_file = refl
 
--- ---- edges that wait for their dyndep files
+-- ---- edges that are pending on their dyndep files
 
--- an edge of this number that waits for `dd`
+-- an edge of this number that is pending on `dd`
 abbrev pends : (edge : ℕ) → Pending
 pends edge = record { edge = edge; file = codes "dd" }
 
@@ -258,7 +258,7 @@ row-pending_empty = refl
 abbrev joined_a : ReadStatement
 joined_a = record (entry (build_with_dd (codes "a") phony (line (codes "dyndep") (codes "dd") ∷ []))) { discovered = Some (record { outputs = codes "x" ∷ []; inputs = codes "y" ∷ [] }) }
 
--- it does not wait, and `build b: phony || dd` with `dyndep = dd` does
+-- it is not pending, and `build b: phony || dd` with `dyndep = dd` is
 pub row-pending_joined : pending_read (entry (build_with_dd (codes "b") phony (line (codes "dyndep") (codes "dd") ∷ [])) ∷ joined_a ∷ []) ≡ pends 1 ∷ []
 unfolding clean_path_of without_leftmost_pair edges_read pending_read bounds
 row-pending_joined = refl

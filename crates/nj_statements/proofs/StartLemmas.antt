@@ -29,9 +29,9 @@ use Rattle.nj_statements.specs.JoiningHeld.{pending_of, pending_from, HasJoined}
 use Rattle.nj_statements.specs.Inside.JoiningSteps.{count_pending, count_bound, bind_all, first_edges, file_named, joining_of, JoiningIsHeld}
 use Rattle.nj_statements.proofs.PendingLemmas.{still-all, pending-more, firsts-all, firsts-named, bind-unjoined, bind-length, bind-known, none-known, count-bind, count-none}
 
--- ---- of each edge what it waits for
+-- ---- what each edge is pending on
 
--- this is what edges wait for
+-- this is what edges are pending on
 pub record AreAwaited (entries : List ReadStatement) (unjoined : List (Option (List ℕ))) : Type 0 where
   pub are : pending_read entries ≡ pending_from 0 unjoined
   pub count : length unjoined ≡ length (edges_read entries)

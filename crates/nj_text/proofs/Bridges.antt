@@ -129,7 +129,7 @@ front_of t ends (u ∷ us) h = by_end (ending_of u.means) refl (front_of t ends 
 
 -- ---- the first unit of a line
 
--- what is known of the first unit alone, and holds of no end of a line
+-- what is known of the first unit alone, and is not true of any end of a line
 module _ {A : Type 0} (f : Meaning → Spot → A) (none : A) (at_line_end : (spot : Spot) → f LineEnd spot ≡ none) (at_text_end : (spot : Spot) → f TextEnd spot ≡ none) where
   abbrev pub of_first : List TextUnit → A
   of_first [] = none

@@ -35,7 +35,7 @@ spots_advance (b ∷ bs) spot h =
     by_test true e n = absurd cc
     by_test false e n = refl
 
--- the units of ordinary bytes that stand at a place
+-- the units of ordinary bytes at a place
 abbrev pub plain_units : Spot → List ℕ → List TextUnit
 plain_units spot [] = []
 plain_units spot (b ∷ bs) = record { spot = spot; bytes = b ∷ []; means = Ordinary b } ∷ plain_units (advance 1 spot) bs

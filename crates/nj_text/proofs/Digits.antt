@@ -57,7 +57,7 @@ read-digit text i before after h read e a =
     let number = ap Some a ∙ ap (λ (n : Option ℕ). Some (min (unwrap_or n 0 * 10 + (get_or text i 0 - 48)) greatest)) read.1 ∙ sym (number_of-push (take i text) (get_or text i 0)) in
     rw more (all, number)
 
--- a byte that is no digit ends the number
+-- a byte that is not a digit ends the number
 pub read-other : (text : List ℕ) (i : ℕ) (number : Option ℕ) → i < length text → IsRead text i number → is_digit (get_or text i 0) ≡ false → number ≡ leading_number_of text
 read-other text i number h read e =
     let cut : text ≡ take i text ++ get_or text i 0 ∷ drop (suc i) text = sym (take-append-drop i text) ∙ ap (λ ys. take i text ++ ys) (drop-cons text i 0 h) in
@@ -73,14 +73,14 @@ read-all text i number h read =
 
 -- ---- the first `.`
 
--- a byte that is no `.` stands before it
+-- a byte that is not `.` comes before it
 pub after_dot-other : (b : ℕ) (text : List ℕ) → (b == 46) ≡ false → after_dot (b ∷ text) ≡ after_dot text
 after_dot-other b text e = ap (drop 1) (drop_while-cons_yes (λ b. not (is_dot b)) b text (ap not e))
 
 pub after_dot-dot : (b : ℕ) (text : List ℕ) → (b == 46) ≡ true → after_dot (b ∷ text) ≡ text
 after_dot-dot b text e = ap (drop 1) (drop_while-cons_no (λ b. not (is_dot b)) b text (ap not e))
 
--- a `.` is no digit
+-- a `.` is not a digit
 no_dot : (b : ℕ) → is_digit b ≡ true → not (is_dot b) ≡ true
 no_dot b e = by_test (is_dot b) refl
   where
@@ -88,7 +88,7 @@ no_dot b e = by_test (is_dot b) refl
     by_test true dot = absurd (grind (arith, nat_tests, dot, e))
     by_test false dot = refl
 
--- the digits in front stand before the first `.`
+-- the digits in front come before the first `.`
 digits_before_dot : (text : List ℕ) → take_while is_digit (before_dot text) ≡ take_while is_digit text
 digits_before_dot [] = refl
 digits_before_dot (b ∷ text) = by_digit (is_digit b) refl (digits_before_dot text)

@@ -79,7 +79,7 @@ units_are_text : (k : TextKind) (spot : Spot) (xs : List ℕ) → AllIn (in_run 
 units_are_text k spot [] h = tt
 units_are_text k spot (x ∷ xs) h = (run_is_text k x spot h.0, units_are_text k (advance 1 spot) xs h.1)
 
--- whether a meaning is that of an ordinary byte
+-- whether a meaning is the meaning of an ordinary byte
 abbrev is_byte : Found → Bool
 is_byte found = is_ordinary_in (λ c. true) found.0
 
@@ -124,7 +124,7 @@ plain_is_ordinary b e = by_tests (eqb b 36) (eqb b 10) (eqb b 13) (eqb b 0) e
 pub not_ordinary : (b : ℕ) (bs : List ℕ) → is_ordinary_byte b ≡ false → is_byte (unit_at b bs) ≡ false
 not_ordinary b bs h = class_is_not_byte (class_of b) b bs (λ e. false≢true (sym h ∙ plain_is_ordinary b e))
 
--- after a run the text goes on with no ordinary byte
+-- after a run the text does not continue with an ordinary byte
 front_is_not_byte : (t : TextUnit → Bool) (u : TextUnit) (us : List TextUnit) → (t u ≡ true → is_ordinary_in (λ c. true) u.means ≡ false) → begins_with_ordinary (take_while t (u ∷ us)) ≡ false
 front_is_not_byte t u us h = by_test (t u) refl
   where
@@ -170,7 +170,7 @@ none_after p (b ∷ bs) = by_test (p b) refl (none_after p bs)
     by_test true e h = h
     by_test false e h = e
 
--- the run that stands at a place, read off
+-- the run at a place, read off
 pub run_read : (k : TextKind) (r : Run) (spot there : Spot) (bytes xs ys : List ℕ) → r ≡ run_of k → xs ≡ take_while (in_run r) bytes → ys ≡ drop_while (in_run r) bytes → bytes ≡ xs ++ ys → there ≡ advance (length xs) spot → eqb (length xs) 0 ≡ false
     → (gathered k (units_within spot bytes) ≡ Text xs ∷ gathered k (units_within there ys)) × (after_text k (units_within spot bytes) ≡ after_text k (units_within there ys))
 run_read k r spot there bytes xs ys is_r run remainder whole e nonempty =
@@ -178,7 +178,7 @@ run_read k r spot there bytes xs ys is_r run remainder whole e nonempty =
     let none : NoneInRun (in_run (run_of k)) ys = rw (← is_r, remainder) (none_after (in_run r) bytes) in
     rw e (run_piece k spot bytes xs ys whole all none (λ h. false≢true (sym nonempty ∙ ap (λ zs. eqb (length zs) 0) h)))
 
--- after the run that stands at a place none of its bytes stands
+-- after the run at a place none of its bytes follows
 pub run_over : (k : TextKind) (r : Run) (bytes ys : List ℕ) → r ≡ run_of k → ys ≡ drop_while (in_run r) bytes → NoneInRun (in_run (run_of k)) ys
 run_over k r bytes ys is_r remainder = rw (← is_r, remainder) (none_after (in_run r) bytes)
 

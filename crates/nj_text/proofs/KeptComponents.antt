@@ -1,4 +1,4 @@
--- The components that stand when a path is cleaned, one after another, are those of its clean path.
+-- The components that are left when a path is cleaned, one after another, are the components of its clean path.
 use Rattle.std.proofs.Common.{◌≡◌, ℕ, zero, suc, Bool, true, false, not, List, [], ◌∷◌, ◌++◌, replicate, refl, sym, ap, ◌∙◌, arith, append_assoc}
 use Rattle.std.specs.List.{filter, AllByRecursion}
 use Rattle.std.proofs.lemmas.Bool.Decides.{nat_tests}
@@ -14,7 +14,7 @@ use Rattle.nj_text.proofs.Pairs.{HasNoPair, pairs-none, pairs-at, no_pair-push, 
 abbrev pub going : List (List ℕ) → List (List ℕ)
 going components = filter (λ component. not (leads_nowhere component)) components
 
--- each component is no `..`
+-- no component is `..`
 abbrev pub AllDown : List (List ℕ) → Type 0
 AllDown [] = Unit {0}
 AllDown (p ∷ ps) = (is_up p ≡ false) × AllDown ps
@@ -23,7 +23,7 @@ pub down_from_names : (names : List (List ℕ)) → AllByRecursion IsName names 
 down_from_names [] h = tt
 down_from_names (n ∷ names) h = (h.0.leads_down, down_from_names names h.1)
 
--- the three things that a component can say
+-- the three meanings of a component
 pub component-nowhere : (p : List ℕ) → leads_nowhere p ≡ true → component_of p ≡ Nowhere
 component-nowhere p e = rw e refl
 

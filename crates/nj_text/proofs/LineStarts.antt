@@ -40,7 +40,7 @@ cut_has_line position zero spot (b ∷ bs) =
     (cut_has_line (position_after position (found_at position b bs).0) (found_at position b bs).1 (spot_after b spot) bs)
 cut_has_line position (suc skip) spot (b ∷ bs) = cut_has_line position skip (spot_after b spot) bs
 
--- lines are those inside of which one may stand
+-- lines are those within which one may be
 pub inside_is : (ls : List Line) → HasLine ls → ls ≡ first_line ls ∷ other_lines ls
 inside_is ls h = rw h.2 refl
 
@@ -114,7 +114,7 @@ fails_if_no_byte p TextEnd h = refl
 fails_if_no_byte p BadByte h = refl
 fails_if_no_byte p BadEscape h = refl
 
--- a byte that is no space begins no unit that is one
+-- a byte that is not a space does not begin a space
 unit_is_not_space : (b : ℕ) (bs : List ℕ) → is_space b ≡ false → is_ordinary_in is_space (unit_at b bs).0 ≡ false
 unit_is_not_space b bs h = by_test (is_ordinary_byte b) refl
   where
@@ -148,7 +148,7 @@ spaces_position TextEnd h = refl
 spaces_position BadByte h = refl
 spaces_position BadEscape h = refl
 
--- what stands at a line's start, where that is neither a comment, nor a space, nor a tab
+-- what is at a line's start, where that is neither a comment, nor a space, nor a tab
 cut-start : (spot : Spot) (bs : List ℕ) → opens_comment bs ≡ false → begins_with_space_byte bs ≡ false → begins_with 9 bs ≡ false → cut AtStart 0 spot bs ≡ reopened (cut Within 0 spot bs)
 unfolding cut
 cut-start spot [] c s t = refl
@@ -161,7 +161,7 @@ unfolding cut
 cut-spaces spot [] s t = refl
 cut-spaces spot (b ∷ bs) s t = rw (t, spaces_position (unit_at b bs).0 (unit_is_not_space b bs s)) refl
 
--- a unit that is no tab begins with none
+-- a unit that is not a tab does not begin with one
 no_tab : (spot : Spot) (bs : List ℕ) (m : Meaning) (n : ℕ) (remainder : List TextUnit) → Begins spot bs m n remainder → (m ≡ Ordinary 9 → ⊥) → begins_with 9 bs ≡ false
 unfolding cut
 no_tab spot [] m n remainder e h = refl
@@ -301,7 +301,7 @@ after_tab spot b bs here byte (x ∷ rest) h e t =
 abbrev no_feed : ℕ → Bool
 no_feed c = not (is_line_feed c)
 
--- the first byte of a comment's line is no line feed
+-- the first byte of a comment's line is not a line feed
 comment_begins : (b : ℕ) (bs : List ℕ) → opens_comment (b ∷ bs) ≡ true → no_feed b ≡ true
 comment_begins b bs h = by_test (is_line_feed b) refl
   where
@@ -373,7 +373,7 @@ spaces_first spot x xs ys h c =
     let there : advance (length xs) (advance 1 spot) ≡ advance (suc (length xs)) spot = advance-advance 1 (length xs) spot ∙ ap (λ n. advance n spot) (one-add (length xs)) in
     rw (is, no_comment) (ap (λ us. record { spot = spot; bytes = 32 ∷ []; means = Ordinary 32 } ∷ us) (spaces_after (advance 1 spot) xs ys h.1 ∙ ap (λ p. space_units (advance 1 spot) xs ++ cut AfterSpaces 0 p ys) there))
 
--- ---- the answers' facts
+-- ---- facts of the results
 
 -- after a run of spaces
 pub spaces_cut : (spot : Spot) (bytes xs ys : List ℕ) (there : Spot) → bytes ≡ xs ++ ys → xs ≡ take_while is_space bytes → there ≡ advance (length xs) spot → opens_comment bytes ≡ false → eqb (length xs) 0 ≡ false
@@ -420,7 +420,7 @@ abbrev gives_comment : Meaning → Bool
 gives_comment Comment = true
 gives_comment m = false
 
--- what the units found within a line never say
+-- what the units found within a line never are
 pub record IsUnsaid (q : Meaning → Bool) : Type 0 where
   pub ordinary : (b : ℕ) → q (Ordinary b) ≡ false
   pub escape : (b : ℕ) → q (Escape b) ≡ false

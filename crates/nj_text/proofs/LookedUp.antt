@@ -31,6 +31,6 @@ map-same : (v : List ℕ) → v ≡ map (λ b. b) v
 map-same [] = refl
 map-same (b ∷ v) = ap (λ w. b ∷ w) (map-same v)
 
--- where a byte is that of its place in the table
+-- where a byte is the byte of its place in the table
 pub hits : (t v looked : List ℕ) → looked ≡ map (λ b. get_or t (bit_and b 15) 0) v → zip2 hit looked v ≡ map (λ b. hit (get_or t (bit_and b 15) 0) b) v
 hits t v looked e = joined hit (λ b. get_or t (bit_and b 15) 0) (λ b. b) v e (map-same v)

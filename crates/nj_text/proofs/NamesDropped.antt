@@ -24,7 +24,7 @@ any-slash (x ∷ xs) ys = ap (λ t. is_slash x || t) (any-slash xs ys) ∙ or_tr
 no_slash : (a xs ys : List ℕ) → list_any is_slash a ≡ false → a ≡ xs ++ 47 ∷ ys → ⊥
 no_slash a xs ys h e = let yes : list_any is_slash a ≡ true = ap (list_any is_slash) e ∙ any-slash xs ys in cc
 
--- the last slash of a text stands at one place
+-- the last slash of a text is at one place
 same_head : (xs ys a b : List ℕ) → list_any is_slash a ≡ false → list_any is_slash b ≡ false → xs ++ 47 ∷ a ≡ ys ++ 47 ∷ b → xs ≡ ys
 same_head [] [] a b h k e = refl
 same_head [] (y ∷ ys) a b h k e = let t : a ≡ ys ++ 47 ∷ b = cc in absurd (no_slash a ys b h t)
@@ -45,7 +45,7 @@ pub drops-at : (floor : ℕ) (head name new : List ℕ) → list_any is_slash na
 drops-at floor head name new h l (other, k, inl (above, e)) = sym (same_head head new name other h k e)
 drops-at floor head name new h l (other, k, inr (at, e)) = absurd (not_longer new other head name (sym e) (omega arith) k)
 
--- the name stands alone above the floor
+-- the name is alone above the floor
 pub drops-alone : (floor : ℕ) (head name new : List ℕ) → list_any is_slash name ≡ false → floor ≡ length head → DropsName floor (head ++ name) new → new ≡ head
 drops-alone floor head name new h l (other, k, inl (above, e)) = absurd (not_longer head name new other e (omega arith) h)
 drops-alone floor head name new h l (other, k, inr (at, e)) =

@@ -1,4 +1,4 @@
--- Where no slash stands before a slash or a dot, and the ends are those of names, each component is a name.
+-- Where no slash comes before a slash or a dot, and the ends are the ends of names, each component is a name.
 use Rattle.std.proofs.Common.{◌≡◌, ℕ, suc, Bool, true, false, not, List, [], ◌∷◌, drop, refl, sym, ap, ◌∙◌, subst, arith, get_or, length, ◌<◌, ◌-◌}
 use Rattle.std.specs.Prelude.{◌||◌, ◌&&◌, ◌==◌}
 use Rattle.std.specs.Bool.{OnTrue}

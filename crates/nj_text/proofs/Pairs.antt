@@ -4,7 +4,7 @@ use Rattle.std.specs.Prelude.{◌&&◌}
 use Rattle.std.specs.Fn.{iterate}
 use Rattle.nj_text.specs.Paths.{is_up, is_pair, without_leftmost_pair, without_pairs}
 
--- no component but `..` stands directly before a `..`
+-- no component but `..` comes directly before a `..`
 abbrev pub HasNoPair : List (List ℕ) → Type 0
 HasNoPair [] = Unit {0}
 HasNoPair (a ∷ []) = Unit {0}
@@ -32,7 +32,7 @@ leftmost-none [] h = leftmost-nil
 leftmost-none (a ∷ []) h = leftmost-one a
 leftmost-none (a ∷ b ∷ ps) h = leftmost-cons a b ps h.0 ∙ ap (λ qs. a ∷ qs) (leftmost-none (b ∷ ps) h.1)
 
--- the leftmost pair is taken out, and what stands before and after it stays
+-- the leftmost pair is taken out, and what comes before and after it stays
 pub leftmost-at : (front : List (List ℕ)) (a b : List ℕ) (ps : List (List ℕ)) → HasNoPair (front ++ a ∷ []) → is_pair a b ≡ true → without_leftmost_pair (front ++ a ∷ b ∷ ps) ≡ front ++ ps
 leftmost-at [] a b ps h e = leftmost-cons_pair a b ps e
 leftmost-at (x ∷ []) a b ps h e = leftmost-cons x a (b ∷ ps) h.0 ∙ ap (λ qs. x ∷ qs) (leftmost-cons_pair a b ps e)

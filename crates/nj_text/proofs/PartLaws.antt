@@ -1,4 +1,4 @@
--- The law of parts: they stand in the bytes of their units from left to right.
+-- The law of parts: they are in the bytes of their units from left to right.
 use Rattle.std.proofs.Common.{◌≡◌, ℕ, zero, suc, ◌+◌, Bool, true, false, cond, List, [], ◌∷◌, ◌++◌, length, take, map, refl, sym, ap, ◌∙◌, subst, append_assoc, eqb, arith}
 use Rattle.std.specs.List.{take_while}
 use Rattle.std.proofs.Math.Seq.{take-append-add, take-append_seam}
@@ -12,7 +12,7 @@ use Rattle.nj_text.specs.Laws.{part_bytes, AreInOrder, PartsComeInOrder}
 use Rattle.nj_text.proofs.Lists.{take_while-cons_yes, take_while-cons_no}
 use Rattle.nj_text.proofs.UnitLaws.{are_the_text}
 
--- ---- what a unit says stands in its bytes
+-- ---- what a unit means is in its bytes
 
 abbrev Denotes : Meaning → List ℕ → Type 0
 Denotes (Ordinary b) bytes = bytes ≡ b ∷ []
@@ -107,7 +107,7 @@ after_gap : (gap : List ℕ) (pieces : List (List ℕ)) (bytes : List ℕ) → A
 after_gap gap [] bytes h = tt
 after_gap gap (piece ∷ pieces) bytes h = (gap ++ h.0, h.1, ap (λ zs. gap ++ zs) h.2 ∙ simp append_assoc, h.3)
 
--- A run of ordinary bytes stands at the front.
+-- A run of ordinary bytes is at the front.
 abbrev Starts : List PartText → List ℕ → Type 0
 Starts ps bytes = (run : List ℕ) × (more : List PartText) × (rest : List ℕ) × (ps ≡ Text run ∷ more) × (bytes ≡ run ++ rest) × AreInOrder (map part_bytes more) rest
 

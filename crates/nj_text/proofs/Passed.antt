@@ -10,7 +10,7 @@ use Rattle.nj_text.specs.Words.{is_blank, is_blank_meaning}
 use Rattle.nj_text.proofs.Lists.{AllIn, AllIn-weaker, AllIn-take_while, drop_while-append}
 use Rattle.nj_text.proofs.Cuts.{plain_units, cut-run}
 
--- a unit that is no blank stops them
+-- a unit that is not a blank stops them
 pub blanks_stop : (spot : Spot) (bytes : List ℕ) (m : Meaning) (n : ℕ) (remainder : List TextUnit) → Begins spot bytes m n remainder → is_blank_meaning m ≡ false → drop_while is_blank (units_within spot bytes) ≡ units_within spot bytes
 blanks_stop spot bytes m n remainder e h = rw e (rw h refl)
 

@@ -1,4 +1,4 @@
--- Texts in quotes, run by run, and what a shell makes of them.
+-- Strings in quotes, run by run, and what a shell makes of them.
 use Rattle.std.proofs.Common.{◌≡◌, ◌≢◌, ℕ, suc, ◌+◌, ◌<◌, Bool, true, false, Option, Some, None, List, [], ◌∷◌, ◌++◌, length, take, drop, get_or, eqb, refl, sym, ap, ◌∙◌, arith, add-one, append_assoc}
 use Rattle.std.specs.Prelude.{◌&&◌}
 use Rattle.std.specs.List.{list_all, flat_map}
@@ -29,7 +29,7 @@ plain-other b e = (by_test (is_quote b) refl, by_slash (eqb b 92) refl)
     by_slash true q = absurd (grind (arith, nat_tests, q, e))
     by_slash false q = refl
 
--- plain bytes stand as they are
+-- plain bytes stay as they are
 pub within-plain : (xs : List ℕ) → list_all is_plain_byte xs ≡ true → flat_map within_quotes xs ≡ xs
 within-plain [] h = refl
 within-plain (b ∷ xs) h =

@@ -147,7 +147,7 @@ data Expected : Type 0 where
   Placed : Spot → Expected
   Fault : UnitFault → Expected
 
--- a call: its answer, and where it leaves the lexer
+-- a call: its result, and where it leaves the lexer
 abbrev Call : Type 0
 Call = State → Expected × State
 
@@ -187,7 +187,7 @@ abbrev run : List Call → State → List Expected
 run [] s = []
 run (call ∷ calls) s = (call s).0 ∷ run calls (call s).1
 
--- what the calls answer, one after another, from the front of a text on
+-- what the calls return, one after another, from the front of a text on
 outcomes : List ℕ → List Call → List Expected
 unfolding cut
 outcomes text calls = run calls (at_front text)

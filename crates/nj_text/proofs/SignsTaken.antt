@@ -1,4 +1,4 @@
--- Signs that stand next in a line.
+-- Signs that come next in a line.
 use Rattle.std.proofs.Common.{◌≡◌, ℕ, Bool, true, false, cond, not, ◌&&◌, eqb, List, [], ◌∷◌, drop, Option, Some, None, refl, sym, ap, ◌∙◌, arith}
 use Rattle.std.specs.Prelude.{is_some}
 use Rattle.std.proofs.lemmas.Bool.{eqb-true, false≢true}
@@ -51,7 +51,7 @@ no_line_end want spot bytes w n e = rw w (sign_by sign.LineEnd spot bytes false 
 
 -- ---- bytes
 
--- an ordinary byte stands next where it is the next byte
+-- an ordinary byte comes next where it is the next byte
 byte_here : (b : ℕ) → is_ordinary_byte b ≡ true → (spot : Spot) (bytes : List ℕ) → begins_with_byte b (units_within spot bytes) ≡ begins_with b bytes
 unfolding cut
 byte_here b o spot [] = refl

@@ -1,4 +1,4 @@
--- The states of a lexer, by where it stands.
+-- The states of a lexer, by where it is.
 use Rattle.std.proofs.Common.{◌≡◌, ℕ, Bool, true, false, List, [], ◌∷◌, map, Result, Ok, Err, refl, sym, ap, ◌∙◌}
 use Rattle.nj_text.specs.declared.spot.Spot.{Spot}
 use Rattle.nj_text.specs.declared.cursor.Cursor.{Cursor}

@@ -1,4 +1,4 @@
--- What a call within a line answers, from the units at its cursor.
+-- What a call within a line returns, from the units at its cursor.
 use Rattle.std.proofs.Common.{◌≡◌, ℕ, Bool, true, false, cond, not, ◌||◌, eqb, List, [], ◌∷◌, ◌++◌, length, take, Option, Some, None, refl, sym, ap, subst, ◌∙◌}
 use Rattle.std.specs.List.{take_while}
 use Rattle.std.proofs.lemmas.Bool.{eqb-true, false≢true, true≢false}
@@ -49,7 +49,7 @@ others spot bytes = other_lines (lines_within spot bytes)
 fault_here : (spot : Spot) (bytes : List ℕ) → next_fault (line spot bytes).units ≡ next_fault (units_within spot bytes)
 fault_here spot bytes = next_fault_of_line (units_within spot bytes) (cut_has_line Within 0 spot bytes)
 
--- a bad unit that stands next is the answer
+-- the result is a bad unit that comes next
 pub fails_here : {A : Type 0} (spot : Spot) (bytes : List ℕ) (f : UnitFault) (expected : Reply A) → Some f ≡ next_fault (units_within spot bytes) → unless_fault (next_fault (line spot bytes).units) expected ≡ failing f
 fails_here spot bytes f expected e = ap (λ o. unless_fault o expected) (fault_here spot bytes ∙ sym e)
 
@@ -79,7 +79,7 @@ bytes_of_plain : (spot : Spot) (xs : List ℕ) → bytes_of (plain_units spot xs
 bytes_of_plain spot [] = refl
 bytes_of_plain spot (x ∷ xs) = ap (λ ys. x ∷ ys) (bytes_of_plain (advance 1 spot) xs)
 
--- after an identifier stands no unit of one
+-- no unit of an identifier comes after it
 identifier_stops : (spot : Spot) (ys : List ℕ) → NoneInRun is_identifier_byte ys → (take_while in_identifier (units_within spot ys) ≡ []) × (drop_while in_identifier (units_within spot ys) ≡ units_within spot ys)
 unfolding cut
 identifier_stops spot [] h = (refl, refl)

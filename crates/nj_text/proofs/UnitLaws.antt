@@ -28,7 +28,7 @@ abbrev first_bytes : List TextUnit → List ℕ
 first_bytes [] = []
 first_bytes (u ∷ us) = u.bytes
 
--- the bytes that are skipped come before those of the units
+-- the bytes that are skipped come before the bytes of the units
 place_in_cut : (position : Position) (skip : ℕ) (spot : Spot) (bs : List ℕ) (us vs : List TextUnit) (u : TextUnit) → cut position skip spot bs ≡ us ++ u ∷ vs
     → u.spot ≡ spots_after (take skip bs ++ bytes_of us) spot
 unfolding cut
@@ -88,7 +88,7 @@ cut-ends position zero spot (b ∷ bs) =
     ends-before (record { spot = spot; bytes = b ∷ take found.1 bs; means = found.0 }) (cut (position_after position found.0) found.1 (spot_after b spot) bs) (cut-ends (position_after position found.0) found.1 (spot_after b spot) bs)
 cut-ends position (suc skip) spot (b ∷ bs) = cut-ends position skip (spot_after b spot) bs
 
--- a unit before lines that stand for some marks
+-- a unit before lines that represent some marks
 marks-before : (ending : Option Bool) (u : TextUnit) (ls : List Line) (m : Mark) (ms : List Mark) → flat_map marks_of ls ≡ m ∷ ms → flat_map marks_of (lines_before ending u ls) ≡ mark_by ending u ∷ m ∷ ms
 marks-before None u [] m ms e = absurd cc
 marks-before None u (l ∷ ls) m ms e = ap (λ xs. InLine u ∷ xs) e

@@ -65,7 +65,7 @@ push-text base (q ∷ ps) p h =
     text_with_component-next (length base) (base ++ text_of (q ∷ ps)) p (omega (arith, long, length-append base (text_of (q ∷ ps))))
     ∙ append_assoc base (text_of (q ∷ ps)) (47 ∷ p) ∙ ap (λ xs. base ++ xs) (sym (text-push q ps p))
 
--- ---- what each component says
+-- ---- what each component means
 
 pub name-from_component : (p : List ℕ) → list_any is_slash p ≡ false → component_of p ≡ Name → IsName p
 name-from_component p w e = by_tests (leads_nowhere p) (is_up p) refl refl
@@ -103,7 +103,7 @@ written-name absolute base kept front floor out p new w e s n = rw e (record {
   are_names = (name-from_component p s e, w.are_names);
 })
 
--- above the floor stands no name
+-- there is no name above the floor
 no_names : (base : List ℕ) (ups : ℕ) (names : List (List ℕ)) (floor : ℕ) (out : List ℕ) → AllByRecursion IsName names → out ≡ base ++ text_of (components_kept ups names)
     → floor ≡ length base + length (text_of (components_kept ups [])) → length out ≤ floor → names ≡ []
 no_names base ups [] floor out h e f l = refl

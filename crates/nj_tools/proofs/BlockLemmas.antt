@@ -1,4 +1,4 @@
--- How a text goes to a sink part by part, of which some wait.
+-- How a text goes to a sink part by part, of which some are pending.
 use Rattle.std.proofs.Common.{◌≡◌, ℕ, List, [], ◌∷◌, ◌++◌, Result, Ok, Err, refl, sym, ap, subst, ◌∙◌, append_assoc, append-nil}
 use Rattle.std.proofs.lemmas.Result.{err_from_is_err_and}
 use Rattle.std.specs.Result.{IsErrAnd}
@@ -19,7 +19,7 @@ IsUnderway-more old before after text unjoined part rest (front, parts, taken) (
   Takes-trans _ _ _ _ _ taken more_taken,
 )
 
--- the sink failed within what waits and a part more
+-- the sink failed within what is pending and a part more
 pub FailsWithin-more : (old before after : SinkState) (text unjoined part : List ℕ)
     → IsUnderway old before text unjoined → FailsWithin before after (unjoined ++ part) → FailsWithin old after (text ++ part)
 FailsWithin-more old before after text unjoined part (front, parts, taken) (more, (rest, joined, some), failed) = (
@@ -28,7 +28,7 @@ FailsWithin-more old before after text unjoined part (front, parts, taken) (more
   FailsAfter-trans _ _ _ _ _ taken failed,
 )
 
--- the sink failed within what waits
+-- the sink failed within what is pending
 pub FailsWithin-unjoined : (old before after : SinkState) (text unjoined sent : List ℕ)
     → IsUnderway old before text unjoined → FailsWithin before after sent → sent ≡ unjoined → FailsWithin old after text
 FailsWithin-unjoined old before after text unjoined sent (front, parts, taken) (more, (rest, joined, some), failed) is = (
@@ -37,7 +37,7 @@ FailsWithin-unjoined old before after text unjoined sent (front, parts, taken) (
   FailsAfter-trans _ _ _ _ _ taken failed,
 )
 
--- what waits was taken
+-- what was pending was taken
 pub Takes-unjoined : (old before after : SinkState) (text unjoined sent : List ℕ)
     → IsUnderway old before text unjoined → Takes before after sent → sent ≡ unjoined → Takes old after text
 Takes-unjoined old before after text unjoined sent (front, parts, taken) rest is =
@@ -71,7 +71,7 @@ TakesFront-longer old new text whole (others, is) (front, (rest, joined), taken)
   taken,
 )
 
--- a front of what waits and a part more was taken
+-- a front of what was pending and a part more was taken
 pub TakesFront-more : (old before after : SinkState) (text unjoined part : List ℕ)
     → IsUnderway old before text unjoined → TakesFront before after (unjoined ++ part) → TakesFront old after (text ++ part)
 TakesFront-more old before after text unjoined part (front, parts, taken) (more, (rest, joined), more_taken) = (
@@ -95,7 +95,7 @@ StopsWithin-whole old new text whole Write front stops = FailsWithin-whole old n
 StopsWithin-whole old new text whole OutOfMemory front stops = TakesFront-longer old new text whole front stops
 StopsWithin-whole old new text whole (TextNotUtf8 edge) front stops = stops
 
--- what stops within what waits and a part more
+-- what stops within what is pending and a part more
 pub StopsWithin-more : (old before after : SinkState) (text unjoined part : List ℕ) (fault : ToolFault)
     → IsUnderway old before text unjoined → StopsWithin before after (unjoined ++ part) fault → StopsWithin old after (text ++ part) fault
 StopsWithin-more old before after text unjoined part Write so_far stops = FailsWithin-more old before after text unjoined part so_far stops
@@ -110,7 +110,7 @@ stops-at_line old before after text unjoined line whole fault result err front s
     stops-with old after whole fault result err
     (StopsWithin-whole old after (text ++ line) whole fault front (StopsWithin-more old before after text unjoined line fault so_far stops))
 
--- ---- texts one after another
+-- ---- strings one after another
 
 -- nothing was added
 pub puts-nothing : (s : SinkState) (unjoined : List ℕ) → IsUnderway s s (unjoined ++ []) unjoined
@@ -131,7 +131,7 @@ pub puts-stop : (old new : SinkState) (before text more : List ℕ) (fault : Too
 puts-stop old new before text more fault stops =
     StopsWithin-whole old new (before ++ text) (before ++ (text ++ more)) fault (more, sym (append_assoc before text more)) stops
 
--- one text waits already, and another comes after it
+-- one string is pending already, and another comes after it
 pub puts-after : {X : Type 0} (old new : SinkState) (before after text more : List ℕ) (result : Result X ToolFault)
     → PutsText old new (before ++ text) after more result → PutsText old new before after (text ++ more) result
 puts-after old new before after text more (Ok done) puts = subst (λ t. IsUnderway old new t after) (append_assoc before text more) puts

@@ -40,7 +40,7 @@ module _ {X : Type 0} (bytes : X → List ℕ) where
   apart rule name Equal other is = absurd (other refl)
   apart rule name Greater other is = texts_ties rule name ∙ ap is_eq (nat_list_cmp_total.antisymm rule name ∙ ap ordering_reverse is)
 
-  -- what a binary search answers, in names by their bytes
+  -- what a binary search returns, in names by their bytes
   pub search-is : (xs : List X) (rule : List ℕ) (result : Result ℕ ℕ) → IsSortedBy (λ x y. is_before (bytes x) (bytes y)) xs → IsSearchInRange result (length xs)
       → IsBinarySearchResult (λ x. slice_cmp nat_cmp (bytes x) rule) xs result → is_ok result ≡ is_among (map bytes xs) rule
   search-is xs rule (Ok i) up below found = sym (among-at rule xs i below (λ d. tie rule (bytes (get_or xs i d)) (found d)))

@@ -68,14 +68,14 @@ object-appended text separator directory c command file output command_is file_i
     after : (q p r a : List ℕ) → q ≡ t ++ p → r ≡ q ++ a → r ≡ t ++ (p ++ a)
     after q p r a h next = next ∙ ap (λ s. s ++ a) h ∙ append_assoc t p a
 
--- that of the strings in JSON
+-- the text of the strings in JSON
 pub object-is : (directory : List ℕ) (c : Compilation) → object_text directory c ≡ object_of_strings directory (in_json c)
 unfolding object_text object_of_strings
 object-is directory c = refl
 
 -- ---- objects
 
--- what stands before an object after these
+-- what comes before an object after these
 abbrev pub separator_after : {X : Type 0} → List X → List ℕ
 separator_after [] = 10 ∷ []
 separator_after (x ∷ xs) = 44 ∷ 10 ∷ []
@@ -93,7 +93,7 @@ objects-more directory (x ∷ xs) c =
     ap (λ t. 10 ∷ (front ++ t)) (flat_map-append (following directory) xs (c ∷ []) ∙ ap (λ t. flat_map (following directory) xs ++ t) (append-nil (following directory c)))
     ∙ ap (λ t. 10 ∷ t) (sym (append_assoc front (flat_map (following directory) xs) (following directory c)))
 
--- objects begin with those of a front
+-- objects begin with the objects of a front
 objects-front : (directory : List ℕ) (cs ds : List Compilation) → IsPrefix (objects_text directory cs) (objects_text directory (cs ++ ds))
 unfolding objects_text
 objects-front directory [] ds = (objects_text directory ds, refl)
@@ -133,7 +133,7 @@ from-more n test (x ∷ xs) (suc i) b below is =
     by true rest = ap (λ ns. n ∷ ns) rest
     by false rest = rest
 
--- ---- what is told of an edge, as strings
+-- ---- what is reported of an edge, as strings
 
 module _ (c : Compilation) where
   held-some : (json : Compilation) → Some json ≡ held_compilation c → (is_text c ≡ true) × (json ≡ in_json c)
@@ -195,7 +195,7 @@ module _ (entries : List ReadStatement) (rules : List (List ℕ)) (expand : Bool
       by true rest h = absurd cc
       by false rest h = rest h
 
-  -- what was written for the first edges, and what stands before the next object
+  -- what was written for the first edges, and what comes before the next object
   pub record HasWritten (directory : List ℕ) (old new : SinkState) (before unjoined separator : List ℕ) (i : ℕ) : Type 0 where
     pub held : find unheld (first_listed i) ≡ None
     pub separator_is : separator ≡ separator_after (first_listed i)
@@ -211,7 +211,7 @@ module _ (entries : List ReadStatement) (rules : List (List ℕ)) (expand : Bool
         let parts = listed-front i in
         (take_while is_text (map reported parts.0), ap (λ ns. take_while is_text (map reported ns)) parts.1 ∙ held-front (first_listed i) parts.0 so_far.held)
 
-    -- it is a beginning of all
+    -- it is a prefix of all
     front : IsPrefix (before ++ objects_text directory (map reported (first_listed i))) (before ++ objects_text directory (held_before entries rules expand))
     front =
         let held = held-so_far in
@@ -257,7 +257,7 @@ module _ (entries : List ReadStatement) (rules : List (List ℕ)) (expand : Bool
             let here : 0 + i ≡ i = omega arith in
             from-more 0 (has_object entries rules) (edges_read entries) i true below passes ∙ ap (λ n. first_listed i ++ n ∷ []) here
 
-        -- it is the first that JSON cannot hold
+        -- it is the first that JSON cannot contain
 
         module _ (none : None ≡ held_compilation (reported i)) where
           not_text : is_text (reported i) ≡ false
@@ -363,13 +363,13 @@ module _ (entries : List ReadStatement) (directory : List ℕ) (chosen rules : L
     compdb-stops old new fault result err stops =
         compdb-with old new _ _ fault result err (StopsWithin-whole old new (first ++ objects) _ fault (end_text (unheld_edge entries chosen expand), parts) stops)
 
-    -- memory ran out while text waits
+    -- memory ran out while text is pending
     pub compdb-no_capacity : (old new : SinkState) (unjoined : List ℕ) (result : Result Unit ToolFault) → IsErrAnd result (λ e. e ≡ OutOfMemory) → IsUnderway old new (first ++ objects) unjoined
         → WritesCompdb old new (compdb_text entries directory rules expand) (unheld_edge entries rules expand) result
     compdb-no_capacity old new unjoined result err so_far =
         compdb-stops old new OutOfMemory result err (TakesFront-whole old new (first ++ objects) unjoined _ ([], sym (append-nil (first ++ objects))) so_far)
 
-    -- JSON cannot hold an edge
+    -- JSON cannot contain an edge
     pub compdb-unheld : (old between new : SinkState) (unjoined sent : List ℕ) (edge : EdgeNo) → Some edge.0 ≡ unheld_edge entries chosen expand
         → IsUnderway old between (first ++ objects) unjoined → Takes between new sent → sent ≡ unjoined
         → (unheld_edge entries rules expand ≡ Some edge.0) × Takes old new (compdb_text entries directory rules expand)

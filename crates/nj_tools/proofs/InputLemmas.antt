@@ -100,7 +100,7 @@ module _ (print : List ℕ → List ℕ) (paths : List (List ℕ)) where
   abbrev pub file_text : FileNo → List ℕ
   file_text file = print (path_at paths file)
 
-  -- the files that were collected have the texts of the list
+  -- the files that were collected have the paths of the list
   pub strings-are : (files : List FileNo) (listed : List (List ℕ)) → AreOf paths files listed → flat_map file_text files ≡ flat_map print (each_once listed)
   strings-are files listed are = sym (flat_map-map print (path_at paths) files) ∙ ap (flat_map print) are.paths_are
 
@@ -131,7 +131,7 @@ module _ (print : List ℕ → List ℕ) (paths : List (List ℕ)) where
               ∙ ap (λ t. t ++ flat_map print front.0) (sym so_far),
         )
 
-    -- what stops within its files stops within those of all edges
+    -- what stops within its files stops within the files of all edges
     pub row-stops : {R : Type 0} (all left : List ℕ) → all ≡ edges ++ e ∷ left
         → (old between new : SinkState) (before unjoined after : List ℕ) (fault : ToolFault) (result : Result R ToolFault)
         → IsErrAnd result (λ e. e ≡ fault) → IsUnderway old between (before ++ flat_map file_text files) unjoined
@@ -145,7 +145,7 @@ module _ (print : List ℕ → List ℕ) (paths : List (List ℕ)) where
         (subst (λ t. StopsWithin old new (before ++ t) fault) (row-text row files)
         (puts-then {X = Unit} old between new before unjoined [] (flat_map file_text files) (flat_map file_text (new_files files row)) (Err fault) first stops)))
 
-  -- those of all edges
+  -- the files of all edges
   pub rows-put : (inputs : ℕ → List (List ℕ)) (all edges left : List ℕ) (files : List FileNo) → all ≡ edges ++ left → left ≡ [] → AreOf paths files (flat_map inputs edges)
       → (old new : SinkState) (before after : List ℕ) → IsUnderway old new (before ++ flat_map file_text files) after
       → IsUnderway old new (before ++ flat_map print (each_once (flat_map inputs all))) after

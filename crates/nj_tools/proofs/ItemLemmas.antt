@@ -1,4 +1,4 @@
--- How the texts of the elements of a list go to a sink, one after another.
+-- How the lines of the elements of a list go to a sink, one after another.
 use Rattle.std.proofs.Common.{◌≡◌, ℕ, ◌+◌, ◌<◌, ◌≤◌, List, [], ◌∷◌, ◌++◌, map, length, get_or, take, drop, Result, Ok, Err, sym, ap, subst, ◌∙◌, refl, append-nil, take-append-drop}
 use Rattle.std.specs.List.{flat_map}
 use Rattle.std.specs.Result.{IsErrAnd}
@@ -10,7 +10,7 @@ use Rattle.nj_tools.specs.Inside.Blocks.{IsUnderway, PutsText}
 use Rattle.nj_tools.specs.Texts.{StopsWithin}
 use Rattle.nj_tools.proofs.BlockLemmas.{puts-then, puts-stop, puts-with}
 
--- the texts of a list that was made by a function
+-- the strings of a list that was made by a function
 pub flat_map-map : {X Y Z : Type 0} (f : Y → List Z) (h : X → Y) (xs : List X) → flat_map f (map h xs) ≡ flat_map (λ x. f (h x)) xs
 flat_map-map f h [] = refl
 flat_map-map f h (x ∷ xs) = ap (λ t. f (h x) ++ t) (flat_map-map f h xs)
@@ -35,7 +35,7 @@ module _ {X : Type 0} (f : X → List ℕ) (xs : List X) (i : ℕ) (d : X) (belo
       subst (λ t. IsUnderway old new (before ++ t) after) (ap (λ t. flat_map f (take i xs) ++ t) is ∙ sym (flat_map-next f xs i d below))
       (puts-then {X = Unit} old between new before unjoined after (flat_map f (take i xs)) text (Ok tt) first second)
 
-  -- what stops within that text stops within those of all
+  -- what stops within that string stops within all of them
   pub item-stops : {R : Type 0} (whole : List ℕ) → whole ≡ flat_map f xs → (old between new : SinkState) (before unjoined after text : List ℕ) (fault : ToolFault) (result : Result R ToolFault)
       → IsErrAnd result (λ e. e ≡ fault) → text ≡ f (get_or xs i d)
       → IsUnderway old between (before ++ flat_map f (take i xs)) unjoined → StopsWithin between new (unjoined ++ text) fault

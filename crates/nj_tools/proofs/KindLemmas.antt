@@ -1,4 +1,4 @@
--- How the inputs of an edge stand by kind, one after another.
+-- The inputs of an edge by kind, one after another.
 use Rattle.std.proofs.Common.{◌≡◌, ℕ, ◌+◌, ◌<◌, ◌≤◌, List, [], ◌∷◌, ◌++◌, length, get_or, take, drop, refl, sym, ap, ◌∙◌, arith, append_assoc, append-nil, take-append-drop, length-append}
 use Rattle.std.specs.Prelude.{Some, unwrap_or, codes, slice_get}
 use Rattle.std.proofs.lemmas.Bool.{lt-ltb, le-ltb}
@@ -22,7 +22,7 @@ input_lines-append e index (path ∷ paths) more =
     ap (λ t. input_line e index path ++ t) (input_lines-append e (index + 1) paths more ∙ ap (λ n. input_lines e (index + 1) paths ++ input_lines e n more) next)
     ∙ sym (append_assoc (input_line e index path) (input_lines e (index + 1) paths) (input_lines e (index + length (path ∷ paths)) more))
 
--- those of one kind, from its first index on
+-- the inputs of one kind, from its first index on
 input_lines-kind : (e : EdgePaths) (kind : Kind) (index : ℕ) (paths : List (List ℕ))
     → ((i : ℕ) → index ≤ i → i < index + length paths → kind_at e i ≡ kind) → input_lines e index paths ≡ lines_after (sign_of kind) paths
 input_lines-kind e kind index [] are = refl
@@ -66,7 +66,7 @@ input_lines-all e =
 
 -- ---- the first of them
 
--- those of one more
+-- the inputs with one more
 pub input_lines-more : (e : EdgePaths) (paths : List (List ℕ)) (i : ℕ) → i < length paths
     → input_lines e 0 (take (i + 1) paths) ≡ input_lines e 0 (take i paths) ++ input_line e i (get_or paths i [])
 input_lines-more e paths i below =

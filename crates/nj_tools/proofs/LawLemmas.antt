@@ -1,4 +1,4 @@
--- The lines of a list of paths, and its texts as `inputs` prints them: they rise, and are those of the listed paths.
+-- The lines of a list of paths, as `inputs` prints them: they rise, and are the lines of the listed paths.
 use Rattle.std.proofs.Common.{◌≡◌, ◌≢◌, ◌↔◌, ◌⊎◌, inl, inr, ℕ, Bool, true, false, not, ◌||◌, cond, if◌then◌else◌, Some, None, List, [], ◌∷◌, map, bytes_eq, refl, sym, ap, subst, ◌∙◌, true≢false, arith}
 use Rattle.std.specs.List.{AllByRecursion, Contains, filter, IsDistinct}
 use Rattle.std.specs.List.Sorted.{IsStrictlySortedBy}

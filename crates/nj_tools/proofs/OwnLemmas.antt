@@ -1,4 +1,4 @@
--- How the writing of the targets' own commands goes on by one target.
+-- How the writing of the targets' own commands continues with one target.
 use Rattle.std.proofs.Common.{◌≡◌, ℕ, ◌+◌, ◌<◌, Bool, true, false, not, ◌&&◌, ◌||◌, Option, Some, None, List, [], ◌∷◌, ◌++◌, length, get_or, take, drop, refl, sym, ap, subst, ◌∙◌, take-append-drop}
 use Rattle.std.specs.Prelude.{nat_eq, filter, map}
 use Rattle.std.specs.List.{list_any, flat_map}

@@ -1,4 +1,4 @@
--- How texts go to a sink one after another: parts in a row, and one text for each item of a list.
+-- How strings go to a sink one after another: parts in a row, and one string for each item of a list.
 use Rattle.std.proofs.Common.{◌≡◌, ℕ, ◌+◌, ◌<◌, ◌≤◌, Result, List, [], ◌∷◌, ◌++◌, length, get_or, take, drop, sym, ap, subst, ◌∙◌, append_assoc, append-nil, take-append-drop}
 use Rattle.std.specs.List.{flat_map}
 use Rattle.std.specs.Result.{IsErrAnd}
@@ -57,7 +57,7 @@ puts-item f items i d old between new before unjoined after part below is first 
     puts-next old between new before unjoined after (flat_map f (take i items)) part (flat_map f (take (i + 1) items))
     (items-more f items i d below ∙ sym (ap (λ t. flat_map f (take i items) ++ t) is)) first second
 
--- what stops within the text of one item stops within those of all
+-- what stops within the string of one item stops within the strings of all
 pub stops-item : {X : Type 0} (f : X → List ℕ) (items : List X) (i : ℕ) (d : X) (old between new : SinkState) (before unjoined part whole : List ℕ) (fault : ToolFault)
     → i < length items → part ≡ f (get_or items i d) → flat_map f items ≡ whole
     → IsUnderway old between (before ++ flat_map f (take i items)) unjoined → StopsWithin between new (unjoined ++ part) fault
@@ -66,7 +66,7 @@ stops-item f items i d old between new before unjoined part whole fault below is
     stops-next old between new before unjoined (flat_map f (take i items)) part (flat_map f (drop (i + 1) items)) whole fault
     (sym all ∙ items-split f items i d below ∙ sym (ap (λ t. (flat_map f (take i items) ++ t) ++ flat_map f (drop (i + 1) items)) is)) first stops
 
--- the texts of all were added
+-- the strings of all were added
 pub puts-items : {X : Type 0} (f : X → List ℕ) (items : List X) (i : ℕ) (old new : SinkState) (before unjoined whole : List ℕ)
     → length items ≤ i → flat_map f items ≡ whole → IsUnderway old new (before ++ flat_map f (take i items)) unjoined → IsUnderway old new (before ++ whole) unjoined
 puts-items f items i old new before unjoined whole all is so_far =

@@ -1,4 +1,4 @@
--- How what a sink took, one answer after the other, joins.
+-- How what a sink took, one call after another, joins.
 use Rattle.std.proofs.Common.{◌≡◌, ◌≢◌, ℕ, zero, suc, ◌-◌, Bool, ◌||◌, List, [], ◌∷◌, ◌++◌, length, take, drop, Ok, refl, ap, ◌∙◌, arith, append_assoc, take-append-drop}
 use Rattle.std.proofs.lemmas.List.{take_rest}
 use Rattle.std.proofs.KnownBytes.{Appends-nil, Appends-trans}
@@ -31,7 +31,7 @@ FailsAfter-trans a b c xs ys p q = record {
   took_since_failure = q.took_since_failure;
 }
 
--- an answer of some bytes: they were taken, and are no longer left
+-- some bytes were taken, and are no longer left
 pub IsUnderway-put : (old before after : SinkState) (text rest : List ℕ) (count : ℕ)
     → IsUnderway old before text rest → Puts before after rest (Ok count) → count ≢ 0
     → IsUnderway old after text (take (length rest - count) (drop count rest))

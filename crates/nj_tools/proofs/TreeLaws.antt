@@ -8,7 +8,7 @@ use Rattle.nj_needs.proofs.Bridges.{AreWithin-paths}
 use Rattle.nj_tools.specs.Laws.{DepthZeroShowsAll}
 use Rattle.nj_tools.specs.Listings.{file_line, indent, inputs_of_maker, tree_text}
 
--- what holds of the makers in a row holds of the maker of each file
+-- what is true of the makers in a row is true of the maker of each file
 each-made : {X : Type 0} (maker : X → Option ℕ) (P : ℕ → Type 0) (xs : List X) → ((e : ℕ) → Contains (map maker xs) (Some e) → P e)
     → AllByRecursion (λ x. (e : ℕ) → maker x ≡ Some e → P e) xs
 each-made maker P [] all = tt

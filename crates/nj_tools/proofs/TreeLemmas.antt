@@ -46,7 +46,7 @@ rows-top entries levels rows row =
     let same : 0 + length rows ≡ length rows = omega arith in
     rows-last entries levels 0 rows row ∙ ap (λ k. flat_map (tree_text entries (levels - k) k) row ++ rows_text entries levels 0 rows) same
 
--- an empty row says nothing
+-- an empty row gives nothing
 pub rows-empty : (entries : List ReadStatement) (levels : ℕ) (rows : List (List (List ℕ))) → rows_text entries levels 0 (rows ++ [] ∷ []) ≡ rows_text entries levels 0 rows
 rows-empty entries levels rows = rows-top entries levels rows []
 
@@ -116,7 +116,7 @@ indent-next text depth =
     let next : depth + 1 ≡ suc depth = omega arith in
     append_assoc text (indent depth) (codes "  ") ∙ ap (λ t. text ++ t) (sym (indent-more depth)) ∙ ap (λ n. text ++ indent n) (sym next)
 
--- that of a file that an edge makes
+-- the lines of a file that an edge makes
 pub made-line : (entries : List ReadStatement) (edges : List EdgePaths) (files : List (List ℕ)) (file : FileNo) (edge : ℕ) (path rule : List ℕ)
     → Some edge ≡ maker_of edges (path_at files file) → slice_get files file.0 ≡ Some path → rule ≡ rule_name_at entries edge
     → line (path ++ codes ": " ++ rule) ≡ file_line entries (maker_of edges (path_at files file)) (path_at files file)
@@ -126,7 +126,7 @@ made-line entries edges files file edge path rule maker found named =
     ∙ ap (λ o. file_line entries (Some edge) (unwrap_or o [])) (sym found)
     ∙ ap (λ m. file_line entries m (path_at files file)) maker
 
--- that of a source
+-- the lines of a source
 pub source-line : (entries : List ReadStatement) (edges : List EdgePaths) (files : List (List ℕ)) (file : FileNo) (path : List ℕ)
     → None ≡ maker_of edges (path_at files file) → slice_get files file.0 ≡ Some path
     → line (path ++ [] ++ []) ≡ file_line entries (maker_of edges (path_at files file)) (path_at files file)

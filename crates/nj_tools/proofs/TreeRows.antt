@@ -20,7 +20,7 @@ build output inputs =
     BuildText (record { explicit = word output ∷ []; implicit = [] }) (record { spot = record { line = 1; column = 9 }; name = codes "phony" })
     (record { explicit = inputs; implicit = []; order_only = []; validations = [] }) []
 
--- the last statement stands first
+-- the last statement first
 abbrev two : List ReadStatement
 two = on 2 (build (codes "b") (word (codes "a") ∷ word (codes "c") ∷ [])) ∷ on 1 (build (codes "a") []) ∷ []
 

@@ -9,7 +9,7 @@ use Rattle.nj_needs.proofs.ResumeLemmas.{valid-short}
 use Rattle.nj_needs.proofs.Walking.{Below-targets}
 use Rattle.nj_needs.proofs.needs.Needs.resume.Goals as goal
 
--- a valid mark is no longer than there are edges
+-- a valid mark is not longer than the number of edges
 short : (l : Turns) (numbers : List ℕ) → IsAcyclic (makers_of l.graph.now) (count_of l.graph.now) → AreWithin (row_of l.graph.now l.targets.now) (count_of l.graph.now)
     → is_valid (makers_of l.graph.now) (row_of l.graph.now l.targets.now) numbers ≡ true → length numbers ≤ count_of l.graph.now
 short l numbers acyclic inside valid =
