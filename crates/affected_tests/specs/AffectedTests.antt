@@ -48,7 +48,7 @@ abbrev pub lines_of_tests : GraphText → (rule : Option (List ℕ)) → (beginn
 lines_of_tests g rule beginning edge =
     if is_of_rule g rule edge then flat_map (line_of_test beginning) (outputs_of (edge_at (edges_of g) edge)) else []
 
--- The text has the tests that a change of these files affects: those of exactly the affected edges, by their numbers.
+-- The text lists the tests that a change of these files affects: exactly the affected edges' tests, by number.
 pub record ListsTests (g : GraphText) (rule : Option (List ℕ)) (beginning : List ℕ) (changed : List (List ℕ)) (text : List ℕ) : Type 0 where
   pub edges : List ℕ
   pub affected : (edge : ℕ) → Contains edges edge ↔ IsAffected (edges_of g) changed edge

@@ -1,2 +1,2 @@
--- How the code does what the definitions beside this folder say.
+-- How the code meets the definitions beside this folder.
 pub mod Found

@@ -1,4 +1,4 @@
--- Which fault of a command line is reported: that of its first mistake, in a fixed order.
+-- Which fault of a command line is reported: the fault of its first mistake, in a fixed order.
 use Rattle.std.specs.Prelude.{◌≡◌, ◌≢◌, ◌↔◌, ⊤, IsTrue, IsOk, MatchOption, ℕ, List, [], ◌∷◌, ◌++◌, map, codes, Some, None, Err}
 use Rattle.nj_args.specs.Fields.{FieldStrings, fields_of}
 use Rattle.nj_args.specs.Numbers.{given_number, given_depth}
@@ -25,7 +25,7 @@ pub data Mistake : Type 0 where
 abbrev pub all_mistakes : List Mistake
 all_mistakes = no_tool ∷ unknown_tool ∷ (map foreign_option all_options ++ bad_take ∷ bad_mark ∷ bad_words ∷ bad_depth ∷ [])
 
--- the words that say what `targets` lists
+-- the words that select what `targets` lists
 pub data IsView (words : List (List ℕ)) : Type 0 where
   roots : words ≡ [] → IsView words
   one_level : words ≡ codes "depth" ∷ [] → IsView words

@@ -8,7 +8,7 @@ abbrev pub is_digits : List ℕ → Bool
 is_digits [] = false
 is_digits (digit ∷ digits) = all_ascii_digits (digit ∷ digits)
 
--- the number that decimal digits say, with or without leading zeros, up to a greatest one
+-- the number that decimal digits give, with or without leading zeros, up to a greatest one
 abbrev pub given_up_to : (greatest : ℕ) → List ℕ → Option ℕ
 given_up_to greatest text = if is_digits text && nat_le (digits_value 10 text) greatest then Some (digits_value 10 text) else None
 

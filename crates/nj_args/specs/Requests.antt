@@ -64,7 +64,7 @@ abbrev pub start_of : (validations : Bool) → Option (List ℕ) → Result (Lis
 start_of validations None = Ok []
 start_of validations (Some text) = ok_or (given_run_mark validations text) (BadMark text)
 
--- the commands of the edges that the targets need, from a mark on, up to a limit; or with `-s` those of the edges that make them
+-- the commands of the edges that the targets need, from a mark on, up to a limit; or with `-s` the commands of the edges that make them
 abbrev pub commands_of : FieldStrings → Result ActionText UsageFault
 commands_of fields = if fields.is_single then Ok (single_commands fields.words) else do
   take ← take_of fields.take
@@ -106,7 +106,7 @@ targets_of name fields = do
 
 -- ---- the other tools
 
--- the list is sorted and quoted for a shell, a line each, unless an option says otherwise
+-- the list is sorted and quoted for a shell, one path a line, unless an option changes that
 abbrev pub style_of : FieldStrings → InputsStyle
 style_of fields = record {
   dependency_order = fields.dependency_order;

@@ -1,4 +1,4 @@
--- What a run answers, by the statements of its files and by what is asked for: its output, and how it ends.
+-- The outcome of a run, by the statements of its files and by what is asked for: its output, and how it ends.
 use Rattle.std.specs.Prelude.{◌≡◌, ◌≢◌, ℕ, Bool, true, false, if◌then◌else◌, Option, Some, None, Result, Ok, Err, List, [], ◌∷◌, ◌++◌, length, slice_get, codes}
 use Rattle.nj_scope.specs.ReadingList.{ReadStatement}
 use Rattle.nj_statements.specs.EdgeList.{EdgeText, edges_read}
@@ -79,7 +79,7 @@ pub data Ending : Type 0 where
 abbrev pub out_of_range : List ℕ
 out_of_range = codes "ninja-explain: mark out of range"
 
--- from a mark whose steps lead to edges: nothing is left after what is written; or the run stops at the mark after that, whose text says it
+-- from a mark whose steps lead to edges: nothing is left after what is written; or the run stops at the mark after that, as written
 abbrev pub PageEnds : List ReadStatement → (take : Option ℕ) → (start : List ℕ) → (targets : List (List ℕ)) → Ending → Type 0
 PageEnds entries take start targets finished = left_after take (commands_left entries targets start) ≡ []
 PageEnds entries take start targets (stopped mark) =
@@ -101,17 +101,17 @@ abbrev pub TargetsEnd : (targets : Result (List (List ℕ)) GraphFault) → Endi
 TargetsEnd (Ok targets) ending = ending ≡ finished
 TargetsEnd (Err fault) ending = ending ≡ faulty (fault_line fault)
 
--- JSON cannot hold a text of an edge: the fault is at its build statement
+-- JSON cannot contain a string of an edge: the fault is at its build statement
 abbrev pub text_fault : Option EdgeText → GraphFault
 text_fault (Some e) = fault_at e.file e.spot TextNotUtf8
 text_fault None = unplaced TextNotUtf8
 
--- by the first edge that JSON cannot hold, if there is one
+-- by the first edge that JSON cannot contain, if there is one
 abbrev pub CompdbEnds : List ReadStatement → (unheld : Option ℕ) → Ending → Type 0
 CompdbEnds entries None ending = ending ≡ finished
 CompdbEnds entries (Some edge) ending = ending ≡ faulty (fault_line (text_fault (slice_get (edges_read entries) edge)))
 
--- the ending of a run; the faults of targets, from the left, come before that of the mark
+-- the ending of a run; the faults of targets, from the left, come before the fault of the mark
 abbrev pub EndsWith : List ReadStatement → ActionText → Ending → Type 0
 EndsWith entries (commands words validations take start) ending =
     CommandsEnd entries take start (targets_of entries validations words) ending
@@ -148,7 +148,7 @@ status_of finished = Done
 status_of (stopped mark) = Stopped
 status_of (faulty text) = Fault
 
--- the status if the error output failed: a run whose mark is not reported cannot go on
+-- the status if the error output failed: a run whose mark is not reported cannot be resumed
 abbrev pub status_untold : Ending → Status
 status_untold finished = Done
 status_untold (stopped mark) = OutputFailed

@@ -25,7 +25,7 @@ pub record AreNeeded (edges : List EdgePaths) (targets : List (List ℕ)) (numbe
   pub order : numbers ≡ needed_commands (makers_of_inputs edges) (length edges) (is_phony_in edges) (row_of_paths edges targets)
 
 -- A run from the start that finishes writes a line for each of the needed edges: its command. If it follows validations, the targets are
--- those of its words and what is to be validated when they are built.
+-- the edges of its words and what is to be validated when they are built.
 abbrev pub WritesTheNeeded : Type 0
 WritesTheNeeded = (entries : List ReadStatement) (words : List (List ℕ)) (validations : Bool) → NoEdgeNeedsItself (edges_by_path entries)
     → EndsWith entries (commands words validations None []) finished
@@ -33,7 +33,7 @@ WritesTheNeeded = (entries : List ReadStatement) (words : List (List ℕ)) (vali
     × (numbers : List ℕ) × AreNeeded (edges_by_path entries) targets numbers
     × (output_of entries (commands words validations None []) ≡ command_lines entries numbers)
 
--- the run for these words that takes at most `take` edges, and begins at the mark that the text of `--resume` says, or at the start
+-- the run for these words that takes at most `take` edges, and begins at the mark that `--resume` gives, or at the start
 abbrev pub IsRun : (words : List (List ℕ)) → (validations : Bool) → (take : Option ℕ) → (resume : Option (List ℕ)) → ActionText → Type 0
 IsRun words validations take resume run =
     (start : List ℕ) × (start_of validations resume ≡ Ok start) × (run ≡ commands words validations take start)
@@ -59,7 +59,7 @@ PageStringsJoin = (entries : List ReadStatement) (words : List (List ℕ)) (vali
     → (takes : List ℕ) (outputs : List (List ℕ)) (rest : List ℕ) → ArePageStrings entries words validations resume takes outputs rest
     → output_of entries whole ≡ concat outputs ++ rest
 
--- A run that stopped can go on: what it wrote after `mark ` is a text for `--resume`, and a run without a limit from there finishes.
+-- A run that stopped can be resumed: what it wrote after `mark ` is a text for `--resume`, and a run without a limit from there finishes.
 abbrev pub StoppedRunsContinue : Type 0
 StoppedRunsContinue = (entries : List ReadStatement) (words : List (List ℕ)) (validations : Bool) → NoEdgeNeedsItself (edges_by_path entries)
     → (take : Option ℕ) (start mark : List ℕ) → EndsWith entries (commands words validations take start) (stopped mark)

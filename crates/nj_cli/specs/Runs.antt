@@ -81,7 +81,7 @@ pub record ReadsMore (main : List ℕ) (before after : SourceState) (files : Lis
   pub acyclic : NoEdgeNeedsItself (edges_by_path stated)
   pub adds : IsRead between after read files
 
--- The statements of the files: those of the main file and all that it includes; with `--dyndep`, where no edge of these needs itself,
+-- The statements of the files: those in the main file and in all that it includes; with `--dyndep`, where no edge of these needs itself,
 -- what dyndep files discover is joined to them.
 abbrev pub AreStatements : (main : List ℕ) → (dyndep : Bool) → (before after : SourceState) → List Reading → List ReadStatement → Type 0
 AreStatements main false before after files entries = IsWhole before after files (main_reached main) entries
@@ -97,7 +97,7 @@ HaveFault main true before after files fault =
     ⊎ ((more : ReadsMore main before after files) × LoadingFails more.between after files (joined_after more.read more.stated) fault)
 
 -- No graph can be made of the files: a statement has a fault, or an edge lies on a cycle, or the source failed, or an allocation did.
--- Nothing is output. The fault is reported, or out of memory if there was no room for its line.
+-- Nothing is output. The fault is reported, or out of memory if there was no memory for its line.
 pub record IsRefused (request : RequestText) (files : List Reading) (old new : Around) (status : Status) : Type 0 where
   pub fault : GraphFault
   pub reading : HaveFault request.file request.dyndep old.source new.source files fault
@@ -120,7 +120,7 @@ RunsAs request old new status =
     (files : List Reading) × IsRead old.source new.source [] files
     × (IsRefused request files old new status ⊎ IsAnswered request files old new status)
 
--- the words are not a valid request: no file is read, and the error output says why
+-- the words are not a valid request: no file is read, and the error output gives the reason
 pub record IsMisused (fault : UsageFault) (old new : Around) (status : Status) : Type 0 where
   pub source : new.source ≡ old.source
   pub output : new.output ≡ old.output

@@ -50,4 +50,4 @@ targets_from entries validations (Err fault) = Err fault
 abbrev pub targets_of : List ReadStatement → (validations : Bool) → (words : List (List ℕ)) → Result (List (List ℕ)) GraphFault
 targets_of entries validations words = targets_from entries validations (targets_named (edges_by_path entries) words)
 
--- ---- what the code answers
+-- ---- what the code returns

@@ -41,7 +41,7 @@ IsAcyclic makers edge_count = (rank : ℕ → ℕ) × IsRank makers edge_count r
 abbrev pub IsLeastOnCycle : (makers : ℕ → List (Option ℕ)) → ℕ → Type 0
 IsLeastOnCycle makers e = IsOnCycle makers e × ((f : ℕ) → f < e → ¬ IsOnCycle makers f)
 
--- the answer of the cycle check
+-- the result of the cycle check
 abbrev pub IsFirstOnCycle : (makers : ℕ → List (Option ℕ)) → (edge_count : ℕ) → Option ℕ → Type 0
 IsFirstOnCycle makers edge_count None = IsAcyclic makers edge_count
 IsFirstOnCycle makers edge_count (Some e) = IsLeastOnCycle makers e

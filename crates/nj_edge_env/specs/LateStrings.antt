@@ -1,4 +1,4 @@
--- Late texts: what the variables of a rule say when an edge uses them.
+-- Late strings: the values of a rule's variables when an edge uses them.
 use Rattle.std.specs.Prelude.{◌≡◌, ℕ, zero, suc, Bool, true, false, not, ◌&&◌, ◌||◌, if◌then◌else◌, Option, Some, None, is_some}
 use Rattle.std.specs.Option.{option_or}
 use Rattle.std.specs.Prelude.{unwrap_or, option_map, List, [], ◌∷◌, ◌++◌, map, length, codes, bytes_eq}
@@ -20,7 +20,7 @@ pub record LateNames : Type 0 where
 
 -- ---- paths
 
--- texts with a byte between each two
+-- strings with a byte between each two
 abbrev pub joined : (separator : ℕ) → List (List ℕ) → List ℕ
 joined separator [] = []
 joined separator (text ∷ strings) = text ++ flat_map (λ t. separator ∷ t) strings
@@ -29,7 +29,7 @@ joined separator (text ∷ strings) = text ++ flat_map (λ t. separator ∷ t) s
 abbrev pub paths_text : (quoting : Bool) → (separator : ℕ) → List (List ℕ) → List ℕ
 paths_text quoting separator paths = joined separator (map (λ path. if quoting then quoted path else path) paths)
 
--- the names of paths: a space stands between them, and a line feed in `in_newline`
+-- the names of paths: separated by spaces, and by line feeds in `in_newline`
 abbrev pub text_of_paths : (quoting : Bool) → (inputs outputs : List (List ℕ)) → (name : List ℕ) → Option (List ℕ)
 text_of_paths quoting inputs outputs name =
     if bytes_eq name (codes "in") then Some (paths_text quoting 32 inputs)
@@ -44,7 +44,7 @@ names_paths name = is_one_of (codes "in" ∷ codes "in_newline" ∷ codes "out" 
 
 -- ---- lines of the rule
 
--- the names that say what an edge runs
+-- the names that determine what an edge runs
 abbrev pub is_of_command : (name : List ℕ) → Bool
 is_of_command name = is_one_of (codes "command" ∷ codes "rspfile" ∷ codes "rspfile_content" ∷ []) name
 
@@ -53,7 +53,7 @@ abbrev pub unless_empty : Bool → Option (List PartText) → Option (List PartT
 unless_empty true (Some []) = None
 unless_empty unless value = value
 
--- The value that the rule gives: of its last line of this key. For a name that says what an edge runs, a value without parts is not given.
+-- The value that the rule gives: of its last line of this key. For names that determine what an edge runs, no parts are no value.
 abbrev pub value_given : List RuleLineText → (key : List ℕ) → Option (List PartText)
 value_given lines key = unless_empty (is_of_command key) (given lines key)
 
@@ -65,7 +65,7 @@ rule_value block lines name = if names_paths name || is_some (block name) then N
 abbrev pub file_value : LateNames → (name : List ℕ) → List ℕ
 file_value n name = if n.is_phony && is_of_command name then [] else n.file name
 
--- ---- what a name says
+-- ---- the value of a name
 
 abbrev pub refers_in : PartText → (name : List ℕ) → Bool
 refers_in (Text bytes) name = false
@@ -75,8 +75,8 @@ refers_in (Name other) name = bytes_eq name other
 abbrev pub refers : List PartText → (name : List ℕ) → Bool
 refers parts name = list_any (λ part. refers_in part name) parts
 
--- What a name says, in no order of evaluation: the paths of the edge, else the value of the block, else the rule's value, where
--- each name in it says what it says itself, else the file's value.
+-- The value of a name, in no order of evaluation: the paths of the edge, else the value of the block, else the rule's value, where
+-- each name in it has its own value by this rule, else the file's value.
 pub data Denotes (quoting : Bool) (n : LateNames) : List ℕ → List ℕ → Type 0 where
   by_paths : {name text : List ℕ} → text_of_paths quoting n.inputs n.outputs name ≡ Some text → Denotes quoting n name text
   by_block : {name text : List ℕ} → names_paths name ≡ false → n.block name ≡ Some text → Denotes quoting n name text
@@ -85,7 +85,7 @@ pub data Denotes (quoting : Bool) (n : LateNames) : List ℕ → List ℕ → Ty
   by_file : {name : List ℕ} → names_paths name ≡ false → n.block name ≡ None → value_given n.lines name ≡ None
       → Denotes quoting n name (file_value n name)
 
--- the same, computed: through at most `depth` lines of the rule, the last of which says nothing
+-- the same, computed: through at most `depth` lines of the rule, the last of which gives nothing
 abbrev pub late_in : (depth : ℕ) → (quoting : Bool) → LateNames → (name : List ℕ) → List ℕ
 late_in zero quoting n name = []
 late_in (suc depth) quoting n name =

@@ -28,7 +28,7 @@ abbrev pub IsLeastOnCycle : (block : List ℕ → Option (List ℕ)) → List Ru
 IsLeastOnCycle block lines key =
     IsOnCycle block lines key × ((other : List ℕ) → IsOnCycle block lines other → slice_cmp nat_cmp other key ≢ Less)
 
--- the answer of the check
+-- the result of the check
 abbrev pub IsCycleFound : (block : List ℕ → Option (List ℕ)) → List RuleLineText → Option (List ℕ) → Type 0
 IsCycleFound block lines None = HasNoCycle block lines
 IsCycleFound block lines (Some key) = IsLeastOnCycle block lines key

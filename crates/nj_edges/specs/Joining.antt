@@ -25,7 +25,7 @@ pub record JoinTable : Type 0 where
 abbrev pub none_added : AddedFiles
 none_added = record { outputs = []; inputs = [] }
 
--- Added files are implicit: they stand after those that the edge has, its inputs before the order-only ones.
+-- Added files are implicit: they come after the files that the edge has, its inputs before the order-only ones.
 abbrev pub with_added : AddedFiles → EdgePaths → EdgePaths
 with_added added e = record e {
   implicit_outputs = e.implicit_outputs ++ added.outputs;

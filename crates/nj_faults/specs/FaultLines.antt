@@ -17,7 +17,7 @@ use Rattle.nj_faults.specs.declared.fault.Cause.TheVariants as cause
 abbrev pub opening_text : (shown : List ℕ → List ℕ) → Place → List ℕ
 opening_text shown place = shown place.file ++ codes ":" ++ decimal place.spot.line ++ codes ":" ++ decimal place.spot.column ++ codes ": "
 
--- a fault of the syntax has the text that the parser gives it, wherever it stands
+-- a fault of the syntax has the text that the parser gives it, wherever it is
 abbrev pub cause_text : (shown : List ℕ → List ℕ) → Cause → List ℕ
 cause_text shown cause.BadByte = text_of (Bad (unit.BadByte first_spot))
 cause_text shown cause.Tab = text_of (Bad (unit.Tab first_spot))

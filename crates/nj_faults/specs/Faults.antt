@@ -42,6 +42,6 @@ abbrev pub fault_by : (file : List ℕ) → Option Spot → Cause → GraphFault
 fault_by file (Some spot) cause = fault_at file spot cause
 fault_by file None cause = unplaced cause
 
--- what the parser says of its text
+-- what the parser reports of its text
 abbrev pub fault_in : (file : List ℕ) → Fault → GraphFault
 fault_in file fault = fault_by file (place_of fault) (cause_of fault)

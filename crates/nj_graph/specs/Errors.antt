@@ -17,7 +17,7 @@ abbrev pub error_of_text : TextFault → Error
 error_of_text text.EmptyPath = EmptyPath
 error_of_text text.OutOfMemory = OutOfMemory
 
--- what is said of it to people
+-- how it is shown to people
 abbrev pub error_text : Error → List ℕ
 error_text (Graph fault) = shown_line fault
 error_text EmptyPath = codes "empty path"

@@ -45,7 +45,7 @@ pub record HasRule (rules : List RuleText) (e : EdgeText) : Type 0 where
   pub rule_is : slice_get rules e.rule ≡ Some rule
   pub phony_is : bytes_eq rule.name phony ≡ e.paths.is_phony
 
--- The graph is what the statements say: what they declare, in which scopes, and their edges and defaults; each edge has a rule, and none
+-- The graph is what the statements give: what they declare, in which scopes, and their edges and defaults; each edge has a rule, and none
 -- needs itself by a chain. Rules, pools and files come from where the statements are, after the main file was opened.
 pub record IsGraphOf (g : GraphText) (entries : List ReadStatement) : Type 0 where
   pub declares : DeclaredBy g.declarations entries
@@ -55,13 +55,13 @@ pub record IsGraphOf (g : GraphText) (entries : List ReadStatement) : Type 0 whe
   pub acyclic : IsAcyclic (makers_of_inputs (edges_of g)) (length (edges_of g))
   pub origins : g.origins ≡ origins_read (main_of g.origins) entries
 
--- ---- late texts
+-- ---- late strings
 
 abbrev pub text_of_edge : List ReadStatement → (asked : List ℕ) → Option EdgeText → List ℕ
 text_of_edge entries asked (Some e) = asked_text (names_of_edge entries e) asked
 text_of_edge entries asked None = []
 
--- What a variable says for the edge of a number where its rule is used, after all statements.
+-- The value of a variable for the edge of a number where its rule is used, after all statements.
 abbrev pub late_text_of : List ReadStatement → (number : ℕ) → (asked : List ℕ) → List ℕ
 late_text_of entries number asked = text_of_edge entries asked (slice_get (edges_read entries) number)
 
@@ -72,7 +72,7 @@ abbrev pub name_of : Option RuleText → List ℕ
 name_of (Some rule) = rule.name
 name_of None = []
 
--- that of the rule of a number
+-- the value for the rule of a number
 abbrev pub rule_name : List RuleText → (number : ℕ) → List ℕ
 rule_name rules number = name_of (slice_get rules number)
 
@@ -80,7 +80,7 @@ rule_name rules number = name_of (slice_get rules number)
 abbrev pub rule_name_of : List ReadStatement → EdgeText → List ℕ
 rule_name_of entries e = rule_name (rules_read entries) e.rule
 
--- that of the edge of a number; past the last edge it is empty
+-- the value for the edge of a number; past the last edge it is empty
 abbrev pub rule_name_at : List ReadStatement → (number : ℕ) → List ℕ
 rule_name_at entries number = unwrap_or (option_map (rule_name_of entries) (slice_get (edges_read entries) number)) []
 
@@ -111,7 +111,7 @@ sorted_by comes_before (x ∷ xs) = insert_by comes_before x (sorted_by comes_be
 abbrev pub is_before : (name other : List ℕ) → Bool
 is_before name other = is_lt (slice_cmp nat_cmp name other)
 
--- The rules of the main file's scope, by name: `phony` and those of included files are among them, and those of subninja files
+-- The rules of the main file's scope, by name: `phony` and the rules of included files are among them, and those of subninja files
 -- are not.
 unfoldable pub main_rules_of : List RuleText → List RuleText
 main_rules_of rules = sorted_by (λ r s. is_before r.name s.name) (rules_in rules 0)
@@ -125,7 +125,7 @@ main_rule_at g index = slice_index_or (main_rules g) index phony_rule
 
 -- ---- its description
 
--- what the last `description` line says, if there is one
+-- the value of the last `description` line, if there is one
 abbrev pub description : RuleText → Option (List PartText)
 description r = given r.lines (codes "description")
 

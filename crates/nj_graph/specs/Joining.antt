@@ -73,12 +73,12 @@ files_joined files stated (p ∷ others) joined =
     let file = file_joined files stated p joined in
     continued file.end p file.entries (files_joined files stated others)
 
--- The dyndep files of all edges that wait for one, each once, in the order of their first edges: the whole file is joined before the
+-- The dyndep files on which edges are pending, each once, in the order of their first edges: the whole file is joined before the
 -- next one is opened.
 unfoldable pub all_joined : (files : List Reading) → (stated : List ReadStatement) → ReachedText
 all_joined files stated = files_joined files stated (dyndep_files (pending_read stated)) stated
 
--- ---- what joining answers
+-- ---- what joining returns
 
 -- what joining reads and reaches after these paths
 abbrev pub reached_after : (before : List (List ℕ)) → ReachedText → ReachedText

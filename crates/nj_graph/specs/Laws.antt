@@ -1,4 +1,4 @@
--- What holds of every reading of a run's files.
+-- What is true of every reading of a run's files.
 use Rattle.std.specs.Prelude.{◌≡◌, ◌≢◌, ◌⊎◌, ℕ, ◌+◌, ◌<◌, ◌≤◌, Option, Some, None, Result, Ok, Err, List, [], ◌∷◌, ◌++◌, map, length, slice_get, codes, ⊤}
 use Rattle.std.specs.Cmp.Lexicographic.{slice_cmp}
 use Rattle.std.specs.List.{AllByRecursion, Contains}
@@ -25,7 +25,7 @@ use Rattle.nj_graph.specs.ResponseFiles.{first_position, sign_position}
 use Rattle.nj_graph.specs.Runs.{IsLacking}
 use Rattle.nj_graph.specs.Targets.{picked}
 
--- No statement has a fault of its own, by the statements before it. The last one stands first.
+-- No statement has a fault of its own, by the statements before it. The last one comes first.
 abbrev pub Faultless : List ReadStatement → Type 0
 Faultless [] = ⊤
 Faultless (e ∷ before) = (own_fault e before ≡ None) × Faultless before
@@ -54,7 +54,7 @@ OthersAreNotRead = (files all : List Reading) (main : List ℕ) → IsPrefix fil
 
 -- ---- bindings after the statement of an edge
 
--- What a file binds after the statement of an edge, in the same scope, affects what the variables of the edge say.
+-- What a file binds after the statement of an edge, in the same scope, affects the values of the edge's variables.
 abbrev pub LaterBindingsCount : Type 0
 LaterBindingsCount = (e : ReadStatement) (before : List ReadStatement) (edge : EdgeText) (name : List ℕ) (word : WordText)
     → e.item ≡ BindingText name word → e.number ≡ edge.number
@@ -97,7 +97,7 @@ pub record FirstHasPart (text part : List ℕ) (position : ℕ) : Type 0 where
   pub here : HasPart text part position
   pub not_earlier : (earlier : ℕ) → earlier < position → ¬ HasPart text part earlier
 
--- the answer of a search: a position that has a property, or none where no position has it
+-- the result of a search: a position that has a property, or none where no position has it
 abbrev pub Finds : (P : ℕ → Type 0) → Option ℕ → Type 0
 Finds P (Some position) = P position
 Finds P None = (position : ℕ) → ¬ P position

@@ -1,4 +1,4 @@
--- What loading the files of a run answers, and also what joining dyndep files to them does.
+-- The result of loading the files of a run, and of joining dyndep files to them.
 use Rattle.std.specs.Prelude.{◌≡◌, ◌⊎◌, Result, Ok, Err, ℕ, List, []}
 use Rattle.nj_scope.specs.Readings.{Reading, paths_of}
 use Rattle.nj_scope.specs.Sources.{SourceState}
@@ -23,7 +23,7 @@ pub record IsWhole (before after : SourceState) (files : List Reading) (reading 
   pub came_to : (reading files).paths ≡ paths_of files
   pub failures : after.failures ≡ before.failures
 
--- All was read, and the graph is what the statements say.
+-- All was read, and the graph is what the statements give.
 pub record IsLoaded (before after : SourceState) (files : List Reading) (reading : List Reading → ReachedText) (loaded : LoadedText)
     : Type 0 where
   pub files_are : loaded.files ≡ files
@@ -38,7 +38,7 @@ pub record HasCycle (before after : SourceState) (files : List Reading) (reading
   pub whole : IsWhole before after files reading entries
   pub cycle : IsCycleFault (edges_read entries) fault
 
--- The first fault is answered: that of the reading, or else of a cycle.
+-- The result is the first fault: the fault of the reading, or else of a cycle.
 abbrev pub LoadingFails : (before after : SourceState) → (files : List Reading) → (reading : List Reading → ReachedText)
     → GraphFault → Type 0
 LoadingFails before after files reading fault =

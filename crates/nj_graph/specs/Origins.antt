@@ -9,7 +9,7 @@ use Rattle.nj_faults.specs.declared.fault.PlaceRef.{PlaceRef}
 use Rattle.nj_graph.specs.declared.origins.Opening.{Opening}
 use Rattle.nj_graph.specs.Reading.{expanded_in, place_at}
 
--- the place of a statement: that of its first byte
+-- the place of a statement: the place of its first byte
 abbrev pub place_of : ReadStatement → Place
 place_of e = place_at e e.spot
 
@@ -28,7 +28,7 @@ abbrev pub rule_places : List ReadStatement → List (Option Place)
 rule_places [] = None ∷ []
 rule_places (e ∷ before) = with_rule_place e e.item (rule_places before)
 
--- that of the rule of a number; past the last rule there is none
+-- the place of the rule of a number; past the last rule there is none
 abbrev pub rule_place_at : (places : List (Option Place)) → (number : ℕ) → Option Place
 rule_place_at places number = slice_index_or places number None
 
@@ -39,7 +39,7 @@ pub record PoolDetail : Type 0 where
   pub place : Place
   pub depth : ℕ
 
--- The depth of a pool: the number at the front of what the last line of its block says. Each line there is a `depth` line, and a pool has
+-- The depth of a pool: the number at the front of the last value in its block. Each line there is a `depth` line, and a pool has
 -- one at least.
 abbrev pub depth_of : (scope : List ℕ) → (before : List ReadStatement) → List LineText → ℕ
 depth_of scope before lines =
@@ -50,7 +50,7 @@ with_pool_detail e before (PoolText name lines) pools =
     pools ++ record { place = place_of e; depth = depth_of (scope_of e) before lines } ∷ []
 with_pool_detail e before item pools = pools
 
--- those of the pools in the order in which they were declared
+-- the details of the pools in the order in which they were declared
 abbrev pub pool_details : List ReadStatement → List PoolDetail
 pool_details [] = []
 pool_details (e ∷ before) = with_pool_detail e before e.item (pool_details before)
@@ -63,10 +63,10 @@ pub record OpeningText : Type 0 where
   pub path : List ℕ
   -- the place of the statement that names it; no statement names the main file
   pub named_at : Option Place
-  -- the number of the scope in which its statements stand
+  -- the number of the scope of its statements
   pub scope : ℕ
 
--- an opening whose texts are lent
+-- an opening whose strings are lent
 abbrev pub opening_text : Opening → OpeningText
 opening_text o = record { path = o.path.now; named_at = option_map place_text o.named_at; scope = o.scope }
 

@@ -28,9 +28,9 @@ use Rattle.nj_statements.specs.BuildFaults.{build_fault, default_fault}
 pub use Rattle.nj_statements.specs.BuildFaults.{fault_if}
 use Rattle.nj_graph.specs.Parsed.{parsed}
 
--- ---- where a statement stands
+-- ---- where a statement is
 
--- Where the statements of an open file stand: the file, by the name under which it was opened; how many files are open around
+-- Where the statements of an open file are: the file, by the name under which it was opened; how many files are open around
 -- it; and the scope: its number, and those around it, the nearest first.
 pub record Site : Type 0 where
   pub file : List ℕ
@@ -49,7 +49,7 @@ entry_at site s = record {
   discovered = None;
 }
 
--- a word that is expanded in a scope, by the statements before it, of which the last read stands first
+-- a word that is expanded in a scope, by the statements before it, the last read first
 abbrev pub expanded_in : (scope : List ℕ) → (before : List ReadStatement) → WordText → List ℕ
 expanded_in scope before word = expanded (value_after before scope) word.parts
 
@@ -86,7 +86,7 @@ item_fault e before (DefaultText words) = default_fault e before words
 item_fault e before (IncludeText word) = path_fault e.file word.spot (expanded_in (scope_of e) before word)
 item_fault e before (SubninjaText word) = path_fault e.file word.spot (expanded_in (scope_of e) before word)
 
--- the first fault of a statement, except those of its syntax and of the file that it names
+-- the first fault of a statement, except the faults of its syntax and of the file that it names
 abbrev pub own_fault : ReadStatement → (before : List ReadStatement) → Option GraphFault
 own_fault e before = item_fault e before e.item
 
@@ -115,7 +115,7 @@ continued (Lacking path place) entries others = record { entries = entries; end 
 abbrev pub and_then : ReadingText → (List ReadStatement → ReadingText) → ReadingText
 and_then r others = continued r.end r.entries others
 
--- What is read of the file that a statement names: where its own statements stand, the place of its name, the statement
+-- What is read of the file that a statement names: where its own statements are, the place of its name, the statement
 -- itself, and the statements before it.
 abbrev pub Opens : Type 0
 Opens = Site → Place → ReadStatement → (before : List ReadStatement) → ReadingText
@@ -123,8 +123,8 @@ Opens = Site → Place → ReadStatement → (before : List ReadStatement) → R
 abbrev pub place_at : ReadStatement → Spot → Place
 place_at e spot = record { file = e.file; spot = spot }
 
--- The statements of a file that a statement names stand in the scope of this number, within these: those of a file that is included in
--- that of the `include`, those of a file after `subninja` in a new one within that of the statement.
+-- The statements of a file that a statement names are in the scope of this number, within these: those of a file that is included in
+-- the scope of the `include`, those of a file after `subninja` in a new one within the scope of the statement.
 abbrev pub opened_site : ReadStatement → (before : List ReadStatement) → WordText → (number : ℕ) → (around : List ℕ) → Site
 opened_site e before word number around = record {
   file = expanded_in (scope_of e) before word;
@@ -176,7 +176,7 @@ abbrev pub found_read : (path : List ℕ) → Place → (before : List ReadState
 found_read path place before reads None = stopped before place (Missing path)
 found_read path place before reads (Some text) = reads text
 
--- by the table's answer for that path
+-- by what the table returns for that path
 abbrev pub outcome_read : (path : List ℕ) → Place → (before : List ReadStatement) → (List ℕ → ReadingText) → Option table.Reading → ReadingText
 outcome_read path place before reads None = record { entries = before; end = Lacking path place }
 outcome_read path place before reads (Some r) = found_read path place before reads r.bytes

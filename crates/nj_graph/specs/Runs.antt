@@ -16,7 +16,7 @@ pub record IsRead (before after : SourceState) (old files : List Reading) : Type
 
 -- ---- how a run stops
 
--- The fault that a run answers if its reading ends this way. That a file cannot be read is answered where the source failed at the path,
+-- The fault of a run if its reading ends this way. That a file cannot be read is reported where the source failed at the path,
 -- and only there.
 abbrev pub IsEnd : (before after : SourceState) → End → GraphFault → Type 0
 IsEnd before after Whole fault = ⊥
@@ -40,7 +40,7 @@ pub record ReachedText : Type 0 where
   pub read : ReadingText
   pub paths : List (List ℕ)
 
--- By these files the reading ends as was answered, whatever other files hold; and all paths that it reaches were read.
+-- By these files the reading ends as reported, whatever other files contain; and all paths that it reaches were read.
 pub record EndsSo (before after : SourceState) (files : List Reading) (reading : List Reading → ReachedText) (fault : GraphFault)
     : Type 0 where
   pub reached : ReachedText

@@ -50,7 +50,7 @@ pub data NextEntryForm : List Line → Option EntryText → (rest : List Line) �
       → NextEntryForm (l ∷ ls) None (lines_after l (without_comments ls))
   nothing : NextEntryForm [] None []
 
--- An entry is read from lines, or none, exactly where the forms say so.
+-- An entry is read from lines, or none, exactly where the forms allow it.
 abbrev pub NextEntriesAreTheForms : Type 0
 NextEntriesAreTheForms =
     (ls : List Line) (found : Option EntryText) (rest : List Line) → (next_entry ls ≡ Ok (found, rest)) ↔ NextEntryForm ls found rest

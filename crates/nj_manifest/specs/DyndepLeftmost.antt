@@ -1,5 +1,5 @@
--- Where the first fault of an entry of a dyndep file stands: what is before it is the beginning of some entry, and with
--- the element at which it stands it is the beginning of none.
+-- Where the first fault of an entry of a dyndep file is: what is before it begins some entry, and with
+-- the element at which it is it begins none.
 use Rattle.std.specs.Prelude.{◌≡◌, ℕ, Bool, true, ◌&&◌, not, Option, Some, Ok, Err, List, [], ◌∷◌, ◌++◌, map, ◌⊎◌}
 use Rattle.std.specs.List.{list_all}
 use Rattle.nj_text.specs.Units.{TextUnit}
@@ -17,13 +17,13 @@ are_apart (u ∷ us) = list_all (λ v. not (is_same_spot v.spot u.spot)) us && a
 abbrev pub AreApart : List Line → Type 0
 AreApart ls = list_all (λ l. are_apart l.units) ls ≡ true
 
--- the place that a fault of an entry names, where it stands before this rest of a line
+-- the place that a fault of an entry names, where it comes before this rest of a line
 abbrev pub NamesPlaceInEntry : Fault → Line → Type 0
 NamesPlaceInEntry (DyndepShape spot) l = spot ≡ line_spot l
 NamesPlaceInEntry fault l = NamesThePlaceOf fault l
 
--- From this front an entry goes on: in the same line with these bytes, of which the first are what the fault says is
--- expected, and then with these lines. Each byte stands for itself.
+-- From this front an entry continues: in the same line with these bytes, of which the first are what the fault names as
+-- expected, and then with these lines. Each byte means itself.
 pub record SomeEntry (before : List Line) (begun : List TextUnit) (fault : Fault) : Type 0 where
   pub bytes : List ℕ
   pub lines : List (List ℕ)
@@ -46,14 +46,14 @@ pub record LineTooMany (before : List Line) (begun : List TextUnit) : Type 0 whe
   pub rest : List Line
   pub reads : next_entry (continues before spaces (written []) []) ≡ Ok (Some entry, rest)
 
--- From this front, with this element after it, no entry goes on: whatever follows, each unit of the line at a place of its own, the answer
+-- From this front, with this element after it, no entry continues: whatever follows, each unit of the line at its own place, the result
 -- is this fault. A departure from the form names the first unit of the element, and so keeps its place.
 abbrev pub RefusesEntry : (before : List Line) → (begun element : List TextUnit) → Fault → Type 0
 RefusesEntry before begun here fault =
     (l : Line) (ls : List Line) → element l.units ≡ here → are_apart (begun ++ l.units) ≡ true
     → next_entry (continues before begun l ls) ≡ Err (met_before l fault)
 
--- The lines, cut before the element at which the fault stands.
+-- The lines, cut before the element at which the fault is.
 pub record EntryComesLeftmost (ls : List Line) (fault : Fault) : Type 0 where
   pub before : List Line
   pub begun : List TextUnit
@@ -69,7 +69,7 @@ abbrev pub DyndepFaultsAreLeftmost : Type 0
 DyndepFaultsAreLeftmost =
     (ls : List Line) (fault : Fault) → AreApart ls → next_entry ls ≡ Err fault → EntryComesLeftmost ls fault
 
--- Each unit of a text has a place of its own, and so have those of the lines that are left of it after the version, and
+-- Each unit of a text has a place of its own, and so have the units of the lines that are left of it after the version, and
 -- after an entry.
 abbrev pub UnitsOfStringsAreApart : Type 0
 UnitsOfStringsAreApart =

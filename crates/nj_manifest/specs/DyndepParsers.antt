@@ -1,4 +1,4 @@
--- What a parser of dyndep files answers.
+-- What a parser of dyndep files returns.
 use Rattle.std.specs.Prelude.{◌≡◌, Option, option_map, Result, Ok, Err, List}
 use Rattle.nj_text.specs.Lines as lines
 use Rattle.nj_text.specs.Words.{word_text}
@@ -13,7 +13,7 @@ use Rattle.nj_manifest.specs.Dyndeps.{EntryText, DyndepLeft, Entries, Refusing, 
 abbrev pub entry_text : Entry → EntryText
 entry_text e = record { out = word_text e.out; outs = words_text e.outs.items; ins = words_text e.ins.items }
 
--- what a parser answers if this is read from what is left
+-- what a parser returns if this is read from what is left
 abbrev pub ReturnsEntry : Parse (Option EntryText) → (after : DyndepLeft) → Result (Option Entry) ParseFault → Type 0
 ReturnsEntry expected after (Ok found) =
     (rest : List lines.Line) × (expected ≡ Ok (option_map entry_text found, rest)) × (after ≡ Entries rest)
@@ -23,7 +23,7 @@ abbrev pub RefusesAgain : Fault → Result (Option Entry) ParseFault → Type 0
 RefusesAgain fault (Ok found) = ⊥
 RefusesAgain fault (Err f) = fault_text f ≡ fault
 
--- It answers the next entry, and leaves the lines after it; or the first fault, and then that fault for good.
+-- It returns the next entry, and leaves the lines after it; or the first fault, and then that fault for good.
 abbrev pub IsNextEntry : (before after : DyndepLeft) → Result (Option Entry) ParseFault → Type 0
 IsNextEntry (Refusing fault) after result = RefusesAgain fault result × (after ≡ Refusing fault)
 IsNextEntry before after result = ReturnsEntry (entry_of before) after result

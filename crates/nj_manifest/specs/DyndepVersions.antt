@@ -25,6 +25,6 @@ pub data VersionForm : List Line → (rest : List Line) → Type 0 where
   comment : {l : Line} {ls rest : List Line} → kind_of l ≡ CommentLine → l.is_last ≡ false → VersionForm ls rest
       → VersionForm (l ∷ ls) rest
 
--- The version is read from lines exactly where the form says so.
+-- The version is read from lines exactly where the form allows it.
 abbrev pub VersionsAreTheForms : Type 0
 VersionsAreTheForms = (ls rest : List Line) → (version_next ls ≡ Ok rest) ↔ VersionForm ls rest

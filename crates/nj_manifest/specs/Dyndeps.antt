@@ -71,7 +71,7 @@ no_path_by spot (Ok None) after = Ok after
 no_path_by spot (Ok (Some word)) after = Err (DyndepShape spot)
 no_path_by spot (Err unit) after = unless_missing (is_same_spot (fault_spot unit) spot) (DyndepShape spot) (Err (Bad unit))
 
--- No path stands here. One that does departs from the form at its first unit, whether or not a bad unit breaks it later.
+-- There is no path here. One that is here departs from the form at its first unit, whether or not a bad unit breaks it later.
 unfoldable pub no_path : State → Result State Fault
 no_path s =
     let here = skip_blanks_of s in
@@ -98,7 +98,7 @@ output_next s = do
   end ← no_path out.1
   Ok (out.0, end)
 
--- after the rule's name: no explicit inputs, and of the other sections only that of implicit inputs
+-- after the rule's name: no explicit inputs, and of the other sections only the implicit inputs
 unfoldable pub added_inputs : State → Step (List WordText)
 added_inputs s = do
   alone ← no_path s
@@ -161,7 +161,7 @@ next_entry ls = opening ls >>= entry_from
 
 -- ---- a parser
 
--- What a parser still has before it: all lines, the version first; lines after the version; or the fault that it answers
+-- What a parser still has before it: all lines, the version first; lines after the version; or the fault that it returns
 -- for good.
 pub data DyndepLeft : Type 0 where
   WholeFile : (lines : List Line) → DyndepLeft

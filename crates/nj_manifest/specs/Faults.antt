@@ -16,7 +16,7 @@ use Rattle.nj_manifest.specs.declared.fault.ParseFault.TheVariants as fault
 pub data Fault : Type 0 where
   -- a bad unit
   Bad : (unit : UnitFault) → Fault
-  -- something else stands where this is wanted
+  -- something else is where this is wanted
   Expected : (spot : Spot) (wanted : Wanted) → Fault
   -- an indented line outside of blocks
   UnexpectedIndent : (spot : Spot) → Fault
@@ -44,7 +44,7 @@ fault_text (fault.MissingDepth spot) = MissingDepth spot
 fault_text (fault.DyndepVersion spot) = DyndepVersion spot
 fault_text (fault.DyndepShape spot) = DyndepShape spot
 
--- A fault of the syntax of statements; the others say what a whole block lacks, or are of dyndep files.
+-- A fault of the syntax of statements; the others name what a whole block lacks, or are of dyndep files.
 abbrev pub is_syntax : Fault → Bool
 is_syntax (Bad unit) = true
 is_syntax (Expected spot wanted) = true
@@ -80,7 +80,7 @@ place_of (DyndepVersion spot) = Some spot
 place_of (DyndepShape spot) = Some spot
 place_of OutOfMemory = None
 
--- which says nothing of the place
+-- the text of a fault, without its place
 abbrev pub text_of : Fault → List ℕ
 text_of (Bad (unit_fault.BadByte spot)) = codes "unexpected byte"
 text_of (Bad (unit_fault.Tab spot)) = codes "tabs are not allowed, use spaces"

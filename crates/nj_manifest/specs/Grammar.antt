@@ -1,5 +1,5 @@
 -- The forms of the manual: which lines are a statement. A line's units are cut into parts, and each part is tested by
--- itself; nothing here says how one reads on from a place, or what is refused.
+-- itself; nothing here describes how one reads on from a place, or what is refused.
 use Rattle.std.specs.Prelude.{◌≡◌, ℕ, Bool, true, false, ◌&&◌, not, Option, Some, None, List, [], ◌∷◌, ◌++◌, map, codes, ◌↔◌}
 use Rattle.std.specs.List.{list_all, list_any}
 use Rattle.std.specs.Str.{bytes_eq}
@@ -193,13 +193,13 @@ pub data HeadForm (l : Line) : HeadText → Type 0 where
 
 -- ---- blocks
 
--- `NAME = VALUE`, indented, with a name that may stand in the block
+-- `NAME = VALUE`, indented, with a name that may occur in the block
 pub record BlockLineForm (allowed : Keys) (l : Line) (line : LineText) : Type 0 where
   pub indented : kind_of l ≡ IndentedLine
   pub binding : BindingForm l.units l.end (record { spot = line.spot; name = line.name }) line.value
   pub key : allows allowed line.name ≡ true
 
--- The lines of a block, and the lines after it. Comments stand among them. The block ends before a line that is not
+-- The lines of a block, and the lines after it. Comments may be among them. The block ends before a line that is not
 -- indented, but after it if it is a blank one.
 pub data BlockForm (allowed : Keys) : List Line → List LineText → (rest : List Line) → Type 0 where
   line : {l : Line} {ls rest : List Line} {first : LineText} {others : List LineText} → BlockLineForm allowed l first
@@ -262,7 +262,7 @@ pub data NextForm : List Line → Option PlacedText → (rest : List Line) → T
       → NextForm (l ∷ ls) None (lines_after l (without_comments ls))
   nothing : NextForm [] None []
 
--- The next statement of some lines has its first line, and lacks a line of its block. The fault stands where the
+-- The next statement of some lines has its first line, and lacks a line of its block. The fault is where the
 -- statement begins.
 pub data NextLacks : List Line → Fault → Type 0 where
   statement : {l : Line} {ls : List Line} {head : HeadText} {fault : Fault} → kind_of l ≡ PlainLine → HeadForm l head

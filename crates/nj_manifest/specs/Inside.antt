@@ -1,2 +1,2 @@
--- How the code does what the definitions beside this folder say. No contract of a public call needs these.
+-- How the code meets the definitions beside this folder. No contract of a public call needs these.
 pub mod ParserContracts

@@ -5,7 +5,7 @@ use Rattle.nj_manifest.specs.Faults.{Fault, is_syntax}
 use Rattle.nj_manifest.specs.Statements.{PlacedText, next_statement}
 use Rattle.nj_manifest.specs.Grammar.{NextForm, NextLacks}
 
--- A statement is read from lines, or none, exactly where the forms of the manual say so.
+-- A statement is read from lines, or none, exactly where the forms of the manual allow it.
 abbrev pub StatementsAreTheForms : Type 0
 StatementsAreTheForms =
     (ls : List Line) (found : Option PlacedText) (rest : List Line) → (next_statement ls ≡ Ok (found, rest)) ↔ NextForm ls found rest

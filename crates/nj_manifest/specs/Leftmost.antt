@@ -1,5 +1,5 @@
--- Where the first fault of some lines stands: what is before it is the beginning of some statement, and with the element
--- at which it stands it is the beginning of none.
+-- Where the first fault of some lines is: what is before it begins some statement, and with the element
+-- at which it is it begins none.
 use Rattle.std.specs.Prelude.{◌≡◌, ℕ, Bool, true, false, ◌||◌, ◌==◌, Some, Ok, Err, List, [], ◌∷◌, ◌++◌, map, take}
 use Rattle.std.specs.List.{take_while, list_all}
 use Rattle.nj_text.specs.declared.sign.Sign.TheVariants as sign
@@ -34,20 +34,20 @@ element us = element_by (begins_identifier us) (is_sign sign.Pipe2 us || is_sign
 
 -- ---- lines that are written after a front
 
--- a byte that stands for itself (its place stands for nothing here)
+-- a byte that means itself (its place does not matter here)
 abbrev pub written_unit : ℕ → TextUnit
 written_unit b = record { spot = first_spot; bytes = b ∷ []; means = Ordinary b }
 
 abbrev pub written : List ℕ → Line
 written bytes = record { units = map written_unit bytes; end = first_spot; is_last = false }
 
--- whether each byte may stand in a line for itself
+-- whether each byte may occur in a line and mean itself
 abbrev pub are_plain : List ℕ → Bool
 are_plain bytes = list_all is_ordinary_byte bytes
 
 -- ---- the law's words
 
--- the place that a fault names, where it stands before this rest of a line
+-- the place that a fault names, where it comes before this rest of a line
 abbrev pub NamesThePlaceOf : Fault → Line → Type 0
 NamesThePlaceOf (Bad unit) l = fault_spot unit ≡ line_spot l
 NamesThePlaceOf (Expected spot wanted) l = spot ≡ line_spot l
@@ -55,7 +55,7 @@ NamesThePlaceOf (UnexpectedIndent spot) l = spot ≡ record { line = (line_spot 
 NamesThePlaceOf (UnknownKey spot key) l = spot ≡ line_spot l
 NamesThePlaceOf fault l = ⊥
 
--- The same fault, met before this rest of a line. A bad unit and a key stand in the element, and so keep their places.
+-- The same fault, met before this rest of a line. A bad unit and a key are in the element, and so keep their places.
 abbrev pub met_before : Line → Fault → Fault
 met_before l (Expected spot wanted) = Expected (line_spot l) wanted
 met_before l (UnexpectedIndent spot) = UnexpectedIndent (record { line = (line_spot l).line; column = 1 })
@@ -78,13 +78,13 @@ offers_next wanted.VariableName bytes = begins_in is_identifier_byte bytes
 offers_next wanted.Equals bytes = begins_in (λ b. b == 61) bytes
 offers_next wanted.Newline bytes = is_empty bytes
 
--- whether the bytes begin with what the fault says is expected
+-- whether the bytes begin with what the fault names as expected
 abbrev pub offers : Fault → List ℕ → Bool
 offers (Expected spot wanted) bytes = offers_next wanted (drop_while is_space bytes)
 offers fault bytes = true
 
--- From this front a statement goes on: in the same line with these bytes, of which the first are what the fault says is
--- expected, and then with these lines. Each byte stands for itself.
+-- From this front a statement continues: in the same line with these bytes, of which the first are what the fault names as
+-- expected, and then with these lines. Each byte means itself.
 pub record SomeStatement (before : List Line) (begun : List TextUnit) (fault : Fault) : Type 0 where
   pub bytes : List ℕ
   pub lines : List (List ℕ)
@@ -95,12 +95,12 @@ pub record SomeStatement (before : List Line) (begun : List TextUnit) (fault : F
   pub rest : List Line
   pub reads : next_statement (continues before begun (written bytes) (map written lines)) ≡ Ok (Some placed, rest)
 
--- from this front, with this element after it, no statement goes on: whatever follows, the answer is this fault
+-- from this front, with this element after it, no statement continues: whatever follows, the result is this fault
 abbrev pub Refuses : (before : List Line) → (begun element : List TextUnit) → Fault → Type 0
 Refuses before begun here fault =
     (l : Line) (ls : List Line) → element l.units ≡ here → next_statement (continues before begun l ls) ≡ Err (met_before l fault)
 
--- The lines, cut before the element at which the fault stands.
+-- The lines, cut before the element at which the fault is.
 pub record ComesLeftmost (ls : List Line) (fault : Fault) : Type 0 where
   pub before : List Line
   pub begun : List TextUnit

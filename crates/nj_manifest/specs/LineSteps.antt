@@ -8,7 +8,7 @@ use Rattle.nj_text.specs.Calls.{State, Between, Inside, Failed, Reply, skip_blan
 use Rattle.nj_manifest.specs.declared.fault.Wanted.{Wanted}
 use Rattle.nj_manifest.specs.Faults.{Fault, Bad, Expected}
 
--- what is read, and the lexer after it; or the fault at which no statement goes on
+-- what is read, and the lexer after it; or the fault at which no statement continues
 abbrev pub Step : Type 0 → Type 0
 Step A = Result (A × State) Fault
 
@@ -44,7 +44,7 @@ abbrev pub if_there : Wanted → Bool → State → Result State Fault
 if_there wanted true after = Ok after
 if_there wanted false after = Err (Expected (spot_of after) wanted)
 
--- the lexer after a sign that has to stand there
+-- the lexer after a sign that has to be there
 unfoldable pub expect_sign : Sign → Wanted → State → Result State Fault
 expect_sign want wanted s = do
   there ← called (sign_of want s)

@@ -1,4 +1,4 @@
--- What a parser answers.
+-- What a parser returns.
 use Rattle.std.specs.Prelude.{◌≡◌, Option, option_map, Result, Ok, Err, List}
 use Rattle.nj_text.specs.declared.fault.LexFault.TheVariants as lex
 use Rattle.nj_text.specs.Lines as lines
@@ -10,12 +10,12 @@ use Rattle.nj_manifest.specs.Faults.{Fault, fault_text}
 use Rattle.nj_manifest.specs.Statements.{Parse, PlacedText, next_statement, Left, Lines, Refused}
 use Rattle.nj_manifest.specs.Contents.{placed_text}
 
--- the expected fault; or out of memory, which says nothing of the text
+-- the expected fault; or out of memory, which does not depend on the text
 abbrev pub Fails : {Y : Type 0} → ParseFault → Result Y Fault → Type 0
 Fails (fault.Lex lex.OutOfMemory) expected = Unit {0}
 Fails f expected = expected ≡ Err (fault_text f)
 
--- what a parser answers if this is read from the lines
+-- what a parser returns if this is read from the lines
 abbrev pub ReturnsNext : Parse (Option PlacedText) → (after : Left) → Result (Option (Placed Statement)) ParseFault → Type 0
 ReturnsNext expected after (Ok found) =
     (rest : List lines.Line) × (expected ≡ Ok (option_map placed_text found, rest)) × (after ≡ Lines rest)
@@ -26,7 +26,7 @@ abbrev pub Again : Fault → Result (Option (Placed Statement)) ParseFault → T
 Again fault (Ok found) = ⊥
 Again fault (Err f) = fault_text f ≡ fault
 
--- It answers the next statement of the lines that are left, and leaves the lines after it; or the first fault, and then
+-- It returns the next statement of the lines that are left, and leaves the lines after it; or the first fault, and then
 -- that fault for good.
 abbrev pub IsNext : (before after : Left) → Result (Option (Placed Statement)) ParseFault → Type 0
 IsNext (Lines ls) after result = ReturnsNext (next_statement ls) after result

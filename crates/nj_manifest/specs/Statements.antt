@@ -54,7 +54,7 @@ line_next allowed s = do
   value ← if_allowed (allows allowed key.0.name) key.0 (equals_value key.1)
   Ok (record { spot = key.0.spot; name = key.0.name; value = value.0 }, value.1)
 
--- the lines before which a lexer stands
+-- the lines before which a lexer is
 abbrev pub lines_from : State → List Line
 lines_from (Between ls) = ls
 lines_from (Inside l ls) = l ∷ ls
@@ -204,7 +204,7 @@ head_next s = do
 
 -- ---- what a block has to give
 
--- the line that counts of those of a name: the last one
+-- the line of a name that counts: the last one
 abbrev pub last_line : {X : Type 0} → (name_of : X → List ℕ) → List X → (name : List ℕ) → Option X
 last_line name_of lines name = find (λ l. bytes_eq name (name_of l)) (reverse lines)
 
@@ -277,7 +277,7 @@ next_statement (l ∷ ls) = next_by (kind_of l) l ls (next_statement ls)
 
 -- ---- a parser
 
--- What a parser still has before it: lines; or the fault that it answers for good.
+-- What a parser still has before it: lines; or the fault that it returns for good.
 pub data Left : Type 0 where
   Lines : (lines : List Line) → Left
   Refused : (fault : Fault) → Left

@@ -1,4 +1,4 @@
--- Marks and their texts. A mark is the numbers of an address; at the start of a walk it has none.
+-- Marks and their written form. A mark is the numbers of an address; at the start of a walk it has none.
 use Rattle.std.specs.Prelude.{◌≡◌, ℕ, ◌==◌, ◌&&◌, Bool, false, not, nat_le, if◌then◌else◌, Option, Some, None, List, [], ◌∷◌, map, codes}
 use Rattle.std.specs.Prelude.{decimal}
 use Rattle.std.specs.List.{slice_split, join_with_byte}
@@ -34,10 +34,10 @@ numbers_in (part ∷ parts) = and_then (number_of part) (numbers_in parts)
 abbrev pub is_dot : ℕ → Bool
 is_dot b = b == 46
 
--- the numbers of the mark that a text says, if it says one
+-- the numbers of the mark that a text gives, if it gives one
 unfoldable pub given_mark : List ℕ → Option (List ℕ)
 given_mark text = if bytes_eq text (codes "start") then Some [] else numbers_in (slice_split is_dot text)
 
--- the text of the mark says the mark
+-- the text of the mark gives the mark
 abbrev pub ReadsBack : (mark : List ℕ) → Type 0
 ReadsBack mark = given_mark (mark_text mark) ≡ Some mark

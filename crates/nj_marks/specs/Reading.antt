@@ -3,13 +3,13 @@ use Rattle.std.specs.Prelude.{◌≡◌, ℕ, Option, None, List, codes}
 use Rattle.nj_marks.specs.declared.fault.MarkFault.{MarkFault}
 use Rattle.nj_marks.specs.declared.fault.MarkFault.TheVariants.{BadMark, MarkOutOfRange, OutOfMemory}
 
--- the text says nothing; or memory ran out, whatever the text says
+-- the text gives nothing; or memory ran out, whatever the text gives
 abbrev pub IsReadFault : {A : Type 0} → (meant : Option A) → MarkFault → Type 0
 IsReadFault meant BadMark = meant ≡ None
 IsReadFault meant MarkOutOfRange = ⊥
 IsReadFault meant OutOfMemory = Unit {0}
 
--- what is said of it
+-- how it is shown
 abbrev pub fault_text : MarkFault → List ℕ
 fault_text BadMark = codes "bad mark"
 fault_text MarkOutOfRange = codes "mark out of range"

@@ -12,7 +12,7 @@ use Rattle.nj_needs.specs.Order.{order}
 abbrev pub validations_of : List EdgePaths → (numbers : List ℕ) → List (List ℕ)
 validations_of edges numbers = flat_map (λ e. (edge_at edges e).validations) numbers
 
--- the targets after so many rounds. A round looks at the whole list so far: the targets are followed by the validations of all edges
+-- the targets after this many rounds. A round looks at the whole list so far: the targets are followed by the validations of all edges
 -- that the list reaches, in the order in which these are first completed. So each edge adds its validations once.
 abbrev pub targets_after : List EdgePaths → (targets : List (List ℕ)) → (rounds : ℕ) → List (List ℕ)
 targets_after edges targets zero = targets

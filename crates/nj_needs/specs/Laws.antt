@@ -20,7 +20,7 @@ EdgesComeAfterMakers = (makers : ℕ → List (Option ℕ)) (count e : ℕ) → 
 abbrev pub ComesBefore : List ℕ → ℕ → ℕ → Type 0
 ComesBefore es f e = (i : ℕ) × (j : ℕ) × (i < j) × (slice_get es i ≡ Some f) × (slice_get es j ≡ Some e)
 
--- the commands are exactly those of the edges without which the targets cannot be made; a phony edge has none
+-- the commands are exactly the commands of the edges without which the targets cannot be made; a phony edge has none
 abbrev pub CommandsAreTheReached : Type 0
 CommandsAreTheReached = (makers : ℕ → List (Option ℕ)) (count : ℕ) (phony : ℕ → Bool) (targets : List (Option ℕ))
     → IsAcyclic makers count → AreWithin targets count

@@ -2,7 +2,7 @@
 use Rattle.std.specs.Prelude.{ℕ, zero, suc, Bool, not, Option, Some, None, List, [], ◌∷◌, ◌++◌, nat_eq, filter}
 use Rattle.std.specs.List.{flat_map}
 
--- what stands for an input: nothing for a source
+-- what an input leads to: nothing for a source
 abbrev pub made_by : (ℕ → List ℕ) → Option ℕ → List ℕ
 made_by edges None = []
 made_by edges (Some e) = edges e
@@ -26,6 +26,6 @@ first_occurrences (e ∷ es) = e ∷ filter (λ x. not (nat_eq x e)) (first_occu
 abbrev pub order : (makers : ℕ → List (Option ℕ)) → (count : ℕ) → (targets : List (Option ℕ)) → List ℕ
 order makers count targets = first_occurrences (unfolded_row makers count targets)
 
--- those of them that have a command
+-- the ones among them that have a command
 abbrev pub needed_commands : (makers : ℕ → List (Option ℕ)) → (count : ℕ) → (phony : ℕ → Bool) → (targets : List (Option ℕ)) → List ℕ
 needed_commands makers count phony targets = filter (λ e. not (phony e)) (order makers count targets)

@@ -29,7 +29,7 @@ pub data ArePages (makers : ℕ → List (Option ℕ)) (count : ℕ) (phony : �
   -- a run that ends: all that was left is its page, and nothing is left
   ends : {mark page : List ℕ} {take : ℕ} → rest makers count phony targets mark ≡ page → length page ≤ take
       → ArePages makers count phony targets mark (take ∷ []) (page ∷ []) []
-  -- a run that stops before the next edge; the others go on at the mark after its page
+  -- a run that stops before the next edge; the others continue at the mark after its page
   stops : {mark page takes left : List ℕ} {take : ℕ} {pages : List (List ℕ)} (e : ℕ) (others next : List ℕ)
       → rest makers count phony targets mark ≡ page ++ e ∷ others → length page ≡ take
       → IsMarkAfter makers count targets mark page next → ArePages makers count phony targets next takes pages left

@@ -32,10 +32,10 @@ pub record WalkState : Type 0 where
   pub mark : List ℕ
   -- the edges that are left
   pub left : List ℕ
-  -- the turns that were taken, those of the resuming included
+  -- the turns that were taken, including those of the resuming
   pub turns : ℕ
 
--- the edges left are always those of the mark, and the turns stay within their bound
+-- the edges left are always those after the mark, and the turns stay within their bound
 pub record IsSound (w : WalkState) : Type 0 where
   pub left : w.left ≡ rest_of w.graph w.targets w.mark
   pub turns : w.turns ≤ bound_of w.graph w.targets + w.begun
@@ -68,7 +68,7 @@ pub record HasNone (old new : WalkState) : Type 0 where
   pub mark : new.mark ≡ old.mark
   pub turns : new.turns ≡ bound_of new.graph new.targets + new.begun
 
--- what `next` answers
+-- what `next` returns
 abbrev pub NextIs : (old : WalkState) → Option ℕ → (new : WalkState) → Type 0
 NextIs old None new = HasNone old new
 NextIs old (Some e) new = HasReturned old new e

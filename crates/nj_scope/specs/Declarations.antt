@@ -12,7 +12,7 @@ pub record DeclarationsText : Type 0 where
   pub rules : List RuleText
   pub pools : List (List ℕ)
 
--- What is held is what these statements declare, of which the last read stands first: each scope binds what they bind there,
+-- It has what these statements declare, the last read first: each scope binds what they bind there,
 -- and declares the rules that they declare there; there are as many scopes, and the same rules and pools.
 pub record DeclaredBy (held : DeclarationsText) (entries : List list.ReadStatement) : Type 0 where
   pub bound : (number : ℕ) (name : List ℕ) → bound_at held.scopes number name ≡ list.bounds entries number name
@@ -21,7 +21,7 @@ pub record DeclaredBy (held : DeclarationsText) (entries : List list.ReadStateme
   pub rules : held.rules ≡ list.rules_read entries
   pub pools : held.pools ≡ list.pools entries
 
--- One statement more is held: it stands in the scope of this number, within those around it, wherever in the files.
+-- One statement more: it is in the scope of this number, within those around it, wherever in the files.
 abbrev pub TakesIn : (old new : DeclarationsText) → (number : ℕ) → (around : List ℕ) → StatementText → Type 0
 TakesIn old new number around item =
     (entries : List list.ReadStatement) (file : List ℕ) (spot : Spot) (depth : ℕ) → DeclaredBy old entries

@@ -1,4 +1,4 @@
--- What is said of a fault.
+-- How a fault is shown.
 use Rattle.std.specs.Prelude.{ℕ, List, codes}
 use Rattle.nj_scope.specs.declared.source.SourceFault.{SourceFault}
 use Rattle.nj_scope.specs.declared.source.SourceFault.TheVariants.{Io, OutOfMemory}

@@ -3,11 +3,11 @@ use Rattle.std.specs.Prelude.{ℕ, List, codes, ◌++◌}
 use Rattle.std.specs.List.{flat_map}
 use Rattle.nj_text.specs.Words.{PartText, Text, Name}
 
--- a part as it could stand in a file: a name in braces
+-- a part as it could be written in a file: a name in braces
 abbrev pub part_written : PartText → List ℕ
 part_written (Text bytes) = bytes
 part_written (Name name) = codes "${" ++ name ++ codes "}"
 
--- an escape is written as the byte that it stands for
+-- an escape is written as the byte that it means
 abbrev pub parts_written : List PartText → List ℕ
 parts_written parts = flat_map part_written parts

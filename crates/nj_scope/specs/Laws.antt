@@ -1,4 +1,4 @@
--- Laws of what names stand for, in the words of Ninja's manual.
+-- Laws of the values of names, in the words of Ninja's manual.
 use Rattle.std.specs.Prelude.{◌≡◌, ◌⊎◌, ℕ, Bool, false, ◌&&◌, ◌==◌, Some, List, [], ◌∷◌, ◌++◌, slice_get, bytes_eq}
 use Rattle.std.specs.List.{Contains}
 use Rattle.nj_text.specs.Words.{WordText}
@@ -17,7 +17,7 @@ abbrev pub NoneBinds : List ReadStatement → (number : ℕ) → (name : List �
 NoneBinds [] number name = Unit {0}
 NoneBinds (e ∷ others) number name = ((number == e.number && binds_name e.item name) ≡ false) × NoneBinds others number name
 
--- The value of a name in a scope that binds it itself is that of its last binding there, expanded by what was bound before.
+-- The value of a name in a scope that binds it itself is the value of its last binding there, expanded by what was bound before.
 abbrev pub LastBindingCounts : Type 0
 LastBindingCounts = (after before : List ReadStatement) (e : ReadStatement) (name : List ℕ) (word : WordText)
     → e.item ≡ BindingText name word → NoneBinds after e.number name

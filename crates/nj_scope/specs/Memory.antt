@@ -1,4 +1,4 @@
--- What a source of files in memory holds.
+-- What a source of files in memory has.
 use Rattle.std.specs.Prelude.{ℕ, List, reverse, Option, Some, option_map, find, bytes_eq}
 use Rattle.nj_scope.specs.Readings.{Reading}
 use Rattle.nj_scope.specs.Sources.{SourceState}
@@ -20,6 +20,6 @@ pub record Memory : Type 0 where
 abbrev pub bytes_added : List Added → List ℕ → Option (List ℕ)
 bytes_added added name = option_map (λ a. a.bytes) (find (λ a. bytes_eq name a.name) (reverse added))
 
--- it reports all readings, and says what it would answer
+-- it reports all readings, and what it would return
 abbrev pub memory_state : Memory → SourceState
 memory_state m = record { readings = Some m.readings; failures = m.failures; files = λ path. Some (bytes_added m.added path) }

@@ -1,4 +1,4 @@
--- What opening a file answers, and what it does to the table of files and to the source.
+-- What opening a file returns, and what it does to the table of files and to the source.
 use Rattle.std.specs.Prelude.{◌≡◌, ◌⊎◌, ℕ, true, false, Option, option_map, List, [], ◌∷◌, ◌++◌, Result, Ok, Err, ⊤}
 use Rattle.std.specs.Global.{Global}
 use Rattle.std.specs.Rc.{rc_slice_items}
@@ -8,7 +8,7 @@ use Rattle.nj_scope.specs.Sources.{SourceState, HasRead, Rises}
 use Rattle.nj_scope.specs.declared.source.SourceFault.{SourceFault}
 use Rattle.nj_scope.specs.declared.source.SourceFault.TheVariants.{Io, OutOfMemory}
 
--- The path was read before: the table answers, and the source is not asked.
+-- The path was read before: the table returns it, and the source is not asked.
 pub record IsKnown (before after : SourceState) (old new : List Reading) (path : List ℕ) (found : Option (List ℕ)) : Type 0 where
   pub was_read : is_read old path ≡ true
   pub found_is : found ≡ bytes_in old path
@@ -47,7 +47,7 @@ pub record LacksCapacity (before after : SourceState) (old new : List Reading) (
 abbrev pub shared_bytes : Option (RcSlice ℕ Global) → Option (List ℕ)
 shared_bytes found = option_map rc_slice_items found
 
--- What opening the file at a path does, by what it answers: the source before and after it, the table before and after it.
+-- What opening the file at a path does, by what it returns: the source before and after it, the table before and after it.
 abbrev pub OpensFile : (before after : SourceState) → (old new : List Reading) → (path : List ℕ)
     → Result (Option (RcSlice ℕ Global)) SourceFault → Type 0
 OpensFile before after old new path (Ok found) =

@@ -1,4 +1,4 @@
--- The statements of a run in reading order, and what names, rules and pools stand for before one of them.
+-- The statements of a run in reading order, and the values of names, the rules and the pools before one of them.
 use Rattle.std.specs.Prelude.{ℕ, ◌+◌, Bool, false, ◌&&◌, ◌==◌, Option, Some, None, List, [], ◌∷◌, ◌++◌, map, length, bytes_eq, is_some, ◌||◌, if◌then◌else◌}
 use Rattle.std.specs.Option.{option_or}
 use Rattle.nj_text.specs.declared.spot.Spot.{Spot}
@@ -12,7 +12,7 @@ pub record Discovered : Type 0 where
   pub outputs : List (List ℕ)
   pub inputs : List (List ℕ)
 
--- A statement that was read: where it stands, and what it says.
+-- A statement that was read: where it is, and what it gives.
 pub record ReadStatement : Type 0 where
   -- the file, by the name under which it was opened
   pub file : List ℕ
@@ -20,7 +20,7 @@ pub record ReadStatement : Type 0 where
   pub spot : Spot
   -- how many files are open around that file; around the main file there is none
   pub depth : ℕ
-  -- the number of its scope, and those of the scopes around it, the nearest first
+  -- the number of its scope, and the numbers of the scopes around it, the nearest first
   pub number : ℕ
   pub around : List ℕ
   pub item : StatementText
@@ -42,7 +42,7 @@ binds value item name = None
 abbrev pub binds_in : (number : ℕ) → ReadStatement → (value : List ℕ → List ℕ) → (name : List ℕ) → Option (List ℕ)
 binds_in number e value name = if number == e.number then binds value e.item name else None
 
--- What each scope binds after some statements, of which the last read stands first. A value is expanded where it is read: by
+-- What each scope binds after some statements, the last read first. A value is expanded where it is read: by
 -- what the statements before it bind.
 unfoldable pub bounds : List ReadStatement → Bounds
 bounds [] number name = None
@@ -52,7 +52,7 @@ bounds (e ∷ before) number name = option_or (binds_in number e (value_in (boun
 abbrev pub value_after : List ReadStatement → (scope name : List ℕ) → List ℕ
 value_after entries scope name = value_in (bounds entries) scope name
 
--- the same, where `None` says that neither the scope nor one around it binds the name
+-- the same, where `None` means that neither the scope nor one around it binds the name
 abbrev pub value_if_bound : List ReadStatement → (scope name : List ℕ) → Option (List ℕ)
 value_if_bound entries scope name = nearest (λ s. bounds entries s name) scope
 

@@ -5,8 +5,8 @@ use Rattle.std.specs.List.{flat_map}
 use Rattle.std.specs.Map.{lookup}
 use Rattle.nj_text.specs.Words.{PartText, Text, Name}
 
--- A scope is given by its number and those of the scopes around it, the nearest first. What a name stands for in it: what
--- it stands for in the scope itself, else in the scopes around it.
+-- A scope is given by its number and the numbers of the scopes around it, the nearest first. The value of a name in it: the
+-- value in the scope itself, else in the scopes around it.
 abbrev pub nearest : {X : Type 0} → (own : ℕ → Option X) → (scope : List ℕ) → Option X
 nearest own [] = None
 nearest own (s ∷ around) = option_or (own s) (nearest own around)
@@ -19,7 +19,7 @@ Bounds = ℕ → List ℕ → Option (List ℕ)
 abbrev pub value_in : Bounds → (scope : List ℕ) → (name : List ℕ) → List ℕ
 value_in bound scope name = unwrap_or (nearest (λ s. bound s name) scope) []
 
--- what parts say, where names have these values
+-- the value of parts, where names have these values
 abbrev pub part_expanded : (value : List ℕ → List ℕ) → PartText → List ℕ
 part_expanded value (Text bytes) = bytes
 part_expanded value (Name name) = value name

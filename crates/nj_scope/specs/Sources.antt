@@ -12,15 +12,15 @@ pub record SourceState : Type 0 where
   pub readings : Option (List Reading)
   -- how often a reading has failed
   pub failures : ℕ
-  -- what it would answer for each path, where it says so: the bytes, or `None` if no file is there
+  -- what it would return for each path that it declares: the bytes, or `None` if there is no file
   pub files : List ℕ → Option (Option (List ℕ))
 
--- a reading found what the source said it would find, where it said so
+-- a reading found what the source declares for the path, where it declares anything
 abbrev pub IsAsGiven : SourceState → Reading → Type 0
 IsAsGiven source r = IfSome (source.files r.path) (λ meant. r.bytes ≡ meant)
 
--- These were read from the source: it reports exactly them after the earlier ones, it found what it said that it would, and it says the
--- same of its files as before.
+-- These were read from the source: it reports exactly them after the earlier ones, it found what it declared, and it declares the same
+-- of its files as before.
 pub record HasRead (before after : SourceState) (readings : List Reading) : Type 0 where
   pub reported : after.readings ≡ option_map (λ rs. rs ++ readings) before.readings
   pub as_given : AllByRecursion (IsAsGiven before) readings
@@ -31,11 +31,11 @@ pub record Rises (before after : ℕ) : Type 0 where
   pub above : before < 2 ^ 64 - 1 → before < after
   pub never_falls : before ≤ after
 
--- the bytes of an answer
+-- the bytes of a result
 abbrev pub outcome_bytes : Option (Vec ℕ) → Option (List ℕ)
 outcome_bytes outcome = option_map (λ v. v.items) outcome
 
--- What a call of `read` does: an answer is one more reading, and a refusal is none. Each `Io` is counted, and nothing else is.
+-- What a call of `read` does: a result is one more reading, and a refusal is none. Each `Io` is counted, and nothing else is.
 abbrev pub ReadsPath : (before after : SourceState) → (path : List ℕ) → Result (Option (Vec ℕ)) SourceFault → Type 0
 ReadsPath before after path (Ok outcome) =
     HasRead before after (record { path = path; bytes = outcome_bytes outcome } ∷ []) × (after.failures ≡ before.failures)

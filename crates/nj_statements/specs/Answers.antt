@@ -1,4 +1,4 @@
--- What the reading of a statement answers, and how what is read is held.
+-- What the reading of a statement returns, and how what is read is represented.
 use Rattle.std.specs.Prelude.{◌≡◌, ℕ, Option, Some, None, Result, Ok, Err}
 use Rattle.std.specs.Prelude.{List, [], ◌∷◌, ◌<◌, map, length, slice_get, slice_index_or}
 use Rattle.nj_text.specs.declared.spot.Spot.{Spot}
@@ -19,7 +19,7 @@ use Rattle.nj_statements.specs.EdgeList.{EdgeText, Pending, AssignedText, edges_
 
 -- ---- faults
 
--- there is no fault, or it is answered
+-- there is no fault, or it is returned
 abbrev pub Checks : {A : Type 0} → Option GraphFault → Result A GraphFault → Type 0
 Checks expected (Ok done) = expected ≡ None
 Checks expected (Err fault) = IsFault expected fault
@@ -29,7 +29,7 @@ Checks expected (Err fault) = IsFault expected fault
 -- ---- the files of an edge
 
 -- The edges that were read stay as they are. Files may be new, which keep the numbers of the others, and of the edge that is being
--- read nothing is said.
+-- read nothing is known.
 pub record KeepsRead (before after : EdgeTable) : Type 0 where
   pub edges : after.edges ≡ before.edges
   pub files : IsPrefix before.files after.files
@@ -57,7 +57,7 @@ pub record DetailText : Type 0 where
 pub record BuildingText : Type 0 where
   pub table : EdgeTable
   pub blocks : BlocksText
-  -- the names of files in which edges stand and of pools, and the paths of dyndep files
+  -- the names of files with edges and of pools, and the paths of dyndep files
   pub names : List (List ℕ)
   pub details : List DetailText
   pub defaults : List FileNo
@@ -77,7 +77,7 @@ AreDetails names [] [] = Unit {0}
 AreDetails names (d ∷ details) (e ∷ edges) = IsDetail names d e × AreDetails names details edges
 AreDetails names details edges = ⊥
 
--- texts by numbers that count from 1; 0 is none
+-- strings by numbers that count from 1; 0 is none
 abbrev pub numbered : (strings : List (List ℕ)) → List (Option (List ℕ))
 numbered strings = None ∷ map Some strings
 
@@ -95,7 +95,7 @@ pub record ArePending (files : List (List ℕ)) (held : List DyndepEdge) (expect
   pub edges_are : map (λ d. d.edge) held ≡ map (λ p. p.edge) expected
   pub files_are : AreFiles files (map (λ d. d.file) held) (map (λ p. p.file) expected)
 
--- It holds the edges and defaults of these statements, of which the last read stands first.
+-- It has the edges and defaults of these statements, the last read first.
 pub record HasEdges (held : BuildingText) (entries : List ReadStatement) : Type 0 where
   pub edges : held.table.edges ≡ paths_of_edges (edges_read entries)
   pub none_open : held.table.«open» ≡ no_files

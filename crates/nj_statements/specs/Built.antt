@@ -13,7 +13,7 @@ use Rattle.nj_faults.specs.Faults.{fault_at, no_memory}
 use Rattle.nj_statements.specs.EdgeList.{EdgeText, Pending, AssignedText, edges_read, paths_of_edges, defaults_read, pending_read, block_at, block_names_at, assigned_read}
 
 -- An edge without its paths and its block: the file of its build statement, by the name under which it was opened, the place
--- of its first byte there, the number of its scope, and that of its rule.
+-- of its first byte there, the number of its scope, and the number of its rule.
 pub record EdgeDetail : Type 0 where
   pub file : List ℕ
   pub spot : Spot
@@ -48,7 +48,7 @@ defaults_in_force (path ∷ paths) edges = path ∷ paths
 abbrev pub detail_of : EdgeText → EdgeDetail
 detail_of e = record { file = e.file; spot = e.spot; scope = e.number; rule = e.rule }
 
--- It has the edges and the defaults of these statements, of which the last read stands first.
+-- It has the edges and the defaults of these statements, the last read first.
 pub record IsBuiltOf (built : BuiltText) (entries : List ReadStatement) : Type 0 where
   pub paths : built.graph.edges ≡ paths_of_edges (edges_read entries)
   pub details : built.details ≡ map detail_of (edges_read entries)

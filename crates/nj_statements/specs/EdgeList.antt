@@ -16,7 +16,7 @@ use Rattle.nj_edge_env.specs.LateStrings.{LateNames, asked_text}
 
 -- ---- names and paths
 
--- what names stand for; an unknown name is empty
+-- the values of names; an unknown name is empty
 abbrev pub Values : Type 0
 Values = (name : List ℕ) → List ℕ
 
@@ -45,7 +45,7 @@ names_bound lines = each_once (map (λ l. l.name) lines)
 abbrev pub on_line : Values → Block → Values
 on_line values block name = unwrap_or (block name) (values name)
 
--- the path that a word says
+-- the path that a word gives
 abbrev pub path_given : Values → WordText → List ℕ
 path_given values word = clean_path_of (expanded values word.parts)
 
@@ -58,7 +58,7 @@ pub record EdgeText : Type 0 where
   -- the file of the build statement, by the name under which it was opened, and the place of its first byte there
   pub file : List ℕ
   pub spot : Spot
-  -- the number of its scope, and those of the scopes around it, the nearest first
+  -- the number of its scope, and the numbers of the scopes around it, the nearest first
   pub number : ℕ
   pub around : List ℕ
   -- the number of its rule: that which is in force before the statement; `phony` is 0
@@ -100,7 +100,7 @@ rule_number e before rule = unwrap_or (rule_in_force before (scope_of e) rule.na
 abbrev pub build_block : ReadStatement → (before : List ReadStatement) → List LineText → Block
 build_block e before lines = block_of (value_after before (scope_of e)) lines
 
--- what the names on its line stand for
+-- the values of the names on its line
 abbrev pub line_values : ReadStatement → (before : List ReadStatement) → List LineText → Values
 line_values e before lines = on_line (value_after before (scope_of e)) (build_block e before lines)
 
@@ -112,7 +112,7 @@ with_discovered (Some found) e = record e {
   implicit_inputs = e.implicit_inputs ++ found.inputs;
 }
 
--- The edge of a build statement, by the statements before it, of which the last read stands first. It loses its own outputs as
+-- The edge of a build statement, by the statements before it, the last read first. It loses its own outputs as
 -- inputs before discovered files are added.
 abbrev pub edge_of_build : ReadStatement → (before : List ReadStatement) → OutputsText → NameText → InputsText → List LineText → EdgeText
 edge_of_build e before outputs rule inputs lines = record {
@@ -131,7 +131,7 @@ abbrev pub with_edge : ReadStatement → (before : List ReadStatement) → State
 with_edge e before (BuildText outputs rule inputs lines) edges = edges ++ edge_of_build e before outputs rule inputs lines ∷ []
 with_edge e before item edges = edges
 
--- the edges of these statements, of which the last read stands first
+-- the edges of these statements, the last read first
 unfoldable pub edges_read : List ReadStatement → List EdgeText
 edges_read [] = []
 edges_read (e ∷ before) = with_edge e before e.item (edges_read before)
@@ -168,7 +168,7 @@ abbrev pub lines_of_rule : Option RuleText → List RuleLineText
 lines_of_rule (Some r) = r.lines
 lines_of_rule None = []
 
--- What the names of an edge depend on, where its rule is used after these statements: its block and its rule are those of its own
+-- What the names of an edge depend on, where its rule is used after these statements: its block and its rule come from its own
 -- statement, its paths those that it keeps, and a name of the file has the value that it has by then.
 abbrev pub names_of_edge : List ReadStatement → EdgeText → LateNames
 names_of_edge entries e = record {
@@ -191,7 +191,7 @@ pub record Pending : Type 0 where
 abbrev pub file_given : (text : List ℕ) → Option (List ℕ)
 file_given text = if is_empty text then None else Some (clean_path_of text)
 
--- the dyndep file of an edge: what the variable says at its build statement
+-- the dyndep file of an edge: the value of the variable at its build statement
 abbrev pub dyndep_of : (before : List ReadStatement) → EdgeText → Option (List ℕ)
 dyndep_of before edge = file_given (asked_text (names_of_edge before edge) (codes "dyndep"))
 
@@ -206,7 +206,7 @@ with_pending e before (BuildText outputs rule inputs lines) others =
     others ++ pending_at (length (edges_read before)) e.discovered (dyndep_of before (edge_of_build e before outputs rule inputs lines))
 with_pending e before item others = others
 
--- the edges that wait for what their dyndep files say, by number
+-- the edges that are pending on their dyndep files, by number
 unfoldable pub pending_read : List ReadStatement → List Pending
 pending_read [] = []
 pending_read (e ∷ before) = with_pending e before e.item (pending_read before)
@@ -217,7 +217,7 @@ pending_read (e ∷ before) = with_pending e before e.item (pending_read before)
 abbrev pub name_given : (text : List ℕ) → Option (List ℕ)
 name_given text = if is_empty text then None else Some text
 
--- the pool of an edge, by its name: what the variable says at its build statement
+-- the pool of an edge, by its name: the value of the variable at its build statement
 abbrev pub pool_of : (before : List ReadStatement) → EdgeText → Option (List ℕ)
 pool_of before edge = name_given (asked_text (names_of_edge before edge) (codes "pool"))
 

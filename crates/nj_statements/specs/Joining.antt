@@ -48,7 +48,7 @@ with_entry stated joined entry = discover_for (edge_meant stated entry) (discove
 
 -- ---- what is wrong with an entry
 
--- an edge waits for what this dyndep file says
+-- an edge is pending on this dyndep file
 abbrev pub pending_on : (file : List ℕ) → List Pending → Option ℕ → Bool
 pending_on file edges (Some edge) = list_any (λ p. p.edge == edge && bytes_eq p.file file) edges
 pending_on file edges None = false
@@ -75,7 +75,7 @@ entry_fault file stated joined entry =
 abbrev pub no_statement : (file : List ℕ) → EdgeText → GraphFault
 no_statement file e = fault_at e.file e.spot (DyndepNoStatement (unwrap_or (first_output e.paths) []) file)
 
--- After its last entry no edge may wait for it; the fault is that of the edge of the smallest number.
+-- After its last entry no edge may be pending on it; the fault is the fault of the lowest-numbered edge.
 abbrev pub lacking_fault : (file : List ℕ) → (joined : List ReadStatement) → Option GraphFault
 lacking_fault file joined =
     option_and_then (λ p. option_map (no_statement file) (slice_get (edges_read joined) p.edge))

@@ -1,4 +1,4 @@
--- What is held while dyndep files are joined: the edges with what was added to them, and which still wait.
+-- What is kept while dyndep files are joined: the edges with what was added to them, and which are still pending.
 use Rattle.std.specs.Prelude.{◌≡◌, ℕ, ◌+◌, Bool, true, false, Option, Some, None}
 use Rattle.std.specs.Prelude.{Result, Ok, Err, List, [], ◌∷◌, ◌++◌, map, bytes_eq}
 use Rattle.std.specs.List.{IsDistinct}
@@ -12,18 +12,18 @@ use Rattle.nj_statements.specs.Built.{EdgeDetail, detail_of}
 use Rattle.nj_statements.specs.Joining.{dyndep_files}
 use Rattle.nj_faults.specs.Faults.{IsFault}
 
--- ---- the edges that wait
+-- ---- the pending edges
 
 abbrev pub has_pending : List Pending → Bool
 has_pending [] = false
 has_pending (p ∷ others) = true
 
--- what an edge waits for, if it is bound to this, or to nothing
+-- what an edge is pending on, if it is bound to this, or to nothing
 abbrev pub unless_joined : {A : Type 0} → Option A → (was_joined : Bool) → Option A
 unless_joined bound true = None
 unless_joined bound false = bound
 
--- what each edge waits for, by what it is bound to; nothing was joined to those past the end of the second list
+-- what each edge is pending on, by what it is bound to; nothing was joined to edges past the end of the second list
 abbrev pub still_pending : {A : Type 0} → (bound : List (Option A)) → (was_joined : List Bool) → List (Option A)
 still_pending [] was_joined = []
 still_pending (b ∷ bound) [] = b ∷ bound
@@ -33,7 +33,7 @@ abbrev pub pending_of : (edge : ℕ) → Option (List ℕ) → List Pending
 pending_of edge (Some file) = record { edge = edge; file = file } ∷ []
 pending_of edge None = []
 
--- the edges that wait, of which the first one has this number
+-- the pending edges, of which the first one has this number
 abbrev pub pending_from : (number : ℕ) → (unjoined : List (Option (List ℕ))) → List Pending
 pending_from number [] = []
 pending_from number (w ∷ unjoined) = pending_of number w ++ pending_from (number + 1) unjoined
@@ -68,7 +68,7 @@ pub record JoiningText : Type 0 where
   -- what is assigned to each edge
   pub assigned : List AssignedText
 
--- It holds the edges and defaults of the joined statements, the edges of the statements as they were read, and which edges wait.
+-- It has the edges and defaults of the joined statements, the edges of the statements as they were read, and which edges are pending.
 pub record HasJoined (held : JoiningText) (stated joined : List ReadStatement) : Type 0 where
   pub stated_paths : held.table.stated ≡ paths_of_edges (edges_read stated)
   pub joined_paths : held.table.joined ≡ paths_of_edges (edges_read joined)
@@ -83,7 +83,7 @@ pub record HasJoined (held : JoiningText) (stated joined : List ReadStatement) :
   pub unjoined : pending_read joined ≡ left_pending_from 0 held.bound held.table.was_joined
   pub assigned : held.assigned ≡ assigned_read joined
 
--- Nothing is joined to an edge: the edges are as they were, and so is what they wait for. Files may be new, which keep the
+-- Nothing is joined to an edge: the edges are as they were, and so is what they are pending on. Files may be new, which keep the
 -- numbers of the others, and what an entry adds may be collected in part.
 pub record JoinsNothing (before after : JoiningText) : Type 0 where
   pub edges : KeepsEdges before.table after.table

@@ -11,21 +11,21 @@ use Rattle.nj_statements.specs.EdgeList.{names_of_edge, pending_read}
 use Rattle.nj_statements.specs.BuildFaults.{build_fault}
 use Rattle.nj_statements.specs.Joining.{discover, discovered_by, edge_meant, with_entry, pending_on, entry_fault, dyndep_files}
 
--- an edge waits for a dyndep file
+-- an edge is pending on a dyndep file
 abbrev pub is_pending : List ReadStatement → (edge : ℕ) → Bool
 is_pending entries edge = list_any (λ p. p.edge == edge) (pending_read entries)
 
--- The same edge with discovered files: its outputs stand after the implicit ones, and its inputs after the implicit ones and
+-- The same edge with discovered files: its outputs come after the implicit ones, and its inputs after the implicit ones and
 -- before the order-only ones.
 abbrev pub with_found : Discovered → EdgeText → EdgeText
 with_found found e = record e { paths = with_discovered (Some found) e.paths }
 
--- What is discovered for an edge that waits is added to that edge, and every other edge stays as it is.
+-- What is discovered for a pending edge is added to that edge, and every other edge stays as it is.
 abbrev pub AddsToOneEdge : Type 0
 AddsToOneEdge = (entries : List ReadStatement) (edge : ℕ) (found : Discovered) → is_pending entries edge ≡ true
     → edges_read (discover edge found entries) ≡ changed_at (with_found found) edge (edges_read entries)
 
--- From then on that edge does not wait, and the others wait as before.
+-- From then on that edge is not pending, and the others are pending as before.
 abbrev pub OthersArePendingAsBefore : Type 0
 OthersArePendingAsBefore = (entries : List ReadStatement) (edge : ℕ) (found : Discovered)
     → pending_read (discover edge found entries) ≡ filter (λ p. not (p.edge == edge)) (pending_read entries)
@@ -37,7 +37,7 @@ pub record AddsToItsEdge (file : List ℕ) (stated joined : List ReadStatement) 
   pub edges : edges_read (with_entry stated joined entry) ≡ changed_at (with_found (discovered_by entry)) edge (edges_read joined)
   pub pending : pending_read (with_entry stated joined entry) ≡ filter (λ p. not (p.edge == edge)) (pending_read joined)
 
--- An entry that has no fault means one edge that waits, and adds to that one.
+-- An entry that has no fault means one pending edge, and adds to that one.
 abbrev pub EntriesAddToTheirEdges : Type 0
 EntriesAddToTheirEdges = (file : List ℕ) (stated joined : List ReadStatement) (entry : EntryText)
     → entry_fault file stated joined entry ≡ None → (edge : ℕ) × AddsToItsEdge file stated joined entry edge
@@ -62,7 +62,7 @@ IsFaultless e before (BuildText outputs rule inputs lines) =
     (build_fault e before outputs rule inputs lines ≡ None) × (e.discovered ≡ None)
 IsFaultless e before item = Unit {0}
 
--- so is each of these statements, of which the last read stands first
+-- so is each of these statements, the last read first
 abbrev pub AreFaultless : List ReadStatement → Type 0
 AreFaultless [] = Unit {0}
 AreFaultless (e ∷ before) = IsFaultless e before e.item × AreFaultless before
@@ -82,7 +82,7 @@ abbrev pub NoFileGetsTwoMakers : Type 0
 NoFileGetsTwoMakers = (stated joined : List ReadStatement) → AreFaultless stated → IsWithEntries stated joined
     → IsDistinct bytes_eq (all_outputs (paths_of_edges (edges_read joined)))
 
--- What names and rules stand for stays as it is, for statements and for edges, and so do the rules, the pools and the defaults.
+-- The values of names and the rules stay as they are, for statements and for edges, and so do the pools and the defaults.
 pub record GivesTheSame (entries others : List ReadStatement) : Type 0 where
   pub values : value_after others ≡ value_after entries
   pub rules : rules_read others ≡ rules_read entries
@@ -99,7 +99,7 @@ abbrev pub AreRising : List Pending → Type 0
 AreRising [] = Unit {0}
 AreRising (p ∷ others) = AllByRecursion (λ q. p.edge < q.edge) others × AreRising others
 
--- The edges that wait are edges of the statements, in ascending order of number, each once.
+-- The pending edges are edges of the statements, in ascending order of number, each once.
 pub record AreByNumber (entries : List ReadStatement) : Type 0 where
   pub within : AllByRecursion (λ p. p.edge < length (edges_read entries)) (pending_read entries)
   pub rising : AreRising (pending_read entries)
@@ -107,7 +107,7 @@ pub record AreByNumber (entries : List ReadStatement) : Type 0 where
 abbrev pub PendingEdgesRise : Type 0
 PendingEdgesRise = (entries : List ReadStatement) → AreByNumber entries
 
--- The dyndep files of the edges that wait: each once, with the edge of the smallest number that waits for it, and in the order of these
+-- The dyndep files on which edges are pending: each once, with the lowest-numbered edge that is pending on it, and in the order of these
 -- edges.
 pub record ComeOnce (edges : List Pending) : Type 0 where
   pub distinct : IsDistinct bytes_eq (map (λ p. p.file) (dyndep_files edges))

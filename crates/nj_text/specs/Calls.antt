@@ -1,4 +1,4 @@
--- What each call of the lexer answers, and where it leaves the lexer.
+-- What each call of the lexer returns, and where it leaves the lexer.
 use Rattle.std.specs.Prelude.{◌≡◌, ℕ, Bool, true, false, ◌&&◌, not, if◌then◌else◌, Option, Some, None, Result, Ok, Err, List, [], ◌∷◌, drop}
 use Rattle.std.specs.List.{take_while, flat_map}
 use Rattle.nj_text.specs.declared.fault.UnitFault.{UnitFault}
@@ -22,7 +22,7 @@ pub data State : Type 0 where
   Inside : (line : Line) (lines : List Line) → State
   Failed : (fault : UnitFault) → State
 
--- what a call answers, and where it leaves the lexer
+-- what a call returns, and where it leaves the lexer
 pub record Reply (A : Type 0) : Type 0 where
   pub outcome : Result A UnitFault
   pub after : State
@@ -84,7 +84,7 @@ abbrev pub skip_blanks_of : State → State
 skip_blanks_of (Inside l ls) = Inside (after_blanks l) ls
 skip_blanks_of s = s
 
--- the bytes of the units, as they stand
+-- the bytes of the units, as they are in the text
 abbrev pub bytes_of : List TextUnit → List ℕ
 bytes_of us = flat_map (λ u. u.bytes) us
 
@@ -196,7 +196,7 @@ abbrev pub Fails : {Y : Type 0} → Option UnitFault → (after : State) → Rep
 Fails (Some f) after expected = (expected.outcome ≡ Err f) × (after ≡ expected.after)
 Fails None after expected = ⊥
 
--- It answers as the definition says, and leaves the lexer where the definition does.
+-- It returns what the definition gives, and leaves the lexer where the definition does.
 abbrev pub Answers : {X Y : Type 0} → (X → Y) → Result X LexFault → (after : State) → Reply Y → Type 0
 Answers view (Ok x) after expected = (expected.outcome ≡ Ok (view x)) × (after ≡ expected.after)
 Answers view (Err f) after expected = Fails (unit_of f) after expected

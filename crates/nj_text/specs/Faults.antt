@@ -1,4 +1,4 @@
--- What is said of a place in a text, of a fault of the lexer, and of one of a path.
+-- How a place in a text, a fault of the lexer, and a fault of a path are shown.
 use Rattle.std.specs.Prelude.{ℕ, Option, Some, None, List, ◌++◌, codes}
 use Rattle.std.specs.Fmt.{decimal}
 use Rattle.std.specs.Option.{option_map}

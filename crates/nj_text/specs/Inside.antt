@@ -1,4 +1,4 @@
--- How the code does what the definitions beside this folder say. No contract of a public call needs these.
+-- How the code meets the definitions beside this folder. No contract of a public call needs these.
 pub mod Chunks
 pub mod Cleaning
 pub mod Gathering

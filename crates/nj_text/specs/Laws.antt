@@ -1,5 +1,5 @@
 -- Laws above the cut: units and lines lose nothing of a text, each place counts line feeds and bytes, and the parts of
--- words and values stand in the text from left to right.
+-- words and values come in the text from left to right.
 use Rattle.std.specs.Prelude.{◌≡◌, ℕ, ◌+◌, Bool, not, Option, Some, None, List, [], ◌∷◌, ◌++◌, map}
 use Rattle.std.specs.List.{flat_map, count_by, suffix_len}
 use Rattle.nj_text.specs.declared.spot.Spot.{Spot}
@@ -41,18 +41,18 @@ marks_of l = map InLine l.units ++ AtEnd l.end l.is_last ∷ []
 abbrev pub LinesAreTheUnits : Type 0
 LinesAreTheUnits = (text : List ℕ) → flat_map marks_of (text_lines text) ≡ map mark_of (units text)
 
--- the bytes of a part as they stand in the text: a run of ordinary bytes, the byte of an escape, or a name
+-- the bytes of a part as they are in the text: a run of ordinary bytes, the byte of an escape, or a name
 abbrev pub part_bytes : PartText → List ℕ
 part_bytes (Text bytes) = bytes
 part_bytes (Name name) = name
 
--- The pieces stand in the bytes from left to right: each after the end of the one before it.
+-- The pieces come in the bytes from left to right: each after the end of the one before it.
 abbrev pub AreInOrder : (pieces : List (List ℕ)) → (bytes : List ℕ) → Type 0
 AreInOrder [] bytes = Unit {0}
 AreInOrder (piece ∷ pieces) bytes = (gap : List ℕ) × (rest : List ℕ) × (bytes ≡ gap ++ piece ++ rest) × AreInOrder pieces rest
 
--- Units that follow one another in a text, as those of a word or a value do, are a range of its bytes, and their parts
--- stand in that range from left to right. So the parts stand at rising ranges of the text, none over another.
+-- Units that follow one another in a text, as the units of a word or a value do, are a range of its bytes, and their parts
+-- come in that range from left to right. So the parts have rising ranges of the text, none over another.
 abbrev pub PartsComeInOrder : Type 0
 PartsComeInOrder =
     (text : List ℕ) (before us after : List TextUnit) → units text ≡ before ++ us ++ after

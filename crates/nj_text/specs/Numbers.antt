@@ -11,7 +11,7 @@ value_of_digits (digit ∷ digits) = (digit - 48) * 10 ^ length digits + value_o
 abbrev pub greatest : ℕ
 greatest = 18446744073709551615
 
--- the number that digits write, or the greatest if it is greater than that; `None` if there is no digit
+-- the number that digits write, or the greatest if it is greater than that; `None` if there are no digits
 abbrev pub number_of : List ℕ → Option ℕ
 number_of [] = None
 number_of (digit ∷ digits) = Some (min (value_of_digits (digit ∷ digits)) greatest)

@@ -24,7 +24,7 @@ pub record IsName (component : List ℕ) : Type 0 where
   pub leads_down : is_up component ≡ false
   pub has_no_slash : list_any is_slash component ≡ false
 
--- what stands between the slashes of a path, without empty and `.` components
+-- what comes between the slashes of a path, without empty and `.` components
 abbrev pub components_of_path : List ℕ → List (List ℕ)
 components_of_path path = filter (λ component. not (leads_nowhere component)) (slice_split is_slash path)
 
@@ -32,7 +32,7 @@ components_of_path path = filter (λ component. not (leads_nowhere component)) (
 abbrev pub is_pair : List ℕ → List ℕ → Bool
 is_pair component next = not (is_up component) && is_up next
 
--- the components without their leftmost pair: one other than `..` that stands directly before a `..`
+-- the components without their leftmost pair: one other than `..` that comes directly before a `..`
 unfoldable pub without_leftmost_pair : List (List ℕ) → List (List ℕ)
 without_leftmost_pair [] = []
 without_leftmost_pair (component ∷ []) = component ∷ []

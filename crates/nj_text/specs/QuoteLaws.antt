@@ -2,7 +2,7 @@
 use Rattle.std.specs.Prelude.{◌≡◌, ◌≢◌, ℕ, ◌==◌, if◌then◌else◌, Option, Some, None, List, [], ◌∷◌, ◌++◌}
 use Rattle.nj_text.specs.Quotes.{is_plain_byte, is_quote, quoted}
 
--- where the shell stands in a word
+-- where the shell is in a word
 pub data ShellState : Type 0 where
   Unquoted : ShellState
   InQuotes : ShellState

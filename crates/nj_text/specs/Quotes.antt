@@ -10,13 +10,13 @@ is_plain_byte b = is_letter b || is_digit b || b == 95 || b == 43 || b == 45 || 
 abbrev pub is_quote : ℕ → Bool
 is_quote b = b == 39
 
--- a byte within quotes: a `'` ends the quotes, stands after a `\`, and opens them again
+-- a byte within quotes: a `'` ends the quotes, comes after a `\`, and opens them again
 abbrev pub within_quotes : ℕ → List ℕ
 within_quotes b = if is_quote b then 39 ∷ 92 ∷ 39 ∷ 39 ∷ [] else b ∷ []
 
 abbrev pub in_quotes : List ℕ → List ℕ
 in_quotes path = 39 ∷ (flat_map within_quotes path ++ 39 ∷ [])
 
--- a path of plain bytes alone stands as it is, any other in single quotes
+-- a path of plain bytes alone stays as it is, any other is put in single quotes
 unfoldable pub quoted : List ℕ → List ℕ
 quoted path = if list_all is_plain_byte path then path else in_quotes path

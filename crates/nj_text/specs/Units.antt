@@ -4,9 +4,9 @@ use Rattle.std.specs.List.{take_while}
 use Rattle.nj_text.specs.declared.spot.Spot.{Spot}
 use Rattle.nj_text.specs.Bytes.{is_space, is_line_feed, is_name_byte, is_identifier_byte, is_escapable, drop_while, begins_with}
 
--- what a unit says
+-- the meaning of a unit
 pub data Meaning : Type 0 where
-  -- a byte that stands for itself
+  -- a byte that means itself
   Ordinary : (byte : ℕ) → Meaning
   -- `$ `, `$:` or `$$`: the second byte, as an ordinary one
   Escape : (byte : ℕ) → Meaning
@@ -40,7 +40,7 @@ abbrev pub is_ordinary_in : (ℕ → Bool) → Meaning → Bool
 is_ordinary_in p (Ordinary b) = p b
 is_ordinary_in p m = false
 
--- where in a line a byte stands: before its first byte, after spaces alone, or farther on
+-- where in a line a byte is: before its first byte, after spaces alone, or farther on
 pub data Position : Type 0 where
   AtStart : Position
   AfterSpaces : Position
@@ -48,7 +48,7 @@ pub data Position : Type 0 where
 
 -- ---- one unit
 
--- what a unit says, and how many bytes it has after its first
+-- the meaning of a unit, and how many bytes it has after its first
 abbrev pub Found : Type 0
 Found = Meaning × ℕ
 
@@ -154,7 +154,7 @@ spot_after b spot =
     if is_line_feed b then record { line = spot.line + 1; column = 1 }
     else record { line = spot.line; column = spot.column + 1 }
 
--- the units of the bytes that stand at a place, without the first `skip` bytes, which belong to the unit before
+-- the units of the bytes at a place, without the first `skip` bytes, which belong to the unit before
 unfoldable pub cut : Position → (skip : ℕ) → Spot → List ℕ → List TextUnit
 cut position skip spot [] = record { spot = spot; bytes = []; means = TextEnd } ∷ []
 cut position zero spot (b ∷ bs) =

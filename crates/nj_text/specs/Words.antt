@@ -1,4 +1,4 @@
--- Identifiers, words and values: what the units of a line say.
+-- Identifiers, words and values: the meaning of the units of a line.
 use Rattle.std.specs.Prelude.{ℕ, Bool, true, false, ◌==◌, if◌then◌else◌, Option, Some, None, List, [], ◌∷◌, map}
 use Rattle.std.specs.Option.{option_or}
 use Rattle.nj_text.specs.declared.fault.UnitFault.{UnitFault}
@@ -12,7 +12,7 @@ use Rattle.nj_text.specs.Units.{Meaning, Ordinary, Escape, Reference, Join, Open
 
 -- ---- tests on units
 
--- blanks stand between the parts of a line: spaces and joins
+-- blanks come between the parts of a line: spaces and joins
 abbrev pub is_blank_meaning : Meaning → Bool
 is_blank_meaning (Ordinary b) = is_space b
 is_blank_meaning Join = true
@@ -76,9 +76,9 @@ abbrev pub first_fault : List TextUnit → Option UnitFault
 first_fault [] = None
 first_fault (u ∷ us) = option_or (fault_of u) (first_fault us)
 
--- ---- what the units of a word or a value say
+-- ---- the meaning of the units of a word or a value
 
--- bytes that stand for themselves, or the name of a reference
+-- bytes that mean themselves, or the name of a reference
 pub data PartText : Type 0 where
   Text : (bytes : List ℕ) → PartText
   Name : (name : List ℕ) → PartText
@@ -100,7 +100,7 @@ abbrev pub begins_with_ordinary : List TextUnit → Bool
 begins_with_ordinary [] = false
 begins_with_ordinary (u ∷ us) = is_ordinary_in (λ b. true) u.means
 
--- A longest run of ordinary bytes is one part; an escape and a reference are a part each; joins say nothing.
+-- A longest run of ordinary bytes is one part; an escape and a reference are a part each; joins mean nothing.
 abbrev pub parts_of : List TextUnit → List PartText
 parts_of [] = []
 parts_of (u ∷ us) = part_before u.means (begins_with_ordinary us) (parts_of us)

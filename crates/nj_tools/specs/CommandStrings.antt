@@ -32,8 +32,8 @@ abbrev pub left_after : (limit : Option ℕ) → (left : List ℕ) → List ℕ
 left_after None left = []
 left_after (Some limit) left = drop limit left
 
--- The mark at which the writing stops: `None` if no edge is left; else that of the edge that was written last, or, if none was, the mark at
--- which the walk was before. Its text says that mark.
+-- The mark at which the writing stops: `None` if no edge is left; else the mark of the last edge written, or, if none was, the mark
+-- at which the walk was before. Its text gives that mark.
 abbrev pub StopsAt : WalkState → (limit : Option ℕ) → (mark : Option (List ℕ)) → Type 0
 StopsAt walk limit None = left_after limit walk.left ≡ []
 StopsAt walk limit (Some mark) =

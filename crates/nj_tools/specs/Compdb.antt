@@ -57,7 +57,7 @@ compilation_of entries expand edge =
       output = first_path (outputs_of e);
     }
 
--- JSON can hold it
+-- JSON can contain it
 abbrev pub is_text : Compilation → Bool
 is_text c = is_utf8 c.command && is_utf8 c.file && is_utf8 c.output
 
@@ -83,11 +83,11 @@ objects_text directory [] = []
 objects_text directory (c ∷ others) =
     10 ∷ (object_text directory c ++ flat_map (λ other. 44 ∷ 10 ∷ object_text directory other) others)
 
--- what is written of the edges before the first one that JSON cannot hold
+-- what is written of the edges before the first one that JSON cannot contain
 abbrev pub held_before : List ReadStatement → (rules : List (List ℕ)) → (expand : Bool) → List Compilation
 held_before entries rules expand = take_while is_text (map (compilation_of entries expand) (listed_edges entries rules))
 
--- the first edge that JSON cannot hold
+-- the first edge that JSON cannot contain
 abbrev pub unheld_edge : List ReadStatement → (rules : List (List ℕ)) → (expand : Bool) → Option ℕ
 unheld_edge entries rules expand = find (λ edge. not (is_text (compilation_of entries expand edge))) (listed_edges entries rules)
 
@@ -102,7 +102,7 @@ compdb_text entries directory rules expand =
 
 -- ---- what the tool does to its sink
 
--- The sink took the whole text; or JSON cannot hold a text of an edge, and the sink took all before that edge; or it failed within the
+-- The sink took the whole text; or JSON cannot contain a string of an edge, and the sink took all before that edge; or it failed within the
 -- text; or memory ran out after a prefix of it.
 abbrev pub WritesCompdb : (old new : SinkState) → (text : List ℕ) → (unheld : Option ℕ) → Result Unit ToolFault → Type 0
 WritesCompdb old new text unheld (Ok done) = (unheld ≡ None) × Takes old new text

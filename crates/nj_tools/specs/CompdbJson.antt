@@ -16,7 +16,7 @@ abbrev pub objects_of : (directory : List ℕ) → List Compilation → Items
 objects_of directory [] = no_items
 objects_of directory (c ∷ others) = item (object_of directory c) (objects_of directory others)
 
--- Where JSON can hold the texts of all listed edges, what is written reads as one array: the objects of these edges, in their order.
+-- Where JSON can contain the strings of all listed edges, what is written reads as one array: the objects of these edges, in their order.
 abbrev pub CompdbIsJson : Type 0
 CompdbIsJson = (entries : List ReadStatement) (directory : List ℕ) (rules : List (List ℕ)) (expand : Bool) → unheld_edge entries rules expand ≡ None
     → document (compdb_text entries directory rules expand)

@@ -12,7 +12,7 @@ use Rattle.nj_tools.specs.declared.fault.ToolFault.TheVariants as tool
 use Rattle.nj_tools.specs.declared.error.Error.{Error}
 use Rattle.nj_tools.specs.declared.error.Error.TheVariants.{Graph, EmptyPath, BadMark, MarkOutOfRange, TextNotUtf8, Write, OutOfMemory}
 
--- what is said of a fault of a tool
+-- how a fault of a tool is shown
 abbrev pub fault_text : ToolFault → List ℕ
 fault_text (tool.TextNotUtf8 edge) = codes "text is not UTF-8"
 fault_text tool.Write = codes "the output could not be written"
@@ -39,7 +39,7 @@ error_of_tool (tool.TextNotUtf8 edge) = TextNotUtf8 edge
 error_of_tool tool.Write = Write
 error_of_tool tool.OutOfMemory = OutOfMemory
 
--- what is said of it to people
+-- how it is shown to people
 abbrev pub error_text : Error → List ℕ
 error_text (Graph fault) = shown_line fault
 error_text EmptyPath = codes "empty path"

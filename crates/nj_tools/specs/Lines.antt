@@ -1,4 +1,4 @@
--- Lines of texts.
+-- Lines of strings.
 use Rattle.std.specs.Prelude.{ℕ, List, [], ◌∷◌, ◌++◌, flat_map}
 
 -- a text and a line end

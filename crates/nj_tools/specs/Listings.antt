@@ -42,11 +42,11 @@ plain_style = record { dependency_order = false; shell_escape = true; zero = fal
 abbrev pub printed : InputsStyle → (path : List ℕ) → List ℕ
 printed style path = if style.shell_escape then quoted path else path
 
--- texts in the order in which their paths are needed, or in byte order
+-- strings in the order in which their paths are needed, or in byte order
 abbrev pub arranged : InputsStyle → (strings : List (List ℕ)) → List (List ℕ)
 arranged style strings = if style.dependency_order then strings else sorted strings
 
--- the printed texts of a list of paths, of each path once
+-- the printed form of a list of paths, of each path once
 abbrev pub printed_strings : InputsStyle → (paths : List (List ℕ)) → List (List ℕ)
 printed_strings style paths = arranged style (map (printed style) (each_once paths))
 
@@ -135,12 +135,12 @@ LinesRise = (paths : List (List ℕ)) → IsStrictlySortedBy (slice_cmp nat_cmp)
 abbrev pub ListedHaveLines : Type 0
 ListedHaveLines = (paths : List (List ℕ)) (path : List ℕ) → Contains (sorted (each_once paths)) path ↔ Contains paths path
 
--- The texts of `inputs` that are sorted are in strictly ascending byte order.
+-- The lines of `inputs` that are sorted are in strictly ascending byte order.
 abbrev pub SortedInputsRise : Type 0
 SortedInputsRise = (style : InputsStyle) (paths : List (List ℕ)) → style.dependency_order ≡ false
     → IsStrictlySortedBy (slice_cmp nat_cmp) (printed_strings style paths)
 
--- In each style no two texts of `inputs` are the same.
+-- In each style no two lines of `inputs` are the same.
 abbrev pub PrintedStringsDiffer : Type 0
 PrintedStringsDiffer = (style : InputsStyle) (paths : List (List ℕ)) → IsDistinct bytes_eq (printed_strings style paths)
 

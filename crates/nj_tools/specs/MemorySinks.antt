@@ -8,7 +8,7 @@ pub record Memory : Type 0 where
   pub bytes : List ℕ
   -- how many bytes it takes at most; `None` if there is no limit
   pub limit : Option ℕ
-  -- how many bytes fit in the memory that it holds
+  -- how many bytes fit in its memory
   pub capacity : ℕ
   pub failures : ℕ
   pub took_since_failure : Bool

@@ -5,7 +5,7 @@ use Rattle.nj_tools.specs.declared.sinks.SinkFault.{SinkFault}
 
 -- what is known of a sink
 pub record SinkState : Type 0 where
-  -- the bytes that it took so far; `None` for a sink that does not say
+  -- the bytes that it took so far; `None` for a sink that does not report them
   pub taken : Option (List ℕ)
   -- how often it failed to take bytes
   pub failures : ℕ
@@ -33,7 +33,7 @@ pub record FailsAfter (old new : SinkState) (bytes : List ℕ) : Type 0 where
   pub failures : new.failures ≡ one_more old.failures
   pub took_since_failure : new.took_since_failure ≡ false
 
--- what a result of `put` says: an error, or 0 for a text that is not empty, is a failure
+-- what a result of `put` means: an error, or 0 for a text that is not empty, is a failure
 abbrev pub Puts : SinkState → SinkState → List ℕ → Result ℕ SinkFault → Type 0
 Puts old new [] (Ok count) = (count ≡ 0) × Takes old new []
 Puts old new (byte ∷ bytes) (Ok zero) = FailsAfter old new []
@@ -45,7 +45,7 @@ Puts old new bytes (Err fault) = FailsAfter old new []
 abbrev pub IsCutShort : List ℕ → List ℕ → Type 0
 IsCutShort front text = (rest : List ℕ) × (front ++ rest ≡ text) × (rest ≢ [])
 
--- what the result of a whole write says: the sink took the text, or failed once after a proper prefix of it
+-- what the result of a whole write means: the sink took the text, or failed once after a proper prefix of it
 abbrev pub Writes : SinkState → SinkState → List ℕ → Result Unit SinkFault → Type 0
 Writes old new text (Ok done) = Takes old new text
 Writes old new text (Err fault) = (front : List ℕ) × IsCutShort front text × FailsAfter old new front

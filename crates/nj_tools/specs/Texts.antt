@@ -13,7 +13,7 @@ FailsWithin old new text = (front : List ℕ) × IsCutShort front text × FailsA
 abbrev pub TakesFront : (old new : SinkState) → (text : List ℕ) → Type 0
 TakesFront old new text = (front : List ℕ) × IsPrefix front text × Takes old new front
 
--- What a fault says: the sink failed within the text, or memory ran out after a prefix of it. No text of these tools has to be UTF-8.
+-- What a fault means: the sink failed within the text, or memory ran out after a prefix of it. The output of these tools need not be UTF-8.
 abbrev pub StopsWithin : (old new : SinkState) → (text : List ℕ) → ToolFault → Type 0
 StopsWithin old new text Write = FailsWithin old new text
 StopsWithin old new text OutOfMemory = TakesFront old new text

@@ -33,7 +33,7 @@ pub record FindsMore (P : ℕ → Type 0) (old new : Found) : Type 0 where
   pub longer : length (numbers_of old) ≤ length (numbers_of new)
   pub stays : (i : ℕ) → i < length (numbers_of old) → slice_index (numbers_of new) i ≡ slice_index (numbers_of old) i
 
--- between two turns: what was found is needed; and found are the makers of the files, and those of the inputs of each edge before a
+-- between two turns: what was found is needed; and found are the makers of the files, and the makers of the inputs of each edge before a
 -- place in the list
 pub record FindsNeeded (edges : List EdgePaths) (files : List (List ℕ)) (found : Found) (place : ℕ) : Type 0 where
   pub count : length (flags_of found) ≡ length edges

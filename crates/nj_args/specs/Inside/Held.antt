@@ -1,4 +1,4 @@
--- How the code holds what the words give. Nothing here has to be believed.
+-- How the code represents what the words give. Nothing here has to be believed.
 use Rattle.std.specs.Prelude.{ℕ, ◌==◌, Bool, true, false, if◌then◌else◌, List, [], ◌∷◌, map, Option, option_map, unwrap_or}
 use Rattle.std.specs.Borrow.{Bor}
 use Rattle.std.specs.Option.{option_copied}

@@ -67,7 +67,7 @@ ReturnsFor entries action old new (Err fault.MarkOutOfRange) =
 ReturnsFor entries action old new (Err fault.Write) = FailsWithin old new (output_of entries action)
 ReturnsFor entries action old new (Err fault.OutOfMemory) = TakesFront old new (output_of entries action)
 
--- the line was reported, or out of memory if there was no room to make it
+-- the line was reported, or out of memory if there was no memory to make it
 abbrev pub ReportsLine : (old new : SinkState) → (line : List ℕ) → Type 0
 ReportsLine old new line = Reported old new line ⊎ Reported old new (with_line_end out_of_memory)
 
@@ -78,7 +78,7 @@ ReportsMark validations old new mark OutputFailed = Failed old new (mark_line va
 ReportsMark validations old new mark Fault = Reported old new (with_line_end out_of_memory)
 ReportsMark validations old new mark other = ⊥
 
--- what is reported of an answer
+-- what is reported of an outcome
 abbrev pub Concludes : (validations : Bool) → (old new : SinkState) → Result (Option (List ℕ)) RunFault → Status → Type 0
 Concludes validations old new (Ok None) status = (new ≡ old) × (status ≡ Done)
 Concludes validations old new (Ok (Some mark)) status = ReportsMark validations old new mark status

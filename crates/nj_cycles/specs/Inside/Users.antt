@@ -21,7 +21,7 @@ pub record HaveUsers (count : ℕ) (P : ℕ → ℕ → Type 0) (users : List (V
   pub sound : (m e : ℕ) → m < count → Contains (users_of users m) e → P e m
   pub all : (m e : ℕ) → m < count → P e m → Contains (users_of users m) e
 
--- edge e needs edge m by an input that stands before this one
+-- edge e needs edge m by an input that comes before this one
 pub data NeedsSoFar (makers : ℕ → List (Option ℕ)) (edge index : ℕ) : ℕ → ℕ → Type 0 where
   before : {e m : ℕ} → e < edge → Needs makers e m → NeedsSoFar makers edge index e m
   here : {m : ℕ} (i : ℕ) → i < index → slice_get (makers edge) i ≡ Some (Some m) → NeedsSoFar makers edge index edge m

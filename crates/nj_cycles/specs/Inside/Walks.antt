@@ -1,4 +1,4 @@
--- The depth-first walk over the edges, inside the check: what holds between two turns. No reader of the public
+-- The depth-first walk over the edges, inside the check: what is true between two turns. No reader of the public
 -- contracts needs this file.
 use Rattle.std.specs.Prelude.{◌≡◌, ◌≢◌, ◌⊎◌, ℕ, ◌+◌, ◌*◌, ◌<◌, ◌≤◌, Bool, false, List, [], ◌∷◌, ◌++◌, Option, None, Some, length, take, slice_get, slice_index, slice_index_or, sum_by, Contains}
 use Rattle.nj_cycles.specs.declared.walk.Stage.{Stage}
@@ -40,7 +40,7 @@ abbrev pub IsSettled : (makers : ℕ → List (Option ℕ)) → List ℕ → Typ
 IsSettled makers order = (a b f : ℕ) → a ≤ b → b < length order → Needs makers (slice_index order a) f
     → Contains (take b order) f ⊎ Reaches makers f (slice_index order b)
 
--- each edge of the order stands after all that it needs
+-- each edge of the order comes after all that it needs
 abbrev pub IsFalling : (makers : ℕ → List (Option ℕ)) → List ℕ → Type 0
 IsFalling makers order = (a f : ℕ) → a < length order → Needs makers (slice_index order a) f → Contains (take a order) f
 

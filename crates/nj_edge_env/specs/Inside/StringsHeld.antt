@@ -28,7 +28,7 @@ ForEdge e P = (entries : List ReadStatement) (around : List ℕ) → DeclaredBy 
 abbrev pub SettlesIn : LateEdge → (depth : ℕ) → (name : List ℕ) → Type 0
 SettlesIn e depth name = Settles (bound_in e.blocks.now e.edge) e.rule.now.lines depth name
 
--- ---- the texts of keys
+-- ---- the strings of keys
 
 -- this part of the bytes is the text of the key, which is the same through each number of lines from its height on
 pub record IsKeyText (quoting : Bool) (e : LateEdge) (number : ℕ) (t : KeyText) (bytes : List ℕ) : Type 0 where
@@ -41,7 +41,7 @@ abbrev pub AreKeyStrings : (quoting : Bool) → LateEdge → (known : List (Opti
 AreKeyStrings quoting e known bytes =
     (number : ℕ) (t : KeyText) → slice_get known number ≡ Some (Some t) → IsKeyText quoting e number t bytes
 
--- the text of the key, if it is no higher than this
+-- the string of the key, if it is no higher than this
 abbrev pub no_higher : Option (Option KeyText) → (depth : ℕ) → Option KeyText
 no_higher (Some (Some t)) depth = if nat_le t.height depth then Some t else None
 no_higher (Some None) depth = None
@@ -63,7 +63,7 @@ with_text known number start end (Some height) = slice_set known number (Some (r
 
 -- ---- steps
 
--- what the name says is appended, where no line of the rule says it; else nothing is, and this is the number of its key
+-- the value of the name is appended, where no line of the rule binds it; else nothing is, and this is the number of its key
 abbrev pub AppendsPlain : (quoting : Bool) → LateEdge → (name old new : List ℕ) → (number : Option ℕ) → Type 0
 AppendsPlain quoting e name old new None =
     (rule_value (bound_in e.blocks.now e.edge) e.rule.now.lines name ≡ None) × IsPrefix old new
@@ -72,7 +72,7 @@ AppendsPlain quoting e name old new (Some number) =
     (new ≡ old) × IsNumber e.rule.now.lines name number
     × (is_some (rule_value (bound_in e.blocks.now e.edge) e.rule.now.lines name) ≡ true)
 
--- what the name says is appended, through at most `depth` lines after its own; no more than its height are nested
+-- the value of the name is appended, through at most `depth` lines after its own; no more than its height are nested
 pub record AppendsLate (quoting : Bool) (e : LateEdge) (depth : ℕ) (name old : List ℕ) (known : List (Option KeyText))
     (new : List ℕ) (height : Option ℕ) : Type 0 where
   pub grows : IsPrefix old new

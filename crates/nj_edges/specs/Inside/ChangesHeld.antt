@@ -11,7 +11,7 @@ abbrev pub unflagged : Bool → ℕ
 unflagged true = 0
 unflagged false = 1
 
--- the numbers are those of the edges with a flag, each once
+-- the numbers are the numbers of the edges with a flag, each once
 pub record AreListed (flags : List Bool) (numbers : List ℕ) : Type 0 where
   pub listed : (e : ℕ) → IsFlagged flags e → Contains numbers e
   pub flagged : (i : ℕ) → i < length numbers → IsFlagged flags (slice_index numbers i)
@@ -31,7 +31,7 @@ pub record FindsMore (P : ℕ → Type 0) (old new : Affected) : Type 0 where
 abbrev pub HasInputOf : List EdgePaths → (files : List (List ℕ)) → (edge : ℕ) → Type 0
 HasInputOf edges files e = has_input_of files (edge_at edges e) ≡ true
 
--- between two turns: what was found is affected; and found are the users of the files, and those of the outputs of each edge before a
+-- between two turns: what was found is affected; and found are the users of the files, and the users of the outputs of each edge before a
 -- place in the list
 pub record FindsAffected (edges : List EdgePaths) (files : List (List ℕ)) (found : Affected) (place : ℕ) : Type 0 where
   pub count : length found.flags.items ≡ length edges

@@ -57,7 +57,7 @@ table_of files outputs inputs validations rows starts = record {
 abbrev pub has_number : ℕ → List FileNo → Bool
 has_number n numbers = list_any (λ f. n == f.0) numbers
 
--- all numbers are those of files
+-- all numbers are numbers of files
 abbrev pub AreNumbers : (count : ℕ) → List FileNo → Type 0
 AreNumbers count numbers = AllByRecursion (λ f. f.0 < count) numbers
 
@@ -69,14 +69,14 @@ pub record IsWithin (span : Span) (end : ℕ) : Type 0 where
 abbrev pub AreJoined : List Span → (end : ℕ) → List FileNo → Type 0
 AreJoined spans end files = flat_map (within files) spans ≡ take end files
 
--- the files of an edge stand before those of the edge that is being read
+-- the files of an edge come before the files of the edge that is being read
 pub record RowIsWithin (open_outputs open_inputs open_validations : ℕ) (row : EdgeRow) : Type 0 where
   pub outputs : IsWithin row.outputs open_outputs
   pub inputs : IsWithin row.inputs open_inputs
   pub validations : IsWithin row.validations open_validations
   pub kinds : EndWithin row.kinds (row.outputs.end - row.outputs.start) (row.inputs.end - row.inputs.start)
 
--- the outputs by edge, and those of the edge that is being read
+-- the outputs by edge, and the outputs of the edge that is being read
 abbrev pub output_rows : (outputs : List FileNo) → (open_outputs : ℕ) → List EdgeRow → List (List FileNo)
 output_rows outputs open_outputs rows = map (λ row. within outputs row.outputs) rows ++ drop open_outputs outputs ∷ []
 

@@ -52,7 +52,7 @@ join_held files outputs inputs validations rows added_outputs added_inputs added
   };
 }
 
--- the outputs that were added to an edge stand before those that are to be added to the next one, and so do the inputs
+-- the outputs that were added to an edge come before the ones that are to be added to the next, and so do the inputs
 abbrev pub AddedOutputsAreWithin : (end : ℕ) → Option AddedSpans → Type 0
 AddedOutputsAreWithin end found = IfSome found (λ spans. IsWithin spans.outputs end)
 
@@ -126,7 +126,7 @@ AreJoinedMakers stated added makers =
     (length makers ≡ length stated)
     × ((n : ℕ) → slice_index_or makers n None ≡ option_or (slice_index_or added n None) (slice_index_or stated n None))
 
--- the makers after this edge was set as that of some files
+-- the makers after this edge was set as the maker of some files
 abbrev pub AreSet : List FileNo → (edge : ℕ) → (old new : List (Option ℕ)) → Type 0
 AreSet files edge old new =
     (length new ≡ length old)

@@ -29,7 +29,7 @@ pub record IsPart (numbers : List ℕ) (start end : ℕ) (users : List ℕ) : Ty
   pub ends : end ≤ length numbers
   pub users_are : slice_range numbers start end ≡ users
 
--- those of each file stand between its start and that of the next one
+-- the users of each file are between its start and the start of the next one
 abbrev pub AreParts : (starts numbers : List ℕ) → (users : ℕ → List ℕ) → Type 0
 AreParts starts numbers users = (n : ℕ) → n + 1 < length starts → IsPart numbers (slice_index_or starts n 0) (slice_index_or starts (n + 1) 0) (users n)
 
@@ -83,7 +83,7 @@ AreEnds ends uses = (n : ℕ) → n < length ends → slice_index_or ends n 0 �
 abbrev pub number_at : List EdgeNo → (place : ℕ) → ℕ
 number_at edges place = (slice_index_or edges place (record { 0 = 0 })).0
 
--- some of all uses stand at their places: those of each file from a place up to where its users end
+-- some of all uses are at their places: the uses of each file from a place up to where its users end
 pub record ArePlaced (all uses : ℕ → List ℕ) (places marks : List ℕ) (edges : List EdgeNo) : Type 0 where
   pub count_is : length edges ≡ users_before all (length places)
   pub starts_are : (n : ℕ) → n < length places → users_before all n ≤ slice_index_or places n 0

@@ -1,4 +1,4 @@
--- How a graph holds the rules that it lists.
+-- How a graph represents the rules that it lists.
 use Rattle.std.specs.List.{AllByRecursion}
 use Rattle.std.specs.Prelude.{◌≡◌, ℕ, ◌<◌, Some, None, List, map, length, slice_get}
 use Rattle.nj_scope.specs.Declarations.{DeclarationsText}
@@ -15,7 +15,7 @@ HasMainRules rules numbers = map (slice_get rules) numbers ≡ map (λ r. Some r
 abbrev pub IsKnown : DeclarationsText → EdgeDetail → Type 0
 IsKnown declarations d = (d.scope < length declarations.scopes) × (d.rule < length declarations.rules)
 
--- what holds of the fields of a graph
+-- what is true of the fields of a graph
 pub record IsGraph (declarations : DeclarationsText) (built : BuiltText) (numbers : List ℕ) : Type 0 where
   pub listed : HasMainRules declarations.rules numbers
   pub outermost : parent_at declarations.scopes 0 ≡ None

@@ -1,4 +1,4 @@
--- What each step of the joining of dyndep files answers, by what is joined so far. Nothing here has to be believed.
+-- What each step of the joining of dyndep files returns, by what is joined so far. Nothing here has to be believed.
 use Rattle.std.specs.Prelude.{◌≡◌, ◌⊎◌, ℕ, true, false, Option, Some, None, Result, Ok, Err, List, String, string_bytes, ⊤}
 use Rattle.std.specs.Str.{is_utf8}
 use Rattle.nj_text.specs.Lines.{Line}
@@ -33,7 +33,7 @@ NamesFile place path (Err fault) =
 
 -- ---- the next entry
 
--- what a parser answers if this is read from what is left; its faults are reported in the file
+-- what a parser returns if this is read from what is left; its faults are reported in the file
 abbrev pub NextEntryOf : (file : List ℕ) → Parse (Option EntryText) → (after : DyndepLeft) → Result (Option text.Entry) GraphFault
     → Type 0
 NextEntryOf file expected after (Ok (Some entry)) =
@@ -48,7 +48,7 @@ NextEntryIs file before after result = NextEntryOf file (entry_of before) after 
 
 -- ---- a text
 
--- All entries are joined. It remains to check whether an edge waits for the file.
+-- All entries are joined. It remains to check whether an edge is still pending on the file.
 pub record TextJoined (file : List ℕ) (stated : List ReadStatement) (text : List ℕ) (joined : List ReadStatement) (held : JoiningText) : Type 0 where
   pub now : List ReadStatement
   pub has : HasJoined held stated now

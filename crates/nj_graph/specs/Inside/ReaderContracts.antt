@@ -1,4 +1,4 @@
--- What a reader holds after some statements, and what each of its calls reads.
+-- What a reader has after some statements, and what each of its calls reads.
 use Rattle.std.specs.Prelude.{◌≡◌, ◌⊎◌, ℕ, suc, ◌<◌, ◌≤◌, Option, Some, None, Result, Ok, Err, List, [], ◌∷◌, length, String, string_bytes}
 use Rattle.std.specs.Prelude.{⊤}
 use Rattle.std.specs.Global.{Global}
@@ -50,7 +50,7 @@ pub record IsNew (main : List ℕ) (held : Reader) : Type 0 where
   pub files : held.files ≡ []
   pub origins : held.origins ≡ origins_read main []
 
--- It holds what these statements say, of which the last read stands first.
+-- It has what these statements give, the last read first.
 pub record Has (main : List ℕ) (held : Reader) (entries : List ReadStatement) : Type 0 where
   pub declares : DeclaredBy held.declarations entries
   pub edges : HasEdges held.building entries
@@ -74,13 +74,13 @@ site_of file around depth = record { file = file.name.now; depth = depth; number
 abbrev pub IsOpenIn : Reader → OpenFile → (around : List ℕ) → Type 0
 IsOpenIn held file around = IsOpenScope held.declarations.scopes file.scope around
 
--- The property holds of the main file, of the site at which the file is open, and of the statements that were read, whichever they are.
+-- The property is true of the main file, of the site at which the file is open, and of the statements that were read, whichever they are.
 abbrev pub InFile : Reader → OpenFile → ((main : List ℕ) → Site → List ReadStatement → Type 0) → Type 0
 InFile held file P =
     (main : List ℕ) (entries : List ReadStatement) (around : List ℕ) (depth : ℕ) → Has main held entries → IsOpenIn held file around
     → P main (site_of file around depth) entries
 
--- The property holds of the scope of the file and of the statements that are declared, whichever they are.
+-- The property is true of the scope of the file and of the statements that are declared, whichever they are.
 abbrev pub InScope : Reader → OpenFile → ((scope : List ℕ) → List ReadStatement → Type 0) → Type 0
 InScope held file P =
     (entries : List ReadStatement) (around : List ℕ) → DeclaredBy held.declarations entries → IsOpenIn held file around
@@ -95,7 +95,7 @@ Declares main after e before (Err fault) = IsFault (own_fault e before) fault
 
 -- ---- files
 
--- What is read from a source if it does not fail and the table can grow: the table then holds it.
+-- What is read from a source if it does not fail and the table can grow: the table then has it.
 pub record ReadsAll (before after : SourceState) (old files held : List Reading) : Type 0 where
   pub reads : IsRead before after old files
   pub held_is : held ≡ files
@@ -121,7 +121,7 @@ pub record StopsAt (main : List ℕ) (before after : SourceState) (old : List Re
   pub reads : IsRead before after old files
   pub stops : Stops before after files (λ all. reached_from main (reading all)) fault
 
--- the path that a word says, or its fault
+-- the path that a word gives, or its fault
 abbrev pub GivesPath : {Z : Type 0} → Option GraphFault → (gives : List ℕ) → Result (String Z) GraphFault → Type 0
 GivesPath expected gives (Ok path) = (expected ≡ None) × (string_bytes path ≡ gives)
 GivesPath expected gives (Err fault) = IsFault expected fault
@@ -181,7 +181,7 @@ pub record OpensNamed (main : List ℕ) (before after : SourceState) (old held :
   pub read : (all : List Reading) → IsPrefix files all
       → statement_read (opened_in all left) e entries ≡ text_read (opened_in all within) inner text (e ∷ entries)
 
--- the file that a statement names, by the scope in which its statements stand
+-- the file that a statement names, by the scope of its statements
 pub record IsOpened (held : Reader) (opened : Opened) (inner : Site) : Type 0 where
   pub file : inner.file ≡ string_bytes opened.path
   pub number : inner.number ≡ opened.scope
@@ -205,7 +205,7 @@ ReadsItem main before after old held left e entries (Ok (Some opened)) =
 ReadsItem main before after old held left e entries (Err fault) =
     OpensOrStops main before after old held left e entries (Err fault)
 
--- ---- texts
+-- ---- byte strings
 
 -- all was read, and is held
 pub record ReadsText (main : List ℕ) (before after : SourceState) (old held : Reader) (reading : List Reading → ReadingText)
@@ -223,7 +223,7 @@ ReadsOrStops main before after old held reading (Err fault) = StopsAt main befor
 
 -- ---- the next statement
 
--- what a parser answers; its faults are reported in a file
+-- what a parser returns; its faults are reported in a file
 abbrev pub NextOf : (file : List ℕ) → List Line → (after : Left) → Result (Option (Placed Statement)) GraphFault → Type 0
 NextOf file lines after (Ok (Some s)) =
     (rest : List Line) × (next_statement lines ≡ Ok (Some (placed_text s), rest)) × (after ≡ Lines rest)

@@ -1,4 +1,4 @@
--- What the private functions of a parser answer, and where they leave its lexer.
+-- What the private functions of a parser return, and where they leave its lexer.
 use Rattle.std.specs.Prelude.{◌≡◌, Bool, true, false, Option, Some, None, Result, Ok, Err, List}
 use Rattle.nj_text.specs.Lines as lines
 use Rattle.nj_text.specs.Calls.{State, Between, Inside, Failed, is_inside}
@@ -33,7 +33,7 @@ name_text n = record { spot = n.spot; name = n.name.now }
 abbrev pub outs_text : (explicit implicit : List Word) → OutputsText
 outs_text explicit implicit = record { explicit = words_text explicit; implicit = words_text implicit }
 
--- what a statement says on its first line
+-- what a statement gives on its first line
 abbrev pub head_text : Statement → HeadText
 head_text (statement.Rule r) = RuleHead (record { spot = r.name_spot; name = r.name.now })
 head_text (statement.Pool p) = PoolHead (record { spot = p.name_spot; name = p.name.now })
@@ -54,7 +54,7 @@ LeadsTo (Err f) after expected = Fails f expected
 
 -- ---- from line to line
 
--- between two statements the lexer stands before lines, or at the front of a line that was begun
+-- between two statements the lexer is before lines, or at the front of a line that was begun
 abbrev pub IsBetweenStatements : State → Type 0
 IsBetweenStatements (Between ls) = Unit {0}
 IsBetweenStatements (Inside l ls) = lines.kind_of l ≡ lines.PlainLine
@@ -65,20 +65,20 @@ abbrev pub ReadsVersion : (before after : State) → Result (Unit {0}) ParseFaul
 ReadsVersion before after (Ok done) = (version_next (lines_from before) ≡ Ok (lines_from after)) × IsBetweenStatements after
 ReadsVersion before after (Err f) = Fails f (version_next (lines_from before))
 
--- what is read of the lines before which the lexer stands, with the lexer before the lines after it
+-- what is read of the lines before which the lexer is, with the lexer before the lines after it
 abbrev pub ParsesFrom : {X Y : Type 0} → (X → Y) → (before after : State) → (List lines.Line → Parse Y) → Result X ParseFault → Type 0
 ParsesFrom view (Between ls) after parse (Ok x) = (parse ls ≡ Ok (view x, lines_from after)) × IsBetweenStatements after
 ParsesFrom view (Between ls) after parse (Err f) = Fails f (parse ls)
 ParsesFrom view other after parse result = Unit {0}
 
--- the same of a line at whose first unit the lexer stands
+-- the same for a line at whose first unit the lexer is
 abbrev pub ParsesAt : {X Y : Type 0}
     → (X → Y) → (before after : State) → (lines.Line → List lines.Line → Parse Y) → Result X ParseFault → Type 0
 ParsesAt view (Inside l ls) after parse (Ok x) = (parse l ls ≡ Ok (view x, lines_from after)) × IsBetweenStatements after
 ParsesAt view (Inside l ls) after parse (Err f) = Fails f (parse l ls)
 ParsesAt view other after parse result = Unit {0}
 
--- where the next statement begins, if the lexer stands there
+-- where the next statement begins, if the lexer is there
 abbrev pub opening_at : State → Opening
 opening_at (Inside l ls) = Begun l ls
 opening_at s = Ended (lines_from s)
@@ -105,7 +105,7 @@ abbrev pub is_plain : lines.Kind → Bool
 is_plain lines.PlainLine = true
 is_plain kind = false
 
--- whether the lexer stands between two statements
+-- whether the lexer is between two statements
 abbrev pub is_between_statements : State → Bool
 is_between_statements (Between ls) = true
 is_between_statements (Inside l ls) = is_plain (lines.kind_of l)

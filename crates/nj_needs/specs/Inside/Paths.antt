@@ -1,4 +1,4 @@
--- Where a walk stands: the path of open edges, the first that was opened first, and the next place in the inputs of the last
+-- Where a walk is: the path of open edges, the first that was opened first, and the next place in the inputs of the last
 -- of them, or in the target list where none is open. What is done then, and how many turns are left, follow from it.
 use Rattle.std.specs.Prelude.{◌≡◌, ℕ, ◌+◌, ◌-◌, ◌<◌, ◌≤◌, Bool, true, false, if◌then◌else◌, Option, Some, List, [], ◌∷◌, ◌++◌, length, map}
 use Rattle.std.specs.Prelude.{take, nat_eq, slice_get, slice_index_or}
@@ -7,17 +7,17 @@ use Rattle.nj_needs.specs.Order.{unfolded_row, order, needed_commands}
 use Rattle.nj_needs.specs.Marks.{without}
 use Rattle.nj_needs.specs.declared.frame.Frame.{Frame}
 
--- the row in which the walk stands, where `row` is the one below the path
+-- the row in which the walk is, where `row` is the one below the path
 abbrev pub top_row : (makers : ℕ → List (Option ℕ)) → (row : List (Option ℕ)) → List Frame → List (Option ℕ)
 top_row makers row [] = row
 top_row makers row (f ∷ path) = top_row makers (makers f.edge) path
 
--- each open edge stands at its index in the row below
+-- each open edge is at its index in the row below
 abbrev pub IsLinked : (makers : ℕ → List (Option ℕ)) → (row : List (Option ℕ)) → List Frame → Type 0
 IsLinked makers row [] = Unit {0}
 IsLinked makers row (f ∷ path) = (slice_get row f.at ≡ Some (Some f.edge)) × IsLinked makers (makers f.edge) path
 
--- what is done: in each row the unfolded order of the places before the one where the walk stands
+-- what is done: in each row the unfolded order of the places before the one where the walk is
 abbrev pub done_at : (makers : ℕ → List (Option ℕ)) → (count : ℕ) → (row : List (Option ℕ)) → List Frame → (place : ℕ) → List ℕ
 done_at makers count row [] place = unfolded_row makers count (take place row)
 done_at makers count row (f ∷ path) place = unfolded_row makers count (take f.at row) ++ done_at makers count (makers f.edge) path place
@@ -50,7 +50,7 @@ abbrev pub left_at : (makers : ℕ → List (Option ℕ)) → (count : ℕ) → 
     → List Frame → (place : ℕ) → List ℕ
 left_at makers count phony row path place = without (done_at makers count row path place) (needed_commands makers count phony row)
 
--- what holds where a walk stands: no open edge is done, and the flags tell what is done
+-- what is true where a walk is: no open edge is done, and the flags tell what is done
 pub record IsStanding (makers : ℕ → List (Option ℕ)) (count : ℕ) (row : List (Option ℕ))
     (path : List Frame) (place : ℕ) (flags : List Bool) : Type 0 where
   pub linked : IsLinked makers row path

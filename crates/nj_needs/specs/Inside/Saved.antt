@@ -4,7 +4,7 @@ use Rattle.nj_needs.specs.Inside.Paths.{places}
 use Rattle.nj_needs.specs.declared.frame.Frame.{Frame}
 use Rattle.nj_needs.specs.declared.saved.Saved.{Saved}
 
--- the numbers that are kept are those of the path
+-- the numbers that are kept are the numbers of the path
 pub record KeepsFront (s : Saved) (path : List Frame) : Type 0 where
   pub within : s.kept ≤ length s.numbers.items
   pub short : s.kept ≤ length path

@@ -1,4 +1,4 @@
--- What holds inside a walk, and what one turn does.
+-- What is true inside a walk, and what one turn does.
 use Rattle.std.specs.Prelude.{◌≡◌, ◌<◌, ◌≤◌, ◌⊎◌, ℕ, ◌+◌, Bool, true, if◌then◌else◌, Option, Some, None, List, [], ◌∷◌, ◌++◌, length}
 use Rattle.std.specs.Prelude.{nat_eq, slice_get, vec_capacity}
 use Rattle.std.specs.List.{list_any}
@@ -16,7 +16,7 @@ use Rattle.nj_needs.specs.declared.walk.Walk.{Walk}
 use Rattle.nj_needs.specs.declared.walk.Turn.{Turn}
 use Rattle.nj_needs.specs.declared.walk.Turn.TheVariants.{Looked, Closed, Ended}
 
--- where a walk stands: the path of open edges and the next place
+-- where a walk is: the path of open edges and the next place
 abbrev pub left_of : EdgeGraph → List FileNo → List Frame → ℕ → List ℕ
 left_of g targets path place = left_at (makers_of g) (count_of g) (is_phony g) (row_of g targets) path place
 
@@ -34,7 +34,7 @@ pub record IsWalkAt (g : EdgeGraph) (targets : List FileNo) (turns : ℕ)
   pub acyclic : IsAcyclic (makers_of g) (count_of g)
   pub inside : AreWithin (row_of g targets) (count_of g)
   pub standing : IsStanding (makers_of g) (count_of g) (row_of g targets) path.items place flags
-  -- there is room for every path
+  -- there is capacity for every path
   pub capacity : count_of g ≤ vec_capacity path
   -- the turns that were taken and those that are left are all turns
   pub counted : (total : ℕ) × (turns ≡ saturated total) × (total + turns_left_of g targets path.items place ≡ bound_of g targets + begun)
@@ -42,7 +42,7 @@ pub record IsWalkAt (g : EdgeGraph) (targets : List FileNo) (turns : ℕ)
 abbrev pub IsWalk : Walk → Type 0
 IsWalk w = IsWalkAt w.turns.graph.now w.turns.targets.now w.turns.taken w.path w.place w.flags.items w.begun
 
--- a look: the place is passed, and what stands there is done or a source, or an edge is opened
+-- a look: the place is passed, and what is there is done or a source, or an edge is opened
 pub record HasLooked (g : EdgeGraph) (targets : List FileNo) (path : List Frame) (place : ℕ) (after : List Frame) (next : ℕ) : Type 0 where
   pub left : left_of g targets after next ≡ left_of g targets path place
   pub turn : turns_left_of g targets path place ≡ turns_left_of g targets after next + 1

@@ -32,7 +32,7 @@ built_of graph blocks names details defaults dyndeps = record {
   assigned = map (assigned_named names) details;
 }
 
--- There is a detail of each edge, and all numbers are those of files and edges.
+-- There is a detail of each edge, and all numbers are numbers of files and edges.
 pub record BuiltIsHeld (graph : EdgeGraph) (names : List (List ℕ)) (details : List Detail) (defaults : List FileNo)
     (dyndeps : List DyndepEdge) : Type 0 where
   pub as_many : length details ≡ length graph.edges

@@ -30,7 +30,7 @@ abbrev pub one_if : Bool → ℕ
 one_if true = 1
 one_if false = 0
 
--- how many of these wait for a file
+-- how many of these are pending on a file
 abbrev pub count_pending : FileNo → (unjoined : List (Option FileNo)) → ℕ
 count_pending file [] = 0
 count_pending file (w ∷ unjoined) = one_if (is_bound_to w file) + count_pending file unjoined
@@ -63,7 +63,7 @@ maker_fault name word table None = Some (fault_at name word.spot (DyndepExtra (p
 maker_fault name word table (Some edge) =
     fault_if (is_joined table edge) (fault_at name word.spot (DyndepTwice (path_given no_values word)))
 
--- the edge that makes what a word says, if it is bound to a file
+-- the edge that makes what a word gives, if it is bound to a file
 abbrev pub edge_bound : JoinTable → (bound : List (Option FileNo)) → FileNo → WordText → Option ℕ
 edge_bound table bound file word = if_bound bound file (maker_of table.stated (path_given no_values word))
 
@@ -73,7 +73,7 @@ pub record IsMeant (table : JoinTable) (bound : List (Option FileNo)) (file : Fi
   pub known : edge < length table.stated
   pub first : is_joined table edge ≡ false
 
--- the fault of an edge that waits for a file to the end of that file
+-- the fault of an edge that is still pending on a file at the end of that file
 abbrev pub fault_of_pending : (path : List ℕ) → EdgeDetail → EdgePaths → GraphFault
 fault_of_pending path detail e =
     fault_at detail.file detail.spot (DyndepNoStatement (unwrap_or (first_output e) []) path)
@@ -98,8 +98,8 @@ joining_of table blocks names details defaults dyndep_files bound = record {
   assigned = map (assigned_named names) details;
 }
 
--- For each edge there is a detail, and what is joined to it. All numbers are those of files and edges. For each file at most as many edges
--- wait as are counted.
+-- For each edge there are a detail and what is joined. All numbers are numbers of files and edges. For each file at most as many edges
+-- are pending as are counted.
 pub record JoiningIsHeld (table : JoinTable) (names : List (List ℕ)) (details : List Detail) (defaults : List FileNo)
     (dyndep_files : List DyndepEdge) (bound : List (Option FileNo)) (unjoined : List ℕ) : Type 0 where
   pub each_path_once : IsDistinct bytes_eq table.files

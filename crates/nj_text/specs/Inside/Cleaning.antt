@@ -7,7 +7,7 @@ use Rattle.nj_text.specs.declared.components.Component.{Component}
 use Rattle.nj_text.specs.declared.components.Component.TheVariants.{Nowhere, Up, Name}
 use Rattle.nj_text.specs.Paths.{is_slash, is_up, leads_nowhere, is_absolute, IsName}
 
--- what a component between two slashes says
+-- what a component between two slashes means
 abbrev pub component_of : List ℕ → Component
 component_of component = if leads_nowhere component then Nowhere else if is_up component then Up else Name
 
@@ -51,7 +51,7 @@ ups_seen false ups = ups
 abbrev pub text_kept : Bool → Kept → List ℕ
 text_kept absolute kept = join_with_byte 47 (components_kept (ups_seen absolute kept.ups) kept.names)
 
--- after the base, from `front` on, stand the components so far, and the names among them from `floor` on
+-- after the base, from `front` on, come the components so far, and the names among them from `floor` on
 pub record IsWritten (absolute : Bool) (base : List ℕ) (kept : Kept) (front floor : ℕ) (out : List ℕ) : Type 0 where
   pub text_is : out ≡ base ++ text_kept absolute kept
   pub front_is : front ≡ length base
@@ -73,7 +73,7 @@ DropsName floor old new =
 
 -- ---- a path that is clean already
 
--- whether a component stands in the clean path as it is, where a name stands before it or not
+-- whether a component is in the clean path as it is, where a name comes before it or not
 abbrev pub stays : Bool → Component → Bool
 stays named Nowhere = false
 stays named Up = not named

@@ -23,7 +23,7 @@ abbrev pub run_of : TextKind → Run
 run_of kind.Word = run.Word
 run_of kind.Value = run.Value
 
--- what may stand in a value: all but bad units and the ends of lines
+-- what may occur in a value: all but bad units and the ends of lines
 abbrev pub in_value_meaning : Meaning → Bool
 in_value_meaning LineEnd = false
 in_value_meaning TextEnd = false
@@ -75,7 +75,7 @@ TakesRun kind old new c (Ok after) =
     × (length after.rest.now ≤ length c.rest.now)
 TakesRun kind old new c (Err f) = f ≡ word_fault.OutOfMemory
 
--- a whole text, or its fault; out of memory says nothing of it
+-- a whole text, or its fault; out of memory does not depend on it
 abbrev pub FailsText : WordFault → Option UnitFault → Type 0
 FailsText word_fault.OutOfMemory next = Unit {0}
 FailsText (word_fault.Unit f) next = next ≡ Some f

@@ -1,4 +1,4 @@
--- What the lexer's scans of bytes answer, in the words of the units.
+-- What the lexer's scans of bytes return, in the words of the units.
 use Rattle.std.specs.Prelude.{◌≡◌, ℕ, ◌+◌, ◌<◌, Bool, true, false, not, ◌&&◌, if◌then◌else◌, List, [], ◌∷◌, take, drop}
 use Rattle.nj_text.specs.declared.spot.Spot.{Spot}
 use Rattle.nj_text.specs.declared.dollar.Dollar.{Dollar}
@@ -42,15 +42,15 @@ LandsIn (dollar.Escape byte) bytes = (take 1 bytes ≡ byte ∷ []) × ((spot : 
 LandsIn (dollar.Reference name len) bytes = (spot : Spot) → spots_after (take len bytes) spot ≡ advance len spot
 LandsIn dollar.Bad bytes = Unit {0}
 
--- the units that stand within a line at a place
+-- the units within a line at a place
 abbrev pub units_within : Spot → List ℕ → List TextUnit
 units_within spot bytes = cut Within 0 spot bytes
 
--- the units at a place are one that says m and has n bytes, and then these
+-- the units at a place are one that means m and has n bytes, and then these
 abbrev pub Begins : Spot → List ℕ → Meaning → ℕ → List TextUnit → Type 0
 Begins spot bytes m n after = units_within spot bytes ≡ record { spot = spot; bytes = take n bytes; means = m } ∷ after
 
--- the units at a place are one that says m, and then some
+-- the units at a place are one that means m, and then some
 abbrev pub BeginsBadly : Spot → List ℕ → Meaning → Type 0
 BeginsBadly spot bytes m = (n : ℕ) × (after : List TextUnit) × Begins spot bytes m n after
 
@@ -89,7 +89,7 @@ abbrev pub begins_with_space_byte : List ℕ → Bool
 begins_with_space_byte [] = false
 begins_with_space_byte (b ∷ bs) = is_space b
 
--- whether the bytes begin with a sign that is no line end
+-- whether the bytes begin with a sign that is not a line end
 abbrev pub has_sign : Sign → List ℕ → Bool
 has_sign sign.Colon bytes = begins_with 58 bytes
 has_sign sign.Equals bytes = begins_with 61 bytes

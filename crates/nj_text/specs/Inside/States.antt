@@ -78,7 +78,7 @@ EndsLine c (Some after) =
     × (lines_after (first_line (lines_within c.spot c.rest.now)) (other_lines (lines_within c.spot c.rest.now))
     ≡ lines_from after.spot after.rest.now)
 
--- what a call within a line answers, and where it leaves the lexer
+-- what a call within a line returns, and where it leaves the lexer
 abbrev pub Steps : {X Y : Type 0} → (X → Y) → Reply Y → Result (X × Cursor) UnitFault → Type 0
 Steps view expected (Ok step) = expected ≡ reply (view step.0) (inside (lines_within step.1.spot step.1.rest.now))
 Steps view expected (Err f) = expected ≡ failing f

@@ -4,7 +4,7 @@ use Rattle.std.specs.Str.{is_utf8}
 use Rattle.nj_tools.specs.Lines.{line}
 use Rattle.nj_tools.specs.Compdb.{Compilation, is_text, json_string}
 
--- a text in JSON, if JSON can hold it
+-- a string in JSON, if JSON can contain it
 abbrev pub held_string : (text : List ℕ) → Option (List ℕ)
 held_string text = if is_utf8 text then Some (json_string text) else None
 
@@ -15,7 +15,7 @@ in_json c = record { command = json_string c.command; file = json_string c.file;
 abbrev pub held_compilation : Compilation → Option Compilation
 held_compilation c = if is_text c then Some (in_json c) else None
 
--- an object whose texts are strings in JSON already
+-- an object whose strings are in JSON already
 unfoldable pub object_of_strings : (directory : List ℕ) → Compilation → List ℕ
 object_of_strings directory c =
     line (codes "  {")

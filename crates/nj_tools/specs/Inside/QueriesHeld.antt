@@ -5,7 +5,7 @@ use Rattle.nj_edges.specs.declared.edges.Kind.TheVariants.{Explicit, Implicit, O
 use Rattle.nj_edges.specs.Edges.{EdgePaths, kind_at}
 use Rattle.nj_tools.specs.Lines.{line}
 
--- what stands before an input of a kind
+-- what comes before an input of a kind
 abbrev pub sign_of : Kind → List ℕ
 sign_of Explicit = codes "    "
 sign_of Implicit = codes "    | "

@@ -10,6 +10,6 @@ pub record AreSeen (g : EdgeGraph) (flags : List Bool) (edges : List ℕ) : Type
   pub count : length flags ≡ count_of g
   pub flagged : (e : ℕ) → e < count_of g → slice_index_or flags e false ≡ list_any (nat_eq e) edges
 
--- those of these edges that have a command and were not met earlier
+-- the edges among these that have a command and were not met earlier
 abbrev pub new_commands : EdgeGraph → (earlier edges : List ℕ) → List ℕ
 new_commands g earlier edges = filter (λ e. not (is_phony g e)) (without earlier edges)
