@@ -51,7 +51,7 @@ fn command<'a>(alloc: Global) -> Result<Command<'a>, AllocError> {
         .arg(Arg::new(alloc, "prefix").long("prefix"))
 }
 
-/// Reads the changed paths and the manifest that the options name, and says what they come to.
+/// Reads the changed paths and the manifest that the options name, and reports the affected tests.
 fn load_and_report(rt: HostRuntime, options: &ArgMatches<'_>) -> io::Result<ExitCode> {
     let paths = changed_paths(rt)?;
     let mut files = DiskFiles::new(rt, rt.alloc(), None)?;

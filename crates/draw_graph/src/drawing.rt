@@ -46,7 +46,7 @@ pub fn draw_edges(
 /// A node of the drawing.
 #[derive(Clone, Copy)]
 enum Node {
-    /// That of an edge; of a phony one that is folded, with its outputs.
+    /// The node of an edge; of a phony one that is folded, with its outputs.
     Edge(EdgeNo),
     File(FileNo),
 }
@@ -94,7 +94,7 @@ impl Drawing {
         Ok(())
     }
 
-    /// Draws the inputs of an edge, with arrows from them; those of order-only inputs are dashed.
+    /// Draws the inputs of an edge, with arrows from them; order-only inputs have dashed arrows.
     fn add_inputs(&mut self, graph: &Graph, edge: EdgeNo) -> io::Result<()>
         requires { edge.0 < length (edges_of graph.now) }
     {
@@ -142,7 +142,7 @@ impl Drawing {
         }
     }
 
-    /// Ends what is said of a node with a text.
+    /// Ends the attributes of a node with a text.
     fn end_node(&mut self, text: &[u8]) -> io::Result<()> {
         push_quoted(&mut self.text, text)?;
         writeln!(self.text, "];")

@@ -69,7 +69,7 @@ fn load_and_draw(rt: HostRuntime, words: &ArgMatches<'_>) -> io::Result<ExitCode
     }
 }
 
-/// Says why there is no drawing.
+/// Reports why there is no drawing.
 fn report(rt: HostRuntime, fault: &GraphFault) -> io::Result<ExitCode> {
     eprintln!(rt; "draw-graph: {fault}")?;
     Ok(ExitCode::FAILURE)

@@ -63,7 +63,7 @@ impl Found {
 }
 
 /// The edges that these files need through any chain of inputs, phony ones among them, each once:
-/// first the makers of the files, then those of their inputs, and so on.
+/// first the makers of the files, then the makers of their inputs, and so on.
 pub fn needed_edges(
     alloc: Global,
     graph: &Graph,

@@ -1,5 +1,5 @@
 //! Calls each function that docs/LIBRARY.md shows, over the project in `data/` or over short texts,
-//! and writes what it has to say.
+//! and writes what they return.
 
 ghost use Rattle.std.specs.Prelude.{◌<◌, length};
 ghost use Rattle.nj_graph.specs.Graph.{files_of};
@@ -34,7 +34,7 @@ use variables::{append_assigned, append_commands, append_whole_commands};
 use walks::{append_order, write_page};
 use writers::write_lists;
 
-/// Writes what all of them have to say.
+/// Writes what all of them return.
 pub fn run(rt: HostRuntime) -> Result<(), Error> {
     show_files(rt)?;
     show_joined_files(rt)?;
@@ -80,7 +80,7 @@ fn append_edges_and_targets(
     append_affected(alloc, text, graph, b"./greet.h")
 }
 
-/// Appends what variables say for the edges of a graph.
+/// Appends the values of variables for the edges of a graph.
 fn append_variables(alloc: Global, text: &mut Vec<u8>, graph: &Graph) -> Result<(), AllocError> {
     append_line(text, &[b"== variables"])?;
     append_commands(text, graph)?;

@@ -1,6 +1,6 @@
 //! Runs the words of the command line over the files of the working folder, with sinks in memory in
 //! place of the streams of the process, and prints what these took. It is there to refuse them
-//! room.
+//! memory.
 #![tactic(auto)]
 
 use nj_cli::{DiskFiles, MemorySink, Status, report_out_of_memory, run_words};

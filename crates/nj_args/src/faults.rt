@@ -115,7 +115,8 @@ pub enum UsageFault {
     /// The text is not a number: for `--take` one below 2 to the power of 64, for the words `depth
     /// N` one of at most 2147483647.
     BadNumber(Word),
-    /// The text is not a mark, or not that of such a run: with `--validations` it begins with `v`.
+    /// The text is not a mark, or not a mark of such a run: with `--validations` it begins with
+    /// `v`.
     BadMark(Word),
     /// The tool of this name does not take the words given beside the options ("Extra tools").
     BadWords(Word),

@@ -3,18 +3,18 @@
 ghost use Rattle.nj_args.specs.FirstFaults.{FirstFaultIsReported, FaultlessWordsAreRequests};
 ghost use Rattle.nj_args.specs.RunMarks.{RunMarksAreApart};
 
-/// The marks of runs that follow validations are apart from all others: no text says a mark to runs
+/// The marks of runs that follow validations differ from all others: no text is a mark of runs
 /// of both kinds.
 pub fn run_marks_law()
     ensures { RunMarksAreApart }
 {}
 
-/// Which fault is reported of words that are no request: that of their first mistake. `clap`
-/// refuses the words, and then nothing else is known of them; else, in this order, there is no
-/// tool, or none of that name; an option does not go with the tool, the first in the order of
-/// `ToolOption`; the value of `--take` is not a number, or that of `--resume` not a mark; the tool
-/// does not take the words; the number of levels is not one. Each mistake is stated for itself,
-/// whatever else is wrong. Words without one are a request, and so are no words at all.
+/// Which fault is reported of words that are not a request: the fault of their first mistake.
+/// `clap` refuses the words, and then nothing else is known of them; else, in this order, there is
+/// no tool, or none of that name; an option does not go with the tool, the first in the order of
+/// `ToolOption`; the value of `--take` is not a number, or the value of `--resume` not a mark; the
+/// tool does not take the words; the number of levels is not one. Each mistake is stated for
+/// itself, whatever else is wrong. Words without one are a request, and so are no words at all.
 pub fn first_fault_law()
     ensures reported { FirstFaultIsReported }
     ensures faultless { FaultlessWordsAreRequests }

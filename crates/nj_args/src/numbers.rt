@@ -6,7 +6,7 @@ ghost use Rattle.nj_args.specs.Inside.Held.{begins_with_plus};
 
 const GREATEST_DEPTH: u64 = 2_147_483_647;
 
-/// The number that decimal digits say, with or without leading zeros.
+/// The number that decimal digits give, with or without leading zeros.
 pub fn number_in(text: &str) -> Option<u64>
     ensures { result ≡ given_number text.now }
 {
@@ -19,7 +19,7 @@ pub fn number_in(text: &str) -> Option<u64>
     }
 }
 
-/// The number of levels that decimal digits say, in the same way.
+/// The number of levels that decimal digits give, in the same way.
 pub fn depth_in(text: &str) -> Option<u32>
     ensures { result ≡ given_depth text.now }
 {

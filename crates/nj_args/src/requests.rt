@@ -50,7 +50,7 @@ const HERE: &str = ".";
 pub struct Request {
     /// The main file's name ("Running Ninja").
     pub file: String,
-    /// Whether standard input stands for the main file.
+    /// Whether the main file is standard input.
     pub from_stdin: bool,
     /// Whether what dyndep files discover is joined first.
     pub dyndep: bool,
@@ -58,7 +58,7 @@ pub struct Request {
 }
 
 /// What is asked of the file ("Extra tools"). Targets, files and names of rules are the words that
-/// are not options, as they were written. Without targets, the file says which they are ("Default
+/// are not options, as they were written. Without targets, the file determines them ("Default
 /// target statements").
 #[derive(Drop)]
 pub enum Action {
@@ -98,9 +98,9 @@ pub enum Action {
     },
     /// `compdb`: a compilation database.
     Compdb {
-        /// The rules whose edges it has; without any, those of all rules.
+        /// The rules whose edges it has; without any, all rules.
         rules: Vec<String>,
-        /// The folder that it says each command runs in.
+        /// The folder in which it says that each command runs.
         directory: String,
         /// Whether response files are expanded in the commands.
         expand: bool,
@@ -273,8 +273,8 @@ fn start_of(alloc: Global, validations: bool, text: Option<&str>) -> Result<Mark
     }
 }
 
-// The text of the mark in that of a run's mark, which begins with `v` if the run follows
-// validations.
+// The part of a run's mark that is the mark of its walk; a run's mark begins with `v` if the run
+// follows validations.
 fn mark_in(validations: bool, text: &str) -> Option<&str>
     ensures some { IfSome result (λ mark.
         given_run_mark validations text.now ≡ given_mark mark.now) }

@@ -1,4 +1,4 @@
-//! What a run answers, by the graph of its files.
+//! Performs a run's action on the graph of its files.
 
 ghost use Rattle.std.specs.Prelude.{◌≡◌, ℕ, ◌<◌, List, length, map, slice_get, string_bytes, IfOk};
 ghost use Rattle.nj_scope.specs.ReadingList.{ReadStatement};
@@ -186,7 +186,7 @@ fn run_compdb<O: Sink>(
     }
 }
 
-// The fault of an edge with a text that JSON cannot hold.
+// The fault of an edge with a text that JSON cannot contain.
 fn text_fault(alloc: Global, graph: &Graph, edge: EdgeNo) -> Result<GraphFault, AllocError>
     requires { edge.0 < length (edges_of graph.now) }
     ensures { (entries : List ReadStatement) → IsGraphOf graph.now entries

@@ -23,7 +23,7 @@ const UNREADABLE: &[u8] = b"ninja-explain: cannot read the arguments\n";
 
 const OUT_OF_RANGE: &[u8] = b"ninja-explain: mark out of range\n";
 
-/// Reports how a run ends by its answer. The mark of a run that follows validations is reported as
+/// Reports how a run ends by its outcome. The mark of a run that follows validations is reported as
 /// one of those.
 pub(crate) fn conclude<E: Sink>(
     alloc: Global,
@@ -46,7 +46,7 @@ pub(crate) fn conclude<E: Sink>(
     }
 }
 
-// Reports the mark at which a run stopped: without it the run cannot go on.
+// Reports the mark at which a run stopped: without it the run cannot be resumed.
 fn report_mark<E: Sink>(alloc: Global, err: &mut E, validations: bool, mark: &Mark) -> Status
     ensures { ReportsMark validations (E.state err.old) (E.state err.new) mark.now result }
 {

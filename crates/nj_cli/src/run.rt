@@ -59,7 +59,7 @@ pub fn run_words_and_keep<S: FileSource, O: Sink, E: Sink>(
     }
 }
 
-/// Answers a request: reads the main file and all that it includes, joins what dyndep files
+/// Carries out a request: reads the main file and all that it includes, joins what dyndep files
 /// discover if that is asked for, and writes what is asked for of the graph. A fault, or the mark
 /// at which the run was stopped, is a line on the error output.
 pub fn run_tool<S: FileSource, O: Sink, E: Sink>(

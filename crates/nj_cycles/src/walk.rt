@@ -112,8 +112,8 @@ impl Walk {
         None
     }
 
-    /// Goes on with the edge that was taken from the end of the path: opens its next unseen maker,
-    /// or finishes it.
+    /// Continues with the edge that was taken from the end of the path: opens its next unseen
+    /// maker, or finishes it.
     fn take_turn<I: EdgeInputs>(&mut self, inputs: &I, edge: usize) -> Result<(), AllocError>
         requires edges { AreEdges (I.makers inputs.now) (I.count inputs.now) }
         requires sound { IsSoundAt (I.makers inputs.now) (I.count inputs.now) self.old edge }

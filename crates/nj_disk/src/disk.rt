@@ -17,17 +17,17 @@ const MOST_BYTES: usize = 1_073_741_824;
 /// The greatest number of reads that are made of a file: one for each byte, and one at the end.
 const MOST_READS: u32 = 1_073_741_825;
 
-/// The room that is made for a file beyond its stated size.
+/// The capacity that is made for a file beyond its stated size.
 const MORE_CAPACITY: usize = 16_384;
 
-/// How many bytes are read at most once the room is full: most files end there.
+/// How many bytes are read at most once the buffer is full: most files end there.
 const BEYOND: usize = 64;
 
 /// How many bytes are zeroed for one read at most: few enough to be still in the processor's cache
 /// when the read fills them.
 const PIECE: usize = 131_072;
 
-/// The files of the working folder. One name may stand for standard input.
+/// The files of the working folder. One name may mean standard input.
 #[derive(Drop)]
 pub struct DiskFiles<R: Drop> {
     rt: R,
@@ -80,7 +80,7 @@ fn drawn_keys<R: RandomSource>(rt: &R) -> HashKeys {
 }
 
 impl<R: Files + Input + Drop> DiskFiles<R> {
-    // The bytes of the file, or of standard input if its name stands for that.
+    // The bytes of the file, or of standard input if its name means that.
     fn outcome(&self, alloc: Global, path: &str) -> Result<Option<Vec<u8>>, SourceFault> {
         if self.is_input(path) {
             return Ok(Some(read_whole(alloc, &mut self.rt.reader(), 0)?));
@@ -95,7 +95,7 @@ impl<R: Files + Input + Drop> DiskFiles<R> {
         }
     }
 
-    // Whether it is the name that stands for standard input.
+    // Whether it is the name that means standard input.
     fn is_input(&self, path: &str) -> bool
         ensures { IsTrue result ↔ (self.now.input_name ≡ Some path.now) }
     {
@@ -124,7 +124,7 @@ impl<R: Files + Input + Drop> FileSource for DiskFiles<R> {
     }
 }
 
-/// All bytes that the reader still has. `stated` is how many it says it has: a guess, which may be
+/// All bytes that the reader still has. `stated` is how many it expects: a guess, which may be
 /// too low or too high. More than a file may have, stated or read, and a failed read are `Io`.
 fn read_whole<R: Read>(alloc: Global, reader: &mut R, stated: u64) -> Result<Vec<u8>, SourceFault>
     ensures bytes { IfOk result (λ bytes.
@@ -149,7 +149,7 @@ fn read_whole<R: Read>(alloc: Global, reader: &mut R, stated: u64) -> Result<Vec
     Err(SourceFault::Io)
 }
 
-/// Room for as many bytes as a file says it has.
+/// A buffer for as many bytes as the stated size of a file.
 fn capacity_for(alloc: Global, stated: u64) -> Result<Vec<u8>, SourceFault>
     ensures empty { IfOk result (λ bytes. bytes.items ≡ []) }
     ensures too_large { MOST_BYTES < stated → result ≡ Err SourceFault.Io }
@@ -184,8 +184,8 @@ fn read_piece<R: Read>(
     read_at(reader, bytes.as_mut_slice(), filled)
 }
 
-/// Reads once when the room is full. More room is made only if there is more to read, so that a
-/// file of its stated size takes room of just that size.
+/// Reads once when the buffer is full. It grows only if there is more to read, so that a
+/// file of its stated size takes just that many bytes.
 fn read_beyond<R: Read>(reader: &mut R, bytes: &mut Vec<u8>) -> Result<usize, SourceFault>
     ensures front { OnOk result (take (vec_len bytes.old) bytes.new.items ≡ bytes.old.items) }
     ensures fits { IfOk result (λ count. vec_len bytes.old + count ≡ vec_len bytes.new) }
@@ -202,7 +202,7 @@ fn read_beyond<R: Read>(reader: &mut R, bytes: &mut Vec<u8>) -> Result<usize, So
     Ok(count)
 }
 
-/// Extends the bytes with zeros into the room that is left.
+/// Extends the bytes with zeros into the capacity that is left.
 fn lengthen(bytes: &mut Vec<u8>) -> Result<(), SourceFault>
     requires { vec_len bytes.old < vec_capacity bytes.old }
     ensures front { OnOk result (take (vec_len bytes.old) bytes.new.items ≡ bytes.old.items) }

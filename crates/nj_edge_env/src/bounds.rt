@@ -87,8 +87,8 @@ pub(crate) fn bind_value(
     set_bound(bounds, lists, number, bound)
 }
 
-// Where the value is in the text: where that of the last bound is, if it is the same; else at the
-// end, to which it is then appended.
+// Where the value is in the text: where the value of the last bound is, if it is the same; else at
+// the end, to which it is then appended.
 fn bound_to(
     bounds: &[Bound],
     text: &mut Vec<u8>,

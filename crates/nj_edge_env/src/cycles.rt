@@ -16,7 +16,7 @@ impl KeyReferences {
     /// The least key, by bytes, of the rule's lines that refers to itself, in one step or more,
     /// where an edge uses the rule: by keys that the block of the edge does not bind. `None` if
     /// there is none ("Rule variables" in the Ninja manual). An edge for which it is `None` has
-    /// late texts.
+    /// late strings.
     ///
     /// # Errors
     ///

@@ -1,4 +1,4 @@
-//! Edges, for their late texts.
+//! Edges, for their late strings.
 
 ghost use Rattle.std.specs.Prelude.{◌<◌, length, All};
 
@@ -6,8 +6,8 @@ use crate::blocks::Blocks;
 use nj_edges::{FileNo, Files};
 use nj_scope::{Declarations, Rule};
 
-/// An edge, for the texts of its names: the files of its explicit inputs and outputs, its number in
-/// the blocks, its rule, and the scope that has it.
+/// An edge, for the values of its names: the files of its explicit inputs and outputs, its number
+/// in the blocks, its rule, and the scope that has it.
 #[derive(Clone, Copy)]
 pub struct LateEdge<'a> {
     /// The files that edges name.

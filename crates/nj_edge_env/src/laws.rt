@@ -1,10 +1,10 @@
-//! Laws of late texts. A law is a theorem, stated as a function with an empty body.
+//! Laws of late strings. A law is a theorem, stated as a function with an empty body.
 
 ghost use Rattle.nj_edge_env.specs.Laws.{LateTextIsGiven, OneTextIsGiven, CycleGivesNothing, BlockWins, RuleWins, FileIsLast, ComputedCycleIsFound};
 
-/// What the names of an edge say, in no order of evaluation: where the variables of the rule do not
-/// refer to each other in a cycle, each name says its late text, and no other; a variable on a
-/// cycle says nothing ("Rule variables" in the Ninja manual).
+/// The values of an edge's names, in no order of evaluation: where the variables of the rule do not
+/// refer to each other in a cycle, each name has its late string, and no other; a variable on a
+/// cycle has no value ("Rule variables" in the Ninja manual).
 pub fn late_strings_are_given()
     ensures meant { LateTextIsGiven }
     ensures one { OneTextIsGiven }

@@ -1,5 +1,5 @@
-//! What variables say for an edge, as Ninja's `EdgeEnv` does: the values that its block binds, and
-//! the late texts, which the variables of its rule say when the rule is used.
+//! The values of variables for an edge, as in Ninja's `EdgeEnv`: what its block binds, and the
+//! late strings, which are the values of its rule's variables when the rule is used.
 #![tactic(auto)]
 
 mod blocks;

@@ -6,8 +6,8 @@ ghost use Rattle.nj_edge_env.specs.Inside.BlocksHeld.{list_at, lists_of, AreStar
 use std::alloc::{AllocError, Global};
 use std::marker::Model;
 
-/// A list of numbers for each edge, up to the last that has any. The lists follow one another in one
-/// list of numbers, which has 32 bits for each, and 32 bits say where that of an edge starts.
+/// A list of numbers for each edge, up to the last that has any. The lists follow one another in
+/// one list of numbers, each of 32 bits, and 32 bits give the start of an edge's list.
 #[derive(Drop)]
 pub(crate) struct NumberLists {
     numbers: Vec<u32>,
@@ -60,7 +60,7 @@ impl NumberLists {
     }
 }
 
-// Appends this start until there are so many.
+// Appends this start until there are this many.
 fn pad(starts: &mut Vec<u32>, count: usize, start: u32) -> Result<(), AllocError>
     requires { length starts.old.items ≤ count }
     ensures padded { OnOk result (starts.new.items
@@ -70,7 +70,7 @@ fn pad(starts: &mut Vec<u32>, count: usize, start: u32) -> Result<(), AllocError
     starts.resize(count, start)
 }
 
-// The part of the numbers that starts where this index says, and ends where the next one does.
+// The part of the numbers that starts where this index gives, and ends where the next one does.
 fn part_from<'a>(numbers: &'a [u32], starts: &[u32], index: usize) -> &'a [u32]
     requires { AreStarts (length numbers.now) starts.now }
     ensures { result.now ≡ list_at (lists_of numbers.now starts.now) index }

@@ -1,4 +1,4 @@
-//! Texts of a rule's keys that were appended already.
+//! Strings of a rule's keys that were appended already.
 
 ghost use Rattle.std.specs.Prelude.{◌≡◌, ◌<◌, IfSome};
 ghost use Rattle.nj_edge_env.specs.Inside.StringsHeld.{text_known, taller, with_text};

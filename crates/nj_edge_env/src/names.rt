@@ -1,16 +1,16 @@
-//! Names that say something of their own.
+//! Names with a meaning of their own.
 
 ghost use Rattle.std.specs.Prelude.{◌≡◌};
 ghost use Rattle.nj_edge_env.specs.LateStrings.{names_paths, is_of_command, is_quoted};
 
-/// Whether the name stands for paths of an edge.
+/// Whether the name means paths of an edge.
 pub(crate) fn names_paths(name: &[u8]) -> bool
     ensures { result ≡ names_paths name.now }
 {
     name == b"in".as_slice() || name == b"in_newline".as_slice() || name == b"out".as_slice()
 }
 
-/// Whether the name says what an edge runs.
+/// Whether the name determines what an edge runs.
 pub(crate) fn is_of_command(name: &[u8]) -> bool
     ensures { result ≡ is_of_command name.now }
 {

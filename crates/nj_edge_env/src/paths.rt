@@ -1,4 +1,4 @@
-//! The paths of an edge, as texts.
+//! The paths of an edge, as byte strings.
 
 ghost use Rattle.std.specs.Prelude.{◌≡◌, ◌<◌, ◌++◌, Some, map, length, slice_get, All, OnOk, OnErr, if◌then◌else◌};
 ghost use Rattle.nj_scope.specs.Readings.{IsPrefix};

@@ -22,7 +22,7 @@ struct ReferringKey {
 
 /// Which keys of a rule refer to which where no block binds one ("Rule variables" in the Ninja
 /// manual). It is made once for a rule, and tells for each edge that uses the rule whether
-/// variables refer to each other in a cycle, in time bounded by the number of keys. It holds no key
+/// variables refer to each other in a cycle, in time bounded by the number of keys. It has no key
 /// of a rule that has no cycle, whatever a block binds.
 #[derive(Drop)]
 pub struct KeyReferences {

@@ -1,4 +1,4 @@
-//! Late texts.
+//! Late strings.
 
 ghost use Rattle.std.specs.Prelude.{◌≡◌, ◌<◌, ◌++◌, ◌∷◌, [], true, ℕ, List, length, All, IfOk, IfSome, OnOk, OnErr, is_some};
 ghost use Rattle.nj_scope.specs.Declarations.{DeclaredBy};
@@ -23,8 +23,8 @@ use std::alloc::AllocError;
 const KEYS: usize = 11;
 
 impl<'a> LateEdge<'a> {
-    /// Appends the late text of a name: what it says where it is asked for ("Rule variables" in the
-    /// Ninja manual). An edge with a cycle of its rule's variables has no late texts: ask
+    /// Appends the late string of a name: its value where it is asked for ("Rule variables" in the
+    /// Ninja manual). An edge with a cycle of its rule's variables has no late strings: ask
     /// `variable_cycle` first. For any other edge each line of the rule is expanded once, and its
     /// text is copied at each further reference. So the time grows with the text and the lines, and
     /// calls nest no deeper than the rule has keys, of which there are few.
@@ -74,8 +74,8 @@ impl<'a> LateEdge<'a> {
         self.file_value(name).is_empty()
     }
 
-    // Appends what the name says, through at most `depth` lines of the rule after its own. Returns
-    // its height, or `None` if a reference was cut off.
+    // Appends the value of the name, through at most `depth` lines of the rule after its own.
+    // Returns its height, or `None` if a reference was cut off.
     fn append_within(
         &self,
         out: &mut Vec<u8>,
@@ -116,8 +116,8 @@ impl<'a> LateEdge<'a> {
         Ok(height)
     }
 
-    // Appends what the name says, unless a line of the rule says it: then returns the number of the
-    // line's key.
+    // Appends the value of the name, unless a line of the rule binds it: then returns the number of
+    // the line's key.
     fn append_plain(
         &self,
         out: &mut Vec<u8>,
@@ -167,8 +167,8 @@ impl<'a> LateEdge<'a> {
     }
 }
 
-// The number of a key to which the rule gives a value: for a name that says what an edge runs, a
-// value without parts is not given.
+// The number of a key to which the rule gives a value: for a name that determines what an edge
+// runs, a value without parts is not given.
 fn given_key(rule: &Rule, key: &[u8]) -> Option<usize>
     ensures number { IfSome result (IsNumber rule.now.lines key.now) }
     ensures given { is_some result ≡ is_some (value_given rule.now.lines key.now) }

@@ -19,9 +19,9 @@ pub struct FileNo(pub usize);
 
 /// The paths that were named, each once. The number of a file is the index of its path.
 ///
-/// They are one text. Each is found by its hash, which is computed once for a look-up: the map leads
-/// to the newest path with that hash, and each path to the one before it with the same hash. These
-/// numbers are counted from 1, and 0 is none.
+/// They are one text. Each is found by its hash, which is computed once for a look-up: the map
+/// leads to the newest path with that hash, and each path to the one before it with the same hash.
+/// These numbers are counted from 1, and 0 is none.
 #[derive(Drop)]
 pub struct Files {
     keys: HashKeys,
@@ -184,7 +184,7 @@ fn number_at(numbers: &[u32], index: usize) -> usize
     numbers[index] as usize
 }
 
-// Appends a path that is new. Room is reserved before anything changes.
+// Appends a path that is new. Memory is reserved before anything changes.
 fn push_path(
     text: &mut Vec<u8>,
     ends: &mut Vec<u32>,
@@ -215,8 +215,7 @@ fn push_path(
     text.extend_from_slice(path)
 }
 
-// A number in 32 bits. A table that is too large for these is refused as one that there is no room
-// for.
+// A number in 32 bits. A table that is too large for these is refused as if memory ran out.
 fn short_number(number: usize) -> Result<u32, AllocError>
     ensures { IfOk result (λ short. short ≡ number) }
 {

@@ -279,7 +279,7 @@ fn set_makers(makers: &mut Makers, files: &[FileNo], edge: usize)
     }
 }
 
-// Adds the makers of the outputs that were added to those of the files in the graph.
+// Adds the makers of the added outputs to the makers of the files in the graph.
 fn add_makers(makers: &mut Makers, added: &Makers)
     requires { length added.now ≡ length makers.old }
     ensures { AreJoinedMakers makers.old added.now makers.new }
@@ -291,7 +291,7 @@ fn add_makers(makers: &mut Makers, added: &Makers)
     }
 }
 
-// The outputs and inputs of all edges in the graph, and where those of each edge are.
+// The outputs and inputs of all edges in the graph, and where each edge's are.
 #[derive(Clone, Copy)]
 struct Stated<'a> {
     outputs: &'a [FileNo],
@@ -299,7 +299,7 @@ struct Stated<'a> {
     rows: &'a Rows,
 }
 
-// The outputs and inputs that were added to edges, and where those of each edge are.
+// The outputs and inputs that were added to edges, and where each edge's are.
 #[derive(Clone, Copy)]
 struct Added<'a> {
     outputs: &'a [FileNo],
@@ -307,7 +307,7 @@ struct Added<'a> {
     edges: &'a [Option<AddedSpans>],
 }
 
-// The outputs and inputs of all edges with what was added, and where those of each edge are.
+// The outputs and inputs of all edges with what was added, and where each edge's are.
 #[derive(Drop)]
 struct JoinedLists {
     outputs: Vec<FileNo>,

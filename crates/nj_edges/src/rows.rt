@@ -1,4 +1,4 @@
-//! The rows of edges, which say where the files of each edge are.
+//! The rows of edges, which give the place of each edge's files.
 
 ghost use Rattle.std.specs.Prelude.{◌≡◌, ◌+◌, ◌<◌, ◌^◌, [], ◌∷◌, ◌++◌, Some, length, slice_get, IfOk, OnOk, OnErr};
 ghost use Rattle.nj_edges.specs.Inside.RowsHeld.{wide_row, wide_span};
@@ -7,7 +7,7 @@ use crate::edges::{EdgeRow, KindEnds, Span};
 use std::alloc::{AllocError, Global};
 use std::marker::Model;
 
-// So that the number of each edge, and that of the next one, is a `u32` when counted from 1.
+// So that the number of each edge, and the number after it, is a `u32` when counted from 1.
 const MOST_ROWS: usize = 4_294_967_294;
 
 // A part of a list, as a row keeps it.
@@ -57,7 +57,7 @@ impl Rows {
         }
     }
 
-    /// No rows, and room for this many.
+    /// No rows, and capacity for this many.
     pub(crate) fn with_capacity(alloc: Global, count: usize) -> Result<Rows, AllocError>
         ensures { IfOk result (λ rows. rows ≡ []) }
     {

@@ -19,10 +19,10 @@ pub(crate) enum RowPart {
     Validations,
 }
 
-/// The users of each file, by number: one list, in which those of a file stand together.
+/// The users of each file, by number: one list, in which the users of a file are together.
 #[derive(Drop)]
 pub(crate) struct Users {
-    /// Where the users of each file begin, and where those of the last one end.
+    /// Where the users of each file begin, and where the users of the last one end.
     pub(crate) starts: Vec<u32>,
     pub(crate) edges: Vec<EdgeNo>,
 }
@@ -172,7 +172,7 @@ fn count_use(
 }
 
 // Marks a file with an edge that uses it; whether it had that mark. A mark is one more than the
-// number of an edge, and 0 is that of no edge.
+// number of an edge, and 0 is not an edge.
 fn mark(marks: &mut [u32], file: FileNo, edge: u32) -> bool
     requires file { file.0 < length marks.old }
     requires fits { edge + 1 < 2 ^ 32 }

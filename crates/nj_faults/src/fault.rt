@@ -67,7 +67,7 @@ impl Eq for Name {
 #[derive(Debug, PartialEq, Eq, Drop)]
 pub struct Place {
     /// The name under which the file was opened: the main file's as given, another's as the
-    /// statement that names it says.
+    /// statement that names it gives.
     pub file: Name,
     pub spot: Spot,
 }
@@ -116,7 +116,7 @@ pub enum Cause {
     Tab,
     /// A `$` that begins neither a join, nor an escape, nor a reference.
     BadEscape,
-    /// Something else stands where this is wanted.
+    /// Something else is where this is wanted.
     Expected(Wanted),
     /// An indented line that belongs to no block, at its column 1.
     UnexpectedIndent,
@@ -135,7 +135,7 @@ pub enum Cause {
     DyndepShape,
     /// A path that is empty once its variables are expanded.
     EmptyPath,
-    /// A depth that is no number, or greater than 2147483647.
+    /// A depth that is not a number, or greater than 2147483647.
     BadDepth,
     /// A second rule of this name in a scope, or one named `phony`.
     DuplicateRule(Name),
@@ -183,7 +183,7 @@ pub enum Cause {
     /// A file that no build statement has as an input, where the first output made of it was asked
     /// for ("Running Ninja"); the fault has no place.
     NoOutEdge(Name),
-    /// A command or a path that JSON cannot hold, at the build statement of its edge ("Extra
+    /// A command or a path that JSON cannot contain, at the build statement of its edge ("Extra
     /// tools").
     TextNotUtf8,
     /// An allocation failed; the fault has no place.

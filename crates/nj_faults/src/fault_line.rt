@@ -13,7 +13,7 @@ use std::alloc::{AllocError, Global};
 use std::error::Error;
 use std::fmt;
 
-// A place for a fault of the parser whose text alone is wanted, which says nothing of the place.
+// A place for a fault of the parser of which only the text is wanted, which does not depend on it.
 const ANYWHERE: Spot = Spot { line: 1, column: 1 };
 
 impl GraphFault {
@@ -56,7 +56,7 @@ impl GraphFault {
     }
 }
 
-// The line of a fault, with what stands before its text where it has no place.
+// The line of a fault, with what comes before its text where it has no place.
 fn line_after(alloc: Global, fault: &GraphFault, otherwise: &str) -> Result<Vec<u8>, AllocError>
     ensures { IfOk result (λ line. line.items ≡ line_after (λ name. name) otherwise.now fault.now) }
 {
@@ -65,7 +65,7 @@ fn line_after(alloc: Global, fault: &GraphFault, otherwise: &str) -> Result<Vec<
     Ok(line)
 }
 
-// What stands before the text of a fault: its place, or what is given for a fault without one.
+// What comes before the text of a fault: its place, or what is given for a fault without one.
 fn opening_text(
     alloc: Global,
     place: &Option<Place>,
@@ -154,7 +154,7 @@ fn quoted<'a>(before: &'static str, name: &'a Name) -> FaultText<'a>
     naming(before, name, "'")
 }
 
-/// U+FFFD stands for what is not UTF-8.
+/// U+FFFD replaces what is not UTF-8.
 impl fmt::Display for Name {
     ghost output = { λ name. Some (utf8_lossy name) };
 
@@ -184,7 +184,7 @@ impl fmt::Display for Cause {
     }
 }
 
-/// `FILE:LINE:COLUMN: TEXT`, or `TEXT` where the fault has no place. In names U+FFFD stands for what
+/// `FILE:LINE:COLUMN: TEXT`, or `TEXT` where the fault has no place. In names U+FFFD replaces what
 /// is not UTF-8; [`GraphFault::bare_line`] has them as they are.
 impl fmt::Display for GraphFault {
     ghost output = { λ fault. Some (shown_line fault) };

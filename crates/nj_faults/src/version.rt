@@ -8,7 +8,7 @@ use nj_text::version_of;
 // Its major and its minor number.
 const READER_VERSION: (u64, u64) = (1, 12);
 
-/// What a fault says of a version that is newer.
+/// The text of a fault for a version that is newer.
 pub(crate) const IS_NEWER: &str = " is newer than 1.12";
 
 /// Whether a file that requires this version of Ninja is for a newer one than 1.12, by major and

@@ -9,8 +9,8 @@ use crate::graph::Graph;
 use nj_edges::EdgeNo;
 
 impl Graph {
-    /// The pool of an edge, by its name: what `pool` said at its build statement ("Pools" in the
-    /// Ninja manual). That is the value of its block, else that of its rule, else the one that the
+    /// The pool of an edge, by its name: the value of `pool` at its build statement ("Pools" in the
+    /// Ninja manual). That is the value of its block, else of its rule, else the one that the
     /// name had in its file by then. `None` if it is empty.
     pub fn pool(&self, edge: EdgeNo) -> Option<&[u8]>
         requires { edge.0 < length (edges_of self.now) }
@@ -20,7 +20,7 @@ impl Graph {
         self.built.pool(edge)
     }
 
-    /// The dyndep file of an edge, by its clean path: what `dyndep` said at its build statement
+    /// The dyndep file of an edge, by its clean path: the value of `dyndep` at its build statement
     /// ("Dynamic Dependencies" in the Ninja manual), as for `pool`. It is an input of the edge, and
     /// stays the same after it was joined. `None` if the value is empty.
     pub fn dyndep(&self, edge: EdgeNo) -> Option<&[u8]>

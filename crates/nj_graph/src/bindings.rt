@@ -27,8 +27,8 @@ impl Graph {
         self.built.blocks().name(edge.0, index)
     }
 
-    /// The value that the block of an edge binds to a name: that of the last line of this name,
-    /// expanded at the statement. `None` if no line of the block has the name.
+    /// The value that the block of an edge binds to a name: the value of the last line of this
+    /// name, expanded at the statement. `None` if no line of the block has the name.
     pub fn block_value(&self, edge: EdgeNo, name: &[u8]) -> Option<&[u8]>
         ensures { (entries : List ReadStatement) → IsGraphOf self.now entries
             → option_copied result ≡ block_at (edges_read entries) edge.0 name.now }

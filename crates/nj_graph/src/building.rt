@@ -1,4 +1,4 @@
-//! The statements that say what is built: `build` and `default`.
+//! The `build` and `default` statements.
 
 ghost use Rattle.std.specs.Prelude.{◌≡◌, ◌<◌, length, OnOk};
 ghost use Rattle.nj_manifest.specs.Contents.{words_text, build_text};

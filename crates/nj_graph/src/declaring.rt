@@ -115,7 +115,7 @@ impl Reader {
         Ok(())
     }
 
-    // The depth of a pool: what the last line of its block says.
+    // The depth of a pool: the value of the last line of its block.
     fn depth(
         &self,
         alloc: Global,

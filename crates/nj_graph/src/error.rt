@@ -13,7 +13,7 @@ use std::{error, fmt};
 /// by `?`; lack of memory is `OutOfMemory`, whichever call met it.
 #[derive(Debug, PartialEq, Eq, Drop)]
 pub enum Error {
-    /// The files are no graph, or what was asked of their graph has no answer.
+    /// The files are not a graph, or what was asked of their graph cannot be given.
     Graph(GraphFault),
     /// A path is empty, so that it has no clean form.
     EmptyPath,
@@ -21,7 +21,7 @@ pub enum Error {
     OutOfMemory,
 }
 
-/// `FILE:LINE:COLUMN: TEXT`, or `TEXT` where no place is to blame. In names U+FFFD stands for what
+/// `FILE:LINE:COLUMN: TEXT`, or `TEXT` where no place is to blame. In names U+FFFD replaces what
 /// is not UTF-8.
 impl fmt::Display for Error {
     ghost output = { λ error. Some (error_text error) };

@@ -64,7 +64,7 @@ impl Graph {
         })
     }
 
-    /// How many rules are listed: those of the main file's scope, `phony` among them.
+    /// How many rules are listed: the rules of the main file's scope, `phony` among them.
     pub fn main_rule_count(&self) -> usize
         ensures { result ≡ length (main_rules self.now) }
     {
@@ -87,8 +87,8 @@ impl Graph {
         self.description(index).is_some()
     }
 
-    /// What the last `description` line of the rule at this index says, not expanded: `${name}`
-    /// stands for a reference, and an escape is the byte that it stands for. It is empty if there
+    /// The value of the last `description` line of the rule at this index, not expanded: `${name}`
+    /// is a reference, and an escape is the byte that it means. It is empty if there
     /// is no such line.
     pub fn description_text(&self, alloc: Global, index: usize) -> Result<Vec<u8>, AllocError>
         requires { index < length (main_rules self.now) }

@@ -111,7 +111,7 @@ fn join_file<S: FileSource>(
     joining.end_file(alloc, number)
 }
 
-// The path of a dyndep file, which has to be UTF-8; the place is that of its first edge.
+// The path of a dyndep file, which has to be UTF-8; the place is its first edge's.
 fn file_name(alloc: Global, place: PlaceRef<'_>, path: &[u8]) -> Result<String, GraphFault>
     ensures { NamesFile (record { file = place.entry.file.now; spot = place.entry.spot })
         path.now result }

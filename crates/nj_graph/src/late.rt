@@ -1,4 +1,4 @@
-//! What the variables of rules say when an edge uses them.
+//! The values of rules' variables when an edge uses them.
 
 ghost use Rattle.std.specs.Prelude.{◌≡◌, ◌<◌, ◌++◌, List, Some, length, slice_get, codes, IfOk, OnOk, OnErr};
 ghost use Rattle.nj_statements.specs.Built.{detail_at};
@@ -14,9 +14,10 @@ use nj_scope::Rule;
 use std::alloc::{AllocError, Global};
 
 impl Graph {
-    /// Appends what a variable says for an edge, where its rule is used after all statements ("Rule
-    /// variables" in the Ninja manual): the paths of the edge, else the value of its block, else
-    /// that of its rule, else the last one of its file. A loop over edges can reuse one buffer.
+    /// Appends the value of a variable for an edge, where its rule is used after all statements
+    /// ("Rule variables" in the Ninja manual): the paths of the edge, else the value of its block,
+    /// else the value of its rule, else the last one of its file. A loop over edges can reuse one
+    /// buffer.
     ///
     /// # Errors
     ///
@@ -56,8 +57,8 @@ impl Graph {
         &self.declarations.rules()[self.built.detail(edge).rule]
     }
 
-    /// The command of an edge, as it is passed to a shell. That of a phony edge is its block's,
-    /// else empty.
+    /// The command of an edge, as it is passed to a shell. The command of a phony edge is its
+    /// block's, else empty.
     pub fn command(&self, alloc: Global, edge: EdgeNo) -> Result<Vec<u8>, AllocError>
         requires { edge.0 < length (edges_of self.now) }
         ensures { (entries : List ReadStatement) → IsGraphOf self.now entries
@@ -68,9 +69,9 @@ impl Graph {
     }
 
     /// The command of an edge as it is without its response file ("Rule variables" in the Ninja
-    /// manual): where the first occurrence of what `rspfile` says has an `@` directly before it,
-    /// both are replaced by what `rspfile_content` says, with a space for each line feed. A command
-    /// that does not name its response file in this way stays as it is.
+    /// manual): where the first occurrence of the value of `rspfile` has an `@` directly before it,
+    /// both are replaced by the value of `rspfile_content`, with a space for each line feed. A
+    /// command that does not name its response file in this way stays as it is.
     ///
     /// # Errors
     ///
@@ -88,7 +89,8 @@ impl Graph {
 
     /// The value of a variable for an edge, as `append_variable` appends it. Any name may be asked
     /// for; one that is bound nowhere has the empty value. Paths (`$in`, `$in_newline`, `$out`) are
-    /// quoted for a shell, except in `rspfile`, `depfile` and `dyndep`, which name files themselves.
+    /// quoted for a shell, except in `rspfile`, `depfile` and `dyndep`, which name files
+    /// themselves.
     ///
     /// The pool of an edge and its dyndep file are fixed by the values at its build statement. For
     /// `pool` and `dyndep` this call returns the values after all statements, which may differ.

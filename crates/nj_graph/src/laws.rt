@@ -4,10 +4,10 @@ ghost use Rattle.nj_graph.specs.Joining.{JoinedStaysJoined};
 ghost use Rattle.nj_graph.specs.Laws.{ReadIsFaultless, OpenFilesAreBounded, OpeningsAreBounded, OthersAreNotRead, MainRulesRise, LaterBindingsCount, LaterBindingsChangeNoEdge};
 ghost use Rattle.nj_graph.specs.Laws.{StatementsAreFoundInTurn, EntriesAreFoundInTurn, FirstPositionIsFirst, SignIsBeforeTheFirst, WordsMeanPaths, EmptyWordMeansNothing};
 
-/// What holds of the statements that are read of a run's files up to the first fault: none of them
-/// has a fault by those before it, so that the rules of the main scope have names of their own; at
-/// most 32 files are open at any of them, and no more are opened than may be; and files that the
-/// reading does not reach make no difference.
+/// What is true of the statements that are read of a run's files up to the first fault: none of
+/// them has a fault by those before it, so that the rules of the main scope have names of their
+/// own; at most 32 files are open at any of them, and no more are opened than may be; and files
+/// that the reading does not reach make no difference.
 pub fn statements_up_to_the_first_fault()
     ensures faultless { ReadIsFaultless }
     ensures open_files { OpenFilesAreBounded }
@@ -18,21 +18,21 @@ pub fn statements_up_to_the_first_fault()
 
 /// A value that a file binds after the statement of an edge affects the command of the edge, and
 /// none of its paths ("Variable expansion" in the Ninja manual): paths are expanded where they
-/// stand, and so are the pool and the dyndep file, whose faults are found there.
+/// are, and so are the pool and the dyndep file, whose faults are found there.
 pub fn bindings_after_an_edge()
     ensures count { LaterBindingsCount }
     ensures edges { LaterBindingsChangeNoEdge }
 {}
 
-/// What was joined stays joined: after a whole joining no edge waits for a dyndep file, so that
+/// What was joined stays joined: after a whole joining no edge is pending on a dyndep file, so that
 /// joining again changes no statement, and reaches no file.
 pub fn joined_dyndeps_stay_joined()
     ensures { JoinedStaysJoined }
 {}
 
-/// What is parsed of a text: the statements that the parser finds in its lines, one after the other,
-/// up to the end of the lines or up to the first fault; in a dyndep file the entries after the
-/// version, in the same way.
+/// What is parsed of a text: the statements that the parser finds in its lines, one after the
+/// other, up to the end of the lines or up to the first fault; in a dyndep file the entries after
+/// the version, in the same way.
 pub fn items_are_found_in_turn()
     ensures statements { StatementsAreFoundInTurn }
     ensures entries { EntriesAreFoundInTurn }

@@ -19,8 +19,8 @@ use std::rc::RcSlice;
 // How many files may be opened in one run, the main file and repeated ones among them.
 const MOST_OPENED: usize = 65536;
 
-/// How a statement names a file: the statements of one that is included stand in the scope of the
-/// `include`, those of another in a new scope within that of the `subninja`.
+/// How a statement names a file: the statements of one that is included are in the scope of the
+/// `include`, those of another in a new scope within the scope of the `subninja`.
 #[derive(Clone, Copy)]
 pub(crate) enum Naming {
     Include,
@@ -54,7 +54,7 @@ impl Reader {
         Ok(Opened { path, scope, text })
     }
 
-    // The path that a word says.
+    // The path that a word gives.
     fn path(&self, alloc: Global, file: OpenFile<'_>, word: &Word<'_>) -> Result<String, GraphFault>
         requires { file.scope < length self.now.declarations.scopes }
         ensures { InFile self.now file.entry (λ main site entries.
@@ -97,7 +97,7 @@ impl Reader {
         text_at(alloc, source, &mut self.files, file.place(spot), path)
     }
 
-    // The number of the scope in which the statements of a named file stand.
+    // The number of the scope of a named file's statements.
     fn scope_for(&mut self, file: OpenFile<'_>, naming: Naming) -> Result<usize, AllocError>
         requires { file.scope < length self.old.declarations.scopes }
         ensures enters { (start : Spot) (word : WordText)
@@ -119,7 +119,7 @@ impl Reader {
     }
 }
 
-// The text of the file at the path, which is read unless the table has it; a fault is that of the
+// The text of the file at the path, which is read unless the table has it; a fault is placed at the
 // word at this place. What the fault names is copied before the file is read, so that a failed read
 // is reported as such.
 pub(crate) fn text_at<S: FileSource>(

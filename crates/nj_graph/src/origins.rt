@@ -16,11 +16,11 @@ use std::marker::Model;
 #[derive(Clone, Copy, Debug, PartialEq, Eq)]
 pub struct Opening<'a> {
     /// The path as it was opened: the main file's as given, another's as the statement that names
-    /// it says.
+    /// it gives.
     pub path: &'a [u8],
     /// The place of the `include` or `subninja` that names it; `None` for the main file.
     pub named_at: Option<PlaceRef<'a>>,
-    /// The number of the scope in which its statements stand.
+    /// The number of the scope of its statements.
     pub scope: usize,
 }
 
@@ -113,7 +113,7 @@ impl Origins {
         Ok(())
     }
 
-    /// The statement at this place opens the file at the path, whose statements stand in the scope
+    /// The statement at this place opens the file at the path, whose statements are in the scope
     /// of this number.
     pub(crate) fn add_opening(
         &mut self,

@@ -19,8 +19,8 @@ impl Graph {
         self.declarations.pool_count()
     }
 
-    /// The name of the pool at this index, in the order in which they were declared; `None` past the
-    /// last one.
+    /// The name of the pool at this index, in the order in which they were declared; `None` past
+    /// the last one.
     pub fn pool_name(&self, index: usize) -> Option<&[u8]>
         ensures held { option_copied result ≡ slice_get self.now.declarations.pools index }
         ensures stated { (entries : List ReadStatement) → IsGraphOf self.now entries

@@ -1,4 +1,4 @@
-//! The reading of a run's files: texts, and their statements one after the other.
+//! The reading of a run's files: texts, and their statements one after another.
 
 ghost use Rattle.std.specs.Prelude.{◌≡◌, ◌<◌, Some, None, length, IfOk, OnOk, IfSome};
 ghost use Rattle.nj_manifest.specs.Contents.{placed_text};
@@ -20,7 +20,7 @@ use std::str;
 // How many files may be open at once, the main file among them.
 const MOST_OPEN: usize = 32;
 
-/// An open file: its name, the number of the scope in which its statements stand, and how many
+/// An open file: its name, the number of the scope of its statements, and how many
 /// files may be open within it.
 #[derive(Clone, Copy)]
 pub(crate) struct OpenFile<'a> {
@@ -49,7 +49,7 @@ impl<'a> OpenFile<'a> {
     }
 }
 
-/// The file that a statement names, and the number of the scope in which its statements stand.
+/// The file that a statement names, and the number of the scope of its statements.
 #[derive(Drop)]
 pub(crate) struct Opened {
     pub(crate) path: String,
@@ -156,7 +156,7 @@ impl Reader {
         }
     }
 
-    // Reads what a statement says itself. Returns the file that it names, if it names one.
+    // Reads what a statement itself gives. Returns the file that it names, if it names one.
     fn read_item<S: FileSource>(
         &mut self,
         alloc: Global,

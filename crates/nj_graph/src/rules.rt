@@ -1,4 +1,4 @@
-//! The rules of all scopes with their places, and those of edges.
+//! The rules of all scopes with their places, and the rules of edges.
 
 ghost use Rattle.std.specs.Prelude.{◌≡◌, ◌<◌, List, length, option_map};
 ghost use Rattle.nj_scope.specs.ReadingList.{ReadStatement, rules_read};

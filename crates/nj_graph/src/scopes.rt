@@ -22,7 +22,7 @@ impl Graph {
         self.declarations.scope_count()
     }
 
-    /// The number of the scope in which the build statement of an edge stands.
+    /// The number of the scope of an edge's build statement.
     pub fn edge_scope(&self, edge: EdgeNo) -> usize
         requires { edge.0 < length (edges_of self.now) }
         ensures there { result < length self.now.declarations.scopes }

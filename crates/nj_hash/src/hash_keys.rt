@@ -46,7 +46,7 @@ impl HashKeys {
     /// in last, in a step of its own: so `a` and `\0a` differ, which are the same number, and no
     /// bytes can be chosen that make up for more or fewer of them.
     ///
-    /// These too are reasons, and the contract says what is computed.
+    /// These too are reasons, and the contract states what is computed.
     pub fn hash_bytes(&self, bytes: &[u8]) -> u64
         ensures { result ≡ hash_bytes self.now bytes.now }
     {

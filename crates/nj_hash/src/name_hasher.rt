@@ -26,7 +26,7 @@ const GOLDEN_RATIO: u64 = 0x9e37_79b9_7f4a_7c15;
 /// blocks differ in the top bit, twice in a row, would collide whatever was drawn, and the low bits
 /// of a hash, which choose a place in a table, would tell little of the blocks.
 ///
-/// These are reasons, and nothing of them is proved: the contracts say what is computed.
+/// These are reasons, and nothing of them is proved: the contracts state what is computed.
 #[derive(Clone, Copy)]
 pub struct NameHasher {
     state: u64,

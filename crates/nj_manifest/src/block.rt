@@ -14,7 +14,7 @@ use crate::steps::{expect_sign, name_next};
 use nj_text::{Lexer, LineStart, Sign, Spot, Word};
 use std::alloc::{AllocError, Global};
 
-// For how many lines there is room as soon as a block has one. Few blocks have more.
+// The capacity for lines that a block gets with its first. Few blocks have more.
 const LINES_AT_FIRST: usize = 8;
 
 /// Which keys the lines of a block may have.
@@ -88,7 +88,7 @@ fn line_next<'a>(
     })
 }
 
-/// Appends a line, in room for several.
+/// Appends a line, with capacity for several.
 fn push_line<'a>(lines: &mut Vec<Line<'a>>, line: Line<'a>) -> Result<(), AllocError>
     ensures { OnOk result (lines.new.items ≡ lines.old.items ++ line.entry ∷ []) }
 {

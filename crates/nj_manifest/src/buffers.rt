@@ -1,4 +1,4 @@
-//! Room for the lists of the next statement.
+//! Buffers for the lists of the next statement.
 
 ghost use Rattle.std.specs.Prelude.{◌≡◌, []};
 

@@ -64,7 +64,7 @@ fn entry_after<'a>(
 /// Reads the entries of a dyndep file, one after the other ("Dyndep file reference" in the Ninja
 /// manual).
 ///
-/// An entry holds slices of the text.
+/// An entry has slices of the text.
 #[derive(Drop)]
 pub struct DyndepParser<'a> {
     lexer: Lexer<'a>,

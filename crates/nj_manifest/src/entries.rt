@@ -72,7 +72,7 @@ fn word_of_form<'a>(
     Ok(())
 }
 
-/// Refuses a path that stands here, at its first unit.
+/// Refuses a path that is here, at its first unit.
 #[tactic(auto, unfolding(crate::specs::Dyndeps::no_path))]
 fn no_path<'a>(alloc: Global, lexer: &mut Lexer<'a>) -> Result<(), ParseFault<'a>>
     ensures { LeadsTo result lexer.new (no_path lexer.old) }

@@ -57,22 +57,22 @@ impl Wanted {
 }
 
 /// Why the statements of a text could not be read further. Places are of the unit at which no
-/// statement goes on, unless another is named.
+/// statement continues, unless another is named.
 #[derive(Clone, Copy, Debug, PartialEq, Eq)]
 pub enum ParseFault<'a> {
     /// A bad unit, or out of memory.
     Lex(LexFault),
-    /// Something else stands where this is wanted.
+    /// Something else is where this is wanted.
     Expected(Spot, Wanted),
     /// An indented line that belongs to no block; the place is column 1 of that line.
     UnexpectedIndent(Spot),
-    /// A rule without `command`; the place is that of the statement.
+    /// A rule without `command`; the place is the statement's.
     MissingCommand(Spot),
-    /// A rule with only one of `rspfile` and `rspfile_content`; the place is that of the statement.
+    /// A rule with only one of `rspfile` and `rspfile_content`; the place is the statement's.
     RspPair(Spot),
     /// A key that the block may not have, at its place.
     UnknownKey(Spot, &'a [u8]),
-    /// A pool without `depth`; the place is that of the statement.
+    /// A pool without `depth`; the place is the statement's.
     MissingDepth(Spot),
     /// A dyndep file that does not begin with its version; the place is that of the first
     /// statement, or the end of the text.
@@ -122,7 +122,7 @@ impl<'a> ParseFault<'a> {
     }
 }
 
-/// `LINE:COLUMN: TEXT`, or `TEXT` for lack of memory. In a name U+FFFD stands for what is not
+/// `LINE:COLUMN: TEXT`, or `TEXT` for lack of memory. In a name U+FFFD replaces what is not
 /// UTF-8.
 impl fmt::Display for ParseFault<'_> {
     ghost output = { λ fault. Some (shown_fault (fault_text fault)) };

@@ -8,8 +8,8 @@ use std::alloc::AllocError;
 use std::fmt;
 use std::marker::Model;
 
-/// The text of a fault: a name between two fixed texts, or two names, before, between and after
-/// which a fixed text stands. The names are as they stand in files, so they need not be UTF-8.
+/// The text of a fault: a name between two fixed texts, or two names with fixed texts before,
+/// between and after them. The names are as they are in files, so they need not be UTF-8.
 #[derive(Debug, Drop)]
 pub struct FaultText<'a> {
     opening: &'static str,
@@ -114,7 +114,7 @@ impl<'a> FaultText<'a> {
     }
 }
 
-/// In a name U+FFFD stands for what is not UTF-8.
+/// In a name U+FFFD replaces what is not UTF-8.
 impl fmt::Display for FaultText<'_> {
     ghost output = { λ text. Some text.shown };
 

@@ -7,7 +7,7 @@ ghost use Rattle.nj_manifest.specs.DyndepVersions.{VersionsAreTheForms};
 ghost use Rattle.nj_manifest.specs.DyndepLeftmost.{DyndepFaultsAreLeftmost, UnitsOfStringsAreApart};
 
 /// A statement is read from lines, or none at their end, exactly where the forms of Ninja's manual
-/// say so.
+/// allow it.
 pub fn statements_are_the_forms()
     ensures { StatementsAreTheForms }
 {}
@@ -18,9 +18,9 @@ pub fn missing_lines_are_lacking()
     ensures { MissingLinesAreLacking }
 {}
 
-/// A fault of syntax stands at the first element with which no statement goes on: whatever follows
-/// it, the answer is this fault. From what is before that element a statement does go on, with what
-/// the fault says is expected.
+/// A fault of syntax is at the first element with which no statement continues: whatever follows
+/// it, the result is this fault. From what is before that element a statement does continue, with
+/// what the fault names as expected.
 pub fn faults_are_leftmost()
     ensures { FaultsAreLeftmost }
 {}
@@ -30,20 +30,21 @@ pub fn dyndep_entries_are_the_forms()
     ensures { EntriesAreTheForms }
 {}
 
-/// An entry of a dyndep file is read from lines, or none at their end, exactly where the forms say
-/// so.
+/// An entry of a dyndep file is read from lines, or none at their end, exactly where the forms
+/// allow it.
 pub fn next_entries_are_the_forms()
     ensures { NextEntriesAreTheForms }
 {}
 
-/// The version of a dyndep file is read from lines exactly where the form says so.
+/// The version of a dyndep file is read from lines exactly where the form allows it.
 pub fn dyndep_versions_are_the_forms()
     ensures { VersionsAreTheForms }
 {}
 
-/// A fault of an entry of a dyndep file stands at the first element with which no entry goes on:
-/// whatever follows it, the answer is this fault. From what is before that element an entry does go
-/// on, with what the fault says is expected; before a line that is one too many it is complete.
+/// A fault of an entry of a dyndep file is at the first element with which no entry continues:
+/// whatever follows it, the result is this fault. From what is before that element an entry does
+/// continue, with what the fault names as expected; before a line that is one too many it is
+/// complete.
 pub fn dyndep_faults_are_leftmost()
     ensures { DyndepFaultsAreLeftmost }
 {}

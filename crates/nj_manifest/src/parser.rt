@@ -17,7 +17,7 @@ use std::marker::Model;
 /// Reads the statements of a Ninja file, one after the other ("Ninja file reference" in the Ninja
 /// manual).
 ///
-/// It holds the text as a slice and copies no part of it; a statement holds slices of the text.
+/// It keeps the text as a slice and copies no part of it; a statement has slices of the text.
 #[derive(Drop)]
 pub struct Parser<'a> {
     lexer: Lexer<'a>,
@@ -73,7 +73,7 @@ impl<'a> Parser<'a> {
     }
 
     /// Takes a statement back, whichever it is: the next one is read into the memory of its lists.
-    /// What the calls answer stays the same.
+    /// What the calls return stays the same.
     pub fn reuse(&mut self, statement: Statement<'a>)
         ensures { self.new ≡ self.old }
     {

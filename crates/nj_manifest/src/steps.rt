@@ -33,7 +33,7 @@ pub fn name_next<'a>(
     }
 }
 
-/// Takes a sign that has to stand there.
+/// Takes a sign that has to be there.
 #[tactic(auto, unfolding(crate::specs::LineSteps::expect_sign))]
 #[inline(always)]
 pub fn expect_sign<'a>(
@@ -49,7 +49,7 @@ pub fn expect_sign<'a>(
     Err(ParseFault::Expected(lexer.spot(), wanted))
 }
 
-/// The words from here on, up to what is no word.
+/// The words from here on, up to what is not a word.
 pub fn words_next<'a>(
     alloc: Global,
     lexer: &mut Lexer<'a>,

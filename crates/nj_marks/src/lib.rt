@@ -1,4 +1,4 @@
-//! Marks: where a walk over the needed edges goes on, and their texts.
+//! Marks: where a walk over the needed edges continues, and their written form.
 #![tactic(auto)]
 
 mod fault;

@@ -1,4 +1,4 @@
-//! Marks, and their texts.
+//! Marks, and their written form.
 
 ghost use Rattle.std.specs.Prelude.{◌≡◌, [], ◌∷◌, Some, IfOk, IfErr, string_bytes, codes};
 ghost use Rattle.std.specs.Str.{bytes_eq};
@@ -56,7 +56,7 @@ impl Mark {
         self.numbers.as_slice()
     }
 
-    /// The mark that a text says: `start`, or the numbers of an address, joined by `.`, without
+    /// The mark that a text gives: `start`, or the numbers of an address, joined by `.`, without
     /// leading zeros.
     ///
     /// # Errors

@@ -10,8 +10,9 @@ pub fn unfolding_law()
     ensures edges { EdgesComeAfterMakers }
 {}
 
-/// The needed commands are exactly those of the edges that the targets reach; none is listed twice;
-/// and each comes after all others that its edge needs by any chain, also through phony edges.
+/// The needed commands are exactly the commands of the edges that the targets reach; none is listed
+/// twice; and each comes after all others that its edge needs by any chain, also through phony
+/// edges.
 pub fn order_law()
     ensures reached { CommandsAreTheReached }
     ensures once { CommandsComeOnce }
@@ -24,8 +25,9 @@ pub fn place_law()
 {}
 
 /// What is left at a mark is a suffix of the needed commands. What is left after some edges of a
-/// walk is what is left at the mark after them; so the joined pages of runs, each of which goes on
-/// at the mark of the one before, and then what is left after the last, are what was left at first.
+/// walk is what is left at the mark after them; so the joined pages of runs, each of which
+/// continues at the mark of the one before, and then what is left after the last, are what was left
+/// at first.
 pub fn page_law()
     ensures keeps { MarkKeepsTheRest }
     ensures join { PagesJoin }

@@ -56,10 +56,10 @@ impl<'g> Needs<'g> {
         Ok(Needs { walk, saved })
     }
 
-    /// The walk that goes on at a mark: the edges left are those that were left there, in the same
-    /// order. Any mark that leads to an edge at each step will do, even one that no walk returned.
-    /// That is decided before anything is allocated; then all the memory that the walk needs is
-    /// reserved.
+    /// The walk that continues at a mark: the edges left are those that were left there, in the
+    /// same order. Any mark that leads to an edge at each step will do, even one that no walk
+    /// returned. That is decided before anything is allocated; then all the memory that the walk
+    /// needs is reserved.
     ///
     /// # Errors
     ///
@@ -108,7 +108,7 @@ impl<'g> Needs<'g> {
         Mark::from_numbers(alloc, &self.saved.numbers)
     }
 
-    /// How many turns were taken, those of resuming included: looks at a place of the target list
+    /// How many turns were taken, including those of resuming: looks at a place of the target list
     /// or of a list of inputs, and closings of an edge. The count stays at the greatest `u64`.
     pub fn turns(&self) -> u64
         ensures turns { result ≡ saturated self.now.turns }

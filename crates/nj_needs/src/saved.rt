@@ -16,7 +16,7 @@ pub(crate) struct Saved {
 }
 
 impl Saved {
-    /// These numbers, with room for `room` numbers.
+    /// These numbers, with capacity for `capacity` numbers.
     pub fn new(alloc: Global, numbers: &[u64], capacity: usize) -> Result<Saved, AllocError>
         requires { length numbers.now ≤ capacity }
         ensures numbers { IfOk result (λ s. s.numbers.items ≡ numbers.now) }
@@ -42,8 +42,8 @@ impl Saved {
     }
 
     /// Takes the address of the edge that was closed last, and stood at this index in the row on
-    /// top of the path. Only what changed since the address before is written, into room that is
-    /// there.
+    /// top of the path. Only what changed since the address before is written, into capacity that
+    /// is there.
     pub fn save(&mut self, path: &[Frame], at: usize)
         requires front { KeepsFront self.old path.now }
         requires capacity { length path.now < vec_capacity self.old.numbers }
@@ -61,7 +61,7 @@ impl Saved {
     }
 }
 
-// Writes into room that is there.
+// Writes within the capacity.
 fn push_within(numbers: &mut Vec<u64>, number: u64)
     requires { vec_len numbers.old < vec_capacity numbers.old }
     ensures items { numbers.new.items ≡ numbers.old.items ++ number ∷ [] }

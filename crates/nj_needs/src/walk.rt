@@ -10,7 +10,7 @@ use crate::frame::Frame;
 use crate::turns::Turns;
 use std::alloc::{AllocError, Global};
 
-/// Where a walk stands: the open edges, the first that was opened first; the next place in the
+/// Where a walk is: the open edges, the first that was opened first; the next place in the
 /// inputs of the last of them, or in the targets where none is open; and for each edge whether it
 /// is done.
 #[derive(Drop)]
@@ -32,7 +32,7 @@ pub(crate) enum Turn {
 }
 
 impl<'g> Walk<'g> {
-    /// A walk from the start, with room for every path. Fails only if an allocation fails.
+    /// A walk from the start, with capacity for every path. Fails only if an allocation fails.
     pub fn new(alloc: Global, turns: Turns<'g>, begun: usize) -> Result<Walk<'g>, AllocError>
         requires { turns.taken ≡ saturated begun }
         ensures walk { IfOk result (λ w. IsWalk w) }
@@ -116,7 +116,7 @@ pub(crate) fn top_edge(path: &[Frame]) -> Option<usize>
     }
 }
 
-// Opens an edge, in room that is there.
+// Opens an edge, within the capacity.
 fn push_within(path: &mut Vec<Frame>, frame: Frame)
     requires { vec_len path.old < vec_capacity path.old }
     ensures items { path.new.items ≡ path.old.items ++ frame ∷ [] }

@@ -1,4 +1,4 @@
-//! What a graph has, as texts.
+//! What a graph has, as text.
 
 ghost use Rattle.std.specs.Prelude.{◌<◌, length, All};
 ghost use Rattle.nj_graph.specs.Graph.{edges_of, files_of};
@@ -165,7 +165,7 @@ fn put_users(
     text.extend_from_slice(b"\n")
 }
 
-/// Appends what a variable says for each edge, a line each.
+/// Appends the value of a variable for each edge, a line each.
 fn put_variable(text: &mut Vec<u8>, graph: &Graph, name: &[u8]) -> Result<(), AllocError> {
     'edges: for number in 0..graph.edge_count() {
         graph.append_variable(text, EdgeNo(number), name)?;

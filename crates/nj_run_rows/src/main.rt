@@ -1,6 +1,6 @@
-//! Runs the rows of files: each gives some files and words, and has the text that is wanted of them.
-//! Prints each row that differs, and how many rows there are. CONTRIBUTING.md says how rows are
-//! written.
+//! Runs the rows of files: each gives some files and words, and has the text that is wanted of
+//! them. Prints each row that differs, and how many rows there are. CONTRIBUTING.md describes how
+//! rows are written.
 #![tactic(auto)]
 
 mod given;

@@ -1,4 +1,4 @@
-//! What rows ask for, as texts.
+//! What rows ask for, as text.
 
 use crate::given::Given;
 use crate::graphs::put_of_graph;
@@ -71,7 +71,7 @@ pub fn line_of(alloc: Global, fault: &GraphFault) -> Result<Vec<u8>, AllocError>
     Ok(line)
 }
 
-/// What the graph of the files has to say, or the line of their first fault.
+/// What the graph of the files has, or the line of their first fault.
 fn of_graph(alloc: Global, given: &Given<'_>, row: &Block<'_>) -> Result<Vec<u8>, AllocError> {
     let mut files = given.source()?;
     match load(alloc, &mut files, "build.ninja") {
@@ -80,7 +80,7 @@ fn of_graph(alloc: Global, given: &Given<'_>, row: &Block<'_>) -> Result<Vec<u8>
     }
 }
 
-/// What a graph has to say.
+/// What a graph has.
 fn given_by(alloc: Global, graph: &Graph, row: &Block<'_>) -> Result<Vec<u8>, AllocError> {
     let word = bytes_of(alloc, row.rest)?;
     let mut text = Vec::new(alloc);

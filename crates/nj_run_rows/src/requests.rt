@@ -20,7 +20,7 @@ fn put_tool(text: &mut String, tool: &str, words: &[String]) -> Result<(), Alloc
     put_words(text, words)
 }
 
-/// Those of the names whose flag is on.
+/// The names whose flag is on.
 fn put_flags(text: &mut String, flags: &[(bool, &str)]) -> Result<(), AllocError> {
     'flags: for (is_on, name) in flags {
         if *is_on {

@@ -4,7 +4,7 @@ use nj_graph::{EdgeNo, Graph, Loaded, MemoryFiles, Rule, load};
 use std::process::Abort;
 use std::test::*;
 
-/// What a main file, a file `s` and an empty file `t` say, which have no fault.
+/// What a main file, a file `s` and an empty file `t` give, which have no fault.
 fn loaded(rt: &impl AllocGlobal, main: &[u8], s: &[u8]) -> Result<Loaded, Fail> {
     let mut source = MemoryFiles::new(rt.alloc());
     source.add("build.ninja", main)?;
@@ -54,7 +54,7 @@ fn append_names(text: &mut Vec<u8>, loaded: &Loaded) -> Result<(), Fail> {
     Ok(())
 }
 
-/// Appends a name in brackets; `-` stands where there is none.
+/// Appends a name in brackets; `-` if there is none.
 fn append_named(text: &mut Vec<u8>, name: Option<&[u8]>) -> Result<(), Fail> {
     text.push(b'[')?;
     match name {

@@ -9,7 +9,7 @@ const PLAIN: &[u8] = b"rule cc\n  command = cc $in\nbuild o: cc a.c\n";
 
 const NOT_UTF8: &[u8] = b"rule cc\n  command = cc \xFF\nbuild o: cc a.c\n";
 
-/// Asks for a target, a mark, and the compilation database in so many bytes.
+/// Asks for a target, a mark, and the compilation database within this many bytes.
 fn ask(
     alloc: Global,
     loaded: &Loaded,

@@ -1,4 +1,4 @@
-//! Answers that are too large for a row.
+//! Outputs that are too large for a row.
 
 use crate::pages::row_of;
 use crate::runs::run_within;

@@ -1,5 +1,5 @@
-//! Worked runs of `ninja-explain` of which no row of `nj_run_rows` can speak, readings of a disk, and
-//! writes to sinks.
+//! Worked runs of `ninja-explain` of which no row of `nj_run_rows` can speak, readings of a disk,
+//! and writes to sinks.
 #![tactic(auto)]
 
 #[cfg(test)]

@@ -13,7 +13,7 @@ fn outcome(rt: &impl AllocGlobal, source: &mut MemoryFiles) -> Result<Vec<u8>, A
     }
 }
 
-/// So many lines `subninja e`, and one more.
+/// This many lines `subninja e`, and one more.
 fn repeated(rt: &impl AllocGlobal, subninjas: usize, last: &[u8]) -> Result<Vec<u8>, Fail> {
     let mut text = Vec::new(rt.alloc());
     for _ in 0..subninjas {
@@ -87,8 +87,8 @@ fn tells_the_kind_of_a_syntax_fault(rt: HostRuntime) -> Result<(), Fail> {
     Ok(())
 }
 
-// Syntax, an empty path and one that is no text come before the number of open files, and it before
-// what is at the path.
+// Syntax, an empty path and one that is not UTF-8 come before the number of open files, and it
+// before what is at the path.
 #[test]
 fn at_most_32_files_are_open(rt: HostRuntime) -> Result<(), Fail> {
     for (last, want) in [
@@ -127,7 +127,7 @@ fn at_most_65536_files_are_opened(rt: HostRuntime) -> Result<(), Fail> {
     Ok(())
 }
 
-// The number of open files comes before that of all that were opened.
+// The number of open files comes before the number of files that were opened.
 #[test]
 fn both_limits_are_reached(rt: HostRuntime) -> Result<(), Fail> {
     for (subninjas, last, want) in [

@@ -14,14 +14,15 @@ const FIVE: &[u8] =
 
 const FIVE_COMMANDS: &[u8] = b"mk a\nmk c\nmk b1\nmk b2\nmk d\n";
 
-/// The mark that a run told; an empty text if it told none.
+/// The mark that a run reported; an empty text if it reported none.
 fn mark_reported(alloc: Global, reported: &[u8]) -> Result<String, AllocError> {
     let line = str::from_utf8(reported).unwrap_or("");
     let mark = line.strip_prefix("mark ").unwrap_or(line);
     String::from_str(alloc, mark.trim_end())
 }
 
-/// Appends what a page of so many commands writes, from a mark on. Returns the mark that it told.
+/// Appends what a page of this many commands writes, from a mark on. Returns the mark that it
+/// reported.
 fn put_page(
     alloc: Global,
     text: &mut Vec<u8>,
@@ -37,8 +38,8 @@ fn put_page(
     mark_reported(alloc, error.bytes())
 }
 
-/// Appends what pages of so many commands write, each resumed at the mark of the one before, and
-/// what the last one told.
+/// Appends what pages of this many commands write, each resumed at the mark of the one before, and
+/// what the last one reported.
 fn put_pages(
     alloc: Global,
     text: &mut Vec<u8>,
@@ -52,7 +53,7 @@ fn put_pages(
     text.extend_from_slice(mark.as_bytes())
 }
 
-/// What pages of so many commands of a main file write together.
+/// What pages of this many commands of a main file write together.
 fn joined(alloc: Global, main: &[u8], takes: &[&str]) -> Result<Vec<u8>, AllocError> {
     let mut files = main_file(alloc, main)?;
     let mut text = Vec::new(alloc);
@@ -87,7 +88,7 @@ fn pages_join_to_the_whole(rt: HostRuntime) -> Result<(), Fail> {
     Ok(())
 }
 
-/// Edges in a row, each with the one before so many times.
+/// Edges in a row, each with the one before as an input this many times.
 fn put_row(text: &mut String, len: usize, times: usize) -> Result<(), AllocError> {
     text.push_str("rule mk\n  command = mk $out\nbuild e0: mk")?;
     for before in 0..len.saturating_sub(1) {
@@ -115,7 +116,8 @@ fn row_commands(alloc: Global, len: usize) -> Result<String, AllocError> {
     Ok(text)
 }
 
-/// The commands of a row of edges, in these pages, are those of all its edges from the first on.
+/// The commands of a row of edges, in these pages, are the commands of all its edges from the first
+/// on.
 fn row_is_written(
     rt: &(impl Abort + AllocGlobal),
     len: usize,
@@ -136,7 +138,7 @@ fn writes_rows_of_edges(rt: HostRuntime) -> Result<(), Fail> {
     row_is_written(&rt, 5_000, 1, &["2500", "2500"])
 }
 
-/// What a main file says, which has no fault.
+/// What a main file gives, which has no fault.
 fn loaded(alloc: Global, main: &[u8]) -> Result<Loaded, Fail> {
     let mut files = main_file(alloc, main)?;
     match load(alloc, &mut files, "build.ninja") {
@@ -162,8 +164,8 @@ fn walked(alloc: Global, graph: &Graph, target: &[u8], mark: &Mark) -> Result<(u
     Ok((count, needs.turns()))
 }
 
-/// The walk to a target of a main file returns so many commands from a mark on, in at most so many
-/// turns, and from the start in just so many.
+/// The walk to a target of a main file returns this many commands from a mark on, in at most this
+/// many turns, and from the start in exactly this many.
 fn walks(
     rt: &(impl Abort + AllocGlobal),
     main: &[u8],
@@ -180,7 +182,7 @@ fn walks(
     Ok(())
 }
 
-/// The walk over a row of edges takes so many turns.
+/// The walk over a row of edges takes this many turns.
 fn walks_a_row(
     rt: &(impl Abort + AllocGlobal),
     len: usize,

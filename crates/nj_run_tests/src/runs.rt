@@ -1,5 +1,6 @@
-//! Whole runs over files and sinks in memory, of which no row can speak. How a run ends is one text:
-//! what it wrote, the number of its status in brackets, and what it told on its error output.
+//! Whole runs over files and sinks in memory, of which no row can speak. How a run ends is one
+//! text: what it wrote, the number of its status in brackets, and what it reported on its error
+//! output.
 
 use nj_cli::{
     Action, FileSource, Mark, MemoryFiles, MemorySink, Request, SourceFault, Status, run_tool,
@@ -43,7 +44,7 @@ fn ending(
     Ok(text)
 }
 
-/// How a run with these words ends, with an output that takes so many bytes.
+/// How a run with these words ends, with an output that takes this many bytes.
 fn run(
     alloc: Global,
     files: &mut MemoryFiles,

@@ -5,7 +5,8 @@ use std::io::{ErrorKind, Write};
 
 const LINES: &[u8] = b"mk a\nmk b1\n";
 
-/// Takes at most so many bytes at a call, and counts the calls. The call `fails_at` is interrupted.
+/// Takes at most a given number of bytes at a call, and counts the calls. The call `fails_at` is
+/// interrupted.
 #[derive(Drop)]
 struct Slow {
     taken: Vec<u8>,

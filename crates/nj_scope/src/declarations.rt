@@ -147,7 +147,7 @@ impl Declarations {
         self.scopes.open(parent)
     }
 
-    /// What the word says in this scope, by what is bound so far.
+    /// The value of the word in this scope, by what is bound so far.
     pub fn expand(
         &self,
         alloc: Global,
@@ -163,7 +163,7 @@ impl Declarations {
         self.scopes.expand(alloc, scope, word)
     }
 
-    /// Appends to the text what the word says in this scope, by what is bound so far.
+    /// Appends to the text the value of the word in this scope, by what is bound so far.
     pub fn append_expanded(
         &self,
         scope: usize,
@@ -189,8 +189,8 @@ impl Declarations {
         self.scopes.value(scope, name)
     }
 
-    /// The value of the name in this scope, by what is bound so far: that of the nearest scope,
-    /// itself or around it, that binds the name. `None` if none does.
+    /// The value of the name in this scope, by what is bound so far: its value in the nearest
+    /// scope, itself or around it, that binds the name. `None` if none does.
     pub fn value_if_bound(&self, scope: usize, name: &[u8]) -> Option<&[u8]>
         requires { scope < length self.now.scopes }
         ensures { (entries : List ReadStatement) (around : List ℕ) → DeclaredBy self.now entries
@@ -200,7 +200,7 @@ impl Declarations {
         self.scopes.value_if_bound(scope, name)
     }
 
-    /// How many scopes there are: that of the main file, and one more for each `subninja`.
+    /// How many scopes there are: the main file's, and one more for each `subninja`.
     pub fn scope_count(&self) -> usize
         ensures { result ≡ length self.now.scopes }
     {
@@ -221,17 +221,17 @@ impl Declarations {
         self.pools.count()
     }
 
-    /// The name of the pool at this index, in the order in which they were declared; `None` past the
-    /// last one.
+    /// The name of the pool at this index, in the order in which they were declared; `None` past
+    /// the last one.
     pub fn pool_name(&self, index: usize) -> Option<&[u8]>
         ensures { option_copied result ≡ slice_get self.now.pools index }
     {
         self.pools.name(index)
     }
 
-    /// The number of the rule that is in force under the name in this scope: its own, else that of
-    /// the nearest scope around it that declares one. `phony` is always there. `None` if there is
-    /// none.
+    /// The number of the rule that is in force under the name in this scope: its own, else the rule
+    /// of the nearest scope around it that declares one. `phony` is always there. `None` if there
+    /// is none.
     pub fn rule(&self, scope: usize, name: &[u8]) -> Option<usize>
         requires { scope < length self.now.scopes }
         ensures in_force { (entries : List ReadStatement) (around : List ℕ)

@@ -20,8 +20,8 @@ struct LatePart {
     is_name: bool,
 }
 
-/// A value that is expanded when it is used, as those of a rule's block are: its bytes and names in
-/// order, kept apart from the file in which they stand.
+/// A value that is expanded when it is used, as the values of a rule's block are: its bytes and
+/// names in order, kept apart from the file that they are in.
 #[derive(Drop)]
 pub struct LateValue {
     text: Vec<u8>,
@@ -77,7 +77,7 @@ impl LateValue {
     }
 
     /// The value as a text, not expanded: a name is written in `${` and `}`, and an escape as the
-    /// byte that it stands for.
+    /// byte that it means.
     pub fn written(&self, alloc: Global) -> Result<Vec<u8>, AllocError>
         ensures { IfOk result (λ text. text.items ≡ parts_written self.now) }
     {
@@ -126,7 +126,7 @@ pub(crate) fn written_len(word: &Word<'_>) -> usize {
     len
 }
 
-// Appends a part to the text, as it could stand in a file.
+// Appends a part to the text, as it could be written in a file.
 fn append_written(text: &mut Vec<u8>, part: Part<'_>) -> Result<(), AllocError>
     ensures { OnOk result (text.new.items ≡ text.old.items ++ part_written (part_text part.entry)) }
 {

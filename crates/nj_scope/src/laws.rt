@@ -1,4 +1,4 @@
-//! Laws of what names stand for. A law is a theorem, stated as a function with an empty body.
+//! Laws of the values of names. A law is a theorem, stated as a function with an empty body.
 
 ghost use Rattle.nj_scope.specs.Laws.{LastBindingCounts, OthersAreInherited, OthersKeepTheirs, InForceIsDeclared};
 

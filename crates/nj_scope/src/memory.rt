@@ -1,4 +1,4 @@
-//! Files in memory, in place of those of a disk.
+//! Files in memory, in place of files on a disk.
 
 ghost use Rattle.std.specs.Prelude.{◌≡◌, ℕ, ◌+◌, ◌-◌, ◌^◌, ◌≤◌, ◌↔◌, List, [], ◌∷◌, ◌++◌, Some, None, min, find, reverse, string_bytes, option_copied, if◌then◌else◌, bytes_eq, IfOk, OnOk, OnErr, IsErrOf};
 ghost use Rattle.nj_scope.specs.Memory.{bytes_added};
@@ -102,7 +102,7 @@ impl FileSource for MemoryFiles {
         // It fails by `Io` when that is due, and only then.
         ensures fails_when_due { IsErrOf result SourceFault.Io ↔ (self.old.due ≡ 1) }
 
-        // It answers the bytes that were added last.
+        // It returns the bytes that were added last.
         ensures outcome { IfOk result (λ outcome.
             outcome_bytes outcome ≡ bytes_added self.old.added path.now) }
 

@@ -130,7 +130,7 @@ impl Rule {
         line_at(&self.lines, &self.last, number).key.as_slice()
     }
 
-    /// The value of the key of this number: that of its last line, since the last one counts.
+    /// The value of the key of this number: the value of its last line, since the last one counts.
     pub fn key_value(&self, number: usize) -> &LateValue
         requires { number < key_count self.now.lines }
         ensures { given self.now.lines (key_at self.now.lines number) ≡ Some result.now }
@@ -146,7 +146,7 @@ impl Rule {
         number_among(&self.lines, &self.last, key)
     }
 
-    /// The value of a key: that of the last line which has the key, since the last one counts.
+    /// The value of a key: the value of the last line with the key, since the last one counts.
     /// `None` if there is none.
     pub fn value(&self, key: &[u8]) -> Option<&LateValue>
         ensures { option_copied result ≡ given self.now.lines key.now }

@@ -124,7 +124,7 @@ impl Scopes {
         Ok(())
     }
 
-    /// The number of the rule that this scope declares under the name, else that of the nearest
+    /// The number of the rule that this scope declares under the name, else the rule of the nearest
     /// scope around it that declares one.
     pub fn rule(&self, scope: usize, name: &[u8]) -> Option<usize>
         requires { scope < length self.now }
@@ -141,8 +141,8 @@ impl Scopes {
         None
     }
 
-    /// The value of the name in this scope: its own, else that of the nearest scope around it that
-    /// binds the name. An unknown name is empty.
+    /// The value of the name in this scope: its own, else its value in the nearest scope around it
+    /// that binds the name. An unknown name is empty.
     pub fn value(&self, scope: usize, name: &[u8]) -> &[u8]
         requires { scope < length self.now }
         ensures { (around : List ℕ) → IsScope (parent_at self.now) scope around
@@ -154,8 +154,8 @@ impl Scopes {
         }
     }
 
-    /// The value of the name in this scope: its own, else that of the nearest scope around it that
-    /// binds the name. `None` if none does.
+    /// The value of the name in this scope: its own, else its value in the nearest scope around it
+    /// that binds the name. `None` if none does.
     pub fn value_if_bound(&self, scope: usize, name: &[u8]) -> Option<&[u8]>
         requires { scope < length self.now }
         ensures { (around : List ℕ) → IsScope (parent_at self.now) scope around
@@ -199,7 +199,7 @@ impl Scopes {
         self.scopes[scope].parent
     }
 
-    /// What the word says in this scope: its bytes, and the values of the names in it.
+    /// The value of the word in this scope: its bytes, and the values of the names in it.
     pub fn expand(
         &self,
         alloc: Global,
@@ -216,7 +216,7 @@ impl Scopes {
         Ok(text)
     }
 
-    /// Appends to the text what the word says in this scope.
+    /// Appends to the text the value of the word in this scope.
     pub fn append_expanded(
         &self,
         scope: usize,

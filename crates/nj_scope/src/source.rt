@@ -8,7 +8,7 @@ use std::alloc::{AllocError, AllocFailed, Global};
 use std::error::Error;
 use std::fmt;
 
-/// Why a file could not be read. That no file is at a path is no fault.
+/// Why a file could not be read. That there is no file at a path is not a fault.
 #[derive(Clone, Copy, Debug, PartialEq, Eq)]
 pub enum SourceFault {
     /// The file is there, or may be, and reading it failed.
@@ -65,8 +65,8 @@ pub trait FileSource {
     fn read(&mut self, alloc: Global, path: &str) -> Result<Option<Vec<u8>>, SourceFault>
         ensures { ReadsPath (state self.old) (state self.new) path.now result };
 
-    /// The keys for maps of names that stand in its files. A source of files that strangers may
-    /// have written draws them; no answer depends on them, only how long it takes.
+    /// The keys for maps of names in its files. A source of files that strangers may
+    /// have written draws them; no result depends on them, only how long it takes.
     fn hash_keys(&self) -> HashKeys {
         HashKeys::default()
     }

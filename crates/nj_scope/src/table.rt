@@ -48,8 +48,8 @@ impl FileTable {
         self.files.len()
     }
 
-    /// The path at this index, in the order in which the paths were first read; `None` past the last
-    /// one.
+    /// The path at this index, in the order in which the paths were first read; `None` past the
+    /// last one.
     pub fn path(&self, index: usize) -> Option<&[u8]>
         ensures { option_copied result ≡ slice_get (paths_of self.now) index }
     {
@@ -82,8 +82,8 @@ impl FileTable {
     ///
     /// # Errors
     ///
-    /// Those of the source, and `OutOfMemory` where the table cannot grow. The table is then as it
-    /// was, though the source may have read the file.
+    /// The faults of the source, and `OutOfMemory` where the table cannot grow. The table is then
+    /// as it was, though the source may have read the file.
     pub fn open<S: FileSource>(
         &mut self,
         alloc: Global,

@@ -14,7 +14,7 @@ use nj_manifest::Line;
 use nj_scope::Declarations;
 use std::alloc::AllocError;
 
-/// Binds what the lines of an edge's block say; `text` is room for their values.
+/// Binds what the lines of an edge's block give; `text` is a buffer for their values.
 pub(crate) fn bind_block(
     blocks: &mut Blocks,
     text: &mut Vec<u8>,

@@ -96,8 +96,8 @@ impl Building {
     /// The first fault of the statement: an unknown rule, then its outputs from left to right, each
     /// an empty path or one that has a maker, then an empty path among its inputs and validations,
     /// and then a cycle of the rule's variables, a pool that is not declared, or a dyndep file that
-    /// is no input ("Rule variables", "Pools" and "Dynamic Dependencies" in the manual). After a
-    /// fault the edges and defaults are those that were read before, but this edge may be read in
+    /// is not an input ("Rule variables", "Pools" and "Dynamic Dependencies" in the manual). After
+    /// a fault the edges and defaults are those that were read before, but this edge may be read in
     /// part, and nothing more may be read.
     pub fn read_build(
         &mut self,
@@ -162,7 +162,7 @@ impl Building {
         ensures refused { OnErr result (AddsNothing self.old self.new) }
     {
         let edge = self.details.as_slice().len();
-        // Room is made first, so that nothing can fail once the edge is there.
+        // Capacity is made first, so that nothing can fail once the edge is there.
         self.details.reserve(1)?;
         self.dyndeps.reserve(1)?;
         let file = self.names.file(place.file)?;

@@ -129,7 +129,7 @@ impl Built {
         &self.blocks
     }
 
-    /// What the build statement of an edge says beside its files and its block.
+    /// What the build statement of an edge gives beside its files and its block.
     pub fn detail(&self, edge: EdgeNo) -> EdgeDetail<'_>
         requires { edge.0 < length self.now.graph.edges }
         ensures file { result.place.file.now ≡ (detail_at self.now.details edge.0).file }
@@ -145,7 +145,7 @@ impl Built {
         }
     }
 
-    /// The pool of an edge, by its name: what `pool` said at its build statement ("Pools" in the
+    /// The pool of an edge, by its name: the value of `pool` at its build statement ("Pools" in the
     /// Ninja manual). `None` if that was nothing.
     pub fn pool(&self, edge: EdgeNo) -> Option<&[u8]>
         requires { edge.0 < length self.now.graph.edges }
@@ -154,7 +154,7 @@ impl Built {
         self.names.numbered(self.details[edge.0].pool)
     }
 
-    /// The dyndep file of an edge, by its clean path: what `dyndep` said at its build statement
+    /// The dyndep file of an edge, by its clean path: the value of `dyndep` at its build statement
     /// ("Dynamic Dependencies" in the Ninja manual). `None` if that was nothing.
     pub fn dyndep(&self, edge: EdgeNo) -> Option<&[u8]>
         requires { edge.0 < length self.now.graph.edges }

@@ -1,4 +1,4 @@
-//! Room for the text of a word, and for its clean path.
+//! Buffers for the text of a word, and for its clean path.
 
 ghost use Rattle.std.specs.Prelude.{◌≡◌, [], ◌∷◌, false, Err, IfOk, OnOk, IfSome};
 ghost use Rattle.nj_text.specs.Calls.{is_empty};
@@ -12,7 +12,7 @@ ghost use Rattle.nj_statements.specs.Joining.{no_values};
 use nj_text::{Part, TextFault, Word, clean_into, is_clean};
 use std::alloc::{AllocError, Global};
 
-/// Room for the text of a word, and for its clean path.
+/// Buffers for the text of a word, and for its clean path.
 #[derive(Drop)]
 pub(crate) struct Capacity {
     pub(crate) text: Vec<u8>,
@@ -20,7 +20,7 @@ pub(crate) struct Capacity {
 }
 
 impl Capacity {
-    /// No room yet. It allocates nothing.
+    /// Empty buffers. It allocates nothing.
     pub(crate) fn new(alloc: Global) -> Capacity {
         Capacity {
             text: Vec::new(alloc),
@@ -41,11 +41,11 @@ impl Capacity {
         }
     }
 
-    /// The path that a word says if each reference is empty: a slice of its file if that is clean.
+    /// The path that a word gives if each reference is empty: a slice of its file if that is clean.
     ///
     /// # Errors
     ///
-    /// `EmptyPath` if it says nothing, and `OutOfMemory` if an allocation failed.
+    /// `EmptyPath` if it gives nothing, and `OutOfMemory` if an allocation failed.
     pub(crate) fn plain_path<'w>(&'w mut self, word: &'w Word<'_>) -> Result<&'w [u8], TextFault>
         ensures path { IfOk result (λ path. path.now ≡ path_given no_values (word_text word.now)) }
         ensures meant { OnOk result (is_empty (expanded no_values (word_text word.now).parts)
@@ -61,7 +61,7 @@ impl Capacity {
     }
 }
 
-// Sets a text to what a word says if each reference is empty.
+// Sets a text to the value of a word if each reference is empty.
 fn plain_text(text: &mut Vec<u8>, word: &Word<'_>) -> Result<(), AllocError>
     ensures { OnOk result (text.new.items ≡ expanded no_values (word_text word.now).parts) }
 {
@@ -74,7 +74,7 @@ fn plain_text(text: &mut Vec<u8>, word: &Word<'_>) -> Result<(), AllocError>
     Ok(())
 }
 
-/// The bytes of a word that is a clean path as it stands.
+/// The bytes of a word that is a clean path as it is.
 pub(crate) fn clean_bytes<'b>(word: &'b Word<'_>) -> Option<&'b [u8]>
     ensures path { (values : Values)
         → IfSome result (λ path. path.now ≡ path_given values (word_text word.now)) }

@@ -1,4 +1,4 @@
-//! Where a statement stands, and what names mean there.
+//! Where a statement is, and what names mean there.
 
 ghost use Rattle.std.specs.Prelude.{◌<◌, Some, length};
 ghost use Rattle.nj_faults.specs.Faults.{IsFault, fault_at};
@@ -9,8 +9,8 @@ use nj_scope::Declarations;
 use nj_text::Spot;
 use std::alloc::Global;
 
-/// Where a statement stands, and what names mean there: what the block of its edge binds, else
-/// what its scope says. A statement that is no edge has the number of the next one, which binds
+/// Where a statement is, and what names mean there: what the block of its edge binds, else the
+/// value in its scope. A statement that is not an edge has the number of the next one, which binds
 /// nothing yet.
 #[derive(Clone, Copy)]
 pub(crate) struct Context<'a> {

@@ -8,7 +8,7 @@ use nj_edges::FileNo;
 use nj_text::Spot;
 use std::alloc::AllocError;
 
-/// An edge without its paths and its block: the number of the file in which its statement stands,
+/// An edge without its paths and its block: the number of the file of its statement,
 /// its place there, the numbers of its scope and of its rule; and what is assigned to it.
 #[derive(Clone, Copy)]
 pub(crate) struct Detail {
@@ -22,7 +22,7 @@ pub(crate) struct Detail {
 }
 
 /// What is assigned to an edge at its build statement ("Pools" and "Dynamic Dependencies" in the
-/// Ninja manual): the numbers of its pool and of the path of its dyndep file among the texts that
+/// Ninja manual): the numbers of its pool and of the path of its dyndep file among the strings that
 /// are kept, which count from 1, where 0 is none; and the dyndep file.
 #[derive(Clone, Copy)]
 pub(crate) struct Assigned {
@@ -32,7 +32,7 @@ pub(crate) struct Assigned {
 }
 
 impl Detail {
-    /// The detail of an edge that stands at this place of the file of this number, and to which
+    /// The detail of an edge that is at this place of the file of this number, and to which
     /// nothing is assigned yet. Numbers that
     /// take more than 32 bits are refused as if there were no memory for them.
     pub(crate) fn new(

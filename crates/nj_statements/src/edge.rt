@@ -232,7 +232,7 @@ fn add_files(
     })
 }
 
-// The edge that is being read, with these ends of its kinds, for its late texts.
+// The edge that is being read, with these ends of its kinds, for its late strings.
 fn late_edge<'a>(
     context: Context<'a>,
     edges: &'a Edges,

@@ -55,7 +55,7 @@ pub struct Joining {
     dyndep_files: Vec<DyndepEdge>,
     // for each edge, the dyndep file to which it is bound
     bound: Vec<Option<FileNo>>,
-    // for each file, how many edges wait for what it says
+    // for each file, how many edges are pending on it
     unjoined: Vec<usize>,
     capacity: Capacity,
 }
@@ -74,7 +74,7 @@ impl Model for Joining {
 }
 
 impl Built {
-    /// Whether edges wait for what dyndep files say.
+    /// Whether edges are pending on dyndep files.
     pub fn has_pending(&self) -> bool
         ensures { result ≡ has_pending self.now.pending }
     {
@@ -231,7 +231,7 @@ impl Joining {
         Ok(())
     }
 
-    /// Checks after the last entry of this dyndep file that no edge waits for it.
+    /// Checks after the last entry of this dyndep file that no edge is pending on it.
     ///
     /// # Errors
     ///
@@ -269,7 +269,7 @@ impl Joining {
         Ok(place.fault(alloc, Cause::DyndepNoStatement(output, path)))
     }
 
-    /// What the edges yield with what was joined to them, once no edge waits. Takes time in
+    /// What the edges yield with what was joined to them, once no edge is pending. Takes time in
     /// proportion to the edges and their files.
     ///
     /// # Errors
@@ -306,7 +306,7 @@ impl Joining {
     }
 }
 
-// The lowest-numbered edge that waits for a dyndep file.
+// The lowest-numbered edge that is pending on a dyndep file.
 fn pending_edge(edges: &JoiningEdges, bound: &[Option<FileNo>], file: FileNo) -> Option<EdgeNo>
     requires { length bound.now ≡ length edges.now.stated }
     ensures { option_map (λ edge. edge.0) result ≡ first_edge (λ w. is_bound_to w file)
@@ -342,7 +342,7 @@ struct DyndepLine<'a> {
 }
 
 impl DyndepLine<'_> {
-    // The path that a word says.
+    // The path that a word gives.
     fn path<'w>(
         self,
         capacity: &'w mut Capacity,

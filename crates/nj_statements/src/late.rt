@@ -70,8 +70,8 @@ impl Context<'_> {
         }
     }
 
-    // Refuses a pool that no earlier statement declares; `text` is room for its name. Returns its
-    // number.
+    // Refuses a pool that no earlier statement declares; `text` is a buffer for its name. Returns
+    // its number.
     #[tactic(auto, using(crate::proofs::AssignedLemmas::prefix_same))]
     fn check_pool(
         self,
@@ -102,7 +102,7 @@ impl Context<'_> {
         Err(self.place.fault(self.alloc, cause))
     }
 
-    // The dyndep file of the edge, if there is one. Refuses one that is no input of the edge.
+    // The dyndep file of the edge, if there is one. Refuses one that is not an input of the edge.
     fn check_dyndep(
         self,
         edge: LateEdge<'_>,
@@ -133,7 +133,7 @@ impl Context<'_> {
     }
 }
 
-// Sets a text to what a name says.
+// Sets a text to the value of a name.
 fn give(edge: LateEdge<'_>, text: &mut Vec<u8>, name: &[u8]) -> Result<(), AllocError>
     ensures { (entries : List ReadStatement) (n : LateNames) → SeesLate edge.entry entries n
         → OnOk result (text.new.items ≡ asked_text n name.now) }

@@ -6,18 +6,18 @@ ghost use Rattle.nj_statements.specs.Laws.{EntriesAddToTheirEdges, EdgesMakeWhat
 ghost use Rattle.nj_statements.specs.Laws.{NoFileGetsTwoMakers};
 ghost use Rattle.nj_statements.specs.Laws.{PendingEdgesRise, DyndepFilesComeOnce};
 
-/// What a dyndep file says is added to one edge that waits for it; that edge then waits no longer.
-/// The other edges stay as they are and wait as before, and what names, rules and defaults say does
-/// not change.
+/// What a dyndep file gives is added to one edge that is pending on it; that edge is then no longer
+/// pending. The other edges stay as they are and pending as before, and the values of names, rules
+/// and defaults do not change.
 pub fn discovered_files_are_added()
     ensures added { AddsToOneEdge }
     ensures unjoined { OthersArePendingAsBefore }
     ensures names { NamesStay }
 {}
 
-/// An entry of a dyndep file that has no fault means one edge that waits for the file, and what it
-/// discovers is added to that edge: it makes the outputs, which no edge made before, and each other
-/// file has the maker that it had.
+/// An entry of a dyndep file that has no fault means one edge that is pending on the file, and what
+/// it discovers is added to that edge: it makes the outputs, which no edge made before, and each
+/// other file has the maker that it had.
 pub fn entries_add_to_their_edges()
     ensures added { EntriesAddToTheirEdges }
     ensures makers { EdgesMakeWhatIsDiscovered }
@@ -29,12 +29,12 @@ pub fn no_file_gets_two_makers()
     ensures { NoFileGetsTwoMakers }
 {}
 
-/// The edges that wait for dyndep files are in ascending order of number, each once.
+/// The edges that are pending on dyndep files are in ascending order of number, each once.
 pub fn pending_edges_rise()
     ensures { PendingEdgesRise }
 {}
 
-/// The dyndep files of the edges that wait are in the order of their first edges, each once.
+/// The dyndep files of the pending edges are in the order of their first edges, each once.
 pub fn dyndep_files_come_once()
     ensures { DyndepFilesComeOnce }
 {}

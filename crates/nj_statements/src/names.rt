@@ -1,4 +1,4 @@
-//! The names on a line, and the paths that its words say.
+//! The names on a line, and the paths that its words give.
 
 ghost use Rattle.std.specs.Prelude.{◌≡◌, IfOk, OnOk};
 ghost use Rattle.nj_text.specs.Words.{part_text, word_text};
@@ -25,7 +25,7 @@ impl Context<'_> {
         }
     }
 
-    // What a part says.
+    // The value of a part.
     fn part_given<'w>(&'w self, part: &'w Part<'_>) -> &'w [u8]
         ensures { (values : Values) → SeesNames self.now values
             → result.now ≡ part_expanded values (part_text part.now) }
@@ -36,7 +36,7 @@ impl Context<'_> {
         }
     }
 
-    /// Sets a text to what a word says.
+    /// Sets a text to the value of a word.
     pub(crate) fn expand(&self, text: &mut Vec<u8>, word: &Word<'_>) -> Result<(), AllocError>
         ensures { (values : Values) → SeesNames self.now values
             → OnOk result (text.new.items ≡ expanded values (word_text word.now).parts) }
@@ -48,7 +48,7 @@ impl Context<'_> {
         Ok(())
     }
 
-    /// The path that a word says: a slice of its file if that is clean.
+    /// The path that a word gives: a slice of its file if that is clean.
     pub(crate) fn path<'w>(
         self,
         capacity: &'w mut Capacity,

@@ -63,7 +63,7 @@ fn references_kept(kept: &[Option<KeyReferences>], number: usize) -> Option<&Key
     }
 }
 
-// Makes room for what is kept of this many rules.
+// Makes capacity for what is kept of this many rules.
 fn make_capacity(kept: &mut Vec<Option<KeyReferences>>, count: usize) -> Result<(), AllocError>
     ensures capacity { OnOk result (count ≤ length kept.new.items) }
     ensures same { SameReferences kept.old.items kept.new.items }

@@ -1,4 +1,4 @@
-//! Texts that are kept by number.
+//! Strings that are kept by number.
 
 ghost use Rattle.std.specs.Prelude.{◌≡◌, ◌<◌, ◌+◌, [], Some, option_map, option_copied, length, slice_get, IfOk, IfSome};
 ghost use Rattle.nj_scope.specs.Readings.{IsPrefix};
@@ -11,12 +11,12 @@ use nj_scope::HashKeys;
 use std::alloc::{AllocError, Global};
 use std::marker::Model;
 
-/// Texts by their numbers, each once: the names of the files in which edges stand and of pools, and
+/// Strings by their numbers, each once: the names of the files of edges and of pools, and
 /// the paths of dyndep files.
 #[derive(Drop)]
 pub(crate) struct Texts {
     strings: Files,
-    // the number of the file in which the last edge stands
+    // the number of the file of the last edge
     file: Option<FileNo>,
 }
 
@@ -31,7 +31,7 @@ impl Model for Texts {
 }
 
 impl Texts {
-    /// No texts. It allocates nothing.
+    /// No strings. It allocates nothing.
     pub(crate) fn new(alloc: Global, keys: HashKeys) -> Texts
         ensures { result ≡ [] }
     {
@@ -41,8 +41,8 @@ impl Texts {
         }
     }
 
-    /// The number of the file of this name, in which an edge stands. It is looked up only where the
-    /// edge before stands in another file.
+    /// The number of the file of this name, in which there is an edge. It is looked up only where
+    /// the edge before is in another file.
     pub(crate) fn file(&mut self, name: &[u8]) -> Result<u32, AllocError>
         ensures number { IfOk result (λ number. slice_get self.new number ≡ Some name.now) }
         ensures grows { IsPrefix self.old self.new }

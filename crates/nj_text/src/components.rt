@@ -8,7 +8,7 @@ ghost use Rattle.nj_text.specs.Inside.Cleaning.{component_of, components_left, a
 
 use crate::names::are_names;
 
-/// What a component between two slashes says.
+/// What a component between two slashes means.
 #[derive(Clone, Copy)]
 pub enum Component {
     /// Nothing, or `.`: stay where you are.
@@ -68,7 +68,7 @@ pub fn after_ups(text: &[u8]) -> &[u8]
     left
 }
 
-/// Whether each component of the text stands in its clean path as it is; `named` tells whether a
+/// Whether each component of the text is in its clean path as it is; `named` tells whether a
 /// name came before.
 pub fn all_stay(text: &[u8], named: bool) -> bool
     ensures { result ≡ all_stay named (slice_split is_slash text.now) }
@@ -76,7 +76,7 @@ pub fn all_stay(text: &[u8], named: bool) -> bool
     are_names(text) || each_stays(text, named)
 }
 
-/// Whether each component of the text stands as it is, by a look at one after another.
+/// Whether each component of the text stays as it is, by a look at one after another.
 fn each_stays(text: &[u8], mut named: bool) -> bool
     ensures { result ≡ all_stay named (slice_split is_slash text.now) }
 {

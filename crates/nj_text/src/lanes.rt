@@ -1,9 +1,9 @@
 //! Sixteen bytes at once.
 //!
-//! Nearly all bytes of a manifest stand in runs: paths, flags, names. So the bytes of a run are not
+//! Nearly all bytes of a manifest are in runs: paths, flags, names. So the bytes of a run are not
 //! tested one by one: sixteen of them are loaded as the lanes of a vector and compared with each
 //! byte that ends a run, and the first lane with such a byte is where the run ends. Each test is
-//! that of a single byte, for all 256 bytes.
+//! the test of a single byte, for all 256 bytes.
 
 ghost use Rattle.std.specs.Prelude.{◌≡◌, not, map, bit_and, slice_index_or};
 ghost use Rattle.std.specs.Simd.Lanes.{mask_l};

@@ -222,7 +222,7 @@ impl<'a> Lexer<'a> {
         }
     }
 
-    /// The place of the next byte; after a fault, that of the fault.
+    /// The place of the next byte; after a fault, the fault's place.
     pub fn spot(&self) -> Spot
         ensures { result ≡ spot_of self.now }
     {

@@ -1,4 +1,4 @@
-//! What stands at a line's start, and how lines begin.
+//! What is at a line's start, and how lines begin.
 
 ghost use Rattle.std.specs.Prelude.{◌≡◌, ◌<◌, false, length, MatchOption, IfSome};
 ghost use Rattle.nj_text.specs.Units.{opens_comment};
@@ -12,7 +12,7 @@ use crate::runs::{Run, first_byte};
 use crate::state::State;
 use crate::unit::{NextUnit, next_unit};
 
-/// What stands where a line begins ("Lexical syntax" in the Ninja manual).
+/// What is where a line begins ("Lexical syntax" in the Ninja manual).
 #[derive(Clone, Copy, Debug, PartialEq, Eq)]
 pub enum LineStart {
     /// The end of the text.
@@ -109,7 +109,7 @@ fn begin_after_spaces(cursor: Cursor<'_>) -> Begun<'_>
     }
 }
 
-/// How the next line begins, which is no comment.
+/// How the next line begins, which is not a comment.
 fn begin_text_line(cursor: Cursor<'_>) -> Begun<'_>
     requires { opens_comment cursor.rest.now ≡ false }
     ensures { BegunIs (lines_at cursor.entry) result }

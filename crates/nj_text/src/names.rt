@@ -1,7 +1,7 @@
 //! Components that are seen to be names sixteen bytes at a time.
 //!
 //! Nearly all components of a manifest's paths are names, and few names begin with a dot. So where
-//! no slash stands before a slash or a dot, no component is looked at by itself: sixteen bytes are
+//! no slash comes before a slash or a dot, no component is looked at by itself: sixteen bytes are
 //! compared at once with the sixteen that begin one byte later.
 
 ghost use Rattle.std.specs.Prelude.{◌≡◌, ◌+◌, ◌<◌, length};
@@ -14,7 +14,7 @@ ghost use Rattle.nj_text.specs.Inside.Cleaning.{any, begins_name, ends_with_slas
 use crate::lanes::LANES;
 use std::simd::prelude::*;
 
-/// A bit for each lane, set where a slash stands before a slash or a dot.
+/// A bit for each lane, set where a slash comes before a slash or a dot.
 #[inline(always)]
 fn suspects(bytes: u8x16, next: u8x16) -> u64
     ensures { result ≡ mask_l (zip2 is_suspect bytes next) }
@@ -23,7 +23,7 @@ fn suspects(bytes: u8x16, next: u8x16) -> u64
         & (next.simd_eq(u8x16::splat(b'/')) | next.simd_eq(u8x16::splat(b'.')))).to_bitmask()
 }
 
-/// Whether a slash stands before a slash or a dot, among the sixteen bytes from `start` on.
+/// Whether a slash comes before a slash or a dot, among the sixteen bytes from `start` on.
 #[inline(always)]
 fn has_suspect_from(text: &[u8], start: usize) -> bool
     requires { start + 16 < length text.now }
@@ -35,7 +35,7 @@ fn has_suspect_from(text: &[u8], start: usize) -> bool
     ) != 0
 }
 
-/// Whether a slash stands before a slash or a dot. The last sixteen bytes may overlap with those
+/// Whether a slash comes before a slash or a dot. The last sixteen bytes may overlap with those
 /// before them, so that none is left to be tested alone.
 #[inline]
 fn has_suspect(text: &[u8]) -> bool
@@ -69,7 +69,7 @@ fn ends_with_slash(text: &[u8]) -> bool
     matches!(text, [.., b'/'])
 }
 
-/// Whether each component is seen at once to be a name; `false` says nothing. Short texts are not
+/// Whether each component is seen at once to be a name; `false` means nothing. Short texts are not
 /// looked at.
 #[inline]
 #[tactic(auto, using(crate::proofs::NamesSeen::names_seen))]

@@ -21,7 +21,7 @@ pub fn leading_number(text: &[u8]) -> Option<u64>
 
 /// The major and the minor number of a version, as `ninja_required_version` states it ("Version
 /// requirements" in the Ninja manual): the numbers at the front of what comes before the first `.`
-/// and after it, each 0 if there is no digit. For `1.8.2` that is `(1, 8)`.
+/// and after it, each 0 if there are no digits. For `1.8.2` that is `(1, 8)`.
 pub fn version_of(text: &[u8]) -> (u64, u64)
     ensures { result ≡ version_pair_of text.now }
 {

@@ -15,7 +15,7 @@ use crate::word::Part;
 use smallvec::SmallVec;
 use std::alloc::Global;
 
-/// How many parts get room at once, after the first.
+/// The capacity for parts that is made at once, after the first.
 const RESERVED_PARTS: usize = 7;
 
 /// A text with references.
@@ -36,7 +36,7 @@ pub enum NextPart<'a> {
     Join(Cursor<'a>),
     /// Nothing that belongs to it.
     End,
-    /// A unit at which no text goes on.
+    /// A unit at which no text continues.
     Bad(UnitFault),
 }
 

@@ -3,7 +3,7 @@
 ghost use Rattle.nj_text.specs.PathLaws.{CleanedPathsAreClean, CleanPathsStay, CleaningIsIdempotent};
 
 /// A cleaned path is clean: it is `.` or `/`, or no component of it is empty or `.`, and `..`
-/// stands only before all other components, and in no absolute path.
+/// comes only before all other components, and in no absolute path.
 pub fn cleaned_paths_are_clean()
     ensures { CleanedPathsAreClean }
 {}

@@ -11,7 +11,7 @@ ghost use Rattle.nj_text.specs.Quotes.{is_plain_byte};
 use crate::lanes::LANES;
 use std::simd::prelude::*;
 
-/// How many plain bytes stand at the front.
+/// How many plain bytes are at the front.
 #[inline]
 pub fn plain_front(path: &[u8]) -> usize
     ensures { result ≡ prefix_len is_plain_byte path.now }
@@ -31,7 +31,7 @@ fn is_plain_byte(byte: u8) -> bool
     matches!(byte, b'a'..=b'z' | b'A'..=b'Z' | b'0'..=b'9' | b'_' | b'+' | b'-' | b'.' | b'/')
 }
 
-/// How many plain bytes stand at the front, tested byte by byte.
+/// How many plain bytes are at the front, tested byte by byte.
 #[inline]
 fn front_by_bytes(path: &[u8]) -> usize
     ensures { result ≡ prefix_len is_plain_byte path.now }
@@ -46,7 +46,7 @@ fn front_by_bytes(path: &[u8]) -> usize
     length
 }
 
-/// How many plain bytes stand at the front, tested sixteen at a time. The last sixteen may overlap
+/// How many plain bytes are at the front, tested sixteen at a time. The last sixteen may overlap
 /// with those before them, so that none is left to be tested alone.
 #[inline]
 fn front_by_lanes(path: &[u8]) -> usize

@@ -33,7 +33,7 @@ fn is_name_byte(byte: u8) -> bool
     matches!(byte, b'a'..=b'z' | b'A'..=b'Z' | b'0'..=b'9' | b'_' | b'-')
 }
 
-/// Whether a byte stands for itself.
+/// Whether a byte means itself.
 #[inline(always)]
 pub fn is_ordinary_byte(byte: u8) -> bool
     ensures { result ≡ in_run Run.Value byte }

@@ -14,7 +14,7 @@ use crate::fault::UnitFault;
 use crate::runs::first_byte;
 use crate::unit::{NextUnit, bad_unit, next_unit};
 
-/// A sign between the parts of a line. Of `|`, `||` and `|@` the longest that stands there counts.
+/// A sign between the parts of a line. Of `|`, `||` and `|@` the longest that is there counts.
 #[derive(Clone, Copy, Debug, PartialEq, Eq)]
 pub enum Sign {
     /// `:`
@@ -59,7 +59,7 @@ fn begins_with(byte: u8, bytes: &[u8]) -> bool
     }
 }
 
-/// The length of the sign, which is no line end, if it comes next; else 0.
+/// The length of the sign, which is not a line end, if it comes next; else 0.
 #[inline(always)]
 pub fn sign_length(want: Sign, bytes: &[u8]) -> usize
     ensures { result ≡ sign_length want bytes.now }
@@ -85,7 +85,7 @@ pub fn sign_length(want: Sign, bytes: &[u8]) -> usize
 pub enum SignTaken<'a> {
     /// It does not follow the blanks, which end here.
     No(Cursor<'a>),
-    /// It was there, and the line goes on here.
+    /// It was there, and the line continues here.
     InLine(Cursor<'a>),
     /// It ended the line, and the next one begins here.
     LineEnd(Cursor<'a>),

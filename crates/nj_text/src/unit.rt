@@ -14,7 +14,7 @@ use crate::runs::{first_byte, is_ordinary_byte};
 pub enum NextUnit<'a> {
     /// The end of the text.
     End,
-    /// A byte that stands for itself.
+    /// A byte that means itself.
     Ordinary(u8),
     /// A join: how many bytes it takes, and how many of them are spaces of the next line.
     Join(usize, usize),
@@ -24,7 +24,7 @@ pub enum NextUnit<'a> {
     Reference(&'a [u8], usize),
     /// A line end: how many bytes it takes.
     LineEnd(usize),
-    /// A byte that may not stand here.
+    /// A byte that may not be here.
     BadByte,
     /// A `$` that begins nothing.
     BadEscape,

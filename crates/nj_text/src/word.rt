@@ -7,14 +7,14 @@ use std::default::Default;
 /// A part of a word or of a value.
 #[derive(Clone, Copy, Debug, PartialEq, Eq)]
 pub enum Part<'a> {
-    /// Bytes that stand for themselves: a run of ordinary bytes, or the byte of an escape.
+    /// Bytes that mean themselves: a run of ordinary bytes, or the byte of an escape.
     Bytes(&'a [u8]),
-    /// A reference: the name of the variable whose value stands here.
+    /// A reference: the name of the variable whose value is put here.
     Name(&'a [u8]),
 }
 
 impl Default for Part<'_> {
-    /// No bytes: what an unused place for a part holds.
+    /// No bytes: what an unused place for a part has.
     fn default() -> Self {
         Part::Bytes(b"")
     }

@@ -20,9 +20,9 @@ use nj_needs::{Mark, Needs};
 use std::alloc::{AllocError, Global};
 
 /// Writes the commands of the edges that are left to a walk over this graph, a line each; at most
-/// `take` of them if that is given. Returns the mark at which the walk can go on if more are left,
-/// and `None` if not ("Extra tools" in the Ninja manual, `commands`). The walk itself must not be
-/// used again after this call.
+/// `take` of them if that is given. Returns the mark at which the walk can be resumed if more are
+/// left, and `None` if not ("Extra tools" in the Ninja manual, `commands`). The walk itself must
+/// not be used again after this call.
 ///
 /// # Errors
 ///
@@ -117,7 +117,7 @@ fn one_fewer(remaining: Option<u64>) -> Option<u64>
     }
 }
 
-// Appends the command of an edge to the text that waits, and writes that if it fills a block.
+// Appends the command of an edge to the pending text, and writes that if it fills a block.
 fn write_command<S: Sink>(
     graph: &Graph,
     edge: EdgeNo,

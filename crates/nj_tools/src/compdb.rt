@@ -70,8 +70,8 @@ pub fn write_compdb<S: Sink>(
     }
 }
 
-// Writes the objects of edges. Returns the first edge that JSON cannot hold, before which it stops;
-// `None` if there is none.
+// Writes the objects of edges. Returns the first edge that JSON cannot contain, before which it
+// stops; `None` if there is none.
 fn write_objects<S: Sink>(
     alloc: Global,
     graph: &Graph,

@@ -13,7 +13,7 @@ use std::fmt;
 /// Why a tool stopped before the end of its text.
 #[derive(Clone, Copy, Debug, PartialEq, Eq)]
 pub enum ToolFault {
-    /// A text of this edge is not UTF-8, so that JSON cannot hold it; from `compdb` only.
+    /// A text of this edge is not UTF-8, so that JSON cannot contain it; from `compdb` only.
     TextNotUtf8(EdgeNo),
     /// The sink failed.
     Write,

@@ -152,7 +152,7 @@ fn write_new_file<S: Sink>(
     write_path(graph.path(file), style, text, out)
 }
 
-// Appends a path as it is printed, with what ends it, to the text that waits, and writes that if it
+// Appends a path as it is printed, with what ends it, to the pending text, and writes that if it
 // fills a block.
 fn write_path<S: Sink>(
     path: &[u8],
@@ -281,7 +281,7 @@ fn write_paths<S: Sink>(
     Ok(())
 }
 
-// Appends a text with what ends it to the text that waits, and writes that if it fills a block.
+// Appends a text with what ends it to the pending text, and writes that if it fills a block.
 fn write_terminated<S: Sink>(
     bytes: &[u8],
     style: InputsStyle,

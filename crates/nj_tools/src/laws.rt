@@ -23,8 +23,8 @@ pub fn list_law()
     ensures listed { ListedHaveLines }
 {}
 
-/// What `inputs` writes is the printed texts of exactly the inputs, in each style one for each, and
-/// no two the same. Unless it is in the order of dependencies, the texts are in strictly ascending
+/// What `inputs` writes is the printed form of exactly the inputs, in each style one for each, and
+/// no two the same. Unless it is in the order of dependencies, the lines are in strictly ascending
 /// byte order. Without options they are the quotes of the inputs, a line each.
 pub fn input_lines_law()
     ensures rise { SortedInputsRise }
@@ -33,9 +33,9 @@ pub fn input_lines_law()
     ensures plain { PlainInputsAreSortedQuotes }
 {}
 
-/// What `compdb` writes is one array of JSON, where all texts of the listed edges are UTF-8: an
+/// What `compdb` writes is one array of JSON, where all strings of the listed edges are UTF-8: an
 /// object for each of these edges, in their order, with exactly the keys `directory`, `command`,
-/// `file` and `output`, in this order, and the texts of the edge under them.
+/// `file` and `output`, in this order, with the strings of the edge.
 pub fn compdb_law()
     ensures { CompdbIsJson }
 {}

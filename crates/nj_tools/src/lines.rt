@@ -9,7 +9,7 @@ use crate::fault::ToolFault;
 use crate::sinks::Sink;
 use std::alloc::AllocError;
 
-/// Appends a line of three parts to the text that waits, and writes that if it fills a block.
+/// Appends a line of three parts to the pending text, and writes that if it fills a block.
 pub(crate) fn write_line<S: Sink>(
     out: &mut S,
     text: &mut Vec<u8>,

@@ -63,7 +63,7 @@ impl MemorySink {
         self.bytes.as_slice()
     }
 
-    // The prefix of the bytes that the limit leaves room for.
+    // The prefix of the bytes that fits within the limit.
     fn fitting<'a>(&self, bytes: &'a [u8]) -> &'a [u8]
         ensures { result.now ≡ fitting self.now bytes.now }
     {

@@ -110,7 +110,7 @@ fn write_by_kind<S: Sink>(
     Ok(())
 }
 
-// What stands before an input of a kind.
+// What comes before an input of a kind.
 fn sign_of(kind: Kind) -> &'static [u8]
     ensures { result.now ≡ sign_of kind }
 {

@@ -15,8 +15,8 @@ use nj_graph::Graph;
 use std::alloc::Global;
 
 /// Writes the names of the rules of the main file's scope, `phony` among them, in byte order; with
-/// `descriptions` also what their `description` lines say, not expanded ("Extra tools" in the Ninja
-/// manual, `rules`).
+/// `descriptions` also the values of their `description` lines, not expanded ("Extra tools" in the
+/// Ninja manual, `rules`).
 ///
 /// # Errors
 ///

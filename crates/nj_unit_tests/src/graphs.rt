@@ -23,7 +23,7 @@ fn add_file(edges: &mut Edges, word: &str, is_validation: bool) -> Result<(), Al
     }
 }
 
-/// Ends an edge whose first inputs, so many, are not order-only.
+/// Ends an edge of whose inputs this many, the first ones, are not order-only.
 pub(crate) fn end_edge(edges: &mut Edges, ordinary: usize, is_phony: bool) -> Result<(), AllocError>
     ensures { OnOk result (edges.new.«open» ≡ no_files) }
 {

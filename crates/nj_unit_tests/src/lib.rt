@@ -1,6 +1,6 @@
 //! Tests of the libraries below, a module for each, by their public calls.
 //!
-//! What a call answers is made into text, and compared with the text that is wanted.
+//! What a call returns is made into text, and compared with the text that is wanted.
 #![tactic(auto)]
 
 #[cfg(test)]

@@ -1,7 +1,7 @@
 //! Tests of `nj_manifest`.
 //!
-//! How a text is read is said line by line: the statements, each after its place, and then the
-//! fault or `end`, which each call answers from then on. Each statement is given back before the
+//! How a text is read is written line by line: the statements, each after its place, and then the
+//! fault or `end`, which each call returns from then on. Each statement is given back before the
 //! next one is read.
 
 use crate::words::{ascii, put_spot, put_word, sides};
@@ -163,7 +163,7 @@ fn put_next_entry(
     }
 }
 
-/// What the next call answers.
+/// What the next call returns.
 fn put_next(alloc: Global, text: &mut String, reader: &mut Reader<'_>) -> Result<(), AllocError> {
     match reader {
         Reader::Manifest(parser) => put_next_statement(alloc, text, parser),
@@ -182,7 +182,7 @@ fn put_new_line(text: &mut String, line: &str) -> Result<(), AllocError> {
     text.push_str(line)
 }
 
-/// The lines that the calls answer.
+/// The lines that the calls return.
 fn answered(alloc: Global, grammar: Grammar, text: &[u8]) -> Result<String, AllocError> {
     let mut reader = reader_of(grammar, text);
     let mut lines = String::new(alloc);
@@ -206,7 +206,7 @@ fn is_read(
     Ok(())
 }
 
-/// The text of each row is read in the lines that the row says.
+/// The text of each row is read in the lines of the row.
 fn reads(rt: &(impl Abort + AllocGlobal), grammar: Grammar, rows: &[&str]) -> Result<(), Fail> {
     'rows: for row in rows {
         let (text, lines) = sides(row);

@@ -5,7 +5,7 @@ use std::alloc::{AllocError, Global};
 use std::process::Abort;
 use std::test::Fail;
 
-/// The text of the mark that the text says, or `bad mark`.
+/// The text of the mark that the text gives, or `bad mark`.
 fn read_and_written(alloc: Global, text: &str) -> Result<String, AllocError> {
     match Mark::read(alloc, text) {
         Ok(mark) => mark.to_text(alloc),

@@ -1,6 +1,6 @@
 //! Tests of `nj_needs`.
 //!
-//! What a walk has left is said by its edges, each with the mark after it, and by the mark where
+//! What a walk has left is written as its edges, each with the mark after it, and the mark where
 //! none is left.
 
 ghost use Rattle.std.specs.Prelude.{◌≡◌, ◌<◌, length, All, IfOk, OnOk};
@@ -55,7 +55,7 @@ fn put_left(alloc: Global, text: &mut String, needs: &mut Needs<'_>) -> Result<(
     put_mark(alloc, text, needs)
 }
 
-/// What the walk has left, if it takes at most so many turns in all.
+/// What the walk has left, if it takes at most this many turns in all.
 fn left(alloc: Global, needs: &mut Needs<'_>, most: u64) -> Result<String, AllocError> {
     let mut text = String::new(alloc);
     put_left(alloc, &mut text, needs)?;
@@ -65,7 +65,7 @@ fn left(alloc: Global, needs: &mut Needs<'_>, most: u64) -> Result<String, Alloc
     Ok(text)
 }
 
-/// The walk that goes on at the mark that a text says.
+/// The walk that continues at the mark that a text gives.
 fn resumed<'g>(
     alloc: Global,
     graph: &'g EdgeGraph,
@@ -78,7 +78,7 @@ fn resumed<'g>(
     Needs::resume(alloc, graph, targets, &mark)
 }
 
-/// What is left at a mark of the walk to a file, in at most so many turns.
+/// What is left at a mark of the walk to a file, in at most this many turns.
 fn left_at(
     alloc: Global,
     graph: &EdgeGraph,
@@ -95,7 +95,7 @@ fn left_at(
     }
 }
 
-/// In the graph of these edges, what is left of the walk to a file at each mark is what stands
+/// In the graph of these edges, what is left of the walk to a file at each mark is what comes
 /// beside it.
 fn resumes(
     rt: &(impl Abort + AllocGlobal),
@@ -216,7 +216,7 @@ fn path(number: usize) -> [u8; 8] {
     number.to_le_bytes()
 }
 
-/// Edges in a row, each with the one before so many times.
+/// Edges in a row, each with the one before as an input this many times.
 fn add_chain(edges: &mut Edges, len: usize, times: usize) -> Result<(), AllocError>
     requires { edges.old.«open» ≡ no_files }
     ensures { OnOk result (edges.new.«open» ≡ no_files) }

@@ -6,7 +6,7 @@ use nj_cycles::{EdgeInputs, first_on_cycle};
 use std::alloc::{AllocError, Global};
 use std::test::Fail;
 
-/// Edges with two inputs each, by what makes these. What is no number of an edge is a source.
+/// Edges with two inputs each, by what makes these. What is not the number of an edge is a source.
 #[derive(Clone, Copy)]
 struct Pairs<'a> {
     makers: &'a [(usize, usize)],
@@ -44,7 +44,7 @@ fn edge_below(edge: usize, edge_count: usize) -> Option<usize>
     None
 }
 
-/// The answer for edges with two inputs each.
+/// The result for edges with two inputs each.
 fn first_of(alloc: Global, makers: &[(usize, usize)]) -> Result<Option<usize>, AllocError> {
     first_on_cycle(alloc, &Pairs { makers })
 }
@@ -80,7 +80,7 @@ fn finds_the_least_edge_of_two_cycles(rt: HostRuntime) -> Result<(), Fail> {
     Ok(())
 }
 
-/// The answer for a chain in which each edge of so many needs the next one, and the last this.
+/// The result for a chain of this many edges, each of which needs the next one, and the last this.
 fn first_of_chain(alloc: Global, len: usize, last: usize) -> Result<Option<usize>, AllocError> {
     let mut rows = Vec::new(alloc);
     'chain: for edge in 0..len {

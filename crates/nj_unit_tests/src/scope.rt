@@ -1,8 +1,8 @@
 //! Tests of `nj_scope`.
 //!
-//! What files in memory and a table of files answer is said by steps, each a call with its answer:
-//! `read` of the files, and `open`, `has`, `get` and `count` of the table. In between `add` adds a
-//! file, and `fail` sets which reading fails.
+//! What files in memory and a table of files return is written as steps, each a call with its
+//! result: `read` of the files, and `open`, `has`, `get` and `count` of the table. In between `add`
+//! adds a file, and `fail` sets which reading fails.
 
 ghost use Rattle.std.specs.Prelude.{◌<◌, length};
 ghost use Rattle.nj_scope.specs.Declarations.{SameScopes};
@@ -72,7 +72,7 @@ fn fail_at(files: &mut MemoryFiles, reading: &str) {
     }
 }
 
-/// Makes a call that answers, and appends the answer.
+/// Makes a call, and appends its result.
 fn put_outcome(
     alloc: Global,
     text: &mut String,
@@ -90,7 +90,7 @@ fn put_outcome(
     }
 }
 
-/// Makes the call of a step, and appends the step with what the call answers.
+/// Makes the call of a step, and appends the step with what the call returns.
 fn put_step(
     alloc: Global,
     text: &mut String,
@@ -129,7 +129,7 @@ fn front<'a>(text: &'a str, sign: &str) -> &'a str {
     }
 }
 
-/// The files and the table answer in these steps.
+/// The files and the table return what these steps have.
 fn follows(
     rt: &(impl Abort + AllocGlobal),
     files: &mut MemoryFiles,
@@ -144,7 +144,7 @@ fn follows(
     Ok(())
 }
 
-/// Files that were just made, and a table of none, answer in these steps.
+/// Files that were just made, and a table of none, return what these steps have.
 fn begins(rt: &(impl Abort + AllocGlobal), steps: &str) -> Result<(), Fail> {
     let mut files = MemoryFiles::new(rt.alloc());
     let mut table = FileTable::new(rt.alloc(), files.hash_keys());
@@ -226,7 +226,7 @@ fn word(alloc: Global, text: &[u8]) -> Result<Word<'_>, Fail> {
     Ok(word)
 }
 
-/// Binds the name to what the text says in this scope.
+/// Binds the name to the value of the text in this scope.
 fn bind(
     alloc: Global,
     declared: &mut Declarations,
@@ -242,7 +242,7 @@ fn bind(
     Ok(())
 }
 
-/// What the text says in this scope.
+/// The value of the text in this scope.
 fn expanded(
     alloc: Global,
     declared: &Declarations,

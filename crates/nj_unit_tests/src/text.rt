@@ -1,8 +1,8 @@
 //! Tests of `nj_text`.
 //!
-//! How a text is read is said by steps: the calls of a lexer, each with its answer. The calls are
-//! `line`, `ident`, `word`, `value`, `spot`, and a sign, of which `newline` is the line's end. The
-//! call `stays` stands for each of them, twice, where they answer one and the same fault.
+//! How a text is read is written as steps: the calls of a lexer, each with its result. The calls
+//! are `line`, `ident`, `word`, `value`, `spot`, and a sign, of which `newline` is the line's end.
+//! The call `stays` means each of them, twice, where they return one and the same fault.
 
 use crate::words::{ascii, put_spot, put_word, sides};
 use nj_text::{
@@ -64,7 +64,7 @@ fn put_value(text: &mut String, outcome: Result<Word<'_>, LexFault>) -> Result<(
     }
 }
 
-/// Whether each call answers the fault, and the lexer stands at its place.
+/// Whether each call returns the fault, and the lexer is at its place.
 fn is_kept(alloc: Global, lexer: &mut Lexer<'_>, fault: LexFault) -> bool {
     lexer.start_line() == Err(fault)
         && lexer.ident() == Err(fault)
@@ -74,7 +74,7 @@ fn is_kept(alloc: Global, lexer: &mut Lexer<'_>, fault: LexFault) -> bool {
         && Some(lexer.spot()) == fault.spot()
 }
 
-/// The fault that each call answers from now on.
+/// The fault that each call returns from now on.
 fn put_kept(alloc: Global, text: &mut String, lexer: &mut Lexer<'_>) -> Result<(), AllocError> {
     match lexer.start_line() {
         Err(fault) if is_kept(alloc, lexer, fault) && is_kept(alloc, lexer, fault) => {
@@ -92,7 +92,7 @@ fn put_sign(text: &mut String, lexer: &mut Lexer<'_>, sign: Sign) -> Result<(), 
     }
 }
 
-/// Makes a call, and appends what it answers.
+/// Makes a call, and appends what it returns.
 fn put_outcome(
     alloc: Global,
     text: &mut String,
@@ -116,7 +116,7 @@ fn put_outcome(
     }
 }
 
-/// Makes the call of a step, and appends the step with what the call answers.
+/// Makes the call of a step, and appends the step with what the call returns.
 fn put_step(
     alloc: Global,
     text: &mut String,
@@ -135,7 +135,7 @@ fn put_step(
     put_outcome(alloc, text, lexer, call)
 }
 
-/// The steps with what the calls answer.
+/// The steps with what the calls return.
 fn answered(alloc: Global, text: &[u8], steps: &str) -> Result<String, AllocError> {
     let mut lexer = Lexer::new(text);
     let mut found = String::new(alloc);
@@ -145,7 +145,7 @@ fn answered(alloc: Global, text: &[u8], steps: &str) -> Result<String, AllocErro
     Ok(found)
 }
 
-/// The text of each row is read in the steps that the row says.
+/// The text of each row is read in the steps of the row.
 fn reads(rt: &(impl Abort + AllocGlobal), rows: &[&str]) -> Result<(), Fail> {
     'rows: for row in rows {
         let (text, steps) = sides(row);
@@ -317,7 +317,7 @@ fn open_references(rt: HostRuntime) -> Result<(), Fail> {
     reads(&rt, &rows)
 }
 
-/// What the bytes say by this call, as bytes.
+/// What the bytes give by this call, as bytes.
 fn meant(alloc: Global, call: &str, bytes: &[u8]) -> Result<Vec<u8>, AllocError> {
     match call {
         "number" => match leading_number(bytes) {
@@ -341,7 +341,7 @@ fn meant(alloc: Global, call: &str, bytes: &[u8]) -> Result<Vec<u8>, AllocError>
     }
 }
 
-/// Each text says by the call what stands beside it.
+/// Each text gives by the call what is beside it.
 fn gives(rt: &(impl Abort + AllocGlobal), call: &str, rows: &[(&[u8], &[u8])]) -> Result<(), Fail> {
     'rows: for (text, want) in rows {
         let found = meant(rt.alloc(), call, text)?;

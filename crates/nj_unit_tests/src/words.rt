@@ -1,4 +1,4 @@
-//! Places, words and values as texts, and rows of tests.
+//! Places, words and values as text, and rows of tests.
 
 use nj_text::{Part, Spot, Word};
 use std::alloc::AllocError;

@@ -1,4 +1,4 @@
-//! How errors are shown, and told apart.
+//! How errors are shown and distinguished.
 
 use nj_graph::Cause;
 use nj_tools::Error;
@@ -13,7 +13,7 @@ pub fn log_line(alloc: Global, error: &Error) -> Result<Vec<u8>, AllocError> {
     }
 }
 
-/// Whether a word of the user is to blame, and not a file: it means no target, or is no mark.
+/// Whether a word of the user is to blame, and not a file: it names no target, or is not a mark.
 pub fn is_of_words(error: &Error) -> bool {
     match error {
         Error::Graph(fault) => matches!(

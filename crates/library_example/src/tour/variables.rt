@@ -1,4 +1,4 @@
-//! What variables say for an edge.
+//! The values of variables for an edge.
 
 use crate::tour::lines::append_line;
 use nj_graph::Graph;
