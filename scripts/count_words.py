@@ -30,8 +30,10 @@ WORDS = {
     "told": r"told",
     "a beginning of": r"a beginning of",
 }
+# "There is no file" is as good as "is no file" is not.
 PATTERNS = {
-    word: re.compile(rf"\b(?:{form})\b".replace(" ", r"\s+")) for word, form in WORDS.items()
+    word: re.compile(rf"(?<!there\s)\b(?:{form})\b".replace(" ", r"\s+"))
+    for word, form in WORDS.items()
 }
 
 # The files of each column. This file is not counted.
