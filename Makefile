@@ -50,7 +50,7 @@ test:
 
 # Runs the built program on real files, and the short sweeps. It also checks that
 # docs/ARCHITECTURE.md names every module, that each type with a private field has a model, that what
-# must be believed is apart from plumbing, that the code in README.md and docs/LIBRARY.md is that of
+# must be believed is apart from plumbing, that the code in README.md and docs/LIBRARY.md is the code of
 # library_example, that the man page and the completions have every tool and
 # option, that the completions work, and that names which collide under a known number cost no more
 # than others. The programs on the library are run too.

@@ -1,9 +1,9 @@
 #!/usr/bin/env python3
-"""Writes manifests like those of large projects into a folder: projects.py SHAPE FOLDER [N]
+"""Writes manifests like the ones of large projects into a folder: projects.py SHAPE FOLDER [N]
 
     llvm       what CMake writes for LLVM: one file of N edges (44,570) with 30 inputs each on
                average, most of which many edges share; words of 34 bytes on average; blocks whose
-               values are mostly those of the edge before
+               values mostly repeat the edge before
     folders    what GN writes: build.ninja, and for each of N folders (1,500) a file, read by
                `subninja`, with its own bindings, rules and some 58 edges
 

@@ -3,7 +3,7 @@
 
     ratios.py PROGRAM [--before OLD] [--shapes llvm,cmake_100000,..] [--rounds N]
 
-Each row is a manifest like that of a large project: LLVM by CMake and many files by GN
+Each row is a manifest like a large project's: LLVM by CMake and many files by GN
 (projects.py), and 100,000 or 10,000 statements by CMake or in a dense form (manifest.py). Each
 column is a tool. PROGRAM is compared with ninja, and with OLD, the program of an earlier commit, on
 the same files. They are run in turn, five times or N times. The median times count, and the

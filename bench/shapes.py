@@ -6,7 +6,7 @@
     shared      N edges that all use one file
     defaults    an edge with N outputs, and one `default` statement that names them all
     references  N edges of a rule whose command has 1,000 references and 10 KB
-    bound       N edges with their own description. That of the rule refers to the command, and the
+    bound       N edges with their own description. The rule's refers to the command, and the
                 command refers back N times, which is not a cycle for these edges
     pool-line   N edges of a rule whose `pool` line has N references to an empty variable
     long-lines  an edge with N inputs, whose `pool` and `dyndep` lines have at least N references

@@ -4,7 +4,7 @@
     tools.py PROGRAM [--sizes N,M] [--shapes cmake,dense] [--only TOOL,TOOL] [--rounds N]
 
 `PROGRAM -t TOOL` and `ninja -t TOOL` run on the same files. Both write to a file, and have to write
-the same bytes. For compdb they have to write the same objects, except those of phony edges, which
+the same bytes. For compdb they have to write the same objects, except for phony edges, which
 some versions of Ninja write too. `inputs --dependency-order` and `inputs --no-shell-escape` are
 compared with Ninja's `inputs`, and have to list the same paths; they are skipped if the program
 does not have the option. Then all of these are run in turn, five times or N times. The median times

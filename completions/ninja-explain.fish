@@ -11,7 +11,7 @@ function __ninja_explain_tools
         compdb 'A compilation database'
 end
 
-# Prints the value that an option has before the cursor, such as that of -t.
+# Prints the value that an option has before the cursor, such as the tool after -t.
 function __ninja_explain_value
     set -l follows no
     for word in (commandline -opc)[2..-1]

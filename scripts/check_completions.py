@@ -108,8 +108,8 @@ def main():
         print(f"check_completions: there is no program {program}")
         return 1
     status = 0
-    with tempfile.TemporaryDirectory() as room:
-        programs, folder = Path(room) / "bin", Path(room) / "project"
+    with tempfile.TemporaryDirectory() as scratch:
+        programs, folder = Path(scratch) / "bin", Path(scratch) / "project"
         programs.mkdir()
         folder.mkdir()
         (programs / "ninja-explain").symlink_to(program)

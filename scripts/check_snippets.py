@@ -1,7 +1,7 @@
 #!/usr/bin/env python3
 """Compares the Rattle code in README.md and docs/LIBRARY.md with the crate library_example.
 
-README.md has to show the whole of its `main.rt`, but for the lines that say they are not in it, and
+README.md has to show the whole of its `main.rt`, but for the lines that are marked as not in it, and
 each block of docs/LIBRARY.md lines of one of its files that follow one another, indented or not. The
 crates that docs/LIBRARY.md copies have to be those that the client's calls need, by crates.txt.
 Prints what differs, and nothing else. The status is 1 if anything differs.
@@ -42,7 +42,7 @@ def has(source, block):
 
 
 def needed(names):
-    """These crates of the repository and those that they stand on."""
+    """These crates of the repository and the crates below them."""
     uses = {}
     for line in (ROOT / "crates.txt").read_text().splitlines():
         name, _, rest = line.partition(":")

@@ -1,5 +1,5 @@
 #!/usr/bin/env python3
-"""Compares the options and tools of the man page and of the completions with those of the program:
+"""Compares the options and tools of the man page and of the completions with the program's:
 
     check_words.py [PROGRAM]
 
@@ -42,7 +42,7 @@ EVERY_TOOL = {"-t", "-f", "--stdin", "--dyndep"}
 END = "--"
 VALUES = {"-f": "build.ninja", "--take": "1", "--resume": "start", "--directory": "here"}
 # The definitions of the fault lines.
-FAULT_TEXTS = {
+FAULT_STRINGS = {
     "crates/nj_faults/specs/FaultLines.antt": ["cause_text"],
     "crates/nj_faults/specs/Versions.antt": ["reader_version_text"],
     "crates/nj_manifest/specs/Faults.antt": ["wanted_text", "text_of"],
@@ -74,7 +74,7 @@ def options_of(tool):
 
 
 def compare_options(where, found):
-    """`found` has a set of options for each tool, which may include those of every tool."""
+    """`found` has a set of options for each tool, which may include what every tool has."""
     for tool in sorted(found.keys() - TOOLS):
         report(where, f"the program does not have the tool {tool}")
     for tool in TOOLS:
@@ -153,8 +153,8 @@ def check_page():
     compare_options(where, found)
 
 
-def fault_texts(file, name):
-    """The fixed parts of the fault texts in a definition."""
+def fault_strings(file, name):
+    """The fixed parts of the fault lines in a definition."""
     text = (ROOT / file).read_text()
     equations = re.search(rf"^abbrev pub {name} :.*\n((?:.+\n)+)", text, re.M)
     if not equations:
@@ -167,8 +167,8 @@ def fault_texts(file, name):
 def check_faults():
     section = re.search(r"^\.SH FAULTS\n(.*?)^\.SH ", PAGE.read_text(), re.M | re.S)[1]
     plain = re.sub(r"\\f.", "", section.replace("\\(aq", "'").replace("\\-", "-"))
-    for file, names in FAULT_TEXTS.items():
-        for text in (text for name in names for text in fault_texts(file, name)):
+    for file, names in FAULT_STRINGS.items():
+        for text in (text for name in names for text in fault_strings(file, name)):
             if text not in plain:
                 report(PAGE.relative_to(ROOT), f"the fault {text} is missing")
 

@@ -1,5 +1,5 @@
 #!/usr/bin/env python3
-"""Compares the output of the tools with that of Ninja's tools, on generated manifests.
+"""Compares the output of the tools with the output of Ninja's, on generated manifests.
 
 A manifest has rules, pools, bindings, build statements, defaults, includes and subninjas, with
 escapes, references, joined lines and paths that are not clean. The outputs are compared if both
@@ -168,7 +168,7 @@ def without_repeated_users(output):
 
 
 def objects(output, phony):
-    """The objects of `compdb` except those of phony edges, without their directory."""
+    """The objects of `compdb` except for phony edges, without their directory."""
     return [
         {key: value for key, value in each.items() if key != "directory"}
         for each in json.loads(output)

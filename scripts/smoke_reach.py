@@ -37,8 +37,8 @@ def run(folder, words, given=""):
     return ran.returncode, ran.stdout, ran.stderr
 
 
-def lines(*texts):
-    return "".join(f"{text}\n" for text in texts)
+def lines(*strings):
+    return "".join(f"{text}\n" for text in strings)
 
 
 def edges(text):
@@ -148,8 +148,8 @@ def main():
     try_project()
     try_faults()
     if shutil.which("cmake") and shutil.which("ninja") and shutil.which("cc"):
-        with tempfile.TemporaryDirectory() as room:
-            try_cmake(Path(room).resolve() / "build")
+        with tempfile.TemporaryDirectory() as folder:
+            try_cmake(Path(folder).resolve() / "build")
     for failure in failures:
         print(f"smoke: {failure}")
     return 1 if failures else 0

@@ -104,7 +104,7 @@ def output_is_wrong(ran, way, usual):
 
 def error_is_wrong(ran, way, usual):
     """After an error only a prefix of the line is written, and the output is the same. If the line
-    is a mark, the status is that of a failed output. If it is a fault, the status is the same."""
+    is a mark, the status is the one of a failed output. If it is a fault, the status is the same."""
     if isinstance(way, int) and way > 0:
         return ran != usual
     status = OUTPUT_FAILED if usual.status == STOPPED else usual.status
