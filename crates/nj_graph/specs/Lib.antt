@@ -14,6 +14,7 @@ pub mod Targets
 pub mod Inside
 -- what contracts cite of lower crates
 pub use Rattle.nj_text.specs.Paths
+pub use Rattle.nj_scope.specs.ReadingList
 pub use Rattle.nj_edges.specs.Changes
 pub use Rattle.nj_edges.specs.Edges
 pub use Rattle.nj_edges.specs.Files

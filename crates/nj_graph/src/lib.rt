@@ -36,6 +36,6 @@ pub use nj_manifest::{Spot, Wanted};
 pub use nj_scope::{
     FileSource, FileTable, HashKeys, LateValue, MAIN_SCOPE, MemoryFiles, Rule, SourceFault,
 };
-pub use nj_text::{TextFault, clean_path, quote_into};
+pub use nj_text::{Part, TextFault, clean_path, quote_into};
 pub use origins::Opening;
 pub use targets::pick_target;
