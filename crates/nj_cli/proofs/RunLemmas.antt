@@ -14,7 +14,7 @@ use Rattle.nj_cli.specs.Answers.{output_of, finished, stopped, faulty, out_of_ra
 use Rattle.nj_cli.specs.Reported.{Reported}
 use Rattle.nj_cli.specs.Inside.RunSteps.{ReturnsFor, ReportsMark, Concludes}
 use Rattle.nj_cli.specs.Runs.{Around, out_of_memory, RunEnds, AreStatements, IsAnswered}
-use Rattle.nj_cli.specs.Runs.RunEnds.{known, untold, output_failed, memory_failed}
+use Rattle.nj_cli.specs.Runs.RunEnds.{reported, untold, output_failed, memory_failed}
 use Rattle.nj_cli.specs.declared.fault.RunFault.{RunFault}
 use Rattle.nj_cli.specs.declared.fault.RunFault.TheVariants as fault
 use Rattle.nj_cli.specs.declared.status.Status.{Status}
@@ -37,7 +37,7 @@ module _ (entries : List ReadStatement) (action : ActionText) (old new : Around)
   -- the line of a fault was reported
   reported-fault : (text : List ℕ) → EndsWith entries action (faulty text) → Takes old.output new.output (output_of entries action)
       → Reported old.error new.error (with_line_end text) → RunEnds entries action old new Fault
-  reported-fault text ends took (inl reported_so) = known (record { ending = faulty text; ends = ends; output = took; error = reported_so; status_is = refl })
+  reported-fault text ends took (inl reported_so) = reported (record { ending = faulty text; ends = ends; output = took; error = reported_so; status_is = refl })
   reported-fault text ends took (inr failed) = untold (record { ending = faulty text; ends = ends; output = took; error = failed; status_is = refl })
 
   -- there was no memory for the line of a fault
@@ -55,7 +55,7 @@ module _ (entries : List ReadStatement) (action : ActionText) (old new : Around)
 
   stopped-at : (mark : List ℕ) (status : Status) → EndsWith entries action (stopped mark) → Takes old.output new.output (output_of entries action)
       → ReportsMark (follows_validations action) old.error new.error mark status → RunEnds entries action old new status
-  stopped-at mark Stopped ends took reported = known (record { ending = stopped mark; ends = ends; output = took; error = reported; status_is = refl })
+  stopped-at mark Stopped ends took line = reported (record { ending = stopped mark; ends = ends; output = took; error = line; status_is = refl })
   stopped-at mark OutputFailed ends took reported = untold (record { ending = stopped mark; ends = ends; output = took; error = reported; status_is = refl })
   stopped-at mark Fault ends took reported = late took reported
   stopped-at mark Done ends took reported = absurd reported
@@ -64,7 +64,7 @@ module _ (entries : List ReadStatement) (action : ActionText) (old new : Around)
   pub Answers-from : (status : Status) (result : Result (Option (List ℕ)) RunFault) → ReturnsFor entries action old.output new.output result
       → Concludes (follows_validations action) old.error new.error result status → RunEnds entries action old new status
   Answers-from status (Ok None) outcomes concludes =
-      known (record { ending = finished; ends = outcomes.0; output = outcomes.1; error = concludes.0; status_is = concludes.1 })
+      reported (record { ending = finished; ends = outcomes.0; output = outcomes.1; error = concludes.0; status_is = concludes.1 })
   Answers-from status (Ok (Some mark)) outcomes concludes = stopped-at mark status outcomes.0 outcomes.1 concludes
   Answers-from status (Err (fault.Graph f)) outcomes concludes =
       subst (RunEnds entries action old new) (sym concludes.1) (graph-fault f outcomes concludes.0)
