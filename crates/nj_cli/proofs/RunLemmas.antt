@@ -28,9 +28,9 @@ use Rattle.nj_cli.proofs.ReturnLemmas.{NoEdgeNeedsItself-stated, TakesFront-none
 module _ (entries : List ReadStatement) (action : ActionText) (old new : Around) where
   -- memory ran out before anything was output
   early : new.output ≡ old.output → Reported old.error new.error (with_line_end out_of_memory) → RunEnds entries action old new Fault
-  early same reported = memory_failed (record {
+  early same known = memory_failed (record {
     output = subst (λ (s : SinkState). TakesFront old.output s (output_of entries action)) (sym same) (TakesFront-none old.output (output_of entries action));
-    error = reported;
+    error = known;
     status_is = refl;
   })
 
@@ -42,24 +42,24 @@ module _ (entries : List ReadStatement) (action : ActionText) (old new : Around)
 
   -- there was no memory for the line of a fault
   late : Takes old.output new.output (output_of entries action) → Reported old.error new.error (with_line_end out_of_memory) → RunEnds entries action old new Fault
-  late took reported =
-      memory_failed (record { output = (output_of entries action, ([], sym (append-nil (output_of entries action))), took); error = reported; status_is = refl })
+  late took known =
+      memory_failed (record { output = (output_of entries action, ([], sym (append-nil (output_of entries action))), took); error = known; status_is = refl })
 
   graph-fault : (f : GraphFault)
       → ((f ≡ no_memory) × (new.output ≡ old.output)) ⊎ (EndsWith entries action (faulty (fault_line f)) × Takes old.output new.output (output_of entries action))
       → Reported old.error new.error (with_line_end (fault_line f)) ⊎ Reported old.error new.error (with_line_end out_of_memory) → RunEnds entries action old new Fault
-  graph-fault f (inl (none, same)) (inl reported) = early same (subst (λ (k : GraphFault). Reported old.error new.error (with_line_end (fault_line k))) none reported)
-  graph-fault f (inl (none, same)) (inr reported) = early same reported
-  graph-fault f (inr (ends, took)) (inl reported) = reported-fault (fault_line f) ends took reported
-  graph-fault f (inr (ends, took)) (inr reported) = late took reported
+  graph-fault f (inl (none, same)) (inl known) = early same (subst (λ (k : GraphFault). Reported old.error new.error (with_line_end (fault_line k))) none known)
+  graph-fault f (inl (none, same)) (inr known) = early same known
+  graph-fault f (inr (ends, took)) (inl known) = reported-fault (fault_line f) ends took known
+  graph-fault f (inr (ends, took)) (inr known) = late took known
 
   stopped-at : (mark : List ℕ) (status : Status) → EndsWith entries action (stopped mark) → Takes old.output new.output (output_of entries action)
       → ReportsMark (follows_validations action) old.error new.error mark status → RunEnds entries action old new status
   stopped-at mark Stopped ends took line = reported (record { ending = stopped mark; ends = ends; output = took; error = line; status_is = refl })
-  stopped-at mark OutputFailed ends took reported = untold (record { ending = stopped mark; ends = ends; output = took; error = reported; status_is = refl })
-  stopped-at mark Fault ends took reported = late took reported
-  stopped-at mark Done ends took reported = absurd reported
-  stopped-at mark Usage ends took reported = absurd reported
+  stopped-at mark OutputFailed ends took known = untold (record { ending = stopped mark; ends = ends; output = took; error = known; status_is = refl })
+  stopped-at mark Fault ends took known = late took known
+  stopped-at mark Done ends took known = absurd known
+  stopped-at mark Usage ends took known = absurd known
 
   pub Answers-from : (status : Status) (result : Result (Option (List ℕ)) RunFault) → ReturnsFor entries action old.output new.output result
       → Concludes (follows_validations action) old.error new.error result status → RunEnds entries action old new status
