@@ -64,7 +64,7 @@ fn add_edges(edges: &mut Edges, text: &str) -> Result<(), AllocError>
 }
 
 /// How the reading of these edges ends.
-pub(crate) fn finished(alloc: Global, text: &str) -> Result<Finished, AllocError> {
+fn finished(alloc: Global, text: &str) -> Result<Finished, AllocError> {
     let mut edges = Edges::new(alloc, HashKeys::default());
     add_edges(&mut edges, text)?;
     edges.finish(alloc)

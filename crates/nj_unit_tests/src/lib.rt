@@ -4,10 +4,6 @@
 #![tactic(auto)]
 
 #[cfg(test)]
-mod affected;
-#[cfg(test)]
-mod blocks;
-#[cfg(test)]
 mod edges;
 #[cfg(test)]
 mod faults;
@@ -21,8 +17,6 @@ mod manifest;
 mod marks;
 #[cfg(test)]
 mod needs;
-#[cfg(test)]
-mod order;
 #[cfg(test)]
 mod scope;
 #[cfg(test)]
