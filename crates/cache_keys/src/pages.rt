@@ -1,0 +1,106 @@
+//! The lines of commands, in pages.
+
+ghost use Rattle.std.specs.Prelude.{◌≡◌, ◌-◌, ◌<◌, ◌++◌, All, List, Some, IfOk, OnOk, length, option_map, slice_get};
+ghost use Rattle.nj_scope.specs.ReadingList.{ReadStatement};
+ghost use Rattle.nj_needs.specs.Walks.{WalkState, rest_of};
+ghost use Rattle.nj_tools.specs.CommandStrings.{written, StopsAt};
+ghost use Rattle.nj_graph.specs.Graph.{edges_of, files_of, IsGraphOf};
+ghost use Rattle.cache_keys.specs.CacheKeys.{line, ListsKeys, StopsWithin};
+ghost use Rattle.cache_keys.specs.Inside.Keeping.{IsKept, kept_key};
+
+use crate::fields::Key;
+use crate::keys::keep_key;
+use nj_graph::{EdgeNo, FileNo, Graph};
+use nj_needs::{Mark, Needs};
+use nj_tools::Error;
+use std::alloc::{AllocError, Global};
+
+/// Lines of commands, and the mark at which the rest can be had, if any are left.
+#[derive(Drop)]
+pub struct Page {
+    pub lines: Vec<u8>,
+    pub mark: Option<Mark>,
+}
+
+/// The lines of the commands that the targets need, from a mark on; at most `take` of them if that
+/// is given.
+pub fn page_from(
+    alloc: Global,
+    graph: &Graph,
+    targets: &[FileNo],
+    mark: &Mark,
+    take: Option<u64>,
+) -> Result<Page, Error>
+    requires { All (λ file. file.0 < length (files_of graph.now)) targets.now }
+    ensures lines { (entries : List ReadStatement) → IsGraphOf graph.now entries
+        → IfOk result (λ page. ListsKeys (edges_of graph.now) entries
+        (written take (rest_of graph.now.built.graph targets.now mark.now)) page.lines.items) }
+    ensures mark { IfOk result (λ page.
+        StopsWithin graph.now.built.graph targets.now mark.now take page.mark) }
+{
+    let mut needs = Needs::resume(alloc, graph.edge_graph(), targets, mark)?;
+    let page = next_page(alloc, graph, &mut needs, take)?;
+    Ok(page)
+}
+
+/// The lines of the commands that are left to a walk over this graph.
+fn next_page(
+    alloc: Global,
+    graph: &Graph,
+    needs: &mut Needs<'_>,
+    take: Option<u64>,
+) -> Result<Page, AllocError>
+    requires { needs.old.graph ≡ graph.now.built.graph }
+    ensures lines { (entries : List ReadStatement) → IsGraphOf graph.now entries
+        → IfOk result (λ page. ListsKeys (edges_of graph.now) entries
+        (written take needs.old.left) page.lines.items) }
+    ensures mark { IfOk result (λ page. StopsAt needs.old take page.mark) }
+{
+    let mut keys: Vec<Option<Key>> = vec![in alloc; None; graph.edge_count()]?;
+    let mut lines = Vec::new(alloc);
+    let mut remaining = take;
+    'commands: while remaining != Some(0) {
+        let Some(edge) = needs.next() else {
+            return Ok(Page { lines, mark: None });
+        };
+        keep_key(alloc, graph, &mut keys, edge)?;
+        push_line(&mut lines, graph, &keys, edge)?;
+        remaining = one_fewer(remaining);
+    }
+    let mark = needs.mark(alloc)?;
+    let mark = needs.next().map(|_| mark);
+    Ok(Page { lines, mark })
+}
+
+/// How many may still be taken after one was.
+fn one_fewer(remaining: Option<u64>) -> Option<u64>
+    ensures { result ≡ option_map (λ count. count - 1) remaining }
+{
+    match remaining {
+        Some(count) => Some(count.saturating_sub(1)),
+        None => None,
+    }
+}
+
+/// Appends the line of an edge whose key is kept.
+fn push_line(
+    lines: &mut Vec<u8>,
+    graph: &Graph,
+    keys: &[Option<Key>],
+    edge: EdgeNo,
+) -> Result<(), AllocError>
+    requires edge { edge.0 < length (edges_of graph.now) }
+    requires kept { IsKept keys.now edge.0 }
+    ensures { OnOk result (lines.new.items ≡ lines.old.items
+        ++ line (edges_of graph.now) edge.0 (kept_key keys.now edge.0)) }
+{
+    if let Some(Some(key)) = keys.get(edge.0) {
+        lines.extend_from_slice(hex::encode(*lines.allocator(), key)?.as_bytes())?;
+        lines.push(b' ')?;
+        if let Some(output) = graph.outputs(edge).first() {
+            lines.extend_from_slice(graph.path(*output))?;
+        }
+        lines.push(b'\n')?;
+    }
+    Ok(())
+}
