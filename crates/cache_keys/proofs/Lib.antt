@@ -1,2 +1,4 @@
+mod FieldLemmas
 mod KeyLaws
+mod MakerLemmas
 mod OpenLemmas

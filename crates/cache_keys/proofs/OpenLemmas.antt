@@ -1,8 +1,8 @@
 -- How the keys of edges that need each other are computed, without recursion.
-use Rattle.std.proofs.Common.{◌≡◌, ◌≢◌, ◌<◌, ◌≤◌, ◌+◌, ◌⊎◌, inl, inr, ℕ, zero, suc, Option, Some, None, List, [], ◌∷◌, length, set, refl, sym, ap, ◌∙◌, subst, arith}
+use Rattle.std.proofs.Common.{◌≡◌, ◌≢◌, ◌<◌, ◌≤◌, ◌+◌, ◌⊎◌, inl, inr, ℕ, zero, suc, Option, Some, None, List, [], ◌∷◌, ◌++◌, length, reverse, set, refl, sym, ap, ◌∙◌, subst, arith}
 use Rattle.std.specs.Prelude.{slice_get}
 use Rattle.std.proofs.lemmas.Bool.{cases_eq}
-use Rattle.std.proofs.lemmas.List.{get_or-set_other, get_or-set_same, length-set}
+use Rattle.std.proofs.lemmas.List.{get_or-set_other, get_or-set_same, length-set, reverse-append}
 use Rattle.std.proofs.lemmas.List.Sums.{sum_by-set}
 use Rattle.std.proofs.lemmas.Option.{get_or_from_slice_get, slice_get-get_or, slice_get_past, slice_get_within}
 use Rattle.nj_scope.specs.ReadingList.{ReadStatement}
@@ -25,6 +25,9 @@ get-set_other (y ∷ xs) zero zero x other = absurd (other refl)
 get-set_other (y ∷ xs) zero (suc j) x other = refl
 get-set_other (y ∷ xs) (suc i) zero x other = refl
 get-set_other (y ∷ xs) (suc i) (suc j) x other = get-set_other xs i j x (λ is. other (ap suc is))
+
+pub reverse-last : {X : Type 0} (xs ys : List X) (x : X) → ys ≡ xs ++ x ∷ [] → reverse ys ≡ x ∷ reverse xs
+reverse-last xs ys x is = ap reverse is ∙ reverse-append xs (x ∷ [])
 
 module _ (keys : List (Option (List ℕ))) (e : ℕ) (key : List ℕ) where
   abbrev after : List (Option (List ℕ))

@@ -1,0 +1,73 @@
+-- The makers of an edge's inputs, place by place.
+use Rattle.std.proofs.Common.{◌≡◌, ◌<◌, ◌≤◌, ◌+◌, ◌⊎◌, inl, inr, ℕ, Option, Some, None, List, [], length, get_or, true, false, refl, sym, ap, ◌∙◌, subst, arith}
+use Rattle.std.specs.Prelude.{is_some, option_map, slice_get, unwrap_or, Contains}
+use Rattle.std.proofs.lemmas.Bool.{cases_lt}
+use Rattle.std.proofs.lemmas.Option.{get_or_from_slice_get, slice_get-get_or, slice_get_past, slice_get_within}
+use Rattle.sha2.specs.Sha256.{sha256}
+use Rattle.nj_scope.specs.ReadingList.{ReadStatement}
+use Rattle.nj_cycles.specs.Cycles.{IsAcyclic, Needs}
+use Rattle.nj_edges.specs.declared.edges.EdgeNo.{EdgeNo}
+use Rattle.nj_edges.specs.Edges.{EdgePaths}
+use Rattle.nj_edges.specs.Needs.{makers_of_inputs}
+use Rattle.cache_keys.specs.CacheKeys.{fields_of, IsKey}
+use Rattle.cache_keys.specs.CacheKeys.IsKey.{digest}
+use Rattle.cache_keys.specs.Inside.Keeping.{kept_key, IsKept, KeepsKeys, KeepsMakers}
+
+-- what is found at a place, by its number
+abbrev pub numbers : Option (Option EdgeNo) → Option (Option ℕ)
+numbers found = option_map (λ maker. option_map (λ e. e.0) maker) found
+
+pub contains-at : {X : Type 0} (xs : List X) (i : ℕ) (x : X) → slice_get xs i ≡ Some x → Contains xs x
+contains-at xs i x is = (i, slice_get_within xs i x is, get_or_from_slice_get xs i x x is)
+
+at-contained : {X : Type 0} (xs : List X) (x : X) (has : Contains xs x) → slice_get xs has.0 ≡ Some x
+at-contained xs x has = slice_get-get_or xs has.0 x has.1 ∙ ap Some has.2
+
+module _ (edges : List EdgePaths) (keys : List (Option (List ℕ))) (edge : ℕ) where
+  abbrev makers : List (Option ℕ)
+  makers = makers_of_inputs edges edge
+
+  pub maker-below : IsAcyclic (makers_of_inputs edges) (length edges) → (i f : ℕ) → slice_get makers i ≡ Some (Some f) → f < length edges
+  maker-below (rank, ranked) i f at = ranked.within edge f (contains-at makers i (Some f) at)
+
+  -- one place more, at which is a source, or an edge whose key is kept
+  pub makers-more : (place : ℕ) (maker : Option ℕ) → slice_get makers place ≡ Some maker → ((f : ℕ) → maker ≡ Some f → IsKept keys f)
+      → KeepsMakers edges keys edge place → KeepsMakers edges keys edge (place + 1)
+  makers-more place maker here kept before i f below at = elim (cases_lt i place) [
+    | inl under ↦ before i f under at
+    | inr past ↦
+        let same : i ≡ place = omega (arith, below, past) in
+        let both : Some maker ≡ Some (Some f) = sym here ∙ ap (slice_get makers) (sym same) ∙ at in
+        kept f cc
+  ]
+
+  -- past the last place
+  pub makers-all : (place : ℕ) → slice_get makers place ≡ None → KeepsMakers edges keys edge place → (f : ℕ) → Needs (makers_of_inputs edges) edge f → IsKept keys f
+  makers-all place none before f has = elim (cases_lt has.0 place) [
+    | inl under ↦ before has.0 f under (at-contained makers (Some f) has)
+    | inr past ↦
+        let is : place < length makers = omega (arith, has.1, past) in
+        absurd (let both : None ≡ Some (get_or makers place None) = sym none ∙ slice_get-get_or makers place None is in cc)
+  ]
+
+  -- the key of an edge, from those that are kept
+  pub kept-digest : (entries : List ReadStatement) → ((f : ℕ) → Needs (makers_of_inputs edges) edge f → IsKept keys f) → KeepsKeys edges entries keys
+      → IsKey edges entries edge (sha256 (fields_of edges entries (kept_key keys) edge))
+  kept-digest entries all kept = digest (kept_key keys) (λ f needs.
+      let known = all f needs in
+      let same : kept_key keys f ≡ known.0 = ap (λ o. unwrap_or (unwrap_or o None) []) known.1 in
+      subst (IsKey edges entries f) (sym same) (kept f known.0 known.1))
+
+key-there : (key : Option (List ℕ)) → is_some key ≡ true → (is : List ℕ) × (key ≡ Some is)
+key-there (Some key) some = (key, refl)
+key-there None some = absurd cc
+
+key-missing : (key : Option (List ℕ)) → is_some key ≡ false → key ≡ None
+key-missing (Some key) none = absurd cc
+key-missing None none = refl
+
+pub kept-here : (keys : List (Option (List ℕ))) (e : ℕ) → e < length keys → is_some (get_or keys e None) ≡ true → IsKept keys e
+kept-here keys e below some = let key = key-there (get_or keys e None) some in (key.0, slice_get-get_or keys e None below ∙ ap Some key.1)
+
+pub missing-here : (keys : List (Option (List ℕ))) (e : ℕ) → e < length keys → is_some (get_or keys e None) ≡ false → slice_get keys e ≡ Some None
+missing-here keys e below none = slice_get-get_or keys e None below ∙ ap Some (key-missing (get_or keys e None) none)
