@@ -1,9 +1,10 @@
 -- The fields of an edge, one after another.
-use Rattle.std.proofs.Common.{◌≡◌, ◌≢◌, ◌≤◌, ℕ, false, cond, Option, Some, List, [], ◌∷◌, ◌++◌, map, length, take, refl, sym, ap, ◌∙◌}
-use Rattle.std.specs.Prelude.{codes, decimal, slice_get, unwrap_or}
+use Rattle.std.proofs.Common.{◌≡◌, ◌≢◌, ◌≤◌, ℕ, false, cond, Option, Some, None, List, [], ◌∷◌, ◌++◌, map, length, take, refl, sym, ap, ◌∙◌}
+use Rattle.std.specs.Prelude.{codes, decimal, option_map, slice_get, unwrap_or}
 use Rattle.std.specs.List.{flat_map}
 use Rattle.std.proofs.lemmas.List.{length-map, take_all}
 use Rattle.std.proofs.lemmas.List.Folds.{flat_map-map}
+use Rattle.std.proofs.lemmas.Option.{slice_get-map}
 use Rattle.nj_scope.specs.ReadingList.{ReadStatement}
 use Rattle.nj_edges.specs.declared.files.FileNo.{FileNo}
 use Rattle.nj_edges.specs.Edges.{EdgePaths, edge_at, inputs_of}
@@ -58,3 +59,24 @@ module _ (edges : List EdgePaths) (entries : List ReadStatement) (edge : ℕ) (o
   response-is some =
       ap (λ phony. cond phony [] (content_of (late_text_of entries edge (codes "rspfile")) (late_text_of entries edge (codes "rspfile_content")))) ordinary
       ∙ content-there (late_text_of entries edge (codes "rspfile")) (late_text_of entries edge (codes "rspfile_content")) some
+
+-- ---- first outputs
+
+some-first : (o : Option (List ℕ)) (path : List ℕ) → Some (Some path) ≡ option_map Some o → path ≡ unwrap_or o []
+some-first (Some other) path is = cc
+some-first None path is = absurd cc
+
+none-first : (o : Option (List ℕ)) → None ≡ option_map Some o → [] ≡ unwrap_or o []
+none-first (Some other) is = absurd cc
+none-first None is = refl
+
+module _ (files : List (List ℕ)) (numbers : List FileNo) (paths : List (List ℕ)) (are : AreFiles files numbers paths) where
+  first-is : option_map (λ (f : FileNo). slice_get files f.0) (slice_get numbers 0) ≡ option_map Some (slice_get paths 0)
+  first-is = sym (slice_get-map (λ (f : FileNo). slice_get files f.0) numbers 0) ∙ ap (λ os. slice_get os 0) are ∙ slice_get-map Some paths 0
+
+  pub first-named : (f : FileNo) (path : List ℕ) → Some f ≡ slice_get numbers 0 → slice_get files f.0 ≡ Some path → path ≡ unwrap_or (slice_get paths 0) []
+  first-named f path there named =
+      some-first (slice_get paths 0) path (ap Some (sym named) ∙ ap (option_map (λ (g : FileNo). slice_get files g.0)) there ∙ first-is)
+
+  pub first-none : None ≡ slice_get numbers 0 → [] ≡ unwrap_or (slice_get paths 0) []
+  first-none there = none-first (slice_get paths 0) (ap (option_map (λ (g : FileNo). slice_get files g.0)) there ∙ first-is)

@@ -1,7 +1,8 @@
 -- The makers of an edge's inputs, place by place.
-use Rattle.std.proofs.Common.{◌≡◌, ◌<◌, ◌≤◌, ◌+◌, ◌⊎◌, inl, inr, ℕ, Option, Some, None, List, [], length, get_or, true, false, refl, sym, ap, ◌∙◌, subst, arith}
+use Rattle.std.proofs.Common.{◌≡◌, ◌<◌, ◌≤◌, ◌+◌, ◌⊎◌, inl, inr, ℕ, Option, Some, None, List, [], length, get_or, replicate, true, false, refl, sym, ap, ◌∙◌, subst, arith}
 use Rattle.std.specs.Prelude.{is_some, option_map, slice_get, unwrap_or, Contains}
 use Rattle.std.proofs.lemmas.Bool.{cases_lt}
+use Rattle.std.proofs.lemmas.List.{get_or-replicate, length-replicate}
 use Rattle.std.proofs.lemmas.Option.{get_or_from_slice_get, slice_get-get_or, slice_get_past, slice_get_within}
 use Rattle.sha2.specs.Sha256.{sha256}
 use Rattle.nj_scope.specs.ReadingList.{ReadStatement}
@@ -22,6 +23,24 @@ contains-at xs i x is = (i, slice_get_within xs i x is, get_or_from_slice_get xs
 
 at-contained : {X : Type 0} (xs : List X) (x : X) (has : Contains xs x) → slice_get xs has.0 ≡ Some x
 at-contained xs x has = slice_get-get_or xs has.0 x has.1 ∙ ap Some has.2
+
+-- the key that is kept of an edge is its key
+pub key-of-kept : (edges : List EdgePaths) (entries : List ReadStatement) (keys : List (Option (List ℕ))) (e : ℕ) → IsKept keys e → KeepsKeys edges entries keys
+    → IsKey edges entries e (kept_key keys e)
+key-of-kept edges entries keys e (key, is) kept =
+    let same : kept_key keys e ≡ key = ap (λ o. unwrap_or (unwrap_or o None) []) is in subst (IsKey edges entries e) (sym same) (kept e key is)
+
+pub only-none : {X : Type 0} (P : Option X → Type 0) → ((x : X) → P (Some x) → ⊥) → (o : Option X) → P o → o ≡ None
+only-none P never (Some x) is = absurd (never x is)
+only-none P never None is = refl
+
+-- no key is kept yet
+pub no-keys : (count : ℕ) (keys : List (Option (List ℕ))) → keys ≡ replicate count None → (e : ℕ) (key : List ℕ) → slice_get keys e ≡ Some (Some key) → ⊥
+no-keys count keys is e key found =
+    let below = slice_get_within keys e (Some key) found in
+    let none : get_or keys e None ≡ None = ap (λ ks. get_or ks e None) is ∙ get_or-replicate count e None None (omega (arith, below, ap length is, length-replicate {A = Option (List ℕ)} count None)) in
+    let both : Some key ≡ None = sym (get_or_from_slice_get keys e (Some key) None found) ∙ none in
+    absurd cc
 
 module _ (edges : List EdgePaths) (keys : List (Option (List ℕ))) (edge : ℕ) where
   abbrev makers : List (Option ℕ)
@@ -53,10 +72,7 @@ module _ (edges : List EdgePaths) (keys : List (Option (List ℕ))) (edge : ℕ)
   -- the key of an edge, from those that are kept
   pub kept-digest : (entries : List ReadStatement) → ((f : ℕ) → Needs (makers_of_inputs edges) edge f → IsKept keys f) → KeepsKeys edges entries keys
       → IsKey edges entries edge (sha256 (fields_of edges entries (kept_key keys) edge))
-  kept-digest entries all kept = digest (kept_key keys) (λ f needs.
-      let known = all f needs in
-      let same : kept_key keys f ≡ known.0 = ap (λ o. unwrap_or (unwrap_or o None) []) known.1 in
-      subst (IsKey edges entries f) (sym same) (kept f known.0 known.1))
+  kept-digest entries all kept = digest (kept_key keys) (λ f needs. key-of-kept edges entries keys f (all f needs) kept)
 
 key-there : (key : Option (List ℕ)) → is_some key ≡ true → (is : List ℕ) × (key ≡ Some is)
 key-there (Some key) some = (key, refl)

@@ -79,9 +79,16 @@ fn maker_key<'a>(graph: &Graph, keys: &'a [Option<Key>], file: FileNo) -> &'a [u
     ensures { result.now ≡ maker_key (kept_key keys.now)
         (maker_of (edges_of graph.now) (path_at (files_of graph.now) file)) }
 {
-    let Some(edge) = graph.maker(file) else {
-        return b"";
-    };
+    match graph.maker(file) {
+        Some(edge) => kept_key(keys, edge),
+        None => b"",
+    }
+}
+
+/// The key that is kept of an edge; empty if none is.
+pub fn kept_key<'a>(keys: &'a [Option<Key>], edge: EdgeNo) -> &'a [u8]
+    ensures { result.now ≡ kept_key keys.now edge.0 }
+{
     match keys.get(edge.0) {
         Some(Some(key)) => key,
         _ => b"",

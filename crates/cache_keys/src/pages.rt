@@ -1,14 +1,15 @@
 //! The lines of commands, in pages.
 
-ghost use Rattle.std.specs.Prelude.{◌≡◌, ◌-◌, ◌<◌, ◌++◌, All, List, Some, IfOk, OnOk, length, option_map, slice_get};
+ghost use Rattle.std.specs.Prelude.{◌≡◌, ◌-◌, ◌<◌, ◌++◌, [], All, List, IfOk, OnOk, length, option_map, unwrap_or};
 ghost use Rattle.nj_scope.specs.ReadingList.{ReadStatement};
-ghost use Rattle.nj_needs.specs.Walks.{WalkState, rest_of};
+ghost use Rattle.nj_edges.specs.Edges.{edge_at, first_output};
+ghost use Rattle.nj_needs.specs.Walks.{rest_of, BeginsAt, WalkState};
 ghost use Rattle.nj_tools.specs.CommandStrings.{written, StopsAt};
 ghost use Rattle.nj_graph.specs.Graph.{edges_of, files_of, IsGraphOf};
-ghost use Rattle.cache_keys.specs.CacheKeys.{line, ListsKeys, StopsWithin};
-ghost use Rattle.cache_keys.specs.Inside.Keeping.{IsKept, kept_key};
+ghost use Rattle.cache_keys.specs.CacheKeys.{line, ListsKeys};
+ghost use Rattle.cache_keys.specs.Inside.Keeping.{kept_key};
 
-use crate::fields::Key;
+use crate::fields::{Key, kept_key};
 use crate::keys::keep_key;
 use nj_graph::{EdgeNo, FileNo, Graph};
 use nj_needs::{Mark, Needs};
@@ -35,8 +36,9 @@ pub fn page_from(
     ensures lines { (entries : List ReadStatement) → IsGraphOf graph.now entries
         → IfOk result (λ page. ListsKeys (edges_of graph.now) entries
         (written take (rest_of graph.now.built.graph targets.now mark.now)) page.lines.items) }
-    ensures mark { IfOk result (λ page.
-        StopsWithin graph.now.built.graph targets.now mark.now take page.mark) }
+    ensures mark { IfOk result (λ page. (walk : WalkState)
+        × BeginsAt graph.now.built.graph targets.now mark.now walk
+        × StopsAt walk take page.mark) }
 {
     let mut needs = Needs::resume(alloc, graph.edge_graph(), targets, mark)?;
     let page = next_page(alloc, graph, &mut needs, take)?;
@@ -56,15 +58,16 @@ fn next_page(
         (written take needs.old.left) page.lines.items) }
     ensures mark { IfOk result (λ page. StopsAt needs.old take page.mark) }
 {
-    let mut keys: Vec<Option<Key>> = vec![in alloc; None; graph.edge_count()]?;
+    let mut kept: Vec<Option<Key>> = vec![in alloc; None; graph.edge_count()]?;
+    let keys = kept.as_mut_slice();
     let mut lines = Vec::new(alloc);
     let mut remaining = take;
     'commands: while remaining != Some(0) {
         let Some(edge) = needs.next() else {
             return Ok(Page { lines, mark: None });
         };
-        keep_key(alloc, graph, &mut keys, edge)?;
-        push_line(&mut lines, graph, &keys, edge)?;
+        keep_key(alloc, graph, keys, edge)?;
+        push_line(&mut lines, graph, keys, edge)?;
         remaining = one_fewer(remaining);
     }
     let mark = needs.mark(alloc)?;
@@ -82,25 +85,32 @@ fn one_fewer(remaining: Option<u64>) -> Option<u64>
     }
 }
 
-/// Appends the line of an edge whose key is kept.
+/// Appends the line of an edge, with the key that is kept of it.
 fn push_line(
     lines: &mut Vec<u8>,
     graph: &Graph,
     keys: &[Option<Key>],
     edge: EdgeNo,
 ) -> Result<(), AllocError>
-    requires edge { edge.0 < length (edges_of graph.now) }
-    requires kept { IsKept keys.now edge.0 }
+    requires { edge.0 < length (edges_of graph.now) }
     ensures { OnOk result (lines.new.items ≡ lines.old.items
         ++ line (edges_of graph.now) edge.0 (kept_key keys.now edge.0)) }
 {
-    if let Some(Some(key)) = keys.get(edge.0) {
-        lines.extend_from_slice(hex::encode(*lines.allocator(), key)?.as_bytes())?;
-        lines.push(b' ')?;
-        if let Some(output) = graph.outputs(edge).first() {
-            lines.extend_from_slice(graph.path(*output))?;
-        }
-        lines.push(b'\n')?;
-    }
+    let digits = hex::encode(*lines.allocator(), kept_key(keys, edge))?;
+    lines.extend_from_slice(digits.as_bytes())?;
+    lines.push(b' ')?;
+    lines.extend_from_slice(first_output(graph, edge))?;
+    lines.push(b'\n')?;
     Ok(())
+}
+
+/// The path of the first output of an edge; empty if it has none.
+fn first_output(graph: &Graph, edge: EdgeNo) -> &[u8]
+    requires { edge.0 < length (edges_of graph.now) }
+    ensures { result.now ≡ unwrap_or (first_output (edge_at (edges_of graph.now) edge.0)) [] }
+{
+    match graph.outputs(edge).first() {
+        Some(output) => graph.path(*output),
+        None => b"",
+    }
 }
