@@ -1,3 +1,4 @@
+mod FieldLaws
 mod FieldLemmas
 mod KeyLaws
 mod MakerLemmas

@@ -1,5 +1,5 @@
 -- Keys of edges, which are made of their commands and of the paths and keys of what they need.
-use Rattle.std.specs.Prelude.{◌≡◌, ◌<◌, ℕ, Option, Some, None, unwrap_or, if◌then◌else◌, List, [], ◌∷◌, ◌++◌, length, codes, decimal}
+use Rattle.std.specs.Prelude.{◌≡◌, ◌<◌, ◌^◌, ℕ, Option, Some, None, unwrap_or, if◌then◌else◌, List, [], ◌∷◌, ◌++◌, length, codes, decimal}
 use Rattle.std.specs.List.{flat_map}
 use Rattle.sha2.specs.Sha256.{sha256}
 use Rattle.hex.specs.Hex.{encode_lower}
@@ -63,6 +63,11 @@ pub data ListsKeys (edges : List EdgePaths) (entries : List ReadStatement) : (nu
       → ListsKeys edges entries (numbers ++ e ∷ []) (text ++ line edges e key)
 
 -- ---- laws
+
+-- a field is read off the front of bytes in one way only, so that other fields are other bytes
+abbrev pub FieldsAreReadInOneWay : Type 0
+FieldsAreReadInOneWay = (bytes others rest more : List ℕ) → length bytes < 2 ^ 64 → length others < 2 ^ 64
+    → field bytes ++ rest ≡ field others ++ more → (bytes ≡ others) × (rest ≡ more)
 
 -- an edge has one key only
 abbrev pub KeysAreUnique : Type 0

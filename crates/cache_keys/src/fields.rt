@@ -5,7 +5,7 @@ ghost use Rattle.nj_scope.specs.ReadingList.{ReadStatement};
 ghost use Rattle.nj_edges.specs.Edges.{edge_at, inputs_of, maker_of};
 ghost use Rattle.nj_edges.specs.Files.{path_at};
 ghost use Rattle.nj_graph.specs.Graph.{edges_of, files_of, IsGraphOf};
-ghost use Rattle.cache_keys.specs.CacheKeys.{command_of, field, fields_of, input_fields, maker_key, response_of};
+ghost use Rattle.cache_keys.specs.CacheKeys.{command_of, field, fields_of, maker_key, response_of, FieldsAreReadInOneWay};
 ghost use Rattle.cache_keys.specs.Inside.Keeping.{kept_key};
 
 use itoa::Buffer;
@@ -94,3 +94,8 @@ pub fn kept_key<'a>(keys: &'a [Option<Key>], edge: EdgeNo) -> &'a [u8]
         _ => b"",
     }
 }
+
+/// A field is read off the front of bytes in one way only, so that other fields are other bytes.
+pub fn fields_law()
+    ensures { FieldsAreReadInOneWay }
+{}
