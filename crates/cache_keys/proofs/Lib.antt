@@ -1,5 +1,6 @@
 mod FieldLaws
 mod FieldLemmas
 mod KeyLaws
+mod LineLaws
 mod MakerLemmas
 mod OpenLemmas

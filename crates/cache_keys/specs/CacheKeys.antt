@@ -78,3 +78,13 @@ KeysAreUnique = (edges : List EdgePaths) (entries : List ReadStatement) (e : ℕ
 abbrev pub EdgesHaveKeys : Type 0
 EdgesHaveKeys = (edges : List EdgePaths) (entries : List ReadStatement) → IsAcyclic (makers_of_inputs edges) (length edges)
     → (e : ℕ) → e < length edges → (key : List ℕ) × IsKey edges entries e key
+
+-- some edges have one text only
+abbrev pub LinesAreUnique : Type 0
+LinesAreUnique = (edges : List EdgePaths) (entries : List ReadStatement) (numbers text other : List ℕ)
+    → ListsKeys edges entries numbers text → ListsKeys edges entries numbers other → text ≡ other
+
+-- the texts of two pages, one after the other, are the text of both
+abbrev pub PagesOfLinesJoin : Type 0
+PagesOfLinesJoin = (edges : List EdgePaths) (entries : List ReadStatement) (numbers more text rest : List ℕ)
+    → ListsKeys edges entries numbers text → ListsKeys edges entries more rest → ListsKeys edges entries (numbers ++ more) (text ++ rest)

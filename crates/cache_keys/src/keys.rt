@@ -15,9 +15,9 @@ use std::alloc::{AllocError, Global};
 
 /// An edge without a key, and a place among its inputs: the makers of those before it have keys.
 #[derive(Clone, Copy)]
-pub struct Frame {
-    pub edge: EdgeNo,
-    pub place: usize,
+struct Frame {
+    edge: EdgeNo,
+    place: usize,
 }
 
 /// Keeps the key of an edge, and first those of all edges that it needs, as far as they are

@@ -1,12 +1,14 @@
 //! The lines of commands, in pages.
 
-ghost use Rattle.std.specs.Prelude.{◌≡◌, ◌-◌, ◌<◌, ◌++◌, [], All, List, IfOk, OnOk, length, option_map, unwrap_or};
+ghost use Rattle.std.specs.Prelude.{◌≡◌, ◌-◌, ◌<◌, ◌++◌, ◌⊎◌, [], true, false, All, List, IfErr, IfOk, OnOk, length, option_map, unwrap_or};
 ghost use Rattle.nj_scope.specs.ReadingList.{ReadStatement};
 ghost use Rattle.nj_edges.specs.Edges.{edge_at, first_output};
+ghost use Rattle.nj_needs.specs.Graphs.{makers_of, row_of};
+ghost use Rattle.nj_needs.specs.Marks.{is_valid};
 ghost use Rattle.nj_needs.specs.Walks.{rest_of, BeginsAt, WalkState};
 ghost use Rattle.nj_tools.specs.CommandStrings.{written, StopsAt};
 ghost use Rattle.nj_graph.specs.Graph.{edges_of, files_of, IsGraphOf};
-ghost use Rattle.cache_keys.specs.CacheKeys.{line, ListsKeys};
+ghost use Rattle.cache_keys.specs.CacheKeys.{line, LinesAreUnique, ListsKeys, PagesOfLinesJoin};
 ghost use Rattle.cache_keys.specs.Inside.Keeping.{kept_key};
 
 use crate::fields::{Key, kept_key};
@@ -25,6 +27,11 @@ pub struct Page {
 
 /// The lines of the commands that the targets need, from a mark on; at most `take` of them if that
 /// is given.
+///
+/// # Errors
+///
+/// `MarkOutOfRange` if the mark leads to no edge at some step, and `OutOfMemory` if an allocation
+/// failed.
 pub fn page_from(
     alloc: Global,
     graph: &Graph,
@@ -33,6 +40,11 @@ pub fn page_from(
     take: Option<u64>,
 ) -> Result<Page, Error>
     requires { All (λ file. file.0 < length (files_of graph.now)) targets.now }
+    ensures valid { IfOk result (λ _. is_valid (makers_of graph.now.built.graph)
+        (row_of graph.now.built.graph targets.now) mark.now ≡ true) }
+    ensures refused { IfErr result (λ error. (error ≡ Error.OutOfMemory)
+        ⊎ ((error ≡ Error.MarkOutOfRange) × (is_valid (makers_of graph.now.built.graph)
+        (row_of graph.now.built.graph targets.now) mark.now ≡ false))) }
     ensures lines { (entries : List ReadStatement) → IsGraphOf graph.now entries
         → IfOk result (λ page. ListsKeys (edges_of graph.now) entries
         (written take (rest_of graph.now.built.graph targets.now mark.now)) page.lines.items) }
@@ -114,3 +126,9 @@ fn first_output(graph: &Graph, edge: EdgeNo) -> &[u8]
         None => b"",
     }
 }
+
+/// Some edges have one text only, and the texts of pages, one after another, are the text of all.
+pub fn lines_law()
+    ensures unique { LinesAreUnique }
+    ensures join { PagesOfLinesJoin }
+{}
