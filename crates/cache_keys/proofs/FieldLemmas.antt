@@ -5,10 +5,10 @@ use Rattle.std.specs.List.{flat_map}
 use Rattle.std.proofs.lemmas.List.{length-map, take_all}
 use Rattle.std.proofs.lemmas.List.Folds.{flat_map-map}
 use Rattle.std.proofs.lemmas.Option.{slice_get-map}
-use Rattle.nj_scope.specs.ReadingList.{ReadStatement}
-use Rattle.nj_edges.specs.declared.files.FileNo.{FileNo}
-use Rattle.nj_edges.specs.Edges.{EdgePaths, edge_at, inputs_of}
-use Rattle.nj_edges.specs.Files.{path_at, AreFiles}
+use Rattle.nj_graph.specs.ReadingList.{ReadStatement}
+use Rattle.nj_graph.specs.declared.FileNo.{FileNo}
+use Rattle.nj_graph.specs.Edges.{EdgePaths, edge_at, inputs_of}
+use Rattle.nj_graph.specs.Files.{path_at, AreFiles}
 use Rattle.nj_graph.specs.Graph.{late_text_of}
 use Rattle.cache_keys.specs.CacheKeys.{command_of, content_of, field, fields_of, input_fields, response_of}
 

@@ -3,11 +3,10 @@ use Rattle.std.proofs.Common.{◌≡◌, ◌<◌, ℕ, zero, suc, Option, Some, 
 use Rattle.std.specs.Prelude.{Contains, codes, decimal}
 use Rattle.std.specs.List.{flat_map}
 use Rattle.sha2.specs.Sha256.{sha256}
-use Rattle.nj_scope.specs.ReadingList.{ReadStatement}
-use Rattle.nj_cycles.specs.Cycles.{IsRank, Needs}
-use Rattle.nj_edges.specs.Edges.{EdgePaths, edge_at, inputs_of, maker_of}
-use Rattle.nj_edges.specs.Needs.{makers_of_inputs}
-use Rattle.cache_keys.specs.CacheKeys.{command_of, field, fields_of, input_fields, maker_key, response_of, IsKey, KeysAreUnique, EdgesHaveKeys}
+use Rattle.nj_graph.specs.ReadingList.{ReadStatement}
+use Rattle.nj_graph.specs.Edges.{EdgePaths, edge_at, inputs_of, maker_of}
+use Rattle.nj_graph.specs.Graph.{edges_of}
+use Rattle.cache_keys.specs.CacheKeys.{command_of, field, fields_of, input_fields, maker_key, input_makers, response_of, EdgesHaveKeys, IsKey, KeysAreUnique, Needs}
 use Rattle.cache_keys.specs.CacheKeys.IsKey.{digest}
 
 contains-later : {X : Type 0} (y : X) (xs : List X) (x : X) → Contains xs x → Contains (y ∷ xs) x
@@ -29,7 +28,7 @@ module _ (edges : List EdgePaths) (entries : List ReadStatement) where
         ap (λ key. (field path ++ field key) ++ flat_map (input_fields edges keys) paths) first
         ∙ ap (λ t. input_fields edges others path ++ t) rest
 
-    same-fields : (e : ℕ) → ((f : ℕ) → Needs (makers_of_inputs edges) e f → keys f ≡ others f) → fields_of edges entries keys e ≡ fields_of edges entries others e
+    same-fields : (e : ℕ) → ((f : ℕ) → Needs edges e f → keys f ≡ others f) → fields_of edges entries keys e ≡ fields_of edges entries others e
     same-fields e same =
         ap (λ t. field (command_of edges entries e) ++ field (response_of edges entries e) ++ field (decimal (length (inputs_of (edge_at edges e)))) ++ t)
         (same-inputs (inputs_of (edge_at edges e)) same)
@@ -42,14 +41,17 @@ module _ (edges : List EdgePaths) (entries : List ReadStatement) where
   key_by zero e = []
   key_by (suc fuel) e = sha256 (fields_of edges entries (key_by fuel) e)
 
-  module _ (rank : ℕ → ℕ) (ranked : IsRank (makers_of_inputs edges) (length edges) rank) where
+  module _ (rank : ℕ → ℕ) (falls : (e f : ℕ) → Needs edges e f → rank f < rank e) where
     is-key : (fuel e : ℕ) → rank e < fuel → IsKey edges entries e (key_by fuel e)
     is-key zero e below = absurd (omega (arith, below))
-    is-key (suc fuel) e below = digest (key_by fuel) (λ f needs. is-key fuel f (omega (arith, below, ranked.falls e f needs)))
+    is-key (suc fuel) e below = digest (key_by fuel) (λ f needs. is-key fuel f (omega (arith, below, falls e f needs)))
 
 pub unique : KeysAreUnique
 unique edges entries e key other is also = one-key edges entries is also
 
 pub all : EdgesHaveKeys
-all edges entries (rank, ranked) e below =
-    (key_by edges entries (length edges) e, is-key edges entries rank ranked (length edges) e (ranked.bounded e below))
+all g entries graph e below =
+    let edges = edges_of g in
+    let rank = graph.acyclic.0 in
+    let ranked = graph.acyclic.1 in
+    (key_by edges entries (length edges) e, is-key edges entries rank ranked.falls (length edges) e (ranked.bounded e below))

@@ -1,8 +1,8 @@
 -- Some edges have one text only, and the texts of pages join.
 use Rattle.std.proofs.Common.{◌≡◌, ℕ, List, [], ◌∷◌, ◌++◌, length, reverse, refl, sym, ap, ◌∙◌, subst, append_assoc, arith}
 use Rattle.std.proofs.lemmas.List.{append-nil, length_push, reverse-append, reverse-reverse}
-use Rattle.nj_scope.specs.ReadingList.{ReadStatement}
-use Rattle.nj_edges.specs.Edges.{EdgePaths}
+use Rattle.nj_graph.specs.ReadingList.{ReadStatement}
+use Rattle.nj_graph.specs.Edges.{EdgePaths}
 use Rattle.cache_keys.specs.CacheKeys.{line, IsKey, LinesAreUnique, ListsKeys, PagesOfLinesJoin}
 use Rattle.cache_keys.specs.CacheKeys.ListsKeys.{none, last}
 use Rattle.cache_keys.proofs.KeyLaws.{unique}

@@ -5,14 +5,12 @@ use Rattle.std.proofs.lemmas.Bool.{cases_lt}
 use Rattle.std.proofs.lemmas.List.{get_or-replicate, length-replicate}
 use Rattle.std.proofs.lemmas.Option.{get_or_from_slice_get, slice_get-get_or, slice_get_past, slice_get_within}
 use Rattle.sha2.specs.Sha256.{sha256}
-use Rattle.nj_scope.specs.ReadingList.{ReadStatement}
-use Rattle.nj_cycles.specs.Cycles.{IsAcyclic, Needs}
-use Rattle.nj_edges.specs.declared.edges.EdgeNo.{EdgeNo}
-use Rattle.nj_edges.specs.Edges.{EdgePaths}
-use Rattle.nj_edges.specs.Needs.{makers_of_inputs}
-use Rattle.cache_keys.specs.CacheKeys.{fields_of, IsKey}
+use Rattle.nj_graph.specs.ReadingList.{ReadStatement}
+use Rattle.nj_graph.specs.declared.EdgeNo.{EdgeNo}
+use Rattle.nj_graph.specs.Edges.{EdgePaths}
+use Rattle.cache_keys.specs.CacheKeys.{fields_of, input_makers, IsKey, Needs}
 use Rattle.cache_keys.specs.CacheKeys.IsKey.{digest}
-use Rattle.cache_keys.specs.Inside.Keeping.{kept_key, IsKept, KeepsKeys, KeepsMakers}
+use Rattle.cache_keys.specs.Inside.Keeping.{kept_key, IsAcyclic, IsKept, KeepsKeys, KeepsMakers}
 
 -- what is found at a place, by its number
 abbrev pub numbers : Option (Option EdgeNo) → Option (Option ℕ)
@@ -44,9 +42,9 @@ no-keys count keys is e key found =
 
 module _ (edges : List EdgePaths) (keys : List (Option (List ℕ))) (edge : ℕ) where
   abbrev makers : List (Option ℕ)
-  makers = makers_of_inputs edges edge
+  makers = input_makers edges edge
 
-  pub maker-below : IsAcyclic (makers_of_inputs edges) (length edges) → (i f : ℕ) → slice_get makers i ≡ Some (Some f) → f < length edges
+  pub maker-below : IsAcyclic edges → (i f : ℕ) → slice_get makers i ≡ Some (Some f) → f < length edges
   maker-below (rank, ranked) i f at = ranked.within edge f (contains-at makers i (Some f) at)
 
   -- one place more, at which is a source, or an edge whose key is kept
@@ -61,7 +59,7 @@ module _ (edges : List EdgePaths) (keys : List (Option (List ℕ))) (edge : ℕ)
   ]
 
   -- past the last place
-  pub makers-all : (place : ℕ) → slice_get makers place ≡ None → KeepsMakers edges keys edge place → (f : ℕ) → Needs (makers_of_inputs edges) edge f → IsKept keys f
+  pub makers-all : (place : ℕ) → slice_get makers place ≡ None → KeepsMakers edges keys edge place → (f : ℕ) → Needs edges edge f → IsKept keys f
   makers-all place none before f has = elim (cases_lt has.0 place) [
     | inl under ↦ before has.0 f under (at-contained makers (Some f) has)
     | inr past ↦
@@ -70,7 +68,7 @@ module _ (edges : List EdgePaths) (keys : List (Option (List ℕ))) (edge : ℕ)
   ]
 
   -- the key of an edge, from those that are kept
-  pub kept-digest : (entries : List ReadStatement) → ((f : ℕ) → Needs (makers_of_inputs edges) edge f → IsKept keys f) → KeepsKeys edges entries keys
+  pub kept-digest : (entries : List ReadStatement) → ((f : ℕ) → Needs edges edge f → IsKept keys f) → KeepsKeys edges entries keys
       → IsKey edges entries edge (sha256 (fields_of edges entries (kept_key keys) edge))
   kept-digest entries all kept = digest (kept_key keys) (λ f needs. key-of-kept edges entries keys f (all f needs) kept)
 

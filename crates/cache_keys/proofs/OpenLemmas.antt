@@ -5,13 +5,11 @@ use Rattle.std.proofs.lemmas.Bool.{cases_eq}
 use Rattle.std.proofs.lemmas.List.{get_or-set_other, get_or-set_same, length-set, reverse-append}
 use Rattle.std.proofs.lemmas.List.Sums.{sum_by-set}
 use Rattle.std.proofs.lemmas.Option.{get_or_from_slice_get, slice_get-get_or, slice_get_past, slice_get_within}
-use Rattle.nj_scope.specs.ReadingList.{ReadStatement}
-use Rattle.nj_cycles.specs.Cycles.{IsRank, Needs}
-use Rattle.nj_edges.specs.Edges.{EdgePaths}
-use Rattle.nj_edges.specs.Needs.{makers_of_inputs}
+use Rattle.nj_graph.specs.ReadingList.{ReadStatement}
+use Rattle.nj_graph.specs.Edges.{EdgePaths}
 use Rattle.cache_keys.specs.declared.keys.Frame.{Frame}
-use Rattle.cache_keys.specs.CacheKeys.{IsKey}
-use Rattle.cache_keys.specs.Inside.Keeping.{missing, missing_one, AreOpen, BeganWith, IsKept, IsOpen, KeepsKeys, KeepsMakers}
+use Rattle.cache_keys.specs.CacheKeys.{input_makers, IsKey, Needs}
+use Rattle.cache_keys.specs.Inside.Keeping.{missing, missing_one, AreOpen, BeganWith, IsKept, IsOpen, IsRank, KeepsKeys, KeepsMakers}
 
 -- ---- lists in which one element is set
 
@@ -56,7 +54,7 @@ module _ (keys : List (Option (List ℕ))) (e : ℕ) (key : List ℕ) where
 
 -- ---- open edges
 
-module _ (edges : List EdgePaths) (rank : ℕ → ℕ) (ranked : IsRank (makers_of_inputs edges) (length edges) rank) where
+module _ (edges : List EdgePaths) (rank : ℕ → ℕ) (ranked : IsRank edges rank) where
   open-less : (keys : List (Option (List ℕ))) (least less : ℕ) (frames : List Frame) → less ≤ least → AreOpen edges keys rank least frames → AreOpen edges keys rank less frames
   open-less keys least less [] under are = tt
   open-less keys least less (frame ∷ frames) under (is, are) =
@@ -94,7 +92,7 @@ module _ (edges : List EdgePaths) (rank : ℕ → ℕ) (ranked : IsRank (makers_
   -- a maker of an input is opened
   pub open-next : (keys : List (Option (List ℕ))) (frame here next : Frame) (frames : List Frame) → AreOpen edges keys rank 0 (frame ∷ frames)
       → here.edge ≡ frame.edge → KeepsMakers edges keys frame.edge.0 here.place
-      → Needs (makers_of_inputs edges) frame.edge.0 next.edge.0 → slice_get keys next.edge.0 ≡ Some None → next.place ≡ 0
+      → Needs edges frame.edge.0 next.edge.0 → slice_get keys next.edge.0 ≡ Some None → next.place ≡ 0
       → AreOpen edges keys rank 0 (next ∷ here ∷ frames)
   open-next keys frame here next frames (is, are) same before needs none start =
       let edge : here.edge.0 ≡ frame.edge.0 = ap (λ e. e.0) same in

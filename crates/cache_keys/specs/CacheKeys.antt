@@ -1,13 +1,11 @@
 -- Keys of edges, which are made of their commands and of the paths and keys of what they need.
-use Rattle.std.specs.Prelude.{◌≡◌, ◌<◌, ◌^◌, ℕ, Option, Some, None, unwrap_or, if◌then◌else◌, List, [], ◌∷◌, ◌++◌, length, codes, decimal}
+use Rattle.std.specs.Prelude.{◌≡◌, ◌<◌, ◌^◌, ℕ, Option, Some, None, unwrap_or, if◌then◌else◌, List, [], ◌∷◌, ◌++◌, map, length, Contains, codes, decimal}
 use Rattle.std.specs.List.{flat_map}
 use Rattle.sha2.specs.Sha256.{sha256}
 use Rattle.hex.specs.Hex.{encode_lower}
-use Rattle.nj_scope.specs.ReadingList.{ReadStatement}
-use Rattle.nj_cycles.specs.Cycles.{IsAcyclic, Needs}
-use Rattle.nj_edges.specs.Edges.{EdgePaths, edge_at, inputs_of, first_output, maker_of}
-use Rattle.nj_edges.specs.Needs.{makers_of_inputs}
-use Rattle.nj_graph.specs.Graph.{late_text_of}
+use Rattle.nj_graph.specs.ReadingList.{ReadStatement}
+use Rattle.nj_graph.specs.Edges.{EdgePaths, edge_at, inputs_of, first_output, maker_of}
+use Rattle.nj_graph.specs.Graph.{edges_of, late_text_of, GraphText, IsGraphOf}
 
 -- a field: its length, a colon, its bytes
 abbrev pub field : List ℕ → List ℕ
@@ -28,6 +26,18 @@ response_of edges entries edge =
     if (edge_at edges edge).is_phony then []
     else content_of (late_text_of entries edge (codes "rspfile")) (late_text_of entries edge (codes "rspfile_content"))
 
+-- ---- what an edge needs
+
+-- the edges that make its inputs, in their order; None for a source
+abbrev pub input_makers : List EdgePaths → (edge : ℕ) → List (Option ℕ)
+input_makers edges edge = map (maker_of edges) (inputs_of (edge_at edges edge))
+
+-- edge e needs edge f, which makes an input of it
+abbrev pub Needs : List EdgePaths → (e f : ℕ) → Type 0
+Needs edges e f = Contains (input_makers edges e) (Some f)
+
+-- ---- keys
+
 -- the key of the edge that makes a file; empty where no edge makes it
 abbrev pub maker_key : (keys : ℕ → List ℕ) → (maker : Option ℕ) → List ℕ
 maker_key keys (Some edge) = keys edge
@@ -47,7 +57,7 @@ fields_of edges entries keys edge =
 
 -- The key of an edge is the SHA-256 of its fields, where each edge that makes an input has its key.
 pub data IsKey (edges : List EdgePaths) (entries : List ReadStatement) : (edge : ℕ) → (key : List ℕ) → Type 0 where
-  digest : {e : ℕ} (keys : ℕ → List ℕ) → ((f : ℕ) → Needs (makers_of_inputs edges) e f → IsKey edges entries f (keys f))
+  digest : {e : ℕ} (keys : ℕ → List ℕ) → ((f : ℕ) → Needs edges e f → IsKey edges entries f (keys f))
       → IsKey edges entries e (sha256 (fields_of edges entries keys e))
 
 -- ---- lines
@@ -74,10 +84,10 @@ abbrev pub KeysAreUnique : Type 0
 KeysAreUnique = (edges : List EdgePaths) (entries : List ReadStatement) (e : ℕ) (key other : List ℕ)
     → IsKey edges entries e key → IsKey edges entries e other → key ≡ other
 
--- where no edge needs itself, each edge has one, and so has each that the walk visits
+-- each edge of a graph has one, and so has each that a walk visits
 abbrev pub EdgesHaveKeys : Type 0
-EdgesHaveKeys = (edges : List EdgePaths) (entries : List ReadStatement) → IsAcyclic (makers_of_inputs edges) (length edges)
-    → (e : ℕ) → e < length edges → (key : List ℕ) × IsKey edges entries e key
+EdgesHaveKeys = (g : GraphText) (entries : List ReadStatement) → IsGraphOf g entries
+    → (e : ℕ) → e < length (edges_of g) → (key : List ℕ) × IsKey (edges_of g) entries e key
 
 -- some edges have one text only
 abbrev pub LinesAreUnique : Type 0

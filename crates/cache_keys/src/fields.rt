@@ -1,9 +1,9 @@
 //! What keys are made of.
 
 ghost use Rattle.std.specs.Prelude.{◌≡◌, ◌<◌, ◌++◌, List, IfOk, OnOk, length};
-ghost use Rattle.nj_scope.specs.ReadingList.{ReadStatement};
-ghost use Rattle.nj_edges.specs.Edges.{edge_at, inputs_of, maker_of};
-ghost use Rattle.nj_edges.specs.Files.{path_at};
+ghost use Rattle.nj_graph.specs.ReadingList.{ReadStatement};
+ghost use Rattle.nj_graph.specs.Edges.{edge_at, inputs_of, maker_of};
+ghost use Rattle.nj_graph.specs.Files.{path_at};
 ghost use Rattle.nj_graph.specs.Graph.{edges_of, files_of, IsGraphOf};
 ghost use Rattle.cache_keys.specs.CacheKeys.{command_of, field, fields_of, maker_key, response_of, FieldsAreReadInOneWay};
 ghost use Rattle.cache_keys.specs.Inside.Keeping.{kept_key};

@@ -1,12 +1,10 @@
 //! The keys of edges, each from those of the edges that make its inputs.
 
 ghost use Rattle.std.specs.Prelude.{◌≡◌, ℕ, ◌<◌, ◌≤◌, List, None, Some, IfNone, IfOk, IfSome, OnOk, length, slice_get};
-ghost use Rattle.nj_scope.specs.ReadingList.{ReadStatement};
-ghost use Rattle.nj_cycles.specs.Cycles.{IsAcyclic, Needs};
-ghost use Rattle.nj_edges.specs.Needs.{makers_of_inputs};
+ghost use Rattle.nj_graph.specs.ReadingList.{ReadStatement};
 ghost use Rattle.nj_graph.specs.Graph.{edges_of, IsGraphOf};
-ghost use Rattle.cache_keys.specs.CacheKeys.{IsKey, EdgesHaveKeys, KeysAreUnique};
-ghost use Rattle.cache_keys.specs.Inside.Keeping.{IsKept, KeepsKeys, KeepsMakers};
+ghost use Rattle.cache_keys.specs.CacheKeys.{EdgesHaveKeys, IsKey, KeysAreUnique, Needs};
+ghost use Rattle.cache_keys.specs.Inside.Keeping.{IsAcyclic, IsKept, KeepsKeys, KeepsMakers};
 
 use crate::fields::{Key, fields_of};
 use nj_graph::{EdgeNo, Graph};
@@ -30,8 +28,7 @@ pub fn keep_key(
 ) -> Result<(), AllocError>
     requires edge { edge.0 < length (edges_of graph.now) }
     requires count { length keys.old ≡ length (edges_of graph.now) }
-    requires acyclic { IsAcyclic (makers_of_inputs (edges_of graph.now))
-        (length (edges_of graph.now)) }
+    requires acyclic { IsAcyclic (edges_of graph.now) }
     ensures keys { (entries : List ReadStatement) → IsGraphOf graph.now entries
         → KeepsKeys (edges_of graph.now) entries keys.old
         → KeepsKeys (edges_of graph.now) entries keys.new }
@@ -65,16 +62,15 @@ pub fn keep_key(
 fn missing_maker(graph: &Graph, keys: &[Option<Key>], frame: Frame) -> Option<Frame>
     requires edge { frame.edge.0 < length (edges_of graph.now) }
     requires count { length keys.now ≡ length (edges_of graph.now) }
-    requires acyclic { IsAcyclic (makers_of_inputs (edges_of graph.now))
-        (length (edges_of graph.now)) }
+    requires acyclic { IsAcyclic (edges_of graph.now) }
     requires before { KeepsMakers (edges_of graph.now) keys.now frame.edge.0 frame.place }
     ensures needed { IfSome result (λ missing.
-        Needs (makers_of_inputs (edges_of graph.now)) frame.edge.0 missing.edge.0) }
+        Needs (edges_of graph.now) frame.edge.0 missing.edge.0) }
     ensures missing { IfSome result (λ missing. slice_get keys.now missing.edge.0 ≡ Some None) }
     ensures before { IfSome result (λ missing.
         KeepsMakers (edges_of graph.now) keys.now frame.edge.0 missing.place) }
     ensures all { IfNone result ((edge : ℕ)
-        → Needs (makers_of_inputs (edges_of graph.now)) frame.edge.0 edge
+        → Needs (edges_of graph.now) frame.edge.0 edge
         → IsKept keys.now edge) }
 {
     let mut place = frame.place;
@@ -97,7 +93,7 @@ fn key_of(
     edge: EdgeNo,
 ) -> Result<Key, AllocError>
     requires edge { edge.0 < length (edges_of graph.now) }
-    requires makers { (maker : ℕ) → Needs (makers_of_inputs (edges_of graph.now)) edge.0 maker
+    requires makers { (maker : ℕ) → Needs (edges_of graph.now) edge.0 maker
         → IsKept keys.now maker }
     ensures { (entries : List ReadStatement) → IsGraphOf graph.now entries
         → KeepsKeys (edges_of graph.now) entries keys.now
@@ -107,7 +103,7 @@ fn key_of(
     Ok(Sha256::digest(fields.as_slice()))
 }
 
-/// An edge has one key only; and where no edge needs itself, each edge has one.
+/// An edge has one key only, and each edge of a graph has one.
 pub fn keys_law()
     ensures unique { KeysAreUnique }
     ensures all { EdgesHaveKeys }

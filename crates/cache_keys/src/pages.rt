@@ -1,8 +1,8 @@
 //! The lines of commands, in pages.
 
 ghost use Rattle.std.specs.Prelude.{◌≡◌, ◌-◌, ◌<◌, ◌++◌, ◌⊎◌, [], true, false, All, List, IfErr, IfOk, OnOk, length, option_map, unwrap_or};
-ghost use Rattle.nj_scope.specs.ReadingList.{ReadStatement};
-ghost use Rattle.nj_edges.specs.Edges.{edge_at, first_output};
+ghost use Rattle.nj_graph.specs.ReadingList.{ReadStatement};
+ghost use Rattle.nj_graph.specs.Edges.{edge_at, first_output};
 ghost use Rattle.nj_needs.specs.Graphs.{makers_of, row_of};
 ghost use Rattle.nj_needs.specs.Marks.{is_valid};
 ghost use Rattle.nj_needs.specs.Walks.{rest_of, BeginsAt, WalkState};

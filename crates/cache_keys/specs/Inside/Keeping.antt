@@ -1,9 +1,8 @@
 -- The keys that are kept while more are computed.
 use Rattle.std.specs.Prelude.{◌≡◌, ◌≤◌, ◌<◌, ℕ, ◌+◌, if◌then◌else◌, Option, Some, None, is_some, unwrap_or, List, [], ◌∷◌, length, slice_get, sum_by}
-use Rattle.nj_scope.specs.ReadingList.{ReadStatement}
-use Rattle.nj_edges.specs.Edges.{EdgePaths}
-use Rattle.nj_edges.specs.Needs.{makers_of_inputs}
-use Rattle.cache_keys.specs.CacheKeys.{IsKey}
+use Rattle.nj_graph.specs.ReadingList.{ReadStatement}
+use Rattle.nj_graph.specs.Edges.{EdgePaths}
+use Rattle.cache_keys.specs.CacheKeys.{input_makers, IsKey, Needs}
 use Rattle.cache_keys.specs.declared.keys.Frame.{Frame}
 
 -- the key that is kept of an edge; empty if none is
@@ -19,9 +18,19 @@ KeepsKeys edges entries keys = (e : ℕ) (key : List ℕ) → slice_get keys e �
 
 -- the keys of the makers of an edge's inputs before a place are kept
 abbrev pub KeepsMakers : List EdgePaths → (keys : List (Option (List ℕ))) → (edge place : ℕ) → Type 0
-KeepsMakers edges keys edge place = (i f : ℕ) → i < place → slice_get (makers_of_inputs edges edge) i ≡ Some (Some f) → IsKept keys f
+KeepsMakers edges keys edge place = (i f : ℕ) → i < place → slice_get (input_makers edges edge) i ≡ Some (Some f) → IsKept keys f
 
 -- ---- open edges
+
+-- a rank falls from each edge to those that it needs, which are edges too, and is below the number of edges
+pub record IsRank (edges : List EdgePaths) (rank : ℕ → ℕ) : Type 0 where
+  pub falls : (e f : ℕ) → Needs edges e f → rank f < rank e
+  pub bounded : (e : ℕ) → e < length edges → rank e < length edges
+  pub within : (e f : ℕ) → Needs edges e f → f < length edges
+
+-- no edge needs itself
+abbrev pub IsAcyclic : List EdgePaths → Type 0
+IsAcyclic edges = (rank : ℕ → ℕ) × IsRank edges rank
 
 -- an edge without a key, whose makers before a place have theirs
 pub record IsOpen (edges : List EdgePaths) (keys : List (Option (List ℕ))) (rank : ℕ → ℕ) (least : ℕ) (frame : Frame) : Type 0 where

@@ -17,5 +17,5 @@ returns c entries graph =
         ∙ ap (λ n. (field command ++ field response) ++ field n) count
     in
     whole-fields (edges_of c.args.graph.now) entries (kept_key c.args.keys.now) c.args.edge.0 (files_of c.args.graph.now) c.inputs-inputs.result.now c.inputs.input-index command response
-    c.push_field-3.new.text.items c.inputs.text.items c.inputs-inputs.ensures.files c.inputs-test.false
+    c.push_field-3.new.text.items c.inputs.text.items (rw c.deref-3.ensures at c.inputs-inputs.ensures.files) c.inputs-test.false
     (c.deref.ensures.value ∙ c.in_ok-command_of.ensures entries graph) (c.deref-2.ensures.value ∙ c.in_ok-response_of.ensures entries graph) begun c.inputs.invariant

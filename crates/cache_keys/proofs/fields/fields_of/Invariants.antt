@@ -1,6 +1,6 @@
 use Rattle.std.proofs.Common.{◌≡◌, ◌++◌, take}
 use Rattle.std.specs.List.{flat_map}
-use Rattle.nj_edges.specs.Files.{path_at}
+use Rattle.nj_graph.specs.Files.{path_at}
 use Rattle.nj_graph.specs.Graph.{edges_of, files_of}
 use Rattle.cache_keys.specs.CacheKeys.{input_fields}
 use Rattle.cache_keys.specs.Inside.Keeping.{kept_key}

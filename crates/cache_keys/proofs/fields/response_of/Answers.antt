@@ -11,4 +11,4 @@ returns c entries graph =
         let zero : vec_len c.in_ok-variable.field-0 ≡ 0 = omega (arith, ap length (c.in_ok-variable.ensures entries graph ∙ none)) in
         both_ways (vec_len c.in_ok-variable.field-0 == 0) (sym c.if-is_empty.ensures) (eq-eqb (vec_len c.in_ok-variable.field-0) 0 zero)
     in
-    subst (λ t. IfOk c.variable-2.result (λ text. text.items ≡ t)) (sym (response-is (edges_of c.args.graph.now) entries c.args.edge.0 (sym c.if-is_phony.ensures) some)) (c.variable-2.ensures entries graph)
+    subst (λ t. IfOk c.variable-2.result (λ text. text.items ≡ t)) (sym (response-is (edges_of c.args.graph.now) entries c.args.edge.0 (rw c.deref.ensures at (sym c.if-is_phony.ensures)) some)) (c.variable-2.ensures entries graph)

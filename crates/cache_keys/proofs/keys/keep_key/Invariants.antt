@@ -1,15 +1,13 @@
 use Rattle.std.proofs.Common.{ℕ, ◌+◌, ◌-◌, ◌*◌, List, length, reverse}
-use Rattle.nj_scope.specs.ReadingList.{ReadStatement}
-use Rattle.nj_cycles.specs.Cycles.{IsRank}
-use Rattle.nj_edges.specs.Needs.{makers_of_inputs}
+use Rattle.nj_graph.specs.ReadingList.{ReadStatement}
 use Rattle.nj_graph.specs.Graph.{edges_of, IsGraphOf}
-use Rattle.cache_keys.specs.Inside.Keeping.{missing, AreOpen, BeganWith, KeepsKeys}
+use Rattle.cache_keys.specs.Inside.Keeping.{missing, AreOpen, BeganWith, IsRank, KeepsKeys}
 use Rattle.cache_keys.proofs.keys.keep_key.Given as goal
 
 abbrev pub invariant-open : goal.invariant-open
 invariant-open l = record {
   rank : ℕ → ℕ;
-  ranked : IsRank (makers_of_inputs (edges_of l.graph)) (length (edges_of l.graph)) rank;
+  ranked : IsRank (edges_of l.graph) rank;
   frames : AreOpen (edges_of l.graph) l.keys rank 0 (reverse l.open.items);
   began : BeganWith l.keys l.fn.edge.0 (reverse l.open.items);
   keys : (entries : List ReadStatement) → IsGraphOf l.graph entries

@@ -1,6 +1,6 @@
 use Rattle.std.proofs.Common.{◌-◌, length}
-use Rattle.nj_edges.specs.Needs.{makers_of_inputs}
 use Rattle.nj_graph.specs.Graph.{edges_of}
+use Rattle.cache_keys.specs.CacheKeys.{input_makers}
 use Rattle.cache_keys.specs.Inside.Keeping.{KeepsMakers}
 use Rattle.cache_keys.proofs.keys.missing_maker.Given as goal
 
@@ -8,4 +8,4 @@ abbrev pub invariant-places : goal.invariant-places
 invariant-places l = KeepsMakers (edges_of l.graph) l.keys l.frame.edge.0 l.place
 
 abbrev pub decreases-places : goal.decreases-places
-decreases-places l = length (makers_of_inputs (edges_of l.graph) l.frame.edge.0) - l.place
+decreases-places l = length (input_makers (edges_of l.graph) l.frame.edge.0) - l.place

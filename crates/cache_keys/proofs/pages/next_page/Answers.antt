@@ -44,3 +44,7 @@ commands-preserved c =
           let key = key-of-kept edges entries c.keep_key.new.keys e c.in_ok-keep_key.ensures.kept kept in
           subst (ListsKeys edges entries (i.numbers ++ e ∷ [])) (sym c.in_ok-push_line.ensures) (last (i.lines entries graph) key);
     }
+
+pub keep_key-requires-clause-acyclic : goal.keep_key-requires-clause-acyclic
+keep_key-requires-clause-acyclic c =
+    let acyclic = rw c.deref.ensures at c.edge_count.ensures.acyclic in (acyclic.0, record { falls = acyclic.1.falls; bounded = acyclic.1.bounded; within = acyclic.1.within })

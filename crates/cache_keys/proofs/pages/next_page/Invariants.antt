@@ -1,5 +1,5 @@
 use Rattle.std.proofs.Common.{◌≡◌, ℕ, List, ◌++◌, length}
-use Rattle.nj_scope.specs.ReadingList.{ReadStatement}
+use Rattle.nj_graph.specs.ReadingList.{ReadStatement}
 use Rattle.nj_needs.specs.Graphs.{row_of, makers_of, count_of}
 use Rattle.nj_needs.specs.Pages.{IsMarkAfter}
 use Rattle.nj_graph.specs.Graph.{edges_of, IsGraphOf}
