@@ -1,12 +1,12 @@
 -- An edge has one key only, and has one where no edge needs itself.
-use Rattle.std.proofs.Common.{◌≡◌, ◌<◌, ℕ, zero, suc, Option, Some, None, List, [], ◌∷◌, ◌++◌, length, map, refl, sym, ap, ◌∙◌, subst, arith}
-use Rattle.std.specs.Prelude.{Contains, codes, decimal}
+use Rattle.std.proofs.Common.{◌≡◌, ◌<◌, ℕ, zero, suc, Option, Some, None, List, [], ◌∷◌, ◌++◌, length, map, refl, ap, ◌∙◌, arith}
+use Rattle.std.specs.Prelude.{Contains, decimal}
 use Rattle.std.specs.List.{flat_map}
 use Rattle.sha2.specs.Sha256.{sha256}
 use Rattle.nj_graph.specs.ReadingList.{ReadStatement}
 use Rattle.nj_graph.specs.Edges.{EdgePaths, edge_at, inputs_of, maker_of}
 use Rattle.nj_graph.specs.Graph.{edges_of}
-use Rattle.cache_keys.specs.CacheKeys.{command_of, field, fields_of, input_fields, maker_key, input_makers, response_of, EdgesHaveKeys, IsKey, KeysAreUnique, Needs}
+use Rattle.cache_keys.specs.CacheKeys.{command_of, field, fields_of, input_fields, maker_key, response_of, EdgesHaveKeys, IsKey, KeysAreUnique, Needs}
 use Rattle.cache_keys.specs.CacheKeys.IsKey.{digest}
 
 contains-later : {X : Type 0} (y : X) (xs : List X) (x : X) → Contains xs x → Contains (y ∷ xs) x

@@ -1,15 +1,15 @@
 -- How the keys of edges that need each other are computed, without recursion.
-use Rattle.std.proofs.Common.{◌≡◌, ◌≢◌, ◌<◌, ◌≤◌, ◌+◌, ◌⊎◌, inl, inr, ℕ, zero, suc, Option, Some, None, List, [], ◌∷◌, ◌++◌, length, reverse, set, refl, sym, ap, ◌∙◌, subst, arith}
+use Rattle.std.proofs.Common.{◌≡◌, ◌≢◌, ◌<◌, ◌≤◌, ◌+◌, inl, inr, ℕ, zero, suc, Option, Some, None, List, [], ◌∷◌, ◌++◌, length, reverse, set, refl, sym, ap, ◌∙◌, subst, arith}
 use Rattle.std.specs.Prelude.{slice_get}
 use Rattle.std.proofs.lemmas.Bool.{cases_eq}
-use Rattle.std.proofs.lemmas.List.{get_or-set_other, get_or-set_same, length-set, reverse-append}
+use Rattle.std.proofs.lemmas.List.{get_or-set_same, length-set, reverse-append}
 use Rattle.std.proofs.lemmas.List.Sums.{sum_by-set}
-use Rattle.std.proofs.lemmas.Option.{get_or_from_slice_get, slice_get-get_or, slice_get_past, slice_get_within}
+use Rattle.std.proofs.lemmas.Option.{get_or_from_slice_get, slice_get-get_or, slice_get_within}
 use Rattle.nj_graph.specs.ReadingList.{ReadStatement}
 use Rattle.nj_graph.specs.Edges.{EdgePaths}
 use Rattle.cache_keys.specs.declared.keys.Frame.{Frame}
-use Rattle.cache_keys.specs.CacheKeys.{input_makers, IsKey, Needs}
-use Rattle.cache_keys.specs.Inside.Keeping.{missing, missing_one, AreOpen, BeganWith, IsKept, IsOpen, IsRank, KeepsKeys, KeepsMakers}
+use Rattle.cache_keys.specs.CacheKeys.{IsKey, Needs}
+use Rattle.cache_keys.specs.Inside.Keeping.{missing, missing_one, AreOpen, BeganWith, IsKept, IsRank, KeepsKeys, KeepsMakers}
 
 -- ---- lists in which one element is set
 
@@ -72,8 +72,7 @@ module _ (edges : List EdgePaths) (rank : ℕ → ℕ) (ranked : IsRank edges ra
       → AreOpen edges keys rank least frames → AreOpen edges (set keys e (Some key)) rank least frames
   open-set keys e key least [] under are = tt
   open-set keys e key least (frame ∷ frames) under (is, are) =
-      let apart : frame.edge.0 ≢ e = λ same. absurd (omega (arith, under, is.above, ap rank same)) in
-      (
+      let apart : frame.edge.0 ≢ e = λ same. absurd (omega (arith, under, is.above, ap rank same)) in (
         record {
           above = is.above;
           known = is.known;
@@ -95,8 +94,7 @@ module _ (edges : List EdgePaths) (rank : ℕ → ℕ) (ranked : IsRank edges ra
       → Needs edges frame.edge.0 next.edge.0 → slice_get keys next.edge.0 ≡ Some None → next.place ≡ 0
       → AreOpen edges keys rank 0 (next ∷ here ∷ frames)
   open-next keys frame here next frames (is, are) same before needs none start =
-      let edge : here.edge.0 ≡ frame.edge.0 = ap (λ e. e.0) same in
-      (
+      let edge : here.edge.0 ≡ frame.edge.0 = ap (λ e. e.0) same in (
         record {
           above = omega arith;
           known = ranked.within frame.edge.0 next.edge.0 needs;

@@ -65,7 +65,13 @@ fn load_page(rt: HostRuntime, words: &ArgMatches<'_>) -> Result<Page, Error> {
     let graph = loaded.graph();
     let targets = words.get_strs("targets").unwrap_or(&[]);
     let targets = picked_files(rt.alloc(), graph, targets)?;
-    page_from(rt.alloc(), graph, &targets, &mark, words.get_one::<u64>("take"))
+    page_from(
+        rt.alloc(),
+        graph,
+        &targets,
+        &mark,
+        words.get_one::<u64>("take"),
+    )
 }
 
 /// The files that the words mean; the default targets if there are none.
@@ -98,5 +104,9 @@ fn write_page(rt: HostRuntime, page: &Page) -> io::Result<ExitCode> {
 /// Reports why there is no page. Only a text that is not a mark is a fault of the words.
 fn report(rt: HostRuntime, error: &Error) -> io::Result<ExitCode> {
     eprintln!(rt; "cache-keys: {error}")?;
-    Ok(ExitCode::from(if matches!(error, Error::BadMark) { 2 } else { 1 }))
+    Ok(ExitCode::from(if matches!(error, Error::BadMark) {
+        2
+    } else {
+        1
+    }))
 }

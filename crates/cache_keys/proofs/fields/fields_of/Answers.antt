@@ -1,5 +1,4 @@
-use Rattle.std.proofs.Common.{◌++◌, length, ap, ◌∙◌}
-use Rattle.std.specs.Prelude.{decimal}
+use Rattle.std.proofs.Common.{◌++◌, ap, ◌∙◌}
 use Rattle.nj_graph.specs.Graph.{edges_of, files_of}
 use Rattle.cache_keys.specs.CacheKeys.{field}
 use Rattle.cache_keys.specs.Inside.Keeping.{kept_key}
@@ -12,9 +11,9 @@ returns c entries graph =
     let response = c.deref-2.result.now in
     let count = c.as_bytes.ensures.value ∙ c.format.ensures.text in
     let begun =
-        c.in_ok-push_field-3.ensures
-        ∙ ap (λ t. t ++ field c.as_bytes.result.now) (c.in_ok-push_field-2.ensures ∙ ap (λ t. t ++ field response) (c.in_ok-push_field.ensures ∙ ap (λ t. t ++ field command) c.new-text.ensures.items))
-        ∙ ap (λ n. (field command ++ field response) ++ field n) count
+    c.in_ok-push_field-3.ensures
+    ∙ ap (λ t. t ++ field c.as_bytes.result.now) (c.in_ok-push_field-2.ensures ∙ ap (λ t. t ++ field response) (c.in_ok-push_field.ensures ∙ ap (λ t. t ++ field command) c.new-text.ensures.items))
+    ∙ ap (λ n. (field command ++ field response) ++ field n) count
     in
     whole-fields (edges_of c.args.graph.now) entries (kept_key c.args.keys.now) c.args.edge.0 (files_of c.args.graph.now) c.inputs-inputs.result.now c.inputs.input-index command response
     c.push_field-3.new.text.items c.inputs.text.items (rw c.deref-3.ensures at c.inputs-inputs.ensures.files) c.inputs-test.false

@@ -1,8 +1,8 @@
-use Rattle.std.proofs.Common.{◌≡◌, ◌<◌, ◌≤◌, ◌+◌, [], ◌∷◌, ◌++◌, Some, None, List, length, reverse, refl, ap, sym, ◌∙◌, subst, rules, arith}
+use Rattle.std.proofs.Common.{◌≡◌, ◌<◌, ◌∷◌, length, reverse, refl, ap, sym, ◌∙◌, subst, arith}
 use Rattle.std.proofs.lemmas.List.{length_push, length-reverse}
 use Rattle.nj_graph.specs.Graph.{edges_of}
 use Rattle.cache_keys.specs.declared.keys.Frame.{Frame}
-use Rattle.cache_keys.specs.Inside.Keeping.{missing, AreOpen, BeganWith}
+use Rattle.cache_keys.specs.Inside.Keeping.{AreOpen, BeganWith}
 use Rattle.cache_keys.proofs.OpenLemmas.{began-closed, began-next, keys-set, missing-set, open-closed, open-length, open-next, reverse-last}
 use Rattle.cache_keys.proofs.keys.keep_key.Goals as goal
 
@@ -36,8 +36,8 @@ open-preserved-in_ok-push-in-Some-missing_maker-2 c =
     let below = reverse c.pop.new.self.items in
     let popped : reverse c.open.open.items ≡ frame ∷ below = reverse-last c.pop.new.self.items c.open.open.items frame c.in-Some.ensures.items in
     let pushed : reverse c.push-in-Some-missing_maker-2.new.self.items ≡ next ∷ here ∷ below =
-        reverse-last c.push-in-Some-missing_maker.new.self.items c.push-in-Some-missing_maker-2.new.self.items next c.in_ok-push-in-Some-missing_maker-2.ensures.items
-        ∙ ap (λ fs. next ∷ fs) (reverse-last c.pop.new.self.items c.push-in-Some-missing_maker.new.self.items here c.in_ok-push-in-Some-missing_maker.ensures.items)
+    reverse-last c.push-in-Some-missing_maker.new.self.items c.push-in-Some-missing_maker-2.new.self.items next c.in_ok-push-in-Some-missing_maker-2.ensures.items
+    ∙ ap (λ fs. next ∷ fs) (reverse-last c.pop.new.self.items c.push-in-Some-missing_maker.new.self.items here c.in_ok-push-in-Some-missing_maker.ensures.items)
     in
     let are = subst (AreOpen edges keys i.rank 0) popped i.frames in
     record {

@@ -1,10 +1,9 @@
-use Rattle.std.proofs.Common.{◌≡◌, ◌≢◌, Some, None, [], ◌∷◌, ◌++◌, length, ap, sym, ◌∙◌, subst, rules}
+use Rattle.std.proofs.Common.{◌≡◌, ◌≢◌, Some, [], ◌∷◌, ◌++◌, ap, sym, ◌∙◌, subst, rules}
 use Rattle.nj_graph.specs.Graph.{edges_of}
-use Rattle.nj_tools.specs.CommandStrings.{left_after, written}
-use Rattle.nj_tools.proofs.CommandLemmas.{fewer, left-next, so_far-next, so_far-all, written-nil, IsMarkAfter-next}
-use Rattle.cache_keys.specs.CacheKeys.{line, ListsKeys}
+use Rattle.nj_tools.specs.CommandStrings.{left_after}
+use Rattle.nj_tools.proofs.CommandLemmas.{fewer, left-next, so_far-next, IsMarkAfter-next}
+use Rattle.cache_keys.specs.CacheKeys.{ListsKeys}
 use Rattle.cache_keys.specs.CacheKeys.ListsKeys.{none, last}
-use Rattle.cache_keys.specs.Inside.Keeping.{kept_key}
 use Rattle.cache_keys.proofs.MakerLemmas.{key-of-kept, no-keys, only-none}
 use Rattle.cache_keys.proofs.pages.next_page.Goals as goal
 
