@@ -21,7 +21,7 @@ failures = []
 
 
 class Edge:
-    """A build statement: its command and the content of its response file are empty if it is phony."""
+    """A build statement: without a command and a response file if it is phony."""
 
     def __init__(self, outputs, inputs, command="", content=""):
         self.outputs, self.inputs = outputs.split(), inputs.split()
