@@ -71,3 +71,9 @@ pub one-more : (old new list : List (List ℕ)) (name : List ℕ)
 one-more old new list name adds are other =
     adds other ∙ ap (λ b. bytes_eq other name || b) (are other) ∙ or-turned (bytes_eq other name) (is_among list other)
     ∙ sym (among-append list (name ∷ []) other)
+
+-- several names more
+pub all-more : (old new list names : List (List ℕ))
+    → ((other : List ℕ) → is_among new other ≡ is_among (old ++ names) other) → AreNames old list → AreNames new (list ++ names)
+all-more old new list names adds are other =
+    adds other ∙ among-append old names other ∙ ap (λ b. b || is_among names other) (are other) ∙ sym (among-append list names other)

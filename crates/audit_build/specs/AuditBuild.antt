@@ -2,7 +2,6 @@
 use Rattle.std.specs.Prelude.{◌≡◌, ℕ, ◌<◌, ◌==◌, Bool, true, false, ◌&&◌, not, if◌then◌else◌, Option, Some, None, option_map, option_and_then, unwrap_or, is_some, List, [], ◌∷◌, ◌++◌, codes, map, take, length, slice_get, slice_index_or}
 use Rattle.std.specs.List.{AllByRecursion, filter, filter_map, flat_map, list_any, range_with_len}
 use Rattle.nj_text.specs.Words.{PartText, Text, Name}
-use Rattle.nj_text.specs.Calls.{is_empty}
 use Rattle.nj_scope.specs.ReadingList.{ReadStatement}
 use Rattle.nj_scope.specs.Rules.{RuleText, phony_rule}
 use Rattle.nj_graph.specs.Edges.{EdgePaths, edge_at, first_output, inputs_of, is_among, maker_of, outputs_of, users_of, validation_users_of}
@@ -35,7 +34,7 @@ defaults_of g = defaults_in_force g.built.defaults (edges_of g)
 -- no edge has it as an input or as a validation, and it is not among the defaults
 abbrev pub is_unused_output : GraphText → (path : List ℕ) → Bool
 is_unused_output g path =
-    is_empty (users_of (edges_of g) path) && is_empty (validation_users_of (edges_of g) path) && not (is_among (defaults_of g) path)
+    length (users_of (edges_of g) path) == 0 && length (validation_users_of (edges_of g) path) == 0 && not (is_among (defaults_of g) path)
 
 abbrev pub unused_outputs_at : GraphText → (edge : ℕ) → List FindingText
 unused_outputs_at g edge = map (edge_finding g edge UnusedOutput) (filter (is_unused_output g) (outputs_of (paths_at g edge)))
@@ -127,9 +126,12 @@ rule_at g edge = rule_of_number g (rule_number g edge)
 abbrev pub is_unused_variable : GraphText → (edge : ℕ) → (name : List ℕ) → Bool
 is_unused_variable g edge name = not (is_known name) && not (is_among (references_of (rule_at g edge)) name)
 
+-- the findings about names that the block of an edge binds
+abbrev pub unused_names : GraphText → (edge : ℕ) → (names : List (List ℕ)) → List FindingText
+unused_names g edge names = map (edge_finding g edge UnusedVariable) (filter (is_unused_variable g edge) names)
+
 abbrev pub unused_variables_at : GraphText → List ReadStatement → (edge : ℕ) → List FindingText
-unused_variables_at g entries edge =
-    map (edge_finding g edge UnusedVariable) (filter (is_unused_variable g edge) (block_names_at (edges_read entries) edge))
+unused_variables_at g entries edge = unused_names g edge (block_names_at (edges_read entries) edge)
 
 abbrev pub unused_variables : GraphText → List ReadStatement → List FindingText
 unused_variables g entries = flat_map (unused_variables_at g entries) (edge_numbers g)
@@ -146,9 +148,13 @@ command_of entries edge = late_text_of entries edge (codes "command")
 abbrev pub has_command : GraphText → (edge : ℕ) → Bool
 has_command g edge = not (paths_at g edge).is_phony
 
+-- its command, if it has one
+abbrev pub commands_at : GraphText → List ReadStatement → (edge : ℕ) → List (List ℕ)
+commands_at g entries edge = if has_command g edge then command_of entries edge ∷ [] else []
+
 -- the commands of the edges before one
 abbrev pub commands_before : GraphText → List ReadStatement → (edge : ℕ) → List (List ℕ)
-commands_before g entries edge = map (command_of entries) (filter (has_command g) (numbers edge))
+commands_before g entries edge = flat_map (commands_at g entries) (numbers edge)
 
 abbrev pub repeats_command : GraphText → List ReadStatement → (edge : ℕ) → Bool
 repeats_command g entries edge = has_command g edge && is_among (commands_before g entries edge) (command_of entries edge)
@@ -161,7 +167,7 @@ repeated_commands g entries =
 
 abbrev pub has_lone_depfile : List ReadStatement → (edge : ℕ) → Bool
 has_lone_depfile entries edge =
-    not (is_empty (late_text_of entries edge (codes "depfile"))) && is_empty (late_text_of entries edge (codes "deps"))
+    not (length (late_text_of entries edge (codes "depfile")) == 0) && length (late_text_of entries edge (codes "deps")) == 0
 
 abbrev pub lone_depfiles : GraphText → List ReadStatement → List FindingText
 lone_depfiles g entries =

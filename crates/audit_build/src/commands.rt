@@ -1,9 +1,10 @@
 //! Edges with the command of an earlier edge.
 
-ghost use Rattle.std.specs.Prelude.{◌≡◌, ◌++◌, ◌<◌, List, IfOk, OnOk, length};
+ghost use Rattle.std.specs.Prelude.{◌≡◌, ◌&&◌, ◌++◌, ◌<◌, ℕ, List, IfOk, OnOk, length};
 ghost use Rattle.nj_scope.specs.ReadingList.{ReadStatement};
+ghost use Rattle.nj_graph.specs.Edges.{is_among};
 ghost use Rattle.nj_graph.specs.Graph.{IsGraphOf, edges_of};
-ghost use Rattle.audit_build.specs.AuditBuild.{repeated_commands};
+ghost use Rattle.audit_build.specs.AuditBuild.{command_of, commands_at, has_command, repeated_commands};
 
 use crate::findings::{Findings, Oddity};
 use crate::names::Names;
@@ -23,7 +24,7 @@ pub fn find_repeated_commands<'a>(
     let mut commands = Names::new(alloc);
     'edges: for number in 0..graph.edge_count() {
         let edge = EdgeNo(number);
-        if !graph.is_phony(edge) && !commands.add(&graph.command(alloc, edge)?)? {
+        if repeats_command(alloc, graph, edge, &mut commands)? {
             found.push_at(
                 graph,
                 edge,
@@ -33,4 +34,27 @@ pub fn find_repeated_commands<'a>(
         }
     }
     Ok(())
+}
+
+/// Whether the command of an edge is among these commands, to which it is added.
+fn repeats_command(
+    alloc: Global,
+    graph: &Graph,
+    edge: EdgeNo,
+    commands: &mut Names,
+) -> Result<bool, AllocError>
+    requires { edge.0 < length (edges_of graph.now) }
+    ensures repeats { (entries : List ReadStatement) → IsGraphOf graph.now entries
+        → IfOk result (λ repeats. repeats ≡ (has_command graph.now edge.0
+        && is_among commands.old (command_of entries edge.0))) }
+    ensures added { (entries : List ReadStatement) (command : List ℕ) → IsGraphOf graph.now entries
+        → OnOk result (is_among commands.new command
+        ≡ is_among (commands.old ++ commands_at graph.now entries edge.0) command) }
+{
+    if graph.is_phony(edge) {
+        return Ok(false);
+    }
+    let command = graph.command(alloc, edge)?;
+    let is_new = commands.add(&command)?;
+    Ok(!is_new)
 }

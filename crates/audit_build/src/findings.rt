@@ -91,7 +91,7 @@ impl<'a> Findings<'a> {
         oddity: Oddity,
         name: &'a [u8],
     ) -> Result<(), AllocError>
-        requires { edge.0 < length (edges_of graph.entry.now) }
+        requires { edge.0 < length (edges_of graph.now) }
         ensures { OnOk result (self.new ≡ self.old
             ++ edge_finding graph.entry.now edge.0 oddity name.entry.now ∷ []) }
     {

@@ -30,7 +30,7 @@ fn push_repeated_inputs<'a>(
     edge: EdgeNo,
     found: &mut Findings<'a>,
 ) -> Result<(), AllocError>
-    requires { edge.0 < length (edges_of graph.entry.now) }
+    requires { edge.0 < length (edges_of graph.now) }
     ensures { OnOk result (found.new ≡ found.old ++ repeated_inputs_at graph.entry.now edge.0) }
 {
     let mut seen = Names::new(alloc);

@@ -46,9 +46,9 @@ fn push_unused_outputs<'a>(
     defaults: &Names,
     found: &mut Findings<'a>,
 ) -> Result<(), AllocError>
-    requires edge { edge.0 < length (edges_of graph.entry.now) }
+    requires edge { edge.0 < length (edges_of graph.now) }
     requires defaults { (path : List ℕ) →
-        is_among defaults.now path ≡ is_among (defaults_of graph.entry.now) path }
+        is_among defaults.now path ≡ is_among (defaults_of graph.now) path }
     ensures { OnOk result (found.new ≡ found.old ++ unused_outputs_at graph.entry.now edge.0) }
 {
     'outputs: for output in graph.outputs(edge) {

@@ -1,10 +1,11 @@
 //! Pools that no edge uses.
 
-ghost use Rattle.std.specs.Prelude.{◌≡◌, ◌++◌, ◌<◌, ℕ, List, IfOk, OnOk, length};
+ghost use Rattle.std.specs.Prelude.{◌≡◌, ◌++◌, ℕ, List, [], IfOk, OnOk};
+ghost use Rattle.std.specs.List.{cons_option};
 ghost use Rattle.nj_scope.specs.ReadingList.{ReadStatement};
 ghost use Rattle.nj_graph.specs.Edges.{is_among};
 ghost use Rattle.nj_graph.specs.Graph.{IsGraphOf};
-ghost use Rattle.audit_build.specs.AuditBuild.{pools_of_edges, unused_pools};
+ghost use Rattle.audit_build.specs.AuditBuild.{pools_of_edges, unused_pool, unused_pools};
 
 use crate::findings::{Findings, Oddity};
 use crate::names::Names;
@@ -21,21 +22,41 @@ pub fn find_unused_pools<'a>(
         → OnOk result (found.new ≡ found.old ++ unused_pools graph.entry.now entries) }
 {
     let used = used_pools(alloc, graph)?;
-    'pools: for index in 0..graph.pool_count() {
-        if let Some(name) = graph.pool_name(index)
-            && let Some(place) = graph.pool_place(index)
-            && !used.has(name)
-        {
-            found.push(place, Oddity::UnusedPool, name)?;
-        }
+    'pools: for pool in 0..graph.pool_count() {
+        push_if_unused(graph, pool, &used, found)?;
     }
     Ok(())
 }
 
+/// Appends a pool, unless an edge uses it.
+fn push_if_unused<'a>(
+    graph: &'a Graph,
+    pool: usize,
+    used: &Names,
+    found: &mut Findings<'a>,
+) -> Result<(), AllocError>
+    requires { (entries : List ReadStatement) (name : List ℕ) → IsGraphOf graph.now entries
+        → is_among used.now name ≡ is_among (pools_of_edges graph.now entries) name }
+    ensures { (entries : List ReadStatement) → IsGraphOf graph.entry.now entries
+        → OnOk result (found.new
+        ≡ found.old ++ cons_option (unused_pool graph.entry.now entries pool) []) }
+{
+    let Some(name) = graph.pool_name(pool) else {
+        return Ok(());
+    };
+    if used.has(name) {
+        return Ok(());
+    }
+    match graph.pool_place(pool) {
+        Some(place) => found.push(place, Oddity::UnusedPool, name),
+        None => Ok(()),
+    }
+}
+
 /// The names of the pools that edges use.
 fn used_pools(alloc: Global, graph: &Graph) -> Result<Names, AllocError>
-    ensures { (entries : List ReadStatement) → IsGraphOf graph.now entries
-        → IfOk result (λ used. (name : List ℕ) →
+    ensures { (entries : List ReadStatement) (name : List ℕ) → IsGraphOf graph.now entries
+        → IfOk result (λ used.
         is_among used name ≡ is_among (pools_of_edges graph.now entries) name) }
 {
     let mut used = Names::new(alloc);

@@ -1,13 +1,14 @@
 //! Rules that no edge uses.
 
-ghost use Rattle.std.specs.Prelude.{◌≡◌, ◌++◌, ◌<◌, ℕ, IfOk, OnOk, slice_index_or, length, false};
-ghost use Rattle.audit_build.specs.AuditBuild.{is_used_rule, unused_rules};
+ghost use Rattle.std.specs.Prelude.{◌≡◌, ◌++◌, ◌<◌, ℕ, [], IfOk, OnOk, slice_index_or, length, false};
+ghost use Rattle.std.specs.List.{cons_option};
+ghost use Rattle.audit_build.specs.AuditBuild.{is_used_rule, unused_rule, unused_rules};
 
 use crate::findings::{Findings, Oddity};
 use nj_graph::{EdgeNo, Graph};
 use std::alloc::{AllocError, Global};
 
-/// Appends the rules that no edge uses. No statement declares `phony`.
+/// Appends the rules that no edge uses.
 pub fn find_unused_rules<'a>(
     alloc: Global,
     graph: &'a Graph,
@@ -16,14 +17,25 @@ pub fn find_unused_rules<'a>(
     ensures { OnOk result (found.new ≡ found.old ++ unused_rules graph.entry.now) }
 {
     let used = used_rules(alloc, graph)?;
-    'rules: for (number, rule) in graph.rules().iter().enumerate() {
-        if !used[number]
-            && let Some(place) = graph.rule_place(number)
-        {
-            found.push(place, Oddity::UnusedRule, rule.name())?;
+    'rules: for rule in 0..graph.rules().len() {
+        if !used[rule] {
+            push_rule(graph, rule, found)?;
         }
     }
     Ok(())
+}
+
+/// Appends a rule that no edge uses. No statement declares `phony`.
+fn push_rule<'a>(graph: &'a Graph, rule: usize, found: &mut Findings<'a>) -> Result<(), AllocError>
+    requires within { rule < length graph.now.declarations.rules }
+    requires unused { is_used_rule graph.now rule ≡ false }
+    ensures { OnOk result (found.new
+        ≡ found.old ++ cons_option (unused_rule graph.entry.now rule) []) }
+{
+    match graph.rule_place(rule) {
+        Some(place) => found.push(place, Oddity::UnusedRule, graph.rules()[rule].name()),
+        None => Ok(()),
+    }
 }
 
 /// Of each rule whether an edge uses it.

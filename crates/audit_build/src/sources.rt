@@ -1,8 +1,8 @@
 //! Sources that are missing on the disk.
 
-ghost use Rattle.std.specs.Prelude.{◌≡◌, ◌++◌, ◌<◌, OnOk, length, option_map};
+ghost use Rattle.std.specs.Prelude.{◌≡◌, ◌++◌, ◌<◌, IfSome, OnOk, false, length, option_map, slice_index_or};
 ghost use Rattle.nj_graph.specs.Graph.{edges_of, files_of};
-ghost use Rattle.audit_build.specs.AuditBuild.{missing_at, missing_sources, user_of_missing};
+ghost use Rattle.audit_build.specs.AuditBuild.{missing_sources, user_of_missing};
 
 use crate::findings::{Findings, Oddity};
 use nj_graph::{EdgeNo, FileNo, Graph};
@@ -32,9 +32,19 @@ fn user_of_missing(graph: &Graph, missing: &[bool], file: FileNo) -> Option<Edge
         ≡ user_of_missing graph.now missing.now file.0 }
     ensures known { IfSome result (λ edge. edge.0 < length (edges_of graph.now)) }
 {
-    if missing.get(file.0) == Some(&true) && graph.maker(file).is_none() {
+    if is_set(missing, file.0) && graph.maker(file).is_none() {
         graph.users(file).first().copied()
     } else {
         None
+    }
+}
+
+/// Whether the flag at this index is set; past the last one it is not.
+fn is_set(flags: &[bool], index: usize) -> bool
+    ensures { result ≡ slice_index_or flags.now index false }
+{
+    match flags.get(index) {
+        Some(flag) => *flag,
+        None => false,
     }
 }

@@ -1,10 +1,11 @@
 //! Variables of edges to which no line of their rules refers.
 
-ghost use Rattle.std.specs.Prelude.{◌≡◌, ◌++◌, ◌<◌, ℕ, List, IfOk, OnOk, length};
+ghost use Rattle.std.specs.Prelude.{◌≡◌, ◌++◌, ◌<◌, ℕ, List, [], ◌∷◌, IfOk, OnOk, length};
+ghost use Rattle.std.specs.List.{AllZip};
 ghost use Rattle.nj_scope.specs.ReadingList.{ReadStatement};
 ghost use Rattle.nj_graph.specs.Edges.{is_among};
 ghost use Rattle.nj_graph.specs.Graph.{IsGraphOf, edges_of};
-ghost use Rattle.audit_build.specs.AuditBuild.{is_known, names_in, rule_at, unused_variables, unused_variables_at};
+ghost use Rattle.audit_build.specs.AuditBuild.{is_known, names_in, rule_at, unused_names, unused_variables, unused_variables_at};
 ghost use Rattle.audit_build.specs.AuditBuild.{HasReferences};
 
 use crate::findings::{Findings, Oddity};
@@ -37,20 +38,36 @@ fn push_unused_variables<'a>(
     references: &Names,
     found: &mut Findings<'a>,
 ) -> Result<(), AllocError>
-    requires edge { edge.0 < length (edges_of graph.entry.now) }
-    requires references { HasReferences references.now (rule_at graph.entry.now edge.0) }
+    requires edge { edge.0 < length (edges_of graph.now) }
+    requires references { HasReferences references.now (rule_at graph.now edge.0) }
     ensures { (entries : List ReadStatement) → IsGraphOf graph.entry.now entries → OnOk result
         (found.new ≡ found.old ++ unused_variables_at graph.entry.now entries edge.0) }
 {
     'names: for index in 0..graph.block_name_count(edge) {
-        if let Some(name) = graph.block_name(edge, index)
-            && !is_known(name)
-            && !references.has(name)
-        {
-            found.push_at(graph, edge, Oddity::UnusedVariable, name)?;
+        if let Some(name) = graph.block_name(edge, index) {
+            push_if_unused(graph, edge, name, references, found)?;
         }
     }
     Ok(())
+}
+
+/// Appends a name that the block of an edge binds, unless it is used.
+fn push_if_unused<'a>(
+    graph: &'a Graph,
+    edge: EdgeNo,
+    name: &'a [u8],
+    references: &Names,
+    found: &mut Findings<'a>,
+) -> Result<(), AllocError>
+    requires edge { edge.0 < length (edges_of graph.now) }
+    requires references { HasReferences references.now (rule_at graph.now edge.0) }
+    ensures { OnOk result (found.new
+        ≡ found.old ++ unused_names graph.entry.now edge.0 (name.entry.now ∷ [])) }
+{
+    if is_known(name) || references.has(name) {
+        return Ok(());
+    }
+    found.push_at(graph, edge, Oddity::UnusedVariable, name)
 }
 
 /// The names to which the lines of each rule refer.
@@ -81,8 +98,11 @@ fn add_references(references: &mut Names, value: &LateValue) -> Result<(), Alloc
         ≡ is_among (references.old ++ names_in value.now) name) }
 {
     'parts: for index in 0..value.len() {
-        if let Part::Name(name) = value.part(index) {
-            references.add(name)?;
+        match value.part(index) {
+            Part::Name(name) => {
+                references.add(name)?;
+            }
+            Part::Bytes(_) => {}
         }
     }
     Ok(())
