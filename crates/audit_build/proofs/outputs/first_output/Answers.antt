@@ -1,4 +1,4 @@
-use Rattle.std.proofs.Common.{Some, None, List, [], slice_get, unwrap_or, sym, ap, ◌∙◌}
+use Rattle.std.proofs.Common.{Some, None, [], slice_get, unwrap_or, sym, ap, ◌∙◌}
 use Rattle.std.specs.Prelude.{option_copied}
 use Rattle.nj_graph.specs.Edges.{outputs_of}
 use Rattle.nj_graph.specs.Graph.{files_of}

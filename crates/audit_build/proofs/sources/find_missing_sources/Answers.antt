@@ -1,10 +1,10 @@
-use Rattle.std.proofs.Common.{◌≡◌, ℕ, Bool, List, [], ◌∷◌, ◌++◌, Some, None, length, option_map, unwrap_or, sym, ap, ◌∙◌, arith}
+use Rattle.std.proofs.Common.{[], ◌∷◌, ◌++◌, length, option_map, unwrap_or, sym, ap, ◌∙◌, arith}
 use Rattle.std.specs.List.{filter_map}
 use Rattle.std.proofs.lemmas.List.Elements.{filter_map-append}
-use Rattle.nj_graph.specs.Graph.{GraphText, files_of}
+use Rattle.nj_graph.specs.Graph.{files_of}
 use Rattle.audit_build.specs.Findings.{edge_finding}
 use Rattle.audit_build.specs.declared.findings.Oddity.TheVariants.{MissingSource}
-use Rattle.audit_build.specs.AuditBuild.{missing_source, path_of, user_of_missing}
+use Rattle.audit_build.specs.AuditBuild.{missing_source, path_of}
 use Rattle.audit_build.proofs.ListLemmas.{all-numbers, more-numbers, none-found, none-is, one-found, same}
 use Rattle.audit_build.proofs.sources.find_missing_sources.Goals as goal
 use Rattle.audit_build.proofs.sources.find_missing_sources.Goals.{in-Some+in_ok-push_at, in_default}

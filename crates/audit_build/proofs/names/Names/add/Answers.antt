@@ -1,4 +1,4 @@
-use Rattle.std.proofs.Common.{◌||◌, not, bytes_eq, map, sym, ap, ◌∙◌}
+use Rattle.std.proofs.Common.{◌||◌, not, bytes_eq, map, ap, ◌∙◌}
 use Rattle.nj_graph.specs.Edges.{is_among}
 use Rattle.audit_build.proofs.NameLemmas.{found-is, put-is}
 use Rattle.audit_build.proofs.names.Names.add.Goals as goal
