@@ -155,10 +155,11 @@ def try_uses():
 def try_many():
     """Many of each kind, which take no longer than their number asks."""
     lines = ["rule r\n  command = r " + " ".join(f"$v{i}" for i in range(EDGES)) + "\n"]
+    lines += ["rule q\n  command = q\n"]
     lines += [f"pool p{i}\n  depth = 1\nrule r{i}\n  command = r\n" for i in range(EDGES)]
     lines += ["build all: r" + " s t" * EDGES + "\n"]
     lines += [f"  v{i} = 1\n  w{i} = 1\n" for i in range(EDGES)]
-    lines += [f"build o{i}: r s\n  depfile = d\n  w = 1\n" for i in range(EDGES)]
+    lines += [f"build o{i}: q s\n  depfile = d\n  w = 1\n" for i in range(EDGES)]
     lines += ["default all\n"]
     wanted = {
         "unused output": EDGES, "missing source": 2, "unused rule": EDGES, "unused pool": EDGES,
