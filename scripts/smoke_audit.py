@@ -147,7 +147,9 @@ def try_uses():
         try_audit("uses", folder, Counter({("unused output", "f"): 1, ("unused output", "g"): 1}))
         expect("uses, by query", wanted_of(folder, {"a", "e"}), Counter({
             ("unused output", "f"): 1, ("unused output", "g"): 1}))
-        (folder / "build.ninja").write_text("rule r\n  command = r\nbuild a\"\\é: r b\nbuild c: r b\n")
+        (folder / "build.ninja").write_text(
+            "rule r\n  command = r\nbuild a\"\\é: r b\nbuild c: r b\n"
+        )
         wanted = {("missing source", "b"): 1, ("repeated command", "c"): 1}
         try_audit("no defaults", folder, Counter(wanted))
 
