@@ -3,10 +3,11 @@ PROGRAM := crates/ninja_explain
 BUILT := $(PROGRAM)/out/ninja_explain
 # The same program with sinks in memory, to which `make sweep` refuses memory.
 SINKS := crates/memory_sinks
-# Three programs as clients write them.
+# Four programs as clients write them.
 AFFECTED := crates/affected_tests/out/affected_tests
 DRAW := crates/draw_graph/out/draw_graph
 KEYS := crates/cache_keys/out/cache_keys
+AUDIT := crates/audit_build/out/audit_build
 PROJECT := examples/project
 FILES := $(shell cd $(PROJECT) && find * -type f)
 # How many crates are proved at once, each on one processor and in at most 3 GB, and how many runs of
@@ -55,7 +56,7 @@ test:
 # library_example, that the man page and the completions have every tool and
 # option, that the completions work, and that names which collide under a known number cost no more
 # than others. The programs on the library are run too.
-smoke: $(BUILT) $(AFFECTED) $(DRAW) $(KEYS)
+smoke: $(BUILT) $(AFFECTED) $(DRAW) $(KEYS) $(AUDIT)
 	@status=0; \
 	python3 scripts/check_docs.py || status=1; \
 	python3 scripts/check_models.py || status=1; \
@@ -67,6 +68,7 @@ smoke: $(BUILT) $(AFFECTED) $(DRAW) $(KEYS)
 	python3 scripts/smoke.py $(BUILT) || status=1; \
 	python3 scripts/smoke_reach.py $(AFFECTED) $(DRAW) || status=1; \
 	python3 scripts/smoke_keys.py $(BUILT) $(KEYS) || status=1; \
+	python3 scripts/smoke_audit.py $(AUDIT) $(BUILT) || status=1; \
 	for sweep in $(SWEEPS); do \
 	python3 scripts/sweep_$$sweep.py --jobs $(JOBS) $(BUILT) || status=1; \
 	done; \
@@ -93,7 +95,7 @@ $(SINKS)/out/memory_sinks: $(wildcard crates/*/src/*.rt)
 	cd $(SINKS) && rt run > /dev/null
 
 # `make test` leaves them.
-$(AFFECTED) $(DRAW) $(KEYS): $(wildcard crates/*/src/*.rt)
+$(AFFECTED) $(DRAW) $(KEYS) $(AUDIT): $(wildcard crates/*/src/*.rt)
 	cd $(dir $@).. && rt run -- -f /dev/null < /dev/null > /dev/null
 
 # Installs the program that `make` built, its man page, and completions for three shells.

@@ -1,0 +1,16 @@
+use Rattle.std.proofs.Common.{◌≡◌, ◌++◌, List, map}
+use Rattle.std.specs.List.{filter}
+use Rattle.nj_scope.specs.ReadingList.{ReadStatement}
+use Rattle.nj_graph.specs.Graph.{IsGraphOf}
+use Rattle.audit_build.specs.Findings.{edge_finding}
+use Rattle.audit_build.specs.declared.findings.Oddity.TheVariants.{RepeatedCommand}
+use Rattle.audit_build.specs.AuditBuild.{commands_before, first_output_at, numbers, repeats_command}
+use Rattle.audit_build.proofs.NameLemmas.{AreNames}
+use Rattle.audit_build.proofs.commands.find_repeated_commands.Given as goal
+
+abbrev pub invariant-edges : goal.invariant-edges
+invariant-edges l = record {
+  commands : (entries : List ReadStatement) → IsGraphOf l.graph entries → AreNames l.commands (commands_before l.graph entries l.number);
+  found : (entries : List ReadStatement) → IsGraphOf l.graph entries
+      → l.found ≡ l.fn.found ++ map (λ edge. edge_finding l.graph edge RepeatedCommand (first_output_at l.graph edge)) (filter (repeats_command l.graph entries) (numbers l.number));
+}

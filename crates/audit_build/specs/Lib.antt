@@ -1,0 +1,3 @@
+-- what must be believed
+pub mod AuditBuild
+pub mod Findings

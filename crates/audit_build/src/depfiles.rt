@@ -1,0 +1,40 @@
+//! Edges with a depfile that stays on the disk.
+
+ghost use Rattle.std.specs.Prelude.{◌≡◌, ◌++◌, ◌<◌, List, IfOk, OnOk, length};
+ghost use Rattle.nj_scope.specs.ReadingList.{ReadStatement};
+ghost use Rattle.nj_graph.specs.Graph.{IsGraphOf, edges_of};
+ghost use Rattle.audit_build.specs.AuditBuild.{has_lone_depfile, lone_depfiles};
+
+use crate::findings::{Findings, Oddity};
+use crate::outputs::first_output;
+use nj_graph::{EdgeNo, Graph};
+use std::alloc::{AllocError, Global};
+
+/// Appends the edges that have a `depfile` and no `deps`.
+pub fn find_lone_depfiles<'a>(
+    alloc: Global,
+    graph: &'a Graph,
+    found: &mut Findings<'a>,
+) -> Result<(), AllocError>
+    ensures { (entries : List ReadStatement) → IsGraphOf graph.entry.now entries
+        → OnOk result (found.new ≡ found.old ++ lone_depfiles graph.entry.now entries) }
+{
+    'edges: for number in 0..graph.edge_count() {
+        let edge = EdgeNo(number);
+        if has_lone_depfile(alloc, graph, edge)? {
+            found.push_at(graph, edge, Oddity::LoneDepfile, first_output(graph, edge))?;
+        }
+    }
+    Ok(())
+}
+
+/// Whether an edge has a `depfile` and no `deps`.
+fn has_lone_depfile(alloc: Global, graph: &Graph, edge: EdgeNo) -> Result<bool, AllocError>
+    requires { edge.0 < length (edges_of graph.now) }
+    ensures { (entries : List ReadStatement) → IsGraphOf graph.now entries
+        → IfOk result (λ has. has ≡ has_lone_depfile entries edge.0) }
+{
+    let depfile = graph.variable(alloc, edge, b"depfile")?;
+    let deps = graph.variable(alloc, edge, b"deps")?;
+    Ok(!depfile.is_empty() && deps.is_empty())
+}
