@@ -1,0 +1,8 @@
+mod AskLemmas
+mod AsBox
+mod ItemLemmas
+mod LoadLemmas
+mod MachineValues
+mod PageLemmas
+mod SessionValues
+mod WantedLemmas

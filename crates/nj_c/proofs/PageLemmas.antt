@@ -1,0 +1,182 @@
+-- Numbers of files, and pages.
+use Rattle.std.proofs.Common.{◌≡◌, ◌≢◌, ◌<◌, ◌≤◌, ◌+◌, ◌-◌, ◌⊎◌, inl, inr, ℕ, zero, suc, true, false, Option, Some, None, Result, Ok, Err, List, [], ◌∷◌, ◌++◌, All, MatchOption, map, length, take, drop, get_or, refl, sym, ap, subst, ◌∙◌, arith}
+use Rattle.std.specs.List.{last_or}
+use Rattle.std.proofs.lemmas.List.{append-nil, append_assoc, map_more, get_or-map, length-map, length_push, map_push, take_all, take_more}
+use Rattle.std.proofs.lemmas.List.Elements.{All-push}
+use Rattle.nj_edges.specs.declared.files.FileNo.{FileNo}
+use Rattle.nj_edges.specs.declared.edges.EdgeNo.{EdgeNo}
+use Rattle.nj_edges.specs.EdgeGraphs.{EdgeGraph}
+use Rattle.nj_marks.specs.declared.fault.MarkFault.{MarkFault}
+use Rattle.nj_marks.specs.declared.fault.MarkFault.TheVariants as fault
+use Rattle.nj_needs.specs.Graphs.{count_of, makers_of, row_of}
+use Rattle.nj_needs.specs.Marks.{is_valid, IsFirstPlace}
+use Rattle.nj_needs.specs.Pages.{IsMarkAfter}
+use Rattle.nj_needs.specs.Walks.{WalkState, BeginsAt, IsFirstPlaceOf}
+use Rattle.nj_graph.specs.Graph.{GraphText}
+use Rattle.nj_c.specs.declared.kept.Kept.{Kept}
+use Rattle.nj_c.specs.declared.pages.Page.{Page}
+use Rattle.nj_c.specs.declared.status.Status.{Status}
+use Rattle.nj_c.specs.declared.status.Status.TheVariants.{Done, Nothing, Short, Fault, Wanted, NotLoaded, BadNumber, NotUtf8, NotOpen, BadMark, OutOfMemory}
+use Rattle.nj_c.specs.Pages.{mark_of, numbered, AreBelow, AreKnown, IsBadMark, IsPage, ListsPage}
+use Rattle.nj_c.specs.Inside.PagesHeld.{mark_status, numbers_of, EndsAt, MarkRefused, PageAfter, PageAt, PageFrom, PageOf, Returned}
+
+abbrev pub as_file : ℕ → FileNo
+as_file n = record { 0 = n }
+
+pub files-more : (found new : List FileNo) (numbers : List ℕ) (i : ℕ) → i < length numbers
+    → found ≡ numbered (take i numbers) → new ≡ found ++ as_file (get_or numbers i 0) ∷ [] → new ≡ numbered (take (i + 1) numbers)
+files-more found new numbers i below held more =
+    more ∙ ap (λ fs. fs ++ as_file (get_or numbers i 0) ∷ []) held ∙ sym (map_more as_file numbers i 0 below)
+
+pub below-more : (count : ℕ) (numbers : List ℕ) (i : ℕ) → i < length numbers → get_or numbers i 0 < count
+    → AreBelow count (take i numbers) → AreBelow count (take (i + 1) numbers)
+below-more count numbers i below under held =
+    subst (AreBelow count) (sym (take_more numbers i 0 below)) (All-push (λ m. m < count) (take i numbers) (get_or numbers i 0) held under)
+
+pub all-numbered : (count : ℕ) (numbers : List ℕ) → AreBelow count numbers → All (λ file. file.0 < count) (numbered numbers)
+all-numbered count numbers held k d within =
+    let below = subst (λ n. k < n) (length-map numbers as_file) within in
+    subst (λ n. n < count) (ap (λ f. f.0) (sym (get_or-map as_file numbers k 0 d below))) (held k 0 below)
+
+-- ---- the edges of a page
+
+take-next : (limit : ℕ) (e : ℕ) (left : List ℕ) → 0 < limit → take limit (e ∷ left) ≡ e ∷ take (limit - 1) left
+take-next zero e left some = let none : ⊥ = omega (arith, some) in absurd none
+take-next (suc more) e left some = let is : suc more - 1 ≡ more = omega arith in ap (λ n. e ∷ take n left) (sym is)
+
+drop-next : (limit : ℕ) (e : ℕ) (left : List ℕ) → 0 < limit → drop limit (e ∷ left) ≡ drop (limit - 1) left
+drop-next zero e left some = let none : ⊥ = omega (arith, some) in absurd none
+drop-next (suc more) e left some = let is : suc more - 1 ≡ more = omega arith in ap (λ n. drop n left) (sym is)
+
+last-push : (o : Option ℕ) (edges : List ℕ) (e : ℕ) → last_or o (edges ++ e ∷ []) ≡ Some e
+last-push o [] e = refl
+last-push o (x ∷ edges) e = last-push (Some x) edges e
+
+IsMarkAfter-last : (makers : ℕ → List (Option ℕ)) (count : ℕ) (targets : List (Option ℕ)) (begun edges : List ℕ) (e : ℕ) (mark : List ℕ)
+    → IsFirstPlace makers count targets mark e → IsMarkAfter makers count targets begun (edges ++ e ∷ []) mark
+IsMarkAfter-last makers count targets begun edges e mark first =
+    subst (λ (o : Option ℕ). MatchOption o (mark ≡ begun) (λ x. IsFirstPlace makers count targets mark x)) (sym (last-push None edges e)) first
+
+-- one edge more
+module _ (limit : ℕ) (all left after : List ℕ) (old new : List EdgeNo) (edge : EdgeNo) (under : length old < limit) (first : left ≡ edge.0 ∷ after)
+    (more : new ≡ old ++ edge ∷ []) where
+  counts : limit - length new ≡ limit - length old - 1
+  counts = let longer = ap length more ∙ length_push old edge in omega (arith, under, longer)
+
+  some-left : 0 < limit - length old
+  some-left = omega (arith, under)
+
+  numbers : numbers_of new ≡ numbers_of old ++ edge.0 ∷ []
+  numbers = ap numbers_of more ∙ map_push (λ (e : EdgeNo). e.0) old edge
+
+  pub written-more : take limit all ≡ numbers_of old ++ take (limit - length old) left → take limit all ≡ numbers_of new ++ take (limit - length new) after
+  written-more is =
+      is ∙ ap (λ t. numbers_of old ++ t) (ap (take (limit - length old)) first ∙ take-next (limit - length old) edge.0 after some-left)
+      ∙ sym (append_assoc (numbers_of old) (edge.0 ∷ []) (take (limit - length old - 1) after))
+      ∙ sym (ap (λ es. es ++ take (limit - length old - 1) after) numbers) ∙ ap (λ n. numbers_of new ++ take n after) (sym counts)
+
+  pub left-more : (rest : List ℕ) → rest ≡ drop (limit - length old) left → rest ≡ drop (limit - length new) after
+  left-more rest is = is ∙ ap (drop (limit - length old)) first ∙ drop-next (limit - length old) edge.0 after some-left ∙ ap (λ n. drop n after) (sym counts)
+
+  pub mark-more : (before next : WalkState) → next.graph ≡ before.graph → next.targets ≡ before.targets → IsFirstPlaceOf next.graph next.targets next.mark edge.0
+      → IsMarkAfter (makers_of before.graph) (count_of before.graph) (row_of before.graph before.targets) before.mark (numbers_of new) next.mark
+  mark-more before next graph targets place =
+      subst (λ es. IsMarkAfter (makers_of before.graph) (count_of before.graph) (row_of before.graph before.targets) before.mark es next.mark) (sym numbers)
+      (IsMarkAfter-last (makers_of before.graph) (count_of before.graph) (row_of before.graph before.targets) before.mark (numbers_of old) edge.0 next.mark
+      (subst (λ g. IsFirstPlaceOf g before.targets next.mark edge.0) graph (subst (λ t. IsFirstPlaceOf next.graph t next.mark edge.0) targets place)))
+
+-- ---- pages
+
+pub page-is : (g : EdgeGraph) (targets : List FileNo) (mark : List ℕ) (limit : ℕ) (old new : WalkState) (edges text : List ℕ)
+    → is_valid (makers_of g) (row_of g targets) mark ≡ true → BeginsAt g targets mark old → Returned limit old new edges → EndsAt new text
+    → IsPage g targets mark limit edges text
+page-is g targets mark limit old new edges text valid begins r (inl (none, empty)) =
+    (valid, (old, begins, sym r.returned, (None, empty, r.left ∙ none)))
+page-is g targets mark limit old new edges text valid begins r (inr (some, is, reads)) = (
+  valid,
+  (
+    old,
+    begins,
+    sym r.returned,
+    (
+      Some new.mark,
+      is,
+      (
+        (λ none. some (sym r.left ∙ none)),
+        subst (λ es. IsMarkAfter (makers_of old.graph) (count_of old.graph) (row_of old.graph old.targets) old.mark es new.mark) (sym r.returned) r.mark,
+        reads,
+      ),
+    ),
+  ),
+)
+
+pub from-fault : (g : EdgeGraph) (targets : List FileNo) (mark : List ℕ) (limit : ℕ) (fault : MarkFault) → PageAfter g targets mark limit (Err fault)
+    → PageFrom g targets mark limit (Err (mark_status fault))
+from-fault g targets mark limit fault.MarkOutOfRange is = is
+from-fault g targets mark limit fault.OutOfMemory is = tt
+from-fault g targets mark limit fault.BadMark is = absurd is
+
+pub at-mark : (g : EdgeGraph) (targets : List FileNo) (text mark : List ℕ) (limit : ℕ) (result : Result Page Status) → mark_of text ≡ Some mark
+    → PageFrom g targets mark limit result → PageAt g targets text limit result
+at-mark g targets text mark limit (Ok page) is from = (mark, is, from)
+at-mark g targets text mark limit (Err BadMark) is from = inr (mark, is, from)
+at-mark g targets text mark limit (Err OutOfMemory) is from = tt
+at-mark g targets text mark limit (Err Done) is from = absurd from
+at-mark g targets text mark limit (Err Nothing) is from = absurd from
+at-mark g targets text mark limit (Err Short) is from = absurd from
+at-mark g targets text mark limit (Err Fault) is from = absurd from
+at-mark g targets text mark limit (Err Wanted) is from = absurd from
+at-mark g targets text mark limit (Err NotLoaded) is from = absurd from
+at-mark g targets text mark limit (Err BadNumber) is from = absurd from
+at-mark g targets text mark limit (Err NotUtf8) is from = absurd from
+at-mark g targets text mark limit (Err NotOpen) is from = absurd from
+
+pub at-none : (g : EdgeGraph) (targets : List FileNo) (text : List ℕ) (limit : ℕ) (status : Status) → MarkRefused text status
+    → PageAt g targets text limit (Err status)
+at-none g targets text limit BadMark none = inl none
+at-none g targets text limit OutOfMemory none = tt
+at-none g targets text limit Done none = absurd none
+at-none g targets text limit Nothing none = absurd none
+at-none g targets text limit Short none = absurd none
+at-none g targets text limit Fault none = absurd none
+at-none g targets text limit Wanted none = absurd none
+at-none g targets text limit NotLoaded none = absurd none
+at-none g targets text limit BadNumber none = absurd none
+at-none g targets text limit NotUtf8 none = absurd none
+at-none g targets text limit NotOpen none = absurd none
+
+pub of-numbers : (g : GraphText) (numbers : List ℕ) (targets : List FileNo) (text : List ℕ) (limit : ℕ) (result : Result Page Status) → AreKnown g numbers
+    → targets ≡ numbered numbers → PageAt g.built.graph targets text limit result → PageOf g numbers text limit result
+of-numbers g numbers targets text limit (Ok page) known are at = (known, subst (λ t. PageAt g.built.graph t text limit (Ok page)) are at)
+of-numbers g numbers targets text limit (Err BadMark) known are at = (known, subst (λ t. IsBadMark g.built.graph t text) are at)
+of-numbers g numbers targets text limit (Err OutOfMemory) known are at = tt
+of-numbers g numbers targets text limit (Err Done) known are at = absurd at
+of-numbers g numbers targets text limit (Err Nothing) known are at = absurd at
+of-numbers g numbers targets text limit (Err Short) known are at = absurd at
+of-numbers g numbers targets text limit (Err Fault) known are at = absurd at
+of-numbers g numbers targets text limit (Err Wanted) known are at = absurd at
+of-numbers g numbers targets text limit (Err NotLoaded) known are at = absurd at
+of-numbers g numbers targets text limit (Err BadNumber) known are at = absurd at
+of-numbers g numbers targets text limit (Err NotUtf8) known are at = absurd at
+of-numbers g numbers targets text limit (Err NotOpen) known are at = absurd at
+
+-- ---- what a session keeps of them
+
+pub lists-page : (before : Kept) (g : GraphText) (targets text : List ℕ) (limit : ℕ) (page : Page) → before.graph ≡ Some g → PageOf g targets text limit (Ok page)
+    → ListsPage before (record before { found = page.edges; mark = page.mark }) targets text limit Done
+lists-page before g targets text limit page graph of =
+    (g, graph, record { files = refl; wanted = refl; graph = refl; fault = refl; output = refl; errors = refl }, of.0, of.1)
+
+pub lists-no-page : (before : Kept) (g : GraphText) (targets text : List ℕ) (limit : ℕ) (status : Status) → before.graph ≡ Some g
+    → PageOf g targets text limit (Err status) → ListsPage before before targets text limit status
+lists-no-page before g targets text limit BadMark graph of = (g, graph, refl, of.0, of.1)
+lists-no-page before g targets text limit BadNumber graph of = (g, graph, refl, of)
+lists-no-page before g targets text limit OutOfMemory graph of = refl
+lists-no-page before g targets text limit Done graph of = absurd of
+lists-no-page before g targets text limit Nothing graph of = absurd of
+lists-no-page before g targets text limit Short graph of = absurd of
+lists-no-page before g targets text limit Fault graph of = absurd of
+lists-no-page before g targets text limit Wanted graph of = absurd of
+lists-no-page before g targets text limit NotLoaded graph of = absurd of
+lists-no-page before g targets text limit NotUtf8 graph of = absurd of
+lists-no-page before g targets text limit NotOpen graph of = absurd of

@@ -1,0 +1,46 @@
+-- The paths that were read and not handed in.
+use Rattle.std.proofs.Common.{◌≡◌, ◌<◌, ◌+◌, ℕ, Bool, true, false, cond, Option, Some, None, is_some, List, [], ◌∷◌, ◌++◌, map, length, take, get_or, position, bytes_eq, refl, sym, ap, ◌∙◌}
+use Rattle.std.specs.Global.{Vec}
+use Rattle.std.specs.List.{AllByRecursion, cons_option, filter_map, flat_map}
+use Rattle.std.proofs.lemmas.List.{append-nil, flat_map_more, map_push, take_more}
+use Rattle.nj_scope.specs.Readings.{Reading}
+use Rattle.nj_c.specs.declared.handed_in.HandedReading.{HandedReading}
+use Rattle.nj_c.specs.Inside.HandedHeld.{reading_held, wanted_of}
+
+abbrev pub bytes_of : Vec ℕ → List ℕ
+bytes_of p = p.items
+
+pub wanted-more : (old new : List (List ℕ)) (items : List HandedReading) (i : ℕ) (d : HandedReading) → i < length items
+    → old ≡ flat_map wanted_of (take i items) → new ≡ old ++ wanted_of (get_or items i d) → new ≡ flat_map wanted_of (take (i + 1) items)
+wanted-more old new items i d below is more =
+    more ∙ ap (λ t. t ++ wanted_of (get_or items i d)) is ∙ flat_map_more wanted_of [] (take i items) (get_or items i d)
+    ∙ ap (flat_map wanted_of) (sym (take_more items i d below))
+
+-- one more path, of a reading that was not handed in
+pub wanted-push : (old new : List (Vec ℕ)) (path : Vec ℕ) (r : HandedReading) → is_some r.number ≡ false → path.items ≡ r.path.items
+    → new ≡ old ++ path ∷ [] → map bytes_of new ≡ map bytes_of old ++ wanted_of r
+wanted-push old new path r none same more =
+    ap (map bytes_of) more ∙ map_push bytes_of old path ∙ ap (λ p. map bytes_of old ++ p ∷ []) same
+    ∙ ap (λ b. map bytes_of old ++ cond b [] (r.path.items ∷ [])) (sym none)
+
+-- none, of one that was
+pub wanted-same : (old : List (List ℕ)) (r : HandedReading) → is_some r.number ≡ true → old ≡ old ++ wanted_of r
+wanted-same old r some = sym (append-nil old) ∙ ap (λ b. old ++ cond b [] (r.path.items ∷ [])) (sym some)
+
+-- what is wanted of the readings as they are held is what is wanted of the readings
+wanted-one : (path : List ℕ) (others : List (List ℕ)) (b : Bool) → cond b [] (path ∷ []) ++ others ≡ cons_option (cond b None (Some path)) others
+wanted-one path others true = refl
+wanted-one path others false = refl
+
+abbrev wanted : List (List ℕ) → Reading → Option (List ℕ)
+wanted paths r = cond (is_some (position (bytes_eq r.path) paths)) None (Some r.path)
+
+pub wanted-held : (paths : List (List ℕ)) (files : List (Option (List ℕ))) (read : List HandedReading)
+    → AllByRecursion (λ r. r.number ≡ position (bytes_eq r.path.items) paths) read
+    → flat_map wanted_of read ≡ filter_map (wanted paths) (map (reading_held files) read)
+wanted-held paths files [] are = refl
+wanted-held paths files (r ∷ rs) are =
+    let others = filter_map (wanted paths) (map (reading_held files) rs) in
+    ap (λ ws. wanted_of r ++ ws) (wanted-held paths files rs are.1)
+    ∙ ap (λ n. cond (is_some n) [] (r.path.items ∷ []) ++ others) are.0
+    ∙ wanted-one r.path.items others (is_some (position (bytes_eq r.path.items) paths))

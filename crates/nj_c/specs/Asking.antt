@@ -1,0 +1,89 @@
+-- What calls do to a session, and what they return.
+use Rattle.std.specs.Prelude.{◌≡◌, ◌⊎◌, ◌<◌, ◌≤◌, ℕ, ℤ, pos, Bool, List, [], ◌∷◌, ◌++◌, Option, Some, option_and_then, length, drop, slice_get, MatchOption, if◌then◌else◌}
+use Rattle.nj_edges.specs.declared.edges.Kind.{Kind}
+use Rattle.nj_edges.specs.declared.edges.Kind.TheVariants.{Explicit, Implicit, OrderOnly}
+use Rattle.nj_scope.specs.ReadingList.{ReadStatement}
+use Rattle.nj_graph.specs.Graph.{GraphText, IsGraphOf, edges_of, files_of, late_text_of}
+use Rattle.nj_faults.specs.declared.fault.GraphFault.{GraphFault}
+use Rattle.nj_faults.specs.declared.fault.Place.{Place}
+use Rattle.nj_c.specs.declared.kept.Kept.{Kept}
+use Rattle.nj_c.specs.declared.status.Status.TheVariants.{Done, Nothing, Short, NotLoaded, BadNumber, NotOpen, OutOfMemory}
+use Rattle.nj_c.specs.Statuses.{code_of}
+
+-- a session that is not open returns that, and an open one does this with what it keeps
+abbrev pub IfOpen : Option Kept → ℤ → (Kept → Type 0) → Type 0
+IfOpen session result does = MatchOption session (result ≡ code_of NotOpen) does
+
+-- without a graph that is returned, and with one this is so
+abbrev pub IfLoaded : Option GraphText → ℤ → (GraphText → Type 0) → Type 0
+IfLoaded graph result does = MatchOption graph (result ≡ code_of NotLoaded) does
+
+-- of the graph of an open session
+abbrev pub OfGraph : Option Kept → ℤ → (GraphText → Type 0) → Type 0
+OfGraph session result does = IfOpen session result (λ kept. IfLoaded kept.graph result does)
+
+-- a number below the count does this, and any other is refused
+pub record IfNumber (number count : ℕ) (result : ℤ) (does : Type 0) : Type 0 where
+  pub is : number < count → does
+  pub is_not : count ≤ number → result ≡ code_of BadNumber
+
+-- of an edge of the graph of an open session
+abbrev pub OfEdge : Option Kept → ℕ → ℤ → (GraphText → Type 0) → Type 0
+OfEdge session edge result does = OfGraph session result (λ g. IfNumber edge (length (edges_of g)) result (does g))
+
+-- of a file of the graph of an open session
+abbrev pub OfFile : Option Kept → ℕ → ℤ → (GraphText → Type 0) → Type 0
+OfFile session file result does = OfGraph session result (λ g. IfNumber file (length (files_of g)) result (does g))
+
+-- the item of a list at an index was given out, or there is none
+abbrev pub GivesItem : {A : Type 0} → Option A → ℤ → (A → Type 0) → Type 0
+GivesItem item result gives = MatchOption item (result ≡ code_of Nothing) (λ x. (result ≡ code_of Done) × gives x)
+
+-- the number of the file of this path was given out, if there is one
+abbrev pub GivesFile : (files : List (List ℕ)) → Option (List ℕ) → ℤ → ℕ → Type 0
+GivesFile files path result file = GivesItem path result (λ p. slice_get files file ≡ Some p)
+
+-- a text was copied to the front of the buffer if it fits in, and its length was given out
+pub record GivesText (text before after : List ℕ) (needed : ℕ) (result : ℤ) : Type 0 where
+  pub length_is : needed ≡ length text
+  pub fits : length text ≤ length before → (result ≡ code_of Done) × (after ≡ text ++ drop (length text) before)
+  pub short : length before < length text → (result ≡ code_of Short) × (after ≡ before)
+
+-- the numbers of kinds of inputs
+abbrev pub kind_code : Kind → ℤ
+kind_code Explicit = pos 0
+kind_code Implicit = pos 1
+kind_code OrderOnly = pos 2
+
+abbrev pub bool_code : Bool → ℤ
+bool_code is = if is then pos 1 else pos 0
+
+-- a call does this, or an allocation failed
+abbrev pub OrNoMemory : ℤ → Type 0 → Type 0
+OrNoMemory result does = does ⊎ (result ≡ code_of OutOfMemory)
+
+-- The value of a variable for an edge was given out. The graph is that of statements which were read.
+abbrev pub GivesValue : GraphText → (edge : ℕ) → (name before after : List ℕ) → (needed : ℕ) → ℤ → Type 0
+GivesValue g edge name before after needed result = (entries : List ReadStatement) → IsGraphOf g entries
+    → OrNoMemory result (GivesText (late_text_of entries edge name) before after needed result)
+
+-- the text of a list at an index was given out, or there is none
+abbrev pub GivesTextAt : List (List ℕ) → (index : ℕ) → (before after : List ℕ) → (needed : ℕ) → ℤ → Type 0
+GivesTextAt texts index before after needed result =
+    MatchOption (slice_get texts index) (result ≡ code_of Nothing) (λ text. GivesText text before after needed result)
+
+-- of the last fault of an open session, if there is one
+abbrev pub OfFault : Option Kept → ℤ → (GraphFault → Type 0) → Type 0
+OfFault session result does = IfOpen session result (λ kept. MatchOption kept.fault (result ≡ code_of Nothing) does)
+
+-- of its place, if one is to blame
+abbrev pub IfPlace : Option GraphFault → ℤ → (Place → Type 0) → Type 0
+IfPlace fault result does = MatchOption (option_and_then (λ f. f.place) fault) (result ≡ code_of Nothing) does
+
+abbrev pub OfPlace : Option Kept → ℤ → (Place → Type 0) → Type 0
+OfPlace session result does = IfOpen session result (λ kept. IfPlace kept.fault result does)
+
+-- the text of a mark was given out; the empty text is none
+abbrev pub GivesMark : (text before after : List ℕ) → (needed : ℕ) → ℤ → Type 0
+GivesMark [] before after needed result = result ≡ code_of Nothing
+GivesMark (b ∷ bs) before after needed result = GivesText (b ∷ bs) before after needed result

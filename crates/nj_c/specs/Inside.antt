@@ -1,0 +1,4 @@
+pub mod HandedHeld
+pub mod Keeps
+pub mod PagesHeld
+pub mod Results

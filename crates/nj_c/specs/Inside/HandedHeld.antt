@@ -1,0 +1,19 @@
+-- How the files that C hands in are held.
+use Rattle.std.specs.Prelude.{◌≡◌, ℕ, List, [], ◌∷◌, Option, is_some, length, position, bytes_eq, if◌then◌else◌}
+use Rattle.std.specs.Global.{Vec}
+use Rattle.std.specs.List.{AllByRecursion}
+use Rattle.nj_scope.specs.Readings.{Reading}
+use Rattle.nj_c.specs.declared.handed_in.HandedReading.{HandedReading}
+use Rattle.nj_c.specs.HandedIn.{read_bytes}
+
+abbrev pub reading_held : List (Option (List ℕ)) → HandedReading → Reading
+reading_held files r = record { path = r.path.items; bytes = read_bytes files r.number }
+
+-- a file for each path, and each reading has the number of its path
+abbrev pub AreHanded : List (List ℕ) → List (Option (Vec ℕ)) → List HandedReading → Type 0
+AreHanded paths files read = (length files ≡ length paths)
+    × AllByRecursion (λ r. r.number ≡ position (bytes_eq r.path.items) paths) read
+
+-- the path of a reading that was not handed in
+abbrev pub wanted_of : HandedReading → List (List ℕ)
+wanted_of r = if is_some r.number then [] else r.path.items ∷ []

@@ -1,0 +1,105 @@
+-- How pages are made.
+use Rattle.std.specs.Prelude.{◌≡◌, ◌≢◌, ◌⊎◌, ℕ, true, false, List, [], map, Option, Some, Result, Ok, Err, ⊤}
+use Rattle.nj_edges.specs.declared.edges.EdgeNo.{EdgeNo}
+use Rattle.nj_edges.specs.declared.files.FileNo.{FileNo}
+use Rattle.nj_edges.specs.EdgeGraphs.{EdgeGraph}
+use Rattle.nj_marks.specs.declared.fault.MarkFault.{MarkFault}
+use Rattle.nj_marks.specs.declared.fault.MarkFault.TheVariants as fault
+use Rattle.nj_marks.specs.Marks.{mark_text, ReadsBack}
+use Rattle.nj_needs.specs.Graphs.{count_of, makers_of, row_of}
+use Rattle.nj_needs.specs.Marks.{is_valid}
+use Rattle.nj_needs.specs.Pages.{IsMarkAfter}
+use Rattle.nj_needs.specs.Walks.{WalkState}
+use Rattle.nj_graph.specs.Graph.{GraphText}
+use Rattle.nj_tools.specs.CommandStrings.{left_after, written}
+use Rattle.nj_c.specs.declared.pages.Page.{Page}
+use Rattle.nj_c.specs.declared.status.Status.{Status}
+use Rattle.nj_c.specs.declared.status.Status.TheVariants.{Done, Nothing, Short, Fault, Wanted, NotLoaded, BadNumber, BadMark, NotUtf8, NotOpen, OutOfMemory}
+use Rattle.nj_c.specs.Pages.{mark_of, numbered, AreKnown, IsBadMark, IsNoMark, IsPage}
+
+abbrev pub numbers_of : List EdgeNo → List ℕ
+numbers_of edges = map (λ e. e.0) edges
+
+-- these were returned of the edges that were left to a walk, at most so many
+pub record Returned (limit : ℕ) (old new : WalkState) (edges : List ℕ) : Type 0 where
+  pub returned : written (Some limit) old.left ≡ edges
+  pub left : left_after (Some limit) old.left ≡ new.left
+  pub mark : IsMarkAfter (makers_of old.graph) (count_of old.graph) (row_of old.graph old.targets) old.mark edges new.mark
+  pub graph : new.graph ≡ old.graph
+  pub targets : new.targets ≡ old.targets
+
+-- why a text gives no mark
+abbrev pub MarkRefused : (text : List ℕ) → Status → Type 0
+MarkRefused text BadMark = IsNoMark text
+MarkRefused text OutOfMemory = ⊤
+MarkRefused text Done = ⊥
+MarkRefused text Nothing = ⊥
+MarkRefused text Short = ⊥
+MarkRefused text Fault = ⊥
+MarkRefused text Wanted = ⊥
+MarkRefused text NotLoaded = ⊥
+MarkRefused text BadNumber = ⊥
+MarkRefused text NotUtf8 = ⊥
+MarkRefused text NotOpen = ⊥
+
+abbrev pub mark_status : MarkFault → Status
+mark_status fault.MarkOutOfRange = BadMark
+mark_status fault.OutOfMemory = OutOfMemory
+mark_status fault.BadMark = BadMark
+
+-- the page after a mark, or the mark leads to no edge
+abbrev pub PageAfter : EdgeGraph → (targets : List FileNo) → (mark : List ℕ) → (limit : ℕ) → Result Page MarkFault → Type 0
+PageAfter g targets mark limit (Ok page) = IsPage g targets mark limit (numbers_of page.edges.items) page.mark.items
+PageAfter g targets mark limit (Err fault.MarkOutOfRange) = is_valid (makers_of g) (row_of g targets) mark ≡ false
+PageAfter g targets mark limit (Err fault.OutOfMemory) = ⊤
+PageAfter g targets mark limit (Err fault.BadMark) = ⊥
+
+-- where a walk ends: no edge is left to it, or its mark has this text
+abbrev pub EndsAt : WalkState → (text : List ℕ) → Type 0
+EndsAt walk text =
+    ((walk.left ≡ []) × (text ≡ []))
+    ⊎ ((walk.left ≢ []) × (text ≡ mark_text walk.mark) × ReadsBack walk.mark)
+
+abbrev pub PageFrom : EdgeGraph → (targets : List FileNo) → (mark : List ℕ) → (limit : ℕ) → Result Page Status → Type 0
+PageFrom g targets mark limit (Ok page) = IsPage g targets mark limit (numbers_of page.edges.items) page.mark.items
+PageFrom g targets mark limit (Err BadMark) = is_valid (makers_of g) (row_of g targets) mark ≡ false
+PageFrom g targets mark limit (Err OutOfMemory) = ⊤
+PageFrom g targets mark limit (Err Done) = ⊥
+PageFrom g targets mark limit (Err Nothing) = ⊥
+PageFrom g targets mark limit (Err Short) = ⊥
+PageFrom g targets mark limit (Err Fault) = ⊥
+PageFrom g targets mark limit (Err Wanted) = ⊥
+PageFrom g targets mark limit (Err NotLoaded) = ⊥
+PageFrom g targets mark limit (Err BadNumber) = ⊥
+PageFrom g targets mark limit (Err NotUtf8) = ⊥
+PageFrom g targets mark limit (Err NotOpen) = ⊥
+
+abbrev pub PageAt : EdgeGraph → (targets : List FileNo) → (text : List ℕ) → (limit : ℕ) → Result Page Status → Type 0
+PageAt g targets text limit (Ok page) =
+    (mark : List ℕ) × (mark_of text ≡ Some mark) × IsPage g targets mark limit (numbers_of page.edges.items) page.mark.items
+PageAt g targets text limit (Err BadMark) = IsBadMark g targets text
+PageAt g targets text limit (Err OutOfMemory) = ⊤
+PageAt g targets text limit (Err Done) = ⊥
+PageAt g targets text limit (Err Nothing) = ⊥
+PageAt g targets text limit (Err Short) = ⊥
+PageAt g targets text limit (Err Fault) = ⊥
+PageAt g targets text limit (Err Wanted) = ⊥
+PageAt g targets text limit (Err NotLoaded) = ⊥
+PageAt g targets text limit (Err BadNumber) = ⊥
+PageAt g targets text limit (Err NotUtf8) = ⊥
+PageAt g targets text limit (Err NotOpen) = ⊥
+
+-- the page after the mark of a text, or why there is none
+abbrev pub PageOf : GraphText → (targets : List ℕ) → (text : List ℕ) → (limit : ℕ) → Result Page Status → Type 0
+PageOf g targets text limit (Ok page) = AreKnown g targets × PageAt g.built.graph (numbered targets) text limit (Ok page)
+PageOf g targets text limit (Err BadMark) = AreKnown g targets × IsBadMark g.built.graph (numbered targets) text
+PageOf g targets text limit (Err BadNumber) = AreKnown g targets → ⊥
+PageOf g targets text limit (Err OutOfMemory) = ⊤
+PageOf g targets text limit (Err Done) = ⊥
+PageOf g targets text limit (Err Nothing) = ⊥
+PageOf g targets text limit (Err Short) = ⊥
+PageOf g targets text limit (Err Fault) = ⊥
+PageOf g targets text limit (Err Wanted) = ⊥
+PageOf g targets text limit (Err NotLoaded) = ⊥
+PageOf g targets text limit (Err NotUtf8) = ⊥
+PageOf g targets text limit (Err NotOpen) = ⊥

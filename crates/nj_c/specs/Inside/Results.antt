@@ -1,0 +1,72 @@
+-- What is kept of the result of a load.
+use Rattle.std.specs.Prelude.{◌≡◌, [], map, Some, None, Result, Ok, Err}
+use Rattle.nj_faults.specs.declared.fault.GraphFault.{GraphFault}
+use Rattle.nj_graph.specs.Graph.{GraphText}
+use Rattle.nj_c.specs.HandedIn.{wanted_paths}
+use Rattle.nj_c.specs.declared.kept.Kept.{Kept}
+use Rattle.nj_c.specs.declared.status.Status.{Status}
+use Rattle.nj_c.specs.declared.status.Status.TheVariants.{Done, Nothing, Short, Fault, Wanted, NotLoaded, BadNumber, BadMark, NotUtf8, NotOpen, OutOfMemory}
+
+abbrev pub KeepsNone : Kept → Type 0
+KeepsNone kept = (kept.graph ≡ None) × (kept.fault ≡ None)
+
+abbrev pub KeepsResult : Kept → Result GraphText GraphFault → Status → Type 0
+KeepsResult kept result Done =
+    (graph : GraphText) × (result ≡ Ok graph) × (kept.graph ≡ Some graph) × (kept.fault ≡ None) × (kept.wanted.items ≡ [])
+KeepsResult kept result Fault =
+    (fault : GraphFault) × (result ≡ Err fault) × (kept.graph ≡ None) × (kept.fault ≡ Some fault) × (kept.wanted.items ≡ [])
+KeepsResult kept result Wanted = KeepsNone kept
+KeepsResult kept result OutOfMemory = KeepsNone kept
+KeepsResult kept result Nothing = ⊥
+KeepsResult kept result Short = ⊥
+KeepsResult kept result NotLoaded = ⊥
+KeepsResult kept result BadNumber = ⊥
+KeepsResult kept result BadMark = ⊥
+KeepsResult kept result NotUtf8 = ⊥
+KeepsResult kept result NotOpen = ⊥
+
+-- a graph is kept, or files are wanted
+abbrev pub KeepsGraph : Kept → GraphText → Status → Type 0
+KeepsGraph kept graph Done = (kept.graph ≡ Some graph) × (kept.wanted.items ≡ [])
+KeepsGraph kept graph Wanted = kept.graph ≡ None
+KeepsGraph kept graph Fault = ⊥
+KeepsGraph kept graph OutOfMemory = ⊥
+KeepsGraph kept graph Nothing = ⊥
+KeepsGraph kept graph Short = ⊥
+KeepsGraph kept graph NotLoaded = ⊥
+KeepsGraph kept graph BadNumber = ⊥
+KeepsGraph kept graph BadMark = ⊥
+KeepsGraph kept graph NotUtf8 = ⊥
+KeepsGraph kept graph NotOpen = ⊥
+
+-- a fault is kept, unless files are wanted or an allocation failed
+abbrev pub KeepsFault : Kept → GraphFault → Status → Type 0
+KeepsFault kept fault Fault = (kept.fault ≡ Some fault) × (kept.wanted.items ≡ [])
+KeepsFault kept fault Wanted = kept.fault ≡ None
+KeepsFault kept fault OutOfMemory = kept.fault ≡ None
+KeepsFault kept fault Done = ⊥
+KeepsFault kept fault Nothing = ⊥
+KeepsFault kept fault Short = ⊥
+KeepsFault kept fault NotLoaded = ⊥
+KeepsFault kept fault BadNumber = ⊥
+KeepsFault kept fault BadMark = ⊥
+KeepsFault kept fault NotUtf8 = ⊥
+KeepsFault kept fault NotOpen = ⊥
+
+-- the paths that are wanted are kept
+abbrev pub KeepsWanted : Kept → Type 0
+KeepsWanted kept = map (λ p. p.items) kept.wanted.items ≡ wanted_paths kept.files
+
+-- what is kept of a load, and of the paths that it wanted
+abbrev pub FinishesLoad : Kept → Result GraphText GraphFault → Status → Type 0
+FinishesLoad kept result OutOfMemory = KeepsNone kept
+FinishesLoad kept result Done = KeepsResult kept result Done × KeepsWanted kept
+FinishesLoad kept result Fault = KeepsResult kept result Fault × KeepsWanted kept
+FinishesLoad kept result Wanted = KeepsNone kept × KeepsWanted kept
+FinishesLoad kept result Nothing = ⊥
+FinishesLoad kept result Short = ⊥
+FinishesLoad kept result NotLoaded = ⊥
+FinishesLoad kept result BadNumber = ⊥
+FinishesLoad kept result BadMark = ⊥
+FinishesLoad kept result NotUtf8 = ⊥
+FinishesLoad kept result NotOpen = ⊥

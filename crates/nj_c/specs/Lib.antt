@@ -1,0 +1,10 @@
+-- what must be believed
+pub mod Statuses
+pub mod HandedIn
+pub mod Asking
+pub mod Loading
+pub mod FaultKinds
+pub mod Pages
+pub mod Targets
+-- how a session keeps what it owns
+pub mod Inside

@@ -1,0 +1,101 @@
+-- What opening a session, handing in files and loading do.
+use Rattle.std.specs.Prelude.{◌≡◌, ◌⊎◌, ℕ, ℤ, Bool, true, false, List, [], map, Option, Some, None, Result, Ok, Err}
+use Rattle.std.specs.Str.{is_utf8}
+use Rattle.nj_scope.specs.ReadingList.{ReadStatement}
+use Rattle.nj_scope.specs.Sources.{SourceState}
+use Rattle.nj_faults.specs.declared.fault.GraphFault.{GraphFault}
+use Rattle.nj_graph.specs.Graph.{GraphText, IsGraphOf}
+use Rattle.nj_graph.specs.Loads.{LoadedText, Loads}
+use Rattle.nj_graph.specs.Joining.{Joins}
+use Rattle.nj_c.specs.declared.kept.Kept.{Kept}
+use Rattle.nj_c.specs.declared.status.Status.{Status}
+use Rattle.nj_c.specs.declared.status.Status.TheVariants.{Done, Nothing, Short, Fault, Wanted, NotLoaded, BadNumber, BadMark, NotUtf8, NotOpen, OutOfMemory}
+use Rattle.nj_c.specs.Statuses.{code_of}
+use Rattle.nj_c.specs.HandedIn.{Handed, handed_in, handed_state, wanted_paths, with_file}
+
+-- a status was returned, of which this is so
+abbrev pub Returns : ℤ → (Status → Type 0) → Type 0
+Returns result is = (status : Status) × (result ≡ code_of status) × is status
+
+-- an open session does this, by its status
+abbrev pub Changes : (before : Kept) → (after : Option Kept) → ℤ → ((after : Kept) → Status → Type 0) → Type 0
+Changes before after result does = (kept : Kept) × (after ≡ Some kept) × Returns result (does kept)
+
+-- an open session to which nothing was handed in, and which has neither a graph nor a fault
+pub record IsEmpty (kept : Kept) : Type 0 where
+  pub files : kept.files ≡ record { paths = []; files = []; read = [] }
+  pub graph : kept.graph ≡ None
+  pub fault : kept.fault ≡ None
+
+abbrev pub IsNew : Option Kept → Type 0
+IsNew session = (kept : Kept) × (session ≡ Some kept) × IsEmpty kept
+
+-- what was handed in for a path is from now on this, and for each other path what it was
+abbrev pub TakesFile : (before after : Handed) → (path : List ℕ) → (file : Option (List ℕ)) → Status → Type 0
+TakesFile before after path file Done = after ≡ with_file before path file
+TakesFile before after path file OutOfMemory = after ≡ before
+TakesFile before after path file Nothing = ⊥
+TakesFile before after path file Short = ⊥
+TakesFile before after path file Fault = ⊥
+TakesFile before after path file Wanted = ⊥
+TakesFile before after path file NotLoaded = ⊥
+TakesFile before after path file BadNumber = ⊥
+TakesFile before after path file BadMark = ⊥
+TakesFile before after path file NotUtf8 = ⊥
+TakesFile before after path file NotOpen = ⊥
+
+-- so does an open session, which keeps all else
+abbrev pub TakesPath : (before after : Kept) → (path : List ℕ) → (file : Option (List ℕ)) → Status → Type 0
+TakesPath before after path file status =
+    (files : Handed) × (after ≡ record before { files = files }) × TakesFile before.files files path file status
+
+-- ---- loading
+
+-- all that is loaded, and its dyndep files are joined if that is wanted
+abbrev pub GivesGraph : (between after : SourceState) → LoadedText → (joins : Bool) → Result GraphText GraphFault → Type 0
+GivesGraph between after loaded false (Ok graph) = (after ≡ between) × (graph ≡ loaded.graph)
+GivesGraph between after loaded false (Err fault) = ⊥
+GivesGraph between after loaded true (Ok graph) =
+    (joined : LoadedText) × (graph ≡ joined.graph)
+    × ((stated : List ReadStatement) → IsGraphOf loaded.graph stated → Joins stated loaded.files between after (Ok joined))
+GivesGraph between after loaded true (Err fault) =
+    (stated : List ReadStatement) → IsGraphOf loaded.graph stated → Joins stated loaded.files between after (Err fault)
+
+-- the load of a main file by a source, without dyndep files or with them
+abbrev pub LoadsGraph : (before after : SourceState) → (main : List ℕ) → (joins : Bool) → Result GraphText GraphFault → Type 0
+LoadsGraph before after main joins (Ok graph) =
+    (between : SourceState) × (loaded : LoadedText) × Loads main before between (Ok loaded) × GivesGraph between after loaded joins (Ok graph)
+LoadsGraph before after main joins (Err fault) =
+    Loads main before after (Err fault)
+    ⊎ ((between : SourceState) × (loaded : LoadedText) × Loads main before between (Ok loaded) × GivesGraph between after loaded joins (Err fault))
+
+-- the files that were handed in, of which nothing was read yet
+abbrev pub unread : Handed → Handed
+unread h = record { paths = h.paths; files = h.files; read = [] }
+
+abbrev pub LoadsFiles : (before after : Handed) → (main : List ℕ) → (joins : Bool) → Result GraphText GraphFault → Type 0
+LoadsFiles before after main joins result = LoadsGraph (handed_state (unread before)) (handed_state after) main joins result
+
+-- What a load leaves, by its status. All files that it read were handed in, unless some are wanted.
+abbrev pub LoadsAs : (before after : Kept) → (main : List ℕ) → (joins : Bool) → Status → Type 0
+LoadsAs before after main joins Done =
+    (graph : GraphText) × (after.graph ≡ Some graph) × (after.fault ≡ None)
+    × LoadsFiles before.files after.files main joins (Ok graph) × (wanted_paths after.files ≡ [])
+LoadsAs before after main joins Fault =
+    (fault : GraphFault) × (after.graph ≡ None) × (after.fault ≡ Some fault)
+    × LoadsFiles before.files after.files main joins (Err fault) × (wanted_paths after.files ≡ [])
+LoadsAs before after main joins Wanted =
+    (after.graph ≡ None) × (after.fault ≡ None) × (map (λ p. p.items) after.wanted.items ≡ wanted_paths after.files)
+LoadsAs before after main joins NotUtf8 = (after.graph ≡ None) × (after.fault ≡ None) × (is_utf8 main ≡ false)
+LoadsAs before after main joins OutOfMemory = (after.graph ≡ None) × (after.fault ≡ None)
+LoadsAs before after main joins Nothing = ⊥
+LoadsAs before after main joins Short = ⊥
+LoadsAs before after main joins NotLoaded = ⊥
+LoadsAs before after main joins BadNumber = ⊥
+LoadsAs before after main joins BadMark = ⊥
+LoadsAs before after main joins NotOpen = ⊥
+
+-- What was handed in stays as it is in a load.
+abbrev pub LoadsKept : (before after : Kept) → (main : List ℕ) → (joins : Bool) → Status → Type 0
+LoadsKept before after main joins status =
+    ((path : List ℕ) → handed_in after.files path ≡ handed_in before.files path) × LoadsAs before after main joins status

@@ -1,0 +1,106 @@
+-- Lists of edges: what a change reaches, and pages of the commands that targets need.
+use Rattle.std.specs.Prelude.{◌≡◌, ◌<◌, ◌⊎◌, ◌↔◌, ℕ, ℤ, true, false, List, [], ◌∷◌, map, length, All, Contains, Option, Some, None}
+use Rattle.std.specs.Str.{is_utf8}
+use Rattle.std.specs.List.Sorted.{IsStrictlyIncreasing}
+use Rattle.nj_edges.specs.declared.files.FileNo.{FileNo}
+use Rattle.nj_edges.specs.Changes.{IsAffected}
+use Rattle.nj_edges.specs.EdgeGraphs.{EdgeGraph}
+use Rattle.nj_edges.specs.Files.{path_at}
+use Rattle.nj_marks.specs.Marks.{given_mark, mark_text}
+use Rattle.nj_needs.specs.Graphs.{makers_of, row_of}
+use Rattle.nj_needs.specs.Marks.{is_valid}
+use Rattle.nj_needs.specs.Walks.{WalkState, BeginsAt}
+use Rattle.nj_graph.specs.Graph.{GraphText, edges_of, files_of}
+use Rattle.nj_tools.specs.CommandStrings.{StopsAt, written}
+use Rattle.nj_c.specs.declared.kept.Kept.{Kept}
+use Rattle.nj_c.specs.declared.status.Status.{Status}
+use Rattle.nj_c.specs.declared.status.Status.TheVariants.{Done, Nothing, Short, Fault, Wanted, NotLoaded, BadNumber, BadMark, NotUtf8, NotOpen, OutOfMemory}
+
+-- the numbers of edges and of files
+abbrev pub edge_numbers : Kept → List ℕ
+edge_numbers kept = map (λ e. e.0) kept.found.items
+
+abbrev pub AreBelow : (count : ℕ) → List ℕ → Type 0
+AreBelow count numbers = All (λ n. n < count) numbers
+
+abbrev pub AreKnown : GraphText → List ℕ → Type 0
+AreKnown g numbers = AreBelow (length (files_of g)) numbers
+
+abbrev pub numbered : List ℕ → List FileNo
+numbered numbers = map (λ n. record { 0 = n }) numbers
+
+-- a session of which only the edges that were listed last changed, and the mark after them
+pub record Lists (before after : Kept) : Type 0 where
+  pub files : after.files ≡ before.files
+  pub wanted : after.wanted ≡ before.wanted
+  pub graph : after.graph ≡ before.graph
+  pub fault : after.fault ≡ before.fault
+  pub output : after.output ≡ before.output
+  pub errors : after.errors ≡ before.errors
+
+-- ---- what a change reaches
+
+abbrev pub IsReached : GraphText → (files edges : List ℕ) → Type 0
+IsReached g files edges = IsStrictlyIncreasing edges
+    × ((edge : ℕ) → Contains edges edge ↔ IsAffected (edges_of g) (map (path_at (files_of g)) (numbered files)) edge)
+
+abbrev pub ListsReached : (before after : Kept) → (files : List ℕ) → Status → Type 0
+ListsReached before after files Done =
+    (g : GraphText) × (before.graph ≡ Some g) × Lists before after × AreKnown g files × IsReached g files (edge_numbers after)
+ListsReached before after files BadNumber =
+    (g : GraphText) × (before.graph ≡ Some g) × (after ≡ before) × (AreKnown g files → ⊥)
+ListsReached before after files NotLoaded = (before.graph ≡ None) × (after ≡ before)
+ListsReached before after files OutOfMemory = after ≡ before
+ListsReached before after files Nothing = ⊥
+ListsReached before after files Short = ⊥
+ListsReached before after files Fault = ⊥
+ListsReached before after files Wanted = ⊥
+ListsReached before after files BadMark = ⊥
+ListsReached before after files NotUtf8 = ⊥
+ListsReached before after files NotOpen = ⊥
+
+-- ---- pages
+
+-- the mark that a text gives: the empty text gives the start
+abbrev pub mark_of : (text : List ℕ) → Option (List ℕ)
+mark_of [] = Some []
+mark_of (b ∷ bs) = given_mark (b ∷ bs)
+
+-- the text of the mark at which a page ends; empty if no edge is left after it
+abbrev pub end_text : Option (List ℕ) → List ℕ
+end_text None = []
+end_text (Some mark) = mark_text mark
+
+-- At most `limit` of the edges that the targets need and that are left after a mark, and the text of the mark at which they end.
+abbrev pub IsPage : EdgeGraph → (targets : List FileNo) → (mark : List ℕ) → (limit : ℕ) → (edges : List ℕ) → (end : List ℕ) → Type 0
+IsPage g targets mark limit edges end =
+    (is_valid (makers_of g) (row_of g targets) mark ≡ true)
+    × ((walk : WalkState) × BeginsAt g targets mark walk × (edges ≡ written (Some limit) walk.left)
+    × ((after : Option (List ℕ)) × (end ≡ end_text after) × StopsAt walk (Some limit) after))
+
+-- the text gives no mark
+abbrev pub IsNoMark : (text : List ℕ) → Type 0
+IsNoMark text = (is_utf8 text ≡ false) ⊎ (mark_of text ≡ None)
+
+-- the text gives no mark, or one that leads to no edge
+abbrev pub IsBadMark : EdgeGraph → (targets : List FileNo) → (text : List ℕ) → Type 0
+IsBadMark g targets text = IsNoMark text
+    ⊎ ((mark : List ℕ) × (mark_of text ≡ Some mark) × (is_valid (makers_of g) (row_of g targets) mark ≡ false))
+
+abbrev pub ListsPage : (before after : Kept) → (targets : List ℕ) → (text : List ℕ) → (limit : ℕ) → Status → Type 0
+ListsPage before after targets text limit Done =
+    (g : GraphText) × (before.graph ≡ Some g) × Lists before after × AreKnown g targets
+    × ((mark : List ℕ) × (mark_of text ≡ Some mark)
+    × IsPage g.built.graph (numbered targets) mark limit (edge_numbers after) after.mark.items)
+ListsPage before after targets text limit BadMark =
+    (g : GraphText) × (before.graph ≡ Some g) × (after ≡ before) × AreKnown g targets × IsBadMark g.built.graph (numbered targets) text
+ListsPage before after targets text limit BadNumber =
+    (g : GraphText) × (before.graph ≡ Some g) × (after ≡ before) × (AreKnown g targets → ⊥)
+ListsPage before after targets text limit NotLoaded = (before.graph ≡ None) × (after ≡ before)
+ListsPage before after targets text limit OutOfMemory = after ≡ before
+ListsPage before after targets text limit Nothing = ⊥
+ListsPage before after targets text limit Short = ⊥
+ListsPage before after targets text limit Fault = ⊥
+ListsPage before after targets text limit Wanted = ⊥
+ListsPage before after targets text limit NotUtf8 = ⊥
+ListsPage before after targets text limit NotOpen = ⊥

@@ -1,0 +1,41 @@
+-- The target that a word means.
+use Rattle.std.specs.Prelude.{◌≡◌, ◌≢◌, ℕ, List, Some, None, Ok, Err, slice_get}
+use Rattle.nj_faults.specs.declared.fault.GraphFault.{GraphFault}
+use Rattle.nj_faults.specs.Faults.{no_memory}
+use Rattle.nj_graph.specs.Graph.{GraphText, edges_of, files_of}
+use Rattle.nj_graph.specs.Targets.{picked}
+use Rattle.nj_c.specs.declared.kept.Kept.{Kept}
+use Rattle.nj_c.specs.declared.status.Status.{Status}
+use Rattle.nj_c.specs.declared.status.Status.TheVariants.{Done, Nothing, Short, Fault, Wanted, NotLoaded, BadNumber, BadMark, NotUtf8, NotOpen, OutOfMemory}
+
+-- The number of the file of this path was given out; or the fault is kept.
+abbrev pub PicksFile : (before after : Kept) → (word : List ℕ) → (file : ℕ) → Status → Type 0
+PicksFile before after word file Done =
+    (g : GraphText) × (before.graph ≡ Some g) × (after ≡ before)
+    × ((path : List ℕ) × (picked (edges_of g) word ≡ Ok path) × (slice_get (files_of g) file ≡ Some path))
+PicksFile before after word file Fault =
+    (g : GraphText) × (before.graph ≡ Some g)
+    × ((fault : GraphFault) × (picked (edges_of g) word ≡ Err fault) × (after ≡ record before { fault = Some fault }))
+PicksFile before after word file NotLoaded = (before.graph ≡ None) × (after ≡ before)
+PicksFile before after word file OutOfMemory = after ≡ before
+PicksFile before after word file Nothing = ⊥
+PicksFile before after word file Short = ⊥
+PicksFile before after word file Wanted = ⊥
+PicksFile before after word file BadNumber = ⊥
+PicksFile before after word file BadMark = ⊥
+PicksFile before after word file NotUtf8 = ⊥
+PicksFile before after word file NotOpen = ⊥
+
+-- a fault that was found is kept, unless an allocation failed
+abbrev pub KeepsFault : (before after : Kept) → GraphFault → Status → Type 0
+KeepsFault before after fault Fault = (fault ≢ no_memory) × (after ≡ record before { fault = Some fault })
+KeepsFault before after fault OutOfMemory = after ≡ before
+KeepsFault before after fault Done = ⊥
+KeepsFault before after fault Nothing = ⊥
+KeepsFault before after fault Short = ⊥
+KeepsFault before after fault Wanted = ⊥
+KeepsFault before after fault NotLoaded = ⊥
+KeepsFault before after fault BadNumber = ⊥
+KeepsFault before after fault BadMark = ⊥
+KeepsFault before after fault NotUtf8 = ⊥
+KeepsFault before after fault NotOpen = ⊥

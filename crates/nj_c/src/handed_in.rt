@@ -1,0 +1,197 @@
+//! The files that C hands in.
+
+ghost use Rattle.std.specs.Prelude.{◌≡◌, ◌<◌, ◌++◌, [], ◌∷◌, false, is_some, length, map, set, position, bytes_eq, IfOk, IfSome, OnOk, OnErr};
+ghost use Rattle.std.specs.List.{flat_map, list_any};
+ghost use Rattle.nj_scope.specs.Sources.{outcome_bytes};
+ghost use Rattle.nj_c.specs.HandedIn.{read_bytes, wanted_paths, with_file};
+ghost use Rattle.nj_c.specs.Inside.HandedHeld.{wanted_of};
+
+use nj_edges::{FileNo, Files};
+use nj_scope::{FileSource, HashKeys, SourceFault};
+use std::alloc::{AllocError, Global};
+use std::marker::Model;
+
+// One reading: the path, and the number of its file; `None` if that was not handed in.
+#[derive(Drop)]
+struct HandedReading {
+    path: Vec<u8>,
+    number: Option<usize>,
+}
+
+/// The files that were handed in. One that was not reads as an empty file, and is then wanted.
+#[derive(Drop)]
+pub struct HandedIn {
+    keys: HashKeys,
+    paths: Files,
+    // For each path its bytes; `None` if no file is there.
+    files: Vec<Option<Vec<u8>>>,
+    // What was read since the last load began.
+    read: Vec<HandedReading>,
+}
+
+impl Model for HandedIn {
+    ghost use Rattle.std.specs.Prelude.{map};
+    ghost use Rattle.nj_scope.specs.Sources.{outcome_bytes};
+    ghost use Rattle.nj_c.specs.HandedIn.{Handed};
+    ghost use Rattle.nj_c.specs.Inside.HandedHeld.{reading_held, AreHanded};
+
+    ghost Value = { Handed };
+
+    ghost view = { λ h. record {
+      paths = h.paths;
+      files = map outcome_bytes h.files.items;
+      read = map (reading_held (map outcome_bytes h.files.items)) h.read.items;
+    } };
+
+    ghost invariant = { λ h. AreHanded h.paths h.files.items h.read.items };
+}
+
+impl HandedIn {
+    /// No files, whose paths are hashed by these keys. It allocates nothing.
+    pub(crate) fn new(alloc: Global, keys: HashKeys) -> HandedIn
+        ensures { result ≡ record { paths = []; files = []; read = [] } }
+    {
+        HandedIn {
+            keys,
+            paths: Files::new(alloc, keys),
+            files: Vec::new(alloc),
+            read: Vec::new(alloc),
+        }
+    }
+
+    /// Sets what the file at a path is: its bytes, or that no file is there. What was read before
+    /// is forgotten.
+    pub(crate) fn set(&mut self, path: &[u8], file: Option<Vec<u8>>) -> Result<(), AllocError>
+        ensures set { OnOk result (self.new ≡ with_file self.old path.now (outcome_bytes file)) }
+        ensures refused { OnErr result (self.new ≡ self.old) }
+    {
+        match self.number(path) {
+            Some(number) => {
+                self.replace(number, file);
+                Ok(())
+            }
+            None => self.add(path, file),
+        }
+    }
+
+    // Sets what the file of a number is.
+    fn replace(&mut self, number: usize, file: Option<Vec<u8>>)
+        requires { number < length self.old.files }
+        ensures { self.new ≡ record {
+          paths = self.old.paths;
+          files = set self.old.files number (outcome_bytes file);
+          read = [];
+        } }
+    {
+        self.read.clear();
+        self.files[number] = file;
+    }
+
+    // Adds a file at a path of which nothing is known.
+    fn add(&mut self, path: &[u8], file: Option<Vec<u8>>) -> Result<(), AllocError>
+        requires { list_any (bytes_eq path.now) self.old.paths ≡ false }
+        ensures added { OnOk result (self.new ≡ record {
+          paths = self.old.paths ++ path.now ∷ [];
+          files = self.old.files ++ outcome_bytes file ∷ [];
+          read = [];
+        }) }
+        ensures refused { OnErr result (self.new ≡ self.old) }
+    {
+        self.files.reserve(1)?;
+        self.paths.name(path)?;
+        self.files.push_reserved(file);
+        self.read.clear();
+        Ok(())
+    }
+
+    /// Forgets what was read.
+    pub(crate) fn begin(&mut self)
+        ensures { self.new ≡ record self.old { read = [] } }
+    {
+        self.read.clear();
+    }
+
+    /// The paths that were read and not handed in, in the order in which they were read.
+    pub(crate) fn wanted(&self, alloc: Global) -> Result<Vec<Vec<u8>>, AllocError>
+        ensures { IfOk result (λ paths. map (λ p. p.items) paths.items ≡ wanted_paths self.now) }
+    {
+        wanted_in(alloc, &self.read)
+    }
+
+    // The number of the file at a path.
+    fn number(&self, path: &[u8]) -> Option<usize>
+        ensures index { result ≡ position (bytes_eq path.now) self.now.paths }
+        ensures known { is_some result ≡ list_any (bytes_eq path.now) self.now.paths }
+        ensures there { IfSome result (λ number. number < length self.now.files) }
+    {
+        match self.paths.number(path) {
+            Some(file) => Some(file.0),
+            None => None,
+        }
+    }
+}
+
+impl FileSource for HandedIn {
+    ghost use Rattle.nj_c.specs.HandedIn.{handed_state};
+
+    ghost state = { λ h. handed_state h };
+
+    fn read(&mut self, alloc: Global, path: &str) -> Result<Option<Vec<u8>>, SourceFault> {
+        let path = path.as_bytes();
+        let number = self.number(path);
+        let bytes = copy_at(alloc, &self.files, number)?;
+        let path = Vec::from_slice(alloc, path)?;
+        self.read.push(HandedReading { path, number })?;
+        Ok(bytes)
+    }
+
+    fn hash_keys(&self) -> HashKeys {
+        self.keys
+    }
+}
+
+// The paths of readings that were not handed in.
+fn wanted_in(alloc: Global, read: &[HandedReading]) -> Result<Vec<Vec<u8>>, AllocError>
+    ensures { IfOk result (λ paths. map (λ p. p.items) paths.items
+        ≡ flat_map wanted_of read.now) }
+{
+    let mut paths = Vec::new(alloc);
+    'read: for reading in read {
+        push_wanted(alloc, &mut paths, reading)?;
+    }
+    Ok(paths)
+}
+
+// Appends the path of a reading if it was not handed in.
+fn push_wanted(
+    alloc: Global,
+    paths: &mut Vec<Vec<u8>>,
+    reading: &HandedReading,
+) -> Result<(), AllocError>
+    ensures { OnOk result (map (λ p. p.items) paths.new.items
+        ≡ map (λ p. p.items) paths.old.items ++ wanted_of reading.now) }
+{
+    if reading.number.is_none() {
+        let path = Vec::from_slice(alloc, &reading.path)?;
+        paths.push(path)?;
+    }
+    Ok(())
+}
+
+// What the file of this number reads as.
+fn copy_at(
+    alloc: Global,
+    files: &[Option<Vec<u8>>],
+    number: Option<usize>,
+) -> Result<Option<Vec<u8>>, AllocError>
+    ensures { IfOk result (λ copy. outcome_bytes copy
+        ≡ read_bytes (map outcome_bytes files.now) number) }
+{
+    let Some(number) = number else {
+        return Ok(Some(Vec::new(alloc)));
+    };
+    match files.get(number) {
+        Some(Some(bytes)) => Ok(Some(Vec::from_slice(alloc, bytes)?)),
+        _ => Ok(None),
+    }
+}

@@ -1,0 +1,54 @@
+//! Items of lists, given out by their index.
+
+ghost use Rattle.std.specs.Prelude.{◌≡◌, List, ℕ, slice_get, map};
+ghost use Rattle.nj_edges.specs.Files.{AreFiles};
+ghost use Rattle.nj_c.specs.Asking.{GivesFile, GivesItem, kind_code};
+ghost use Rattle.nj_c.specs.Statuses.{code_of};
+
+use crate::status::Status;
+use nj_graph::{EdgeNo, FileNo, Kind};
+
+/// Gives the number of the file at an index of a list.
+pub(crate) fn give_file(list: &[FileNo], index: usize, file: &mut usize) -> Status
+    ensures { (files paths : List (List ℕ)) → AreFiles files list.now paths
+        → GivesFile files (slice_get paths index) (code_of result) file.new }
+{
+    match file_at(list, index) {
+        Some(found) => {
+            *file = found.0;
+            Status::Done
+        }
+        None => Status::Nothing,
+    }
+}
+
+fn file_at(list: &[FileNo], index: usize) -> Option<FileNo>
+    ensures { result ≡ slice_get list.now index }
+{
+    list.get(index).copied()
+}
+
+/// Gives the number of the edge at an index of a list.
+pub(crate) fn give_edge(list: &[EdgeNo], index: usize, edge: &mut usize) -> Status
+    ensures { GivesItem (slice_get (map (λ e. e.0) list.now) index) (code_of result)
+        (λ number. edge.new ≡ number) }
+{
+    match list.get(index) {
+        Some(found) => {
+            *edge = found.0;
+            Status::Done
+        }
+        None => Status::Nothing,
+    }
+}
+
+/// The number of a kind of inputs.
+pub(crate) fn kind_code(kind: Kind) -> i32
+    ensures { result ≡ kind_code kind }
+{
+    match kind {
+        Kind::Explicit => 0,
+        Kind::Implicit => 1,
+        Kind::OrderOnly => 2,
+    }
+}

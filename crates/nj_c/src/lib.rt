@@ -1,0 +1,40 @@
+//! The library for C, and for each language that calls C. Its header is `include/ninja_explain.h`.
+//!
+//! Every export takes a session, which owns all that it keeps, and returns a status. An asking call
+//! leaves the session as it is. Nothing is lent: texts are copied into the caller's buffers.
+#![tactic(auto)]
+
+mod buffers;
+mod counts;
+mod edges;
+mod fault_kinds;
+mod faults;
+mod files;
+mod handed_in;
+mod items;
+mod kept;
+mod lists;
+mod loading;
+mod loose;
+mod opening;
+mod pages;
+mod seal;
+mod session;
+mod status;
+mod targets;
+mod values;
+
+pub use counts::{nx_edge_count, nx_file_count, nx_rule_count};
+pub use edges::{
+    nx_edge_file, nx_edge_place, nx_explicit_inputs, nx_explicit_outputs, nx_input, nx_is_phony,
+    nx_output, nx_rule_name, nx_validation,
+};
+pub use faults::{nx_fault_file, nx_fault_kind, nx_fault_line, nx_fault_place};
+pub use files::{nx_file_named, nx_maker, nx_path, nx_user, nx_validation_user};
+pub use lists::{nx_default, nx_root};
+pub use loading::{nx_load, nx_wanted};
+pub use opening::{nx_add_absent, nx_add_file, nx_close, nx_open, nx_version};
+pub use pages::{nx_affected, nx_found, nx_page, nx_page_mark};
+pub use session::Session;
+pub use targets::nx_pick_target;
+pub use values::{nx_command, nx_variable};

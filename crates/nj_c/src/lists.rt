@@ -1,0 +1,80 @@
+//! The defaults and the roots.
+
+ghost use Rattle.std.specs.Prelude.{◌≡◌, slice_get};
+ghost use Rattle.nj_edges.specs.Edges.{roots_of};
+ghost use Rattle.nj_statements.specs.Built.{defaults_in_force};
+ghost use Rattle.nj_graph.specs.Graph.{edges_of, files_of};
+ghost use Rattle.nj_c.specs.Asking.{GivesFile, IfLoaded, OfGraph};
+ghost use Rattle.nj_c.specs.Statuses.{code_of};
+
+use crate::items::give_file;
+use crate::seal::Seal;
+use crate::session::Session;
+use crate::status::Status;
+use std::alloc::Global;
+
+/// The file at an index among the defaults in force: those of the `default` lines in their order,
+/// or the roots where there is no such line ("Default target statements" in the Ninja manual).
+#[unsafe(no_mangle)]
+pub extern "C" fn nx_default(
+    alloc: Global,
+    session: &mut Session,
+    index: usize,
+    file: &mut usize,
+) -> i32
+    ensures kept { session.new.kept ≡ session.old.kept }
+    ensures file { OfGraph session.old.kept result (λ g.
+        GivesFile (files_of g)
+        (slice_get (defaults_in_force g.built.defaults (edges_of g)) index) result file.new) }
+{
+    let Some(seal) = session.take(alloc) else {
+        return Status::NotOpen.code();
+    };
+    let status = default(&seal, index, file);
+    session.put(seal);
+    status.code()
+}
+
+fn default(seal: &Seal, index: usize, file: &mut usize) -> Status
+    ensures { IfLoaded seal.now.kept.graph (code_of result) (λ g.
+        GivesFile (files_of g)
+        (slice_get (defaults_in_force g.built.defaults (edges_of g)) index)
+        (code_of result) file.new) }
+{
+    let Some(graph) = &seal.get().graph else {
+        return Status::NotLoaded;
+    };
+    give_file(graph.defaults(), index, file)
+}
+
+/// The file at an index among the roots: the outputs that no edge has as an input.
+#[unsafe(no_mangle)]
+pub extern "C" fn nx_root(
+    alloc: Global,
+    session: &mut Session,
+    index: usize,
+    file: &mut usize,
+) -> i32
+    ensures kept { session.new.kept ≡ session.old.kept }
+    ensures file { OfGraph session.old.kept result (λ g.
+        GivesFile (files_of g)
+        (slice_get (roots_of (edges_of g)) index) result file.new) }
+{
+    let Some(seal) = session.take(alloc) else {
+        return Status::NotOpen.code();
+    };
+    let status = root(&seal, index, file);
+    session.put(seal);
+    status.code()
+}
+
+fn root(seal: &Seal, index: usize, file: &mut usize) -> Status
+    ensures { IfLoaded seal.now.kept.graph (code_of result) (λ g.
+        GivesFile (files_of g)
+        (slice_get (roots_of (edges_of g)) index) (code_of result) file.new) }
+{
+    let Some(graph) = &seal.get().graph else {
+        return Status::NotLoaded;
+    };
+    give_file(graph.roots(), index, file)
+}

@@ -1,0 +1,212 @@
+//! Loads.
+
+ghost use Rattle.std.specs.Prelude.{◌≡◌, None, true, map, not, nat_eq};
+ghost use Rattle.nj_c.specs.Asking.{GivesTextAt, IfOpen};
+ghost use Rattle.nj_c.specs.HandedIn.{handed_state};
+ghost use Rattle.nj_c.specs.Loading.{unread, Changes, GivesGraph, LoadsGraph, LoadsKept};
+ghost use Rattle.nj_c.specs.Statuses.{code_of};
+ghost use Rattle.nj_c.specs.Inside.Results.{FinishesLoad, KeepsFault, KeepsGraph, KeepsResult};
+
+use crate::buffers::copy_text;
+use crate::handed_in::HandedIn;
+use crate::kept::Kept;
+use crate::seal::Seal;
+use crate::session::Session;
+use crate::status::Status;
+use nj_graph::{Cause, Graph, GraphFault, Loaded, join_dyndeps, load};
+use std::alloc::Global;
+use std::mem;
+
+/// Loads the main file at a path and all files that it includes, from those that were handed in;
+/// and joins the dyndep files to which edges are bound, if `joins_dyndeps` is not 0 ("Dynamic
+/// Dependencies" in the Ninja manual). What was loaded before is freed. If files are wanted that
+/// were not handed in, `nx_wanted` gives their paths; a fault is given by the `nx_fault_` calls.
+#[unsafe(no_mangle)]
+pub extern "C" fn nx_load(
+    alloc: Global,
+    session: &mut Session,
+    main: &[u8],
+    joins_dyndeps: u32,
+) -> i32
+    ensures { IfOpen session.old.kept result (λ kept. Changes kept session.new.kept
+        result (λ after. LoadsKept kept after main.now (not (nat_eq joins_dyndeps 0)))) }
+{
+    let Some(seal) = session.take(alloc) else {
+        return Status::NotOpen.code();
+    };
+    let (seal, status) = load_in(alloc, seal, main, joins_dyndeps != 0);
+    session.put(seal);
+    status.code()
+}
+
+/// The path at an index among those that the last load wanted and that were not handed in.
+#[unsafe(no_mangle)]
+pub extern "C" fn nx_wanted(
+    alloc: Global,
+    session: &mut Session,
+    index: usize,
+    buffer: &mut [u8],
+    needed: &mut usize,
+) -> i32
+    ensures kept { session.new.kept ≡ session.old.kept }
+    ensures path { IfOpen session.old.kept result (λ kept. GivesTextAt
+        (map (λ p. p.items) kept.wanted.items) index buffer.old buffer.new needed.new result) }
+{
+    let Some(seal) = session.take(alloc) else {
+        return Status::NotOpen.code();
+    };
+    let status = wanted(&seal, index, buffer, needed);
+    session.put(seal);
+    status.code()
+}
+
+fn wanted(seal: &Seal, index: usize, buffer: &mut [u8], needed: &mut usize) -> Status
+    ensures { GivesTextAt (map (λ p. p.items) seal.now.kept.wanted.items) index
+        buffer.old buffer.new needed.new (code_of result) }
+{
+    match seal.get().wanted.get(index) {
+        Some(path) => copy_text(path, buffer, needed),
+        None => Status::Nothing,
+    }
+}
+
+// Loads the main file at a path.
+fn load_in(alloc: Global, seal: Seal, main: &[u8], joins: bool) -> (Seal, Status)
+    ensures { LoadsKept seal.kept result.0.kept main.now joins result.1 }
+{
+    let mut kept = seal.into_box();
+    let status = load_main(alloc, &mut kept, main, joins);
+    (Seal::new(kept), status)
+}
+
+// Loads the main file at a path.
+#[tactic(auto, using(crate::proofs::LoadLemmas::loads_kept, crate::proofs::LoadLemmas::not_loaded))]
+fn load_main(alloc: Global, kept: &mut Kept, main: &[u8], joins: bool) -> Status
+    ensures { LoadsKept kept.old kept.new main.now joins result }
+{
+    forget_load(kept);
+    let Ok(main) = str::from_utf8(main) else {
+        return Status::NotUtf8;
+    };
+    let result = load_graph(alloc, &mut kept.files, main, joins);
+    finish_load(alloc, kept, result)
+}
+
+// Keeps what a load gave, and the paths that it wanted.
+#[tactic(auto, using(crate::proofs::LoadLemmas::finishes_load))]
+fn finish_load(alloc: Global, kept: &mut Kept, loaded: Result<Graph, GraphFault>) -> Status
+    requires graph { kept.old.graph ≡ None }
+    requires fault { kept.old.fault ≡ None }
+    ensures files { kept.new.files ≡ kept.old.files }
+    ensures finishes { FinishesLoad kept.new loaded result }
+{
+    match kept.files.wanted(alloc) {
+        Ok(wanted) => {
+            drop(mem::replace(&mut kept.wanted, wanted));
+            keep_result(kept, loaded)
+        }
+        Err(_) => {
+            drop(loaded);
+            Status::OutOfMemory
+        }
+    }
+}
+
+// Forgets what was loaded and read.
+fn forget_load(kept: &mut Kept)
+    ensures files { kept.new.files ≡ unread kept.old.files }
+    ensures graph { kept.new.graph ≡ None }
+    ensures fault { kept.new.fault ≡ None }
+{
+    drop(kept.graph.take());
+    drop(kept.fault.take());
+    kept.files.begin();
+}
+
+// The graph that a load gives.
+#[tactic(auto, using(crate::proofs::LoadLemmas::loads_gives))]
+fn load_graph(
+    alloc: Global,
+    files: &mut HandedIn,
+    main: &str,
+    joins: bool,
+) -> Result<Graph, GraphFault>
+    ensures { LoadsGraph (handed_state files.old) (handed_state files.new) main.now joins result }
+{
+    match load(alloc, files, main) {
+        Ok(loaded) => graph_of(alloc, files, loaded, joins),
+        Err(fault) => Err(fault),
+    }
+}
+
+// The graph of what was loaded.
+#[tactic(auto, using(crate::proofs::LoadLemmas::gives_same, crate::proofs::LoadLemmas::gives_joined))]
+fn graph_of(
+    alloc: Global,
+    files: &mut HandedIn,
+    loaded: Loaded,
+    joins: bool,
+) -> Result<Graph, GraphFault>
+    ensures { GivesGraph (handed_state files.old) (handed_state files.new) loaded joins result }
+{
+    if joins {
+        joined_graph(alloc, files, loaded)
+    } else {
+        Ok(loaded.into_graph())
+    }
+}
+
+fn joined_graph(alloc: Global, files: &mut HandedIn, loaded: Loaded) -> Result<Graph, GraphFault>
+    ensures { GivesGraph (handed_state files.old) (handed_state files.new) loaded true result }
+{
+    match join_dyndeps(alloc, loaded, files) {
+        Ok(joined) => Ok(joined.into_graph()),
+        Err(fault) => Err(fault),
+    }
+}
+
+// Keeps what a load gave, unless files are wanted.
+fn keep_result(kept: &mut Kept, loaded: Result<Graph, GraphFault>) -> Status
+    requires graph { kept.old.graph ≡ None }
+    requires fault { kept.old.fault ≡ None }
+    ensures files { kept.new.files ≡ kept.old.files }
+    ensures wanted { kept.new.wanted ≡ kept.old.wanted }
+    ensures keeps { KeepsResult kept.new loaded result }
+{
+    match loaded {
+        Ok(graph) => keep_graph(kept, graph),
+        Err(fault) => keep_fault(kept, fault),
+    }
+}
+
+fn keep_graph(kept: &mut Kept, graph: Graph) -> Status
+    requires { kept.old.graph ≡ None }
+    ensures files { kept.new.files ≡ kept.old.files }
+    ensures wanted { kept.new.wanted ≡ kept.old.wanted }
+    ensures fault { kept.new.fault ≡ kept.old.fault }
+    ensures keeps { KeepsGraph kept.new graph result }
+{
+    if !kept.wanted.as_slice().is_empty() {
+        drop(graph);
+        return Status::Wanted;
+    }
+    drop(kept.graph.replace(graph));
+    Status::Done
+}
+
+fn keep_fault(kept: &mut Kept, fault: GraphFault) -> Status
+    requires { kept.old.fault ≡ None }
+    ensures files { kept.new.files ≡ kept.old.files }
+    ensures wanted { kept.new.wanted ≡ kept.old.wanted }
+    ensures graph { kept.new.graph ≡ kept.old.graph }
+    ensures keeps { KeepsFault kept.new fault result }
+{
+    if matches!(fault.cause, Cause::OutOfMemory) {
+        return Status::OutOfMemory;
+    }
+    if !kept.wanted.as_slice().is_empty() {
+        return Status::Wanted;
+    }
+    drop(kept.fault.replace(fault));
+    Status::Fault
+}

@@ -1,0 +1,328 @@
+//! Lists of edges: what a change reaches, and pages of the commands that targets need.
+
+ghost use Rattle.std.specs.Prelude.{◌≡◌, ◌<◌, Some, map, length, slice_get, All, IfErr, IfOk, IfSome, MatchOption};
+ghost use Rattle.nj_marks.specs.declared.fault.MarkFault.TheVariants.{OutOfMemory};
+ghost use Rattle.nj_graph.specs.Graph.{files_of};
+ghost use Rattle.nj_c.specs.Asking.{GivesItem, GivesMark, IfOpen};
+ghost use Rattle.nj_c.specs.Loading.{Changes};
+ghost use Rattle.nj_c.specs.Pages.{mark_of, numbered, AreBelow, AreKnown, IsReached, ListsPage, ListsReached};
+ghost use Rattle.nj_c.specs.Statuses.{code_of};
+ghost use Rattle.nj_c.specs.Inside.PagesHeld.{mark_status, numbers_of, EndsAt, MarkRefused, PageAfter, PageAt, PageFrom, PageOf, Returned};
+
+use crate::buffers::copy_text;
+use crate::items::give_edge;
+use crate::seal::Seal;
+use crate::session::Session;
+use crate::status::Status;
+use nj_graph::{EdgeNo, FileNo, Graph};
+use nj_needs::{Mark, MarkFault, Needs};
+use std::alloc::{AllocError, Global};
+use std::mem;
+
+/// Lists the edges that a change of these files affects: those that need one of them through any
+/// chain of inputs, phony edges among them, each once, by number. `nx_found` gives them.
+#[unsafe(no_mangle)]
+pub extern "C" fn nx_affected(alloc: Global, session: &mut Session, files: &[usize]) -> i32
+    ensures { IfOpen session.old.kept result (λ kept. Changes kept session.new.kept result
+        (λ after. ListsReached kept after files.now)) }
+{
+    let Some(seal) = session.take(alloc) else {
+        return Status::NotOpen.code();
+    };
+    let (seal, status) = list_affected(alloc, seal, files);
+    session.put(seal);
+    status.code()
+}
+
+/// Lists the edges with commands that targets need, each once, after all edges that make its
+/// inputs: at most `take` of those that are left after a mark. The mark is the empty text for the
+/// first page, and what `nx_page_mark` gave for the next one. `nx_found` gives the edges.
+#[unsafe(no_mangle)]
+pub extern "C" fn nx_page(
+    alloc: Global,
+    session: &mut Session,
+    targets: &[usize],
+    mark: &[u8],
+    take: usize,
+) -> i32
+    ensures { IfOpen session.old.kept result (λ kept. Changes kept session.new.kept result
+        (λ after. ListsPage kept after targets.now mark.now take)) }
+{
+    let Some(seal) = session.take(alloc) else {
+        return Status::NotOpen.code();
+    };
+    let (seal, status) = list_page(alloc, seal, targets, mark, take);
+    session.put(seal);
+    status.code()
+}
+
+/// The edge at an index among those that were listed last.
+#[unsafe(no_mangle)]
+pub extern "C" fn nx_found(
+    alloc: Global,
+    session: &mut Session,
+    index: usize,
+    edge: &mut usize,
+) -> i32
+    ensures kept { session.new.kept ≡ session.old.kept }
+    ensures edge { IfOpen session.old.kept result (λ kept. GivesItem
+        (slice_get (map (λ e. e.0) kept.found.items) index) result (λ number. edge.new ≡ number)) }
+{
+    let Some(seal) = session.take(alloc) else {
+        return Status::NotOpen.code();
+    };
+    let status = found(&seal, index, edge);
+    session.put(seal);
+    status.code()
+}
+
+/// The mark at which the last page ends. Nothing if no edge is left after it.
+#[unsafe(no_mangle)]
+pub extern "C" fn nx_page_mark(
+    alloc: Global,
+    session: &mut Session,
+    buffer: &mut [u8],
+    needed: &mut usize,
+) -> i32
+    ensures kept { session.new.kept ≡ session.old.kept }
+    ensures mark { IfOpen session.old.kept result (λ kept.
+        GivesMark kept.mark.items buffer.old buffer.new needed.new result) }
+{
+    let Some(seal) = session.take(alloc) else {
+        return Status::NotOpen.code();
+    };
+    let status = page_mark(&seal, buffer, needed);
+    session.put(seal);
+    status.code()
+}
+
+fn found(seal: &Seal, index: usize, edge: &mut usize) -> Status
+    ensures { GivesItem (slice_get (map (λ e. e.0) seal.now.kept.found.items) index)
+        (code_of result) (λ number. edge.new ≡ number) }
+{
+    give_edge(&seal.get().found, index, edge)
+}
+
+fn page_mark(seal: &Seal, buffer: &mut [u8], needed: &mut usize) -> Status
+    ensures { GivesMark seal.now.kept.mark.items buffer.old buffer.new needed.new
+        (code_of result) }
+{
+    give_mark(&seal.get().mark, buffer, needed)
+}
+
+fn give_mark(mark: &[u8], buffer: &mut [u8], needed: &mut usize) -> Status
+    ensures { GivesMark mark.now buffer.old buffer.new needed.new (code_of result) }
+{
+    if mark.is_empty() {
+        return Status::Nothing;
+    }
+    copy_text(mark, buffer, needed)
+}
+
+fn list_affected(alloc: Global, seal: Seal, files: &[usize]) -> (Seal, Status)
+    ensures { ListsReached seal.kept result.0.kept files.now result.1 }
+{
+    let Some(graph) = &seal.get().graph else {
+        return (seal, Status::NotLoaded);
+    };
+    match affected(alloc, graph, files) {
+        Ok(Some(edges)) => (keep_edges(seal, edges, Vec::new(alloc)), Status::Done),
+        Ok(None) => (seal, Status::BadNumber),
+        Err(_) => (seal, Status::OutOfMemory),
+    }
+}
+
+// Keeps a list of edges, and the mark after them.
+fn keep_edges(seal: Seal, edges: Vec<EdgeNo>, mark: Vec<u8>) -> Seal
+    ensures { result.kept ≡ record seal.kept { found = edges; mark = mark } }
+{
+    let mut kept = seal.into_box();
+    drop(mem::replace(&mut kept.found, edges));
+    drop(mem::replace(&mut kept.mark, mark));
+    Seal::new(kept)
+}
+
+// The edges that a change of files of these numbers affects; `None` if a number is none of a file.
+fn affected(
+    alloc: Global,
+    graph: &Graph,
+    numbers: &[usize],
+) -> Result<Option<Vec<EdgeNo>>, AllocError>
+    ensures { IfOk result (λ found. MatchOption found (AreKnown graph.now numbers.now → ⊥) (λ edges.
+        AreKnown graph.now numbers.now
+        × IsReached graph.now numbers.now (numbers_of edges.items))) }
+{
+    match known_files(alloc, numbers, graph.file_count())? {
+        Some(files) => Ok(Some(graph.affected_by(alloc, &files)?)),
+        None => Ok(None),
+    }
+}
+
+// The files of these numbers; `None` if one is not below the count.
+fn known_files(
+    alloc: Global,
+    numbers: &[usize],
+    count: usize,
+) -> Result<Option<Vec<FileNo>>, AllocError>
+    ensures numbered { IfOk result (λ known.
+        MatchOption known (AreBelow count numbers.now → ⊥) (λ files.
+        AreBelow count numbers.now × (files.items ≡ numbered numbers.now))) }
+    ensures below { IfOk result (λ known. IfSome known (λ files.
+        All (λ file. file.0 < count) files.items)) }
+{
+    let mut files = Vec::new(alloc);
+    'numbers: for number in numbers {
+        if *number >= count {
+            return Ok(None);
+        }
+        files.push(FileNo(*number))?;
+    }
+    Ok(Some(files))
+}
+
+fn list_page(
+    alloc: Global,
+    seal: Seal,
+    targets: &[usize],
+    mark: &[u8],
+    take: usize,
+) -> (Seal, Status)
+    ensures { ListsPage seal.kept result.0.kept targets.now mark.now take result.1 }
+{
+    let Some(graph) = &seal.get().graph else {
+        return (seal, Status::NotLoaded);
+    };
+    match page_of(alloc, graph, targets, mark, take) {
+        Ok(Page { edges, mark }) => (keep_edges(seal, edges, mark), Status::Done),
+        Err(status) => (seal, status),
+    }
+}
+
+/// Some of the edges that targets need.
+#[derive(Drop)]
+struct Page {
+    edges: Vec<EdgeNo>,
+    // The text of the mark at which it ends; empty if no edge is left after it.
+    mark: Vec<u8>,
+}
+
+// The page after the mark of a text.
+fn page_of(
+    alloc: Global,
+    graph: &Graph,
+    numbers: &[usize],
+    mark: &[u8],
+    take: usize,
+) -> Result<Page, Status>
+    ensures { PageOf graph.now numbers.now mark.now take result }
+{
+    let Ok(known) = known_files(alloc, numbers, graph.file_count()) else {
+        return Err(Status::OutOfMemory);
+    };
+    let Some(targets) = known else {
+        return Err(Status::BadNumber);
+    };
+    page_at(alloc, graph, &targets, mark, take)
+}
+
+fn page_at(
+    alloc: Global,
+    graph: &Graph,
+    targets: &[FileNo],
+    text: &[u8],
+    take: usize,
+) -> Result<Page, Status>
+    requires { All (λ file. file.0 < length (files_of graph.now)) targets.now }
+    ensures { PageAt graph.now.built.graph targets.now text.now take result }
+{
+    match read_mark(alloc, text) {
+        Ok(mark) => page_from(alloc, graph, targets, &mark, take),
+        Err(status) => Err(status),
+    }
+}
+
+fn page_from(
+    alloc: Global,
+    graph: &Graph,
+    targets: &[FileNo],
+    mark: &Mark,
+    take: usize,
+) -> Result<Page, Status>
+    requires { All (λ file. file.0 < length (files_of graph.now)) targets.now }
+    ensures { PageFrom graph.now.built.graph targets.now mark.now take result }
+{
+    match page_after(alloc, graph, targets, mark, take) {
+        Ok(page) => Ok(page),
+        Err(fault) => Err(status_of(fault)),
+    }
+}
+
+// The mark that a text gives; the empty text is the start.
+fn read_mark(alloc: Global, text: &[u8]) -> Result<Mark, Status>
+    ensures mark { IfOk result (λ mark. mark_of text.now ≡ Some mark) }
+    ensures refused { IfErr result (λ status. MarkRefused text.now status) }
+{
+    if text.is_empty() {
+        return Ok(Mark::start(alloc));
+    }
+    let Ok(text) = str::from_utf8(text) else {
+        return Err(Status::BadMark);
+    };
+    match Mark::read(alloc, text) {
+        Ok(mark) => Ok(mark),
+        Err(fault) => Err(status_of(fault)),
+    }
+}
+
+fn status_of(fault: MarkFault) -> Status
+    ensures { result ≡ mark_status fault }
+{
+    match fault {
+        MarkFault::OutOfMemory => Status::OutOfMemory,
+        MarkFault::BadMark | MarkFault::MarkOutOfRange => Status::BadMark,
+    }
+}
+
+fn page_after(
+    alloc: Global,
+    graph: &Graph,
+    targets: &[FileNo],
+    mark: &Mark,
+    take: usize,
+) -> Result<Page, MarkFault>
+    requires { All (λ file. file.0 < length (files_of graph.now)) targets.now }
+    ensures { PageAfter graph.now.built.graph targets.now mark.now take result }
+{
+    let mut needs = Needs::resume(alloc, graph.edge_graph(), targets, mark)?;
+    let edges = next_edges(alloc, &mut needs, take)?;
+    let mark = end_mark(alloc, &mut needs)?;
+    Ok(Page { edges, mark })
+}
+
+// The text of the mark at which a walk is; empty if no edge is left to it.
+fn end_mark(alloc: Global, needs: &mut Needs<'_>) -> Result<Vec<u8>, MarkFault>
+    ensures ends { IfOk result (λ text. EndsAt needs.old text.items) }
+    ensures refused { IfErr result (λ fault. fault ≡ OutOfMemory) }
+{
+    let mark = needs.mark(alloc)?;
+    if needs.next().is_none() {
+        return Ok(Vec::new(alloc));
+    }
+    let text = mark.to_text(alloc)?;
+    Ok(text.into_bytes())
+}
+
+// At most `take` of the edges that are left to a walk.
+fn next_edges(alloc: Global, needs: &mut Needs<'_>, take: usize) -> Result<Vec<EdgeNo>, AllocError>
+    ensures { IfOk result (λ edges.
+        Returned take needs.old needs.new (numbers_of edges.items)) }
+{
+    let mut edges = Vec::new(alloc);
+    'edges: while edges.as_slice().len() < take {
+        let Some(edge) = needs.next() else {
+            return Ok(edges);
+        };
+        edges.push(edge)?;
+    }
+    Ok(edges)
+}

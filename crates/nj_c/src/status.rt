@@ -1,0 +1,52 @@
+//! What calls return.
+
+ghost use Rattle.std.specs.Prelude.{◌≡◌};
+ghost use Rattle.nj_c.specs.Statuses.{code_of};
+
+/// What a call did. Its number is fixed for good.
+#[derive(Clone, Copy, Debug, PartialEq, Eq)]
+pub enum Status {
+    /// It did what was asked.
+    Done,
+    /// There is nothing there: past the end of a list, no maker, no file of this path.
+    Nothing,
+    /// The buffer is too small, and nothing was written to it.
+    Short,
+    /// There is a fault, which is kept.
+    Fault,
+    /// Files are wanted that were not handed in.
+    Wanted,
+    /// No graph is loaded.
+    NotLoaded,
+    /// No edge or file has this number.
+    BadNumber,
+    /// The text is not a mark, or leads to no edge.
+    BadMark,
+    /// The path is not UTF-8.
+    NotUtf8,
+    /// The session is not open.
+    NotOpen,
+    /// An allocation failed.
+    OutOfMemory,
+}
+
+impl Status {
+    /// The number that C sees.
+    pub(crate) fn code(self) -> i32
+        ensures { result ≡ code_of self }
+    {
+        match self {
+            Status::Done => 0,
+            Status::Nothing => 1,
+            Status::Short => 2,
+            Status::Fault => 3,
+            Status::Wanted => 4,
+            Status::NotLoaded => 5,
+            Status::BadNumber => 6,
+            Status::BadMark => 7,
+            Status::NotUtf8 => 8,
+            Status::NotOpen => 9,
+            Status::OutOfMemory => 10,
+        }
+    }
+}

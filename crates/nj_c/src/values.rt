@@ -1,0 +1,94 @@
+//! The values of variables for edges.
+
+ghost use Rattle.std.specs.Prelude.{◌≡◌, ◌<◌, List, length, codes};
+ghost use Rattle.nj_scope.specs.ReadingList.{ReadStatement};
+ghost use Rattle.nj_graph.specs.Graph.{edges_of, late_text_of, GraphText, IsGraphOf};
+ghost use Rattle.nj_c.specs.declared.status.Status.TheVariants.{OutOfMemory};
+ghost use Rattle.nj_c.specs.Asking.{GivesText, GivesValue, IfLoaded, IfNumber, OfEdge};
+ghost use Rattle.nj_c.specs.Statuses.{code_of};
+
+use crate::buffers::copy_text;
+use crate::seal::Seal;
+use crate::session::Session;
+use crate::status::Status;
+use nj_graph::{EdgeNo, Graph};
+use std::alloc::Global;
+
+/// The value of a variable for an edge, where its rule is used after all statements ("Rule
+/// variables" in the Ninja manual): `description`, `depfile`, `rspfile` or any other name. A name
+/// that is bound nowhere has the empty value.
+#[unsafe(no_mangle)]
+pub extern "C" fn nx_variable(
+    alloc: Global,
+    session: &mut Session,
+    edge: usize,
+    name: &[u8],
+    buffer: &mut [u8],
+    needed: &mut usize,
+) -> i32
+    ensures kept { session.new.kept ≡ session.old.kept }
+    ensures value { OfEdge session.old.kept edge result (λ g.
+        GivesValue g edge name.now buffer.old buffer.new needed.new result) }
+{
+    let Some(seal) = session.take(alloc) else {
+        return Status::NotOpen.code();
+    };
+    let status = variable(alloc, &seal, edge, name, buffer, needed);
+    session.put(seal);
+    status.code()
+}
+
+/// The command of an edge, as it is passed to a shell; empty for a phony one.
+#[unsafe(no_mangle)]
+pub extern "C" fn nx_command(
+    alloc: Global,
+    session: &mut Session,
+    edge: usize,
+    buffer: &mut [u8],
+    needed: &mut usize,
+) -> i32
+    ensures kept { session.new.kept ≡ session.old.kept }
+    ensures value { OfEdge session.old.kept edge result (λ g.
+        GivesValue g edge (codes "command") buffer.old buffer.new needed.new result) }
+{
+    nx_variable(alloc, session, edge, b"command", buffer, needed)
+}
+
+fn variable(
+    alloc: Global,
+    seal: &Seal,
+    edge: usize,
+    name: &[u8],
+    buffer: &mut [u8],
+    needed: &mut usize,
+) -> Status
+    ensures { IfLoaded seal.now.kept.graph (code_of result) (λ g.
+        IfNumber edge (length (edges_of g)) (code_of result)
+        (GivesValue g edge name.now buffer.old buffer.new needed.new (code_of result))) }
+{
+    let Some(graph) = &seal.get().graph else {
+        return Status::NotLoaded;
+    };
+    if edge >= graph.edge_count() {
+        return Status::BadNumber;
+    }
+    value(alloc, graph, EdgeNo(edge), name, buffer, needed)
+}
+
+fn value(
+    alloc: Global,
+    graph: &Graph,
+    edge: EdgeNo,
+    name: &[u8],
+    buffer: &mut [u8],
+    needed: &mut usize,
+) -> Status
+    requires { edge.0 < length (edges_of graph.now) }
+    ensures { GivesValue graph.now edge.0 name.now buffer.old buffer.new needed.new
+        (code_of result) }
+{
+    match graph.variable(alloc, edge, name) {
+        Ok(text) => copy_text(&text, buffer, needed),
+        Err(_) => Status::OutOfMemory,
+    }
+}

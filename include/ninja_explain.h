@@ -1,0 +1,366 @@
+/*
+ * ninja-explain as a library: reads build.ninja and every file that it includes, and gives the graph
+ * of build statements, without building anything.
+ *
+ *     #include <ninja_explain.h>
+ *     #include <stdio.h>
+ *
+ *     int main(void)
+ *     {
+ *         static const uint8_t text[] = "rule cc\n command = cc -c $in -o $out\nbuild a.o: cc a.c\n";
+ *         nx_session session = NX_SESSION_CLOSED;
+ *         uint8_t command[256];
+ *         size_t length = 0;
+ *         int32_t status = nx_open(&session, 0x9e3779b97f4a7c15u);
+ *         if (status == NX_DONE)
+ *             status = nx_add_file(&session, (const uint8_t *)"build.ninja", 11, text, sizeof text - 1);
+ *         if (status == NX_DONE)
+ *             status = nx_load(&session, (const uint8_t *)"build.ninja", 11, 0);
+ *         if (status == NX_DONE)
+ *             status = nx_command(&session, 0, command, sizeof command, &length);
+ *         if (status == NX_DONE)
+ *             printf("%.*s\n", (int)length, (const char *)command);
+ *         nx_close(&session);
+ *         return status == NX_DONE ? 0 : 1;
+ *     }
+ *
+ * Every call returns a status, one of `enum nx_status`. Texts are bytes with a length; they need not
+ * be UTF-8 and have no zero byte at their end. A call that gives a text copies it into the buffer of
+ * the caller and gives its length through `needed`; if the buffer is too small the status is
+ * NX_SHORT, the length is given all the same, and the buffer stays as it is. Nothing that a call
+ * gives points into the session. Edges (one for each build statement) and files have numbers from 0,
+ * in reading order. Lists are asked for by an index, until the status is NX_NOTHING.
+ *
+ * What the library does is proved for all that C may hand in, as long as C keeps its side, which no
+ * proof can check:
+ *  - every pointer points to memory that may be read, and written where the call writes, for the
+ *    length that stands beside it. A null pointer may stand beside the length 0;
+ *  - memory that a call writes does not overlap other memory that the same call reads or writes;
+ *  - a session is only changed by these calls, and was set to NX_SESSION_CLOSED before the first;
+ *    a copy of an open session is not used as another one;
+ *  - at most one call at a time uses a session. Calls for different sessions may run at the same
+ *    time, in different threads, and a session may be handed to another thread between calls;
+ *  - no call is made from a signal handler.
+ */
+#ifndef NINJA_EXPLAIN_H
+#define NINJA_EXPLAIN_H
+
+#include <stddef.h>
+#include <stdint.h>
+
+#ifdef __cplusplus
+extern "C" {
+#endif
+
+/* What a call returns. The numbers are fixed for good; later versions may add some. */
+enum nx_status {
+    /* It did what was asked. */
+    NX_DONE = 0,
+    /* There is nothing there: past the end of a list, a source that no edge makes, no such path. */
+    NX_NOTHING = 1,
+    /* The buffer is too small. */
+    NX_SHORT = 2,
+    /* There is a fault; the nx_fault_ calls describe it. */
+    NX_FAULT = 3,
+    /* Files are wanted that were not handed in; nx_wanted gives their paths. */
+    NX_WANTED = 4,
+    /* No graph is loaded. */
+    NX_NOT_LOADED = 5,
+    /* No edge or file has this number. */
+    NX_BAD_NUMBER = 6,
+    /* The text is not a mark, or it leads to no edge. */
+    NX_BAD_MARK = 7,
+    /* The path of the main file is not UTF-8. */
+    NX_NOT_UTF8 = 8,
+    /* The session is not open. */
+    NX_NOT_OPEN = 9,
+    /* An allocation failed. The session can be used and closed as before. */
+    NX_OUT_OF_MEMORY = 10
+};
+
+/* What is wrong, for nx_fault_kind. The numbers are fixed for good; later versions may add some. */
+enum nx_fault {
+    /* a NUL byte, or a carriage return that no line feed follows */
+    NX_FAULT_BAD_BYTE = 1,
+    /* a tab as the first byte after the spaces that a line begins with */
+    NX_FAULT_TAB = 2,
+    /* a `$` that begins no escape and no reference */
+    NX_FAULT_BAD_ESCAPE = 3,
+    /* something else is where a certain unit is wanted */
+    NX_FAULT_EXPECTED = 4,
+    /* an indented line that belongs to no block */
+    NX_FAULT_UNEXPECTED_INDENT = 5,
+    /* a rule without `command` */
+    NX_FAULT_MISSING_COMMAND = 6,
+    /* a rule with only one of `rspfile` and `rspfile_content` */
+    NX_FAULT_RSP_PAIR = 7,
+    /* a key that its block may not have */
+    NX_FAULT_UNKNOWN_KEY = 8,
+    /* a pool without `depth` */
+    NX_FAULT_MISSING_DEPTH = 9,
+    /* a dyndep file that does not begin with its version */
+    NX_FAULT_DYNDEP_VERSION = 10,
+    /* a statement of a dyndep file that is not a dyndep statement */
+    NX_FAULT_DYNDEP_SHAPE = 11,
+    /* an empty path */
+    NX_FAULT_EMPTY_PATH = 12,
+    /* the depth of a pool is not a number, or is too great */
+    NX_FAULT_BAD_DEPTH = 13,
+    /* a second rule of the same name in a scope */
+    NX_FAULT_DUPLICATE_RULE = 14,
+    /* a second pool of the same name */
+    NX_FAULT_DUPLICATE_POOL = 15,
+    /* `ninja_required_version` is newer than 1.12 */
+    NX_FAULT_VERSION_TOO_NEW = 16,
+    /* there is no file at the path */
+    NX_FAULT_MISSING = 17,
+    /* the path of an included file is not UTF-8 */
+    NX_FAULT_PATH_NOT_TEXT = 18,
+    /* more than 32 files would be open at once */
+    NX_FAULT_TOO_DEEP = 19,
+    /* more than 65,536 files would be opened */
+    NX_FAULT_TOO_MANY_OPENINGS = 20,
+    /* the file cannot be read; it does not occur for files that were handed in */
+    NX_FAULT_IO = 21,
+    /* no scope declares the rule */
+    NX_FAULT_UNKNOWN_RULE = 22,
+    /* two build statements make the same file */
+    NX_FAULT_TWO_MAKERS = 23,
+    /* no build statement names the path */
+    NX_FAULT_UNKNOWN_TARGET = 24,
+    /* a variable of a rule refers to itself */
+    NX_FAULT_RULE_VARIABLE_CYCLE = 25,
+    /* no statement declares the pool */
+    NX_FAULT_UNKNOWN_POOL = 26,
+    /* a dyndep file is not an input of its build statement */
+    NX_FAULT_DYNDEP_NOT_INPUT = 27,
+    /* a dyndep file does not mention its build statement */
+    NX_FAULT_DYNDEP_NO_STATEMENT = 28,
+    /* a dyndep file mentions a build statement twice */
+    NX_FAULT_DYNDEP_TWICE = 29,
+    /* a dyndep file mentions a path that no build statement bound to it makes */
+    NX_FAULT_DYNDEP_EXTRA = 30,
+    /* a path is needed to make itself */
+    NX_FAULT_CYCLE = 31,
+    /* no build statement has the file before `^` as an input */
+    NX_FAULT_NO_OUT_EDGE = 32,
+    /* a text that JSON cannot contain */
+    NX_FAULT_TEXT_NOT_UTF8 = 33,
+    /* an allocation failed */
+    NX_FAULT_OUT_OF_MEMORY = 34
+};
+
+/* The kinds of inputs, for nx_input. */
+enum nx_kind {
+    NX_EXPLICIT = 0,
+    NX_IMPLICIT = 1,
+    NX_ORDER_ONLY = 2
+};
+
+/* A session: all that one graph needs. It owns its memory, which nx_close frees. */
+typedef struct nx_session {
+    void *kept;
+} nx_session;
+
+/* What a session is set to before its first call. */
+#define NX_SESSION_CLOSED { 0 }
+
+/* ---- the version ---- */
+
+/*
+ * The version of the interface. What a program was written for still works with a greater minor
+ * number; with another major one it may not. NX_DONE.
+ */
+int32_t nx_version(size_t *major, size_t *minor);
+
+/* ---- sessions and files ---- */
+
+/*
+ * Opens a session that keeps nothing yet. What it kept before is freed. The key is for hashes: a
+ * number that strangers cannot guess, so that they cannot choose names which slow a load down.
+ * NX_DONE, or NX_OUT_OF_MEMORY, which leaves the session as it was.
+ */
+int32_t nx_open(nx_session *session, uint64_t key);
+
+/* Closes a session and frees all that it keeps. One that is not open stays so. NX_DONE. */
+int32_t nx_close(nx_session *session);
+
+/*
+ * Hands in the bytes of the file at a path: as the main file is named in nx_load, and as other files
+ * are named in `include`, `subninja` and dyndep bindings. They are copied. They take the place of
+ * what was handed in for this path before. A graph that is loaded stays as it is.
+ * NX_DONE or NX_OUT_OF_MEMORY.
+ */
+int32_t nx_add_file(nx_session *session, const uint8_t *path, size_t path_length,
+                    const uint8_t *bytes, size_t length);
+
+/* Records that there is no file at a path. NX_DONE or NX_OUT_OF_MEMORY. */
+int32_t nx_add_absent(nx_session *session, const uint8_t *path, size_t path_length);
+
+/*
+ * Loads the main file at a path and all files that it includes, from those that were handed in. If
+ * `joins_dyndeps` is not 0, the dyndep files to which edges are bound are joined too, and a failed
+ * join is a failed load. What was loaded before is freed.
+ * NX_DONE; NX_FAULT, with the first fault; NX_WANTED if files are wanted that were not handed in:
+ * hand them in, or record that they are absent, and load again; NX_NOT_UTF8; NX_OUT_OF_MEMORY.
+ */
+int32_t nx_load(nx_session *session, const uint8_t *main, size_t main_length,
+                uint32_t joins_dyndeps);
+
+/*
+ * The path at an index among the files that the last load wanted and that were not handed in, in the
+ * order in which it came to them. More may be wanted once these are there.
+ * NX_DONE, NX_NOTHING past the end, NX_SHORT.
+ */
+int32_t nx_wanted(nx_session *session, size_t index, uint8_t *buffer, size_t size, size_t *needed);
+
+/* ---- the last fault: of a load, or of nx_pick_target ---- */
+
+/* What is wrong, one of `enum nx_fault`. NX_DONE, or NX_NOTHING if there is no fault. */
+int32_t nx_fault_kind(nx_session *session, int32_t *kind);
+
+/*
+ * The line and the column of the fault, from 1; columns count bytes.
+ * NX_DONE, or NX_NOTHING if there is no fault or no place is to blame.
+ */
+int32_t nx_fault_place(nx_session *session, size_t *line, size_t *column);
+
+/*
+ * The file of the fault, by the name under which it was opened.
+ * NX_DONE, NX_NOTHING if there is no fault or no place is to blame, NX_SHORT.
+ */
+int32_t nx_fault_file(nx_session *session, uint8_t *buffer, size_t size, size_t *needed);
+
+/*
+ * The line that reports the fault: FILE:LINE:COLUMN: TEXT, or TEXT if no place is to blame.
+ * NX_DONE, NX_NOTHING if there is no fault, NX_SHORT, NX_OUT_OF_MEMORY.
+ */
+int32_t nx_fault_line(nx_session *session, uint8_t *buffer, size_t size, size_t *needed);
+
+/* ---- counts ---- */
+
+/* How many edges there are, one for each build statement. */
+int32_t nx_edge_count(nx_session *session, size_t *count);
+
+/* How many files there are: the paths that edges name, each once. */
+int32_t nx_file_count(nx_session *session, size_t *count);
+
+/* How many rules the scope of the main file has, `phony` among them. */
+int32_t nx_rule_count(nx_session *session, size_t *count);
+
+/* ---- files ---- */
+
+/* The path of a file. NX_DONE, NX_BAD_NUMBER, NX_SHORT. */
+int32_t nx_path(nx_session *session, size_t file, uint8_t *buffer, size_t size, size_t *needed);
+
+/* The file at this path, which is taken as it is: not cleaned. NX_DONE or NX_NOTHING. */
+int32_t nx_file_named(nx_session *session, const uint8_t *path, size_t path_length, size_t *file);
+
+/*
+ * The file that a word of the command line means: the path is cleaned first, and `FILE^` means the
+ * first output of the first edge that has FILE as an input.
+ * NX_DONE; NX_FAULT if there is none, which is then the last fault; NX_OUT_OF_MEMORY.
+ */
+int32_t nx_pick_target(nx_session *session, const uint8_t *word, size_t word_length, size_t *file);
+
+/* The edge that makes a file. NX_DONE, NX_NOTHING for a source, NX_BAD_NUMBER. */
+int32_t nx_maker(nx_session *session, size_t file, size_t *edge);
+
+/*
+ * The edge at an index among those that have a file as an input, by number, each once.
+ * NX_DONE, NX_NOTHING past the end, NX_BAD_NUMBER.
+ */
+int32_t nx_user(nx_session *session, size_t file, size_t index, size_t *edge);
+
+/* The same for the edges that name a file as a validation. */
+int32_t nx_validation_user(nx_session *session, size_t file, size_t index, size_t *edge);
+
+/* ---- edges ---- */
+
+/* The output of an edge at an index. NX_DONE, NX_NOTHING past the end, NX_BAD_NUMBER. */
+int32_t nx_output(nx_session *session, size_t edge, size_t index, size_t *file);
+
+/*
+ * The input of an edge at an index, and its kind, one of `enum nx_kind`: first the explicit inputs,
+ * then the implicit and then the order-only ones. NX_DONE, NX_NOTHING past the end, NX_BAD_NUMBER.
+ */
+int32_t nx_input(nx_session *session, size_t edge, size_t index, size_t *file, int32_t *kind);
+
+/* The validation of an edge at an index. NX_DONE, NX_NOTHING past the end, NX_BAD_NUMBER. */
+int32_t nx_validation(nx_session *session, size_t edge, size_t index, size_t *file);
+
+/* How many outputs of an edge are explicit; these come first. NX_DONE or NX_BAD_NUMBER. */
+int32_t nx_explicit_outputs(nx_session *session, size_t edge, size_t *count);
+
+/* How many inputs of an edge are explicit; these come first. NX_DONE or NX_BAD_NUMBER. */
+int32_t nx_explicit_inputs(nx_session *session, size_t edge, size_t *count);
+
+/* Whether the rule of an edge is `phony`: 1 or 0. NX_DONE or NX_BAD_NUMBER. */
+int32_t nx_is_phony(nx_session *session, size_t edge, int32_t *phony);
+
+/* The name of the rule of an edge. NX_DONE, NX_BAD_NUMBER, NX_SHORT. */
+int32_t nx_rule_name(nx_session *session, size_t edge, uint8_t *buffer, size_t size,
+                     size_t *needed);
+
+/* The line and the column of the build statement of an edge, from 1. NX_DONE or NX_BAD_NUMBER. */
+int32_t nx_edge_place(nx_session *session, size_t edge, size_t *line, size_t *column);
+
+/*
+ * The file of the build statement of an edge, by the name under which it was opened.
+ * NX_DONE, NX_BAD_NUMBER, NX_SHORT.
+ */
+int32_t nx_edge_file(nx_session *session, size_t edge, uint8_t *buffer, size_t size,
+                     size_t *needed);
+
+/*
+ * The command of an edge, as it is passed to a shell; empty for a phony one.
+ * NX_DONE, NX_BAD_NUMBER, NX_SHORT, NX_OUT_OF_MEMORY.
+ */
+int32_t nx_command(nx_session *session, size_t edge, uint8_t *buffer, size_t size, size_t *needed);
+
+/*
+ * The value of a variable for an edge: `description`, `depfile`, `rspfile` or any other name; empty
+ * if it is bound nowhere. NX_DONE, NX_BAD_NUMBER, NX_SHORT, NX_OUT_OF_MEMORY.
+ */
+int32_t nx_variable(nx_session *session, size_t edge, const uint8_t *name, size_t name_length,
+                    uint8_t *buffer, size_t size, size_t *needed);
+
+/* ---- lists ---- */
+
+/*
+ * The file at an index among the defaults: those of the `default` lines, or the roots if there is no
+ * such line. NX_DONE, or NX_NOTHING past the end.
+ */
+int32_t nx_default(nx_session *session, size_t index, size_t *file);
+
+/* The file at an index among the roots: outputs that no edge has as an input. The same. */
+int32_t nx_root(nx_session *session, size_t index, size_t *file);
+
+/*
+ * Lists the edges that a change of these files affects: those that need one of them through any
+ * chain of inputs, phony edges among them, each once, by number. nx_found gives them.
+ * NX_DONE, NX_BAD_NUMBER, NX_OUT_OF_MEMORY.
+ */
+int32_t nx_affected(nx_session *session, const size_t *files, size_t file_count);
+
+/*
+ * Lists the edges with commands that the targets need through any chain of inputs, each once, after
+ * all edges that make its inputs: a page of at most `take` of those that are left after a mark. The
+ * mark of the first page is the empty text. nx_found gives the edges, and nx_page_mark the mark for
+ * the next page. A mark fits the same graph and targets, also in another session or process.
+ * NX_DONE, NX_BAD_NUMBER, NX_BAD_MARK, NX_OUT_OF_MEMORY.
+ */
+int32_t nx_page(nx_session *session, const size_t *targets, size_t target_count,
+                const uint8_t *mark, size_t mark_length, size_t take);
+
+/* The edge at an index among those that were listed last. NX_DONE, or NX_NOTHING past the end. */
+int32_t nx_found(nx_session *session, size_t index, size_t *edge);
+
+/* The mark at which the last page ends. NX_DONE, NX_NOTHING if no edge is left after it, NX_SHORT. */
+int32_t nx_page_mark(nx_session *session, uint8_t *buffer, size_t size, size_t *needed);
+
+#ifdef __cplusplus
+}
+#endif
+
+#endif
