@@ -8,6 +8,11 @@ AFFECTED := crates/affected_tests/out/affected_tests
 DRAW := crates/draw_graph/out/draw_graph
 KEYS := crates/cache_keys/out/cache_keys
 AUDIT := crates/audit_build/out/audit_build
+# The library for C as it is proved, and the archive of the toolchain with the object that calls
+# `malloc` and `free` for it.
+PROVED_C := crates/nj_c/out/libnj_c.a
+HEAP = $(shell find "$$(dirname "$$(dirname "$$(readlink -f "$$(which rt)")")")" -name liblibc_c.a -print -quit)
+LIBRARY := lib/libninja_explain
 PROJECT := examples/project
 FILES := $(shell cd $(PROJECT) && find * -type f)
 # How many crates are proved at once, each on one processor and in at most 3 GB, and how many runs of
@@ -24,8 +29,11 @@ INSTALLED_PAGE := $(SHARE)/man/man1/ninja-explain.1
 INSTALLED_BASH := $(SHARE)/bash-completion/completions/ninja-explain
 INSTALLED_ZSH := $(SHARE)/zsh/site-functions/_ninja-explain
 INSTALLED_FISH := $(SHARE)/fish/vendor_completions.d/ninja-explain.fish
+INSTALLED_HEADER := $(DESTDIR)$(PREFIX)/include/ninja_explain.h
+INSTALLED_LIBRARY := $(DESTDIR)$(PREFIX)/$(LIBRARY)
+INSTALLED_PC := $(DESTDIR)$(PREFIX)/lib/pkgconfig/ninja_explain.pc
 
-.PHONY: all run test smoke sweep install uninstall clean
+.PHONY: all c run test smoke c-test sweep install install-c uninstall clean
 
 # Proves and builds the program as bin/ninja-explain. `rt all` proves the program and the crates below
 # it, several at once; `rt run` then builds the program from what was proved.
@@ -34,6 +42,32 @@ all:
 	cd $(PROGRAM) && rt run --jobs 1 < stdin > /dev/null
 	mkdir -p bin
 	cp $(BUILT) bin/ninja-explain
+
+# Proves the library for C and builds it in lib/, static and shared, with a file for pkg-config that
+# finds it here. docs/C.md describes it.
+c:
+	cd crates/nj_c && rt all check --jobs $(JOBS)
+	cd crates/nj_c && rt lib
+	$(MAKE) $(LIBRARY).so lib/pkgconfig/ninja_explain.pc
+
+$(PROVED_C): $(wildcard crates/*/src/*.rt)
+	cd crates/nj_c && rt lib
+
+$(LIBRARY).a: $(PROVED_C)
+	mkdir -p lib
+	cp $(PROVED_C) $@
+	cd lib && ar x "$(HEAP)" heap.pic.o && ar rs $(@F) heap.pic.o && rm heap.pic.o
+
+$(LIBRARY).so.1: $(LIBRARY).a include/ninja_explain.map
+	$(CC) -shared -o $@ -Wl,-soname,$(@F) -Wl,--version-script,include/ninja_explain.map \
+	-Wl,-z,relro,-z,now,--no-undefined -Wl,--whole-archive $(LIBRARY).a -Wl,--no-whole-archive
+
+$(LIBRARY).so: $(LIBRARY).so.1
+	ln -sf $(<F) $@
+
+lib/pkgconfig/ninja_explain.pc: include/ninja_explain.pc.in
+	mkdir -p $(@D)
+	sed 's|@PREFIX@|$(CURDIR)|' $< > $@
 
 # Builds the program without any proof, and prints the commands of a project in three files. With
 # FOLDER=.. it runs on the *.ninja files in that folder and below, with the words WORDS='..'.
@@ -53,8 +87,8 @@ test:
 # Runs the built program on real files, and the short sweeps. It also checks that
 # docs/ARCHITECTURE.md names every module, that each type with a private field has a model, that what
 # must be believed is apart from plumbing, that the code in README.md and docs/LIBRARY.md is the code of
-# library_example, that the man page and the completions have every tool and
-# option, that the completions work, and that names which collide under a known number cost no more
+# library_example, that include/ninja_explain.h declares what nj_c exports, that the man page and the
+# completions have every tool and option, that the completions work, and that names which collide under a known number cost no more
 # than others. The programs on the library are run too.
 smoke: $(BUILT) $(AFFECTED) $(DRAW) $(KEYS) $(AUDIT)
 	@status=0; \
@@ -62,6 +96,7 @@ smoke: $(BUILT) $(AFFECTED) $(DRAW) $(KEYS) $(AUDIT)
 	python3 scripts/check_models.py || status=1; \
 	python3 scripts/check_specs.py || status=1; \
 	python3 scripts/check_snippets.py || status=1; \
+	python3 scripts/check_header.py || status=1; \
 	python3 scripts/check_words.py $(BUILT) || status=1; \
 	python3 scripts/check_completions.py $(BUILT) || status=1; \
 	python3 scripts/check_flood.py $(BUILT) || status=1; \
@@ -73,6 +108,10 @@ smoke: $(BUILT) $(AFFECTED) $(DRAW) $(KEYS) $(AUDIT)
 	python3 scripts/sweep_$$sweep.py --jobs $(JOBS) $(BUILT) || status=1; \
 	done; \
 	exit $$status
+
+# Runs the library for C and the examples on it beside the program, and on what it must refuse.
+c-test: $(BUILT) $(LIBRARY).so
+	python3 scripts/c_test.py $(BUILT)
 
 # Makes everything that can fail do so once, changes each byte of small projects, runs every tool on
 # 100,000 edges, and runs the program on 100,000 hostile manifests.
@@ -98,7 +137,8 @@ $(SINKS)/out/memory_sinks: $(wildcard crates/*/src/*.rt)
 $(AFFECTED) $(DRAW) $(KEYS) $(AUDIT): $(wildcard crates/*/src/*.rt)
 	cd $(dir $@).. && rt run -- -f /dev/null < /dev/null > /dev/null
 
-# Installs the program that `make` built, its man page, and completions for three shells.
+# Installs the program that `make` built, its man page, and completions for three shells; and the
+# library for C where `make c` built it.
 install:
 	@test -x bin/ninja-explain || \
 	{ echo "there is no bin/ninja-explain to install: prove and build it first, with 'make'" >&2; exit 1; }
@@ -107,11 +147,22 @@ install:
 	install -D -m 644 completions/ninja-explain.bash "$(INSTALLED_BASH)"
 	install -D -m 644 completions/_ninja-explain "$(INSTALLED_ZSH)"
 	install -D -m 644 completions/ninja-explain.fish "$(INSTALLED_FISH)"
+	@if [ -d lib ]; then $(MAKE) install-c; fi
+
+# Installs the library for C with its header.
+install-c:
+	install -D -m 644 include/ninja_explain.h "$(INSTALLED_HEADER)"
+	install -D -m 644 $(LIBRARY).a "$(INSTALLED_LIBRARY).a"
+	install -D -m 755 $(LIBRARY).so.1 "$(INSTALLED_LIBRARY).so.1"
+	ln -sf $(notdir $(LIBRARY)).so.1 "$(INSTALLED_LIBRARY).so"
+	mkdir -p "$(dir $(INSTALLED_PC))"
+	sed 's|@PREFIX@|$(PREFIX)|' include/ninja_explain.pc.in > "$(INSTALLED_PC)"
 
 # Removes what `make install` with the same PREFIX and DESTDIR installed, except folders.
 uninstall:
 	rm -f "$(INSTALLED_PROGRAM)" "$(INSTALLED_PAGE)" "$(INSTALLED_BASH)" "$(INSTALLED_ZSH)" \
-	"$(INSTALLED_FISH)"
+	"$(INSTALLED_FISH)" "$(INSTALLED_HEADER)" "$(INSTALLED_LIBRARY).a" "$(INSTALLED_LIBRARY).so.1" \
+	"$(INSTALLED_LIBRARY).so" "$(INSTALLED_PC)"
 
 clean:
-	rm -rf bin crates/*/out
+	rm -rf bin lib crates/*/out
