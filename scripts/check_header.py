@@ -1,0 +1,157 @@
+#!/usr/bin/env python3
+"""Compares include/ninja_explain.h with the exports of the crate nj_c.
+
+Each export has to be declared with the C types of its parameters, and each declaration has to be an
+export. The numbers of `enum nx_status`, `enum nx_fault` and `enum nx_kind` have to be those that the
+crate gives. Where there is a compiler, the header has to compile as C11 and as C++17 without a
+warning, and so has the program at its top as it stands. Prints what differs, and nothing else. The
+status is 1 if anything differs.
+"""
+
+import re
+import shutil
+import subprocess
+import sys
+import textwrap
+from pathlib import Path
+
+ROOT = Path(__file__).resolve().parent.parent
+HEADER = ROOT / "include/ninja_explain.h"
+SOURCES = ROOT / "crates/nj_c/src"
+
+EXPORT = re.compile(r'^pub extern "C" fn (\w+)\((.*?)\)(?: -> (\w+))?$', re.M | re.S)
+DECLARATION = re.compile(r"^(\w+) (\w+)\(([^)]*)\);", re.M)
+# What is passed to C for a parameter, one type for each argument.
+ARGUMENTS = {
+    "Global": [],
+    "&mut Session": ["nx_session *"],
+    "&[u8]": ["const uint8_t *", "size_t"],
+    "&mut [u8]": ["uint8_t *", "size_t"],
+    "&[usize]": ["const size_t *", "size_t"],
+    "&mut usize": ["size_t *"],
+    "&mut i32": ["int32_t *"],
+    "&mut u64": ["uint64_t *"],
+    "usize": ["size_t"],
+    "u64": ["uint64_t"],
+    "u32": ["uint32_t"],
+    "i32": ["int32_t"],
+}
+# Each enumeration: how its names begin, the file that numbers them, and their type there.
+ENUMERATIONS = {
+    "nx_status": ("NX_", "status.rt", "Status"),
+    "nx_fault": ("NX_FAULT_", "fault_kinds.rt", "Cause"),
+    "nx_kind": ("NX_", "items.rt", "Kind"),
+}
+WARNINGS = ["-Wall", "-Wextra", "-Wpedantic", "-Werror", "-fsyntax-only"]
+LANGUAGES = {"cc": ["-xc", "-std=c11"], "c++": ["-xc++", "-std=c++17"]}
+
+
+def without_comments(text):
+    return re.sub(r"/\*.*?\*/", "", text, flags=re.S)
+
+
+# ---- calls
+
+
+def exported(text):
+    """The exports of a file: for each name the result, and the arguments with their types. An
+    argument that only gives a length has no name."""
+    for name, parameters, result in EXPORT.findall(text):
+        arguments = []
+        for parameter in filter(None, re.split(r",\s*", parameters.strip())):
+            word, kind = re.fullmatch(r"(\w+): (.*)", parameter).groups()
+            types = ARGUMENTS.get(kind, [kind])
+            arguments += zip(types, [word, None])
+        yield name, (ARGUMENTS.get(result, ["void"])[0], arguments)
+
+
+def declared(text):
+    """The same of the header, where every argument has a name."""
+    for result, name, parameters in DECLARATION.findall(without_comments(text)):
+        words = [" ".join(parameter.split()) for parameter in parameters.split(",")]
+        yield name, (result, [re.fullmatch(r"(.*?) ?(\w+)", word).groups() for word in words])
+
+
+def shown(call):
+    result, arguments = call
+    words = ", ".join(f"{kind} {word or 'LENGTH'}" for kind, word in arguments)
+    return f"{result} ({words})"
+
+
+def is_same(call, wanted):
+    """Whether a declaration is that of an export."""
+    named = [(kind, word if of else None) for (kind, word), (_, of) in zip(call[1], wanted[1])]
+    return len(call[1]) == len(wanted[1]) and (call[0], named) == wanted
+
+
+def check_calls(header):
+    exports = {}
+    for file in sorted(SOURCES.rglob("*.rt")):
+        exports.update(exported(file.read_text()))
+    declarations = dict(declared(header))
+    for name in sorted(exports.keys() | declarations.keys()):
+        if name not in declarations:
+            yield f"it does not declare {name}: {shown(exports[name])}"
+        elif name not in exports:
+            yield f"nj_c does not export {name}"
+        elif not is_same(declarations[name], exports[name]):
+            yield f"{name}: {shown(declarations[name])} is not {shown(exports[name])}"
+
+
+# ---- numbers
+
+
+def constant(variant, prefix):
+    """The name in C of a variant."""
+    return prefix + re.sub(r"(?<=[a-z0-9])(?=[A-Z])", "_", variant).upper()
+
+
+def check_numbers(header, name):
+    prefix, file, kind = ENUMERATIONS[name]
+    body = re.search(rf"enum {name} {{(.*?)}};", without_comments(header), re.S)[1]
+    found = dict(re.findall(r"(\w+) = (\d+)", body))
+    arms = re.findall(rf"{kind}::(\w+)(?:\([^)]*\))? => (\d+)", (SOURCES / file).read_text())
+    wanted = {constant(variant, prefix): number for variant, number in arms}
+    for word in sorted(found.keys() | wanted.keys()):
+        if found.get(word) != wanted.get(word):
+            yield f"{word} is {found.get(word)}, and {wanted.get(word)} in {file}"
+
+
+# ---- compiling
+
+
+def example(header):
+    """The program in the first comment of the header."""
+    lines = header.split("*/")[0].replace("\n *", "\n").splitlines()
+    first = lines.index("     #include <ninja_explain.h>")
+    last = lines.index("     }", first)
+    return textwrap.dedent("\n".join(lines[first : last + 1])) + "\n"
+
+
+def refusal(compiler, text):
+    """What a compiler has to say about a text."""
+    words = [compiler, *LANGUAGES[compiler], *WARNINGS, f"-I{HEADER.parent}", "-"]
+    ran = subprocess.run(words, input=text, capture_output=True, text=True)
+    return ran.stderr if ran.returncode or ran.stderr else None
+
+
+def check_compiling(header):
+    for compiler in filter(shutil.which, LANGUAGES):
+        if refused := refusal(compiler, "#include <ninja_explain.h>\n"):
+            yield f"{compiler} does not take it: {refused}"
+    if shutil.which("cc") and (refused := refusal("cc", example(header))):
+        yield f"cc does not take its example: {refused}"
+
+
+def main():
+    header = HEADER.read_text()
+    faults = [*check_calls(header), *check_compiling(header)]
+    for name in ENUMERATIONS:
+        faults += check_numbers(header, name)
+    for fault in faults:
+        print(f"{HEADER.relative_to(ROOT)}: {fault}")
+    return 1 if faults else 0
+
+
+if __name__ == "__main__":
+    sys.exit(main())
