@@ -1,0 +1,660 @@
+/* c_test.py links this with the library for C, and with --wrap for `malloc`, `realloc` and `free`:
+
+       c_calls cases|refused < PROJECTS
+
+   For each project it makes every call of ninja_explain.h on a session that is closed, open,
+   loaded, loaded again, opened again and closed twice: with numbers that no edge or file has,
+   buffers that are too small, null pointers of length 0, and words and marks that mean nothing.
+   Each status has to be one that the header names for the call and the state of the session, a
+   buffer may only be written where a text goes, and after the last close no block of memory may be
+   left. With `refused` it does so again and again, and refuses one allocation after the other,
+   alone and with all after it: a call that allocates may then return NX_OUT_OF_MEMORY too.
+
+   A project is the number of its files, and for each the length of its path, the path, the length
+   of its content and the content; numbers have four bytes, the least significant first. Prints how
+   much was tried, and what is wrong. */
+#include <ninja_explain.h>
+#include <stdio.h>
+#include <stdlib.h>
+#include <string.h>
+
+enum {
+    MOST_ITEMS = 24,
+    MOST_FILES = 4096,
+    MOST_LISTED = 1 << 20,
+    MOST_ROUNDS = 100,
+    MOST_WRONG = 40
+};
+enum { GUARD = 9, FILL = 0xa5 };
+
+/* ---- memory of the library, which may be refused ---- */
+
+void *__real_malloc(size_t size);
+void *__real_realloc(void *old, size_t size);
+void __real_free(void *block);
+
+static size_t asked, refused_at, blocks;
+static int refuses_all_after;
+
+static int is_refused(void)
+{
+    asked++;
+    return refused_at != 0 && (asked == refused_at || (refuses_all_after && asked > refused_at));
+}
+
+void *__wrap_malloc(size_t size)
+{
+    void *block = is_refused() ? NULL : __real_malloc(size);
+    blocks += block != NULL;
+    return block;
+}
+
+void *__wrap_realloc(void *old, size_t size)
+{
+    void *block = is_refused() ? NULL : __real_realloc(old, size);
+    blocks += !old && block;
+    return block;
+}
+
+void __wrap_free(void *block)
+{
+    blocks -= block != NULL;
+    __real_free(block);
+}
+
+/* ---- what is expected ---- */
+
+#define OF(status) (1u << NX_##status)
+
+/* A text that is handed in. */
+struct text {
+    const uint8_t *bytes;
+    size_t length;
+};
+
+struct file {
+    struct text path;
+    struct text content;
+};
+
+static enum { CLOSED, OPEN, LOADED } state;
+static nx_session session;
+static size_t project_number, calls, wrongs;
+
+static void wrong(const char *call, const char *what, long long value)
+{
+    if (wrongs++ < MOST_WRONG)
+        printf("project %zu, allocation %zu: %s: %s %lld\n", project_number, refused_at, call, what,
+               value);
+}
+
+static void expect(int is_right, const char *call, const char *what, long long value)
+{
+    if (!is_right)
+        wrong(call, what, value);
+}
+
+/* Whether a status is one of those. What allocates may run out of memory if that is refused. */
+static int32_t among(const char *call, int32_t status, unsigned statuses)
+{
+    if (refused_at == 0)
+        statuses &= ~OF(OUT_OF_MEMORY);
+    calls++;
+    expect(status >= 0 && status < 32 && (1u << status & statuses), call, "status", status);
+    return status;
+}
+
+/* The statuses of a call that needs an open session, and of one that needs a graph. */
+static unsigned if_open(unsigned statuses)
+{
+    return state == CLOSED ? OF(NOT_OPEN) : statuses;
+}
+
+static unsigned if_loaded(unsigned statuses)
+{
+    return if_open(state == OPEN ? OF(NOT_LOADED) : statuses);
+}
+
+#define ALWAYS(statuses, call) among(#call, call, statuses)
+#define IF_OPEN(statuses, call) among(#call, call, if_open(statuses))
+#define IF_LOADED(statuses, call) among(#call, call, if_loaded(statuses))
+
+/* ---- texts ---- */
+
+typedef int32_t giving(nx_session *, size_t number, uint8_t *buffer, size_t size, size_t *needed);
+
+static struct text variable;
+
+static int32_t give_fault_file(nx_session *of, size_t number, uint8_t *buffer, size_t size,
+                               size_t *needed)
+{
+    (void)number;
+    return nx_fault_file(of, buffer, size, needed);
+}
+
+static int32_t give_fault_line(nx_session *of, size_t number, uint8_t *buffer, size_t size,
+                               size_t *needed)
+{
+    (void)number;
+    return nx_fault_line(of, buffer, size, needed);
+}
+
+static int32_t give_mark(nx_session *of, size_t number, uint8_t *buffer, size_t size,
+                         size_t *needed)
+{
+    (void)number;
+    return nx_page_mark(of, buffer, size, needed);
+}
+
+static int32_t give_variable(nx_session *of, size_t number, uint8_t *buffer, size_t size,
+                             size_t *needed)
+{
+    return nx_variable(of, number, variable.bytes, variable.length, buffer, size, needed);
+}
+
+static uint8_t *given;
+static size_t given_length;
+
+/* Asks for a text with a buffer of this size, which has more behind it. */
+static int32_t ask_text(const char *name, giving *call, size_t number, size_t size,
+                        unsigned statuses)
+{
+    size_t needed = SIZE_MAX, from = 0;
+    memset(given, FILL, given_length + GUARD);
+    int32_t status = among(name, call(&session, number, given, size, &needed), statuses);
+    if (status == NX_OUT_OF_MEMORY)
+        return status;
+    expect(needed == given_length, name, "length", (long long)needed);
+    if (status == NX_DONE)
+        from = needed;
+    for (size_t at = from; at < given_length + GUARD; at++)
+        expect(given[at] == FILL, name, "wrote to byte", (long long)at);
+    return status;
+}
+
+/* Asks for a text with no buffer, and with buffers that are just too small and large enough. If it
+   is given, it is in `given`. */
+static int32_t try_text(const char *name, giving *call, size_t number, unsigned statuses)
+{
+    size_t needed = 0;
+    unsigned with_short = statuses & OF(DONE) ? statuses | OF(SHORT) : statuses;
+    int32_t status = among(name, call(&session, number, NULL, 0, &needed), with_short);
+    if (status != NX_SHORT && status != NX_DONE)
+        return status;
+    expect((status == NX_DONE) == (needed == 0), name, "no buffer, and length", (long long)needed);
+    given_length = needed;
+    given = __real_realloc(given, needed + GUARD);
+    if (!given)
+        abort();
+    unsigned failing = statuses & OF(OUT_OF_MEMORY);
+    if (needed > 0)
+        ask_text(name, call, number, needed - 1, OF(SHORT) | failing);
+    ask_text(name, call, number, needed + 1, OF(DONE) | failing);
+    return ask_text(name, call, number, needed, OF(DONE) | failing);
+}
+
+#define TEXT(needs, call, number, statuses) try_text(#call, call, number, needs(statuses))
+
+/* ---- the fault ---- */
+
+static void try_fault(int there_is_one)
+{
+    int32_t kind = 0;
+    size_t line = 0, column = 0;
+    unsigned either = there_is_one ? OF(DONE) : OF(DONE) | OF(NOTHING);
+    if (IF_OPEN(either, nx_fault_kind(&session, &kind)) == NX_DONE)
+        expect(kind >= NX_FAULT_BAD_BYTE && kind < NX_FAULT_OUT_OF_MEMORY, "nx_fault_kind", "kind",
+               kind);
+    TEXT(if_open, give_fault_line, 0, either | OF(OUT_OF_MEMORY));
+    int32_t file = TEXT(if_open, give_fault_file, 0, OF(DONE) | OF(NOTHING));
+    int32_t place = IF_OPEN(OF(DONE) | OF(NOTHING), nx_fault_place(&session, &line, &column));
+    expect(file == place, "nx_fault_file", "status", file);
+    expect(place != NX_DONE || (line > 0 && column > 0), "nx_fault_place", "line", (long long)line);
+}
+
+/* ---- numbers ---- */
+
+/* Some of the numbers below a count, and then numbers that nothing has. */
+static size_t number_at(size_t index, size_t count)
+{
+    static const size_t unknown[] = {
+        0, 1, (size_t)1 << 31, (size_t)1 << 32, SIZE_MAX / 2, SIZE_MAX
+    };
+    size_t known = count < MOST_ITEMS ? count : MOST_ITEMS;
+    if (index < known)
+        return index < MOST_ITEMS / 2 ? index : count - known + index;
+    size_t more = unknown[index - known];
+    return more < 2 ? count + more : more;
+}
+
+static size_t numbers_of(size_t count)
+{
+    return 6 + (count < MOST_ITEMS ? count : MOST_ITEMS);
+}
+
+/* The statuses of a call that takes a number. */
+static unsigned if_known(size_t number, size_t count, unsigned statuses)
+{
+    return number < count ? statuses : OF(BAD_NUMBER);
+}
+
+/* ---- edges and files ---- */
+
+static size_t edge_count, file_count;
+
+/* Whether an edge is among those that use a file. */
+static int is_user(size_t file, size_t edge)
+{
+    size_t user = 0;
+    for (size_t index = 0; nx_user(&session, file, index, &user) == NX_DONE; index++) {
+        if (user == edge)
+            return 1;
+    }
+    return 0;
+}
+
+static void try_outputs(size_t edge)
+{
+    unsigned each = if_known(edge, edge_count, OF(DONE) | OF(NOTHING));
+    size_t index = 0, file = 0, maker = 0, count = 0;
+    for (; IF_LOADED(each, nx_output(&session, edge, index, &file)) == NX_DONE; index++) {
+        nx_maker(&session, file, &maker);
+        expect(maker == edge, "nx_maker", "edge", (long long)maker);
+    }
+    each = if_known(edge, edge_count, OF(DONE));
+    if (IF_LOADED(each, nx_explicit_outputs(&session, edge, &count)) == NX_DONE)
+        expect(count <= index, "nx_explicit_outputs", "count", (long long)count);
+    each = if_known(edge, edge_count, OF(NOTHING));
+    IF_LOADED(each, nx_output(&session, edge, SIZE_MAX, &file));
+}
+
+static void try_inputs(size_t edge)
+{
+    unsigned each = if_known(edge, edge_count, OF(DONE) | OF(NOTHING));
+    size_t file = 0, plain = 0, count = 0;
+    int32_t kind = 0, before = NX_EXPLICIT;
+    for (size_t index = 0;
+         IF_LOADED(each, nx_input(&session, edge, index, &file, &kind)) == NX_DONE; index++) {
+        expect(before <= kind && kind <= NX_ORDER_ONLY, "nx_input", "kind", kind);
+        expect(index >= MOST_ITEMS || is_user(file, edge), "nx_user", "no edge", (long long)edge);
+        before = kind;
+        plain += kind == NX_EXPLICIT;
+    }
+    for (size_t index = 0; IF_LOADED(each, nx_validation(&session, edge, index, &file)) == NX_DONE;
+         index++)
+        expect(file < file_count, "nx_validation", "file", (long long)file);
+    each = if_known(edge, edge_count, OF(DONE));
+    if (IF_LOADED(each, nx_explicit_inputs(&session, edge, &count)) == NX_DONE)
+        expect(count == plain, "nx_explicit_inputs", "count", (long long)count);
+    each = if_known(edge, edge_count, OF(NOTHING));
+    IF_LOADED(each, nx_input(&session, edge, SIZE_MAX, &file, &kind));
+    IF_LOADED(each, nx_validation(&session, edge, SIZE_MAX, &file));
+}
+
+static void try_edge(size_t edge)
+{
+    static const struct text names[] = {
+        { NULL, 0 },
+        { (const uint8_t *)"in", 2 },
+        { (const uint8_t *)"description", 11 },
+        { (const uint8_t *)"a\0\xff", 3 },
+    };
+    unsigned done = if_known(edge, edge_count, OF(DONE));
+    size_t line = 0, column = 0;
+    int32_t phony = -1;
+    if (IF_LOADED(done, nx_is_phony(&session, edge, &phony)) == NX_DONE)
+        expect(phony == 0 || phony == 1, "nx_is_phony", "value", phony);
+    if (IF_LOADED(done, nx_edge_place(&session, edge, &line, &column)) == NX_DONE)
+        expect(line > 0 && column > 0, "nx_edge_place", "line", (long long)line);
+    TEXT(if_loaded, nx_rule_name, edge, done);
+    TEXT(if_loaded, nx_edge_file, edge, done);
+    int32_t status =
+        TEXT(if_loaded, nx_command, edge, done | (done & OF(DONE) ? OF(OUT_OF_MEMORY) : 0));
+    expect(status != NX_DONE || !phony || given_length == 0, "nx_command", "phony",
+           (long long)edge);
+    for (size_t at = 0; at < sizeof names / sizeof *names; at++) {
+        variable = names[at];
+        TEXT(if_loaded, give_variable, edge, done | (done & OF(DONE) ? OF(OUT_OF_MEMORY) : 0));
+    }
+    try_outputs(edge);
+    try_inputs(edge);
+}
+
+static void try_users(size_t file)
+{
+    unsigned each = if_known(file, file_count, OF(DONE) | OF(NOTHING));
+    size_t edge = 0, next = 0;
+    for (size_t index = 0; IF_LOADED(each, nx_user(&session, file, index, &edge)) == NX_DONE;
+         index++) {
+        expect(next <= edge && edge < edge_count, "nx_user", "edge", (long long)edge);
+        next = edge + 1;
+    }
+    next = 0;
+    for (size_t index = 0;
+         IF_LOADED(each, nx_validation_user(&session, file, index, &edge)) == NX_DONE; index++) {
+        expect(next <= edge && edge < edge_count, "nx_validation_user", "edge", (long long)edge);
+        next = edge + 1;
+    }
+    IF_LOADED(if_known(file, file_count, OF(NOTHING)), nx_user(&session, file, SIZE_MAX, &edge));
+}
+
+static void try_file(size_t file)
+{
+    size_t edge = 0, same = 0;
+    IF_LOADED(if_known(file, file_count, OF(DONE) | OF(NOTHING)), nx_maker(&session, file, &edge));
+    if (TEXT(if_loaded, nx_path, file, if_known(file, file_count, OF(DONE))) == NX_DONE) {
+        IF_LOADED(OF(DONE), nx_file_named(&session, given, given_length, &same));
+        expect(same == file, "nx_file_named", "file", (long long)same);
+        unsigned picked = OF(DONE) | OF(FAULT) | OF(OUT_OF_MEMORY);
+        IF_LOADED(picked, nx_pick_target(&session, given, given_length, &same));
+        given[given_length] = '^';
+        if (IF_LOADED(picked, nx_pick_target(&session, given, given_length + 1, &same)) == NX_FAULT)
+            try_fault(1);
+    }
+    try_users(file);
+}
+
+/* ---- lists ---- */
+
+static size_t listed[MOST_LISTED];
+
+/* Takes what was listed to the list, behind those that are in it. */
+static size_t take_found(size_t count)
+{
+    size_t edge = 0;
+    for (size_t index = 0;
+         IF_OPEN(OF(DONE) | OF(NOTHING), nx_found(&session, index, &edge)) == NX_DONE; index++) {
+        expect(edge < edge_count, "nx_found", "edge", (long long)edge);
+        if (count < MOST_LISTED)
+            listed[count++] = edge;
+    }
+    return count;
+}
+
+/* Walks in pages of a size. All of them are to be what one page without a limit is. */
+static void try_pages(const size_t *targets, size_t target_count, size_t take)
+{
+    unsigned page = OF(DONE) | OF(OUT_OF_MEMORY);
+    if (IF_LOADED(page, nx_page(&session, targets, target_count, NULL, 0, SIZE_MAX)) != NX_DONE)
+        return;
+    size_t whole = take_found(0), count = whole;
+    TEXT(if_open, give_mark, 0, OF(NOTHING));
+    int32_t status = IF_LOADED(page, nx_page(&session, targets, target_count, NULL, 0, take));
+    while (status == NX_DONE) {
+        count = take_found(count);
+        if (TEXT(if_open, give_mark, 0, OF(DONE) | OF(NOTHING)) != NX_DONE)
+            break;
+        status =
+            IF_LOADED(page, nx_page(&session, targets, target_count, given, given_length, take));
+    }
+    if (status != NX_DONE || whole > MOST_LISTED / 2)
+        return;
+    int is_same = count == 2 * whole && memcmp(listed, listed + whole, whole * sizeof *listed) == 0;
+    expect(is_same, "nx_page", "other edges in pages of", (long long)take);
+}
+
+static void try_marks(const size_t *targets, size_t target_count)
+{
+    static char deep[2002];
+    const char *marks[] = { "x",
+                            "start",
+                            "0",
+                            "0.0",
+                            "0.1.0",
+                            "0.",
+                            ".0",
+                            "00",
+                            "0..0",
+                            "v0.0",
+                            "9.9",
+                            "\xff",
+                            "1.0",
+                            "99999999999999999999",
+                            "18446744073709551615.0",
+                            " 0",
+                            deep };
+    for (size_t at = 0; at + 1 < sizeof deep; at++)
+        deep[at] = "0."[at % 2];
+    deep[2001] = 0;
+    for (size_t at = 0; at < sizeof marks / sizeof *marks; at++) {
+        const uint8_t *mark = (const uint8_t *)marks[at];
+        unsigned read = OF(DONE) | OF(BAD_MARK) | OF(OUT_OF_MEMORY);
+        IF_LOADED(read, nx_page(&session, targets, target_count, mark, strlen(marks[at]), 3));
+    }
+    IF_LOADED(OF(BAD_MARK) | OF(OUT_OF_MEMORY),
+              nx_page(&session, targets, target_count, (const uint8_t *)"\0", 1, 3));
+}
+
+static void try_lists(void)
+{
+    size_t targets[MOST_ITEMS], count = 0, file = 0;
+    unsigned each = OF(DONE) | OF(NOTHING);
+    while (count < MOST_ITEMS && IF_LOADED(each, nx_default(&session, count, &file)) == NX_DONE)
+        targets[count++] = file;
+    for (size_t index = 0; IF_LOADED(each, nx_root(&session, index, &file)) == NX_DONE; index++)
+        expect(file < file_count, "nx_root", "file", (long long)file);
+    IF_LOADED(OF(NOTHING), nx_default(&session, SIZE_MAX, &file));
+    IF_LOADED(OF(NOTHING), nx_root(&session, SIZE_MAX, &file));
+    IF_LOADED(OF(DONE) | OF(OUT_OF_MEMORY), nx_page(&session, targets, count, NULL, 0, 0));
+    for (size_t take = 1; take < 4; take++)
+        try_pages(targets, count, take);
+    try_marks(targets, count);
+    IF_LOADED(OF(DONE) | OF(OUT_OF_MEMORY), nx_affected(&session, targets, count));
+    IF_LOADED(OF(DONE) | OF(OUT_OF_MEMORY), nx_affected(&session, NULL, 0));
+    IF_LOADED(OF(DONE) | OF(OUT_OF_MEMORY), nx_page(&session, NULL, 0, NULL, 0, SIZE_MAX));
+    for (size_t at = 0; at < numbers_of(file_count); at++) {
+        size_t number = number_at(at, file_count), edge, last = 0;
+        unsigned known = if_known(number, file_count, OF(DONE)) | OF(OUT_OF_MEMORY);
+        if (IF_LOADED(known, nx_affected(&session, &number, 1)) != NX_DONE)
+            continue;
+        for (size_t index = 0; nx_found(&session, index, &edge) == NX_DONE; index++) {
+            expect(last <= edge && edge < edge_count, "nx_affected", "edge", (long long)edge);
+            last = edge + 1;
+        }
+        IF_LOADED(known, nx_page(&session, &number, 1, NULL, 0, 5));
+    }
+}
+
+static void try_words(void)
+{
+    const char *words[] = { "",     "^",    "a^^", "..",  ".",  "/",         "./a",
+                            "a/..", "\xff", "-",   "a b", "//", "../../../x" };
+    size_t file = 0;
+    for (size_t at = 0; at < sizeof words / sizeof *words; at++) {
+        const uint8_t *word = (const uint8_t *)words[at];
+        size_t length = strlen(words[at]);
+        unsigned picked = OF(DONE) | OF(FAULT) | OF(OUT_OF_MEMORY);
+        if (IF_LOADED(picked, nx_pick_target(&session, word, length, &file)) == NX_FAULT)
+            try_fault(1);
+        IF_LOADED(OF(DONE) | OF(NOTHING), nx_file_named(&session, word, length, &file));
+    }
+    IF_LOADED(OF(FAULT) | OF(OUT_OF_MEMORY), nx_pick_target(&session, NULL, 0, &file));
+    IF_LOADED(OF(DONE) | OF(NOTHING), nx_file_named(&session, NULL, 0, &file));
+}
+
+/* Makes every call that asks. */
+static void ask_all(void)
+{
+    size_t count = 0, edge = 0;
+    edge_count = file_count = 0;
+    IF_LOADED(OF(DONE), nx_edge_count(&session, &edge_count));
+    IF_LOADED(OF(DONE), nx_file_count(&session, &file_count));
+    IF_LOADED(OF(DONE), nx_rule_count(&session, &count));
+    for (size_t at = 0; at < numbers_of(edge_count); at++)
+        try_edge(number_at(at, edge_count));
+    for (size_t at = 0; at < numbers_of(file_count); at++)
+        try_file(number_at(at, file_count));
+    try_fault(0);
+    try_lists();
+    try_words();
+    IF_OPEN(OF(NOTHING), nx_found(&session, SIZE_MAX, &edge));
+    TEXT(if_open, nx_wanted, SIZE_MAX, OF(NOTHING));
+    TEXT(if_open, give_mark, 0, OF(DONE) | OF(NOTHING));
+}
+
+/* ---- sessions ---- */
+
+static struct file files[MOST_FILES];
+static size_t project_files;
+
+#define ADDED (OF(DONE) | OF(OUT_OF_MEMORY))
+
+/* Hands in the file that is wanted. Returns whether that could be done. */
+static int hand_in(void)
+{
+    for (size_t at = 0; at < project_files; at++) {
+        struct file *file = &files[at];
+        if (file->path.length == given_length && memcmp(file->path.bytes, given, given_length) == 0)
+            return IF_OPEN(ADDED, nx_add_file(&session, given, given_length, file->content.bytes,
+                                              file->content.length)) == NX_DONE;
+    }
+    return IF_OPEN(ADDED, nx_add_absent(&session, given, given_length)) == NX_DONE;
+}
+
+static int32_t load_once(const char *main, uint32_t joins)
+{
+    unsigned loaded = OF(DONE) | OF(FAULT) | OF(WANTED) | OF(OUT_OF_MEMORY);
+    const uint8_t *path = (const uint8_t *)main;
+    int32_t status = IF_OPEN(loaded, nx_load(&session, path, main ? strlen(main) : 0, joins));
+    if (state != CLOSED)
+        state = status == NX_DONE ? LOADED : OPEN;
+    if (status == NX_FAULT)
+        try_fault(1);
+    return status;
+}
+
+/* Loads until nothing more is wanted. */
+static int32_t load(const char *main, uint32_t joins)
+{
+    int32_t status = NX_WANTED;
+    for (size_t round = 0; status == NX_WANTED && round < MOST_ROUNDS; round++) {
+        status = load_once(main, joins);
+        if (status != NX_WANTED)
+            break;
+        size_t index = 0;
+        while (TEXT(if_open, nx_wanted, index, OF(DONE) | OF(NOTHING)) == NX_DONE) {
+            if (!hand_in())
+                return NX_OUT_OF_MEMORY;
+            index++;
+        }
+        expect(index > 0, "nx_wanted", "paths", 0);
+    }
+    expect(status != NX_WANTED, "nx_load", "wants more after rounds", MOST_ROUNDS);
+    return status;
+}
+
+/* The life of a session. */
+static void live(void)
+{
+    static const uint8_t not_utf8[] = "\xff";
+    state = CLOSED;
+    IF_OPEN(0, nx_add_file(&session, NULL, 0, NULL, 0));
+    IF_OPEN(0, nx_add_absent(&session, NULL, 0));
+    load_once("build.ninja", 0);
+    ask_all();
+    ALWAYS(OF(DONE), nx_close(&session));
+    if (ALWAYS(OF(DONE) | OF(OUT_OF_MEMORY), nx_open(&session, 7)) == NX_DONE)
+        state = OPEN;
+    ask_all();
+    IF_OPEN(ADDED, nx_add_absent(&session, NULL, 0));
+    load_once(NULL, 0);
+    IF_OPEN(ADDED, nx_add_file(&session, NULL, 0, NULL, 0));
+    load_once("", 1);
+    ask_all();
+    for (uint32_t joins = 0; joins < 3; joins++) {
+        int32_t status = load("build.ninja", joins);
+        ask_all();
+        int32_t again = load("build.ninja", joins);
+        int is_same = again == status || status == NX_OUT_OF_MEMORY || again == NX_OUT_OF_MEMORY;
+        expect(is_same, "nx_load", "another status", again);
+    }
+    IF_OPEN(OF(NOT_UTF8), nx_load(&session, not_utf8, 1, 0));
+    if (state != CLOSED)
+        state = OPEN;
+    ask_all();
+    load("build.ninja", 0);
+    if (ALWAYS(OF(DONE) | OF(OUT_OF_MEMORY), nx_open(&session, 8)) == NX_DONE)
+        state = OPEN;
+    ask_all();
+    load("build.ninja", 0);
+    ALWAYS(OF(DONE), nx_close(&session));
+    state = CLOSED;
+    expect(blocks == 0, "nx_close", "blocks left", (long long)blocks);
+    ALWAYS(OF(DONE), nx_close(&session));
+    ask_all();
+}
+
+/* Refuses each allocation in turn. Returns how many. */
+static size_t live_refused(void)
+{
+    size_t refused = 0;
+    for (refuses_all_after = 0; refuses_all_after < 2; refuses_all_after++) {
+        refused_at = 0;
+        do {
+            refused_at++;
+            asked = 0;
+            live();
+        } while (asked >= refused_at);
+        refused += refused_at - 1;
+    }
+    refused_at = 0;
+    return refused;
+}
+
+/* ---- projects ---- */
+
+static int read_number(size_t *number)
+{
+    uint8_t bytes[4];
+    if (fread(bytes, 1, 4, stdin) != 4)
+        return 0;
+    *number = bytes[0] | (size_t)bytes[1] << 8 | (size_t)bytes[2] << 16 | (size_t)bytes[3] << 24;
+    return 1;
+}
+
+/* Text in a block of its own, so that a read beyond its end is found. */
+static struct text read_text(void)
+{
+    struct text text = { NULL, 0 };
+    uint8_t *bytes = NULL;
+    if (!read_number(&text.length))
+        abort();
+    if (text.length > 0 && !(bytes = __real_malloc(text.length)))
+        abort();
+    if (fread(bytes, 1, text.length, stdin) != text.length)
+        abort();
+    text.bytes = bytes;
+    return text;
+}
+
+static int read_project(void)
+{
+    for (size_t at = 0; at < project_files; at++) {
+        __real_free((void *)files[at].path.bytes);
+        __real_free((void *)files[at].content.bytes);
+    }
+    if (!read_number(&project_files) || project_files > MOST_FILES) {
+        project_files = 0;
+        return 0;
+    }
+    for (size_t at = 0; at < project_files; at++) {
+        files[at].path = read_text();
+        files[at].content = read_text();
+    }
+    return 1;
+}
+
+int main(int count, char **words)
+{
+    int refuses = count == 2 && strcmp(words[1], "refused") == 0;
+    size_t refused = 0;
+    for (; read_project(); project_number++) {
+        if (refuses)
+            refused += live_refused();
+        else
+            live();
+    }
+    __real_free(given);
+    printf("%zu projects, %zu calls, %zu allocations refused\n", project_number, calls, refused);
+    return wrongs != 0;
+}
