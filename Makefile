@@ -110,8 +110,8 @@ smoke: $(BUILT) $(AFFECTED) $(DRAW) $(KEYS) $(AUDIT)
 	exit $$status
 
 # Runs the library for C and the examples on it beside the program, and on what it must refuse.
-c-test: $(BUILT) $(LIBRARY).so
-	python3 scripts/c_test.py $(BUILT)
+c-test: $(BUILT) $(AFFECTED) $(LIBRARY).so
+	python3 scripts/c_test.py --jobs $(JOBS) $(BUILT) $(AFFECTED)
 
 # Makes everything that can fail do so once, changes each byte of small projects, runs every tool on
 # 100,000 edges, and runs the program on 100,000 hostile manifests.

@@ -119,7 +119,7 @@ static unsigned if_loaded(unsigned statuses)
 #define IF_OPEN(statuses, call) among(#call, call, if_open(statuses))
 #define IF_LOADED(statuses, call) among(#call, call, if_loaded(statuses))
 
-/* ---- texts ---- */
+/* ---- strings that are given ---- */
 
 typedef int32_t giving(nx_session *, size_t number, uint8_t *buffer, size_t size, size_t *needed);
 
@@ -584,6 +584,20 @@ static void live(void)
     ask_all();
 }
 
+/* The life of a session that is asked once, while memory is refused. */
+static void live_briefly(void)
+{
+    state = CLOSED;
+    if (ALWAYS(OF(DONE) | OF(OUT_OF_MEMORY), nx_open(&session, 7)) == NX_DONE)
+        state = OPEN;
+    load("build.ninja", 1);
+    ask_all();
+    load("build.ninja", 1);
+    ALWAYS(OF(DONE), nx_close(&session));
+    state = CLOSED;
+    expect(blocks == 0, "nx_close", "blocks left", (long long)blocks);
+}
+
 /* Refuses each allocation in turn. Returns how many. */
 static size_t live_refused(void)
 {
@@ -593,7 +607,7 @@ static size_t live_refused(void)
         do {
             refused_at++;
             asked = 0;
-            live();
+            live_briefly();
         } while (asked >= refused_at);
         refused += refused_at - 1;
     }

@@ -4,7 +4,7 @@
 Each export has to be declared with the C types of its parameters, and each declaration has to be an
 export. The numbers of `enum nx_status`, `enum nx_fault` and `enum nx_kind` have to be those that the
 crate gives. Where there is a compiler, the header has to compile as C11 and as C++17 without a
-warning, and so has the program at its top as it stands. Prints what differs, and nothing else. The
+warning, and so has the program at its top. Prints what differs, and nothing else. The
 status is 1 if anything differs.
 """
 
@@ -129,7 +129,7 @@ def example(header):
 
 
 def refusal(compiler, text):
-    """What a compiler has to say about a text."""
+    """The words of a compiler about a text, or None if it takes it."""
     words = [compiler, *LANGUAGES[compiler], *WARNINGS, f"-I{HEADER.parent}", "-"]
     ran = subprocess.run(words, input=text, capture_output=True, text=True)
     return ran.stderr if ran.returncode or ran.stderr else None

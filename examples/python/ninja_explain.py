@@ -184,7 +184,7 @@ class Graph:
         Raises the first Fault, or OSError if a file is there and cannot be read."""
         graph = cls()
         while graph._call("nx_load", *_bytes(path), joins_dyndeps) == WANTED:
-            for wanted in list(graph._texts("nx_wanted")):
+            for wanted in list(graph._strings("nx_wanted")):
                 graph._hand_in(wanted, folder)
         return graph
 
@@ -220,7 +220,7 @@ class Graph:
         return (File(self, number) for number in range(self._count("nx_file_count")))
 
     def defaults(self):
-        """The files of the `default` lines, or the roots if there is no such line."""
+        """The files of the `default` lines, or the roots where no such line is."""
         return list(self._items(File, "nx_default"))
 
     def roots(self):
@@ -283,8 +283,8 @@ class Graph:
             yield kind(self, number.value)
             index += 1
 
-    def _texts(self, name):
-        """The texts that a call gives by their index."""
+    def _strings(self, name):
+        """What a call gives by its index, as strings."""
         index = 0
         while (text := self._optional_text(name, index)) is not None:
             yield text
@@ -294,7 +294,7 @@ class Graph:
         return self._optional_text(name, *arguments) or ""
 
     def _optional_text(self, name, *arguments):
-        """The text that a call gives, or None if there is nothing."""
+        """What a call gives, as a string, or None if there is nothing."""
         length = c_size_t()
         while True:
             size = len(self._buffer)

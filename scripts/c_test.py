@@ -1,0 +1,408 @@
+#!/usr/bin/env python3
+"""Tests the library for C in lib/: c_test.py [--cases N] PROGRAM AFFECTED_TESTS
+
+Both examples on the library, examples/c and examples/python, have to give what the program gives: on
+examples/project, on what CMake writes for examples/cmake, and on a manifest of 2,000 included files;
+whole, in pages, and where there is a fault. c_calls.c makes every call on N manifests with changes
+(strangers.py makes them), and while allocations are refused. Where valgrind is installed, it may
+find nothing in the C example, nor in some of these cases.
+
+Prints how much was tried, and what is wrong. The status is 1 if anything is wrong.
+"""
+
+import json
+import os
+import random
+import re
+import shutil
+import subprocess
+import sys
+import tempfile
+from functools import partial
+from pathlib import Path
+
+import check_header
+import sweeps
+from strangers import Maker
+from sweeps import DONE, FAULT, MAIN, PROJECTS, USAGE
+
+ROOT = sweeps.SCRIPTS.parent
+LIBRARY = ROOT / "lib/libninja_explain.so.1"
+ARCHIVE = ROOT / "lib/libninja_explain.a"
+PYTHON = ROOT / "examples/python"
+os.environ["NINJA_EXPLAIN_LIBRARY"] = str(LIBRARY)
+sys.path.insert(0, str(PYTHON))
+sys.dont_write_bytecode = True
+import ninja_explain  # noqa: E402
+from ninja_explain import Graph  # noqa: E402
+
+COMPILER = ["cc", "-std=c11", "-Wall", "-Wextra", "-Werror", "-O1", "-g", f"-I{ROOT / 'include'}"]
+WRAPPED = ["-Wl,--wrap=malloc", "-Wl,--wrap=realloc", "-Wl,--wrap=free"]
+VALGRIND = ["valgrind", "-q", "--leak-check=full", "--show-leak-kinds=all"]
+VALGRIND += ["--errors-for-leak-kinds=all", "--error-exitcode=9"]
+COMMANDS = ["-t", "commands"]
+FILES, PER_GROUP = 2000, 40
+# How many projects a run of c_calls.c takes, how many of them below valgrind, and how many words
+# `query` gets.
+TASK, UNDER_VALGRIND, PER_QUERY = 50, 6, 500
+REFUSED = ["dyndep file", "response file", "validation", "cycle", "generated"]
+KINDS = dict(re.findall(r"NX_FAULT_(\w+) = (\d+)", check_header.HEADER.read_text()))
+
+RULE = "rule r\n  command = c\n"
+POOL = "pool p\n  depth = 1\n"
+# Manifests with a fault of each kind, and dyndep files with one, which are joined.
+FAULTS = {
+    "BAD_BYTE": "x = \0\n",
+    "TAB": "rule r\n\tcommand = c\n",
+    "BAD_ESCAPE": "x = $!\n",
+    "EXPECTED": "build a\n",
+    "UNEXPECTED_INDENT": "  x = 1\n",
+    "MISSING_COMMAND": "rule r\n",
+    "RSP_PAIR": f"{RULE}  rspfile = f\n",
+    "UNKNOWN_KEY": f"{POOL}  x = 1\n",
+    "MISSING_DEPTH": "pool p\n",
+    "EMPTY_PATH": "build $x: phony\n",
+    "BAD_DEPTH": "pool p\n  depth = x\n",
+    "DUPLICATE_RULE": RULE + RULE,
+    "DUPLICATE_POOL": POOL + POOL,
+    "VERSION_TOO_NEW": "ninja_required_version = 1.13\n",
+    "MISSING": "x = 1\nsubninja nothing\n",
+    "PATH_NOT_TEXT": b"include \xff\n",
+    "TOO_DEEP": f"include {MAIN}\n",
+    "UNKNOWN_RULE": "build a: r\n",
+    "TWO_MAKERS": "build \xe9 \xe9: phony\n".encode("latin-1"),
+    "UNKNOWN_TARGET": "default a\n",
+    "RULE_VARIABLE_CYCLE": "rule r\n  command = $command\nbuild a: r\n",
+    "UNKNOWN_POOL": f"{RULE}build a: r\n  pool = p\n",
+    "DYNDEP_NOT_INPUT": f"{RULE}build a: r\n  dyndep = d\n",
+    "CYCLE": "build a: phony b\nbuild b: phony a\n",
+}
+DYNDEP_FAULTS = {
+    "DYNDEP_VERSION": "build a: dyndep\n",
+    "DYNDEP_SHAPE": "ninja_dyndep_version = 1\nbuild a: r\n",
+    "DYNDEP_NO_STATEMENT": "ninja_dyndep_version = 1\n",
+    "DYNDEP_TWICE": "ninja_dyndep_version = 1\nbuild a: dyndep\nbuild a: dyndep\n",
+    "DYNDEP_EXTRA": "ninja_dyndep_version = 1\nbuild a: dyndep\nbuild b: dyndep\n",
+}
+BOUND = f"{RULE}build a: r i || d\n  dyndep = d\n"
+
+
+class Tests:
+    """What was built for the tests, and what was found."""
+
+    def __init__(self, folder, program, affected, cases):
+        self.sweep, self.folder = sweeps.Sweep("c_test"), Path(folder)
+        self.program, self.affected = sweeps.Program(program), sweeps.Program(affected)
+        self.cases = cases
+        source, driver = ROOT / "examples/c/commands.c", sweeps.SCRIPTS / "c_calls.c"
+        self.static = self.compiled("static", source, ARCHIVE)
+        self.shared = self.compiled("shared", source, LIBRARY)
+        self.driver = self.compiled("driver", driver, ARCHIVE, *WRAPPED)
+
+    def compiled(self, name, *words):
+        path = self.folder / name
+        subprocess.run([*COMPILER, *words, "-o", path], check=True)
+        return sweeps.Program(path)
+
+    def expect(self, kind, name, found, wanted):
+        """Counts a comparison, and keeps a difference."""
+        wrong = f"{name}: {shown(found)} is not {shown(wanted)}"
+        self.sweep.take({kind: 1}, [wrong] if found != wanted else [])
+
+
+def shown(value):
+    text = repr(value)
+    return text if len(text) < 400 else f"{text[:400]}.."
+
+
+# ---- names
+
+
+def exported_names():
+    words = ["nm", "--dynamic", "--defined-only", "--format=posix", str(LIBRARY)]
+    lines = subprocess.run(words, stdout=subprocess.PIPE, text=True, check=True).stdout
+    return sorted(line.split()[0].split("@")[0] for line in lines.splitlines())
+
+
+def try_names(tests):
+    header = check_header.HEADER.read_text()
+    declared = sorted(dict(check_header.declared(header)))
+    found = [name for name in exported_names() if name not in ("NX_1",)]
+    tests.expect("comparisons", "nm", found, declared)
+    (tests.folder / "example.c").write_text(check_header.example(header))
+    example = tests.compiled("example", tests.folder / "example.c", ARCHIVE)
+    wanted = sweeps.Ending(DONE, b"cc -c a.c -o a.o\n", b"")
+    tests.expect("comparisons", "the header's example", example.run([], tests.folder), wanted)
+
+
+# ---- commands
+
+
+def plain(ending):
+    """How a run of the program ends, with a fault that has no place as its text alone."""
+    return ending._replace(error=ending.error.removeprefix(b"ninja-explain: "))
+
+
+def try_commands(tests, name, folder, words):
+    """Compares whole commands, by C and by Python."""
+    wanted = tests.program.run([*COMMANDS, *words], folder)
+    for example in tests.static, tests.shared:
+        tests.expect("comparisons", f"{name}, {words}", example.run(words, folder), plain(wanted))
+    with Graph.load(folder=folder) as graph:
+        targets = [graph.target(word) for word in words] if words else graph.defaults()
+        lines = "".join(f"{edge.command}\n" for edge in graph.needed(targets))
+    tests.expect("comparisons", f"{name}, {words}, Python", encoded(lines), wanted.output)
+    return wanted.output
+
+
+def encoded(text):
+    return text.encode("utf-8", "surrogateescape")
+
+
+def try_pages(tests, name, folder, words, size):
+    """Compares pages with those of the program, which begin at its mark, and joins them."""
+    mark, pages, wanted = [], [], tests.program.run([*COMMANDS, *words], folder).output
+    while mark is not None:
+        options = ["--take", str(size), *mark, *words]
+        page = tests.shared.run(options, folder)
+        same = tests.program.run([*COMMANDS, *options], folder)
+        tests.expect("pages", f"{name}, {options}", page, same)
+        pages.append(page.output)
+        found = re.fullmatch(rb"mark (.*)\n", page.error)
+        mark = ["--resume", found[1].decode()] if found else None
+    tests.expect("comparisons", f"{name}, pages of {size}", b"".join(pages), wanted)
+
+
+def pages_of(graph, targets, size):
+    """All pages, by Python."""
+    page = graph.page(targets, size)
+    yield page
+    while page.mark is not None:
+        page = graph.page(targets, size, page.mark)
+        yield page
+
+
+# ---- facts
+
+
+def query(graph, word):
+    """What the tool `query` writes about a file."""
+    file, signs = graph.target(word), ["", "| ", "|| "]
+    yield f"{file.path}:"
+    if maker := file.maker:
+        yield f"  input: {maker.rule}"
+        yield from (f"    {signs[kind]}{input.path}" for input, kind in maker.inputs)
+        checks = [f"    {validation.path}" for validation in maker.validations]
+        yield from ["  validations:", *checks] if checks else []
+    yield "  outputs:"
+    yield from (f"    {output.path}" for user in file.users for output in user.outputs)
+    users = list(file.validation_users)
+    yield from ["  validation for:"] if users else []
+    yield from (f"    {output.path}" for user in users for output in user.outputs)
+
+
+def try_facts(tests, name, folder):
+    """Compares what is known of each file and edge."""
+    with Graph.load(folder=folder) as graph:
+        words = [file.path for file in graph.files]
+        for at in range(0, len(words), PER_QUERY):
+            some = words[at : at + PER_QUERY]
+            lines = [line for word in some for line in query(graph, word)]
+            ran = tests.program.run(["-t", "query", *some], folder)
+            text = "".join(f"{line}\n" for line in lines)
+            tests.expect("comparisons", f"{name}, query", encoded(text), ran.output)
+        rules = [f"{file.path}: {edge.rule}\n" for edge in graph.edges for file in edge.outputs]
+        ran = tests.program.run(["-t", "targets", "all"], folder)
+        tests.expect("comparisons", f"{name}, targets", encoded("".join(rules)), ran.output)
+        roots = [line.split(b":")[0] for line in tests.program.run(["-t", "targets"], folder).output.splitlines() if line[:1] != b" "]
+        tests.expect("comparisons", f"{name}, roots", [encoded(file.path) for file in graph.roots()], roots)
+        ran = tests.program.run(["-t", "compdb", "--directory", "/w"], folder)
+        database = list(ninja_explain.compdb(graph, "/w"))
+        tests.expect("comparisons", f"{name}, compdb", database, json.loads(ran.output))
+        same = [graph.file(word).number for word in words]
+        tests.expect("comparisons", f"{name}, paths", same, list(range(len(words))))
+        for size in 1, 3, 1000:
+            edges = [edge for page in pages_of(graph, graph.defaults(), size) for edge in page.edges]
+            needed = graph.needed(graph.defaults())
+            tests.expect("comparisons", f"{name}, pages of {size}, Python", edges, needed)
+
+
+def try_affected(tests, folder, words, paths):
+    """Compares affected.py with crates/affected_tests."""
+    given = "".join(f"{path}\n" for path in paths).encode()
+    python = sweeps.Program(sys.executable)
+    found = python.run([str(PYTHON / "affected.py"), *words], folder, given)
+    wanted = tests.affected.run(words, folder, given)
+    tests.expect("comparisons", f"affected {words} {paths[:5]}", found, wanted)
+
+
+# ---- projects
+
+
+def many_files():
+    """A main file that includes 50 files, each of which includes 39 more."""
+    groups = range(FILES // PER_GROUP)
+    opening = [f"{'include' if group % 3 else 'subninja'} g{group}/0.ninja\n" for group in groups]
+    files = {MAIN: f"x = top\nrule mk\n  command = mk $x $in $out\n{''.join(opening)}"}
+    for group in groups:
+        others = [f"include g{group}/{place}.ninja\n" for place in range(1, PER_GROUP)]
+        files[f"g{group}/0.ninja"] = f"x = $x.{group}\n{''.join(others)}"
+        for place in range(1, PER_GROUP):
+            out, before = f"out/{group}.{place}", f"out/{group}.{place - 1}"
+            needed = f"| {before} || order.{group}" if place > 1 else f"|| order.{group}"
+            files[f"g{group}/{place}.ninja"] = (
+                f"build {out} | {out}.d: mk src/{group}.{place} {needed} |@ {out}.check\n"
+                f"build {out}.check: mk {out}\n  x = check\n"
+            )
+        files[f"g{group}/0.ninja"] += f"build order.{group}: phony common\n"
+    return {name: text.encode() for name, text in files.items()}
+
+
+def try_project(tests, name, folder, words, sizes):
+    whole = try_commands(tests, name, folder, [])
+    for word in words:
+        try_commands(tests, name, folder, [word])
+    for size in sizes:
+        try_pages(tests, name, folder, [], size)
+    try_facts(tests, name, folder)
+    return whole
+
+
+def try_projects(tests):
+    project = sweeps.EXAMPLES / "project"
+    try_project(tests, "project", project, ["test", "main.c^", "./out//count"], [1, 2, 3, 4, 5, 9])
+    changed = ["text/lines.c", "README.md", "./main.c", "text/words.c"]
+    for words in [], ["--rule", "check"], ["--prefix", "out/"], ["--source-dir", "text/.."]:
+        try_affected(tests, project, words, changed)
+    many = tests.folder / "many"
+    sweeps.write_files(many, many_files())
+    lines = try_project(tests, "2,000 files", many, ["out/7.20", "out/3.9.check"], [97, 1900, 3899])
+    tests.expect("comparisons", "2,000 files, commands", lines.count(b"\n") > 1900, True)
+    try_affected(tests, many, [], ["src/1.1", "common", "src/none", "out/1.1"])
+    if shutil.which("cmake") and shutil.which("ninja"):
+        build = Path(os.path.realpath(tests.folder)) / "build"
+        words = ["cmake", "-G", "Ninja", "-S", str(sweeps.EXAMPLES / "cmake"), "-B", str(build)]
+        subprocess.run(words, stdout=subprocess.DEVNULL, check=True)
+        try_project(tests, "CMake", build, ["count", "text"], [1, 2, 3])
+        try_affected(tests, build, ["--source-dir", str(sweeps.EXAMPLES / "cmake")], ["src/words.c"])
+
+
+# ---- faults
+
+
+def fault_of(folder, joins):
+    """The first fault of a load: its kind, its file, line and column, and its text."""
+    try:
+        Graph.load(folder=folder, joins_dyndeps=joins)
+    except ninja_explain.Fault as fault:
+        return fault.kind, (fault.file, fault.line, fault.column), str(fault)
+    return None
+
+
+def try_fault(tests, kind, files, joins):
+    folder = tests.folder / "faults"
+    shutil.rmtree(folder, ignore_errors=True)
+    sweeps.write_files(folder, {name: sweeps.as_bytes(text) for name, text in files.items()})
+    options = ["--dyndep"] if joins else []
+    line = plain(tests.program.run([*options, *COMMANDS], folder)).error.rstrip(b"\n")
+    text = line.decode("utf-8", "surrogateescape")
+    file, row, column, _ = re.fullmatch(r"(.*?):(\d+):(\d+): (.*)", text, re.S).groups()
+    wanted = int(KINDS[kind]), (file, int(row), int(column)), text
+    tests.expect("faults", f"fault {kind}", fault_of(folder, joins), wanted)
+    if not joins:
+        ending = sweeps.Ending(FAULT, b"", line + b"\n")
+        tests.expect("faults", f"fault {kind}, C", tests.static.run([], folder), ending)
+
+
+def try_faults(tests):
+    for kind, text in FAULTS.items():
+        try_fault(tests, kind, {MAIN: text}, False)
+    for kind, text in DYNDEP_FAULTS.items():
+        try_fault(tests, kind, {MAIN: BOUND, "d": text}, True)
+    project = sweeps.EXAMPLES / "project"
+    for words in ["nothing"], ["out/count^"], [""]:
+        ran = plain(tests.program.run([*COMMANDS, *words], project))
+        tests.expect("faults", f"target {words}", tests.static.run(words, project), ran)
+    for words in ["--resume", "x"], ["--resume", "9.9"]:
+        ending = sweeps.Ending(FAULT, b"", b"commands: bad mark\n")
+        tests.expect("faults", f"{words}", tests.static.run(words, project), ending)
+    for words in ["--take", "x"], ["--nothing"]:
+        tests.expect("faults", f"{words}", tests.static.run(words, project).status, USAGE)
+
+
+# ---- every call
+
+
+def stream(files):
+    """A project as c_calls.c reads it."""
+    parts = [len(files).to_bytes(4, "little")]
+    for name, content in files.items():
+        for part in name.encode(), content:
+            parts += [len(part).to_bytes(4, "little"), part]
+    return b"".join(parts)
+
+
+def changed(maker, seed):
+    maker.chance = random.Random(seed)
+    return maker.changed()
+
+
+def run_driver(driver, task):
+    """Runs c_calls.c on some projects. Returns the counts, and what is wrong."""
+    name, mode, valgrind, given = task
+    words = [*VALGRIND, driver.path, mode] if valgrind else [driver.path, mode]
+    how = {"stdout": subprocess.PIPE, "stderr": subprocess.STDOUT}
+    ran = subprocess.run(words, input=given, **how)
+    lines = ran.stdout.decode(errors="replace").splitlines()
+    counts = re.fullmatch(r"(\d+) projects, (\d+) calls, (\d+) allocations refused", lines[-1])
+    wrong = [f"{name}: {line}" for line in (lines[:-1] if counts else lines)]
+    if ran.returncode and not wrong:
+        wrong = [f"{name}: status {ran.returncode}"]
+    kinds = "projects", "calls", "allocations refused"
+    if valgrind:
+        kinds = "projects under valgrind", "calls under valgrind", "allocations refused"
+    found = dict(zip(kinds, map(int, counts.groups()))) if counts else {}
+    return {kind: count for kind, count in found.items() if count}, wrong
+
+
+def driver_tasks(tests):
+    maker, has_valgrind = Maker(), shutil.which("valgrind")
+    for at in range(0, tests.cases, TASK):
+        seeds = range(at, min(at + TASK, tests.cases))
+        given = b"".join(stream(changed(maker, seed)) for seed in seeds)
+        yield f"seeds {at}..", "cases", False, given
+    for name in REFUSED:
+        yield name, "refused", False, stream(PROJECTS[name].files)
+    for seed in range(UNDER_VALGRIND if has_valgrind else 0):
+        yield f"seed {seed}, valgrind", "cases", True, stream(changed(maker, seed))
+
+
+def try_valgrind(tests):
+    """Runs the C example under valgrind."""
+    project = sweeps.EXAMPLES / "project"
+    for words in [], ["--take", "2", "test"], ["--resume", "9"], ["nothing"], ["-f", "nothing"]:
+        wanted = tests.static.run(words, project)
+        example = sweeps.Program(shutil.which("valgrind"))
+        found = example.run([*VALGRIND[1:], tests.static.path, *words], project)
+        tests.expect("runs under valgrind", f"valgrind {words}", found, wanted)
+
+
+def main():
+    parser = sweeps.parser_of(__doc__.split("\n")[0])
+    parser.add_argument("affected", help="the built program affected_tests")
+    parser.add_argument("--cases", type=int, default=1000, help="how many changed manifests")
+    words = parser.parse_args()
+    with tempfile.TemporaryDirectory() as folder:
+        tests = Tests(folder, words.program, words.affected, words.cases)
+        try_names(tests)
+        try_projects(tests)
+        try_faults(tests)
+        if shutil.which("valgrind"):
+            try_valgrind(tests)
+        run = partial(run_driver, tests.driver)
+        sweeps.in_parallel(tests.sweep, words.jobs, run, driver_tasks(tests))
+        return tests.sweep.end()
+
+
+if __name__ == "__main__":
+    sys.exit(main())
