@@ -174,7 +174,7 @@ class Graph:
     """A loaded manifest. `close` frees it, and so does the end of a `with` block or of its life."""
 
     def __init__(self):
-        self._session = Session(None)
+        self._session = byref(Session(None))
         self._buffer = ctypes.create_string_buffer(256)
         self._call("nx_open", int.from_bytes(os.urandom(8), "little"))
 
@@ -198,7 +198,7 @@ class Graph:
             self._call("nx_add_file", *_bytes(path), content, len(content))
 
     def close(self):
-        library.nx_close(byref(self._session))
+        library.nx_close(self._session)
 
     def __enter__(self):
         return self
@@ -259,7 +259,7 @@ class Graph:
 
     def _call(self, name, *arguments):
         """Makes a call. Returns its status, or raises what that means."""
-        status = getattr(library, name)(byref(self._session), *arguments)
+        status = getattr(library, name)(self._session, *arguments)
         if status in (DONE, NOTHING, SHORT, WANTED):
             return status
         if status == FAULT:
