@@ -1,11 +1,11 @@
 #!/usr/bin/env python3
 """Tests the library for C in lib/: c_test.py [--cases N] PROGRAM AFFECTED_TESTS
 
-Both examples on the library, examples/c and examples/python, have to give what the program gives: on
-examples/project, on what CMake writes for examples/cmake, and on a manifest of 2,000 included files;
-whole, in pages, and where there is a fault. c_calls.c makes every call on N manifests with changes
-(strangers.py makes them), and while allocations are refused. Where valgrind is installed, it may
-find nothing in the C example, nor in some of these cases.
+Both examples on the library, examples/c and examples/python, have to give what the program gives:
+on examples/project, on what CMake writes for examples/cmake, and on a manifest of 2,000 included
+files; whole, in pages, and where there is a fault. c_calls.c makes every call on N manifests with
+changes (strangers.py makes them), and while allocations are refused. Where valgrind is installed,
+it may find nothing in the C example, nor in some of these cases.
 
 Prints how much was tried, and what is wrong. The status is 1 if anything is wrong.
 """
@@ -45,6 +45,7 @@ FILES, PER_GROUP = 2000, 40
 # How many projects a run of c_calls.c takes, how many of them below valgrind, and how many words
 # `query` gets.
 TASK, UNDER_VALGRIND, PER_QUERY = 50, 6, 500
+AROUND = 50
 REFUSED = ["dyndep file", "response file", "validation", "cycle", "generated"]
 KINDS = dict(re.findall(r"NX_FAULT_(\w+) = (\d+)", check_header.HEADER.read_text()))
 
@@ -96,7 +97,7 @@ class Tests:
         self.cases = cases
         source, driver = ROOT / "examples/c/commands.c", sweeps.SCRIPTS / "c_calls.c"
         self.static = self.compiled("static", source, ARCHIVE)
-        self.shared = self.compiled("shared", source, LIBRARY)
+        self.shared = self.compiled("shared", source, LIBRARY, f"-Wl,-rpath,{LIBRARY.parent}")
         self.driver = self.compiled("driver", driver, ARCHIVE, *WRAPPED)
 
     def compiled(self, name, *words):
@@ -106,13 +107,15 @@ class Tests:
 
     def expect(self, kind, name, found, wanted):
         """Counts a comparison, and keeps a difference."""
-        wrong = f"{name}: {shown(found)} is not {shown(wanted)}"
-        self.sweep.take({kind: 1}, [wrong] if found != wanted else [])
+        wrong = [] if found == wanted else [f"{name}: {difference(repr(found), repr(wanted))}"]
+        self.sweep.take({kind: 1}, wrong)
 
 
-def shown(value):
-    text = repr(value)
-    return text if len(text) < 400 else f"{text[:400]}.."
+def difference(found, wanted):
+    """Where two strings differ first, with some of both."""
+    start = max(len(os.path.commonprefix([found, wanted])) - AROUND, 0)
+    end = start + 4 * AROUND
+    return f"from character {start}, {found[start:end]!r} is not {wanted[start:end]!r}"
 
 
 # ---- names
@@ -127,8 +130,7 @@ def exported_names():
 def try_names(tests):
     header = check_header.HEADER.read_text()
     declared = sorted(dict(check_header.declared(header)))
-    found = [name for name in exported_names() if name not in ("NX_1",)]
-    tests.expect("comparisons", "nm", found, declared)
+    tests.expect("comparisons", "nm", exported_names(), declared)
     (tests.folder / "example.c").write_text(check_header.example(header))
     example = tests.compiled("example", tests.folder / "example.c", ARCHIVE)
     wanted = sweeps.Ending(DONE, b"cc -c a.c -o a.o\n", b"")
@@ -214,16 +216,18 @@ def try_facts(tests, name, folder):
         rules = [f"{file.path}: {edge.rule}\n" for edge in graph.edges for file in edge.outputs]
         ran = tests.program.run(["-t", "targets", "all"], folder)
         tests.expect("comparisons", f"{name}, targets", encoded("".join(rules)), ran.output)
-        roots = [line.split(b":")[0] for line in tests.program.run(["-t", "targets"], folder).output.splitlines() if line[:1] != b" "]
-        tests.expect("comparisons", f"{name}, roots", [encoded(file.path) for file in graph.roots()], roots)
+        roots = [f"{file.path}: {file.maker.rule}\n" for file in graph.roots()]
+        ran = tests.program.run(["-t", "targets", "depth", "1"], folder)
+        tests.expect("comparisons", f"{name}, roots", encoded("".join(roots)), ran.output)
         ran = tests.program.run(["-t", "compdb", "--directory", "/w"], folder)
         database = list(ninja_explain.compdb(graph, "/w"))
         tests.expect("comparisons", f"{name}, compdb", database, json.loads(ran.output))
         same = [graph.file(word).number for word in words]
         tests.expect("comparisons", f"{name}, paths", same, list(range(len(words))))
         for size in 1, 3, 1000:
-            edges = [edge for page in pages_of(graph, graph.defaults(), size) for edge in page.edges]
-            needed = graph.needed(graph.defaults())
+            defaults = graph.defaults()
+            edges = [edge for page in pages_of(graph, defaults, size) for edge in page.edges]
+            needed = graph.needed(defaults)
             tests.expect("comparisons", f"{name}, pages of {size}, Python", edges, needed)
 
 
@@ -284,7 +288,8 @@ def try_projects(tests):
         words = ["cmake", "-G", "Ninja", "-S", str(sweeps.EXAMPLES / "cmake"), "-B", str(build)]
         subprocess.run(words, stdout=subprocess.DEVNULL, check=True)
         try_project(tests, "CMake", build, ["count", "text"], [1, 2, 3])
-        try_affected(tests, build, ["--source-dir", str(sweeps.EXAMPLES / "cmake")], ["src/words.c"])
+        here = ["--source-dir", str(sweeps.EXAMPLES / "cmake")]
+        try_affected(tests, build, here, ["src/words.c", "include/text/words.h"])
 
 
 # ---- faults
@@ -306,8 +311,9 @@ def try_fault(tests, kind, files, joins):
     options = ["--dyndep"] if joins else []
     line = plain(tests.program.run([*options, *COMMANDS], folder)).error.rstrip(b"\n")
     text = line.decode("utf-8", "surrogateescape")
-    file, row, column, _ = re.fullmatch(r"(.*?):(\d+):(\d+): (.*)", text, re.S).groups()
-    wanted = int(KINDS[kind]), (file, int(row), int(column)), text
+    found = re.fullmatch(r"(.*?):(\d+):(\d+): .*", text, re.S)
+    place = (found[1], int(found[2]), int(found[3])) if found else None
+    wanted = int(KINDS[kind]), place, text
     tests.expect("faults", f"fault {kind}", fault_of(folder, joins), wanted)
     if not joins:
         ending = sweeps.Ending(FAULT, b"", line + b"\n")
