@@ -1,6 +1,7 @@
 #!/usr/bin/env python3
 """Checks that each public struct with a private field has an `impl Model`, so that contracts, and
-proofs of other crates, are about its value and not about its fields.
+proofs of other crates, are about its value and not about its fields. No crate is above a static
+library, so that may do without.
 
 Prints each struct without one. The status is 1 if there is one.
 """
@@ -26,7 +27,10 @@ def without_model(text):
 
 def main():
     faults = []
+    static = re.findall(r"^(\w+) staticlib:", (ROOT / "crates.txt").read_text(), re.M)
     for crate in sorted((ROOT / "crates").iterdir()):
+        if crate.name in static:
+            continue
         sources = (file.read_text() for file in sorted(crate.glob("src/**/*.rt")))
         found = {name for source in sources for name in without_model(source)}
         faults += [f"{crate.name}: {name} has no model" for name in sorted(found)]

@@ -15,7 +15,7 @@ import sys
 import believed
 from believed import CRATES, Definition, block_at, members, module, reached, rust
 
-FUNCTION = re.compile(r"^( *)pub fn (\w+)", re.M)
+FUNCTION = re.compile(r'^( *)pub (?:extern "C" )?fn (\w+)', re.M)
 IMPL = re.compile(r"^impl\b[^{]*\{", re.M)
 
 
