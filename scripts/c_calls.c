@@ -381,9 +381,12 @@ static void try_pages(const size_t *targets, size_t target_count, size_t take)
     TEXT(if_open, give_mark, 0, OF(NOTHING));
     int32_t status = IF_LOADED(page, nx_page(&session, targets, target_count, NULL, 0, take));
     while (status == NX_DONE) {
+        size_t before = count;
         count = take_found(count);
+        expect(count - before <= take, "nx_page", "more edges than", (long long)take);
         if (TEXT(if_open, give_mark, 0, OF(DONE) | OF(NOTHING)) != NX_DONE)
             break;
+        expect(count - before == take, "nx_page", "fewer edges than", (long long)take);
         status =
             IF_LOADED(page, nx_page(&session, targets, target_count, given, given_length, take));
     }
