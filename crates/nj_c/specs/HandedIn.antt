@@ -1,5 +1,5 @@
 -- The files that C hands in, as a source of files.
-use Rattle.std.specs.Prelude.{◌≡◌, ℕ, List, [], ◌∷◌, ◌++◌, Option, Some, None, option_and_then, unwrap_or, is_some, position, slice_get, set, bytes_eq, if◌then◌else◌}
+use Rattle.std.specs.Prelude.{ℕ, List, [], ◌∷◌, ◌++◌, Option, Some, None, option_and_then, is_some, position, slice_get, set, bytes_eq, if◌then◌else◌}
 use Rattle.std.specs.List.{filter_map}
 use Rattle.nj_scope.specs.Readings.{Reading}
 use Rattle.nj_scope.specs.Sources.{SourceState}
@@ -14,15 +14,6 @@ pub record Handed : Type 0 where
 -- what was handed in for a path: bytes, or that no file is there; `None` if nothing was
 abbrev pub handed_in : Handed → List ℕ → Option (Option (List ℕ))
 handed_in h path = option_and_then (slice_get h.files) (position (bytes_eq path) h.paths)
-
--- a path for which nothing was handed in
-abbrev pub is_wanted : Handed → List ℕ → Type 0
-is_wanted h path = handed_in h path ≡ None
-
--- what the file of a number reads as: an empty file if there is none of this number
-abbrev pub read_bytes : List (Option (List ℕ)) → Option ℕ → Option (List ℕ)
-read_bytes files None = Some []
-read_bytes files (Some number) = unwrap_or (slice_get files number) None
 
 -- the paths that were read and not handed in
 abbrev pub wanted_paths : Handed → List (List ℕ)

@@ -1,5 +1,5 @@
 -- Lists of edges: what a change reaches, and pages of the commands that targets need.
-use Rattle.std.specs.Prelude.{◌≡◌, ◌<◌, ◌⊎◌, ◌↔◌, ℕ, ℤ, true, false, List, [], ◌∷◌, map, length, All, Contains, Option, Some, None}
+use Rattle.std.specs.Prelude.{◌≡◌, ◌<◌, ◌⊎◌, ◌↔◌, ℕ, true, false, List, [], ◌∷◌, map, length, All, Contains, Option, Some, None}
 use Rattle.std.specs.Str.{is_utf8}
 use Rattle.std.specs.List.Sorted.{IsStrictlyIncreasing}
 use Rattle.nj_edges.specs.declared.files.FileNo.{FileNo}

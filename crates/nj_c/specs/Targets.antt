@@ -1,7 +1,6 @@
 -- The target that a word means.
-use Rattle.std.specs.Prelude.{◌≡◌, ◌≢◌, ℕ, List, Some, None, Ok, Err, slice_get}
+use Rattle.std.specs.Prelude.{◌≡◌, ℕ, List, Some, None, Ok, Err, slice_get}
 use Rattle.nj_faults.specs.declared.fault.GraphFault.{GraphFault}
-use Rattle.nj_faults.specs.Faults.{no_memory}
 use Rattle.nj_graph.specs.Graph.{GraphText, edges_of, files_of}
 use Rattle.nj_graph.specs.Targets.{picked}
 use Rattle.nj_c.specs.declared.kept.Kept.{Kept}
@@ -25,17 +24,3 @@ PicksFile before after word file BadNumber = ⊥
 PicksFile before after word file BadMark = ⊥
 PicksFile before after word file NotUtf8 = ⊥
 PicksFile before after word file NotOpen = ⊥
-
--- a fault that was found is kept, unless an allocation failed
-abbrev pub KeepsFault : (before after : Kept) → GraphFault → Status → Type 0
-KeepsFault before after fault Fault = (fault ≢ no_memory) × (after ≡ record before { fault = Some fault })
-KeepsFault before after fault OutOfMemory = after ≡ before
-KeepsFault before after fault Done = ⊥
-KeepsFault before after fault Nothing = ⊥
-KeepsFault before after fault Short = ⊥
-KeepsFault before after fault Wanted = ⊥
-KeepsFault before after fault NotLoaded = ⊥
-KeepsFault before after fault BadNumber = ⊥
-KeepsFault before after fault BadMark = ⊥
-KeepsFault before after fault NotUtf8 = ⊥
-KeepsFault before after fault NotOpen = ⊥

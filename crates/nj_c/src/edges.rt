@@ -10,7 +10,7 @@ ghost use Rattle.nj_c.specs.Asking.{GivesFile, GivesText, IfLoaded, IfNumber, Of
 ghost use Rattle.nj_c.specs.Statuses.{code_of};
 
 use crate::buffers::copy_text;
-use crate::items::{give_file, kind_code};
+use crate::items::{give_file, kind_number};
 use crate::seal::Seal;
 use crate::session::Session;
 use crate::status::Status;
@@ -94,7 +94,7 @@ fn input(seal: &Seal, edge: usize, index: usize, file: &mut usize, kind: &mut i3
         return Status::BadNumber;
     }
     let edge = EdgeNo(edge);
-    *kind = kind_code(graph.input_kind(edge, index));
+    *kind = kind_number(graph.input_kind(edge, index));
     give_file(graph.inputs(edge), index, file)
 }
 

@@ -6,7 +6,7 @@ ghost use Rattle.nj_c.specs.FaultKinds.{kind_of};
 use nj_graph::Cause;
 
 /// The number of what is wrong, which is fixed for good.
-pub(crate) fn kind_of(cause: &Cause) -> i32
+pub(crate) fn fault_number(cause: &Cause) -> i32
     ensures { result ≡ kind_of cause.now }
 {
     match cause {

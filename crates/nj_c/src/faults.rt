@@ -8,7 +8,7 @@ ghost use Rattle.nj_c.specs.FaultKinds.{kind_of};
 ghost use Rattle.nj_c.specs.Statuses.{code_of};
 
 use crate::buffers::copy_text;
-use crate::fault_kinds::kind_of;
+use crate::fault_kinds::fault_number;
 use crate::seal::Seal;
 use crate::session::Session;
 use crate::status::Status;
@@ -37,7 +37,7 @@ fn fault_kind(seal: &Seal, kind: &mut i32) -> Status
     let Some(fault) = &seal.get().fault else {
         return Status::Nothing;
     };
-    *kind = kind_of(&fault.cause);
+    *kind = fault_number(&fault.cause);
     Status::Done
 }
 

@@ -3,8 +3,8 @@
 ghost use Rattle.std.specs.Prelude.{◌≡◌, ◌<◌, ◌++◌, [], ◌∷◌, false, is_some, length, map, set, position, bytes_eq, IfOk, IfSome, OnOk, OnErr};
 ghost use Rattle.std.specs.List.{flat_map, list_any};
 ghost use Rattle.nj_scope.specs.Sources.{outcome_bytes};
-ghost use Rattle.nj_c.specs.HandedIn.{read_bytes, wanted_paths, with_file};
-ghost use Rattle.nj_c.specs.Inside.HandedHeld.{wanted_of};
+ghost use Rattle.nj_c.specs.HandedIn.{wanted_paths, with_file};
+ghost use Rattle.nj_c.specs.Inside.HandedHeld.{read_bytes, wanted_of};
 
 use nj_edges::{FileNo, Files};
 use nj_scope::{FileSource, HashKeys, SourceFault};

@@ -43,7 +43,7 @@ pub(crate) fn give_edge(list: &[EdgeNo], index: usize, edge: &mut usize) -> Stat
 }
 
 /// The number of a kind of inputs.
-pub(crate) fn kind_code(kind: Kind) -> i32
+pub(crate) fn kind_number(kind: Kind) -> i32
     ensures { result ≡ kind_code kind }
 {
     match kind {

@@ -3,7 +3,8 @@
 ghost use Rattle.std.specs.Prelude.{◌≡◌};
 ghost use Rattle.nj_c.specs.Asking.{IfOpen};
 ghost use Rattle.nj_c.specs.Loading.{Changes};
-ghost use Rattle.nj_c.specs.Targets.{KeepsFault, PicksFile};
+ghost use Rattle.nj_c.specs.Targets.{PicksFile};
+ghost use Rattle.nj_c.specs.Inside.Results.{KeepsTargetFault};
 
 use crate::seal::Seal;
 use crate::session::Session;
@@ -49,7 +50,7 @@ fn pick_file(alloc: Global, seal: Seal, word: &[u8], file: &mut usize) -> (Seal,
 
 // Keeps the fault, unless an allocation failed.
 fn keep_fault(seal: Seal, fault: GraphFault) -> (Seal, Status)
-    ensures { KeepsFault seal.kept result.0.kept fault result.1 }
+    ensures { KeepsTargetFault seal.kept result.0.kept fault result.1 }
 {
     if matches!(fault.cause, Cause::OutOfMemory) {
         return (seal, Status::OutOfMemory);

@@ -1,10 +1,14 @@
 -- How the files that C hands in are held.
-use Rattle.std.specs.Prelude.{◌≡◌, ℕ, List, [], ◌∷◌, Option, is_some, length, position, bytes_eq, if◌then◌else◌}
+use Rattle.std.specs.Prelude.{◌≡◌, ℕ, List, [], ◌∷◌, Option, Some, None, is_some, unwrap_or, length, position, slice_get, bytes_eq, if◌then◌else◌}
 use Rattle.std.specs.Global.{Vec}
 use Rattle.std.specs.List.{AllByRecursion}
 use Rattle.nj_scope.specs.Readings.{Reading}
 use Rattle.nj_c.specs.declared.handed_in.HandedReading.{HandedReading}
-use Rattle.nj_c.specs.HandedIn.{read_bytes}
+
+-- what the file of a number reads as: an empty file if there is none of this number
+abbrev pub read_bytes : List (Option (List ℕ)) → Option ℕ → Option (List ℕ)
+read_bytes files None = Some []
+read_bytes files (Some number) = unwrap_or (slice_get files number) None
 
 abbrev pub reading_held : List (Option (List ℕ)) → HandedReading → Reading
 reading_held files r = record { path = r.path.items; bytes = read_bytes files r.number }

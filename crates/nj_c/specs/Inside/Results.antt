@@ -1,6 +1,7 @@
 -- What is kept of the result of a load.
-use Rattle.std.specs.Prelude.{◌≡◌, [], map, Some, None, Result, Ok, Err}
+use Rattle.std.specs.Prelude.{◌≡◌, ◌≢◌, [], map, Some, None, Result, Ok, Err}
 use Rattle.nj_faults.specs.declared.fault.GraphFault.{GraphFault}
+use Rattle.nj_faults.specs.Faults.{no_memory}
 use Rattle.nj_graph.specs.Graph.{GraphText}
 use Rattle.nj_c.specs.HandedIn.{wanted_paths}
 use Rattle.nj_c.specs.declared.kept.Kept.{Kept}
@@ -70,3 +71,17 @@ FinishesLoad kept result BadNumber = ⊥
 FinishesLoad kept result BadMark = ⊥
 FinishesLoad kept result NotUtf8 = ⊥
 FinishesLoad kept result NotOpen = ⊥
+
+-- a fault of a target is kept, unless an allocation failed
+abbrev pub KeepsTargetFault : (before after : Kept) → GraphFault → Status → Type 0
+KeepsTargetFault before after fault Fault = (fault ≢ no_memory) × (after ≡ record before { fault = Some fault })
+KeepsTargetFault before after fault OutOfMemory = after ≡ before
+KeepsTargetFault before after fault Done = ⊥
+KeepsTargetFault before after fault Nothing = ⊥
+KeepsTargetFault before after fault Short = ⊥
+KeepsTargetFault before after fault Wanted = ⊥
+KeepsTargetFault before after fault NotLoaded = ⊥
+KeepsTargetFault before after fault BadNumber = ⊥
+KeepsTargetFault before after fault BadMark = ⊥
+KeepsTargetFault before after fault NotUtf8 = ⊥
+KeepsTargetFault before after fault NotOpen = ⊥
