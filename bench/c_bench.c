@@ -12,13 +12,13 @@
 #include <string.h>
 #include <time.h>
 
-enum { ROUNDS = 5, ROOM = 1 << 20 };
+enum { ROUNDS = 5, SIZE = 1 << 20 };
 
 static nx_session session = NX_SESSION_CLOSED;
 static size_t edge_count, file_count;
 static uint8_t *paths;
 static size_t *ends;
-static uint8_t buffer[ROOM];
+static uint8_t buffer[SIZE];
 
 static void check(int32_t status)
 {
@@ -50,7 +50,7 @@ static void keep_paths(void)
     ends = malloc((file_count + 1) * sizeof *ends);
     ends[0] = 0;
     for (size_t file = 0; file < file_count; file++) {
-        check(nx_path(&session, file, buffer, ROOM, &needed));
+        check(nx_path(&session, file, buffer, SIZE, &needed));
         paths = realloc(paths, length + needed + 1);
         memcpy(paths + length, buffer, needed);
         ends[file + 1] = length += needed;
@@ -63,7 +63,7 @@ static size_t all_paths(void)
 {
     size_t needed;
     for (size_t file = 0; file < file_count; file++)
-        check(nx_path(&session, file, buffer, ROOM, &needed));
+        check(nx_path(&session, file, buffer, SIZE, &needed));
     return file_count;
 }
 
@@ -98,7 +98,7 @@ static size_t all_commands(void)
 {
     size_t needed;
     for (size_t edge = 0; edge < edge_count; edge++)
-        check(nx_command(&session, edge, buffer, ROOM, &needed));
+        check(nx_command(&session, edge, buffer, SIZE, &needed));
     return edge_count;
 }
 
