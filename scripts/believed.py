@@ -146,14 +146,14 @@ def block_at(text, start):
 @cache
 def rust(file):
     """A file of Rust, and its text without comments and attributes. For a type that it imports, the
-    module is the crate."""
+    module is the crate. A definition goes before a function of the same name."""
     of = Module(file)
     text = re.sub(r"(^|\s)//(.*)$|^\s*#\[.*\]$", "", file.read_text(), flags=re.M)
-    for found in re.finditer(r"^\s*ghost (use [^;]*);", text, re.M):
-        of.use(found[1])
     uses = r"^(?:pub )?use (\w+)(?:::\w+)*::(?:\{(.*?)\}|(\w+));"
     for found in re.finditer(uses, text, re.M | re.S):
         of.import_names(of.crate if found[1] == "crate" else found[1], found[2] or found[3])
+    for found in re.finditer(r"^\s*ghost (use [^;]*);", text, re.M):
+        of.use(found[1])
     return of, text
 
 
