@@ -4,8 +4,8 @@
 Both examples on the library, examples/c and examples/python, have to give what the program gives:
 on examples/project, on what CMake writes for examples/cmake, and on a manifest of 2,000 included
 files; whole, in pages, and where there is a fault. c_calls.c makes every call on N manifests with
-changes (strangers.py makes them), and while allocations are refused. Where valgrind is installed,
-it may find nothing in the C example, nor in some of these cases.
+changes (strangers.py makes them), and while allocations are refused, with 256 KB of stack. Where
+valgrind is installed, it may find nothing in the C example, nor in some of these cases.
 
 Prints how much was tried, and what is wrong. The status is 1 if anything is wrong.
 """
@@ -40,8 +40,10 @@ COMPILER = ["cc", "-std=c11", "-Wall", "-Wextra", "-Werror", "-O1", "-g", f"-I{R
 WRAPPED = ["-Wl,--wrap=malloc", "-Wl,--wrap=realloc", "-Wl,--wrap=free"]
 VALGRIND = ["valgrind", "-q", "--leak-check=full", "--show-leak-kinds=all"]
 VALGRIND += ["--errors-for-leak-kinds=all", "--error-exitcode=9"]
+# What docs/C.md asks for, in KB.
+LITTLE_STACK = ["sh", "-c", 'ulimit -s 256; exec "$0" "$@"']
 COMMANDS = ["-t", "commands"]
-FILES, PER_GROUP = 2000, 40
+FILES, PER_GROUP, MOST_DEEP = 2000, 40, 32
 # How many projects a run of c_calls.c takes, how many of them below valgrind, and how many words
 # `query` gets.
 TASK, UNDER_VALGRIND, PER_QUERY = 50, 6, 500
@@ -356,11 +358,12 @@ def changed(maker, seed):
 def run_driver(driver, task):
     """Runs c_calls.c on some projects. Returns the counts, and what is wrong."""
     name, mode, valgrind, given = task
-    words = [*VALGRIND, driver.path, mode] if valgrind else [driver.path, mode]
+    words = [*(VALGRIND if valgrind else LITTLE_STACK), driver.path, mode]
     how = {"stdout": subprocess.PIPE, "stderr": subprocess.STDOUT}
     ran = subprocess.run(words, input=given, **how)
     lines = ran.stdout.decode(errors="replace").splitlines()
-    counts = re.fullmatch(r"(\d+) projects, (\d+) calls, (\d+) allocations refused", lines[-1])
+    last = lines[-1] if lines else ""
+    counts = re.fullmatch(r"(\d+) projects, (\d+) calls, (\d+) allocations refused", last)
     wrong = [f"{name}: {line}" for line in (lines[:-1] if counts else lines)]
     if ran.returncode and not wrong:
         wrong = [f"{name}: status {ran.returncode}"]
@@ -371,12 +374,21 @@ def run_driver(driver, task):
     return {kind: count for kind, count in found.items() if count}, wrong
 
 
+def deep_files():
+    """Files that include one another as deep as they may."""
+    names = [MAIN, *(f"{number}.ninja" for number in range(1, MOST_DEEP))]
+    files = {name: f"subninja {below}\n" for name, below in zip(names, names[1:])}
+    files |= {names[-1]: BOUND, "d": "ninja_dyndep_version = 1\nbuild a | b: dyndep | c\n"}
+    return {name: text.encode() for name, text in files.items()}
+
+
 def driver_tasks(tests):
     maker, has_valgrind = Maker(), shutil.which("valgrind")
     for at in range(0, tests.cases, TASK):
         seeds = range(at, min(at + TASK, tests.cases))
         given = b"".join(stream(changed(maker, seed)) for seed in seeds)
         yield f"seeds {at}..", "cases", False, given
+    yield "deep files", "cases", False, stream(deep_files())
     for name in REFUSED:
         yield name, "refused", False, stream(PROJECTS[name].files)
     for seed in range(UNDER_VALGRIND if has_valgrind else 0):
