@@ -202,7 +202,7 @@ int32_t nx_add_absent(nx_session *session, const uint8_t *path, size_t path_leng
 /*
  * Loads the main file at a path and all files that it includes, from those that were handed in. If
  * `joins_dyndeps` is not 0, the dyndep files to which edges are bound are joined too, and a failed
- * join is a failed load. What was loaded before is freed.
+ * join is a failed load. What was loaded before is freed, and what nx_affected or nx_page listed.
  * NX_DONE; NX_FAULT, with the first fault; NX_WANTED if files are wanted that were not handed in:
  * hand them in, or record that they are absent, and load again; NX_NOT_UTF8; NX_OUT_OF_MEMORY.
  */

@@ -1,5 +1,6 @@
 -- What a load gives, and what a session keeps of it.
-use Rattle.std.proofs.Common.{◌≡◌, inl, inr, ℕ, Bool, true, false, None, Result, Ok, Err, List, [], map, refl, sym, ap, subst, ◌∙◌}
+use Rattle.std.specs.Global.{Vec}
+use Rattle.std.proofs.Common.{◌≡◌, inl, inr, ℕ, Bool, true, false, None, Result, Ok, Err, List, [], map, refl, sym, ap, subst, ◌∙◌, ◌∷◌, true≢false}
 use Rattle.std.specs.Str.{is_utf8}
 use Rattle.nj_scope.specs.Sources.{SourceState}
 use Rattle.nj_faults.specs.declared.fault.GraphFault.{GraphFault}
@@ -9,8 +10,8 @@ use Rattle.nj_c.specs.declared.kept.Kept.{Kept}
 use Rattle.nj_c.specs.declared.status.Status.{Status}
 use Rattle.nj_c.specs.declared.status.Status.TheVariants.{Done, Nothing, Short, Fault, Wanted, NotLoaded, BadNumber, BadMark, NotUtf8, NotOpen, OutOfMemory}
 use Rattle.nj_c.specs.HandedIn.{handed_in, handed_state, wanted_paths}
-use Rattle.nj_c.specs.Loading.{unread, GivesGraph, LoadsGraph, LoadsAs, LoadsKept}
-use Rattle.nj_c.specs.Inside.Results.{FinishesLoad, KeepsResult, KeepsWanted}
+use Rattle.nj_c.specs.Loading.{unread, GivesGraph, ListsNothing, LoadsGraph, LoadsAs, LoadsKept}
+use Rattle.nj_c.specs.Inside.Results.{FinishesLoad, KeepsResult, KeepsWanted, SameLists}
 
 -- the graph of what was loaded
 pub gives_same : (state : SourceState) (loaded : LoadedText) (joins : Bool) (graph : GraphText) → joins ≡ false → graph ≡ loaded.graph
@@ -61,6 +62,14 @@ finishes_load kept result BadMark wanted keeps = absurd keeps
 finishes_load kept result NotUtf8 wanted keeps = absurd keeps
 finishes_load kept result NotOpen wanted keeps = absurd keeps
 
+abbrev is-nil : List (List ℕ) → Bool
+is-nil [] = true
+is-nil (p ∷ ps) = false
+
+no-items : (paths : List (Vec ℕ)) → map (λ p. p.items) paths ≡ [] → paths ≡ []
+no-items [] is = refl
+no-items (p ∷ ps) is = absurd (true≢false (sym (ap is-nil is)))
+
 none-wanted : (kept : Kept) → kept.wanted.items ≡ [] → KeepsWanted kept → wanted_paths kept.files ≡ []
 none-wanted kept none wanted = sym wanted ∙ ap (map (λ p. p.items)) none
 
@@ -71,7 +80,8 @@ loads-as before after main joins result Done loads (keeps, wanted) =
     (keeps.0, keeps.2, keeps.3, subst (LoadsGraph (handed_state (unread before.files)) (handed_state after.files) main joins) keeps.1 loads, none-wanted after keeps.4 wanted)
 loads-as before after main joins result Fault loads (keeps, wanted) =
     (keeps.0, keeps.2, keeps.3, subst (LoadsGraph (handed_state (unread before.files)) (handed_state after.files) main joins) keeps.1 loads, none-wanted after keeps.4 wanted)
-loads-as before after main joins result Wanted loads (keeps, wanted) = (keeps.0, keeps.1, wanted)
+loads-as before after main joins result Wanted loads (keeps, wanted) =
+    (result, keeps.0.0, keeps.0.1, loads, (λ none. keeps.1 (no-items after.wanted.items (wanted ∙ none))), wanted)
 loads-as before after main joins result OutOfMemory loads keeps = keeps
 loads-as before after main joins result Nothing loads keeps = absurd keeps
 loads-as before after main joins result Short loads keeps = absurd keeps
@@ -82,14 +92,17 @@ loads-as before after main joins result NotUtf8 loads keeps = absurd keeps
 loads-as before after main joins result NotOpen loads keeps = absurd keeps
 
 pub loads_kept : (before middle after : Kept) (main : List ℕ) (joins : Bool) (result : Result GraphText GraphFault) (status : Status)
-    → middle.files ≡ unread before.files → LoadsGraph (handed_state middle.files) (handed_state after.files) main joins result
+    → middle.files ≡ unread before.files → ListsNothing middle → SameLists middle after
+    → LoadsGraph (handed_state middle.files) (handed_state after.files) main joins result
     → FinishesLoad after result status → LoadsKept before after main joins status
-loads_kept before middle after main joins result status begun loads finishes =
+loads_kept before middle after main joins result status begun nothing same loads finishes =
     let from = subst (λ f. LoadsGraph (handed_state f) (handed_state after.files) main joins result) begun loads in (
       same_files (handed_state (unread before.files)) (handed_state after.files) main joins result from,
+      (ap (λ v. v.items) same.0 ∙ nothing.0, ap (λ v. v.items) same.1 ∙ nothing.1),
       loads-as before after main joins result status from finishes,
     )
 
-pub not_loaded : (before after : Kept) (main : List ℕ) (joins : Bool) → after.files ≡ unread before.files → after.graph ≡ None → after.fault ≡ None
-    → is_utf8 main ≡ false → LoadsKept before after main joins NotUtf8
-not_loaded before after main joins files graph fault none = ((λ path. ap (λ f. handed_in f path) files), (graph, fault, none))
+pub not_loaded : (before after : Kept) (main : List ℕ) (joins : Bool) → after.files ≡ unread before.files → after.wanted.items ≡ [] → after.graph ≡ None
+    → after.fault ≡ None → ListsNothing after → is_utf8 main ≡ false → LoadsKept before after main joins NotUtf8
+not_loaded before after main joins files wanted graph fault nothing none =
+    ((λ path. ap (λ f. handed_in f path) files), nothing, (graph, fault, wanted, none))

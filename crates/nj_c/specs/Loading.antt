@@ -1,5 +1,5 @@
 -- What opening a session, handing in files and loading do.
-use Rattle.std.specs.Prelude.{◌≡◌, ◌⊎◌, ℕ, ℤ, Bool, true, false, List, [], map, Option, Some, None, Result, Ok, Err}
+use Rattle.std.specs.Prelude.{◌≡◌, ◌≢◌, ◌⊎◌, ℕ, ℤ, Bool, true, false, List, [], map, Option, Some, None, Result, Ok, Err}
 use Rattle.std.specs.Str.{is_utf8}
 use Rattle.nj_scope.specs.ReadingList.{ReadStatement}
 use Rattle.nj_scope.specs.Sources.{SourceState}
@@ -9,7 +9,7 @@ use Rattle.nj_graph.specs.Loads.{LoadedText, Loads}
 use Rattle.nj_graph.specs.Joining.{Joins}
 use Rattle.nj_c.specs.declared.kept.Kept.{Kept}
 use Rattle.nj_c.specs.declared.status.Status.{Status}
-use Rattle.nj_c.specs.declared.status.Status.TheVariants.{Done, Nothing, Short, Fault, Wanted, NotLoaded, BadNumber, BadMark, NotUtf8, NotOpen, OutOfMemory}
+use Rattle.nj_c.specs.declared.status.Status.TheVariants.{Done, Fault, Wanted, NotUtf8, OutOfMemory}
 use Rattle.nj_c.specs.Statuses.{code_of}
 use Rattle.nj_c.specs.HandedIn.{Handed, handed_in, handed_state, wanted_paths, with_file}
 
@@ -21,28 +21,29 @@ Returns result is = (status : Status) × (result ≡ code_of status) × is statu
 abbrev pub Changes : (before : Kept) → (after : Option Kept) → ℤ → ((after : Kept) → Status → Type 0) → Type 0
 Changes before after result does = (kept : Kept) × (after ≡ Some kept) × Returns result (does kept)
 
+-- no edges are listed, and there is no mark after them
+abbrev pub ListsNothing : Kept → Type 0
+ListsNothing kept = (kept.found.items ≡ []) × (kept.mark.items ≡ [])
+
 -- an open session to which nothing was handed in, and which has neither a graph nor a fault
 pub record IsEmpty (kept : Kept) : Type 0 where
   pub files : kept.files ≡ record { paths = []; files = []; read = [] }
+  pub wanted : kept.wanted.items ≡ []
   pub graph : kept.graph ≡ None
   pub fault : kept.fault ≡ None
+  pub lists : ListsNothing kept
 
-abbrev pub IsNew : Option Kept → Type 0
-IsNew session = (kept : Kept) × (session ≡ Some kept) × IsEmpty kept
+-- a session was opened anew; or an allocation failed, and it is as it was
+abbrev pub Opens : (before after : Option Kept) → ℤ → Type 0
+Opens before after result =
+    ((kept : Kept) × (result ≡ code_of Done) × (after ≡ Some kept) × IsEmpty kept)
+    ⊎ ((result ≡ code_of OutOfMemory) × (after ≡ before))
 
 -- what was handed in for a path is from now on this, and for each other path what it was
 abbrev pub TakesFile : (before after : Handed) → (path : List ℕ) → (file : Option (List ℕ)) → Status → Type 0
 TakesFile before after path file Done = after ≡ with_file before path file
 TakesFile before after path file OutOfMemory = after ≡ before
-TakesFile before after path file Nothing = ⊥
-TakesFile before after path file Short = ⊥
-TakesFile before after path file Fault = ⊥
-TakesFile before after path file Wanted = ⊥
-TakesFile before after path file NotLoaded = ⊥
-TakesFile before after path file BadNumber = ⊥
-TakesFile before after path file BadMark = ⊥
-TakesFile before after path file NotUtf8 = ⊥
-TakesFile before after path file NotOpen = ⊥
+TakesFile before after path file other = ⊥
 
 -- so does an open session, which keeps all else
 abbrev pub TakesPath : (before after : Kept) → (path : List ℕ) → (file : Option (List ℕ)) → Status → Type 0
@@ -85,17 +86,16 @@ LoadsAs before after main joins Fault =
     (fault : GraphFault) × (after.graph ≡ None) × (after.fault ≡ Some fault)
     × LoadsFiles before.files after.files main joins (Err fault) × (wanted_paths after.files ≡ [])
 LoadsAs before after main joins Wanted =
-    (after.graph ≡ None) × (after.fault ≡ None) × (map (λ p. p.items) after.wanted.items ≡ wanted_paths after.files)
-LoadsAs before after main joins NotUtf8 = (after.graph ≡ None) × (after.fault ≡ None) × (is_utf8 main ≡ false)
+    (result : Result GraphText GraphFault) × (after.graph ≡ None) × (after.fault ≡ None)
+    × LoadsFiles before.files after.files main joins result × (wanted_paths after.files ≢ [])
+    × (map (λ p. p.items) after.wanted.items ≡ wanted_paths after.files)
+LoadsAs before after main joins NotUtf8 =
+    (after.graph ≡ None) × (after.fault ≡ None) × (after.wanted.items ≡ []) × (is_utf8 main ≡ false)
 LoadsAs before after main joins OutOfMemory = (after.graph ≡ None) × (after.fault ≡ None)
-LoadsAs before after main joins Nothing = ⊥
-LoadsAs before after main joins Short = ⊥
-LoadsAs before after main joins NotLoaded = ⊥
-LoadsAs before after main joins BadNumber = ⊥
-LoadsAs before after main joins BadMark = ⊥
-LoadsAs before after main joins NotOpen = ⊥
+LoadsAs before after main joins other = ⊥
 
--- What was handed in stays as it is in a load.
+-- What was handed in stays as it is in a load, and what was listed of an earlier graph is gone.
 abbrev pub LoadsKept : (before after : Kept) → (main : List ℕ) → (joins : Bool) → Status → Type 0
 LoadsKept before after main joins status =
-    ((path : List ℕ) → handed_in after.files path ≡ handed_in before.files path) × LoadsAs before after main joins status
+    ((path : List ℕ) → handed_in after.files path ≡ handed_in before.files path)
+    × ListsNothing after × LoadsAs before after main joins status

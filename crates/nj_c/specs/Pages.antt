@@ -14,7 +14,7 @@ use Rattle.nj_graph.specs.Graph.{GraphText, edges_of, files_of}
 use Rattle.nj_tools.specs.CommandStrings.{StopsAt, written}
 use Rattle.nj_c.specs.declared.kept.Kept.{Kept}
 use Rattle.nj_c.specs.declared.status.Status.{Status}
-use Rattle.nj_c.specs.declared.status.Status.TheVariants.{Done, Nothing, Short, Fault, Wanted, NotLoaded, BadNumber, BadMark, NotUtf8, NotOpen, OutOfMemory}
+use Rattle.nj_c.specs.declared.status.Status.TheVariants.{Done, NotLoaded, BadNumber, BadMark, OutOfMemory}
 
 -- the numbers of edges and of files
 abbrev pub edge_numbers : Kept → List ℕ
@@ -35,8 +35,6 @@ pub record Lists (before after : Kept) : Type 0 where
   pub wanted : after.wanted ≡ before.wanted
   pub graph : after.graph ≡ before.graph
   pub fault : after.fault ≡ before.fault
-  pub output : after.output ≡ before.output
-  pub errors : after.errors ≡ before.errors
 
 -- ---- what a change reaches
 
@@ -47,17 +45,12 @@ IsReached g files edges = IsStrictlyIncreasing edges
 abbrev pub ListsReached : (before after : Kept) → (files : List ℕ) → Status → Type 0
 ListsReached before after files Done =
     (g : GraphText) × (before.graph ≡ Some g) × Lists before after × AreKnown g files × IsReached g files (edge_numbers after)
+    × (after.mark.items ≡ [])
 ListsReached before after files BadNumber =
     (g : GraphText) × (before.graph ≡ Some g) × (after ≡ before) × (AreKnown g files → ⊥)
 ListsReached before after files NotLoaded = (before.graph ≡ None) × (after ≡ before)
 ListsReached before after files OutOfMemory = after ≡ before
-ListsReached before after files Nothing = ⊥
-ListsReached before after files Short = ⊥
-ListsReached before after files Fault = ⊥
-ListsReached before after files Wanted = ⊥
-ListsReached before after files BadMark = ⊥
-ListsReached before after files NotUtf8 = ⊥
-ListsReached before after files NotOpen = ⊥
+ListsReached before after files other = ⊥
 
 -- ---- pages
 
@@ -98,9 +91,4 @@ ListsPage before after targets text limit BadNumber =
     (g : GraphText) × (before.graph ≡ Some g) × (after ≡ before) × (AreKnown g targets → ⊥)
 ListsPage before after targets text limit NotLoaded = (before.graph ≡ None) × (after ≡ before)
 ListsPage before after targets text limit OutOfMemory = after ≡ before
-ListsPage before after targets text limit Nothing = ⊥
-ListsPage before after targets text limit Short = ⊥
-ListsPage before after targets text limit Fault = ⊥
-ListsPage before after targets text limit Wanted = ⊥
-ListsPage before after targets text limit NotUtf8 = ⊥
-ListsPage before after targets text limit NotOpen = ⊥
+ListsPage before after targets text limit other = ⊥

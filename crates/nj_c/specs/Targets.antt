@@ -5,7 +5,7 @@ use Rattle.nj_graph.specs.Graph.{GraphText, edges_of, files_of}
 use Rattle.nj_graph.specs.Targets.{picked}
 use Rattle.nj_c.specs.declared.kept.Kept.{Kept}
 use Rattle.nj_c.specs.declared.status.Status.{Status}
-use Rattle.nj_c.specs.declared.status.Status.TheVariants.{Done, Nothing, Short, Fault, Wanted, NotLoaded, BadNumber, BadMark, NotUtf8, NotOpen, OutOfMemory}
+use Rattle.nj_c.specs.declared.status.Status.TheVariants.{Done, Fault, NotLoaded, OutOfMemory}
 
 -- The number of the file of this path was given out; or the fault is kept.
 abbrev pub PicksFile : (before after : Kept) → (word : List ℕ) → (file : ℕ) → Status → Type 0
@@ -17,10 +17,4 @@ PicksFile before after word file Fault =
     × ((fault : GraphFault) × (picked (edges_of g) word ≡ Err fault) × (after ≡ record before { fault = Some fault }))
 PicksFile before after word file NotLoaded = (before.graph ≡ None) × (after ≡ before)
 PicksFile before after word file OutOfMemory = after ≡ before
-PicksFile before after word file Nothing = ⊥
-PicksFile before after word file Short = ⊥
-PicksFile before after word file Wanted = ⊥
-PicksFile before after word file BadNumber = ⊥
-PicksFile before after word file BadMark = ⊥
-PicksFile before after word file NotUtf8 = ⊥
-PicksFile before after word file NotOpen = ⊥
+PicksFile before after word file other = ⊥

@@ -22,9 +22,6 @@ pub struct Kept {
     pub(crate) found: Vec<EdgeNo>,
     /// The text of the mark at which the last page ends; empty if nothing is left after it.
     pub(crate) mark: Vec<u8>,
-    /// What the last run wrote to its output and to its error output.
-    pub(crate) output: Vec<u8>,
-    pub(crate) errors: Vec<u8>,
 }
 
 impl Kept {
@@ -39,8 +36,6 @@ impl Kept {
             fault: None,
             found: Vec::new(alloc),
             mark: Vec::new(alloc),
-            output: Vec::new(alloc),
-            errors: Vec::new(alloc),
         }
     }
 }

@@ -1,11 +1,11 @@
 //! Loads.
 
-ghost use Rattle.std.specs.Prelude.{◌≡◌, None, true, map, not, nat_eq};
+ghost use Rattle.std.specs.Prelude.{◌≡◌, None, [], true, map, not, nat_eq};
 ghost use Rattle.nj_c.specs.Asking.{GivesTextAt, IfOpen};
 ghost use Rattle.nj_c.specs.HandedIn.{handed_state};
-ghost use Rattle.nj_c.specs.Loading.{unread, Changes, GivesGraph, LoadsGraph, LoadsKept};
+ghost use Rattle.nj_c.specs.Loading.{unread, Changes, GivesGraph, ListsNothing, LoadsGraph, LoadsKept};
 ghost use Rattle.nj_c.specs.Statuses.{code_of};
-ghost use Rattle.nj_c.specs.Inside.Results.{FinishesLoad, KeepsFault, KeepsGraph, KeepsResult};
+ghost use Rattle.nj_c.specs.Inside.Results.{FinishesLoad, KeepsFault, KeepsGraph, KeepsResult, SameLists};
 
 use crate::buffers::copy_text;
 use crate::handed_in::HandedIn;
@@ -98,6 +98,7 @@ fn finish_load(alloc: Global, kept: &mut Kept, loaded: Result<Graph, GraphFault>
     requires graph { kept.old.graph ≡ None }
     requires fault { kept.old.fault ≡ None }
     ensures files { kept.new.files ≡ kept.old.files }
+    ensures lists { SameLists kept.old kept.new }
     ensures finishes { FinishesLoad kept.new loaded result }
 {
     match kept.files.wanted(alloc) {
@@ -112,15 +113,20 @@ fn finish_load(alloc: Global, kept: &mut Kept, loaded: Result<Graph, GraphFault>
     }
 }
 
-// Forgets what was loaded and read.
+// Forgets what was loaded, read and listed.
 fn forget_load(kept: &mut Kept)
     ensures files { kept.new.files ≡ unread kept.old.files }
+    ensures wanted { kept.new.wanted.items ≡ [] }
     ensures graph { kept.new.graph ≡ None }
     ensures fault { kept.new.fault ≡ None }
+    ensures lists { ListsNothing kept.new }
 {
     drop(kept.graph.take());
     drop(kept.fault.take());
     kept.files.begin();
+    kept.wanted.clear();
+    kept.found.clear();
+    kept.mark.clear();
 }
 
 // The graph that a load gives.
@@ -171,6 +177,7 @@ fn keep_result(kept: &mut Kept, loaded: Result<Graph, GraphFault>) -> Status
     requires fault { kept.old.fault ≡ None }
     ensures files { kept.new.files ≡ kept.old.files }
     ensures wanted { kept.new.wanted ≡ kept.old.wanted }
+    ensures lists { SameLists kept.old kept.new }
     ensures keeps { KeepsResult kept.new loaded result }
 {
     match loaded {
@@ -183,6 +190,7 @@ fn keep_graph(kept: &mut Kept, graph: Graph) -> Status
     requires { kept.old.graph ≡ None }
     ensures files { kept.new.files ≡ kept.old.files }
     ensures wanted { kept.new.wanted ≡ kept.old.wanted }
+    ensures lists { SameLists kept.old kept.new }
     ensures fault { kept.new.fault ≡ kept.old.fault }
     ensures keeps { KeepsGraph kept.new graph result }
 {
@@ -198,6 +206,7 @@ fn keep_fault(kept: &mut Kept, fault: GraphFault) -> Status
     requires { kept.old.fault ≡ None }
     ensures files { kept.new.files ≡ kept.old.files }
     ensures wanted { kept.new.wanted ≡ kept.old.wanted }
+    ensures lists { SameLists kept.old kept.new }
     ensures graph { kept.new.graph ≡ kept.old.graph }
     ensures keeps { KeepsFault kept.new fault result }
 {

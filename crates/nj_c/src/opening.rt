@@ -3,8 +3,8 @@
 ghost use Rattle.std.specs.Prelude.{◌≡◌, None, Some, IfOk};
 ghost use Rattle.nj_scope.specs.Sources.{outcome_bytes};
 ghost use Rattle.nj_c.specs.declared.status.Status.TheVariants.{Done};
-ghost use Rattle.nj_c.specs.Asking.{IfOpen, OrNoMemory};
-ghost use Rattle.nj_c.specs.Loading.{Changes, IsEmpty, IsNew, TakesFile, TakesPath};
+ghost use Rattle.nj_c.specs.Asking.{IfOpen};
+ghost use Rattle.nj_c.specs.Loading.{Changes, IsEmpty, Opens, TakesFile, TakesPath};
 ghost use Rattle.nj_c.specs.Statuses.{code_of};
 
 use crate::handed_in::HandedIn;
@@ -30,7 +30,7 @@ pub extern "C" fn nx_version(major: &mut usize, minor: &mut usize) -> i32
 /// number that strangers cannot guess keeps their files from slowing a load down.
 #[unsafe(no_mangle)]
 pub extern "C" fn nx_open(alloc: Global, session: &mut Session, key: u64) -> i32
-    ensures { OrNoMemory result ((result ≡ code_of Done) × IsNew session.new.kept) }
+    ensures { Opens session.old.kept session.new.kept result }
 {
     match new_session(alloc, key) {
         Ok(seal) => {

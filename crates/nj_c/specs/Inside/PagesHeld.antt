@@ -14,7 +14,7 @@ use Rattle.nj_graph.specs.Graph.{GraphText}
 use Rattle.nj_tools.specs.CommandStrings.{left_after, written}
 use Rattle.nj_c.specs.declared.pages.Page.{Page}
 use Rattle.nj_c.specs.declared.status.Status.{Status}
-use Rattle.nj_c.specs.declared.status.Status.TheVariants.{Done, Nothing, Short, Fault, Wanted, NotLoaded, BadNumber, BadMark, NotUtf8, NotOpen, OutOfMemory}
+use Rattle.nj_c.specs.declared.status.Status.TheVariants.{BadNumber, BadMark, OutOfMemory}
 use Rattle.nj_c.specs.Pages.{mark_of, numbered, AreKnown, IsBadMark, IsNoMark, IsPage}
 
 abbrev pub numbers_of : List EdgeNo → List ℕ
@@ -32,15 +32,7 @@ pub record Returned (limit : ℕ) (old new : WalkState) (edges : List ℕ) : Typ
 abbrev pub MarkRefused : (text : List ℕ) → Status → Type 0
 MarkRefused text BadMark = IsNoMark text
 MarkRefused text OutOfMemory = ⊤
-MarkRefused text Done = ⊥
-MarkRefused text Nothing = ⊥
-MarkRefused text Short = ⊥
-MarkRefused text Fault = ⊥
-MarkRefused text Wanted = ⊥
-MarkRefused text NotLoaded = ⊥
-MarkRefused text BadNumber = ⊥
-MarkRefused text NotUtf8 = ⊥
-MarkRefused text NotOpen = ⊥
+MarkRefused text other = ⊥
 
 abbrev pub mark_status : MarkFault → Status
 mark_status fault.MarkOutOfRange = BadMark
@@ -64,30 +56,14 @@ abbrev pub PageFrom : EdgeGraph → (targets : List FileNo) → (mark : List ℕ
 PageFrom g targets mark limit (Ok page) = IsPage g targets mark limit (numbers_of page.edges.items) page.mark.items
 PageFrom g targets mark limit (Err BadMark) = is_valid (makers_of g) (row_of g targets) mark ≡ false
 PageFrom g targets mark limit (Err OutOfMemory) = ⊤
-PageFrom g targets mark limit (Err Done) = ⊥
-PageFrom g targets mark limit (Err Nothing) = ⊥
-PageFrom g targets mark limit (Err Short) = ⊥
-PageFrom g targets mark limit (Err Fault) = ⊥
-PageFrom g targets mark limit (Err Wanted) = ⊥
-PageFrom g targets mark limit (Err NotLoaded) = ⊥
-PageFrom g targets mark limit (Err BadNumber) = ⊥
-PageFrom g targets mark limit (Err NotUtf8) = ⊥
-PageFrom g targets mark limit (Err NotOpen) = ⊥
+PageFrom g targets mark limit (Err other) = ⊥
 
 abbrev pub PageAt : EdgeGraph → (targets : List FileNo) → (text : List ℕ) → (limit : ℕ) → Result Page Status → Type 0
 PageAt g targets text limit (Ok page) =
     (mark : List ℕ) × (mark_of text ≡ Some mark) × IsPage g targets mark limit (numbers_of page.edges.items) page.mark.items
 PageAt g targets text limit (Err BadMark) = IsBadMark g targets text
 PageAt g targets text limit (Err OutOfMemory) = ⊤
-PageAt g targets text limit (Err Done) = ⊥
-PageAt g targets text limit (Err Nothing) = ⊥
-PageAt g targets text limit (Err Short) = ⊥
-PageAt g targets text limit (Err Fault) = ⊥
-PageAt g targets text limit (Err Wanted) = ⊥
-PageAt g targets text limit (Err NotLoaded) = ⊥
-PageAt g targets text limit (Err BadNumber) = ⊥
-PageAt g targets text limit (Err NotUtf8) = ⊥
-PageAt g targets text limit (Err NotOpen) = ⊥
+PageAt g targets text limit (Err other) = ⊥
 
 -- the page after the mark of a text, or why there is none
 abbrev pub PageOf : GraphText → (targets : List ℕ) → (text : List ℕ) → (limit : ℕ) → Result Page Status → Type 0
@@ -95,11 +71,4 @@ PageOf g targets text limit (Ok page) = AreKnown g targets × PageAt g.built.gra
 PageOf g targets text limit (Err BadMark) = AreKnown g targets × IsBadMark g.built.graph (numbered targets) text
 PageOf g targets text limit (Err BadNumber) = AreKnown g targets → ⊥
 PageOf g targets text limit (Err OutOfMemory) = ⊤
-PageOf g targets text limit (Err Done) = ⊥
-PageOf g targets text limit (Err Nothing) = ⊥
-PageOf g targets text limit (Err Short) = ⊥
-PageOf g targets text limit (Err Fault) = ⊥
-PageOf g targets text limit (Err Wanted) = ⊥
-PageOf g targets text limit (Err NotLoaded) = ⊥
-PageOf g targets text limit (Err NotUtf8) = ⊥
-PageOf g targets text limit (Err NotOpen) = ⊥
+PageOf g targets text limit (Err other) = ⊥

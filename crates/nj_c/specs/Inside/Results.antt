@@ -6,7 +6,7 @@ use Rattle.nj_graph.specs.Graph.{GraphText}
 use Rattle.nj_c.specs.HandedIn.{wanted_paths}
 use Rattle.nj_c.specs.declared.kept.Kept.{Kept}
 use Rattle.nj_c.specs.declared.status.Status.{Status}
-use Rattle.nj_c.specs.declared.status.Status.TheVariants.{Done, Nothing, Short, Fault, Wanted, NotLoaded, BadNumber, BadMark, NotUtf8, NotOpen, OutOfMemory}
+use Rattle.nj_c.specs.declared.status.Status.TheVariants.{Done, Fault, Wanted, OutOfMemory}
 
 abbrev pub KeepsNone : Kept → Type 0
 KeepsNone kept = (kept.graph ≡ None) × (kept.fault ≡ None)
@@ -16,43 +16,26 @@ KeepsResult kept result Done =
     (graph : GraphText) × (result ≡ Ok graph) × (kept.graph ≡ Some graph) × (kept.fault ≡ None) × (kept.wanted.items ≡ [])
 KeepsResult kept result Fault =
     (fault : GraphFault) × (result ≡ Err fault) × (kept.graph ≡ None) × (kept.fault ≡ Some fault) × (kept.wanted.items ≡ [])
-KeepsResult kept result Wanted = KeepsNone kept
+KeepsResult kept result Wanted = KeepsNone kept × (kept.wanted.items ≢ [])
 KeepsResult kept result OutOfMemory = KeepsNone kept
-KeepsResult kept result Nothing = ⊥
-KeepsResult kept result Short = ⊥
-KeepsResult kept result NotLoaded = ⊥
-KeepsResult kept result BadNumber = ⊥
-KeepsResult kept result BadMark = ⊥
-KeepsResult kept result NotUtf8 = ⊥
-KeepsResult kept result NotOpen = ⊥
+KeepsResult kept result other = ⊥
 
 -- a graph is kept, or files are wanted
 abbrev pub KeepsGraph : Kept → GraphText → Status → Type 0
 KeepsGraph kept graph Done = (kept.graph ≡ Some graph) × (kept.wanted.items ≡ [])
-KeepsGraph kept graph Wanted = kept.graph ≡ None
-KeepsGraph kept graph Fault = ⊥
-KeepsGraph kept graph OutOfMemory = ⊥
-KeepsGraph kept graph Nothing = ⊥
-KeepsGraph kept graph Short = ⊥
-KeepsGraph kept graph NotLoaded = ⊥
-KeepsGraph kept graph BadNumber = ⊥
-KeepsGraph kept graph BadMark = ⊥
-KeepsGraph kept graph NotUtf8 = ⊥
-KeepsGraph kept graph NotOpen = ⊥
+KeepsGraph kept graph Wanted = (kept.graph ≡ None) × (kept.wanted.items ≢ [])
+KeepsGraph kept graph other = ⊥
 
 -- a fault is kept, unless files are wanted or an allocation failed
 abbrev pub KeepsFault : Kept → GraphFault → Status → Type 0
 KeepsFault kept fault Fault = (kept.fault ≡ Some fault) × (kept.wanted.items ≡ [])
-KeepsFault kept fault Wanted = kept.fault ≡ None
+KeepsFault kept fault Wanted = (kept.fault ≡ None) × (kept.wanted.items ≢ [])
 KeepsFault kept fault OutOfMemory = kept.fault ≡ None
-KeepsFault kept fault Done = ⊥
-KeepsFault kept fault Nothing = ⊥
-KeepsFault kept fault Short = ⊥
-KeepsFault kept fault NotLoaded = ⊥
-KeepsFault kept fault BadNumber = ⊥
-KeepsFault kept fault BadMark = ⊥
-KeepsFault kept fault NotUtf8 = ⊥
-KeepsFault kept fault NotOpen = ⊥
+KeepsFault kept fault other = ⊥
+
+-- the same edges are listed, with the same mark after them
+abbrev pub SameLists : (before after : Kept) → Type 0
+SameLists before after = (after.found ≡ before.found) × (after.mark ≡ before.mark)
 
 -- the paths that are wanted are kept
 abbrev pub KeepsWanted : Kept → Type 0
@@ -63,25 +46,11 @@ abbrev pub FinishesLoad : Kept → Result GraphText GraphFault → Status → Ty
 FinishesLoad kept result OutOfMemory = KeepsNone kept
 FinishesLoad kept result Done = KeepsResult kept result Done × KeepsWanted kept
 FinishesLoad kept result Fault = KeepsResult kept result Fault × KeepsWanted kept
-FinishesLoad kept result Wanted = KeepsNone kept × KeepsWanted kept
-FinishesLoad kept result Nothing = ⊥
-FinishesLoad kept result Short = ⊥
-FinishesLoad kept result NotLoaded = ⊥
-FinishesLoad kept result BadNumber = ⊥
-FinishesLoad kept result BadMark = ⊥
-FinishesLoad kept result NotUtf8 = ⊥
-FinishesLoad kept result NotOpen = ⊥
+FinishesLoad kept result Wanted = KeepsResult kept result Wanted × KeepsWanted kept
+FinishesLoad kept result other = ⊥
 
 -- a fault of a target is kept, unless an allocation failed
 abbrev pub KeepsTargetFault : (before after : Kept) → GraphFault → Status → Type 0
 KeepsTargetFault before after fault Fault = (fault ≢ no_memory) × (after ≡ record before { fault = Some fault })
 KeepsTargetFault before after fault OutOfMemory = after ≡ before
-KeepsTargetFault before after fault Done = ⊥
-KeepsTargetFault before after fault Nothing = ⊥
-KeepsTargetFault before after fault Short = ⊥
-KeepsTargetFault before after fault Wanted = ⊥
-KeepsTargetFault before after fault NotLoaded = ⊥
-KeepsTargetFault before after fault BadNumber = ⊥
-KeepsTargetFault before after fault BadMark = ⊥
-KeepsTargetFault before after fault NotUtf8 = ⊥
-KeepsTargetFault before after fault NotOpen = ⊥
+KeepsTargetFault before after fault other = ⊥

@@ -9,7 +9,8 @@ pub returns-in_default : goal.returns-in_default
 unfolding is_utf8
 returns-in_default c =
     let text : is_utf8 c.args.main.now ≡ false = search rules in
-    not_loaded c.args.kept.now c.forget_load.new.kept c.args.main.now c.args.joins c.forget_load.ensures.files c.forget_load.ensures.graph c.forget_load.ensures.fault text
+    not_loaded c.args.kept.now c.forget_load.new.kept c.args.main.now c.args.joins c.forget_load.ensures.files c.forget_load.ensures.wanted c.forget_load.ensures.graph
+    c.forget_load.ensures.fault c.forget_load.ensures.lists text
 
 pub returns : goal.returns
 returns c =
@@ -17,4 +18,4 @@ returns c =
     let loads = subst (λ m. LoadsGraph before (handed_state c.finish_load.new.kept.files) m c.args.joins c.load_graph-result.result) c.in-Ok.ensures.cases.0
     (subst (λ f. LoadsGraph before (handed_state f) c.in-Ok.main.now c.args.joins c.load_graph-result.result) (sym c.finish_load.ensures.files) c.load_graph-result.ensures) in
     loads_kept c.args.kept.now c.forget_load.new.kept c.finish_load.new.kept c.args.main.now c.args.joins c.load_graph-result.result c.finish_load.result
-    c.forget_load.ensures.files loads c.finish_load.ensures.finishes
+    c.forget_load.ensures.files c.forget_load.ensures.lists c.finish_load.ensures.lists loads c.finish_load.ensures.finishes
