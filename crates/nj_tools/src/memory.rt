@@ -63,6 +63,13 @@ impl MemorySink {
         self.bytes.as_slice()
     }
 
+    /// How often the sink failed to take bytes, a count that stays at its greatest value.
+    pub fn failures(&self) -> u64
+        ensures { result ≡ self.now.failures }
+    {
+        self.failures
+    }
+
     // The prefix of the bytes that fits within the limit.
     fn fitting<'a>(&self, bytes: &'a [u8]) -> &'a [u8]
         ensures { result.now ≡ fitting self.now bytes.now }
