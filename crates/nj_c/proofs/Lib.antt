@@ -1,5 +1,6 @@
-mod AskLemmas
 mod AsBox
+mod AskLemmas
+mod HandedLemmas
 mod ItemLemmas
 mod LoadLemmas
 mod MachineValues

@@ -1,11 +1,12 @@
 -- The paths that were read and not handed in.
-use Rattle.std.proofs.Common.{◌≡◌, ◌<◌, ◌+◌, ℕ, Bool, true, false, cond, Option, Some, None, is_some, List, [], ◌∷◌, ◌++◌, map, length, take, get_or, position, bytes_eq, refl, sym, ap, ◌∙◌}
+use Rattle.std.proofs.Common.{◌≡◌, ◌<◌, ◌+◌, ℕ, Bool, true, false, cond, Option, Some, None, is_some, List, [], ◌∷◌, ◌++◌, map, length, take, get_or, slice_get, option_and_then, position, bytes_eq, refl, sym, ap, ◌∙◌}
 use Rattle.std.specs.Global.{Vec}
 use Rattle.std.specs.List.{AllByRecursion, cons_option, filter_map, flat_map}
 use Rattle.std.proofs.lemmas.List.{append-nil, flat_map_more, map_push, take_more}
 use Rattle.nj_scope.specs.Readings.{Reading}
 use Rattle.nj_c.specs.declared.handed_in.HandedReading.{HandedReading}
 use Rattle.nj_c.specs.Inside.HandedHeld.{reading_held, wanted_of}
+use Rattle.nj_c.proofs.HandedLemmas.{is-known}
 
 abbrev pub bytes_of : Vec ℕ → List ℕ
 bytes_of p = p.items
@@ -32,15 +33,15 @@ wanted-one : (path : List ℕ) (others : List (List ℕ)) (b : Bool) → cond b 
 wanted-one path others true = refl
 wanted-one path others false = refl
 
-abbrev wanted : List (List ℕ) → Reading → Option (List ℕ)
-wanted paths r = cond (is_some (position (bytes_eq r.path) paths)) None (Some r.path)
+abbrev wanted : List (List ℕ) → List (Option (List ℕ)) → Reading → Option (List ℕ)
+wanted paths files r = cond (is_some (option_and_then (slice_get files) (position (bytes_eq r.path) paths))) None (Some r.path)
 
-pub wanted-held : (paths : List (List ℕ)) (files : List (Option (List ℕ))) (read : List HandedReading)
+pub wanted-held : (paths : List (List ℕ)) (files : List (Option (List ℕ))) (read : List HandedReading) → length files ≡ length paths
     → AllByRecursion (λ r. r.number ≡ position (bytes_eq r.path.items) paths) read
-    → flat_map wanted_of read ≡ filter_map (wanted paths) (map (reading_held files) read)
-wanted-held paths files [] are = refl
-wanted-held paths files (r ∷ rs) are =
-    let others = filter_map (wanted paths) (map (reading_held files) rs) in
-    ap (λ ws. wanted_of r ++ ws) (wanted-held paths files rs are.1)
-    ∙ ap (λ n. cond (is_some n) [] (r.path.items ∷ []) ++ others) are.0
-    ∙ wanted-one r.path.items others (is_some (position (bytes_eq r.path.items) paths))
+    → flat_map wanted_of read ≡ filter_map (wanted paths files) (map (reading_held files) read)
+wanted-held paths files [] same are = refl
+wanted-held paths files (r ∷ rs) same are =
+    let others = filter_map (wanted paths files) (map (reading_held files) rs) in
+    ap (λ ws. wanted_of r ++ ws) (wanted-held paths files rs same are.1)
+    ∙ ap (λ b. cond b [] (r.path.items ∷ []) ++ others) (ap is_some are.0 ∙ sym (is-known paths files r.path.items same))
+    ∙ wanted-one r.path.items others (is_some (option_and_then (slice_get files) (position (bytes_eq r.path.items) paths)))

@@ -11,7 +11,7 @@ use Rattle.nj_c.specs.declared.kept.Kept.{Kept}
 use Rattle.nj_c.specs.declared.status.Status.{Status}
 use Rattle.nj_c.specs.declared.status.Status.TheVariants.{Done, Fault, Wanted, NotUtf8, OutOfMemory}
 use Rattle.nj_c.specs.Statuses.{code_of}
-use Rattle.nj_c.specs.HandedIn.{Handed, handed_in, handed_state, wanted_paths, with_file}
+use Rattle.nj_c.specs.HandedIn.{Handed, handed_state, wanted_paths, SameFiles, SetsFile}
 
 -- a status was returned, of which this is so
 abbrev pub Returns : ℤ → (Status → Type 0) → Type 0
@@ -39,9 +39,9 @@ Opens before after result =
     ((kept : Kept) × (result ≡ code_of Done) × (after ≡ Some kept) × IsEmpty kept)
     ⊎ ((result ≡ code_of OutOfMemory) × (after ≡ before))
 
--- what was handed in for a path is from now on this, and for each other path what it was
+-- the file at a path was set; or an allocation failed, and what was handed in is as it was
 abbrev pub TakesFile : (before after : Handed) → (path : List ℕ) → (file : Option (List ℕ)) → Status → Type 0
-TakesFile before after path file Done = after ≡ with_file before path file
+TakesFile before after path file Done = SetsFile before after path file
 TakesFile before after path file OutOfMemory = after ≡ before
 TakesFile before after path file other = ⊥
 
@@ -97,5 +97,4 @@ LoadsAs before after main joins other = ⊥
 -- What was handed in stays as it is in a load, and what was listed of an earlier graph is gone.
 abbrev pub LoadsKept : (before after : Kept) → (main : List ℕ) → (joins : Bool) → Status → Type 0
 LoadsKept before after main joins status =
-    ((path : List ℕ) → handed_in after.files path ≡ handed_in before.files path)
-    × ListsNothing after × LoadsAs before after main joins status
+    SameFiles before.files after.files × ListsNothing after × LoadsAs before after main joins status

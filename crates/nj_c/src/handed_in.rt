@@ -3,7 +3,7 @@
 ghost use Rattle.std.specs.Prelude.{◌≡◌, ◌<◌, ◌++◌, [], ◌∷◌, false, is_some, length, map, set, position, bytes_eq, IfOk, IfSome, OnOk, OnErr};
 ghost use Rattle.std.specs.List.{flat_map, list_any};
 ghost use Rattle.nj_scope.specs.Sources.{outcome_bytes};
-ghost use Rattle.nj_c.specs.HandedIn.{wanted_paths, with_file};
+ghost use Rattle.nj_c.specs.HandedIn.{wanted_paths, SetsFile};
 ghost use Rattle.nj_c.specs.Inside.HandedHeld.{read_bytes, wanted_of};
 
 use nj_edges::{FileNo, Files};
@@ -62,7 +62,7 @@ impl HandedIn {
     /// Sets what the file at a path is: its bytes, or that no file is there. What was read before
     /// is forgotten.
     pub(crate) fn set(&mut self, path: &[u8], file: Option<Vec<u8>>) -> Result<(), AllocError>
-        ensures set { OnOk result (self.new ≡ with_file self.old path.now (outcome_bytes file)) }
+        ensures set { OnOk result (SetsFile self.old self.new path.now (outcome_bytes file)) }
         ensures refused { OnErr result (self.new ≡ self.old) }
     {
         match self.number(path) {
@@ -90,6 +90,7 @@ impl HandedIn {
     // Adds a file at a path of which nothing is known.
     fn add(&mut self, path: &[u8], file: Option<Vec<u8>>) -> Result<(), AllocError>
         requires { list_any (bytes_eq path.now) self.old.paths ≡ false }
+        ensures aligned { length self.old.files ≡ length self.old.paths }
         ensures added { OnOk result (self.new ≡ record {
           paths = self.old.paths ++ path.now ∷ [];
           files = self.old.files ++ outcome_bytes file ∷ [];

@@ -1,5 +1,6 @@
 use Rattle.std.proofs.Common.{◌≡◌, IfOk, map, subst, ap, ◌∙◌}
 use Rattle.std.specs.List.{flat_map}
+use Rattle.std.proofs.lemmas.List.{length-map}
 use Rattle.nj_c.specs.Inside.HandedHeld.{wanted_of}
 use Rattle.nj_scope.specs.Sources.{outcome_bytes}
 use Rattle.nj_c.specs.HandedIn.{wanted_paths}
@@ -10,5 +11,5 @@ pub returns : goal.returns
 returns c =
     let held = c.self.inside in
     subst (λ ws. IfOk c.wanted_in.result (λ paths. map bytes_of paths.items ≡ ws))
-    (ap (flat_map wanted_of) c.deref.ensures.value ∙ wanted-held held.paths (map outcome_bytes held.files.items) held.read.items c.self.invariant.1
+    (ap (flat_map wanted_of) c.deref.ensures.value ∙ wanted-held held.paths (map outcome_bytes held.files.items) held.read.items (length-map held.files.items outcome_bytes ∙ c.self.invariant.0) c.self.invariant.1
     ∙ ap wanted_paths c.self.view_is) c.wanted_in.ensures
