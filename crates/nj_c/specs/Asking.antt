@@ -1,5 +1,5 @@
 -- What calls do to a session, and what they return.
-use Rattle.std.specs.Prelude.{◌≡◌, ◌⊎◌, ◌<◌, ◌≤◌, ℕ, ℤ, pos, Bool, List, [], ◌∷◌, ◌++◌, Option, Some, option_and_then, length, drop, slice_get, MatchOption, if◌then◌else◌}
+use Rattle.std.specs.Prelude.{◌≡◌, ◌≢◌, ◌⊎◌, ◌<◌, ◌≤◌, ℕ, ℤ, pos, Bool, List, [], ◌∷◌, ◌++◌, Option, Some, option_and_then, length, drop, slice_get, MatchOption, if◌then◌else◌}
 use Rattle.nj_edges.specs.declared.edges.Kind.{Kind}
 use Rattle.nj_edges.specs.declared.edges.Kind.TheVariants.{Explicit, Implicit, OrderOnly}
 use Rattle.nj_scope.specs.ReadingList.{ReadStatement}
@@ -48,6 +48,10 @@ pub record GivesText (text before after : List ℕ) (needed : ℕ) (result : ℤ
   pub length_is : needed ≡ length text
   pub fits : length text ≤ length before → (result ≡ code_of Done) × (after ≡ text ++ drop (length text) before)
   pub short : length before < length text → (result ≡ code_of Short) × (after ≡ before)
+
+-- a buffer is written only by a call that did what was asked
+abbrev pub KeptUnlessDone : (before after : List ℕ) → ℤ → Type 0
+KeptUnlessDone before after result = result ≢ code_of Done → after ≡ before
 
 -- the numbers of kinds of inputs
 abbrev pub kind_code : Kind → ℤ

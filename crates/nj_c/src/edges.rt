@@ -6,7 +6,7 @@ ghost use Rattle.nj_scope.specs.ReadingList.{ReadStatement};
 ghost use Rattle.nj_statements.specs.Built.{detail_at};
 ghost use Rattle.nj_graph.specs.Graph.{edges_of, files_of, rule_name_at, IsGraphOf};
 ghost use Rattle.nj_c.specs.declared.status.Status.TheVariants.{Done};
-ghost use Rattle.nj_c.specs.Asking.{GivesFile, GivesText, IfLoaded, IfNumber, OfEdge, bool_code, kind_code};
+ghost use Rattle.nj_c.specs.Asking.{GivesFile, GivesText, IfLoaded, IfNumber, KeptUnlessDone, OfEdge, bool_code, kind_code};
 ghost use Rattle.nj_c.specs.Statuses.{code_of};
 
 use crate::buffers::copy_text;
@@ -263,6 +263,7 @@ pub extern "C" fn nx_rule_name(
     ensures name { OfEdge session.old.kept edge result (λ g.
         (entries : List ReadStatement) → IsGraphOf g entries
         → GivesText (rule_name_at entries edge) buffer.old buffer.new needed.new result) }
+    ensures buffer { KeptUnlessDone buffer.old buffer.new result }
 {
     let Some(seal) = session.take(alloc) else {
         return Status::NotOpen.code();
@@ -273,11 +274,12 @@ pub extern "C" fn nx_rule_name(
 }
 
 fn rule_name(seal: &Seal, edge: usize, buffer: &mut [u8], needed: &mut usize) -> Status
-    ensures { IfLoaded seal.now.kept.graph (code_of result) (λ g.
+    ensures gives { IfLoaded seal.now.kept.graph (code_of result) (λ g.
         IfNumber edge (length (edges_of g))
         (code_of result) ((entries : List ReadStatement) → IsGraphOf g entries
         → GivesText (rule_name_at entries edge) buffer.old buffer.new needed.new
         (code_of result))) }
+    ensures buffer { KeptUnlessDone buffer.old buffer.new (code_of result) }
 {
     let Some(graph) = &seal.get().graph else {
         return Status::NotLoaded;
@@ -345,6 +347,7 @@ pub extern "C" fn nx_edge_file(
     ensures file { OfEdge session.old.kept edge result (λ g.
         GivesText
         (detail_at g.built.details edge).file buffer.old buffer.new needed.new result) }
+    ensures buffer { KeptUnlessDone buffer.old buffer.new result }
 {
     let Some(seal) = session.take(alloc) else {
         return Status::NotOpen.code();
@@ -355,10 +358,11 @@ pub extern "C" fn nx_edge_file(
 }
 
 fn edge_file(seal: &Seal, edge: usize, buffer: &mut [u8], needed: &mut usize) -> Status
-    ensures { IfLoaded seal.now.kept.graph (code_of result) (λ g.
+    ensures gives { IfLoaded seal.now.kept.graph (code_of result) (λ g.
         IfNumber edge (length (edges_of g))
         (code_of result) (GivesText
         (detail_at g.built.details edge).file buffer.old buffer.new needed.new (code_of result))) }
+    ensures buffer { KeptUnlessDone buffer.old buffer.new (code_of result) }
 {
     let Some(graph) = &seal.get().graph else {
         return Status::NotLoaded;

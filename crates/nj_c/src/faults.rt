@@ -3,7 +3,7 @@
 ghost use Rattle.std.specs.Prelude.{◌≡◌, MatchOption, option_and_then, option_copied};
 ghost use Rattle.nj_faults.specs.FaultLines.{bare_line};
 ghost use Rattle.nj_c.specs.declared.status.Status.TheVariants.{Done, Nothing};
-ghost use Rattle.nj_c.specs.Asking.{GivesItem, GivesText, IfPlace, OfFault, OfPlace, OrNoMemory};
+ghost use Rattle.nj_c.specs.Asking.{GivesItem, GivesText, IfPlace, KeptUnlessDone, OfFault, OfPlace, OrNoMemory};
 ghost use Rattle.nj_c.specs.FaultKinds.{kind_of};
 ghost use Rattle.nj_c.specs.Statuses.{code_of};
 
@@ -85,6 +85,7 @@ pub extern "C" fn nx_fault_file(
     ensures kept { session.new.kept ≡ session.old.kept }
     ensures file { OfPlace session.old.kept result (λ place.
         GivesText place.file buffer.old buffer.new needed.new result) }
+    ensures buffer { KeptUnlessDone buffer.old buffer.new result }
 {
     let Some(seal) = session.take(alloc) else {
         return Status::NotOpen.code();
@@ -95,8 +96,9 @@ pub extern "C" fn nx_fault_file(
 }
 
 fn fault_file(seal: &Seal, buffer: &mut [u8], needed: &mut usize) -> Status
-    ensures { IfPlace seal.now.kept.fault (code_of result) (λ place.
+    ensures gives { IfPlace seal.now.kept.fault (code_of result) (λ place.
         GivesText place.file buffer.old buffer.new needed.new (code_of result)) }
+    ensures buffer { KeptUnlessDone buffer.old buffer.new (code_of result) }
 {
     match place_of(seal) {
         Some(place) => copy_text(place.file.as_bytes(), buffer, needed),
@@ -123,6 +125,7 @@ pub extern "C" fn nx_fault_line(
     ensures kept { session.new.kept ≡ session.old.kept }
     ensures line { OfFault session.old.kept result (λ fault. OrNoMemory result
         (GivesText (bare_line fault) buffer.old buffer.new needed.new result)) }
+    ensures buffer { KeptUnlessDone buffer.old buffer.new result }
 {
     let Some(seal) = session.take(alloc) else {
         return Status::NotOpen.code();
@@ -133,9 +136,10 @@ pub extern "C" fn nx_fault_line(
 }
 
 fn fault_line(alloc: Global, seal: &Seal, buffer: &mut [u8], needed: &mut usize) -> Status
-    ensures { MatchOption seal.now.kept.fault (code_of result ≡ code_of Nothing) (λ fault.
+    ensures gives { MatchOption seal.now.kept.fault (code_of result ≡ code_of Nothing) (λ fault.
         OrNoMemory (code_of result)
         (GivesText (bare_line fault) buffer.old buffer.new needed.new (code_of result))) }
+    ensures buffer { KeptUnlessDone buffer.old buffer.new (code_of result) }
 {
     let Some(fault) = &seal.get().fault else {
         return Status::Nothing;

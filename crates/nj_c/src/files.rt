@@ -4,7 +4,7 @@ ghost use Rattle.std.specs.Prelude.{◌≡◌, ℕ, List, Some, length, position
 ghost use Rattle.nj_edges.specs.Edges.{maker_of, users_of, validation_users_of};
 ghost use Rattle.nj_edges.specs.Files.{path_at};
 ghost use Rattle.nj_graph.specs.Graph.{edges_of, files_of};
-ghost use Rattle.nj_c.specs.Asking.{GivesItem, GivesText, IfLoaded, IfNumber, OfFile, OfGraph};
+ghost use Rattle.nj_c.specs.Asking.{GivesItem, GivesText, IfLoaded, IfNumber, KeptUnlessDone, OfFile, OfGraph};
 ghost use Rattle.nj_c.specs.Statuses.{code_of};
 
 use crate::buffers::copy_text;
@@ -29,6 +29,7 @@ pub extern "C" fn nx_path(
         (path : List ℕ)
         → slice_get (files_of g) file ≡ Some path
         → GivesText path buffer.old buffer.new needed.new result) }
+    ensures buffer { KeptUnlessDone buffer.old buffer.new result }
 {
     let Some(seal) = session.take(alloc) else {
         return Status::NotOpen.code();
@@ -39,11 +40,12 @@ pub extern "C" fn nx_path(
 }
 
 fn path(seal: &Seal, file: usize, buffer: &mut [u8], needed: &mut usize) -> Status
-    ensures { IfLoaded seal.now.kept.graph (code_of result) (λ g.
+    ensures gives { IfLoaded seal.now.kept.graph (code_of result) (λ g.
         IfNumber file (length (files_of g))
         (code_of result) ((path : List ℕ)
         → slice_get (files_of g) file ≡ Some path
         → GivesText path buffer.old buffer.new needed.new (code_of result))) }
+    ensures buffer { KeptUnlessDone buffer.old buffer.new (code_of result) }
 {
     let Some(graph) = &seal.get().graph else {
         return Status::NotLoaded;

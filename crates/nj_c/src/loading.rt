@@ -1,7 +1,7 @@
 //! Loads.
 
 ghost use Rattle.std.specs.Prelude.{◌≡◌, None, [], true, map, not, nat_eq};
-ghost use Rattle.nj_c.specs.Asking.{GivesTextAt, IfOpen};
+ghost use Rattle.nj_c.specs.Asking.{GivesTextAt, IfOpen, KeptUnlessDone};
 ghost use Rattle.nj_c.specs.HandedIn.{handed_state};
 ghost use Rattle.nj_c.specs.Loading.{unread, Changes, GivesGraph, ListsNothing, LoadsGraph, LoadsKept};
 ghost use Rattle.nj_c.specs.Statuses.{code_of};
@@ -51,6 +51,7 @@ pub extern "C" fn nx_wanted(
     ensures kept { session.new.kept ≡ session.old.kept }
     ensures path { IfOpen session.old.kept result (λ kept. GivesTextAt
         (map (λ p. p.items) kept.wanted.items) index buffer.old buffer.new needed.new result) }
+    ensures buffer { KeptUnlessDone buffer.old buffer.new result }
 {
     let Some(seal) = session.take(alloc) else {
         return Status::NotOpen.code();
@@ -61,8 +62,9 @@ pub extern "C" fn nx_wanted(
 }
 
 fn wanted(seal: &Seal, index: usize, buffer: &mut [u8], needed: &mut usize) -> Status
-    ensures { GivesTextAt (map (λ p. p.items) seal.now.kept.wanted.items) index
+    ensures gives { GivesTextAt (map (λ p. p.items) seal.now.kept.wanted.items) index
         buffer.old buffer.new needed.new (code_of result) }
+    ensures buffer { KeptUnlessDone buffer.old buffer.new (code_of result) }
 {
     match seal.get().wanted.get(index) {
         Some(path) => copy_text(path, buffer, needed),

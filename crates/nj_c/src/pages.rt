@@ -3,7 +3,7 @@
 ghost use Rattle.std.specs.Prelude.{◌≡◌, ◌<◌, Some, map, length, slice_get, All, IfErr, IfOk, IfSome, MatchOption};
 ghost use Rattle.nj_marks.specs.declared.fault.MarkFault.TheVariants.{OutOfMemory};
 ghost use Rattle.nj_graph.specs.Graph.{files_of};
-ghost use Rattle.nj_c.specs.Asking.{GivesItem, GivesMark, IfOpen};
+ghost use Rattle.nj_c.specs.Asking.{GivesItem, GivesMark, IfOpen, KeptUnlessDone};
 ghost use Rattle.nj_c.specs.Loading.{Changes};
 ghost use Rattle.nj_c.specs.Pages.{mark_of, numbered, AreBelow, AreKnown, IsReached, ListsPage, ListsReached};
 ghost use Rattle.nj_c.specs.Statuses.{code_of};
@@ -87,6 +87,7 @@ pub extern "C" fn nx_page_mark(
     ensures kept { session.new.kept ≡ session.old.kept }
     ensures mark { IfOpen session.old.kept result (λ kept.
         GivesMark kept.mark.items buffer.old buffer.new needed.new result) }
+    ensures buffer { KeptUnlessDone buffer.old buffer.new result }
 {
     let Some(seal) = session.take(alloc) else {
         return Status::NotOpen.code();
@@ -104,14 +105,16 @@ fn found(seal: &Seal, index: usize, edge: &mut usize) -> Status
 }
 
 fn page_mark(seal: &Seal, buffer: &mut [u8], needed: &mut usize) -> Status
-    ensures { GivesMark seal.now.kept.mark.items buffer.old buffer.new needed.new
+    ensures gives { GivesMark seal.now.kept.mark.items buffer.old buffer.new needed.new
         (code_of result) }
+    ensures buffer { KeptUnlessDone buffer.old buffer.new (code_of result) }
 {
     give_mark(&seal.get().mark, buffer, needed)
 }
 
 fn give_mark(mark: &[u8], buffer: &mut [u8], needed: &mut usize) -> Status
-    ensures { GivesMark mark.now buffer.old buffer.new needed.new (code_of result) }
+    ensures gives { GivesMark mark.now buffer.old buffer.new needed.new (code_of result) }
+    ensures buffer { KeptUnlessDone buffer.old buffer.new (code_of result) }
 {
     if mark.is_empty() {
         return Status::Nothing;

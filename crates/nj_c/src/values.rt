@@ -4,7 +4,7 @@ ghost use Rattle.std.specs.Prelude.{◌≡◌, ◌<◌, List, length, codes};
 ghost use Rattle.nj_scope.specs.ReadingList.{ReadStatement};
 ghost use Rattle.nj_graph.specs.Graph.{edges_of, late_text_of, GraphText, IsGraphOf};
 ghost use Rattle.nj_c.specs.declared.status.Status.TheVariants.{OutOfMemory};
-ghost use Rattle.nj_c.specs.Asking.{GivesText, GivesValue, IfLoaded, IfNumber, OfEdge};
+ghost use Rattle.nj_c.specs.Asking.{GivesText, GivesValue, IfLoaded, IfNumber, KeptUnlessDone, OfEdge};
 ghost use Rattle.nj_c.specs.Statuses.{code_of};
 
 use crate::buffers::copy_text;
@@ -29,6 +29,7 @@ pub extern "C" fn nx_variable(
     ensures kept { session.new.kept ≡ session.old.kept }
     ensures value { OfEdge session.old.kept edge result (λ g.
         GivesValue g edge name.now buffer.old buffer.new needed.new result) }
+    ensures buffer { KeptUnlessDone buffer.old buffer.new result }
 {
     let Some(seal) = session.take(alloc) else {
         return Status::NotOpen.code();
@@ -50,6 +51,7 @@ pub extern "C" fn nx_command(
     ensures kept { session.new.kept ≡ session.old.kept }
     ensures value { OfEdge session.old.kept edge result (λ g.
         GivesValue g edge (codes "command") buffer.old buffer.new needed.new result) }
+    ensures buffer { KeptUnlessDone buffer.old buffer.new result }
 {
     nx_variable(alloc, session, edge, b"command", buffer, needed)
 }
@@ -62,9 +64,10 @@ fn variable(
     buffer: &mut [u8],
     needed: &mut usize,
 ) -> Status
-    ensures { IfLoaded seal.now.kept.graph (code_of result) (λ g.
+    ensures gives { IfLoaded seal.now.kept.graph (code_of result) (λ g.
         IfNumber edge (length (edges_of g)) (code_of result)
         (GivesValue g edge name.now buffer.old buffer.new needed.new (code_of result))) }
+    ensures buffer { KeptUnlessDone buffer.old buffer.new (code_of result) }
 {
     let Some(graph) = &seal.get().graph else {
         return Status::NotLoaded;
@@ -84,8 +87,9 @@ fn value(
     needed: &mut usize,
 ) -> Status
     requires { edge.0 < length (edges_of graph.now) }
-    ensures { GivesValue graph.now edge.0 name.now buffer.old buffer.new needed.new
+    ensures gives { GivesValue graph.now edge.0 name.now buffer.old buffer.new needed.new
         (code_of result) }
+    ensures buffer { KeptUnlessDone buffer.old buffer.new (code_of result) }
 {
     match graph.variable(alloc, edge, name) {
         Ok(text) => copy_text(&text, buffer, needed),
