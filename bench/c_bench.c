@@ -1,9 +1,9 @@
 /* c_bench.py links this with the library for C:
 
-       c_bench load|calls [FILE..]
+       c_bench load|calls|run [FILE..]
 
-   It loads build.ninja from the files that are named, which it reads from the disk. With `calls` it
-   then makes calls for all edges and files, and prints a line for each kind: its name, how many calls
+   It loads build.ninja from the files that are named, which it reads from the disk; with `run` it
+   runs `-t commands` on them instead, and copies the output. With `calls` it then makes calls for all edges and files, and prints a line for each kind: its name, how many calls
    were made, and the nanoseconds for each, the least of five rounds. */
 #define _POSIX_C_SOURCE 200809L
 #include <ninja_explain.h>
@@ -135,13 +135,31 @@ static void measure(const char *name, size_t (*calls)(void))
     printf("%s %zu %.0f\n", name, count, least / (double)count);
 }
 
+/* A whole run, and a copy of its output. */
+static void run_commands(void)
+{
+    static const uint8_t words[] = "-t\0commands";
+    int32_t exit_status;
+    size_t length;
+    check(nx_run(&session, words, sizeof words, &exit_status));
+    if (exit_status != 0 || nx_run_output(&session, NULL, 0, &length) != NX_SHORT)
+        exit(1);
+    uint8_t *output = malloc(length);
+    check(nx_run_output(&session, output, length, &length));
+    free(output);
+}
+
 int main(int count, char **words)
 {
+    const char *what = count > 1 ? words[1] : "load";
     check(nx_open(&session, 7));
     for (int at = 2; at < count; at++)
         hand_in(words[at]);
-    check(nx_load(&session, (const uint8_t *)"build.ninja", 11, 0));
-    if (count > 1 && strcmp(words[1], "calls") == 0) {
+    if (strcmp(what, "run") == 0)
+        run_commands();
+    else
+        check(nx_load(&session, (const uint8_t *)"build.ninja", 11, 0));
+    if (strcmp(what, "calls") == 0) {
         check(nx_edge_count(&session, &edge_count));
         check(nx_file_count(&session, &file_count));
         keep_paths();

@@ -2,8 +2,8 @@
 """Measures the library for C in lib/: c_bench.py PROGRAM [--edges N] [--shape SHAPE] [--rounds N]
 
 On a manifest of manifest.py it compares a process that loads by the library with the program's
-`-t rules`, which loads as well: the median of the processor times of five rounds, in turn, and the
-greatest memory. Then it prints what calls take, from C (c_bench.c) and from Python
+`-t rules`, which loads as well, and one that runs `-t commands` by the library with the program's:
+the median of the processor times of five rounds, in turn, and the greatest memory. Then it prints what calls take, from C (c_bench.c) and from Python
 (examples/python): the least of five rounds, divided by the calls. The tables are as in
 docs/BENCHMARKS.md.
 """
@@ -30,9 +30,14 @@ ROUNDS = 5
 COMPILER = ["cc", "-std=c11", "-O2", f"-I{ROOT / 'include'}", str(ROOT / "bench/c_bench.c")]
 
 
-def loads(program, compiled, folder, rounds):
-    """The middle figures of a load by the library and by the program."""
-    commands = {"library": [compiled, "load", "build.ninja"], "program": [program, "-t", "rules"]}
+def processes(program, compiled, folder, rounds):
+    """The middle figures of a load and of a run, by the library and by the program."""
+    commands = {
+        "library, load": [compiled, "load", "build.ninja"],
+        "program, `-t rules`": [program, "-t", "rules"],
+        "library, run of `-t commands`": [compiled, "run", "build.ninja"],
+        "program, `-t commands`": [program, "-t", "commands"],
+    }
     return {name: middle(runs) for name, runs in measure(commands, rounds, folder=folder).items()}
 
 
@@ -69,8 +74,8 @@ def calls_by_python(folder):
         return {name: least(calls) for name, calls in kinds.items()}
 
 
-def print_loads(figures):
-    print("| A process that loads | Processor time | Memory |")
+def print_processes(figures):
+    print("| Process | Processor time | Memory |")
     print("|---|---|---|")
     for name, (_, processor, memory) in figures.items():
         print(f"| {name} | {processor:.3f} s | {memory / MB:.0f} MB |")
@@ -97,7 +102,7 @@ def main():
         with open(os.path.join(folder, "build.ninja"), "w") as file:
             write_statements(words.edges, file, words.shape)
         print(f"{words.shape}, {words.edges:,} statements")
-        print_loads(loads(words.program, compiled, folder, words.rounds))
+        print_processes(processes(words.program, compiled, folder, words.rounds))
         print_calls(calls_by_c(compiled, folder), calls_by_python(folder))
 
 

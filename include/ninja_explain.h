@@ -72,7 +72,7 @@ enum nx_status {
     NX_BAD_NUMBER = 6,
     /* The text is not a mark, or it leads to no edge. */
     NX_BAD_MARK = 7,
-    /* The path of the main file is not UTF-8. */
+    /* The path of the main file, or the words of a run, are not UTF-8. */
     NX_NOT_UTF8 = 8,
     /* The session is not open. */
     NX_NOT_OPEN = 9,
@@ -210,9 +210,9 @@ int32_t nx_load(nx_session *session, const uint8_t *main, size_t main_length,
                 uint32_t joins_dyndeps);
 
 /*
- * The path at an index among the files that the last load wanted and that were not handed in, in the
- * order in which it came to them. More may be wanted once these are there. The list stays as it is
- * until the next load, so files can be handed in while it is gone through.
+ * The path at an index among the files that the last load or run wanted and that were not handed in,
+ * in the order in which it came to them. More may be wanted once these are there. The list stays as
+ * it is until the next load or run, so files can be handed in while it is gone through.
  * NX_DONE, NX_NOTHING past the end, NX_SHORT.
  */
 int32_t nx_wanted(nx_session *session, size_t index, uint8_t *buffer, size_t size, size_t *needed);
@@ -361,6 +361,27 @@ int32_t nx_found(nx_session *session, size_t index, size_t *edge);
 
 /* The mark at which the last page ends. NX_DONE, NX_NOTHING if no edge is left after it, NX_SHORT. */
 int32_t nx_page_mark(nx_session *session, uint8_t *buffer, size_t size, size_t *needed);
+
+/* ---- whole runs ---- */
+
+/*
+ * Runs the program with the words of a text, over the files that were handed in. The words come
+ * without the program's own name, and each ends before a zero byte or at the end of the text: as
+ * "-t\0commands\0all", or with one zero byte more. What the program would write is kept in the
+ * session until the next run; nx_run_output and nx_run_errors give it. The exit status is the
+ * program's: 0 if all was found and written, 1 after a fault, 2 for words that are no request, 3 if
+ * --take stopped the run, which then names the mark for --resume. What was loaded and listed stays.
+ * NX_DONE, with the exit status; NX_WANTED as for nx_load: hand the files in, or record that they
+ * are absent, and run again; NX_NOT_UTF8; NX_OUT_OF_MEMORY. After all but NX_DONE both outputs are
+ * empty. An allocation that fails while the program runs may also end as a fault of the run.
+ */
+int32_t nx_run(nx_session *session, const uint8_t *words, size_t words_length, int32_t *exit);
+
+/* What the last run wrote to its output. NX_DONE or NX_SHORT. */
+int32_t nx_run_output(nx_session *session, uint8_t *buffer, size_t size, size_t *needed);
+
+/* What the last run wrote to its error output. NX_DONE or NX_SHORT. */
+int32_t nx_run_errors(nx_session *session, uint8_t *buffer, size_t size, size_t *needed);
 
 #ifdef __cplusplus
 }

@@ -146,6 +146,20 @@ static int32_t give_mark(nx_session *of, size_t number, uint8_t *buffer, size_t 
     return nx_page_mark(of, buffer, size, needed);
 }
 
+static int32_t give_output(nx_session *of, size_t number, uint8_t *buffer, size_t size,
+                           size_t *needed)
+{
+    (void)number;
+    return nx_run_output(of, buffer, size, needed);
+}
+
+static int32_t give_errors(nx_session *of, size_t number, uint8_t *buffer, size_t size,
+                           size_t *needed)
+{
+    (void)number;
+    return nx_run_errors(of, buffer, size, needed);
+}
+
 static int32_t give_variable(nx_session *of, size_t number, uint8_t *buffer, size_t size,
                              size_t *needed)
 {
@@ -514,6 +528,19 @@ static int hand_in(void)
     return IF_OPEN(ADDED, nx_add_absent(&session, given, given_length)) == NX_DONE;
 }
 
+/* Hands in all files that are wanted. Returns whether that could be done. */
+static int hand_in_all(void)
+{
+    size_t index = 0;
+    while (TEXT(if_open, nx_wanted, index, OF(DONE) | OF(NOTHING)) == NX_DONE) {
+        if (!hand_in())
+            return 0;
+        index++;
+    }
+    expect(index > 0, "nx_wanted", "paths", 0);
+    return 1;
+}
+
 static int32_t load_once(const char *main, uint32_t joins)
 {
     unsigned loaded = OF(DONE) | OF(FAULT) | OF(WANTED) | OF(OUT_OF_MEMORY);
@@ -532,19 +559,69 @@ static int32_t load(const char *main, uint32_t joins)
     int32_t status = NX_WANTED;
     for (size_t round = 0; status == NX_WANTED && round < MOST_ROUNDS; round++) {
         status = load_once(main, joins);
-        if (status != NX_WANTED)
-            break;
-        size_t index = 0;
-        while (TEXT(if_open, nx_wanted, index, OF(DONE) | OF(NOTHING)) == NX_DONE) {
-            if (!hand_in())
-                return NX_OUT_OF_MEMORY;
-            index++;
-        }
-        expect(index > 0, "nx_wanted", "paths", 0);
+        if (status == NX_WANTED && !hand_in_all())
+            return NX_OUT_OF_MEMORY;
     }
     expect(status != NX_WANTED, "nx_load", "wants more after rounds", MOST_ROUNDS);
     return status;
 }
+
+/* ---- whole runs ---- */
+
+#define WORDS(text) { (const uint8_t *)(text), sizeof(text) - 1 }
+#define RAN (OF(DONE) | OF(WANTED) | OF(OUT_OF_MEMORY))
+enum { UNTOUCHED = 77, MOST_EXIT = 3 };
+
+/* Runs once. After all but NX_DONE both outputs are empty, and the exit status is not given. */
+static int32_t run_once(struct text words, unsigned statuses)
+{
+    int32_t exit_status = UNTOUCHED;
+    int32_t status = IF_OPEN(statuses, nx_run(&session, words.bytes, words.length, &exit_status));
+    int is_given = exit_status >= 0 && exit_status <= MOST_EXIT;
+    expect(status == NX_DONE ? is_given : exit_status == UNTOUCHED, "nx_run", "exit", exit_status);
+    TEXT(if_open, give_output, 0, OF(DONE));
+    expect(status == NX_DONE || state == CLOSED || given_length == 0, "nx_run_output", "length",
+           (long long)given_length);
+    TEXT(if_open, give_errors, 0, OF(DONE));
+    expect(status == NX_DONE || state == CLOSED || given_length == 0, "nx_run_errors", "length",
+           (long long)given_length);
+    return status;
+}
+
+/* Runs until nothing more is wanted. */
+static int32_t run(struct text words, unsigned statuses)
+{
+    int32_t status = NX_WANTED;
+    for (size_t round = 0; status == NX_WANTED && round < MOST_ROUNDS; round++) {
+        status = run_once(words, statuses);
+        if (status == NX_WANTED && !hand_in_all())
+            return NX_OUT_OF_MEMORY;
+    }
+    expect(status != NX_WANTED, "nx_run", "wants more after rounds", MOST_ROUNDS);
+    return status;
+}
+
+static void try_runs(void)
+{
+    static const struct text requests[] = {
+        WORDS("-t\0commands"),
+        WORDS("-t\0commands\0--take\0" "1\0"),
+        WORDS("--dyndep\0-t\0compdb\0"),
+        WORDS("-t\0targets\0all"),
+        WORDS("-t\0query\0nothing"),
+        WORDS("-f\0nothing\0-t\0rules"),
+        WORDS("\0"),
+        WORDS("\0\0-t"),
+        WORDS("--nothing"),
+        { NULL, 0 },
+    };
+    for (size_t at = 0; at < sizeof requests / sizeof *requests; at++)
+        run(requests[at], RAN);
+    struct text not_utf8 = WORDS("-t\0\xff");
+    run_once(not_utf8, OF(NOT_UTF8));
+}
+
+/* ---- lives ---- */
 
 /* The life of a session. */
 static void live(void)
@@ -554,11 +631,13 @@ static void live(void)
     IF_OPEN(0, nx_add_file(&session, NULL, 0, NULL, 0));
     IF_OPEN(0, nx_add_absent(&session, NULL, 0));
     load_once("build.ninja", 0);
+    try_runs();
     ask_all();
     ALWAYS(OF(DONE), nx_close(&session));
     if (ALWAYS(OF(DONE) | OF(OUT_OF_MEMORY), nx_open(&session, 7)) == NX_DONE)
         state = OPEN;
     ask_all();
+    run_once((struct text){ NULL, 0 }, OF(WANTED) | OF(OUT_OF_MEMORY));
     IF_OPEN(ADDED, nx_add_absent(&session, NULL, 0));
     load_once(NULL, 0);
     IF_OPEN(ADDED, nx_add_file(&session, NULL, 0, NULL, 0));
@@ -570,6 +649,8 @@ static void live(void)
         int32_t again = load("build.ninja", joins);
         int is_same = again == status || status == NX_OUT_OF_MEMORY || again == NX_OUT_OF_MEMORY;
         expect(is_same, "nx_load", "another status", again);
+        try_runs();
+        ask_all();
     }
     IF_OPEN(OF(NOT_UTF8), nx_load(&session, not_utf8, 1, 0));
     if (state != CLOSED)
@@ -595,6 +676,7 @@ static void live_briefly(void)
         state = OPEN;
     load("build.ninja", 1);
     ask_all();
+    run((struct text)WORDS("--dyndep\0-t\0commands"), RAN);
     load("build.ninja", 1);
     ALWAYS(OF(DONE), nx_close(&session));
     state = CLOSED;

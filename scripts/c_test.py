@@ -3,9 +3,10 @@
 
 Both examples on the library, examples/c and examples/python, have to give what the program gives:
 on examples/project, on what CMake writes for examples/cmake, and on a manifest of 2,000 included
-files; whole, in pages, and where there is a fault. c_calls.c makes every call on N manifests with
-changes (strangers.py makes them), and while allocations are refused, with 256 KB of stack. Where
-valgrind is installed, it may find nothing in the C example, nor in some of these cases.
+files; whole, in pages, and where there is a fault. So have runs of the program's words by the
+library, tool by tool. c_calls.c makes every call on N manifests with changes (strangers.py makes
+them), and while allocations are refused, with 256 KB of stack. Where valgrind is installed, it may
+find nothing in the C example, nor in some of these cases.
 
 Prints how much was tried, and what is wrong. The status is 1 if anything is wrong.
 """
@@ -233,6 +234,29 @@ def try_facts(tests, name, folder):
             tests.expect("comparisons", f"{name}, pages of {size}, Python", edges, needed)
 
 
+# ---- whole runs
+
+
+def requests(word):
+    """Words of runs that end in each way."""
+    tools = ["commands"], ["commands", word], ["inputs", word], ["targets", "all"], ["targets"]
+    tools += ["rules", "-d"], ["query", word], ["compdb", "--directory", "/w"], ["query", "nothing"]
+    pages = ["commands", "--take", "2"], ["commands", "--resume", "0.0"], ["commands", "--take", "x"]
+    yield from (["-t", *tool] for tool in (*tools, *pages, ["nothing"]))
+    yield from (["--dyndep", *COMMANDS], ["-f", "nothing", *COMMANDS], ["--nothing"], ["-t"], [""])
+
+
+def try_runs(tests, name, folder, word):
+    """Compares runs by Python with those of the program, and that a graph stays loaded."""
+    with Graph.load(folder=folder) as graph:
+        count = len(list(graph.edges))
+        for words in requests(word):
+            ran = graph.run(words, folder)
+            found = sweeps.Ending(ran.status, encoded(ran.output), encoded(ran.errors))
+            tests.expect("runs", f"{name}, run {words}", found, tests.program.run(words, folder))
+        tests.expect("runs", f"{name}, edges after runs", len(list(graph.edges)), count)
+
+
 def try_affected(tests, folder, words, paths):
     """Compares affected.py with crates/affected_tests."""
     given = "".join(f"{path}\n" for path in paths).encode()
@@ -271,6 +295,7 @@ def try_project(tests, name, folder, words, sizes):
     for size in sizes:
         try_pages(tests, name, folder, [], size)
     try_facts(tests, name, folder)
+    try_runs(tests, name, folder, words[0])
     return whole
 
 

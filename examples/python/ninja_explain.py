@@ -53,6 +53,8 @@ _declare("nx_is_phony", c_size_t, POINTER(c_int32))
 _declare("nx_edge_place", c_size_t, GIVEN, GIVEN)
 _declare("nx_affected", *NUMBERS)
 _declare("nx_page", *NUMBERS, *TEXT, c_size_t)
+_declare("nx_run", *TEXT, POINTER(c_int32))
+_declare("nx_run_output nx_run_errors", *BUFFER)
 
 
 class Fault(Exception):
@@ -72,7 +74,7 @@ ERRORS = {
     NOT_LOADED: (ValueError, "no graph is loaded"),
     BAD_NUMBER: (IndexError, "no edge or file has this number"),
     BAD_MARK: (BadMark, "bad mark"),
-    NOT_UTF8: (ValueError, "the path of the main file is not UTF-8"),
+    NOT_UTF8: (ValueError, "a path or a word is not UTF-8"),
     NOT_OPEN: (ValueError, "the graph is closed"),
     OUT_OF_MEMORY: (MemoryError, "out of memory"),
 }
@@ -92,6 +94,14 @@ class Input(NamedTuple):
 class Page(NamedTuple):
     edges: "list[Edge]"
     mark: Optional[str]
+
+
+class Run(NamedTuple):
+    """What the program does with some words: its exit status, and what it writes."""
+
+    status: int
+    output: str
+    errors: str
 
 
 class File(NamedTuple):
@@ -183,10 +193,14 @@ class Graph:
         """The graph of a manifest and of all files that it includes, which are read in a folder.
         Raises the first Fault, or OSError if a file is there and cannot be read."""
         graph = cls()
-        while graph._call("nx_load", *_bytes(path), joins_dyndeps) == WANTED:
-            for wanted in list(graph._strings("nx_wanted")):
-                graph._hand_in(wanted, folder)
+        graph._call_with_files(folder, "nx_load", *_bytes(path), joins_dyndeps)
         return graph
+
+    def _call_with_files(self, folder, name, *arguments):
+        """Makes a call until it wants no more files, which are read in a folder."""
+        while self._call(name, *arguments) == WANTED:
+            for wanted in list(self._strings("nx_wanted")):
+                self._hand_in(wanted, folder)
 
     def _hand_in(self, path, folder):
         try:
@@ -254,6 +268,18 @@ class Graph:
         which is None if no edge is left."""
         self._call("nx_page", *_numbers(targets), *_bytes(mark), take)
         return Page(list(self._items(Edge, "nx_found")), self._optional_text("nx_page_mark"))
+
+    # ---- whole runs
+
+    def run(self, words, folder="."):
+        """Runs the program with these words, without its own name, over the files in a folder.
+        What was read before is not read again. Raises ValueError for a word with a zero byte."""
+        if any("\0" in word for word in words):
+            raise ValueError("a word has a zero byte")
+        status = c_int32()
+        text = "".join(f"{word}\0" for word in words)
+        self._call_with_files(folder, "nx_run", *_bytes(text), byref(status))
+        return Run(status.value, self._text("nx_run_output"), self._text("nx_run_errors"))
 
     # ---- calls of the library
 

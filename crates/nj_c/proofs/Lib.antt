@@ -5,5 +5,8 @@ mod ItemLemmas
 mod LoadLemmas
 mod MachineValues
 mod PageLemmas
+mod RunLemmas
 mod SessionValues
 mod WantedLemmas
+mod WordLemmas
+mod WordRows

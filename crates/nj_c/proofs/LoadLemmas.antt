@@ -10,7 +10,7 @@ use Rattle.nj_c.specs.declared.kept.Kept.{Kept}
 use Rattle.nj_c.specs.declared.status.Status.{Status}
 use Rattle.nj_c.specs.declared.status.Status.TheVariants.{Done, Nothing, Short, Fault, Wanted, NotLoaded, BadNumber, BadMark, NotUtf8, NotOpen, OutOfMemory}
 use Rattle.nj_c.specs.HandedIn.{handed_in, handed_state, wanted_paths}
-use Rattle.nj_c.specs.Loading.{unread, GivesGraph, ListsNothing, LoadsGraph, LoadsAs, LoadsKept}
+use Rattle.nj_c.specs.Loading.{unread, GivesGraph, ListsNothing, LoadsGraph, LoadsAs, LoadsKept, SameRun}
 use Rattle.nj_c.specs.Inside.Results.{FinishesLoad, KeepsResult, KeepsWanted, SameLists}
 
 -- the graph of what was loaded
@@ -92,17 +92,18 @@ loads-as before after main joins result NotUtf8 loads keeps = absurd keeps
 loads-as before after main joins result NotOpen loads keeps = absurd keeps
 
 pub loads_kept : (before middle after : Kept) (main : List ℕ) (joins : Bool) (result : Result GraphText GraphFault) (status : Status)
-    → middle.files ≡ unread before.files → ListsNothing middle → SameLists middle after
+    → middle.files ≡ unread before.files → ListsNothing middle → SameRun before middle → SameLists middle after
     → LoadsGraph (handed_state middle.files) (handed_state after.files) main joins result
     → FinishesLoad after result status → LoadsKept before after main joins status
-loads_kept before middle after main joins result status begun nothing same loads finishes =
+loads_kept before middle after main joins result status begun nothing run same loads finishes =
     let from = subst (λ f. LoadsGraph (handed_state f) (handed_state after.files) main joins result) begun loads in (
       same_files (handed_state (unread before.files)) (handed_state after.files) main joins result from,
-      (ap (λ v. v.items) same.0 ∙ nothing.0, ap (λ v. v.items) same.1 ∙ nothing.1),
+      (ap (λ v. v.items) same.found ∙ nothing.0, ap (λ v. v.items) same.mark ∙ nothing.1),
+      record { output = same.run.output ∙ run.output; errors = same.run.errors ∙ run.errors },
       loads-as before after main joins result status from finishes,
     )
 
 pub not_loaded : (before after : Kept) (main : List ℕ) (joins : Bool) → after.files ≡ unread before.files → after.wanted.items ≡ [] → after.graph ≡ None
-    → after.fault ≡ None → ListsNothing after → is_utf8 main ≡ false → LoadsKept before after main joins NotUtf8
-not_loaded before after main joins files wanted graph fault nothing none =
-    ((λ path. ap (λ f. handed_in f path) files), nothing, (graph, fault, wanted, none))
+    → after.fault ≡ None → ListsNothing after → SameRun before after → is_utf8 main ≡ false → LoadsKept before after main joins NotUtf8
+not_loaded before after main joins files wanted graph fault nothing run none =
+    ((λ path. ap (λ f. handed_in f path) files), nothing, run, (graph, fault, wanted, none))

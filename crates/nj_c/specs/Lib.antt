@@ -5,6 +5,7 @@ pub mod Asking
 pub mod Loading
 pub mod FaultKinds
 pub mod Pages
+pub mod Runs
 pub mod Targets
 -- how a session keeps what it owns
 pub mod Inside

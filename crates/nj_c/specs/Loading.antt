@@ -25,6 +25,11 @@ Changes before after result does = (kept : Kept) × (after ≡ Some kept) × Ret
 abbrev pub ListsNothing : Kept → Type 0
 ListsNothing kept = (kept.found.items ≡ []) × (kept.mark.items ≡ [])
 
+-- what the last run wrote is kept as it is
+pub record SameRun (before after : Kept) : Type 0 where
+  pub output : after.output ≡ before.output
+  pub errors : after.errors ≡ before.errors
+
 -- an open session to which nothing was handed in, and which has neither a graph nor a fault
 pub record IsEmpty (kept : Kept) : Type 0 where
   pub files : kept.files ≡ record { paths = []; files = []; read = [] }
@@ -32,6 +37,8 @@ pub record IsEmpty (kept : Kept) : Type 0 where
   pub graph : kept.graph ≡ None
   pub fault : kept.fault ≡ None
   pub lists : ListsNothing kept
+  pub output : kept.output.bytes ≡ []
+  pub errors : kept.errors.bytes ≡ []
 
 -- a session was opened anew; or an allocation failed, and it is as it was
 abbrev pub Opens : (before after : Option Kept) → ℤ → Type 0
@@ -97,4 +104,4 @@ LoadsAs before after main joins other = ⊥
 -- What was handed in stays as it is in a load, and what was listed of an earlier graph is gone.
 abbrev pub LoadsKept : (before after : Kept) → (main : List ℕ) → (joins : Bool) → Status → Type 0
 LoadsKept before after main joins status =
-    SameFiles before.files after.files × ListsNothing after × LoadsAs before after main joins status
+    SameFiles before.files after.files × ListsNothing after × SameRun before after × LoadsAs before after main joins status

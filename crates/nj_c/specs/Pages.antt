@@ -15,6 +15,7 @@ use Rattle.nj_tools.specs.CommandStrings.{StopsAt, written}
 use Rattle.nj_c.specs.declared.kept.Kept.{Kept}
 use Rattle.nj_c.specs.declared.status.Status.{Status}
 use Rattle.nj_c.specs.declared.status.Status.TheVariants.{Done, NotLoaded, BadNumber, BadMark, OutOfMemory}
+use Rattle.nj_c.specs.Loading.{SameRun}
 
 -- the numbers of edges and of files
 abbrev pub edge_numbers : Kept → List ℕ
@@ -35,6 +36,7 @@ pub record Lists (before after : Kept) : Type 0 where
   pub wanted : after.wanted ≡ before.wanted
   pub graph : after.graph ≡ before.graph
   pub fault : after.fault ≡ before.fault
+  pub run : SameRun before after
 
 -- ---- what a change reaches
 

@@ -5,6 +5,7 @@ ghost use Rattle.nj_c.specs.Loading.{IsEmpty};
 use crate::handed_in::HandedIn;
 use nj_graph::{EdgeNo, Graph, GraphFault};
 use nj_scope::HashKeys;
+use nj_tools::MemorySink;
 use std::alloc::Global;
 
 /// What an open session keeps.
@@ -12,7 +13,7 @@ use std::alloc::Global;
 pub struct Kept {
     /// The files that were handed in.
     pub(crate) files: HandedIn,
-    /// The paths that the last load wanted and that were not handed in.
+    /// The paths that the last load or run wanted and that were not handed in.
     pub(crate) wanted: Vec<Vec<u8>>,
     /// The graph, after a load that went well.
     pub(crate) graph: Option<Graph>,
@@ -22,6 +23,10 @@ pub struct Kept {
     pub(crate) found: Vec<EdgeNo>,
     /// The text of the mark at which the last page ends; empty if nothing is left after it.
     pub(crate) mark: Vec<u8>,
+    /// What the last run wrote to its output.
+    pub(crate) output: MemorySink,
+    /// What the last run wrote to its error output.
+    pub(crate) errors: MemorySink,
 }
 
 impl Kept {
@@ -36,6 +41,8 @@ impl Kept {
             fault: None,
             found: Vec::new(alloc),
             mark: Vec::new(alloc),
+            output: MemorySink::new(alloc, None),
+            errors: MemorySink::new(alloc, None),
         }
     }
 }

@@ -13,16 +13,19 @@ mod files;
 mod handed_in;
 mod items;
 mod kept;
+mod laws;
 mod lists;
 mod loading;
 mod loose;
 mod opening;
 mod pages;
+mod runs;
 mod seal;
 mod session;
 mod status;
 mod targets;
 mod values;
+mod words;
 
 pub use counts::{nx_edge_count, nx_file_count, nx_rule_count};
 pub use edges::{
@@ -31,10 +34,12 @@ pub use edges::{
 };
 pub use faults::{nx_fault_file, nx_fault_kind, nx_fault_line, nx_fault_place};
 pub use files::{nx_file_named, nx_maker, nx_path, nx_user, nx_validation_user};
+pub use laws::{all_words_can_be_given, outputs_never_fail};
 pub use lists::{nx_default, nx_root};
 pub use loading::{nx_load, nx_wanted};
 pub use opening::{nx_add_absent, nx_add_file, nx_close, nx_open, nx_version};
 pub use pages::{nx_affected, nx_found, nx_page, nx_page_mark};
+pub use runs::{nx_run, nx_run_errors, nx_run_output};
 pub use session::Session;
 pub use targets::nx_pick_target;
 pub use values::{nx_command, nx_variable};

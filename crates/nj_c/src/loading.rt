@@ -3,7 +3,7 @@
 ghost use Rattle.std.specs.Prelude.{◌≡◌, None, [], true, map, not, nat_eq};
 ghost use Rattle.nj_c.specs.Asking.{GivesTextAt, IfOpen, KeptUnlessDone};
 ghost use Rattle.nj_c.specs.HandedIn.{handed_state};
-ghost use Rattle.nj_c.specs.Loading.{unread, Changes, GivesGraph, ListsNothing, LoadsGraph, LoadsKept};
+ghost use Rattle.nj_c.specs.Loading.{unread, Changes, GivesGraph, ListsNothing, LoadsGraph, LoadsKept, SameRun};
 ghost use Rattle.nj_c.specs.Statuses.{code_of};
 ghost use Rattle.nj_c.specs.Inside.Results.{FinishesLoad, KeepsFault, KeepsGraph, KeepsResult, SameLists};
 
@@ -122,6 +122,7 @@ fn forget_load(kept: &mut Kept)
     ensures graph { kept.new.graph ≡ None }
     ensures fault { kept.new.fault ≡ None }
     ensures lists { ListsNothing kept.new }
+    ensures run { SameRun kept.old kept.new }
 {
     drop(kept.graph.take());
     drop(kept.fault.take());

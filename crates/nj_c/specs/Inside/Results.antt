@@ -4,6 +4,7 @@ use Rattle.nj_faults.specs.declared.fault.GraphFault.{GraphFault}
 use Rattle.nj_faults.specs.Faults.{no_memory}
 use Rattle.nj_graph.specs.Graph.{GraphText}
 use Rattle.nj_c.specs.HandedIn.{wanted_paths}
+use Rattle.nj_c.specs.Loading.{SameRun}
 use Rattle.nj_c.specs.declared.kept.Kept.{Kept}
 use Rattle.nj_c.specs.declared.status.Status.{Status}
 use Rattle.nj_c.specs.declared.status.Status.TheVariants.{Done, Fault, Wanted, OutOfMemory}
@@ -33,9 +34,11 @@ KeepsFault kept fault Wanted = (kept.fault ≡ None) × (kept.wanted.items ≢ [
 KeepsFault kept fault OutOfMemory = kept.fault ≡ None
 KeepsFault kept fault other = ⊥
 
--- the same edges are listed, with the same mark after them
-abbrev pub SameLists : (before after : Kept) → Type 0
-SameLists before after = (after.found ≡ before.found) × (after.mark ≡ before.mark)
+-- the same edges are listed, with the same mark after them, and what the last run wrote is kept
+pub record SameLists (before after : Kept) : Type 0 where
+  pub found : after.found ≡ before.found
+  pub mark : after.mark ≡ before.mark
+  pub run : SameRun before after
 
 -- the paths that are wanted are kept
 abbrev pub KeepsWanted : Kept → Type 0

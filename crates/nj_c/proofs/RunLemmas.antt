@@ -1,0 +1,203 @@
+-- What a run leaves.
+use Rattle.std.specs.Global.{Vec}
+use Rattle.std.proofs.Common.{◌≡◌, ◌≢◌, inl, inr, ℕ, ℤ, pos, Bool, true, false, Ok, Err, Result, List, [], ◌∷◌, map, refl, sym, ap, subst, ◌∙◌, arith, true≢false}
+use Rattle.nj_tools.specs.MemorySinks.{state_of}
+use Rattle.nj_args.specs.Requests.{ActionText, RequestText, request_of}
+use Rattle.nj_args.specs.declared.faults.UsageFault.{UsageFault}
+use Rattle.nj_scope.specs.ReadingList.{ReadStatement}
+use Rattle.nj_tools.specs.Sinks.{SinkState, FailsAfter, one_more}
+use Rattle.nj_cli.specs.declared.status.Status as run
+use Rattle.nj_cli.specs.declared.status.Status.TheVariants as cli
+use Rattle.nj_cli.specs.declared.status.Status.TheVariants.{OutputFailed, Usage}
+use Rattle.nj_cli.specs.Answers.{Ending, finished, stopped, faulty, status_of}
+use Rattle.nj_cli.specs.Runs as Cli
+use Rattle.nj_cli.specs.Runs.{Around, RunsWith, RunsWords, around, reported, untold, output_failed, memory_failed}
+use Rattle.nj_cli.specs.Status.{exit_code}
+use Rattle.nj_c.specs.declared.kept.Kept.{Kept}
+use Rattle.nj_c.specs.declared.status.Status.{Status}
+use Rattle.nj_c.specs.declared.status.Status.TheVariants.{Done, Nothing, Short, Fault, Wanted, NotLoaded, BadNumber, BadMark, NotUtf8, NotOpen, OutOfMemory}
+use Rattle.nj_c.specs.HandedIn.{Handed, handed_in, handed_state, SameFiles}
+use Rattle.nj_c.specs.Loading.{unread}
+use Rattle.nj_c.specs.Runs.{untouched, given_words, KeepsNoOutput, OutputsNeverFail, LeavesRun, LeavesRunOfText, RunsKept, SameLoad}
+use Rattle.nj_c.specs.Inside.RunsHeld.{FinishesRun, KeepsRun, NoFailures, NoRun, Ran, WordsRefused}
+
+-- ---- what the source declares stays
+
+files-with : (request : Result RequestText UsageFault) (old new : Around) (status : run.Status) → RunsWith request old new status
+    → (path : List ℕ) → new.source.files path ≡ old.source.files path
+files-with (Ok request) old new status runs path = runs.1.read.files path
+files-with (Err fault) old new status runs path = ap (λ s. s.files path) runs.source
+
+pub files-stay : (words : List (List ℕ)) (old new : Around) (status : run.Status) → RunsWords words old new status
+    → (path : List ℕ) → new.source.files path ≡ old.source.files path
+files-stay words old new status (inl runs) path = files-with (request_of words) old new status runs path
+files-stay words old new status (inr fails) path = ap (λ s. s.files path) fails.source
+
+-- ---- how a run ends
+
+no-output : (kept : Kept) → NoRun kept → KeepsNoOutput kept
+no-output kept none = record { output = ap (λ m. m.bytes) none.output; errors = ap (λ m. m.bytes) none.errors }
+
+-- from new sinks
+pub from-new : (words : List (List ℕ)) (before after : Kept) (ended : run.Status) → NoRun before
+    → RunsWords words (around (handed_state before.files) (state_of before.output) (state_of before.errors)) (around (handed_state after.files) (state_of after.output) (state_of after.errors)) ended
+    → Ran before.files after words ended
+from-new words before after ended none runs =
+    let end = around (handed_state after.files) (state_of after.output) (state_of after.errors) in
+    subst (λ m. RunsWords words (around (handed_state before.files) untouched (state_of m)) end ended) none.errors
+    (subst (λ m. RunsWords words (around (handed_state before.files) (state_of m) (state_of before.errors)) end ended) none.output runs)
+
+module _ (words : List (List ℕ)) (begun : Handed) (mid after : Kept) (ended : run.Status) where
+  pub ends-done : (before exit : ℤ) → Ran begun mid words ended → after.files ≡ mid.files → exit ≡ pos (exit_code ended) → FinishesRun mid after Done
+      → LeavesRun begun after words before exit Done
+  ends-done before exit ran files is (none, (same, whole, wanted)) = (
+    ended,
+    is,
+    record {
+      runs = rw (files, same.output, same.errors) ran;
+      no_failures = (ap (λ m. m.failures) same.output ∙ none.output, ap (λ m. m.failures) same.errors ∙ none.errors);
+    },
+    whole,
+    wanted,
+  )
+
+  pub ends-other : (exit : ℤ) (status : Status) → Ran begun mid words ended → after.files ≡ mid.files → (status ≡ Done → ⊥) → FinishesRun mid after status
+      → LeavesRun begun after words exit exit status
+  ends-other exit Done ran files other finishes = absurd (other refl)
+  ends-other exit Wanted ran files other (none, (nothing, some, wanted)) = (
+    ended,
+    mid.output,
+    mid.errors,
+    refl,
+    record { runs = rw files ran; no_failures = (none.output, none.errors) },
+    no-output after nothing,
+    some,
+    wanted,
+  )
+  ends-other exit OutOfMemory ran files other (nothing, wanted) = (refl, no-output after nothing, wanted)
+  ends-other exit Nothing ran files other finishes = absurd finishes
+  ends-other exit Short ran files other finishes = absurd finishes
+  ends-other exit Fault ran files other finishes = absurd finishes
+  ends-other exit NotLoaded ran files other finishes = absurd finishes
+  ends-other exit BadNumber ran files other finishes = absurd finishes
+  ends-other exit BadMark ran files other finishes = absurd finishes
+  ends-other exit NotUtf8 ran files other finishes = absurd finishes
+  ends-other exit NotOpen ran files other finishes = absurd finishes
+
+-- ---- what is kept
+
+pub finishes-run : (before after : Kept) (status : Status) → NoFailures before → KeepsRun before after status → FinishesRun before after status
+finishes-run before after Done none keeps = (none, keeps)
+finishes-run before after Wanted none keeps = (none, keeps)
+finishes-run before after OutOfMemory none keeps = absurd keeps
+finishes-run before after Nothing none keeps = absurd keeps
+finishes-run before after Short none keeps = absurd keeps
+finishes-run before after Fault none keeps = absurd keeps
+finishes-run before after NotLoaded none keeps = absurd keeps
+finishes-run before after BadNumber none keeps = absurd keeps
+finishes-run before after BadMark none keeps = absurd keeps
+finishes-run before after NotUtf8 none keeps = absurd keeps
+finishes-run before after NotOpen none keeps = absurd keeps
+
+abbrev is-nil : {A : Type 0} → List A → Bool
+is-nil [] = true
+is-nil (x ∷ xs) = false
+
+pub none-wanted : (paths : List (Vec ℕ)) (wanted : List (List ℕ)) → paths ≡ [] → map (λ p. p.items) paths ≡ wanted → wanted ≡ []
+none-wanted paths wanted none is = sym is ∙ ap (map (λ p. p.items)) none
+
+pub some-wanted : (paths : List (Vec ℕ)) (wanted : List (List ℕ)) → paths ≢ [] → map (λ p. p.items) paths ≡ wanted → wanted ≢ []
+some-wanted [] wanted some is none = some refl
+some-wanted (p ∷ ps) wanted some is none = true≢false (sym (ap is-nil (is ∙ none)))
+
+-- ---- the whole run
+
+pub same-load : (before middle after : Kept) → SameLoad before middle → SameLoad middle after → SameLoad before after
+same-load before middle after one two = record {
+  graph = two.graph ∙ one.graph;
+  fault = two.fault ∙ one.fault;
+  found = two.found ∙ one.found;
+  mark = two.mark ∙ one.mark;
+}
+
+of-text : (before after : Kept) (text : List ℕ) (exit new : ℤ) (status : Status) → LeavesRun (unread before.files) after (given_words text) exit new status
+    → LeavesRunOfText before after text exit new status
+of-text before after text exit new Done ends = ends
+of-text before after text exit new Wanted ends = ends
+of-text before after text exit new OutOfMemory ends = ends
+of-text before after text exit new NotUtf8 ends = absurd ends
+of-text before after text exit new Nothing ends = absurd ends
+of-text before after text exit new Short ends = absurd ends
+of-text before after text exit new Fault ends = absurd ends
+of-text before after text exit new NotLoaded ends = absurd ends
+of-text before after text exit new BadNumber ends = absurd ends
+of-text before after text exit new BadMark ends = absurd ends
+of-text before after text exit new NotOpen ends = absurd ends
+
+pub runs-kept : (before middle after : Kept) (text : List ℕ) (words : List (List ℕ)) (exit new : ℤ) (status : Status) → middle.files ≡ unread before.files
+    → SameLoad before middle → words ≡ given_words text → SameFiles middle.files after.files → SameLoad middle after
+    → LeavesRun middle.files after words exit new status → RunsKept before after text exit new status
+runs-kept before middle after text words exit new status begun one are files two ends = (
+  (λ path. files path ∙ ap (λ f. handed_in f path) begun),
+  same-load before middle after one two,
+  of-text before after text exit new status
+      (subst (λ ws. LeavesRun (unread before.files) after ws exit new status) are (subst (λ f. LeavesRun f after words exit new status) begun ends)),
+)
+
+pub not-run : (before middle : Kept) (text : List ℕ) (exit : ℤ) (status : Status) → middle.files ≡ unread before.files → SameLoad before middle → NoRun middle
+    → middle.wanted.items ≡ [] → WordsRefused text status → RunsKept before middle text exit exit status
+not-run before middle text exit NotUtf8 begun one none wanted why =
+    ((λ path. ap (λ f. handed_in f path) begun), one, (refl, no-output middle none, wanted, why))
+not-run before middle text exit OutOfMemory begun one none wanted why =
+    ((λ path. ap (λ f. handed_in f path) begun), one, (refl, no-output middle none, wanted))
+not-run before middle text exit Done begun one none wanted why = absurd why
+not-run before middle text exit Nothing begun one none wanted why = absurd why
+not-run before middle text exit Short begun one none wanted why = absurd why
+not-run before middle text exit Fault begun one none wanted why = absurd why
+not-run before middle text exit Wanted begun one none wanted why = absurd why
+not-run before middle text exit NotLoaded begun one none wanted why = absurd why
+not-run before middle text exit BadNumber begun one none wanted why = absurd why
+not-run before middle text exit BadMark begun one none wanted why = absurd why
+not-run before middle text exit NotOpen begun one none wanted why = absurd why
+
+-- ---- its status
+
+abbrev is-failed : run.Status → Bool
+is-failed OutputFailed = true
+is-failed other = false
+
+other-status : (status is : run.Status) → is-failed is ≡ false → status ≡ is → status ≢ OutputFailed
+other-status status is other same failed = true≢false (ap is-failed (sym failed ∙ same) ∙ other)
+
+reported-status : (ending : Ending) → is-failed (status_of ending) ≡ false
+reported-status finished = refl
+reported-status (stopped mark) = refl
+reported-status (faulty text) = refl
+
+-- a sink that failed counts that
+fails-once : (old new : SinkState) (front : List ℕ) → old ≡ untouched → FailsAfter old new front → new.failures ≡ 0 → ⊥
+fails-once old new front begun fails none = let one : one_more 0 ≡ 0 = sym (fails.failures ∙ ap (λ s. one_more s.failures) begun) ∙ none in absurd (omega (arith, one))
+
+ends-so : (entries : List ReadStatement) (action : ActionText) (old new : Around) (ended : run.Status) → old.output ≡ untouched → old.error ≡ untouched
+    → new.output.failures ≡ 0 → new.error.failures ≡ 0 → Cli.RunEnds entries action old new ended → ended ≢ OutputFailed
+ends-so entries action old new ended out err no-out no-err (reported r) = other-status ended (status_of r.ending) (reported-status r.ending) r.status_is
+ends-so entries action old new ended out err no-out no-err (untold r) = absurd (fails-once old.error new.error r.error.0 err r.error.2 no-err)
+ends-so entries action old new ended out err no-out no-err (output_failed r) = absurd (fails-once old.output new.output r.output.0 out r.output.2 no-out)
+ends-so entries action old new ended out err no-out no-err (memory_failed r) = other-status ended cli.Fault refl r.status_is
+
+request-ends : (request : Result RequestText UsageFault) (old new : Around) (ended : run.Status) → old.output ≡ untouched → old.error ≡ untouched
+    → new.output.failures ≡ 0 → new.error.failures ≡ 0 → RunsWith request old new ended → ended ≢ OutputFailed
+request-ends (Ok request) old new ended out err no-out no-err (files, read, inl refused) = other-status ended cli.Fault refl refused.status_is
+request-ends (Ok request) old new ended out err no-out no-err (files, read, inr answered) =
+    ends-so answered.entries request.action old new ended out err no-out no-err answered.outcomes
+request-ends (Err fault) old new ended out err no-out no-err misused = other-status ended Usage refl misused.status_is
+
+words-end : (words : List (List ℕ)) (old new : Around) (ended : run.Status) → old.output ≡ untouched → old.error ≡ untouched
+    → new.output.failures ≡ 0 → new.error.failures ≡ 0 → RunsWords words old new ended → ended ≢ OutputFailed
+words-end words old new ended out err no-out no-err (inl runs) = request-ends (request_of words) old new ended out err no-out no-err runs
+words-end words old new ended out err no-out no-err (inr fails) = other-status ended cli.Fault refl fails.status_is
+
+pub never-fails : OutputsNeverFail
+never-fails begun after words output errors ended has =
+    words-end words (around (handed_state begun) untouched untouched) (around (handed_state after) (state_of output) (state_of errors)) ended
+    refl refl has.no_failures.0 has.no_failures.1 has.runs

@@ -1,0 +1,51 @@
+-- How a session keeps what a run wrote.
+use Rattle.std.specs.Prelude.{◌≡◌, ◌≢◌, ℕ, false, List, [], None, ⊤}
+use Rattle.std.specs.Str.{is_utf8}
+use Rattle.nj_tools.specs.MemorySinks.{Memory, state_of}
+use Rattle.nj_cli.specs.declared.status.Status as run
+use Rattle.nj_cli.specs.Runs.{RunsWords, around}
+use Rattle.nj_c.specs.declared.kept.Kept.{Kept}
+use Rattle.nj_c.specs.declared.status.Status.{Status}
+use Rattle.nj_c.specs.declared.status.Status.TheVariants.{Done, Wanted, NotUtf8, OutOfMemory}
+use Rattle.nj_c.specs.HandedIn.{Handed, handed_state, wanted_paths}
+use Rattle.nj_c.specs.Loading.{SameRun}
+use Rattle.nj_c.specs.Runs.{untouched}
+use Rattle.nj_c.specs.Inside.Results.{KeepsWanted}
+
+-- why a text gives no words
+abbrev pub WordsRefused : (text : List ℕ) → Status → Type 0
+WordsRefused text NotUtf8 = is_utf8 text ≡ false
+WordsRefused text OutOfMemory = ⊤
+WordsRefused text other = ⊥
+
+-- a new sink in memory
+abbrev pub empty_memory : Memory
+empty_memory = record { bytes = []; limit = None; capacity = 0; failures = 0; took_since_failure = false }
+
+-- the program ran with new sinks, which are kept
+abbrev pub Ran : (begun : Handed) → (after : Kept) → (words : List (List ℕ)) → run.Status → Type 0
+Ran begun after words ended =
+    RunsWords words (around (handed_state begun) untouched untouched)
+    (around (handed_state after.files) (state_of after.output) (state_of after.errors)) ended
+
+-- nothing was written, and no sink failed
+pub record NoRun (kept : Kept) : Type 0 where
+  pub output : kept.output ≡ empty_memory
+  pub errors : kept.errors ≡ empty_memory
+
+pub record NoFailures (kept : Kept) : Type 0 where
+  pub output : kept.output.failures ≡ 0
+  pub errors : kept.errors.failures ≡ 0
+
+-- what was written is kept, unless files are wanted
+abbrev pub KeepsRun : (before after : Kept) → Status → Type 0
+KeepsRun before after Done = SameRun before after × (wanted_paths after.files ≡ []) × (after.wanted.items ≡ [])
+KeepsRun before after Wanted = NoRun after × (wanted_paths after.files ≢ []) × KeepsWanted after
+KeepsRun before after other = ⊥
+
+-- or an allocation failed
+abbrev pub FinishesRun : (before after : Kept) → Status → Type 0
+FinishesRun before after Done = NoFailures before × KeepsRun before after Done
+FinishesRun before after Wanted = NoFailures before × KeepsRun before after Wanted
+FinishesRun before after OutOfMemory = NoRun after × (after.wanted.items ≡ [])
+FinishesRun before after other = ⊥

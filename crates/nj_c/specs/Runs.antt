@@ -1,0 +1,93 @@
+-- Runs of the program over the files that were handed in.
+use Rattle.std.specs.Prelude.{◌≡◌, ◌≢◌, ◌==◌, ℕ, ℤ, pos, Bool, false, List, [], ◌∷◌, ◌++◌, All, map, Some}
+use Rattle.std.specs.List.{flat_map, slice_split}
+use Rattle.std.specs.Str.{is_utf8}
+use Rattle.nj_tools.specs.Sinks.{SinkState}
+use Rattle.nj_tools.specs.MemorySinks.{Memory, state_of}
+use Rattle.nj_cli.specs.declared.status.Status as run
+use Rattle.nj_cli.specs.declared.status.Status.TheVariants.{OutputFailed}
+use Rattle.nj_cli.specs.Runs.{RunsWords, around}
+use Rattle.nj_cli.specs.Status.{exit_code}
+use Rattle.nj_c.specs.declared.kept.Kept.{Kept}
+use Rattle.nj_c.specs.declared.status.Status.{Status}
+use Rattle.nj_c.specs.declared.status.Status.TheVariants.{Done, Wanted, NotUtf8, OutOfMemory}
+use Rattle.nj_c.specs.HandedIn.{Handed, handed_state, wanted_paths, SameFiles}
+use Rattle.nj_c.specs.Loading.{unread}
+
+-- ---- the words
+
+abbrev pub is_zero : ℕ → Bool
+is_zero byte = byte == 0
+
+-- what comes after the last zero byte is a word only if it is not empty
+abbrev pub last_word : List ℕ → List (List ℕ)
+last_word [] = []
+last_word (byte ∷ bytes) = (byte ∷ bytes) ∷ []
+
+abbrev pub without_empty_last : List (List ℕ) → List (List ℕ)
+without_empty_last [] = []
+without_empty_last (word ∷ []) = last_word word
+without_empty_last (word ∷ next ∷ words) = word ∷ without_empty_last (next ∷ words)
+
+-- the words that a text gives, each of which ends before a zero byte or at the end of the text
+abbrev pub given_words : List ℕ → List (List ℕ)
+given_words text = without_empty_last (slice_split is_zero text)
+
+-- Each list of words without zero bytes can be given, as a text with a zero byte after each word.
+abbrev pub AllWordsCanBeGiven : Type 0
+AllWordsCanBeGiven = (words : List (List ℕ)) → All (All (λ byte. is_zero byte ≡ false)) words
+    → given_words (flat_map (λ word. word ++ 0 ∷ []) words) ≡ words
+
+-- ---- what a run does
+
+-- a sink that was asked for nothing yet
+abbrev pub untouched : SinkState
+untouched = record { taken = Some []; failures = 0; took_since_failure = false }
+
+-- The program ran with these words over the files that were handed in, and wrote this to its two outputs, neither of which failed.
+pub record HasRun (begun after : Handed) (words : List (List ℕ)) (output errors : Memory) (ended : run.Status) : Type 0 where
+  pub runs : RunsWords words (around (handed_state begun) untouched untouched)
+      (around (handed_state after) (state_of output) (state_of errors)) ended
+  pub no_failures : (output.failures ≡ 0) × (errors.failures ≡ 0)
+
+-- So it never ends as a run whose output could not be written.
+abbrev pub OutputsNeverFail : Type 0
+OutputsNeverFail = (begun after : Handed) (words : List (List ℕ)) (output errors : Memory) (ended : run.Status)
+    → HasRun begun after words output errors ended → ended ≢ OutputFailed
+
+-- nothing is kept of what a run wrote
+pub record KeepsNoOutput (after : Kept) : Type 0 where
+  pub output : after.output.bytes ≡ []
+  pub errors : after.errors.bytes ≡ []
+
+-- what was loaded and listed stays as it is
+pub record SameLoad (before after : Kept) : Type 0 where
+  pub graph : after.graph ≡ before.graph
+  pub fault : after.fault ≡ before.fault
+  pub found : after.found ≡ before.found
+  pub mark : after.mark ≡ before.mark
+
+-- What a run with these words leaves, by its status. All files that it read were handed in, unless some are wanted.
+abbrev pub LeavesRun : (begun : Handed) → (after : Kept) → (words : List (List ℕ)) → (exit_before exit_after : ℤ) → Status → Type 0
+LeavesRun begun after words exit_before exit_after Done =
+    (ended : run.Status) × (exit_after ≡ pos (exit_code ended)) × HasRun begun after.files words after.output after.errors ended
+    × (wanted_paths after.files ≡ []) × (after.wanted.items ≡ [])
+LeavesRun begun after words exit_before exit_after Wanted =
+    (ended : run.Status) × (output : Memory) × (errors : Memory) × (exit_after ≡ exit_before)
+    × HasRun begun after.files words output errors ended × KeepsNoOutput after
+    × (wanted_paths after.files ≢ []) × (map (λ p. p.items) after.wanted.items ≡ wanted_paths after.files)
+LeavesRun begun after words exit_before exit_after OutOfMemory =
+    (exit_after ≡ exit_before) × KeepsNoOutput after × (after.wanted.items ≡ [])
+LeavesRun begun after words exit_before exit_after other = ⊥
+
+-- The same of a text, which gives the words.
+abbrev pub LeavesRunOfText : (before after : Kept) → (text : List ℕ) → (exit_before exit_after : ℤ) → Status → Type 0
+LeavesRunOfText before after text exit_before exit_after NotUtf8 =
+    (exit_after ≡ exit_before) × KeepsNoOutput after × (after.wanted.items ≡ []) × (is_utf8 text ≡ false)
+LeavesRunOfText before after text exit_before exit_after status =
+    LeavesRun (unread before.files) after (given_words text) exit_before exit_after status
+
+-- What was handed in and what was loaded stay as they are in a run.
+abbrev pub RunsKept : (before after : Kept) → (text : List ℕ) → (exit_before exit_after : ℤ) → Status → Type 0
+RunsKept before after text exit_before exit_after status =
+    SameFiles before.files after.files × SameLoad before after × LeavesRunOfText before after text exit_before exit_after status

@@ -1,0 +1,13 @@
+//! Laws of runs.
+
+ghost use Rattle.nj_c.specs.Runs.{AllWordsCanBeGiven, OutputsNeverFail};
+
+/// Each list of words without zero bytes can be given, as a text with a zero byte after each word.
+pub fn all_words_can_be_given()
+    ensures { AllWordsCanBeGiven }
+{}
+
+/// A run that is kept never ends as one whose output could not be written.
+pub fn outputs_never_fail()
+    ensures { OutputsNeverFail }
+{}

@@ -1,0 +1,47 @@
+//! The words of a run, in one text.
+
+ghost use Rattle.std.specs.Prelude.{◌≡◌, ◌≢◌, ◌∷◌, ◌<◌, [], IfErr, IfOk, length, map, string_bytes};
+ghost use Rattle.nj_c.specs.Runs.{given_words};
+ghost use Rattle.nj_c.specs.Inside.RunsHeld.{WordsRefused};
+
+use crate::status::Status;
+use std::alloc::{AllocError, Global};
+
+/// The words of a text, each of which ends before a zero byte or at the end of the text.
+pub(crate) fn words_in(alloc: Global, text: &[u8]) -> Result<Vec<String>, Status>
+    ensures words { IfOk result (λ words. map string_bytes words.items ≡ given_words text.now) }
+    ensures refused { IfErr result (λ status. WordsRefused text.now status) }
+{
+    let Ok(text) = str::from_utf8(text) else {
+        return Err(Status::NotUtf8);
+    };
+    match split_words(alloc, text) {
+        Ok(words) => Ok(words),
+        Err(_) => Err(Status::OutOfMemory),
+    }
+}
+
+fn split_words(alloc: Global, text: &str) -> Result<Vec<String>, AllocError>
+    ensures { IfOk result (λ words. map string_bytes words.items ≡ given_words text.now) }
+{
+    let mut words = Vec::new(alloc);
+    let mut rest = text;
+    'words: while !rest.is_empty() {
+        let (word, after) = first_word(rest);
+        words.push(String::from_str(alloc, word)?)?;
+        rest = after;
+    }
+    Ok(words)
+}
+
+// The first word of a text, and what comes after the zero byte at its end.
+fn first_word(text: &str) -> (&str, &str)
+    requires { text.now ≢ [] }
+    ensures words { given_words text.now ≡ result.0.now ∷ given_words result.1.now }
+    ensures shorter { length result.1.now < length text.now }
+{
+    match text.split_once('\0') {
+        Some((word, after)) => (word, after),
+        None => (text, ""),
+    }
+}
