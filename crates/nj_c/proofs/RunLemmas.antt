@@ -1,6 +1,5 @@
 -- What a run leaves.
-use Rattle.std.specs.Global.{Vec}
-use Rattle.std.proofs.Common.{◌≡◌, ◌≢◌, inl, inr, ℕ, ℤ, pos, Bool, true, false, Ok, Err, Result, List, [], ◌∷◌, map, refl, sym, ap, subst, ◌∙◌, arith, true≢false}
+use Rattle.std.proofs.Common.{◌≡◌, ◌≢◌, inl, inr, ℕ, ℤ, pos, Bool, true, false, Ok, Err, Result, List, [], refl, sym, ap, subst, ◌∙◌, arith, true≢false}
 use Rattle.nj_tools.specs.MemorySinks.{state_of}
 use Rattle.nj_args.specs.Requests.{ActionText, RequestText, request_of}
 use Rattle.nj_args.specs.declared.faults.UsageFault.{UsageFault}
@@ -10,8 +9,7 @@ use Rattle.nj_cli.specs.declared.status.Status as run
 use Rattle.nj_cli.specs.declared.status.Status.TheVariants as cli
 use Rattle.nj_cli.specs.declared.status.Status.TheVariants.{OutputFailed, Usage}
 use Rattle.nj_cli.specs.Answers.{Ending, finished, stopped, faulty, status_of}
-use Rattle.nj_cli.specs.Runs as Cli
-use Rattle.nj_cli.specs.Runs.{Around, RunsWith, RunsWords, around, reported, untold, output_failed, memory_failed}
+use Rattle.nj_cli.specs.Runs.{Around, RunEnds, RunsWith, RunsWords, around, reported, untold, output_failed, memory_failed}
 use Rattle.nj_cli.specs.Status.{exit_code}
 use Rattle.nj_c.specs.declared.kept.Kept.{Kept}
 use Rattle.nj_c.specs.declared.status.Status.{Status}
@@ -19,7 +17,7 @@ use Rattle.nj_c.specs.declared.status.Status.TheVariants.{Done, Nothing, Short, 
 use Rattle.nj_c.specs.HandedIn.{Handed, handed_in, handed_state, SameFiles}
 use Rattle.nj_c.specs.Loading.{unread}
 use Rattle.nj_c.specs.Runs.{untouched, given_words, KeepsNoOutput, OutputsNeverFail, LeavesRun, LeavesRunOfText, RunsKept, SameLoad}
-use Rattle.nj_c.specs.Inside.RunsHeld.{FinishesRun, KeepsRun, NoFailures, NoRun, Ran, WordsRefused}
+use Rattle.nj_c.specs.Inside.RunsHeld.{FinishesRun, NoRun, Ran, WordsRefused}
 
 -- ---- what the source declares stays
 
@@ -83,32 +81,6 @@ module _ (words : List (List ℕ)) (begun : Handed) (mid after : Kept) (ended : 
   ends-other exit BadMark ran files other finishes = absurd finishes
   ends-other exit NotUtf8 ran files other finishes = absurd finishes
   ends-other exit NotOpen ran files other finishes = absurd finishes
-
--- ---- what is kept
-
-pub finishes-run : (before after : Kept) (status : Status) → NoFailures before → KeepsRun before after status → FinishesRun before after status
-finishes-run before after Done none keeps = (none, keeps)
-finishes-run before after Wanted none keeps = (none, keeps)
-finishes-run before after OutOfMemory none keeps = absurd keeps
-finishes-run before after Nothing none keeps = absurd keeps
-finishes-run before after Short none keeps = absurd keeps
-finishes-run before after Fault none keeps = absurd keeps
-finishes-run before after NotLoaded none keeps = absurd keeps
-finishes-run before after BadNumber none keeps = absurd keeps
-finishes-run before after BadMark none keeps = absurd keeps
-finishes-run before after NotUtf8 none keeps = absurd keeps
-finishes-run before after NotOpen none keeps = absurd keeps
-
-abbrev is-nil : {A : Type 0} → List A → Bool
-is-nil [] = true
-is-nil (x ∷ xs) = false
-
-pub none-wanted : (paths : List (Vec ℕ)) (wanted : List (List ℕ)) → paths ≡ [] → map (λ p. p.items) paths ≡ wanted → wanted ≡ []
-none-wanted paths wanted none is = sym is ∙ ap (map (λ p. p.items)) none
-
-pub some-wanted : (paths : List (Vec ℕ)) (wanted : List (List ℕ)) → paths ≢ [] → map (λ p. p.items) paths ≡ wanted → wanted ≢ []
-some-wanted [] wanted some is none = some refl
-some-wanted (p ∷ ps) wanted some is none = true≢false (sym (ap is-nil (is ∙ none)))
 
 -- ---- the whole run
 
@@ -179,7 +151,7 @@ fails-once : (old new : SinkState) (front : List ℕ) → old ≡ untouched → 
 fails-once old new front begun fails none = let one : one_more 0 ≡ 0 = sym (fails.failures ∙ ap (λ s. one_more s.failures) begun) ∙ none in absurd (omega (arith, one))
 
 ends-so : (entries : List ReadStatement) (action : ActionText) (old new : Around) (ended : run.Status) → old.output ≡ untouched → old.error ≡ untouched
-    → new.output.failures ≡ 0 → new.error.failures ≡ 0 → Cli.RunEnds entries action old new ended → ended ≢ OutputFailed
+    → new.output.failures ≡ 0 → new.error.failures ≡ 0 → RunEnds entries action old new ended → ended ≢ OutputFailed
 ends-so entries action old new ended out err no-out no-err (reported r) = other-status ended (status_of r.ending) (reported-status r.ending) r.status_is
 ends-so entries action old new ended out err no-out no-err (untold r) = absurd (fails-once old.error new.error r.error.0 err r.error.2 no-err)
 ends-so entries action old new ended out err no-out no-err (output_failed r) = absurd (fails-once old.output new.output r.output.0 out r.output.2 no-out)
