@@ -41,7 +41,9 @@ fn memory_takes_up_to_its_limit(rt: HostRuntime) {
     ];
     for (limit, result, taken) in cases {
         let mut sink = MemorySink::new(rt.alloc(), limit);
-        assert_eq!(rt; write_whole(&mut sink, LINES), result);
+        let written = write_whole(&mut sink, LINES);
+        assert_eq!(rt; sink.failures(), u64::from(written.is_err()));
+        assert_eq!(rt; written, result);
         assert_eq!(rt; sink.bytes(), taken);
     }
 }
