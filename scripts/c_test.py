@@ -4,9 +4,10 @@
 Both examples on the library, examples/c and examples/python, have to give what the program gives:
 on examples/project, on what CMake writes for examples/cmake, and on a manifest of 2,000 included
 files; whole, in pages, and where there is a fault. So have runs of the program's words by the
-library, tool by tool. c_calls.c makes every call on N manifests with changes (strangers.py makes
-them), and while allocations are refused, with 256 KB of stack. Where valgrind is installed, it may
-find nothing in the C example, nor in some of these cases.
+library, tool by tool. Names that collide under a known key may take no longer than others. c_calls.c
+makes every call on N manifests with changes (strangers.py makes them), and while allocations are
+refused, with 256 KB of stack. Where valgrind is installed, it may find nothing in the C example, nor
+in some of these cases.
 
 Prints how much was tried, and what is wrong. The status is 1 if anything is wrong.
 """
@@ -22,6 +23,7 @@ import tempfile
 from functools import partial
 from pathlib import Path
 
+import check_flood
 import check_header
 import sweeps
 from strangers import Maker
@@ -363,6 +365,17 @@ def try_faults(tests):
         tests.expect("faults", f"{words}", tests.static.run(words, project).status, USAGE)
 
 
+# ---- the key of a session
+
+
+def try_flood(tests):
+    """Checks that names which collide under a known key cost no more: so the key is used."""
+    folder = tests.folder / "flood"
+    folder.mkdir()
+    for reason in check_flood.slow_tables([str(tests.static.path)], str(folder)):
+        tests.sweep.take({"tables of names": 1}, [reason] if reason else [])
+
+
 # ---- every call
 
 
@@ -440,6 +453,7 @@ def main():
         try_names(tests)
         try_projects(tests)
         try_faults(tests)
+        try_flood(tests)
         if shutil.which("valgrind"):
             try_valgrind(tests)
         run = partial(run_driver, tests.driver)

@@ -26,19 +26,23 @@ TIMES = 3
 MOST = 4
 
 
+def slow_tables(words, folder):
+    """For each table the reason why it is too slow, or None. The words run a program that loads
+    build.ninja in its working directory."""
+    chosen = flood.colliding_names(folder, NAMES, BITS)
+    for table, seconds, usual in flood.seconds(words, folder, chosen, ROUNDS, TIMES):
+        is_slow = seconds > MOST * usual
+        yield f"{table}: names that collide take {seconds:.3f} s, others {usual:.3f} s" if is_slow else None
+
+
 def main():
     program = os.path.abspath(sys.argv[1])
     if not shutil.which("cc"):
         return 0
-    status = 0
     with tempfile.TemporaryDirectory() as folder:
-        chosen = flood.colliding_names(folder, NAMES, BITS)
-        words = [program, "-t", "rules"]
-        for table, seconds, usual in flood.seconds(words, folder, chosen, ROUNDS, TIMES):
-            if seconds > MOST * usual:
-                print(f"{table}: names that collide take {seconds:.3f} s, others {usual:.3f} s")
-                status = 1
-    return status
+        slow = list(filter(None, slow_tables([program, "-t", "rules"], folder)))
+    print("".join(f"{reason}\n" for reason in slow), end="")
+    return 1 if slow else 0
 
 
 if __name__ == "__main__":
