@@ -4,10 +4,10 @@
 Both examples on the library, examples/c and examples/python, have to give what the program gives:
 on examples/project, on what CMake writes for examples/cmake, and on a manifest of 2,000 included
 files; whole, in pages, and where there is a fault. So have runs of the program's words by the
-library, tool by tool. Names that collide under a known key may take no longer than others. c_calls.c
-makes every call on N manifests with changes (strangers.py makes them), and while allocations are
-refused, with 256 KB of stack. Where valgrind is installed, it may find nothing in the C example, nor
-in some of these cases.
+library, tool by tool. Names that collide under a known key may take at most four times as long as
+others. c_calls.c makes every call on N manifests with changes (strangers.py makes them), and while
+allocations are refused, with 256 KB of stack. Where valgrind is installed, it may find nothing in
+the C example, nor in some of these cases.
 
 Prints how much was tried, and what is wrong. The status is 1 if anything is wrong.
 """
@@ -369,7 +369,7 @@ def try_faults(tests):
 
 
 def try_flood(tests):
-    """Checks that names which collide under a known key cost no more: so the key is used."""
+    """Checks that the key is used: names which collide under a known one cost little more."""
     folder = tests.folder / "flood"
     folder.mkdir()
     for reason in check_flood.slow_tables([str(tests.static.path)], str(folder)):
