@@ -3,8 +3,9 @@
        c_bench load|calls|run [FILE..]
 
    It loads build.ninja from the files that are named, which it reads from the disk; with `run` it
-   runs `-t commands` on them instead, and copies the output. With `calls` it then makes calls for all edges and files, and prints a line for each kind: its name, how many calls
-   were made, and the nanoseconds for each, the least of five rounds. */
+   runs `-t commands` on them instead, and copies the output. With `calls` it then makes calls for
+   all edges and files, and prints a line for each kind: its name, how many calls were made, and the
+   nanoseconds for each, the least of five rounds. */
 #define _POSIX_C_SOURCE 200809L
 #include <ninja_explain.h>
 #include <stdio.h>
