@@ -1,11 +1,11 @@
 -- How the marks of runs are written.
 use Rattle.std.proofs.Common.{◌≡◌, ◌≢◌, ℕ, Bool, true, false, Option, Some, None, List, [], ◌∷◌, refl, sym, ap, ◌∙◌, arith}
-use Rattle.std.specs.Prelude.{◌==◌, if◌then◌else◌, MatchOption, IfNone}
+use Rattle.std.specs.Prelude.{◌==◌, if◌then◌else◌, MatchOption, IfNone, option_map, option_and_then}
 use Rattle.std.specs.Borrow.{Bor}
 use Rattle.std.proofs.lemmas.Bool.Decides.{nat_tests}
 use Rattle.std.specs.List.{slice_split, onto_first}
 use Rattle.std.proofs.lemmas.List.Splits.{slice_split-cons_no}
-use Rattle.nj_marks.specs.Marks.{given_mark, number_of, and_then, numbers_in, is_dot, ReadsBack}
+use Rattle.nj_marks.specs.Marks.{given_mark, number_of, numbers_in, is_dot, ReadsBack}
 use Rattle.nj_args.specs.RunMarks.{run_mark_text, given_run_mark, RunMarksAreApart}
 
 -- a mark that reads back from its text reads back as the mark of a run, of either kind
@@ -21,7 +21,8 @@ no_number (digit ∷ digits) = refl
 
 no_numbers : (parts : List (List ℕ)) → numbers_in (onto_first 118 parts) ≡ None
 no_numbers [] = refl
-no_numbers (part ∷ parts) = ap (λ (n : Option ℕ). and_then n (numbers_in parts)) (no_number part)
+no_numbers (part ∷ parts) =
+    ap (option_and_then (λ number. option_map (λ numbers. number ∷ numbers) (numbers_in parts))) (no_number part)
 
 pub no_mark : (text : List ℕ) → given_mark (118 ∷ text) ≡ None
 unfolding given_mark

@@ -1,6 +1,6 @@
 -- Marks, written and read.
 use Rattle.std.proofs.Common.{◌≡◌, ℕ, ◌^◌, ◌<◌, Bool, true, false, Option, Some, None, List, [], ◌∷◌, ◌++◌, length, get_or, refl, sym, ap, ◌∙◌, subst, arith}
-use Rattle.std.specs.Prelude.{map, codes, decimal, ◌||◌}
+use Rattle.std.specs.Prelude.{map, codes, decimal, ◌||◌, option_map, option_and_then}
 use Rattle.std.specs.List.{slice_split, onto_first, join_with_byte, list_any, All, AllByRecursion}
 use Rattle.std.specs.Str.{bytes_eq}
 use Rattle.std.proofs.lemmas.List.{append-nil, get_or_default}
@@ -8,7 +8,7 @@ use Rattle.std.proofs.lemmas.List.Elements.{recursion_from_All, All-from_recursi
 use Rattle.std.proofs.lemmas.List.Splits.{slice_split-cons_yes, slice_split-cons_no, length-slice_split, join_with_byte-slice_split}
 use Rattle.std.proofs.lemmas.Slice.Eq.{bytes_eq-Decides}
 use Rattle.nj_marks.specs.Laws.{WrittenMarksAreGiven, GivenMarksAreWritten}
-use Rattle.nj_marks.specs.Marks.{mark_text, number_of, and_then, numbers_in, is_dot, given_mark}
+use Rattle.nj_marks.specs.Marks.{mark_text, number_of, numbers_in, is_dot, given_mark}
 use Rattle.nj_marks.proofs.Numerals.{number-written, number-decimal, numeral-decimal, no_dot-decimal, not_start}
 use Rattle.nj_marks.proofs.Texts.{given_start, given_address}
 
@@ -35,6 +35,10 @@ parts-written n [] h = parts-one (decimal n) (no_dot-decimal n h.0)
 parts-written n (m ∷ ns) h = parts-at (decimal n) (mark_text (m ∷ ns)) (no_dot-decimal n h.0) ∙ ap (λ ps. decimal n ∷ ps) (parts-written m ns h.1)
 
 -- ---- what was written is read
+
+-- the number of a part, before those of the others
+abbrev and_then : Option ℕ → Option (List ℕ) → Option (List ℕ)
+and_then one others = option_and_then (λ number. option_map (λ numbers. number ∷ numbers) others) one
 
 numbers-written : (ns : List ℕ) → AllByRecursion (λ k. k < 2 ^ 64) ns → numbers_in (map decimal ns) ≡ Some ns
 numbers-written [] h = refl

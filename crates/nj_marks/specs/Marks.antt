@@ -1,5 +1,5 @@
 -- Marks and their written form. A mark is the numbers of an address; at the start of a walk it has none.
-use Rattle.std.specs.Prelude.{◌≡◌, ℕ, ◌==◌, ◌&&◌, Bool, false, not, nat_le, if◌then◌else◌, Option, Some, None, List, [], ◌∷◌, map, codes}
+use Rattle.std.specs.Prelude.{◌≡◌, ℕ, ◌==◌, ◌&&◌, Bool, false, not, nat_le, if◌then◌else◌, Option, Some, None, option_map, option_and_then, List, [], ◌∷◌, map, codes}
 use Rattle.std.specs.Prelude.{decimal}
 use Rattle.std.specs.List.{slice_split, join_with_byte}
 use Rattle.std.specs.Char.{is_ascii_digit}
@@ -21,15 +21,10 @@ is_numeral (digit ∷ next ∷ digits) = not (digit == 48) && all_ascii_digits (
 abbrev pub number_of : List ℕ → Option ℕ
 number_of part = if is_numeral part && nat_le (digits_value 10 part) 18446744073709551615 then Some (digits_value 10 part) else None
 
-abbrev pub and_then : Option ℕ → Option (List ℕ) → Option (List ℕ)
-and_then None numbers = None
-and_then (Some number) None = None
-and_then (Some number) (Some numbers) = Some (number ∷ numbers)
-
 -- the numbers that all parts write
 abbrev pub numbers_in : List (List ℕ) → Option (List ℕ)
 numbers_in [] = Some []
-numbers_in (part ∷ parts) = and_then (number_of part) (numbers_in parts)
+numbers_in (part ∷ parts) = option_and_then (λ number. option_map (λ numbers. number ∷ numbers) (numbers_in parts)) (number_of part)
 
 abbrev pub is_dot : ℕ → Bool
 is_dot b = b == 46
