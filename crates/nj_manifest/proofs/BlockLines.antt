@@ -19,8 +19,10 @@ use Rattle.nj_manifest.specs.declared.fault.ParseFault.TheVariants as fault
 use Rattle.nj_manifest.specs.Faults.{Fault, Bad}
 use Rattle.nj_manifest.specs.LineSteps.{Step, ◌>>=◌}
 use Rattle.nj_manifest.specs.Parsers.{Fails}
-use Rattle.nj_manifest.specs.Statements.{LineText, line_next, lines_from, Parse, or_last, no_lines, without_spaces, block_by, block}
+use Rattle.nj_manifest.specs.Statements.{LineText, line_next, lines_from, Parse, block_by, block}
 use Rattle.nj_manifest.specs.Inside.ParserContracts.{IsBetweenStatements, ParsesFrom}
+use Rattle.nj_manifest.specs.Openings.{or_last, without_spaces}
+use Rattle.nj_manifest.proofs.Choices.{no_lines}
 use Rattle.nj_manifest.proofs.Framing.{line-inside}
 
 -- ---- how many lines are left

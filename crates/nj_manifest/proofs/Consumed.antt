@@ -1,5 +1,5 @@
 -- Each statement takes a line at least, and a text has no more lines than bytes.
-use Rattle.std.proofs.Common.{◌≡◌, ℕ, zero, suc, ◌<◌, ◌≤◌, Bool, true, false, cond, Option, Some, None, Result, Ok, Err, List, [], ◌∷◌, length, take, refl, sym, ap, subst, arith}
+use Rattle.std.proofs.Common.{◌≡◌, ℕ, zero, suc, ◌<◌, ◌≤◌, Bool, true, false, cond, Option, Some, None, Result, Ok, Err, List, [], ◌∷◌, length, take, refl, sym, ap, subst, ◌∙◌, arith}
 use Rattle.nj_text.specs.declared.spot.Spot.{Spot}
 use Rattle.nj_text.specs.Bytes.{drop_while}
 use Rattle.nj_text.specs.Units.{TextUnit, Position, found_at, position_after, spot_after, cut}
@@ -9,7 +9,12 @@ use Rattle.nj_manifest.specs.declared.block.Keys.{Keys}
 use Rattle.nj_manifest.specs.declared.block.Keys.TheVariants as keys
 use Rattle.nj_manifest.specs.Faults.{Fault}
 use Rattle.nj_manifest.specs.LineSteps.{◌>>=◌}
-use Rattle.nj_manifest.specs.Statements.{LineText, lines_from, Parse, or_last, no_lines, without_spaces, line_next, block_by, block, PlacedText, HeadText, Alone, RuleHead, PoolHead, BuildHead, RuleText, PoolText, head_next, whole_rule, whole_pool, with_block, statement_at, nothing_more, next_by, next_statement}
+use Rattle.nj_manifest.specs.Statements.{LineText, lines_from, Parse, line_next, block_by, block, PlacedText, RuleText, PoolText, next_statement}
+use Rattle.nj_manifest.specs.Grammar.{HeadText, Alone, RuleHead, PoolHead, BuildHead}
+use Rattle.nj_manifest.specs.Openings.{or_last, without_spaces}
+use Rattle.nj_manifest.specs.Inside.Heads.{head_next, whole_rule, whole_pool, with_block, statement_here}
+use Rattle.nj_manifest.proofs.Choices.{no_lines}
+use Rattle.nj_manifest.proofs.NextTurns.{nothing_more, next_by, next-nothing, next-line}
 use Rattle.nj_manifest.proofs.Framing.{head-inside}
 use Rattle.nj_manifest.proofs.Starts.{ahead}
 
@@ -111,8 +116,8 @@ with_block-within spot (BuildHead outputs rule inputs) ls = λ x rest h.
     let lines = bind-ok (block keys.All ls) _ (x, rest) h in
     subst (λ r. ahead r ≤ ahead ls) (rest-is _ x lines.0.1 rest lines.2) (block-within keys.All ls lines.0.0 lines.0.1 lines.1)
 
-statement-takes : (l : Line) (ls : List Line) (s : PlacedText) (rest : List Line) → kind_of l ≡ PlainLine → statement_at l ls ≡ Ok (Some s, rest) → ahead rest < ahead (l ∷ ls)
-unfolding statement_at
+statement-takes : (l : Line) (ls : List Line) (s : PlacedText) (rest : List Line) → kind_of l ≡ PlainLine → statement_here l ls ≡ Ok (Some s, rest) → ahead rest < ahead (l ∷ ls)
+unfolding statement_here
 statement-takes l ls s rest e h =
     let head = bind-ok (head_next (Inside l ls)) _ (Some s, rest) h in
     let item = bind-ok (with_block (line_spot l) head.0.0 (lines_from head.0.1)) _ (Some s, rest) head.2 in
@@ -143,9 +148,8 @@ kind-takes PlainLine l ls e ih = λ s rest h. statement-takes l ls s rest e h
 
 -- A statement takes a line at least.
 pub statement_takes : (ls : List Line) (s : PlacedText) (rest : List Line) → next_statement ls ≡ Ok (Some s, rest) → ahead rest < ahead ls
-unfolding next_statement
-statement_takes [] = λ s rest h. no_statement [] s rest h
-statement_takes (l ∷ ls) = kind-takes (kind_of l) l ls refl (statement_takes ls)
+statement_takes [] = λ s rest h. no_statement [] s rest (sym next-nothing ∙ h)
+statement_takes (l ∷ ls) = λ s rest h. kind-takes (kind_of l) l ls refl (statement_takes ls) s rest (sym (next-line l ls) ∙ h)
 
 -- ---- the lines of a text
 

@@ -10,8 +10,8 @@ use Rattle.nj_manifest.specs.LineSteps.{◌>>=◌}
 use Rattle.nj_manifest.specs.Statements.{lines_from}
 use Rattle.nj_manifest.specs.Openings.{opening}
 use Rattle.nj_manifest.specs.Parsers.{Fails}
-use Rattle.nj_manifest.specs.Inside.ParserContracts.{LeadsTo, IsBetweenStatements, ParsesAt, FindsOpening}
-use Rattle.nj_manifest.specs.Dyndeps.{version_line, version_from, version_next, entry_line, restat_block, entry_at, entry_from, next_entry}
+use Rattle.nj_manifest.specs.Inside.ParserContracts.{LeadsTo, IsBetweenStatements, ParsesAt, FindsOpening, entry_here}
+use Rattle.nj_manifest.specs.Dyndeps.{version_line, version_from, version_next, entry_line, restat_block, entry_from, next_entry}
 use Rattle.nj_manifest.specs.DyndepParsers.{entry_text}
 use Rattle.nj_manifest.specs.Inside.ParserContracts.{ReadsVersion}
 use Rattle.nj_manifest.proofs.Heres.{fails-on}
@@ -52,23 +52,22 @@ pub entry-is : (ls : List Line) → next_entry ls ≡ (opening ls >>= entry_from
 unfolding next_entry
 entry-is ls = refl
 
-at-is : (l : Line) (ls : List Line) → entry_at l ls ≡ (entry_line (Inside l ls) >>= λ entry. restat_block entry.1 >>= λ end. Ok (Some entry.0, lines_from end))
-unfolding entry_at
+at-is : (l : Line) (ls : List Line) → entry_here l ls ≡ (entry_line (Inside l ls) >>= λ entry. restat_block entry.1 >>= λ end. Ok (Some entry.0, lines_from end))
 at-is l ls = refl
 
-pub entry-no_line : (before after : State) (f : ParseFault) → Fails f (entry_line before) → ParsesAt (option_map entry_text) before after entry_at (Err f)
+pub entry-no_line : (before after : State) (f : ParseFault) → Fails f (entry_line before) → ParsesAt (option_map entry_text) before after entry_here (Err f)
 entry-no_line (Between ls) after f h = tt
 entry-no_line (Failed g) after f h = tt
 entry-no_line (Inside l ls) after f h = subst (Fails f) (sym (at-is l ls)) (fails-on f (entry_line (Inside l ls)) _ h)
 
-pub entry-no_block : (before middle after : State) (e : Entry) (f : ParseFault) → entry_line before ≡ Ok (entry_text e, middle) → Fails f (restat_block middle) → ParsesAt (option_map entry_text) before after entry_at (Err f)
+pub entry-no_block : (before middle after : State) (e : Entry) (f : ParseFault) → entry_line before ≡ Ok (entry_text e, middle) → Fails f (restat_block middle) → ParsesAt (option_map entry_text) before after entry_here (Err f)
 entry-no_block (Between ls) middle after e f h p = tt
 entry-no_block (Failed g) middle after e f h p = tt
 entry-no_block (Inside l ls) middle after e f h p =
     let whole = at-is l ls ∙ ap (λ r. r >>= λ entry. restat_block entry.1 >>= λ end. Ok (Some entry.0, lines_from end)) h in
     subst (Fails f) (sym whole) (fails-on f (restat_block middle) (λ end. Ok (Some (entry_text e), lines_from end)) p)
 
-pub entry-read : (before middle after : State) (e : Entry) → entry_line before ≡ Ok (entry_text e, middle) → restat_block middle ≡ Ok after → ParsesAt (option_map entry_text) before after entry_at (Ok (Some e))
+pub entry-read : (before middle after : State) (e : Entry) → entry_line before ≡ Ok (entry_text e, middle) → restat_block middle ≡ Ok after → ParsesAt (option_map entry_text) before after entry_here (Ok (Some e))
 entry-read (Between ls) middle after e h p = tt
 entry-read (Failed g) middle after e h p = tt
 entry-read (Inside l ls) middle after e h p =

@@ -15,9 +15,11 @@ use Rattle.nj_manifest.specs.declared.fault.Wanted.{Wanted}
 use Rattle.nj_manifest.specs.declared.fault.Wanted.TheVariants as wanted
 use Rattle.nj_manifest.specs.Faults.{Fault, Bad, Expected, DyndepShape}
 use Rattle.nj_manifest.specs.LineSteps.{Step, ◌>>=◌, answered, called, name_next, expect_sign, section_next}
-use Rattle.nj_manifest.specs.Statements.{equals_value, without_spaces, unless_missing, block}
+use Rattle.nj_manifest.specs.Statements.{equals_value, block}
 use Rattle.nj_manifest.specs.Dyndeps.{is_same_spot, version_line, word_of_form, no_path_by, no_path, no_section, first_output, output_next, added_inputs, EntryText, entry_line, restat_line, line_too_many, if_indented, restat_block}
 use Rattle.nj_manifest.specs.Inside.ParserContracts.{IsBetweenStatements}
+use Rattle.nj_manifest.specs.Openings.{without_spaces}
+use Rattle.nj_manifest.proofs.Choices.{unless_missing}
 use Rattle.nj_manifest.proofs.FormsKeys.{unless_missing-ok}
 use Rattle.nj_manifest.proofs.BlockLines.{lines_weight, Begins, start-begins}
 use Rattle.nj_manifest.proofs.Framing.{bind-ok, after-is, On, InLine, line_end-inside, colon-inside, name-inside, word-inside, sign-inside, section-inside, ends-line, equals_value-inside}

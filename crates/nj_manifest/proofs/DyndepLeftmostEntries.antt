@@ -9,11 +9,13 @@ use Rattle.nj_text.specs.Lines.{Line, line_spot, with_units, lines_after, Kind, 
 use Rattle.nj_text.specs.Calls.{State, Between, Inside, without_comments}
 use Rattle.nj_manifest.specs.Faults.{Fault, Bad, UnexpectedIndent}
 use Rattle.nj_manifest.specs.LineSteps.{Step, ◌>>=◌, name_next, expect_sign, section_next}
-use Rattle.nj_manifest.specs.Statements.{Parse, lines_from, front_of}
-use Rattle.nj_manifest.specs.Openings.{ended, opening_by, opening}
+use Rattle.nj_manifest.specs.Statements.{Parse, lines_from}
+use Rattle.nj_manifest.specs.Openings.{opening_by, opening, front_of}
 use Rattle.nj_manifest.specs.Leftmost.{continues, element, written, met_before, offers}
-use Rattle.nj_manifest.specs.Dyndeps.{EntryText, word_of_form, no_path, no_section, output_next, added_inputs, entry_line, restat_block, entry_at, entry_from, next_entry}
+use Rattle.nj_manifest.specs.Dyndeps.{EntryText, word_of_form, no_path, no_section, output_next, added_inputs, entry_line, restat_block, entry_from, next_entry}
 use Rattle.nj_manifest.specs.DyndepLeftmost.{are_apart, NamesPlaceInEntry, SomeEntry, LineTooMany, EntryComesLeftmost, DyndepFaultsAreLeftmost}
+use Rattle.nj_manifest.specs.Inside.ParserContracts.{entry_here}
+use Rattle.nj_manifest.proofs.Choices.{ended}
 use Rattle.nj_manifest.proofs.LeftmostFronts.{element-front}
 use Rattle.nj_manifest.proofs.LeftmostSteps.{text, Stuck, Outcome, stuck, through}
 use Rattle.nj_manifest.proofs.LeftmostKinds.{spaces_of, after_spaces, spaces_cut, spaces_pass, kind_spaced, kind_replaced, tab_place, unspaced, no_space_same}
@@ -39,8 +41,7 @@ nothing_next = refl
 abbrev entry_then : EntryText × State → Parse (Option EntryText)
 entry_then entry = restat_block entry.1 >>= λ end. Ok (Some entry.0, lines_from end)
 
-at_is : (l : Line) (ls : List Line) → entry_at l ls ≡ (entry_line (Inside l ls) >>= entry_then)
-unfolding entry_at
+at_is : (l : Line) (ls : List Line) → entry_here l ls ≡ (entry_line (Inside l ls) >>= entry_then)
 at_is l ls = refl
 
 plain_is : (l : Line) (ms : List Line) → kind_of l ≡ PlainLine → next_entry (l ∷ ms) ≡ (entry_line (Inside l ms) >>= entry_then)
@@ -130,7 +131,7 @@ plain_leftmost l ls fault apart k h = by_line (entry_outcome l k)
 -- ---- lines before an entry
 
 some_entry : (s : EntryText) × (rest : List Line) × (next_entry (written (codes "build x:dyndep") ∷ []) ≡ Ok (Some s, rest))
-unfolding next_entry opening entry_at entry_line restat_block name_next section_next expect_sign word_of_form output_next no_path no_section added_inputs
+unfolding next_entry opening entry_line restat_block name_next section_next expect_sign word_of_form output_next no_path no_section added_inputs
 some_entry = (_, _, refl)
 
 -- The fault is the fault of the line's kind, whatever comes after its first unit.

@@ -11,9 +11,10 @@ use Rattle.nj_text.specs.Calls.{State, Reply, skip_blanks_of, ident_of, sign_of,
 use Rattle.nj_manifest.specs.declared.fault.Wanted.{Wanted}
 use Rattle.nj_manifest.specs.declared.fault.Wanted.TheVariants as wanted
 use Rattle.nj_manifest.specs.Faults.{Fault, Bad, Expected, UnknownKey, DyndepShape}
-use Rattle.nj_manifest.specs.LineSteps.{Step, ◌>>=◌, answered, called, NameText, named, name_next, if_there, expect_sign, words_from, words_within, words_next, words_if, section_next}
-use Rattle.nj_manifest.specs.Statements.{unless_missing, equals_value}
+use Rattle.nj_manifest.specs.LineSteps.{Step, ◌>>=◌, answered, called, NameText, name_next, expect_sign, words_from, words_within, words_next, section_next}
+use Rattle.nj_manifest.specs.Statements.{equals_value}
 use Rattle.nj_manifest.specs.Dyndeps.{EntryText, word_of_form, is_same_spot, no_path_by, no_path, no_section, first_output, output_next, added_inputs, entry_line}
+use Rattle.nj_manifest.proofs.Choices.{named, if_there, words_if, unless_missing}
 use Rattle.nj_manifest.proofs.LeftmostSteps.{bind-bind}
 use Rattle.nj_manifest.proofs.LeftmostSigns.{sign_step, led_on, ending}
 

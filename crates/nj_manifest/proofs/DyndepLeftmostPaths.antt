@@ -15,10 +15,10 @@ use Rattle.nj_text.proofs.Lists.{AllIn}
 use Rattle.nj_manifest.specs.declared.fault.Wanted.{Wanted}
 use Rattle.nj_manifest.specs.Faults.{Fault, Bad}
 use Rattle.nj_manifest.specs.LineSteps.{Step, ◌>>=◌, called, name_next}
-use Rattle.nj_manifest.specs.Statements.{unless_missing}
 use Rattle.nj_manifest.specs.Leftmost.{written, are_plain, offers_next, offers}
 use Rattle.nj_manifest.specs.Dyndeps.{is_same_spot}
 use Rattle.nj_manifest.specs.DyndepLeftmost.{are_apart}
+use Rattle.nj_manifest.proofs.Choices.{unless_missing}
 use Rattle.nj_manifest.proofs.LeftmostRuns.{begins, none_passed, skip, skip_again, skip_stops, skip_gap, gap_of, gap_passes, gap_cut}
 use Rattle.nj_manifest.proofs.LeftmostFronts.{front, begins-same, fault-same, sign-same, front-append, element-front}
 use Rattle.nj_manifest.proofs.LeftmostSteps.{at, text, after_name, after_words, Fits, fits-gap, Passes, FailsAt, fault-place, Claim, Along, Outcome, stuck, stick, pass}

@@ -6,11 +6,12 @@ use Rattle.nj_text.specs.Lines.{Line, text_lines, with_units, lines_after, Kind,
 use Rattle.nj_text.specs.Calls.{State, Inside, is_empty, without_comments}
 use Rattle.nj_manifest.specs.declared.block.Keys.{Keys}
 use Rattle.nj_manifest.specs.Faults.{Fault}
-use Rattle.nj_manifest.specs.Statements.{LineText, lines_from, or_last}
-use Rattle.nj_manifest.specs.Openings.{Opening, Begun, Ended, ended, opening_by, opening}
+use Rattle.nj_manifest.specs.Statements.{LineText, lines_from}
+use Rattle.nj_manifest.specs.Openings.{Opening, Begun, Ended, opening_by, opening, or_last}
 use Rattle.nj_manifest.specs.Grammar.{BlockForm}
 use Rattle.nj_manifest.specs.Dyndeps.{EntryText, version_line, version_from, version_next, next_entry, left_entry}
 use Rattle.nj_manifest.specs.DyndepForms.{NextEntryForm}
+use Rattle.nj_manifest.proofs.Choices.{ended}
 use Rattle.nj_manifest.proofs.Framing.{bind-ok}
 use Rattle.nj_manifest.proofs.Starts.{ahead}
 use Rattle.nj_manifest.proofs.Consumed.{text_has_bytes}

@@ -12,10 +12,12 @@ use Rattle.nj_manifest.specs.declared.block.Keys.TheVariants as keys
 use Rattle.nj_manifest.specs.declared.fault.Wanted.TheVariants as wanted
 use Rattle.nj_manifest.specs.Faults.{Fault}
 use Rattle.nj_manifest.specs.LineSteps.{◌>>=◌, answered, called, NameText, name_next}
-use Rattle.nj_manifest.specs.Statements.{LineText, Parse, lines_from, no_lines, or_last, without_spaces, equals_value, line_next, block_by, block}
-use Rattle.nj_manifest.specs.Openings.{ended, opening_by, opening}
-use Rattle.nj_manifest.specs.Dyndeps.{EntryText, entry_line, word_of_form, restat_line, line_too_many, if_indented, restat_block, entry_at, entry_from, next_entry}
+use Rattle.nj_manifest.specs.Statements.{LineText, Parse, lines_from, equals_value, line_next, block_by, block}
+use Rattle.nj_manifest.specs.Openings.{opening_by, opening, or_last, without_spaces}
+use Rattle.nj_manifest.specs.Dyndeps.{EntryText, entry_line, word_of_form, restat_line, line_too_many, if_indented, restat_block, entry_from, next_entry}
 use Rattle.nj_manifest.specs.DyndepForms.{RestatForm, NextEntryForm, NextEntriesAreTheForms}
+use Rattle.nj_manifest.specs.Inside.ParserContracts.{entry_here}
+use Rattle.nj_manifest.proofs.Choices.{no_lines, ended}
 use Rattle.nj_manifest.proofs.Framing.{bind-ok, line-inside}
 use Rattle.nj_manifest.proofs.BlockLines.{lines_weight, Begins, start-begins, block-after}
 use Rattle.nj_manifest.proofs.FormsKeys.{unless_missing-ok}
@@ -224,8 +226,7 @@ next_is : (ls : List Line) → next_entry ls ≡ (opening ls >>= entry_from)
 unfolding next_entry
 next_is ls = refl
 
-at_is : (l : Line) (ls : List Line) → entry_at l ls ≡ (entry_line (Inside l ls) >>= λ entry. restat_block entry.1 >>= λ end. Ok (Some entry.0, lines_from end))
-unfolding entry_at
+at_is : (l : Line) (ls : List Line) → entry_here l ls ≡ (entry_line (Inside l ls) >>= λ entry. restat_block entry.1 >>= λ end. Ok (Some entry.0, lines_from end))
 at_is l ls = refl
 
 nothing_next : next_entry [] ≡ Ok (None, [])
@@ -235,7 +236,7 @@ nothing_next = refl
 as_found : (ls rest : List Line) (one found : Option EntryText) (there : List Line) → ◌≡◌ {A = Parse (Option EntryText)} (Ok (one, there)) (Ok (found, rest)) → NextEntryForm ls one there → NextEntryForm ls found rest
 as_found ls rest one found there h f = subst (λ (r : Option EntryText × List Line). NextEntryForm ls r.0 r.1) (oks h) f
 
-at_form : (l : Line) (ls : List Line) (found : Option EntryText) (rest : List Line) → kind_of l ≡ PlainLine → entry_at l ls ≡ Ok (found, rest) → NextEntryForm (l ∷ ls) found rest
+at_form : (l : Line) (ls : List Line) (found : Option EntryText) (rest : List Line) → kind_of l ≡ PlainLine → entry_here l ls ≡ Ok (found, rest) → NextEntryForm (l ∷ ls) found rest
 at_form l ls found rest k h =
     let entry = bind-ok (entry_line (Inside l ls)) _ (found, rest) (sym (at_is l ls) ∙ h) in
     let end = bind-ok (restat_block entry.0.1) (λ end. Ok (Some entry.0.0, lines_from end)) (found, rest) entry.2 in

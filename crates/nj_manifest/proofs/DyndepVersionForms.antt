@@ -7,10 +7,11 @@ use Rattle.nj_text.specs.Calls.{State, Between, Inside, without_comments}
 use Rattle.nj_manifest.specs.declared.fault.Wanted.TheVariants as wanted
 use Rattle.nj_manifest.specs.Faults.{Fault, DyndepVersion}
 use Rattle.nj_manifest.specs.LineSteps.{◌>>=◌, name_next}
-use Rattle.nj_manifest.specs.Statements.{unless_missing, equals_value, lines_from}
-use Rattle.nj_manifest.specs.Openings.{ended, opening_by, opening}
+use Rattle.nj_manifest.specs.Statements.{equals_value, lines_from}
+use Rattle.nj_manifest.specs.Openings.{opening_by, opening}
 use Rattle.nj_manifest.specs.Dyndeps.{value_bytes, is_first_version, version_line, version_from, version_next}
 use Rattle.nj_manifest.specs.DyndepVersions.{first_version, VersionLineForm, VersionForm, VersionsAreTheForms}
+use Rattle.nj_manifest.proofs.Choices.{unless_missing, ended}
 use Rattle.nj_manifest.proofs.Framing.{bind-ok}
 use Rattle.nj_manifest.proofs.FormsKeys.{unless_missing-ok}
 use Rattle.nj_manifest.proofs.FormsTokens.{name-form, name-read}

@@ -10,8 +10,10 @@ use Rattle.nj_manifest.specs.declared.fault.Wanted.TheVariants as wanted
 use Rattle.nj_manifest.specs.declared.block.Keys.{Keys}
 use Rattle.nj_manifest.specs.Faults.{Fault}
 use Rattle.nj_manifest.specs.LineSteps.{Step, ◌>>=◌, NameText, name_next}
-use Rattle.nj_manifest.specs.Statements.{LineText, allows, if_allowed, equals_value, line_next, Parse, or_last, no_lines, block_by, block}
+use Rattle.nj_manifest.specs.Statements.{LineText, allows, equals_value, line_next, Parse, block_by, block}
 use Rattle.nj_manifest.specs.Grammar.{BindingForm, BlockForm}
+use Rattle.nj_manifest.specs.Openings.{or_last}
+use Rattle.nj_manifest.proofs.Choices.{if_allowed, no_lines}
 use Rattle.nj_manifest.proofs.Framing.{bind-ok}
 use Rattle.nj_manifest.proofs.BlockLines.{block-after}
 use Rattle.nj_manifest.proofs.FormsGaps.{skip}

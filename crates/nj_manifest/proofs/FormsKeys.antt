@@ -1,5 +1,6 @@
 -- What a block has to give: the keys of its lines, and the forms of the grammar.
 use Rattle.std.proofs.Common.{◌≡◌, ℕ, Bool, true, false, cond, ◌&&◌, not, Result, Ok, List, [], ◌∷◌, ◌++◌, refl, sym, ap, ◌∙◌, codes}
+use mathlib.Core.Bool.{beq}
 use Rattle.std.specs.Prelude.{◌↔◌}
 use Rattle.std.specs.List.{list_any}
 use Rattle.std.specs.Str.{bytes_eq}
@@ -8,8 +9,10 @@ use Rattle.std.proofs.lemmas.Slice.Eq.{bytes_eq-Decides}
 use Rattle.nj_text.specs.declared.spot.Spot.{Spot}
 use Rattle.nj_text.specs.Calls.{is_empty}
 use Rattle.nj_manifest.specs.Faults.{Fault}
-use Rattle.nj_manifest.specs.Statements.{LineText, gives, names, unless_missing, agree, whole_rule, whole_pool}
+use Rattle.nj_manifest.specs.Statements.{LineText, gives, names}
 use Rattle.nj_manifest.specs.Grammar.{Gives}
+use Rattle.nj_manifest.specs.Inside.Heads.{whole_rule, whole_pool}
+use Rattle.nj_manifest.proofs.Choices.{unless_missing}
 use Rattle.nj_manifest.proofs.FormsLines.{same_bytes}
 use Rattle.nj_manifest.proofs.GivenKeys.{gives-cons}
 
@@ -59,16 +62,15 @@ pub unless_missing-ok : {A : Type 0} (there : Bool) (fault : Fault) (others : Re
 unless_missing-ok true fault others x h = (refl, h)
 unless_missing-ok false fault others x h = absurd cc
 
-pub agree-forms : (a b : Bool) → agree a b ≡ true → (a ≡ true) ↔ (b ≡ true)
-agree-forms true b h = (λ e. h, λ e. refl)
-agree-forms false b h = (λ e. absurd cc, λ e. absurd (no_both b h e))
-  where
-    no_both : (b : Bool) → not b ≡ true → b ≡ true → ⊥
-    no_both true n e = absurd cc
-    no_both false n e = absurd cc
+pub agree-forms : (a b : Bool) → beq a b ≡ true → (a ≡ true) ↔ (b ≡ true)
+agree-forms true true h = (λ e. refl, λ e. refl)
+agree-forms true false h = absurd cc
+agree-forms false true h = absurd cc
+agree-forms false false h = (λ e. e, λ e. e)
 
-pub forms-agree : (a b : Bool) → ((a ≡ true) ↔ (b ≡ true)) → agree a b ≡ true
-forms-agree true b h = h.0 refl
+pub forms-agree : (a b : Bool) → ((a ≡ true) ↔ (b ≡ true)) → beq a b ≡ true
+forms-agree true true h = refl
+forms-agree true false h = h.0 refl
 forms-agree false true h = absurd (false_is_true (h.1 refl))
   where
     false_is_true : false ≡ true → ⊥
@@ -85,7 +87,7 @@ rsp_content = codes "rspfile_content"
 pub rule-form : (spot : Spot) (lines whole : List LineText) → whole_rule spot lines ≡ Ok whole → (lines ≡ whole) × Gives (codes "command") lines × (Gives (codes "rspfile") lines ↔ Gives (codes "rspfile_content") lines)
 unfolding whole_rule
 rule-form spot lines whole h =
-    let pair = unless_missing-ok (agree (gives rsp lines) (gives rsp_content lines)) _ _ whole h in
+    let pair = unless_missing-ok (beq (gives rsp lines) (gives rsp_content lines)) _ _ whole h in
     let command = unless_missing-ok (gives (codes "command") lines) _ (Ok lines) whole pair.1 in
     let both = agree-forms (gives rsp lines) (gives rsp_content lines) pair.0 in (
       ok_is command.1,

@@ -1,5 +1,6 @@
 -- Missing lines of rules and pools: the faults that are read, and the forms of the grammar.
 use Rattle.std.proofs.Common.{◌≡◌, Bool, true, false, cond, Result, Ok, Err, List, [], ◌∷◌, refl, sym, ap, subst, ◌∙◌, codes}
+use mathlib.Core.Bool.{beq}
 use Rattle.std.specs.Prelude.{◌↔◌}
 use Rattle.std.specs.List.{list_any}
 use Rattle.std.specs.Str.{bytes_eq}
@@ -11,16 +12,20 @@ use Rattle.nj_manifest.specs.declared.block.Keys.{Keys}
 use Rattle.nj_manifest.specs.declared.block.Keys.TheVariants as keys
 use Rattle.nj_manifest.specs.Faults.{Fault, Bad, Expected, UnexpectedIndent, MissingCommand, RspPair, UnknownKey, MissingDepth, DyndepVersion, DyndepShape, OutOfMemory, is_syntax}
 use Rattle.nj_manifest.specs.LineSteps.{◌>>=◌, NameText}
-use Rattle.nj_manifest.specs.Statements.{LineText, StatementText, RuleText, PoolText, BuildText, HeadText, Alone, RuleHead, PoolHead, BuildHead, Parse, gives, names, agree, unless_missing, block, whole_rule, whole_pool, with_block, front_of, nothing_more, next_statement}
-use Rattle.nj_manifest.specs.Grammar.{BlockForm, Gives, LackForm, NextLacks}
+use Rattle.nj_manifest.specs.Statements.{LineText, StatementText, RuleText, PoolText, BuildText, Parse, gives, names, block, next_statement}
+use Rattle.nj_manifest.specs.Grammar.{BlockForm, Gives, LackForm, NextLacks, HeadText, Alone, RuleHead, PoolHead, BuildHead}
 use Rattle.nj_manifest.specs.Laws.{MissingLinesAreLacking}
 use Rattle.nj_manifest.specs.Leftmost.{NamesThePlaceOf}
+use Rattle.nj_manifest.specs.Openings.{front_of}
+use Rattle.nj_manifest.specs.Inside.Heads.{whole_rule, whole_pool, with_block}
+use Rattle.nj_manifest.proofs.NextTurns.{nothing_more, next-nothing, next-kind}
+use Rattle.nj_manifest.proofs.Choices.{unless_missing}
 use Rattle.nj_manifest.proofs.FormsLines.{head-form, head-read}
 use Rattle.nj_manifest.proofs.FormsBlocks.{block-form, block-read}
 use Rattle.nj_manifest.proofs.FormsKeys.{gives-form, gives-read, agree-forms, forms-agree}
 use Rattle.nj_manifest.proofs.LeftmostSteps.{Outcome, stuck, through}
 use Rattle.nj_manifest.proofs.LeftmostBlocks.{block_stuck}
-use Rattle.nj_manifest.proofs.LeftmostStatements.{Plain, head_outcome, plain_bad, plain_read, placed_bad, placed_fault, by_kind_next, same_fault, not_last, nothing_no_fault, no_lines_next}
+use Rattle.nj_manifest.proofs.LeftmostStatements.{Plain, head_outcome, plain_bad, plain_read, placed_bad, placed_fault, same_fault, not_last, nothing_no_fault}
 
 -- ---- faults of lines are faults of syntax
 
@@ -50,7 +55,7 @@ block_syntax allowed ls f h n =
 -- ---- a block that lacks a line
 
 abbrev rsp_agree : List LineText → Bool
-rsp_agree lines = agree (gives (codes "rspfile") lines) (gives (codes "rspfile_content") lines)
+rsp_agree lines = beq (gives (codes "rspfile") lines) (gives (codes "rspfile_content") lines)
 
 abbrev Pair : List LineText → Type 0
 Pair lines = Gives (codes "rspfile") lines ↔ Gives (codes "rspfile_content") lines
@@ -152,17 +157,17 @@ plain-lacks l ls f n k h = by_head (head_outcome l k)
         NextLacks.statement k (head-form l ls v (Between (lines_after l ls)) read).0 (with_block-lacks (line_spot l) v (lines_after l ls) f n failed)
 
 next-lacks : (ls : List Line) (f : Fault) → is_syntax f ≡ false → next_statement ls ≡ Err f → NextLacks ls f
-next-lacks [] f n h = absurd (nothing_no_fault [] f (sym no_lines_next ∙ h))
+next-lacks [] f n h = absurd (nothing_no_fault [] f (sym next-nothing ∙ h))
 next-lacks (l ∷ ls) f n h = by_kind (kind_of l) refl (next-lacks ls f n)
   where
     by_kind : (k : Kind) → kind_of l ≡ k → (next_statement ls ≡ Err f → NextLacks ls f) → NextLacks (l ∷ ls) f
     by_kind CommentLine k rest =
-        let last = not_last l.is_last (lines_after l (without_comments ls)) (next_statement ls) f (sym (by_kind_next l ls CommentLine k) ∙ h) in
+        let last = not_last l.is_last (lines_after l (without_comments ls)) (next_statement ls) f (sym (next-kind l ls CommentLine k) ∙ h) in
         NextLacks.comment k last.0 (rest last.1)
-    by_kind (TabLine tab) k rest = no_syntax f (ap is_syntax (sym (same_fault (next_statement (l ∷ ls)) f (Bad (lex.Tab tab)) h (by_kind_next l ls (TabLine tab) k)))) n
-    by_kind IndentedLine k rest = no_syntax f (ap is_syntax (sym (same_fault (next_statement (l ∷ ls)) f (UnexpectedIndent (front_of l)) h (by_kind_next l ls IndentedLine k)))) n
+    by_kind (TabLine tab) k rest = no_syntax f (ap is_syntax (sym (same_fault (next_statement (l ∷ ls)) f (Bad (lex.Tab tab)) h (next-kind l ls (TabLine tab) k)))) n
+    by_kind IndentedLine k rest = no_syntax f (ap is_syntax (sym (same_fault (next_statement (l ∷ ls)) f (UnexpectedIndent (front_of l)) h (next-kind l ls IndentedLine k)))) n
     by_kind BlankLine k rest =
-        let last = not_last l.is_last (lines_after l ls) (next_statement ls) f (sym (by_kind_next l ls BlankLine k) ∙ h) in
+        let last = not_last l.is_last (lines_after l ls) (next_statement ls) f (sym (next-kind l ls BlankLine k) ∙ h) in
         NextLacks.blank k last.0 (rest last.1)
     by_kind PlainLine k rest = plain-lacks l ls f n k h
 
@@ -172,10 +177,10 @@ next-refuses (NextLacks.statement {l = l} {ls = ls} {head = head} {fault = f} k 
     (plain_read l ls head (Between (lines_after l ls)) k (head-read l ls head first) ∙ placed_bad (line_spot l) (with_block (line_spot l) head (lines_after l ls)) f r.0, r.1)
 next-refuses (NextLacks.blank {l = l} {ls = ls} k e others) =
     let r = next-refuses others in
-    (by_kind_next l ls BlankLine k ∙ (ap (λ (t : Bool). cond t (nothing_more (lines_after l ls)) (next_statement ls)) e ∙ r.0), r.1)
+    (next-kind l ls BlankLine k ∙ (ap (λ (t : Bool). cond t (nothing_more (lines_after l ls)) (next_statement ls)) e ∙ r.0), r.1)
 next-refuses (NextLacks.comment {l = l} {ls = ls} k e others) =
     let r = next-refuses others in
-    (by_kind_next l ls CommentLine k ∙ (ap (λ (t : Bool). cond t (nothing_more (lines_after l (without_comments ls))) (next_statement ls)) e ∙ r.0), r.1)
+    (next-kind l ls CommentLine k ∙ (ap (λ (t : Bool). cond t (nothing_more (lines_after l (without_comments ls))) (next_statement ls)) e ∙ r.0), r.1)
 
 pub are_lacking : MissingLinesAreLacking
 are_lacking ls f = (λ h. next-lacks ls f h.1 h.0, λ l. next-refuses l)

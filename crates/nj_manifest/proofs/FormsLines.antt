@@ -1,5 +1,6 @@
 -- The first lines of statements: what is read of them, and the forms of the grammar.
 use Rattle.std.proofs.Common.{◌≡◌, ℕ, Bool, true, false, cond, ◌&&◌, ◌||◌, Option, Some, None, Result, Ok, List, refl, sym, ap, subst, ◌∙◌, codes}
+use Rattle.std.specs.Prelude.{ok_or}
 use Rattle.std.specs.List.{list_any}
 use Rattle.std.specs.Str.{bytes_eq}
 use Rattle.std.proofs.lemmas.Bool.{or_from}
@@ -9,13 +10,15 @@ use Rattle.nj_text.specs.declared.sign.Sign.TheVariants as sign
 use Rattle.nj_text.specs.Units.{TextUnit}
 use Rattle.nj_text.specs.Lines.{Line, lines_after}
 use Rattle.nj_text.specs.Words.{WordText, next_fault}
-use Rattle.nj_text.specs.Calls.{State, Between, Inside, is_empty, begins_word, is_sign, path_word_of}
+use Rattle.nj_text.specs.Calls.{State, Between, Inside, is_empty, begins_word, is_sign, path_word_of, spot_of}
 use Rattle.nj_manifest.specs.declared.fault.Wanted.{Wanted}
 use Rattle.nj_manifest.specs.declared.fault.Wanted.TheVariants as wanted
-use Rattle.nj_manifest.specs.Faults.{Fault}
+use Rattle.nj_manifest.specs.Faults.{Fault, Expected}
 use Rattle.nj_manifest.specs.LineSteps.{Step, ◌>>=◌, called, NameText, name_next, expect_sign, words_next, section_next}
-use Rattle.nj_manifest.specs.Statements.{OutputsText, InputsText, HeadText, Alone, RuleHead, PoolHead, BuildHead, BindingText, DefaultText, IncludeText, SubninjaText, equals_value, name_alone, unless_none, outputs_next, inputs_next, build_next, targets_next, path_there, file_next, as_head, head_after, head_next}
-use Rattle.nj_manifest.specs.Grammar.{AreBlanks, IdentifierForm, KeywordForm, keywords, WordForm, WordsForm, SignForm, SectionForm, left_out, there, BuildForm, NamedForm, FileForm, HeadForm}
+use Rattle.nj_manifest.specs.Statements.{OutputsText, InputsText, BindingText, DefaultText, IncludeText, SubninjaText, equals_value, outputs_next, inputs_next, targets_next, file_next}
+use Rattle.nj_manifest.specs.Grammar.{AreBlanks, IdentifierForm, KeywordForm, keywords, WordForm, WordsForm, SignForm, SectionForm, left_out, there, BuildForm, NamedForm, FileForm, HeadForm, HeadText, Alone, RuleHead, PoolHead, BuildHead}
+use Rattle.nj_manifest.specs.Inside.Heads.{build_head, as_head, head_after, head_next, name_alone}
+use Rattle.nj_manifest.proofs.Choices.{unless_none}
 use Rattle.nj_manifest.proofs.Framing.{bind-ok, after-is, value-is}
 use Rattle.nj_manifest.proofs.FormsGaps.{skip}
 use Rattle.nj_manifest.proofs.FormsTokens.{within, name-form, name-read, Stops, end_stops, colon_stops, pipe_stops, pipe2_stops, pipe_at_stops, after_skips, after-form, after-read, end-form, end-read}
@@ -88,7 +91,7 @@ file-form l ls us word s h =
     by_found found.0.0 found.0.1 found.1 found.2
   where
     by_found : (found : Option WordText) (after : State) → called (path_word_of (within l ls us)) ≡ Ok (found, after)
-        → (path_there found after >>= file_end) ≡ Ok (word, s)
+        → (ok_or found (Expected (spot_of after) wanted.Path) >>= λ w. file_end (w, after)) ≡ Ok (word, s)
         → (rest : List TextUnit) × WordForm us word rest × AreBlanks rest × (s ≡ Between (lines_after l ls))
     by_found None after e g = absurd cc
     by_found (Some w) after e g =
@@ -233,8 +236,8 @@ inputs_at-form l ls us s s' inputs e h = inputs-form l ls us inputs s' (ap input
 pub end_after_at-form : (l : Line) (ls : List Line) (us : List TextUnit) (s s' : State) → s ≡ within l ls (skip us) → expect_sign sign.LineEnd wanted.Newline s ≡ Ok s' → AreBlanks us × (s' ≡ Between (lines_after l ls))
 end_after_at-form l ls us s s' e h = end_after-form wanted.Newline l ls us s' (ap (expect_sign sign.LineEnd wanted.Newline) (sym e) ∙ h)
 
-build-form : (l : Line) (ls : List Line) (us : List TextUnit) (head : HeadText) (s : State) → build_next (within l ls us) ≡ Ok (head, s) → PartsRead l ls us head s
-unfolding build_next
+build-form : (l : Line) (ls : List Line) (us : List TextUnit) (head : HeadText) (s : State) → build_head (within l ls us) ≡ Ok (head, s) → PartsRead l ls us head s
+unfolding build_head
 build-form l ls us head s h =
     let outputs = bind-ok (outputs_next (within l ls us)) _ (head, s) h in
     let colon = bind-ok (expect_sign sign.Colon wanted.Colon outputs.0.1) _ (head, s) outputs.2 in
@@ -255,8 +258,8 @@ build-form l ls us head s h =
       leads_to end.0 s (Between (lines_after l ls)) same.1 five.1,
     )
 
-build-read : (l : Line) (ls : List Line) (us : List TextUnit) (outputs : OutputsText) (rule : NameText) (inputs : InputsText) → PartsForm us outputs rule inputs → build_next (within l ls us) ≡ Ok (BuildHead outputs rule inputs, Between (lines_after l ls))
-unfolding build_next
+build-read : (l : Line) (ls : List Line) (us : List TextUnit) (outputs : OutputsText) (rule : NameText) (inputs : InputsText) → PartsForm us outputs rule inputs → build_head (within l ls us) ≡ Ok (BuildHead outputs rule inputs, Between (lines_after l ls))
+unfolding build_head
 build-read l ls us outputs rule inputs f =
     rw (
       outputs-read l ls us f.after_outputs outputs f.of_outputs (colon_stops f.after_outputs f.after_colon f.colon),
@@ -291,7 +294,7 @@ no_keyword : (word : List ℕ) (s : State) → list_any (bytes_eq word) keywords
 unfolding head_after
 no_keyword word s h =
     none_of (bytes_eq word (codes "build")) (bytes_eq word (codes "rule")) (bytes_eq word (codes "pool")) (bytes_eq word (codes "default")) (bytes_eq word (codes "include")) (bytes_eq word (codes "subninja"))
-    (build_next s) (as_head RuleHead (name_alone wanted.RuleName s)) (as_head PoolHead (name_alone wanted.PoolName s)) (as_head (λ words. Alone (DefaultText words)) (targets_next s))
+    (build_head s) (as_head RuleHead (name_alone wanted.RuleName s)) (as_head PoolHead (name_alone wanted.PoolName s)) (as_head (λ words. Alone (DefaultText words)) (targets_next s))
     (as_head (λ word. Alone (IncludeText word)) (file_next s)) (as_head (λ word. Alone (SubninjaText word)) (file_next s)) (as_head (λ value. Alone (BindingText word value)) (equals_value s)) h
 
 -- ---- first lines
@@ -386,7 +389,7 @@ targets_are l ls us head s k h =
     let it = targets-form l ls us x.0 s x.1 in
     head-is l ls (Alone (DefaultText x.0)) head s x.2 (HeadForm.default (record { after_keyword = us; after_targets = it.0; keyword = k; of_targets = it.1; some_target = it.2; end = it.3 })) it.4
 
-build_is : (l : Line) (ls : List Line) (us : List TextUnit) (head : HeadText) (s : State) → KeywordForm (codes "build") l.units us → build_next (within l ls us) ≡ Ok (head, s) → HeadIs l ls head s
+build_is : (l : Line) (ls : List Line) (us : List TextUnit) (head : HeadText) (s : State) → KeywordForm (codes "build") l.units us → build_head (within l ls us) ≡ Ok (head, s) → HeadIs l ls head s
 build_is l ls us head s k h =
     let it = build-form l ls us head s h in
     head-is l ls (BuildHead it.0 it.1 it.2) head s (sym it.4) (HeadForm.build (whole_build l.units us it.0 it.1 it.2 k it.3)) it.5
@@ -405,7 +408,7 @@ after_the_word l ls us name head s f h =
     refl refl refl refl refl refl h
   where
     by_word : (b r p d i u : Bool) → bytes_eq name.name (codes "build") ≡ b → bytes_eq name.name (codes "rule") ≡ r → bytes_eq name.name (codes "pool") ≡ p → bytes_eq name.name (codes "default") ≡ d → bytes_eq name.name (codes "include") ≡ i → bytes_eq name.name (codes "subninja") ≡ u
-        → cond b (build_next (within l ls us)) (cond r (as_head RuleHead (name_alone wanted.RuleName (within l ls us))) (cond p (as_head PoolHead (name_alone wanted.PoolName (within l ls us))) (cond d (as_head (λ words. Alone (DefaultText words)) (targets_next (within l ls us)))
+        → cond b (build_head (within l ls us)) (cond r (as_head RuleHead (name_alone wanted.RuleName (within l ls us))) (cond p (as_head PoolHead (name_alone wanted.PoolName (within l ls us))) (cond d (as_head (λ words. Alone (DefaultText words)) (targets_next (within l ls us)))
         (cond i (as_head (λ word. Alone (IncludeText word)) (file_next (within l ls us))) (cond u (as_head (λ word. Alone (SubninjaText word)) (file_next (within l ls us))) (as_head (λ value. Alone (BindingText name.name value)) (equals_value (within l ls us)))))))) ≡ Ok (head, s)
         → HeadIs l ls head s
     by_word true r p d i u eb er ep ed ei eu g = build_is l ls us head s (keyword_of (codes "build") l.units us name f eb) g

@@ -4,9 +4,11 @@ use Rattle.nj_text.specs.declared.spot.Spot.{Spot}
 use Rattle.nj_text.specs.Lines.{Line, line_spot, lines_after, Kind, CommentLine, TabLine, BlankLine, IndentedLine, PlainLine, kind_of}
 use Rattle.nj_text.specs.Calls.{State, Between, Inside, without_comments}
 use Rattle.nj_manifest.specs.declared.block.Keys.TheVariants as keys
-use Rattle.nj_manifest.specs.Statements.{StatementText, RuleText, PoolText, BuildText, PlacedText, HeadText, Alone, RuleHead, PoolHead, BuildHead, Parse, lines_from, block, whole_rule, whole_pool, head_next, with_block, statement_at, nothing_more, next_by, next_statement}
-use Rattle.nj_manifest.specs.Grammar.{BlockForm, StatementForm, NextForm}
+use Rattle.nj_manifest.specs.Statements.{StatementText, RuleText, PoolText, BuildText, PlacedText, Parse, lines_from, block, next_statement}
+use Rattle.nj_manifest.specs.Grammar.{BlockForm, StatementForm, NextForm, HeadText, Alone, RuleHead, PoolHead, BuildHead}
 use Rattle.nj_manifest.specs.Laws.{StatementsAreTheForms}
+use Rattle.nj_manifest.specs.Inside.Heads.{whole_rule, whole_pool, head_next, with_block, statement_here}
+use Rattle.nj_manifest.proofs.NextTurns.{nothing_more, next_by, next-nothing, next-line, next-kind}
 use Rattle.nj_manifest.proofs.Framing.{bind-ok}
 use Rattle.nj_manifest.proofs.FormsLines.{head-form, head-read}
 use Rattle.nj_manifest.proofs.FormsBlocks.{reads-it, block-form, block-read}
@@ -53,8 +55,8 @@ next-is ls ms rest one found h f =
     let same = reads-it one ms found rest h in
     subst (λ (o : Option PlacedText). NextForm ls o rest) same.0 (subst (NextForm ls one) same.1 f)
 
-statement-form : (l : Line) (ls : List Line) (found : Option PlacedText) (rest : List Line) → kind_of l ≡ PlainLine → statement_at l ls ≡ Ok (found, rest) → NextForm (l ∷ ls) found rest
-unfolding statement_at
+statement-form : (l : Line) (ls : List Line) (found : Option PlacedText) (rest : List Line) → kind_of l ≡ PlainLine → statement_here l ls ≡ Ok (found, rest) → NextForm (l ∷ ls) found rest
+unfolding statement_here
 statement-form l ls found rest k h =
     let head = bind-ok (head_next (Inside l ls)) _ (found, rest) h in
     let item = bind-ok (with_block (line_spot l) head.0.0 (lines_from head.0.1)) (λ item. Ok (Some (record { spot = line_spot l; item = item.0 }), item.1)) (found, rest) head.2 in
@@ -64,15 +66,14 @@ statement-form l ls found rest k h =
     (NextForm.statement k first.0 (with_block-form (line_spot l) head.0.0 (lines_after l ls) item.0.0 item.0.1 read))
 
 statement-read : (l : Line) (ls rest : List Line) (head : HeadText) (item : StatementText) → head_next (Inside l ls) ≡ Ok (head, Between (lines_after l ls)) → with_block (line_spot l) head (lines_after l ls) ≡ Ok (item, rest)
-    → statement_at l ls ≡ Ok (Some (record { spot = line_spot l; item = item }), rest)
-unfolding statement_at
+    → statement_here l ls ≡ Ok (Some (record { spot = line_spot l; item = item }), rest)
+unfolding statement_here
 statement-read l ls rest head item h w = rw (h, w) refl
 
 -- What is read next of lines is so.
 pub next-form : (ls : List Line) (found : Option PlacedText) (rest : List Line) → next_statement ls ≡ Ok (found, rest) → NextForm ls found rest
-unfolding next_statement
-next-form [] found rest h = next-is [] [] rest None found h NextForm.nothing
-next-form (l ∷ ls) found rest h = by_kind (kind_of l) refl h (next-form ls found rest)
+next-form [] found rest h = next-is [] [] rest None found (sym next-nothing ∙ h) NextForm.nothing
+next-form (l ∷ ls) found rest h = by_kind (kind_of l) refl (sym (next-line l ls) ∙ h) (next-form ls found rest)
   where
     by_last_comment : (t : Bool) → l.is_last ≡ t → kind_of l ≡ CommentLine → (next_statement ls ≡ Ok (found, rest) → NextForm ls found rest) → cond t (nothing_more (lines_after l (without_comments ls))) (next_statement ls) ≡ Ok (found, rest) → NextForm (l ∷ ls) found rest
     by_last_comment true e k others g = next-is (l ∷ ls) (lines_after l (without_comments ls)) rest None found g (NextForm.last_comment k e)
@@ -91,13 +92,12 @@ next-form (l ∷ ls) found rest h = by_kind (kind_of l) refl h (next-form ls fou
 
 -- What is there next is read.
 pub next-read : {ls rest : List Line} {found : Option PlacedText} → NextForm ls found rest → next_statement ls ≡ Ok (found, rest)
-unfolding next_statement
-next-read (NextForm.statement {l = l} {ls = ls} {rest = rest} {head = head} {item = item} k f s) = rw k (statement-read l ls rest head item (head-read l ls head f) (with_block-read (line_spot l) s))
-next-read (NextForm.blank k e others) = rw (k, e) (next-read others)
-next-read (NextForm.comment k e others) = rw (k, e) (next-read others)
-next-read (NextForm.last_blank k e) = rw (k, e) refl
-next-read (NextForm.last_comment k e) = rw (k, e) refl
-next-read NextForm.nothing = refl
+next-read (NextForm.statement {l = l} {ls = ls} {rest = rest} {head = head} {item = item} k f s) = next-kind l ls PlainLine k ∙ statement-read l ls rest head item (head-read l ls head f) (with_block-read (line_spot l) s)
+next-read (NextForm.blank {l = l} {ls = ls} k e others) = next-kind l ls BlankLine k ∙ (ap (λ (t : Bool). cond t (nothing_more (lines_after l ls)) (next_statement ls)) e ∙ next-read others)
+next-read (NextForm.comment {l = l} {ls = ls} k e others) = next-kind l ls CommentLine k ∙ (ap (λ (t : Bool). cond t (nothing_more (lines_after l (without_comments ls))) (next_statement ls)) e ∙ next-read others)
+next-read (NextForm.last_blank {l = l} {ls = ls} k e) = next-kind l ls BlankLine k ∙ ap (λ (t : Bool). cond t (nothing_more (lines_after l ls)) (next_statement ls)) e
+next-read (NextForm.last_comment {l = l} {ls = ls} k e) = next-kind l ls CommentLine k ∙ ap (λ (t : Bool). cond t (nothing_more (lines_after l (without_comments ls))) (next_statement ls)) e
+next-read NextForm.nothing = next-nothing
 
 pub are_the_forms : StatementsAreTheForms
 are_the_forms ls found rest = (next-form ls found rest, λ f. next-read f)

@@ -13,8 +13,9 @@ use Rattle.nj_text.specs.Words.{is_blank, is_blank_meaning, in_identifier, begin
 use Rattle.nj_text.specs.Calls as calls
 use Rattle.nj_text.specs.Calls.{State, Between, Inside, Reply, bytes_of, some_bytes, is_empty, begins_word, is_sign, state_after_sign, sign_of}
 use Rattle.nj_manifest.specs.declared.fault.Wanted.{Wanted}
-use Rattle.nj_manifest.specs.LineSteps.{Step, ◌>>=◌, called, NameText, named, name_next, if_there, expect_sign}
+use Rattle.nj_manifest.specs.LineSteps.{Step, ◌>>=◌, called, NameText, name_next, expect_sign}
 use Rattle.nj_manifest.specs.Grammar.{begins, AreBlanks, IdentifierForm, SignForm}
+use Rattle.nj_manifest.proofs.Choices.{named, if_there}
 use Rattle.nj_manifest.proofs.Framing.{bind-ok, called-fault, after-is, value-is}
 use Rattle.nj_manifest.proofs.FormsGaps.{both_parts, front_passes, after_stops, run_passed, run_taken, skip, skip_again, skip_gap, gap_of, gap_passes, gap_cut, blanks_end, end_of_blanks}
 

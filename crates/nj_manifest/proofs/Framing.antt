@@ -1,6 +1,7 @@
 -- Where what is read of a line leaves the lexer.
 use Rattle.std.proofs.Common.{◌≡◌, ℕ, zero, suc, Bool, true, false, cond, ◌&&◌, Option, Some, None, Result, Ok, Err, List, [], refl, sym, ap, subst, ◌∙◌, codes}
 use Rattle.std.proofs.lemmas.Bool.{false≢true}
+use Rattle.std.specs.Prelude.{ok_or}
 use Rattle.std.specs.Str.{bytes_eq}
 use Rattle.nj_text.specs.declared.fault.UnitFault.{UnitFault}
 use Rattle.nj_text.specs.declared.sign.Sign.{Sign}
@@ -15,9 +16,12 @@ use Rattle.nj_text.specs.Calls.{State, Between, Inside, Failed, Reply, skip_blan
 use Rattle.nj_manifest.specs.declared.fault.Wanted.{Wanted}
 use Rattle.nj_manifest.specs.declared.fault.Wanted.TheVariants as wanted
 use Rattle.nj_manifest.specs.declared.block.Keys.{Keys}
-use Rattle.nj_manifest.specs.Faults.{Fault}
-use Rattle.nj_manifest.specs.LineSteps.{Step, ◌>>=◌, called, NameText, named, name_next, if_there, expect_sign, words_from, words_within, units_left, words_next, words_if, section_next}
-use Rattle.nj_manifest.specs.Statements.{LineText, allows, if_allowed, equals_value, line_next, OutputsText, InputsText, HeadText, Alone, RuleHead, PoolHead, BuildHead, BindingText, DefaultText, IncludeText, SubninjaText, name_alone, unless_none, outputs_next, inputs_next, build_next, targets_next, path_there, file_next, as_head, head_after, head_next}
+use Rattle.nj_manifest.specs.Faults.{Fault, Expected}
+use Rattle.nj_manifest.specs.LineSteps.{Step, ◌>>=◌, called, NameText, name_next, expect_sign, words_from, words_within, units_left, words_next, section_next}
+use Rattle.nj_manifest.specs.Statements.{LineText, allows, equals_value, line_next, OutputsText, InputsText, BindingText, DefaultText, IncludeText, SubninjaText, outputs_next, inputs_next, targets_next, file_next}
+use Rattle.nj_manifest.specs.Grammar.{HeadText, Alone, RuleHead, PoolHead, BuildHead}
+use Rattle.nj_manifest.specs.Inside.Heads.{build_head, as_head, head_after, head_next, name_alone}
+use Rattle.nj_manifest.proofs.Choices.{named, if_there, words_if, if_allowed, unless_none}
 
 -- ---- steps
 
@@ -218,8 +222,8 @@ inputs-inside l ls s y o h =
     let at_validations = section-inside sign.PipeAt l ls order_only.0.1 validations.0 pipe_at-in_line at_order_only validations.1 in
     subst (On l ls) (after-is _ _ y validations.2) at_validations
 
-build-inside : (l : Line) (ls : List Line) (s : State) (y : HeadText × State) → On l ls s → build_next s ≡ Ok y → Ended l ls y.1
-unfolding build_next
+build-inside : (l : Line) (ls : List Line) (s : State) (y : HeadText × State) → On l ls s → build_head s ≡ Ok y → Ended l ls y.1
+unfolding build_head
 build-inside l ls s y o h =
     let outputs = bind-ok (outputs_next s) _ y h in
     let colon = bind-ok (expect_sign sign.Colon wanted.Colon outputs.0.1) _ y outputs.2 in
@@ -237,17 +241,12 @@ targets-inside l ls s y o h =
     let read = unless_none-ok (is_empty words.0.0) wanted.TargetName words.0.1 (expect_sign sign.LineEnd wanted.Newline words.0.1) end.0 end.1 in
     sym (after-is _ _ y end.2) ∙ line_end-inside wanted.Newline l ls words.0.1 end.0 (words-inside l ls s words.0 o words.1) read
 
-path_there-after : (found : Option WordText) (s : State) (y : WordText × State) → path_there found s ≡ Ok y → s ≡ y.1
-path_there-after None s y h = absurd cc
-path_there-after (Some word) s y h = after-is _ _ y h
-
 file-inside : (l : Line) (ls : List Line) (s : State) (y : WordText × State) → On l ls s → file_next s ≡ Ok y → Ended l ls y.1
 unfolding file_next
 file-inside l ls s y o h =
     let found = bind-ok (called (path_word_of s)) _ y h in
-    let word = bind-ok (path_there found.0.0 found.0.1) _ y found.2 in
-    let at_word = subst (On l ls) (path_there-after found.0.0 found.0.1 word.0 word.1) (word-inside l ls s found.0 o found.1) in
-    ends-line l ls word.0.0 word.0.1 y at_word word.2
+    let word = bind-ok (ok_or found.0.0 (Expected (spot_of found.0.1) wanted.Path)) _ y found.2 in
+    ends-line l ls word.0 found.0.1 y (word-inside l ls s found.0 o found.1) word.2
 
 as_head-inside : {A : Type 0} (l : Line) (ls : List Line) (head : A → HeadText) (step : Step A) (y : HeadText × State) → ((x : A × State) → step ≡ Ok x → Ended l ls x.1) → as_head head step ≡ Ok y → Ended l ls y.1
 as_head-inside l ls head step y read h =
@@ -260,7 +259,7 @@ head_after-inside l ls word s y o h =
     by_word (bytes_eq word (codes "build")) (bytes_eq word (codes "rule")) (bytes_eq word (codes "pool")) (bytes_eq word (codes "default")) (bytes_eq word (codes "include")) (bytes_eq word (codes "subninja")) h
   where
     by_word : (b r p d i u : Bool)
-        → cond b (build_next s) (cond r (as_head RuleHead (name_alone wanted.RuleName s)) (cond p (as_head PoolHead (name_alone wanted.PoolName s)) (cond d (as_head (λ words. Alone (DefaultText words)) (targets_next s))
+        → cond b (build_head s) (cond r (as_head RuleHead (name_alone wanted.RuleName s)) (cond p (as_head PoolHead (name_alone wanted.PoolName s)) (cond d (as_head (λ words. Alone (DefaultText words)) (targets_next s))
         (cond i (as_head (λ word. Alone (IncludeText word)) (file_next s)) (cond u (as_head (λ word. Alone (SubninjaText word)) (file_next s)) (as_head (λ value. Alone (BindingText word value)) (equals_value s))))))) ≡ Ok y
         → Ended l ls y.1
     by_word true r p d i u h = build-inside l ls s y o h

@@ -10,15 +10,17 @@ use Rattle.nj_text.specs.declared.fault.LexFault.TheVariants as lex
 use Rattle.nj_manifest.specs.Faults.{Fault}
 use Rattle.nj_manifest.specs.Parsers.{Fails}
 use Rattle.nj_manifest.specs.LineSteps.{◌>>=◌}
-use Rattle.nj_manifest.specs.Statements.{HeadText, lines_from, head_next, with_block, statement_at}
+use Rattle.nj_manifest.specs.Statements.{lines_from}
 use Rattle.nj_manifest.specs.Inside.ParserContracts.{ParsesFrom, ParsesAt}
 use Rattle.nj_manifest.specs.Contents.{statement_text, placed_text}
+use Rattle.nj_manifest.specs.Grammar.{HeadText}
+use Rattle.nj_manifest.specs.Inside.Heads.{head_next, with_block, statement_here}
 use Rattle.nj_manifest.proofs.Framing.{head-inside}
 
 -- the first line, and then the statement with its block
 at-head : (l : Line) (ls : List Line) (h : HeadText) (after : State) → head_next (Inside l ls) ≡ Ok (h, after)
-    → statement_at l ls ≡ (with_block (line_spot l) h (lines_from after) >>= λ item. Ok (Some (record { spot = line_spot l; item = item.0 }), item.1))
-unfolding statement_at
+    → statement_here l ls ≡ (with_block (line_spot l) h (lines_from after) >>= λ item. Ok (Some (record { spot = line_spot l; item = item.0 }), item.1))
+unfolding statement_here
 at-head l ls h after e = rw e refl
 
 pub fails-on : {A B : Type 0} (f : ParseFault) (x : Result A Fault) (k : A → Result B Fault) → Fails f x → Fails f (x >>= k)
@@ -36,7 +38,7 @@ fails-on (fault.DyndepVersion s) x k h = rw h refl
 fails-on (fault.DyndepShape s) x k h = rw h refl
 
 pub here-ok : (before middle after : State) (h : HeadText) (spot : Spot) (item : Statement) → spot ≡ spot_of before → head_next before ≡ Ok (h, middle)
-    → ParsesFrom statement_text middle after (with_block spot h) (Ok item) → ParsesAt (option_map placed_text) before after statement_at (Ok (Some (record { spot = spot; item = item })))
+    → ParsesFrom statement_text middle after (with_block spot h) (Ok item) → ParsesAt (option_map placed_text) before after statement_here (Ok (Some (record { spot = spot; item = item })))
 here-ok (Between ls) middle after h spot item s e r = tt
 here-ok (Failed f) middle after h spot item s e r = tt
 here-ok (Inside l ls) middle after h spot item s e r =
@@ -47,7 +49,7 @@ here-ok (Inside l ls) middle after h spot item s e r =
     (at-head l ls h (Between (lines_after l ls)) e' ∙ rw (w, s) refl, r'.1)
 
 pub here-fails : (before middle after : State) (h : HeadText) (spot : Spot) (f : ParseFault) → spot ≡ spot_of before → head_next before ≡ Ok (h, middle)
-    → ParsesFrom statement_text middle after (with_block spot h) (Err f) → ParsesAt (option_map placed_text) before after statement_at (Err f)
+    → ParsesFrom statement_text middle after (with_block spot h) (Err f) → ParsesAt (option_map placed_text) before after statement_here (Err f)
 here-fails (Between ls) middle after h spot f s e r = tt
 here-fails (Failed g) middle after h spot f s e r = tt
 here-fails (Inside l ls) middle after h spot f s e r =

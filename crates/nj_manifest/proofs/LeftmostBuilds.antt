@@ -8,8 +8,11 @@ use Rattle.nj_text.specs.Calls.{State, is_empty, is_sign}
 use Rattle.nj_manifest.specs.declared.fault.Wanted.TheVariants as wanted
 use Rattle.nj_manifest.specs.Faults.{Fault, Expected}
 use Rattle.nj_manifest.specs.LineSteps.{Step, ◌>>=◌, NameText, name_next, expect_sign, words_within, words_next, section_next}
-use Rattle.nj_manifest.specs.Statements.{OutputsText, InputsText, HeadText, BuildHead, unless_none, outputs_next, inputs_next, build_next}
+use Rattle.nj_manifest.specs.Statements.{OutputsText, InputsText, outputs_next, inputs_next}
 use Rattle.nj_manifest.specs.Leftmost.{written}
+use Rattle.nj_manifest.specs.Grammar.{HeadText, BuildHead}
+use Rattle.nj_manifest.specs.Inside.Heads.{build_head}
+use Rattle.nj_manifest.proofs.Choices.{unless_none}
 use Rattle.nj_manifest.proofs.LeftmostFronts.{sign-same, element-front}
 use Rattle.nj_manifest.proofs.LeftmostSteps.{at, text, Fits, is_separator, is_colon, colon_is, opens-more, after_name, after_words, FailsAt, Claim, Along, Outcome, stuck, stick, bind-bind}
 use Rattle.nj_manifest.proofs.LeftmostSigns.{sign_step, led_on, ending, colon_single, finish}
@@ -89,8 +92,8 @@ outputs_is s =
     bind-same (outputs_next s) outputs_then with_outputs (λ o. colon_is_led o.0 (expect_sign sign.Colon wanted.Colon o.1))
     ∙ (bind-bind (words_next s) _ with_outputs ∙ bind-same (words_next s) _ with_explicit_outputs (λ e. bind-bind (section_next sign.Pipe e.1) (some_output e.0) with_outputs))
 
-build_is : (s : State) → build_next s ≡ (words_next s >>= with_explicit_outputs)
-unfolding build_next
+build_is : (s : State) → build_head s ≡ (words_next s >>= with_explicit_outputs)
+unfolding build_head
 build_is s = outputs_is s
 
 -- ---- strings that complete what is begun
@@ -150,11 +153,11 @@ there_is : (ex im : List WordText) → (is_empty ex && is_empty im) ≡ false �
 there_is ex im h s = ap (λ (t : Bool). unless_none t wanted.Path s (Ok (outputs_of ex im, s)) >>= with_outputs) h
 
 -- no output after `build`
-no_explicit : (e : Line) (us : List TextUnit) (n : WordsPass us) → is_empty n.value ≡ true → is_sign sign.Pipe n.run.left ≡ false → FailsAt build_next us e (Expected (spot_of_first n.run.left e.end) wanted.Path) n.run.used n.run.left
+no_explicit : (e : Line) (us : List TextUnit) (n : WordsPass us) → is_empty n.value ≡ true → is_sign sign.Pipe n.run.left ≡ false → FailsAt build_head us e (Expected (spot_of_first n.run.left e.end) wanted.Path) n.run.used n.run.left
 no_explicit e us n empty none = record {
   cut = n.run.cut;
   place = refl;
-  fails = λ ms. ap (λ (y : List TextUnit). build_next (at y e ms)) n.run.cut ∙ nothing_read n.run.left e ms n.stops none;
+  fails = λ ms. ap (λ (y : List TextUnit). build_head (at y e ms)) n.run.cut ∙ nothing_read n.run.left e ms n.stops none;
   refuses = λ x d ms same.
       let seen = element-front x n.run.left same in
       (nothing_read x d ms (settled_same x n.run.left seen ∙ n.stops) (sign-same sign.Pipe x n.run.left seen ∙ none));
@@ -164,7 +167,7 @@ no_explicit e us n empty none = record {
     missing t [] x d ms h g = refl
     missing t (w ∷ ws) x d ms h g = absurd cc
 
-    nothing_read : (x : List TextUnit) (d : Line) (ms : List Line) → settled x ≡ true → is_sign sign.Pipe x ≡ false → build_next (at (n.run.used ++ x) d ms) ≡ Err (Expected (spot_of_first x d.end) wanted.Path)
+    nothing_read : (x : List TextUnit) (d : Line) (ms : List Line) → settled x ≡ true → is_sign sign.Pipe x ≡ false → build_head (at (n.run.used ++ x) d ms) ≡ Err (Expected (spot_of_first x d.end) wanted.Path)
     nothing_read x d ms h g =
         build_is (at (n.run.used ++ x) d ms) ∙ (ap (λ r. r >>= with_explicit_outputs) (n.goes x d ms h) ∙ (ap (λ r. r >>= with_implicit_outputs n.value) (section_none sign.Pipe x d ms h g) ∙ missing true n.value x d ms empty refl))
 
@@ -221,14 +224,14 @@ module _ {P : Claim HeadText} {whole : List TextUnit} (e : Line) where
   at_outputs : (ex im : List WordText) (us : List TextUnit) → (is_empty ex && is_empty im) ≡ false → Along P whole (λ s. with_implicit_outputs ex (im, s)) after_words us → Outcome P whole e
   at_outputs ex im us h a = at_colon (outputs_of ex im) us (along-same _ (λ s. with_outputs (outputs_of ex im, s)) (there_is ex im h) a)
 
-  pub build_turn : (us : List TextUnit) → Along P whole build_next after_name us → Outcome P whole e
+  pub build_turn : (us : List TextUnit) → Along P whole build_head after_name us → Outcome P whole e
   build_turn us a =
-      words_turn e build_next with_explicit_outputs build_is a words_after_name (58 ∷ 114 ∷ []) refl refl refl ends_explicit_outputs at_implicit
+      words_turn e build_head with_explicit_outputs build_is a words_after_name (58 ∷ 114 ∷ []) refl refl refl ends_explicit_outputs at_implicit
     where
       stuck_first : (n : WordsPass us) → is_empty n.value ≡ true → is_sign sign.Pipe n.run.left ≡ false → Outcome P whole e
       stuck_first n empty none =
           let d = ends_explicit_outputs n.run.word n.run.words in
-          stuck _ (stick build_next build_next (λ x. Ok x) (λ s. itself (build_next s)) a (no_explicit e us n empty none) (32 ∷ 120 ∷ 58 ∷ 114 ∷ []) refl refl d.0 (n.run.fits after_name (one_more (text (58 ∷ 114 ∷ []))) refl)
+          stuck _ (stick build_head build_head (λ x. Ok x) (λ s. itself (build_head s)) a (no_explicit e us n empty none) (32 ∷ 120 ∷ 58 ∷ 114 ∷ []) refl refl d.0 (n.run.fits after_name (one_more (text (58 ∷ 114 ∷ []))) refl)
           (λ ms. build_is (at (n.run.used ++ one_more (text (58 ∷ 114 ∷ []))) (written []) ms) ∙ (ap (λ r. r >>= with_explicit_outputs) (n.run.more (text (58 ∷ 114 ∷ [])) (written []) ms refl) ∙ d.1 ms)))
 
       by_empty : (n : WordsPass us) (t : Bool) → is_empty n.value ≡ t → is_sign sign.Pipe n.run.left ≡ false → Along P whole (λ s. with_implicit_outputs n.value ([], s)) after_words n.run.left → Outcome P whole e

@@ -1,5 +1,6 @@
 -- Lines that end a block which was begun, whatever lines it has.
 use Rattle.std.proofs.Common.{◌≡◌, ℕ, Bool, true, false, cond, ◌&&◌, ◌||◌, not, Result, Ok, Err, List, [], ◌∷◌, ◌++◌, map, refl, sym, ap, ◌∙◌, codes}
+use mathlib.Core.Bool.{beq}
 use Rattle.std.specs.List.{list_any, list_all}
 use Rattle.std.specs.Str.{bytes_eq}
 use Rattle.nj_text.specs.declared.spot.Spot.{Spot}
@@ -11,8 +12,11 @@ use Rattle.nj_manifest.specs.declared.block.Keys.{Keys}
 use Rattle.nj_manifest.specs.declared.block.Keys.TheVariants as keys
 use Rattle.nj_manifest.specs.Faults.{Fault, MissingCommand, RspPair, MissingDepth, is_syntax}
 use Rattle.nj_manifest.specs.LineSteps.{◌>>=◌, NameText, name_next, expect_sign}
-use Rattle.nj_manifest.specs.Statements.{LineText, equals_value, line_next, Parse, block, OutputsText, InputsText, StatementText, RuleText, PoolText, BuildText, HeadText, Alone, RuleHead, PoolHead, BuildHead, gives, names, unless_missing, agree, whole_rule, whole_pool, with_block}
+use Rattle.nj_manifest.specs.Statements.{LineText, equals_value, line_next, Parse, block, OutputsText, InputsText, StatementText, RuleText, PoolText, BuildText, gives, names}
 use Rattle.nj_manifest.specs.Leftmost.{written, are_plain}
+use Rattle.nj_manifest.specs.Grammar.{HeadText, Alone, RuleHead, PoolHead, BuildHead}
+use Rattle.nj_manifest.specs.Inside.Heads.{whole_rule, whole_pool, with_block}
+use Rattle.nj_manifest.proofs.Choices.{unless_missing}
 use Rattle.nj_manifest.proofs.BlockLines.{in_front}
 use Rattle.nj_manifest.proofs.GivenKeys.{gives-cons}
 
@@ -138,7 +142,7 @@ rule_fault : (spot : Spot) (name : NameText) (lines : List LineText × List Line
 unfolding whole_rule
 rule_fault spot name lines f s h =
     no_err (fault_of_missing (gives (codes "command") lines.0) (MissingCommand spot) f _ (λ whole. Ok (RuleText name whole, lines.1)) refl s
-    (fault_of_missing (agree (gives (codes "rspfile") lines.0) (gives (codes "rspfile_content") lines.0)) (RspPair spot) f _ (λ whole. Ok (RuleText name whole, lines.1)) refl s h))
+    (fault_of_missing (beq (gives (codes "rspfile") lines.0) (gives (codes "rspfile_content") lines.0)) (RspPair spot) f _ (λ whole. Ok (RuleText name whole, lines.1)) refl s h))
 
 pool_fault : (spot : Spot) (name : NameText) (lines : List LineText × List Line) (f : Fault) → is_syntax f ≡ true → pool_then spot name lines ≡ Err f → ⊥
 unfolding whole_pool

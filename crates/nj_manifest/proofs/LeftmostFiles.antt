@@ -11,8 +11,8 @@ use Rattle.nj_text.proofs.Lists.{AllIn, AllIn-take_while, take_while-cons_yes}
 use Rattle.nj_manifest.specs.declared.fault.Wanted.TheVariants as wanted
 use Rattle.nj_manifest.specs.Faults.{Fault, Bad, Expected}
 use Rattle.nj_manifest.specs.LineSteps.{Step, ◌>>=◌}
-use Rattle.nj_manifest.specs.Statements.{path_there}
 use Rattle.nj_manifest.specs.Leftmost.{are_plain, offers}
+use Rattle.nj_manifest.proofs.Choices.{path_there}
 use Rattle.nj_manifest.proofs.LeftmostRuns.{begins, both_parts, after_stops, skip, skip_stops, gap_of, gap_passes, gap_cut}
 use Rattle.nj_manifest.proofs.LeftmostFronts.{fault-same, element-front}
 use Rattle.nj_manifest.proofs.LeftmostSteps.{at, text, after_name, after_words, Fits, fits-gap, Passes, FailsAt, fault-place}

@@ -1,17 +1,21 @@
 -- The first line of a statement: it is read to its end, or stuck at its first fault.
-use Rattle.std.proofs.Common.{◌≡◌, ℕ, Bool, true, false, cond, Option, Result, Ok, Err, List, [], ◌∷◌, ◌++◌, refl, ap, ◌∙◌, codes}
+use Rattle.std.proofs.Common.{◌≡◌, ℕ, Bool, true, false, cond, Option, Some, None, Result, Ok, Err, List, [], ◌∷◌, ◌++◌, refl, ap, ◌∙◌, codes}
+use Rattle.std.specs.Prelude.{ok_or}
 use Rattle.std.specs.Str.{bytes_eq}
 use Rattle.nj_text.specs.declared.sign.Sign.TheVariants as sign
 use Rattle.nj_text.specs.Units.{TextUnit, first_spot}
 use Rattle.nj_text.specs.Lines.{Line, spot_of_first}
 use Rattle.nj_text.specs.Words.{in_identifier, WordText}
-use Rattle.nj_text.specs.Calls.{State, is_empty}
+use Rattle.nj_text.specs.Calls.{State, is_empty, spot_of}
 use Rattle.nj_manifest.specs.declared.fault.Wanted.{Wanted}
 use Rattle.nj_manifest.specs.declared.fault.Wanted.TheVariants as wanted
 use Rattle.nj_manifest.specs.Faults.{Fault, Expected}
 use Rattle.nj_manifest.specs.LineSteps.{Step, ◌>>=◌, NameText, name_next, expect_sign, words_next}
-use Rattle.nj_manifest.specs.Statements.{HeadText, Alone, RuleHead, PoolHead, BindingText, DefaultText, IncludeText, SubninjaText, equals_value, name_alone, unless_none, build_next, targets_next, path_there, file_next, as_head, head_after, head_next}
+use Rattle.nj_manifest.specs.Statements.{BindingText, DefaultText, IncludeText, SubninjaText, equals_value, targets_next, file_next}
 use Rattle.nj_manifest.specs.Leftmost.{written, offers_next}
+use Rattle.nj_manifest.specs.Grammar.{HeadText, Alone, RuleHead, PoolHead}
+use Rattle.nj_manifest.specs.Inside.Heads.{build_head, as_head, head_after, head_next, name_alone}
+use Rattle.nj_manifest.proofs.Choices.{unless_none, path_there}
 use Rattle.nj_manifest.proofs.LeftmostRuns.{begins}
 use Rattle.nj_manifest.proofs.LeftmostFronts.{element-front}
 use Rattle.nj_manifest.proofs.LeftmostSteps.{at, text, after_name, after_words, FailsAt, Claim, Along, Outcome, stuck, stick, pass}
@@ -64,8 +68,12 @@ file_led : (s : State) → ◌≡◌ {A = Step WordText} (file_next s) (file_wor
 unfolding file_next
 file_led s = by_found (word_call s)
   where
-    by_found : (r : Step (Option WordText)) → ◌≡◌ {A = Step WordText} (r >>= λ found. path_there found.0 found.1 >>= λ w. ending w.0 (line_end w.1)) ((r >>= λ found. path_there found.0 found.1) >>= λ w. ending w.0 (line_end w.1))
-    by_found (Ok x) = refl
+    by_word : (found : Option WordText) (after : State) → ◌≡◌ {A = Step WordText} (ok_or found (Expected (spot_of after) wanted.Path) >>= λ w. ending w (line_end after)) (path_there found after >>= λ w. ending w.0 (line_end w.1))
+    by_word None after = refl
+    by_word (Some w) after = refl
+
+    by_found : (r : Step (Option WordText)) → ◌≡◌ {A = Step WordText} (r >>= λ found. ok_or found.0 (Expected (spot_of found.1) wanted.Path) >>= λ w. ending w (line_end found.1)) ((r >>= λ found. path_there found.0 found.1) >>= λ w. ending w.0 (line_end w.1))
+    by_found (Ok x) = by_word x.0 x.1
     by_found (Err f) = refl
 
 file_is : (head : WordText → HeadText) (s : State) → as_head head (file_next s) ≡ (file_word s >>= file_end head)
@@ -144,7 +152,7 @@ module _ {P : Claim HeadText} {whole : List TextUnit} (e : Line) where
       by_word (bytes_eq word (codes "build")) (bytes_eq word (codes "rule")) (bytes_eq word (codes "pool")) (bytes_eq word (codes "default")) (bytes_eq word (codes "include")) (bytes_eq word (codes "subninja")) a
     where
       by_word : (b r p d i u : Bool)
-          → Along P whole (λ s. cond b (build_next s) (cond r (as_head RuleHead (name_alone wanted.RuleName s)) (cond p (as_head PoolHead (name_alone wanted.PoolName s)) (cond d (as_head (λ words. Alone (DefaultText words)) (targets_next s))
+          → Along P whole (λ s. cond b (build_head s) (cond r (as_head RuleHead (name_alone wanted.RuleName s)) (cond p (as_head PoolHead (name_alone wanted.PoolName s)) (cond d (as_head (λ words. Alone (DefaultText words)) (targets_next s))
           (cond i (as_head (λ word. Alone (IncludeText word)) (file_next s)) (cond u (as_head (λ word. Alone (SubninjaText word)) (file_next s)) (as_head (λ value. Alone (BindingText word value)) (equals_value s)))))))) after_name us
           → Outcome P whole e
       by_word true r p d i u a = build_turn e us a

@@ -9,8 +9,9 @@ use Rattle.nj_manifest.specs.declared.block.Keys.{Keys}
 use Rattle.nj_manifest.specs.declared.block.Keys.TheVariants as keys
 use Rattle.nj_manifest.specs.Faults.{UnknownKey}
 use Rattle.nj_manifest.specs.LineSteps.{Step, ◌>>=◌, NameText, name_next, expect_sign}
-use Rattle.nj_manifest.specs.Statements.{LineText, allows, if_allowed, equals_value, line_next}
+use Rattle.nj_manifest.specs.Statements.{LineText, allows, equals_value, line_next}
 use Rattle.nj_manifest.specs.Leftmost.{written, are_plain, offers_next}
+use Rattle.nj_manifest.proofs.Choices.{if_allowed}
 use Rattle.nj_manifest.proofs.LeftmostRuns.{skip, gap_of, gap_passes, gap_cut}
 use Rattle.nj_manifest.proofs.LeftmostSteps.{at, text, fits-gap, after_name, FailsAt, Claim, Along, Outcome, stuck, stick}
 use Rattle.nj_manifest.proofs.LeftmostNames.{NamePasses, name_skips}

@@ -11,8 +11,9 @@ use Rattle.nj_text.specs.Calls.{State, reply, unless_fault, bytes_of, some_bytes
 use Rattle.nj_text.proofs.Lists.{AllIn, AllIn-take_while, take_while-cons_yes, take_while-cons_no}
 use Rattle.nj_manifest.specs.declared.fault.Wanted.{Wanted}
 use Rattle.nj_manifest.specs.Faults.{Fault, Bad, Expected}
-use Rattle.nj_manifest.specs.LineSteps.{Step, ◌>>=◌, called, NameText, named, name_next}
+use Rattle.nj_manifest.specs.LineSteps.{Step, ◌>>=◌, called, NameText, name_next}
 use Rattle.nj_manifest.specs.Leftmost.{element}
+use Rattle.nj_manifest.proofs.Choices.{named}
 use Rattle.nj_manifest.proofs.LeftmostRuns.{begins, both_parts, after_stops, none_passed, none_taken, run_passed, run_taken, skip, skip_again, skip_stops, skip_gap, gap_of, gap_passes, gap_cut, no_other, not_byte}
 use Rattle.nj_manifest.proofs.LeftmostFronts.{identifier_no_pipe, begins-same, fault-same, element-front, element-identifier}
 use Rattle.nj_manifest.proofs.LeftmostSteps.{at, blank_no_pipe, Fits, by_fits, fits-alone, Passes, FailsAt, fault-place, opens-none, after_name, is_separator, separator_is, ordinary_no_fault, OfWanted}

@@ -8,7 +8,8 @@ use Rattle.nj_text.specs.Lines.{Line, with_units}
 use Rattle.nj_text.specs.Words.{is_blank, is_blank_meaning, opens_word_meaning, begins_with_byte, next_fault, WordText}
 use Rattle.nj_text.specs.Calls.{State, reply, unless_fault, is_sign, state_after_sign}
 use Rattle.nj_manifest.specs.Faults.{Fault}
-use Rattle.nj_manifest.specs.LineSteps.{Step, ◌>>=◌, called, words_next, words_if, section_next}
+use Rattle.nj_manifest.specs.LineSteps.{Step, ◌>>=◌, called, words_next, section_next}
+use Rattle.nj_manifest.proofs.Choices.{words_if}
 use Rattle.nj_manifest.proofs.LeftmostRuns.{begins, none_passed}
 use Rattle.nj_manifest.proofs.LeftmostFronts.{front, byte-same, sign-same, front-append, front-two, front-bare, element-front}
 use Rattle.nj_manifest.proofs.LeftmostSteps.{at, Fits, Passes, FailsAt, opens-none, opens-no_fault, after_words, is_colon, colon_is}

@@ -11,8 +11,9 @@ use Rattle.nj_text.proofs.Lists.{AllIn}
 use Rattle.nj_manifest.specs.declared.fault.Wanted.{Wanted}
 use Rattle.nj_manifest.specs.declared.fault.Wanted.TheVariants as wanted
 use Rattle.nj_manifest.specs.Faults.{Fault, Bad, Expected}
-use Rattle.nj_manifest.specs.LineSteps.{Step, ◌>>=◌, called, if_there, expect_sign}
+use Rattle.nj_manifest.specs.LineSteps.{Step, ◌>>=◌, called, expect_sign}
 use Rattle.nj_manifest.specs.Leftmost.{element, written, offers}
+use Rattle.nj_manifest.proofs.Choices.{if_there}
 use Rattle.nj_manifest.proofs.LeftmostRuns.{begins, none_passed, skip, skip_stops, skip_gap, gap_of, gap_passes, gap_cut, no_other, not_byte}
 use Rattle.nj_manifest.proofs.LeftmostFronts.{fault-same, sign-same, element-front}
 use Rattle.nj_manifest.proofs.LeftmostSteps.{at, blank_no_pipe, Fits, fits-alone, fits-gap, Passes, FailsAt, fault-place, ordinary_no_fault, Claim, Along, Outcome, stuck, stick, arrive, OfWanted}

@@ -9,8 +9,12 @@ use Rattle.nj_text.proofs.Lists.{AllIn}
 use Rattle.nj_manifest.specs.declared.block.Keys.{Keys}
 use Rattle.nj_manifest.specs.Faults.{Fault, Bad, UnexpectedIndent, is_syntax}
 use Rattle.nj_manifest.specs.LineSteps.{Step, ◌>>=◌, name_next, expect_sign}
-use Rattle.nj_manifest.specs.Statements.{LineText, PlacedText, StatementText, Alone, HeadText, Parse, lines_from, head_after, head_next, equals_value, block, with_block, statement_at, nothing_more, front_of, next_by, next_statement}
+use Rattle.nj_manifest.specs.Statements.{LineText, PlacedText, StatementText, Parse, lines_from, equals_value, block, statement_after, next_statement}
 use Rattle.nj_manifest.specs.Leftmost.{continues, element, written, NamesThePlaceOf, met_before, offers, ComesLeftmost}
+use Rattle.nj_manifest.specs.Grammar.{Alone, HeadText}
+use Rattle.nj_manifest.specs.Openings.{front_of, opening}
+use Rattle.nj_manifest.specs.Inside.Heads.{head_next, with_block, statement_here}
+use Rattle.nj_manifest.proofs.NextTurns.{nothing_more, next-nothing, next-kind}
 use Rattle.nj_manifest.proofs.BlockLines.{in_front}
 use Rattle.nj_manifest.proofs.LeftmostFronts.{element-front}
 use Rattle.nj_manifest.proofs.LeftmostSteps.{at, text, Fits, Claim, begin, Stuck, Outcome, stuck, through}
@@ -36,8 +40,8 @@ abbrev placed_then : Spot → HeadText × State → Parse (Option PlacedText)
 placed_then spot head = with_block spot head.0 (lines_from head.1) >>= λ item. Ok (Some (record { spot = spot; item = item.0 }), item.1)
 
 plain_next : (l : Line) (ms : List Line) → kind_of l ≡ PlainLine → next_statement (l ∷ ms) ≡ (head_next (Inside l ms) >>= placed_then (line_spot l))
-unfolding next_statement statement_at
-plain_next l ms h = ap (λ (k : Kind). next_by k l ms (next_statement ms)) h
+unfolding statement_here
+plain_next l ms h = next-kind l ms PlainLine h
 
 pub plain_bad : (l : Line) (ms : List Line) (f : Fault) → kind_of l ≡ PlainLine → head_next (Inside l ms) ≡ Err f → next_statement (l ∷ ms) ≡ Err f
 plain_bad l ms f h r = plain_next l ms h ∙ ap (λ (y : Step HeadText). y >>= placed_then (line_spot l)) r
@@ -145,17 +149,13 @@ plain_leftmost l ls fault k h syntax = by_head (head_outcome l k)
 
 -- ---- lines before a statement
 
-pub by_kind_next : (l : Line) (ms : List Line) (k : Kind) → kind_of l ≡ k → next_statement (l ∷ ms) ≡ next_by k l ms (next_statement ms)
-unfolding next_statement
-by_kind_next l ms k h = ap (λ (k : Kind). next_by k l ms (next_statement ms)) h
-
 one_statement : SomeOf (written (codes "a=b") ∷ [])
-unfolding next_statement statement_at head_next name_next head_after equals_value expect_sign
+unfolding next_statement opening statement_after name_next equals_value expect_sign
 one_statement = (_, _, refl)
 
 -- spaces alone, before a statement
 blank_then : (sp : List TextUnit) → AllIn is_space_unit sp → SomeOf (with_units (sp ++ text []) (written []) ∷ written (codes "a=b") ∷ [])
-blank_then sp a = (one_statement.0, one_statement.1, by_kind_next (with_units (sp ++ []) (written [])) (written (codes "a=b") ∷ []) BlankLine (kind_spaced sp [] a refl) ∙ one_statement.2)
+blank_then sp a = (one_statement.0, one_statement.1, next-kind (with_units (sp ++ []) (written [])) (written (codes "a=b") ∷ []) BlankLine (kind_spaced sp [] a refl) ∙ one_statement.2)
 
 -- The fault is the fault of the line's kind, whatever comes after its first unit.
 of_kind : (l : Line) (ls : List Line) (fault : Fault) → offers fault [] ≡ true → NamesThePlaceOf fault (with_units (after_spaces l.units) l)
@@ -176,7 +176,7 @@ of_kind l ls fault offered place refuses =
 tab_leftmost : (l : Line) (ls : List Line) (tab : Spot) → kind_of l ≡ TabLine tab → ComesLeftmost (l ∷ ls) (Bad (lex.Tab tab))
 tab_leftmost l ls tab k =
     of_kind l ls (Bad (lex.Tab tab)) refl (tab_place l.units tab l.end k)
-    (λ m ms same. (by_kind_next (with_units (spaces_of l.units ++ m.units) m) ms (TabLine tab) (kind_replaced l.units m.units (element-front m.units (after_spaces l.units) same) ∙ k)))
+    (λ m ms same. (next-kind (with_units (spaces_of l.units ++ m.units) m) ms (TabLine tab) (kind_replaced l.units m.units (element-front m.units (after_spaces l.units) same) ∙ k)))
 
 -- an indented line whose units after its spaces these are
 abbrev unexpected_at : Line → Parse (Option PlacedText)
@@ -187,7 +187,7 @@ indented_leftmost l ls k =
     of_kind l ls (UnexpectedIndent (front_of l)) refl refl
     (λ m ms same.
     let sees = element-front m.units (after_spaces l.units) same in
-    by_kind_next (with_units (spaces_of l.units ++ m.units) m) ms IndentedLine (kind_replaced l.units m.units sees ∙ k)
+    next-kind (with_units (spaces_of l.units ++ m.units) m) ms IndentedLine (kind_replaced l.units m.units sees ∙ k)
     ∙ ap (λ (y : List TextUnit). unexpected_at (with_units y m)) (unspaced (spaces_of l.units) m.units (spaces_pass l.units) (no_space_same l.units m.units sees)))
 
 -- after a line that gives nothing, and is not the last
@@ -210,21 +210,17 @@ not_last false rest others f h = (refl, h)
 pub nothing_no_fault : (rest : List Line) (f : Fault) → nothing_more rest ≡ Err f → ⊥
 nothing_no_fault rest f h = absurd cc
 
-pub no_lines_next : next_statement [] ≡ nothing_more []
-unfolding next_statement
-no_lines_next = refl
-
 pub leftmost : (ls : List Line) (fault : Fault) → next_statement ls ≡ Err fault → is_syntax fault ≡ true → ComesLeftmost ls fault
-leftmost [] fault h syntax = absurd (nothing_no_fault [] fault (sym no_lines_next ∙ h))
+leftmost [] fault h syntax = absurd (nothing_no_fault [] fault (sym next-nothing ∙ h))
 leftmost (l ∷ ls) fault h syntax = by_kind (kind_of l) refl (λ e. leftmost ls fault e syntax)
   where
     by_kind : (k : Kind) → kind_of l ≡ k → (next_statement ls ≡ Err fault → ComesLeftmost ls fault) → ComesLeftmost (l ∷ ls) fault
     by_kind CommentLine k rest =
-        let last = not_last l.is_last (lines_after l (without_comments ls)) (next_statement ls) fault (sym (by_kind_next l ls CommentLine k) ∙ h) in
-        leftmost_after l ls fault (λ ms. by_kind_next l ms CommentLine k ∙ ap (λ (t : Bool). cond t (nothing_more (lines_after l (without_comments ms))) (next_statement ms)) last.0) (rest last.1)
-    by_kind (TabLine tab) k rest = as_fault (l ∷ ls) fault (Bad (lex.Tab tab)) (same_fault (next_statement (l ∷ ls)) fault (Bad (lex.Tab tab)) h (by_kind_next l ls (TabLine tab) k)) (tab_leftmost l ls tab k)
-    by_kind IndentedLine k rest = as_fault (l ∷ ls) fault (UnexpectedIndent (front_of l)) (same_fault (next_statement (l ∷ ls)) fault (UnexpectedIndent (front_of l)) h (by_kind_next l ls IndentedLine k)) (indented_leftmost l ls k)
+        let last = not_last l.is_last (lines_after l (without_comments ls)) (next_statement ls) fault (sym (next-kind l ls CommentLine k) ∙ h) in
+        leftmost_after l ls fault (λ ms. next-kind l ms CommentLine k ∙ ap (λ (t : Bool). cond t (nothing_more (lines_after l (without_comments ms))) (next_statement ms)) last.0) (rest last.1)
+    by_kind (TabLine tab) k rest = as_fault (l ∷ ls) fault (Bad (lex.Tab tab)) (same_fault (next_statement (l ∷ ls)) fault (Bad (lex.Tab tab)) h (next-kind l ls (TabLine tab) k)) (tab_leftmost l ls tab k)
+    by_kind IndentedLine k rest = as_fault (l ∷ ls) fault (UnexpectedIndent (front_of l)) (same_fault (next_statement (l ∷ ls)) fault (UnexpectedIndent (front_of l)) h (next-kind l ls IndentedLine k)) (indented_leftmost l ls k)
     by_kind BlankLine k rest =
-        let last = not_last l.is_last (lines_after l ls) (next_statement ls) fault (sym (by_kind_next l ls BlankLine k) ∙ h) in
-        leftmost_after l ls fault (λ ms. by_kind_next l ms BlankLine k ∙ ap (λ (t : Bool). cond t (nothing_more (lines_after l ms)) (next_statement ms)) last.0) (rest last.1)
+        let last = not_last l.is_last (lines_after l ls) (next_statement ls) fault (sym (next-kind l ls BlankLine k) ∙ h) in
+        leftmost_after l ls fault (λ ms. next-kind l ms BlankLine k ∙ ap (λ (t : Bool). cond t (nothing_more (lines_after l ms)) (next_statement ms)) last.0) (rest last.1)
     by_kind PlainLine k rest = plain_leftmost l ls fault k h syntax

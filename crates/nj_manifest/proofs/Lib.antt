@@ -1,5 +1,6 @@
 pub mod BlockLines
 pub mod CallsTaken
+pub mod Choices
 pub mod Consumed
 pub mod DyndepCalls
 pub mod DyndepEnds
@@ -49,6 +50,7 @@ pub mod LeftmostTurns
 pub mod LeftmostValues
 pub mod LeftmostWords
 pub mod Nexts
+pub mod NextTurns
 pub mod Starts
 pub mod StatementRows
 pub mod WordLimits

@@ -1,36 +1,20 @@
 -- What is read where the next statement begins.
-use Rattle.std.proofs.Common.{◌≡◌, Bool, true, false, cond, Option, None, Result, Ok, Err, List, [], ◌∷◌, refl, sym, ap, subst, ◌∙◌}
-use Rattle.nj_text.specs.Lines.{Line, lines_after, Kind, CommentLine, TabLine, BlankLine, IndentedLine, PlainLine, kind_of}
-use Rattle.nj_text.specs.Calls.{State, Between, Inside, Failed, without_comments}
+use Rattle.std.proofs.Common.{◌≡◌, true, false, Option, None, Result, Ok, Err, List, refl, sym, ap, subst, ◌∙◌}
+use Rattle.nj_text.specs.Lines.{Line}
+use Rattle.nj_text.specs.Calls.{State, Between, Inside, Failed}
 use Rattle.nj_manifest.specs.declared.fault.ParseFault.{ParseFault}
 use Rattle.nj_manifest.specs.LineSteps.{◌>>=◌}
-use Rattle.nj_manifest.specs.Statements.{PlacedText, Parse, lines_from, nothing_more, statement_at, next_by, next_statement}
-use Rattle.nj_manifest.specs.Openings.{Opening, Begun, Ended, ended, opening_by, opening}
+use Rattle.nj_manifest.specs.Statements.{Parse, lines_from, statement_from, next_statement}
+use Rattle.nj_manifest.specs.Openings.{Opening, Begun, Ended, opening}
 use Rattle.nj_manifest.specs.Parsers.{Fails}
 use Rattle.nj_manifest.specs.Inside.ParserContracts.{ParsesAt, ParsesNext, FindsOpening}
 use Rattle.nj_manifest.proofs.Heres.{fails-on}
 
 -- ---- the next statement begins where the next opening is
 
-abbrev pub statement_from : Opening → Parse (Option PlacedText)
-statement_from (Begun l ls) = statement_at l ls
-statement_from (Ended ls) = nothing_more ls
-
 pub next-opens : (ls : List Line) → next_statement ls ≡ (opening ls >>= statement_from)
-unfolding next_statement opening
-next-opens [] = refl
-next-opens (l ∷ ls) = by_kind (kind_of l) (next-opens ls)
-  where
-    by_last : (t : Bool) (rest : List Line) → next_statement ls ≡ (opening ls >>= statement_from) → cond t (nothing_more rest) (next_statement ls) ≡ (cond t (ended rest) (opening ls) >>= statement_from)
-    by_last true rest h = refl
-    by_last false rest h = h
-
-    by_kind : (k : Kind) → next_statement ls ≡ (opening ls >>= statement_from) → next_by k l ls (next_statement ls) ≡ (opening_by k l ls (opening ls) >>= statement_from)
-    by_kind CommentLine h = by_last l.is_last (lines_after l (without_comments ls)) h
-    by_kind (TabLine tab) h = refl
-    by_kind IndentedLine h = refl
-    by_kind BlankLine h = by_last l.is_last (lines_after l ls) h
-    by_kind PlainLine h = refl
+unfolding next_statement
+next-opens ls = refl
 
 -- ---- reading on from there
 

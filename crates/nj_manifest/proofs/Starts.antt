@@ -14,9 +14,10 @@ use Rattle.nj_text.specs.Calls.{State, Reply, Between, Inside, Failed, Answers, 
 use Rattle.nj_manifest.specs.declared.fault.ParseFault.TheVariants as fault
 use Rattle.nj_manifest.specs.Faults.{Fault, Bad, UnexpectedIndent}
 use Rattle.nj_manifest.specs.Parsers.{Fails}
-use Rattle.nj_manifest.specs.Statements.{lines_from, or_last}
-use Rattle.nj_manifest.specs.Openings.{Opening, Begun, ended, opening_by, opening}
+use Rattle.nj_manifest.specs.Statements.{lines_from}
+use Rattle.nj_manifest.specs.Openings.{Opening, Begun, opening_by, opening, or_last}
 use Rattle.nj_manifest.specs.Inside.ParserContracts.{IsBetweenStatements, FindsOpening}
+use Rattle.nj_manifest.proofs.Choices.{ended}
 
 abbrev Next : Type 0
 Next = Result Opening Fault

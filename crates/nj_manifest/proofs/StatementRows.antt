@@ -7,11 +7,12 @@ use Rattle.nj_text.specs.Lines.{Line, text_lines}
 use Rattle.nj_text.specs.Words.{WordText, Text, Name}
 use Rattle.nj_manifest.specs.Faults.{Fault, UnexpectedIndent}
 use Rattle.nj_manifest.specs.LineSteps.{NameText, name_next, expect_sign, words_within, words_next, section_next}
-use Rattle.nj_manifest.specs.Statements.{LineText, Parse, OutputsText, InputsText, PlacedText, StatementText, BindingText, RuleText, PoolText, BuildText, DefaultText, IncludeText, SubninjaText, equals_value, line_next, name_alone, outputs_next, inputs_next, build_next, targets_next, file_next, head_after, head_next, whole_rule, whole_pool, statement_at, block, next_statement}
+use Rattle.nj_manifest.specs.Openings.{opening}
+use Rattle.nj_manifest.specs.Statements.{LineText, Parse, OutputsText, InputsText, PlacedText, StatementText, BindingText, RuleText, PoolText, BuildText, DefaultText, IncludeText, SubninjaText, equals_value, line_next, outputs_next, inputs_next, build_next, rule_next, pool_next, targets_next, file_next, statement_after, block, next_statement}
 
 -- what a row unfolds to compute on its text
 unfoldable pub on_strings : ⊤
-unfolding cut next_statement statement_at head_next head_after name_next expect_sign words_next words_within section_next outputs_next inputs_next build_next targets_next file_next name_alone equals_value line_next block whole_rule whole_pool
+unfolding cut opening next_statement statement_after name_next expect_sign words_next words_within section_next outputs_next inputs_next build_next rule_next pool_next targets_next file_next equals_value line_next block
 on_strings = tt
 
 -- ---- what a row shows

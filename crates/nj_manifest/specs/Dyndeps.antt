@@ -1,5 +1,5 @@
 -- Dyndep files ("Dyndep file reference" in the Ninja manual): the version, and then a statement for each entry.
-use Rattle.std.specs.Prelude.{ℕ, Bool, true, false, ◌&&◌, not, ◌==◌, Option, Some, None, Result, Ok, Err, List, codes}
+use Rattle.std.specs.Prelude.{ℕ, Bool, true, false, ◌&&◌, not, ◌==◌, if◌then◌else◌, Option, Some, None, Result, Ok, Err, List, codes}
 use Rattle.std.specs.List.{flat_map}
 use Rattle.std.specs.Str.{bytes_eq}
 use Rattle.nj_text.specs.declared.fault.UnitFault.{UnitFault}
@@ -16,8 +16,8 @@ use Rattle.nj_text.specs.Calls.{fault_spot, first_line_spot}
 use Rattle.nj_manifest.specs.declared.fault.Wanted.{Wanted}
 use Rattle.nj_manifest.specs.declared.fault.Wanted.TheVariants as wanted
 use Rattle.nj_manifest.specs.Faults.{Fault, Bad, Expected, DyndepVersion, DyndepShape}
-use Rattle.nj_manifest.specs.LineSteps.{Step, ◌>>=◌, called, name_next, expect_sign, section_next}
-use Rattle.nj_manifest.specs.Statements.{Parse, lines_from, equals_value, unless_missing}
+use Rattle.nj_manifest.specs.LineSteps.{Step, ◌>>=◌, called, name_next, expect_sign, whole_line, section_next}
+use Rattle.nj_manifest.specs.Statements.{Parse, lines_from, equals_value}
 use Rattle.nj_manifest.specs.Openings.{Opening, Begun, Ended, opening}
 
 -- ---- the version
@@ -38,8 +38,8 @@ is_first_version version = version.0 == 1 && version.1 == 0
 unfoldable pub version_line : State → Result State Fault
 version_line s = do
   name ← name_next wanted.Statement s
-  value ← unless_missing (bytes_eq name.0.name (codes "ninja_dyndep_version")) (DyndepVersion name.0.spot) (equals_value name.1)
-  unless_missing (is_first_version (version_pair_of (value_bytes value.0.parts))) (DyndepVersion name.0.spot) (Ok value.1)
+  value ← if bytes_eq name.0.name (codes "ninja_dyndep_version") then equals_value name.1 else Err (DyndepVersion name.0.spot)
+  if is_first_version (version_pair_of (value_bytes value.0.parts)) then Ok value.1 else Err (DyndepVersion name.0.spot)
 
 abbrev pub version_from : Opening → Result (List Line) Fault
 version_from (Begun l ls) = version_line (Inside l ls) >>= λ end. Ok (lines_from end)
@@ -61,7 +61,7 @@ pub record EntryText : Type 0 where
 unfoldable pub word_of_form : (word : List ℕ) → Wanted → State → Result State Fault
 word_of_form word wanted s = do
   name ← name_next wanted s
-  unless_missing (bytes_eq name.0.name word) (DyndepShape name.0.spot) (Ok name.1)
+  if bytes_eq name.0.name word then Ok name.1 else Err (DyndepShape name.0.spot)
 
 abbrev pub is_same_spot : Spot → Spot → Bool
 is_same_spot a b = a.line == b.line && a.column == b.column
@@ -69,7 +69,7 @@ is_same_spot a b = a.line == b.line && a.column == b.column
 abbrev pub no_path_by : Spot → Result (Option WordText) UnitFault → State → Result State Fault
 no_path_by spot (Ok None) after = Ok after
 no_path_by spot (Ok (Some word)) after = Err (DyndepShape spot)
-no_path_by spot (Err unit) after = unless_missing (is_same_spot (fault_spot unit) spot) (DyndepShape spot) (Err (Bad unit))
+no_path_by spot (Err unit) after = if is_same_spot (fault_spot unit) spot then Err (Bad unit) else Err (DyndepShape spot)
 
 -- There is no path here. One that is here departs from the form at its first unit, whether or not a bad unit breaks it later.
 unfoldable pub no_path : State → Result State Fault
@@ -81,14 +81,14 @@ no_path s =
 unfoldable pub no_section : Sign → State → Result State Fault
 no_section want s = do
   there ← called (sign_of want (skip_blanks_of s))
-  unless_missing (not there.0) (DyndepShape (spot_of (skip_blanks_of s))) (Ok there.1)
+  if not there.0 then Ok there.1 else Err (DyndepShape (spot_of (skip_blanks_of s)))
 
 -- The first output. Where there is none, implicit outputs depart from the form at their `|`.
 abbrev pub first_output : Option WordText → State → Step WordText
 first_output (Some word) after = Ok (word, after)
 first_output None after = do
   pipe ← called (sign_of sign.Pipe after)
-  unless_missing (not pipe.0) (DyndepShape (spot_of after)) (Err (Expected (spot_of after) wanted.Path))
+  if not pipe.0 then Err (Expected (spot_of after) wanted.Path) else Err (DyndepShape (spot_of after))
 
 -- after `build`: the one explicit output
 unfoldable pub output_next : State → Step WordText
@@ -105,8 +105,7 @@ added_inputs s = do
   ins ← section_next sign.Pipe alone
   order_only ← no_section sign.Pipe2 ins.1
   validations ← no_section sign.PipeAt order_only
-  end ← expect_sign sign.LineEnd wanted.Newline validations
-  Ok (ins.0, end)
+  whole_line (Ok (ins.0, validations))
 
 -- `build OUTPUT | OUTPUTS: dyndep | INPUTS`
 unfoldable pub entry_line : State → Step EntryText
@@ -145,14 +144,11 @@ restat_block s = do
     second ← called (start_line_of restat)
     if_indented second.0 second.1 line_too_many)
 
-unfoldable pub entry_at : Line → List Line → Parse (Option EntryText)
-entry_at l ls = do
+abbrev pub entry_from : Opening → Parse (Option EntryText)
+entry_from (Begun l ls) = do
   entry ← entry_line (Inside l ls)
   end ← restat_block entry.1
   Ok (Some entry.0, lines_from end)
-
-abbrev pub entry_from : Opening → Parse (Option EntryText)
-entry_from (Begun l ls) = entry_at l ls
 entry_from (Ended ls) = Ok (None, ls)
 
 -- the next entry of the lines, if there is one, and the lines after it

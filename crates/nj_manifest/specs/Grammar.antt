@@ -16,8 +16,7 @@ use Rattle.nj_manifest.specs.declared.block.Keys.TheVariants as keys
 use Rattle.nj_manifest.specs.Faults.{Fault, MissingCommand, RspPair, MissingDepth}
 use Rattle.nj_manifest.specs.LineSteps.{NameText}
 use Rattle.nj_manifest.specs.Statements.{LineText, allows, OutputsText, InputsText, StatementText, BindingText, RuleText}
-use Rattle.nj_manifest.specs.Statements.{PoolText, BuildText, DefaultText, IncludeText, SubninjaText, PlacedText, HeadText, Alone}
-use Rattle.nj_manifest.specs.Statements.{RuleHead, PoolHead, BuildHead}
+use Rattle.nj_manifest.specs.Statements.{PoolText, BuildText, DefaultText, IncludeText, SubninjaText, PlacedText}
 
 -- ---- parts of a line
 
@@ -178,6 +177,14 @@ pub record DefaultForm (us : List TextUnit) (targets : List WordText) : Type 0 w
   pub of_targets : WordsForm after_keyword targets after_targets
   pub some_target : is_empty targets ≡ false
   pub end : AreBlanks after_targets
+
+-- what a statement gives on its first line
+pub data HeadText : Type 0 where
+  -- a statement without block
+  Alone : (item : StatementText) → HeadText
+  RuleHead : (name : NameText) → HeadText
+  PoolHead : (name : NameText) → HeadText
+  BuildHead : (outputs : OutputsText) (rule : NameText) (inputs : InputsText) → HeadText
 
 -- the first line of a statement, by the manual's cases
 pub data HeadForm (l : Line) : HeadText → Type 0 where

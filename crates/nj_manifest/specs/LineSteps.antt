@@ -1,11 +1,13 @@
 -- Reading on along a line, call by call of the lexer.
-use Rattle.std.specs.Prelude.{ℕ, zero, suc, Bool, true, false, Option, Some, None, Result, Ok, Err, List, [], ◌∷◌, length}
+use Rattle.std.specs.Prelude.{ℕ, zero, suc, if◌then◌else◌, Option, Some, None, ok_or, Result, Ok, Err, List, [], ◌∷◌, length}
 use Rattle.nj_text.specs.declared.fault.UnitFault.{UnitFault}
 use Rattle.nj_text.specs.declared.sign.Sign.{Sign}
+use Rattle.nj_text.specs.declared.sign.Sign.TheVariants as sign
 use Rattle.nj_text.specs.declared.spot.Spot.{Spot}
 use Rattle.nj_text.specs.Words.{WordText}
 use Rattle.nj_text.specs.Calls.{State, Between, Inside, Failed, Reply, skip_blanks_of, ident_of, sign_of, path_word_of, spot_of}
 use Rattle.nj_manifest.specs.declared.fault.Wanted.{Wanted}
+use Rattle.nj_manifest.specs.declared.fault.Wanted.TheVariants as wanted
 use Rattle.nj_manifest.specs.Faults.{Fault, Bad, Expected}
 
 -- what is read, and the lexer after it; or the fault at which no statement continues
@@ -30,25 +32,22 @@ pub record NameText : Type 0 where
   pub spot : Spot
   pub name : List ℕ
 
-abbrev pub named : Wanted → Spot → Option (List ℕ) → State → Step NameText
-named wanted spot (Some name) after = Ok (record { spot = spot; name = name }, after)
-named wanted spot None after = Err (Expected spot wanted)
-
 -- an identifier, which is wanted under this name
 unfoldable pub name_next : Wanted → State → Step NameText
 name_next wanted s = do
-  name ← called (ident_of (skip_blanks_of s))
-  named wanted (spot_of (skip_blanks_of s)) name.0 name.1
-
-abbrev pub if_there : Wanted → Bool → State → Result State Fault
-if_there wanted true after = Ok after
-if_there wanted false after = Err (Expected (spot_of after) wanted)
+  found ← called (ident_of (skip_blanks_of s))
+  name ← ok_or found.0 (Expected (spot_of (skip_blanks_of s)) wanted)
+  Ok (record { spot = spot_of (skip_blanks_of s); name = name }, found.1)
 
 -- the lexer after a sign that has to be there
 unfoldable pub expect_sign : Sign → Wanted → State → Result State Fault
 expect_sign want wanted s = do
   there ← called (sign_of want s)
-  if_there wanted there.0 there.1
+  if there.0 then Ok there.1 else Err (Expected (spot_of there.1) wanted)
+
+-- what is read up to the end of its line
+abbrev pub whole_line : {A : Type 0} → Step A → Step A
+whole_line step = step >>= λ x. expect_sign sign.LineEnd wanted.Newline x.1 >>= λ end. Ok (x.0, end)
 
 -- a word before those that follow it; none ends them
 abbrev pub words_from : Option WordText → State → Step (List WordText) → Step (List WordText)
@@ -74,12 +73,8 @@ units_left (Failed f) = 0
 unfoldable pub words_next : State → Step (List WordText)
 words_next s = words_within (suc (units_left s)) s
 
-abbrev pub words_if : Bool → State → Step (List WordText)
-words_if true after = words_next after
-words_if false after = Ok ([], after)
-
 -- the words of a section that begins with this sign, and none where the sign is not there
 unfoldable pub section_next : Sign → State → Step (List WordText)
 section_next want s = do
   there ← called (sign_of want s)
-  words_if there.0 there.1
+  if there.0 then words_next there.1 else Ok ([], there.1)

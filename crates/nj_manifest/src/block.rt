@@ -3,7 +3,8 @@
 ghost use Rattle.std.specs.Prelude.{◌≡◌, map, OnOk, ◌++◌, ◌∷◌, []};
 ghost use Rattle.nj_text.specs.Words.{word_text};
 ghost use Rattle.nj_manifest.specs.Inside.ParserContracts.{TakesStep};
-ghost use Rattle.nj_manifest.specs.Statements.{allows, equals_value, line_next, block, names, gives, whole_rule, whole_pool};
+ghost use Rattle.nj_manifest.specs.Statements.{allows, equals_value, line_next, block, names, gives};
+ghost use Rattle.nj_manifest.specs.Inside.Heads.{whole_rule, whole_pool};
 ghost use Rattle.nj_manifest.specs.Contents.{line_text, lines_text};
 ghost use Rattle.nj_manifest.specs.Inside.ParserContracts.{ParsesFrom, Wholes};
 
@@ -137,7 +138,7 @@ fn names(lines: &[Line], key: &[u8]) -> bool
 }
 
 /// The lines of a rule: it needs its command, and of a response file's two keys both or neither.
-#[tactic(auto, unfolding(crate::specs::Statements::whole_rule))]
+#[tactic(auto, unfolding(crate::specs::Inside::Heads::whole_rule))]
 pub fn whole_rule<'a>(spot: Spot, lines: &[Line<'a>]) -> Result<(), ParseFault<'a>>
     ensures { Wholes (lines_text lines.now) (whole_rule spot (lines_text lines.now)) result }
 {
@@ -151,7 +152,7 @@ pub fn whole_rule<'a>(spot: Spot, lines: &[Line<'a>]) -> Result<(), ParseFault<'
 }
 
 /// The lines of a pool: it needs its depth.
-#[tactic(auto, unfolding(crate::specs::Statements::whole_pool))]
+#[tactic(auto, unfolding(crate::specs::Inside::Heads::whole_pool))]
 pub fn whole_pool<'a>(spot: Spot, lines: &[Line<'a>]) -> Result<(), ParseFault<'a>>
     ensures { Wholes (lines_text lines.now) (whole_pool spot (lines_text lines.now)) result }
 {

@@ -2,8 +2,8 @@
 
 ghost use Rattle.std.specs.Prelude.{◌≡◌, true, option_map};
 ghost use Rattle.nj_text.specs.Lines.{text_lines};
-ghost use Rattle.nj_manifest.specs.Dyndeps.{entry_at, next_entry, left_entry, WholeFile};
-ghost use Rattle.nj_manifest.specs.Inside.ParserContracts.{IsBetweenStatements, ParsesAt, ParsesNext, is_between_unless};
+ghost use Rattle.nj_manifest.specs.Dyndeps.{next_entry, left_entry, WholeFile};
+ghost use Rattle.nj_manifest.specs.Inside.ParserContracts.{IsBetweenStatements, ParsesAt, ParsesNext, entry_here, is_between_unless};
 ghost use Rattle.nj_manifest.specs.DyndepParsers.{entry_text, IsNextEntry};
 ghost use Rattle.nj_manifest.specs.Inside.ParserContracts.{ReadsVersion};
 
@@ -27,7 +27,7 @@ fn read_version<'a>(alloc: Global, lexer: &mut Lexer<'a>) -> Result<(), ParseFau
 
 /// The entry that begins here, with its block.
 fn entry_at<'a>(alloc: Global, lexer: &mut Lexer<'a>) -> Result<Option<Entry<'a>>, ParseFault<'a>>
-    ensures { ParsesAt (option_map entry_text) lexer.old lexer.new entry_at result }
+    ensures { ParsesAt (option_map entry_text) lexer.old lexer.new entry_here result }
 {
     let entry = entry_line(alloc, lexer)?;
     restat_block(alloc, lexer)?;

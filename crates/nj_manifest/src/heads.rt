@@ -3,7 +3,9 @@
 ghost use Rattle.std.specs.Prelude.{◌≡◌, map};
 ghost use Rattle.nj_text.specs.Words.{word_text};
 ghost use Rattle.nj_manifest.specs.Contents.{words_text};
-ghost use Rattle.nj_manifest.specs.Statements.{RuleHead, PoolHead, as_head, name_alone, outputs_next, build_next, targets_next, file_next, head_after, head_next};
+ghost use Rattle.nj_manifest.specs.Statements.{outputs_next, targets_next, file_next};
+ghost use Rattle.nj_manifest.specs.Grammar.{RuleHead, PoolHead};
+ghost use Rattle.nj_manifest.specs.Inside.Heads.{name_alone, as_head, build_head, head_after, head_next};
 ghost use Rattle.nj_manifest.specs.Inside.ParserContracts.{TakesStep, name_text, outs_text, head_text};
 
 use crate::block::equals_value;
@@ -15,7 +17,7 @@ use nj_text::{Lexer, Sign, Word};
 use std::alloc::Global;
 
 /// After `rule` or `pool`: a name and the end of the line.
-#[tactic(auto, unfolding(crate::specs::Statements::name_alone))]
+#[tactic(auto, unfolding(crate::specs::Inside::Heads::name_alone))]
 fn name_alone<'a>(lexer: &mut Lexer<'a>, wanted: Wanted) -> Result<PlacedName<'a>, ParseFault<'a>>
     ensures { TakesStep name_text result lexer.new (name_alone wanted lexer.old) }
 {
@@ -69,13 +71,13 @@ fn outputs_next<'a>(
 }
 
 /// `OUTPUTS : RULE INPUTS | IMPLICIT || ORDER-ONLY |@ VALIDATIONS`.
-#[tactic(auto, unfolding(crate::specs::Statements::build_next, crate::specs::Statements::inputs_next))]
+#[tactic(auto, unfolding(crate::specs::Inside::Heads::build_head, crate::specs::Statements::inputs_next))]
 fn build_next<'a>(
     alloc: Global,
     lexer: &mut Lexer<'a>,
     buffers: &mut Buffers<'a>,
 ) -> Result<Statement<'a>, ParseFault<'a>>
-    ensures { TakesStep head_text result lexer.new (build_next lexer.old) }
+    ensures { TakesStep head_text result lexer.new (build_head lexer.old) }
 {
     let (explicit_outs, implicit_outs) = outputs_next(alloc, lexer, buffers)?;
     expect_sign(lexer, Sign::Colon, Wanted::Colon)?;
@@ -127,7 +129,7 @@ fn file_next<'a>(alloc: Global, lexer: &mut Lexer<'a>) -> Result<Word<'a>, Parse
 }
 
 /// What follows the identifier with which a statement begins, on its first line.
-#[tactic(auto, unfolding(crate::specs::Statements::head_after))]
+#[tactic(auto, unfolding(crate::specs::Inside::Heads::head_after))]
 fn head_after<'a>(
     alloc: Global,
     lexer: &mut Lexer<'a>,
@@ -158,7 +160,7 @@ fn head_after<'a>(
 }
 
 /// The first line of a statement: the statement without its block.
-#[tactic(auto, unfolding(crate::specs::Statements::head_next))]
+#[tactic(auto, unfolding(crate::specs::Inside::Heads::head_next))]
 pub fn head_next<'a>(
     alloc: Global,
     lexer: &mut Lexer<'a>,

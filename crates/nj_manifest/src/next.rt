@@ -1,7 +1,8 @@
 //! The next statement of a text.
 
 ghost use Rattle.std.specs.Prelude.{◌≡◌, map, Some, option_map};
-ghost use Rattle.nj_manifest.specs.Statements.{with_block, statement_at, next_statement};
+ghost use Rattle.nj_manifest.specs.Statements.{next_statement};
+ghost use Rattle.nj_manifest.specs.Inside.Heads.{with_block, statement_here};
 ghost use Rattle.nj_manifest.specs.Contents.{statement_text, placed_text};
 ghost use Rattle.nj_manifest.specs.Inside.ParserContracts.{head_text, ParsesFrom, ParsesAt, ParsesNext, IsBetweenStatements};
 
@@ -15,7 +16,7 @@ use nj_text::{Lexer, Spot};
 use std::alloc::Global;
 
 /// A statement with its block, of which the first line was read.
-#[tactic(auto, unfolding(crate::specs::Statements::with_block))]
+#[tactic(auto, unfolding(crate::specs::Inside::Heads::with_block))]
 fn with_block<'a>(
     alloc: Global,
     lexer: &mut Lexer<'a>,
@@ -46,13 +47,13 @@ fn with_block<'a>(
 }
 
 /// The statement that begins here, with its block.
-#[tactic(auto, unfolding(crate::specs::Statements::statement_at))]
+#[tactic(auto, unfolding(crate::specs::Inside::Heads::statement_here))]
 fn statement_at<'a>(
     alloc: Global,
     lexer: &mut Lexer<'a>,
     buffers: &mut Buffers<'a>,
 ) -> Result<Option<Placed<Statement<'a>>>, ParseFault<'a>>
-    ensures { ParsesAt (option_map placed_text) lexer.old lexer.new statement_at result }
+    ensures { ParsesAt (option_map placed_text) lexer.old lexer.new statement_here result }
 {
     let spot = lexer.spot();
     let head = head_next(alloc, lexer, buffers)?;

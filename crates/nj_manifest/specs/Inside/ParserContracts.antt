@@ -13,9 +13,10 @@ use Rattle.nj_manifest.specs.declared.steps.PlacedName.{PlacedName}
 use Rattle.nj_manifest.specs.declared.statement.Statement.{Statement}
 use Rattle.nj_manifest.specs.declared.statement.Statement.TheVariants as statement
 use Rattle.nj_manifest.specs.LineSteps.{NameText}
-use Rattle.nj_manifest.specs.Statements.{OutputsText, HeadText, Alone, RuleHead, PoolHead, BuildHead}
+use Rattle.nj_manifest.specs.Statements.{OutputsText}
+use Rattle.nj_manifest.specs.Grammar.{HeadText, Alone, RuleHead, PoolHead, BuildHead}
 use Rattle.nj_manifest.specs.Contents.{words_text, outputs_text, used_rule, inputs_text, statement_text}
-use Rattle.nj_manifest.specs.Dyndeps.{version_next, DyndepLeft, WholeFile, Entries, Refusing}
+use Rattle.nj_manifest.specs.Dyndeps.{version_next, EntryText, entry_from, DyndepLeft, WholeFile, Entries, Refusing}
 
 abbrev pub left_by : (version_read : Bool) → List lines.Line → DyndepLeft
 left_by true ls = Entries ls
@@ -77,6 +78,10 @@ abbrev pub ParsesAt : {X Y : Type 0}
 ParsesAt view (Inside l ls) after parse (Ok x) = (parse l ls ≡ Ok (view x, lines_from after)) × IsBetweenStatements after
 ParsesAt view (Inside l ls) after parse (Err f) = Fails f (parse l ls)
 ParsesAt view other after parse result = Unit {0}
+
+-- the entry that begins here
+abbrev pub entry_here : lines.Line → List lines.Line → Parse (Option EntryText)
+entry_here l ls = entry_from (Begun l ls)
 
 -- where the next statement begins, if the lexer is there
 abbrev pub opening_at : State → Opening

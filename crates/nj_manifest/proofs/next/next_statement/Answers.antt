@@ -1,9 +1,11 @@
 use Rattle.std.proofs.Common.{subst, refl, option_map, Ok}
-use Rattle.nj_manifest.specs.Statements.{statement_at, next_statement}
+use Rattle.nj_manifest.specs.Statements.{statement_from, next_statement}
 use Rattle.nj_manifest.specs.Contents.{placed_text}
 use Rattle.nj_manifest.specs.Inside.ParserContracts.{FindsOpening}
+use Rattle.nj_manifest.specs.Inside.Heads.{statement_here}
 use Rattle.nj_manifest.proofs.Handed.{handed}
-use Rattle.nj_manifest.proofs.Nexts.{statement_from, next-opens, fails-opening, none-left, read-on}
+use Rattle.nj_manifest.proofs.Nexts.{next-opens, fails-opening, none-left, read-on}
+use Rattle.nj_manifest.proofs.NextTurns.{statement-steps}
 use Rattle.nj_manifest.proofs.next.next_statement.Goals as goal
 
 pub returns-in_err-find_statement : goal.returns-in_err-find_statement
@@ -14,7 +16,7 @@ returns-in_err-find_statement c =
 pub returns-then-branch : goal.returns-then-branch
 returns-then-branch c =
     let found = subst (λ t. FindsOpening c.args.lexer.now c.find_statement.new.lexer (Ok t)) c.if-branch.true c.in_ok-find_statement.ensures in
-    read-on statement_from next_statement next-opens (option_map placed_text) statement_at (λ l ls. refl) c.args.lexer.now c.find_statement.new.lexer c.statement_at.new.lexer c.statement_at.result found c.statement_at.ensures
+    read-on statement_from next_statement next-opens (option_map placed_text) statement_here statement-steps c.args.lexer.now c.find_statement.new.lexer c.statement_at.new.lexer c.statement_at.result found c.statement_at.ensures
 
 pub returns : goal.returns
 returns c =
