@@ -6,7 +6,7 @@ use Rattle.std.proofs.lemmas.List.{take_at, length-append}
 use Rattle.std.proofs.lemmas.Bool.{eqb-true, false≢true}
 use Rattle.nj_text.specs.declared.spot.Spot.{Spot}
 use Rattle.nj_text.specs.Bytes.{is_space, is_line_feed, is_ordinary_byte, is_name_byte, is_identifier_byte}
-use Rattle.nj_text.specs.Units.{Ordinary, Reference, TextUnit, Position, Within, Dollar, LineFeed, CarriageReturn, Nul, Plain, class_of, unit_by, unit_at, position_after, spot_after, cut, Found, NameByte, follows_of, after_dollar}
+use Rattle.nj_text.specs.Units.{Ordinary, Reference, TextUnit, Position, Within, unit_at, position_after, spot_after, cut, Found, after_dollar}
 use Rattle.nj_text.specs.Inside.Scans.{spots_after}
 use Rattle.nj_text.specs.Inside.Scans.{advance, on_next_line}
 use Rattle.nj_text.proofs.Lists.{take_while-cons_yes, take_while-cons_no, AllIn, AllIn-take_while, AllIn-weaker, length-take_while}
@@ -40,18 +40,8 @@ abbrev pub plain_units : Spot → List ℕ → List TextUnit
 plain_units spot [] = []
 plain_units spot (b ∷ bs) = record { spot = spot; bytes = b ∷ []; means = Ordinary b } ∷ plain_units (advance 1 spot) bs
 
-pub class-ordinary : (b : ℕ) → is_ordinary_byte b ≡ true → class_of b ≡ Plain
-class-ordinary b h = by_tests (eqb b 36) (eqb b 10) (eqb b 13) (eqb b 0) h
-  where
-    by_tests : (d f r z : Bool) → not (((d || f) || r) || z) ≡ true → cond d Dollar (cond f LineFeed (cond r CarriageReturn (cond z Nul Plain))) ≡ Plain
-    by_tests true f r z h = absurd cc
-    by_tests false true r z h = absurd cc
-    by_tests false false true z h = absurd cc
-    by_tests false false false true h = absurd cc
-    by_tests false false false false h = refl
-
 pub unit-ordinary : (b : ℕ) (bs : List ℕ) → is_ordinary_byte b ≡ true → unit_at b bs ≡ (Ordinary b, 0)
-unit-ordinary b bs h = ap (λ c. unit_by c b bs) (class-ordinary b h)
+unit-ordinary b bs h = rw h refl
 
 ordinary-no_feed : (b : ℕ) → is_ordinary_byte b ≡ true → is_line_feed b ≡ false
 ordinary-no_feed b h = by_tests (eqb b 36) (eqb b 10) (eqb b 13) (eqb b 0) h
@@ -151,8 +141,9 @@ excludes p b n h e = by_test (eqb b n) refl
     by_test true s = absurd (false≢true (sym e ∙ (ap p (sym (eqb-true b n s)) ∙ h)))
     by_test false s = refl
 
-pub follows-name : (b : ℕ) → is_name_byte b ≡ true → follows_of b ≡ NameByte
-follows-name b h = rw (excludes is_name_byte b 10 h refl, excludes is_name_byte b 13 h refl, excludes is_name_byte b 123 h refl, excludes is_name_byte b 32 h refl, excludes is_name_byte b 58 h refl, excludes is_name_byte b 36 h refl, h) refl
+pub name-after_dollar : (b : ℕ) (bs : List ℕ) → is_name_byte b ≡ true → after_dollar (b ∷ bs) ≡ (Reference (b ∷ take_while is_name_byte bs), suc (length (take_while is_name_byte bs)))
+name-after_dollar b bs h =
+    rw (excludes is_name_byte b 10 h refl, excludes is_name_byte b 13 h refl, excludes is_name_byte b 123 h refl, excludes is_name_byte b 32 h refl, excludes is_name_byte b 58 h refl, excludes is_name_byte b 36 h refl, h) refl
 
 -- where the run at the front is not empty, the first byte passes
 pub first_passes : (p : ℕ → Bool) (b : ℕ) (bs : List ℕ) → eqb (length (take_while p (b ∷ bs))) 0 ≡ false → p b ≡ true
@@ -167,4 +158,4 @@ name_found b bs bytes name e n h =
     let here : name ≡ take_while is_name_byte (b ∷ bs) = n ∙ ap (take_while is_name_byte) e in
     let passes : is_name_byte b ≡ true = first_passes is_name_byte b bs (rw (← here) h) in
     let split : name ≡ b ∷ take_while is_name_byte bs = here ∙ take_while-cons_yes is_name_byte b bs passes in
-    rw (e, follows-name b passes, split) refl
+    rw (e, name-after_dollar b bs passes, split) refl

@@ -1,5 +1,5 @@
 -- Gathering the parts of a word or a value, one after another.
-use Rattle.std.proofs.Common.{◌≡◌, ℕ, Bool, true, false, cond, not, ◌||◌, eqb, List, [], ◌∷◌, ◌++◌, length, take, Some, None, refl, sym, ap, ◌∙◌, append_assoc}
+use Rattle.std.proofs.Common.{◌≡◌, ℕ, Bool, true, false, cond, not, ◌&&◌, ◌||◌, eqb, List, [], ◌∷◌, ◌++◌, length, take, Some, None, refl, sym, ap, ◌∙◌, append_assoc}
 use Rattle.std.specs.List.{take_while}
 use Rattle.std.proofs.lemmas.Bool.{false≢true}
 use Rattle.std.proofs.lemmas.List.{append-nil}
@@ -8,8 +8,8 @@ use Rattle.nj_text.specs.declared.fault.UnitFault.{UnitFault}
 use Rattle.nj_text.specs.declared.fault.UnitFault.TheVariants as fault
 use Rattle.nj_text.specs.declared.parts.TextKind.{TextKind}
 use Rattle.nj_text.specs.declared.parts.TextKind.TheVariants as kind
-use Rattle.nj_text.specs.Bytes.{is_ordinary_byte, is_identifier_byte, begins_with, drop_while}
-use Rattle.nj_text.specs.Units.{Meaning, Ordinary, LineEnd, BadByte, BadEscape, TextUnit, is_ordinary_in, Within, position_after, spot_after, Class, Dollar, LineFeed, CarriageReturn, Nul, Plain, unit_by, class_of, unit_at, after_dollar, named, Follows, Feed, Return, Brace, Itself, NameByte, Nothing, after_dollar_by, Found, follows_of, cut}
+use Rattle.nj_text.specs.Bytes.{is_ordinary_byte, is_identifier_byte, is_name_byte, is_escapable, begins_with, drop_while}
+use Rattle.nj_text.specs.Units.{Meaning, Ordinary, LineEnd, BadByte, BadEscape, TextUnit, is_ordinary_in, Within, position_after, spot_after, unit_at, after_dollar, named, Found, cut}
 use Rattle.nj_text.specs.declared.runs.Run.{Run}
 use Rattle.nj_text.specs.Inside.Runs.{in_run}
 use Rattle.nj_text.specs.Inside.Scans.{advance, units_within, Begins, BeginsBadly}
@@ -92,37 +92,18 @@ choice_is_not_byte : (t : Bool) (x y : Found) → is_byte x ≡ false → is_byt
 choice_is_not_byte true x y h k = h
 choice_is_not_byte false x y h k = k
 
-follower_is_not_byte : (f : Follows) (b : ℕ) (bs : List ℕ) → is_byte (after_dollar_by f b bs) ≡ false
-follower_is_not_byte Feed b bs = refl
-follower_is_not_byte Return b bs = choice_is_not_byte (begins_with 10 bs) _ _ refl refl
-follower_is_not_byte Brace b bs = named_is_not_byte (take_while is_identifier_byte bs) (begins_with 125 (drop_while is_identifier_byte bs))
-follower_is_not_byte Itself b bs = refl
-follower_is_not_byte NameByte b bs = refl
-follower_is_not_byte Nothing b bs = refl
-
 dollar_is_not_byte : (bs : List ℕ) → is_byte (after_dollar bs) ≡ false
 dollar_is_not_byte [] = refl
-dollar_is_not_byte (b ∷ bs) = follower_is_not_byte (follows_of b) b bs
-
-class_is_not_byte : (c : Class) (b : ℕ) (bs : List ℕ) → (c ≡ Plain → ⊥) → is_byte (unit_by c b bs) ≡ false
-class_is_not_byte Dollar b bs h = dollar_is_not_byte bs
-class_is_not_byte LineFeed b bs h = refl
-class_is_not_byte CarriageReturn b bs h = choice_is_not_byte (begins_with 10 bs) _ _ refl refl
-class_is_not_byte Nul b bs h = refl
-class_is_not_byte Plain b bs h = absurd (h refl)
-
-plain_is_ordinary : (b : ℕ) → class_of b ≡ Plain → is_ordinary_byte b ≡ true
-plain_is_ordinary b e = by_tests (eqb b 36) (eqb b 10) (eqb b 13) (eqb b 0) e
-  where
-    by_tests : (d f r z : Bool) → cond d Dollar (cond f LineFeed (cond r CarriageReturn (cond z Nul Plain))) ≡ Plain → not (((d || f) || r) || z) ≡ true
-    by_tests true f r z e = absurd cc
-    by_tests false true r z e = absurd cc
-    by_tests false false true z e = absurd cc
-    by_tests false false false true e = absurd cc
-    by_tests false false false false e = refl
+dollar_is_not_byte (b ∷ bs) =
+    choice_is_not_byte (eqb b 10) _ _ refl
+    (choice_is_not_byte (eqb b 13 && begins_with 10 bs) _ _ refl
+    (choice_is_not_byte (eqb b 123) _ _ (named_is_not_byte (take_while is_identifier_byte bs) (begins_with 125 (drop_while is_identifier_byte bs)))
+    (choice_is_not_byte (is_escapable b) _ _ refl (choice_is_not_byte (is_name_byte b) _ _ refl refl))))
 
 pub not_ordinary : (b : ℕ) (bs : List ℕ) → is_ordinary_byte b ≡ false → is_byte (unit_at b bs) ≡ false
-not_ordinary b bs h = class_is_not_byte (class_of b) b bs (λ e. false≢true (sym h ∙ plain_is_ordinary b e))
+not_ordinary b bs h =
+    rw h (choice_is_not_byte (eqb b 36) _ _ (dollar_is_not_byte bs)
+    (choice_is_not_byte (eqb b 10) _ _ refl (choice_is_not_byte (eqb b 13 && begins_with 10 bs) _ _ refl refl)))
 
 -- after a run the text does not continue with an ordinary byte
 front_is_not_byte : (t : TextUnit → Bool) (u : TextUnit) (us : List TextUnit) → (t u ≡ true → is_ordinary_in (λ c. true) u.means ≡ false) → begins_with_ordinary (take_while t (u ∷ us)) ≡ false

@@ -1,5 +1,5 @@
 -- How lines begin.
-use Rattle.std.proofs.Common.{◌≡◌, ℕ, zero, suc, ◌+◌, ◌-◌, ◌≤◌, ◌<◌, Bool, true, false, cond, not, eqb, List, [], ◌∷◌, ◌++◌, length, take, drop, Option, Some, None, refl, sym, ap, subst, ◌∙◌, arith}
+use Rattle.std.proofs.Common.{◌≡◌, ℕ, zero, suc, ◌+◌, ◌-◌, ◌≤◌, ◌<◌, Bool, true, false, cond, not, ◌&&◌, eqb, List, [], ◌∷◌, ◌++◌, length, take, drop, Option, Some, None, refl, sym, ap, subst, ◌∙◌, arith}
 use Rattle.std.proofs.Math.Numerals.{one-add}
 use Rattle.std.specs.List.{prefix_len, take_while, AllByRecursion}
 use Rattle.std.proofs.lemmas.List.Sums.{prefix_len-le-length}
@@ -7,8 +7,8 @@ use Rattle.std.proofs.lemmas.Bool.{eqb-true, false≢true, true≢false}
 use Rattle.nj_text.specs.declared.spot.Spot.{Spot}
 use Rattle.nj_text.specs.declared.line_start.LineStart.TheVariants as start
 use Rattle.nj_text.specs.declared.fault.UnitFault.TheVariants as fault
-use Rattle.nj_text.specs.Bytes.{is_space, is_line_feed, is_ordinary_byte, is_name_byte, is_identifier_byte, begins_with, drop_while}
-use Rattle.nj_text.specs.Units.{Meaning, Ordinary, Escape, Reference, Join, OpeningJoin, Comment, LeadingTab, LineEnd, TextEnd, BadByte, BadEscape, TextUnit, is_ordinary_in, Position, AtStart, AfterSpaces, Within, Follows, Feed, Return, Brace, Itself, NameByte, Nothing, follows_of, after_dollar_by, after_dollar, named, Found, Class, Dollar, LineFeed, CarriageReturn, Nul, Plain, class_of, unit_by, unit_at, found_at, opening, opens_comment, position_after, spot_after, cut}
+use Rattle.nj_text.specs.Bytes.{is_space, is_line_feed, is_ordinary_byte, is_name_byte, is_identifier_byte, is_escapable, begins_with, drop_while}
+use Rattle.nj_text.specs.Units.{Meaning, Ordinary, Escape, Reference, Join, OpeningJoin, Comment, LeadingTab, LineEnd, TextEnd, BadByte, BadEscape, TextUnit, is_ordinary_in, Position, AtStart, AfterSpaces, Within, after_dollar, named, Found, unit_at, found_at, opening, opens_comment, position_after, spot_after, cut}
 use Rattle.nj_text.specs.Inside.Scans.{spots_after}
 use Rattle.nj_text.specs.Lines.{Line, ending_of, before_first_line, lines_before, lines_of, with_units, Kind, IndentedLine, PlainLine, is_space_unit, text_kind, kind_with, kind_after_spaces, begins_with_space, kind_of}
 use Rattle.nj_text.specs.Inside.Scans.{advance, on_next_line, units_within, Begins, BeginsBadly, begins_with_space_byte}
@@ -440,27 +440,19 @@ module _ (q : Meaning → Bool) (unsaid : IsUnsaid q) where
   named_is_unsaid (b ∷ bs) false = unsaid.bad_escape
   named_is_unsaid (b ∷ bs) true = unsaid.reference (b ∷ bs)
 
-  follower_is_unsaid : (f : Follows) (b : ℕ) (bs : List ℕ) → q (after_dollar_by f b bs).0 ≡ false
-  follower_is_unsaid Feed b bs = unsaid.join
-  follower_is_unsaid Return b bs = choice_is_unsaid (begins_with 10 bs) _ _ unsaid.join unsaid.bad_escape
-  follower_is_unsaid Brace b bs = named_is_unsaid (take_while is_identifier_byte bs) (begins_with 125 (drop_while is_identifier_byte bs))
-  follower_is_unsaid Itself b bs = unsaid.escape b
-  follower_is_unsaid NameByte b bs = unsaid.reference (b ∷ take_while is_name_byte bs)
-  follower_is_unsaid Nothing b bs = unsaid.bad_escape
-
   dollar_is_unsaid : (bs : List ℕ) → q (after_dollar bs).0 ≡ false
   dollar_is_unsaid [] = unsaid.bad_escape
-  dollar_is_unsaid (b ∷ bs) = follower_is_unsaid (follows_of b) b bs
-
-  class_is_unsaid : (c : Class) (b : ℕ) (bs : List ℕ) → q (unit_by c b bs).0 ≡ false
-  class_is_unsaid Dollar b bs = dollar_is_unsaid bs
-  class_is_unsaid LineFeed b bs = unsaid.line_end
-  class_is_unsaid CarriageReturn b bs = choice_is_unsaid (begins_with 10 bs) _ _ unsaid.line_end unsaid.bad_byte
-  class_is_unsaid Nul b bs = unsaid.bad_byte
-  class_is_unsaid Plain b bs = unsaid.ordinary b
+  dollar_is_unsaid (b ∷ bs) =
+      choice_is_unsaid (eqb b 10) _ _ unsaid.join
+      (choice_is_unsaid (eqb b 13 && begins_with 10 bs) _ _ unsaid.join
+      (choice_is_unsaid (eqb b 123) _ _ (named_is_unsaid (take_while is_identifier_byte bs) (begins_with 125 (drop_while is_identifier_byte bs)))
+      (choice_is_unsaid (is_escapable b) _ _ (unsaid.escape b) (choice_is_unsaid (is_name_byte b) _ _ (unsaid.reference (b ∷ take_while is_name_byte bs)) unsaid.bad_escape))))
 
   pub unit_is_unsaid : (b : ℕ) (bs : List ℕ) → q (unit_at b bs).0 ≡ false
-  unit_is_unsaid b bs = class_is_unsaid (class_of b) b bs
+  unit_is_unsaid b bs =
+      choice_is_unsaid (is_ordinary_byte b) _ _ (unsaid.ordinary b)
+      (choice_is_unsaid (eqb b 36) _ _ (dollar_is_unsaid bs)
+      (choice_is_unsaid (eqb b 10) _ _ unsaid.line_end (choice_is_unsaid (eqb b 13 && begins_with 10 bs) _ _ unsaid.line_end unsaid.bad_byte)))
 
 comment_is_unsaid : IsUnsaid gives_comment
 comment_is_unsaid = record { ordinary = λ b. refl; escape = λ b. refl; reference = λ n. refl; join = refl; line_end = refl; bad_byte = refl; bad_escape = refl }

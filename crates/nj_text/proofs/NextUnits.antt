@@ -4,7 +4,7 @@ use Rattle.std.proofs.Math.Numerals.{one-add}
 use Rattle.std.proofs.lemmas.Bool.{eqb-true, false≢true}
 use Rattle.nj_text.specs.declared.spot.Spot.{Spot}
 use Rattle.nj_text.specs.Bytes.{is_ordinary_byte, begins_with}
-use Rattle.nj_text.specs.Units.{Meaning, Ordinary, Escape, Reference, Join, LineEnd, BadByte, BadEscape, Found, AtStart, Within, position_after, spot_after, after_dollar, Dollar, LineFeed, CarriageReturn, Nul, Plain, unit_by, unit_at, cut}
+use Rattle.nj_text.specs.Units.{Meaning, Ordinary, Escape, Reference, Join, LineEnd, BadByte, BadEscape, Found, AtStart, Within, position_after, spot_after, after_dollar, unit_at, cut}
 use Rattle.nj_text.specs.Inside.Scans.{spots_after}
 use Rattle.nj_text.specs.Inside.Scans.{advance, on_next_line, line_end_length, units_within, Begins, BeginsBadly}
 use Rattle.nj_text.proofs.Cuts.{cut-skip, cut-ordinary}
@@ -76,22 +76,15 @@ unfolding cut
 bad_byte b bs e spot = (1, cut Within 0 (spot_after b spot) bs, rw e refl)
 
 pub bad_byte_unit : (b : ℕ) (bs : List ℕ) → is_ordinary_byte b ≡ false → eqb b 36 ≡ false → line_end_length (b ∷ bs) ≡ 0 → (spot : Spot) → BeginsBadly spot (b ∷ bs) BadByte
-bad_byte_unit b bs o d l = bad_byte b bs (by_tests (eqb b 36) (eqb b 10) (eqb b 13) (eqb b 0) (begins_with 10 bs) refl o d l)
+bad_byte_unit b bs o d l = bad_byte b bs (rw (o, d) (by_tests (eqb b 10) (eqb b 13 && begins_with 10 bs) l))
   where
-    Is : Found → Found → Type 0
-    Is x y = x ≡ y
-
     Zero : ℕ → Type 0
     Zero n = n ≡ 0
 
-    by_tests : (d f r z g : Bool) → begins_with 10 bs ≡ g → not (((d || f) || r) || z) ≡ false → d ≡ false → Zero (cond f 1 (cond (r && g) 2 0))
-        → Is (unit_by (cond d Dollar (cond f LineFeed (cond r CarriageReturn (cond z Nul Plain)))) b bs) (BadByte, 0)
-    by_tests true f r z g e o h l = absurd cc
-    by_tests false true r z g e o h l = absurd (suc_not_zero l)
-    by_tests false false true z true e o h l = absurd (suc_not_zero l)
-    by_tests false false true z false e o h l = rw e refl
-    by_tests false false false true g e o h l = refl
-    by_tests false false false false g e o h l = absurd cc
+    by_tests : (f r : Bool) → Zero (cond f 1 (cond r 2 0)) → ◌≡◌ {A = Found} (cond f (LineEnd, 0) (cond r (LineEnd, 1) (BadByte, 0))) (BadByte, 0)
+    by_tests true r l = absurd (suc_not_zero l)
+    by_tests false true l = absurd (suc_not_zero l)
+    by_tests false false l = refl
 
 pub ordinary_unit : (b : ℕ) (bs : List ℕ) → is_ordinary_byte b ≡ true → (spot : Spot) → Begins spot (b ∷ bs) (Ordinary b) 1 (units_within (advance 1 spot) (drop 1 (b ∷ bs)))
 ordinary_unit b bs h spot = cut-ordinary spot b bs h

@@ -1,11 +1,11 @@
 -- The law of parts: they are in the bytes of their units from left to right.
-use Rattle.std.proofs.Common.{◌≡◌, ℕ, zero, suc, ◌+◌, Bool, true, false, cond, List, [], ◌∷◌, ◌++◌, length, take, map, refl, sym, ap, ◌∙◌, subst, append_assoc, eqb, arith}
+use Rattle.std.proofs.Common.{◌≡◌, ℕ, zero, suc, ◌+◌, Bool, true, false, cond, ◌&&◌, List, [], ◌∷◌, ◌++◌, length, take, map, refl, sym, ap, ◌∙◌, subst, append_assoc, eqb, arith}
 use Rattle.std.specs.List.{take_while}
 use Rattle.std.proofs.Math.Seq.{take-append-add, take-append_seam}
 use Rattle.std.proofs.lemmas.List.{append-nil}
 use Rattle.nj_text.specs.declared.spot.Spot.{Spot}
-use Rattle.nj_text.specs.Bytes.{is_identifier_byte, is_name_byte, begins_with, drop_while}
-use Rattle.nj_text.specs.Units.{Meaning, Ordinary, Escape, Reference, Join, TextUnit, is_ordinary_in, Found, named, Follows, Feed, Return, Brace, Itself, NameByte, Nothing, follows_of, after_dollar_by, after_dollar, Class, Dollar, LineFeed, CarriageReturn, Nul, Plain, class_of, unit_by, unit_at, opening, opens_comment, Position, AtStart, AfterSpaces, Within, found_at, position_after, spot_after, first_spot, cut}
+use Rattle.nj_text.specs.Bytes.{is_identifier_byte, is_name_byte, is_ordinary_byte, is_escapable, begins_with, drop_while}
+use Rattle.nj_text.specs.Units.{Meaning, Ordinary, Escape, Reference, Join, TextUnit, is_ordinary_in, Found, named, after_dollar, unit_at, opening, opens_comment, Position, AtStart, AfterSpaces, Within, found_at, position_after, spot_after, first_spot, cut}
 use Rattle.nj_text.specs.Words.{PartText, Text, longer_run, part_before, begins_with_ordinary, parts_of}
 use Rattle.nj_text.specs.Calls.{bytes_of}
 use Rattle.nj_text.specs.Laws.{part_bytes, AreInOrder, PartsComeInOrder}
@@ -46,27 +46,26 @@ named_gives b c cs (x ∷ xs) rest true e =
     ap (λ zs. take (length (x ∷ xs) + 2) (c ∷ zs)) e ∙ ap (λ n. take n ((c ∷ x ∷ xs) ++ rest)) long ∙ take-append-add (c ∷ x ∷ xs) rest 1 in
     (b ∷ c ∷ [], take 1 rest, ap (λ zs. b ∷ zs) whole)
 
-follower_gives : (f : Follows) (b c : ℕ) (cs : List ℕ) → GivesFound b (c ∷ cs) (after_dollar_by f c cs)
-follower_gives Feed b c cs = tt
-follower_gives Return b c cs = choice b (c ∷ cs) (begins_with 10 cs) _ _ tt tt
-follower_gives Brace b c cs = named_gives b c cs (take_while is_identifier_byte cs) (drop_while is_identifier_byte cs) (begins_with 125 (drop_while is_identifier_byte cs)) (run_and_rest is_identifier_byte cs)
-follower_gives Itself b c cs = (b, refl)
-follower_gives NameByte b c cs =
+-- a bare name, after the `$`
+name_gives : (b c : ℕ) (cs : List ℕ) → GivesFound b (c ∷ cs) (Reference (c ∷ take_while is_name_byte cs), suc (length (take_while is_name_byte cs)))
+name_gives b c cs =
     let name = take_while is_name_byte cs in
     let whole : take (length name) cs ≡ name = ap (take (length name)) (run_and_rest is_name_byte cs) ∙ take-append_seam name (drop_while is_name_byte cs) in
     (b ∷ [], [], ap (λ zs. b ∷ c ∷ zs) (whole ∙ sym (append-nil name)))
-follower_gives Nothing b c cs = tt
 
 dollar_gives : (b : ℕ) (bs : List ℕ) → GivesFound b bs (after_dollar bs)
 dollar_gives b [] = tt
-dollar_gives b (c ∷ cs) = follower_gives (follows_of c) b c cs
+dollar_gives b (c ∷ cs) =
+    let bs = c ∷ cs in
+    choice b bs (eqb c 10) _ _ tt
+    (choice b bs (eqb c 13 && begins_with 10 cs) _ _ tt
+    (choice b bs (eqb c 123) _ _ (named_gives b c cs (take_while is_identifier_byte cs) (drop_while is_identifier_byte cs) (begins_with 125 (drop_while is_identifier_byte cs)) (run_and_rest is_identifier_byte cs))
+    (choice b bs (is_escapable c) _ _ (b, refl) (choice b bs (is_name_byte c) _ _ (name_gives b c cs) tt))))
 
-class_gives : (class : Class) (b : ℕ) (bs : List ℕ) → GivesFound b bs (unit_by class b bs)
-class_gives Dollar b bs = dollar_gives b bs
-class_gives LineFeed b bs = tt
-class_gives CarriageReturn b bs = choice b bs (begins_with 10 bs) _ _ tt tt
-class_gives Nul b bs = tt
-class_gives Plain b bs = refl
+unit_gives : (b : ℕ) (bs : List ℕ) → GivesFound b bs (unit_at b bs)
+unit_gives b bs =
+    choice b bs (is_ordinary_byte b) _ _ refl
+    (choice b bs (eqb b 36) _ _ (dollar_gives b bs) (choice b bs (eqb b 10) _ _ tt (choice b bs (eqb b 13 && begins_with 10 bs) _ _ tt tt)))
 
 opening_gives : (m : Meaning) (bytes : List ℕ) → Denotes m bytes → Denotes (opening m) bytes
 opening_gives Join bytes h = tt
@@ -75,9 +74,9 @@ opening_gives m bytes h = h
 found_gives : (position : Position) (b : ℕ) (bs : List ℕ) → GivesFound b bs (found_at position b bs)
 found_gives AtStart b bs =
     let unit = unit_at b bs in
-    choice b bs (opens_comment (b ∷ bs)) _ _ tt (choice b bs (eqb b 9) _ (opening unit.0, unit.1) tt (opening_gives unit.0 (b ∷ take unit.1 bs) (class_gives (class_of b) b bs)))
-found_gives AfterSpaces b bs = choice b bs (eqb b 9) _ (unit_at b bs) tt (class_gives (class_of b) b bs)
-found_gives Within b bs = class_gives (class_of b) b bs
+    choice b bs (opens_comment (b ∷ bs)) _ _ tt (choice b bs (eqb b 9) _ (opening unit.0, unit.1) tt (opening_gives unit.0 (b ∷ take unit.1 bs) (unit_gives b bs)))
+found_gives AfterSpaces b bs = choice b bs (eqb b 9) _ (unit_at b bs) tt (unit_gives b bs)
+found_gives Within b bs = unit_gives b bs
 
 abbrev AllGive : List TextUnit → Type 0
 AllGive [] = Unit {0}

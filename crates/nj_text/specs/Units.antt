@@ -1,8 +1,8 @@
 -- The one cut of a text, from the left, into units: the longest that fits at each place. A comment is one too.
-use Rattle.std.specs.Prelude.{ℕ, zero, suc, ◌+◌, Bool, true, false, not, ◌==◌, if◌then◌else◌, List, [], ◌∷◌, length, take, drop}
+use Rattle.std.specs.Prelude.{ℕ, zero, suc, ◌+◌, Bool, true, false, not, ◌&&◌, ◌==◌, if◌then◌else◌, List, [], ◌∷◌, length, take, drop}
 use Rattle.std.specs.List.{take_while}
 use Rattle.nj_text.specs.declared.spot.Spot.{Spot}
-use Rattle.nj_text.specs.Bytes.{is_space, is_line_feed, is_name_byte, is_identifier_byte, is_escapable, drop_while, begins_with}
+use Rattle.nj_text.specs.Bytes.{is_space, is_line_feed, is_name_byte, is_identifier_byte, is_escapable, is_ordinary_byte, drop_while, begins_with}
 
 -- the meaning of a unit
 pub data Meaning : Type 0 where
@@ -65,58 +65,24 @@ named (b ∷ bs) true = (Reference (b ∷ bs), length (b ∷ bs) + 2)
 abbrev pub in_braces : List ℕ → Found
 in_braces bytes = named (take_while is_identifier_byte bytes) (begins_with 125 (drop_while is_identifier_byte bytes))
 
--- what may follow a `$`
-pub data Follows : Type 0 where
-  Feed : Follows
-  Return : Follows
-  Brace : Follows
-  Itself : Follows
-  NameByte : Follows
-  Nothing : Follows
-
-abbrev pub follows_of : ℕ → Follows
-follows_of b =
-    if b == 10 then Feed
-    else (if b == 13 then Return
-    else (if b == 123 then Brace
-    else (if is_escapable b then Itself else (if is_name_byte b then NameByte else Nothing))))
-
-abbrev pub after_dollar_by : Follows → ℕ → List ℕ → Found
-after_dollar_by Feed b bs = (Join, suc (spaces_in bs))
-after_dollar_by Return b bs = if begins_with 10 bs then (Join, suc (suc (spaces_in (drop 1 bs)))) else (BadEscape, 0)
-after_dollar_by Brace b bs = in_braces bs
-after_dollar_by Itself b bs = (Escape b, 1)
-after_dollar_by NameByte b bs = (Reference (b ∷ take_while is_name_byte bs), suc (length (take_while is_name_byte bs)))
-after_dollar_by Nothing b bs = (BadEscape, 0)
-
 -- the unit of a `$` and what follows it
 abbrev pub after_dollar : List ℕ → Found
 after_dollar [] = (BadEscape, 0)
-after_dollar (b ∷ bs) = after_dollar_by (follows_of b) b bs
-
--- the bytes that begin a unit of their own kind; any other is ordinary
-pub data Class : Type 0 where
-  Dollar : Class
-  LineFeed : Class
-  CarriageReturn : Class
-  Nul : Class
-  Plain : Class
-
-abbrev pub class_of : ℕ → Class
-class_of b =
-    if b == 36 then Dollar
-    else (if b == 10 then LineFeed else (if b == 13 then CarriageReturn else (if b == 0 then Nul else Plain)))
-
-abbrev pub unit_by : Class → ℕ → List ℕ → Found
-unit_by Dollar b bs = after_dollar bs
-unit_by LineFeed b bs = (LineEnd, 0)
-unit_by CarriageReturn b bs = if begins_with 10 bs then (LineEnd, 1) else (BadByte, 0)
-unit_by Nul b bs = (BadByte, 0)
-unit_by Plain b bs = (Ordinary b, 0)
+after_dollar (b ∷ bs) =
+    if b == 10 then (Join, suc (spaces_in bs))
+    else (if b == 13 && begins_with 10 bs then (Join, suc (suc (spaces_in (drop 1 bs))))
+    else (if b == 123 then in_braces bs
+    else (if is_escapable b then (Escape b, 1)
+    else (if is_name_byte b then (Reference (b ∷ take_while is_name_byte bs), suc (length (take_while is_name_byte bs)))
+    else (BadEscape, 0)))))
 
 -- the unit that begins with the byte b, within a line
 abbrev pub unit_at : ℕ → List ℕ → Found
-unit_at b bs = unit_by (class_of b) b bs
+unit_at b bs =
+    if is_ordinary_byte b then (Ordinary b, 0)
+    else (if b == 36 then after_dollar bs
+    else (if b == 10 then (LineEnd, 0)
+    else (if b == 13 && begins_with 10 bs then (LineEnd, 1) else (BadByte, 0))))
 
 abbrev pub opening : Meaning → Meaning
 opening Join = OpeningJoin
