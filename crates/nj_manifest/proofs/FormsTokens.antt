@@ -9,7 +9,8 @@ use Rattle.nj_text.specs.declared.spot.Spot.{Spot}
 use Rattle.nj_text.specs.Bytes.{drop_while, is_space, is_identifier_byte}
 use Rattle.nj_text.specs.Units.{Meaning, Ordinary, Escape, Reference, Join, OpeningJoin, Comment, LeadingTab, LineEnd, TextEnd, BadByte, BadEscape, TextUnit, is_ordinary_in}
 use Rattle.nj_text.specs.Lines.{Line, with_units, lines_after, spot_of_first}
-use Rattle.nj_text.specs.Words.{is_blank, is_blank_meaning, in_identifier, begins_with_byte, fault_of, fault_of_meaning, next_fault}
+use Rattle.nj_text.specs.Words.{is_blank, in_identifier, begins_with_byte, fault_of, next_fault}
+use Rattle.nj_text.specs.Inside.Meanings.{is_blank_meaning, opens_word_meaning}
 use Rattle.nj_text.specs.Calls as calls
 use Rattle.nj_text.specs.Calls.{State, Between, Inside, Reply, bytes_of, some_bytes, is_empty, begins_word, is_sign, state_after_sign, sign_of}
 use Rattle.nj_manifest.specs.declared.fault.Wanted.{Wanted}
@@ -26,7 +27,7 @@ within l ls us = Inside (with_units us l) ls
 -- ---- tests on a unit
 
 -- what passes a test that no bad unit passes has no fault
-pub passes_without_fault : (q : Meaning → Bool) → q LeadingTab ≡ false → q BadByte ≡ false → q BadEscape ≡ false → (m : Meaning) (spot : Spot) → q m ≡ true → fault_of_meaning m spot ≡ None
+pub passes_without_fault : (q : Meaning → Bool) → q LeadingTab ≡ false → q BadByte ≡ false → q BadEscape ≡ false → (m : Meaning) (spot : Spot) → q m ≡ true → fault_of m spot ≡ None
 passes_without_fault q a b c (Ordinary x) spot h = refl
 passes_without_fault q a b c (Escape x) spot h = refl
 passes_without_fault q a b c (Reference x) spot h = refl
@@ -71,7 +72,7 @@ ordinary_is b TextEnd h = absurd cc
 ordinary_is b BadByte h = absurd cc
 ordinary_is b BadEscape h = absurd cc
 
-identifier_without_fault : (u : TextUnit) → in_identifier u ≡ true → fault_of u ≡ None
+identifier_without_fault : (u : TextUnit) → in_identifier u ≡ true → fault_of u.means u.spot ≡ None
 identifier_without_fault u h = passes_without_fault (is_ordinary_in is_identifier_byte) refl refl refl u.means u.spot h
 
 identifier_no_blank : (u : TextUnit) → in_identifier u ≡ true → is_blank u ≡ false
@@ -223,7 +224,7 @@ end_stops us h = let e = blanks_end us h in record { no_fault = rw e refl; no_wo
 pub colon_stops : (us rest : List TextUnit) → SignForm sign.Colon us rest → Stops us false false false
 colon_stops us rest f =
     let it = one_byte 58 us f.gap f.run rest refl f.cut f.blanks f.of_sign in
-    record { no_fault = rw (it.1, it.2) refl; no_word = rw (it.1, it.2) refl; is_pipe = rw (it.1, it.2) refl; is_pipe2 = rw (it.1, it.2) refl; is_pipe_at = rw (it.1, it.2) refl }
+    record { no_fault = rw (it.1, it.2) refl; no_word = ap begins_word it.1 ∙ ap opens_word_meaning it.2; is_pipe = rw (it.1, it.2) refl; is_pipe2 = rw (it.1, it.2) refl; is_pipe_at = rw (it.1, it.2) refl }
 
 pub pipe_stops : (us rest : List TextUnit) → SignForm sign.Pipe us rest → Stops us true false false
 pipe_stops us rest f =
@@ -231,17 +232,17 @@ pipe_stops us rest f =
     let alone = and_parts (not (begins_with_byte 124 rest)) (not (begins_with_byte 64 rest)) f.longest in
     let one = not-true (begins_with_byte 124 rest) alone.0 in
     let other = not-true (begins_with_byte 64 rest) alone.1 in
-    record { no_fault = rw (it.1, it.2) refl; no_word = rw (it.1, it.2) refl; is_pipe = rw (it.1, it.2, one, other) refl; is_pipe2 = rw (it.1, it.2, one) refl; is_pipe_at = rw (it.1, it.2, other) refl }
+    record { no_fault = rw (it.1, it.2) refl; no_word = ap begins_word it.1 ∙ ap opens_word_meaning it.2; is_pipe = rw (it.1, it.2, one, other) refl; is_pipe2 = rw (it.1, it.2, one) refl; is_pipe_at = rw (it.1, it.2, other) refl }
 
 pub pipe2_stops : (us rest : List TextUnit) → SignForm sign.Pipe2 us rest → Stops us false true false
 pipe2_stops us rest f =
     let it = two_bytes 124 124 us f.gap f.run rest refl f.cut f.blanks f.of_sign in
-    record { no_fault = rw (it.2, it.3) refl; no_word = rw (it.2, it.3) refl; is_pipe = rw (it.2, it.3, it.4) refl; is_pipe2 = rw (it.2, it.3, it.4) refl; is_pipe_at = rw (it.2, it.3, it.4) refl }
+    record { no_fault = rw (it.2, it.3) refl; no_word = ap begins_word it.2 ∙ ap opens_word_meaning it.3; is_pipe = rw (it.2, it.3, it.4) refl; is_pipe2 = rw (it.2, it.3, it.4) refl; is_pipe_at = rw (it.2, it.3, it.4) refl }
 
 pub pipe_at_stops : (us rest : List TextUnit) → SignForm sign.PipeAt us rest → Stops us false false true
 pipe_at_stops us rest f =
     let it = two_bytes 124 64 us f.gap f.run rest refl f.cut f.blanks f.of_sign in
-    record { no_fault = rw (it.2, it.3) refl; no_word = rw (it.2, it.3) refl; is_pipe = rw (it.2, it.3, it.4) refl; is_pipe2 = rw (it.2, it.3, it.4) refl; is_pipe_at = rw (it.2, it.3, it.4) refl }
+    record { no_fault = rw (it.2, it.3) refl; no_word = ap begins_word it.2 ∙ ap opens_word_meaning it.3; is_pipe = rw (it.2, it.3, it.4) refl; is_pipe2 = rw (it.2, it.3, it.4) refl; is_pipe_at = rw (it.2, it.3, it.4) refl }
 
 -- ---- a sign that is there
 

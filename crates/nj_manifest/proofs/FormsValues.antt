@@ -6,7 +6,7 @@ use Rattle.nj_text.specs.declared.sign.Sign.TheVariants as sign
 use Rattle.nj_text.specs.declared.spot.Spot.{Spot}
 use Rattle.nj_text.specs.Units.{TextUnit}
 use Rattle.nj_text.specs.Lines.{Line, spot_of_first, lines_after}
-use Rattle.nj_text.specs.Words.{WordText, is_opening_meaning, after_opening, first_fault, parts_of}
+use Rattle.nj_text.specs.Words.{WordText, opens_line, after_opening, first_fault, parts_of}
 use Rattle.nj_text.specs.Calls as calls
 use Rattle.nj_text.specs.Calls.{State, Between, value_of}
 use Rattle.nj_manifest.specs.declared.fault.Wanted.TheVariants as wanted
@@ -16,10 +16,6 @@ use Rattle.nj_manifest.specs.Grammar.{begins, is_opening, SignForm, ValueForm}
 use Rattle.nj_manifest.proofs.Framing.{bind-ok, after-is, value-is}
 use Rattle.nj_manifest.proofs.FormsGaps.{skip, skip_gap, skip_stops, gap_of, gap_passes, gap_cut}
 use Rattle.nj_manifest.proofs.FormsTokens.{within, after-form, after-read, end-form, end-read}
-
--- whether a unit is a join that opens its line
-abbrev opens_line : TextUnit → Bool
-opens_line u = is_opening_meaning u.means
 
 -- the join that opens the line, if one does
 pub record Opening (us opening others : List TextUnit) : Type 0 where

@@ -8,7 +8,8 @@ use Rattle.nj_text.specs.declared.spot.Spot.{Spot}
 use Rattle.nj_text.specs.Bytes.{drop_while, is_word_byte}
 use Rattle.nj_text.specs.Units.{Meaning, Ordinary, Escape, Reference, Join, OpeningJoin, Comment, LeadingTab, LineEnd, TextEnd, BadByte, BadEscape, TextUnit}
 use Rattle.nj_text.specs.Lines.{Line, spot_of_first}
-use Rattle.nj_text.specs.Words.{WordText, is_blank, is_blank_meaning, in_word, opens_word, opens_word_meaning, fault_of, next_fault, parts_of}
+use Rattle.nj_text.specs.Words.{WordText, is_blank, in_word, opens_word, fault_of, next_fault, parts_of}
+use Rattle.nj_text.specs.Inside.Meanings.{is_blank_meaning, opens_word_meaning}
 use Rattle.nj_text.specs.Calls as calls
 use Rattle.nj_text.specs.Calls.{State, begins_word, is_sign, sign_of, path_word_of}
 use Rattle.nj_text.proofs.Lists.{take_while-cons_yes}
@@ -22,7 +23,7 @@ use Rattle.nj_manifest.proofs.FormsTokens.{within, passes_without_fault, ordinar
 
 -- ---- tests on a unit
 
-opens_without_fault : (u : TextUnit) → opens_word u ≡ true → fault_of u ≡ None
+opens_without_fault : (u : TextUnit) → opens_word u ≡ true → fault_of u.means u.spot ≡ None
 opens_without_fault u h = passes_without_fault opens_word_meaning refl refl refl u.means u.spot h
 
 opening_no_blank : (m : Meaning) → opens_word_meaning m ≡ true → is_blank_meaning m ≡ false
@@ -43,7 +44,7 @@ pub fault_after_blanks : (us : List TextUnit) → next_fault (skip us) ≡ None 
 fault_after_blanks [] h = refl
 fault_after_blanks (u ∷ us) h = by_test (is_blank u) refl h
   where
-    by_test : (t : Bool) → is_blank u ≡ t → next_fault (cond t (skip us) (u ∷ us)) ≡ None → fault_of u ≡ None
+    by_test : (t : Bool) → is_blank u ≡ t → next_fault (cond t (skip us) (u ∷ us)) ≡ None → fault_of u.means u.spot ≡ None
     by_test true e g = passes_without_fault is_blank_meaning refl refl refl u.means u.spot e
     by_test false e g = g
 

@@ -6,7 +6,8 @@ use Rattle.nj_text.specs.declared.spot.Spot.{Spot}
 use Rattle.nj_text.specs.Bytes.{drop_while, is_identifier_byte}
 use Rattle.nj_text.specs.Units.{TextUnit, is_ordinary_in}
 use Rattle.nj_text.specs.Lines.{Line, spot_of_first}
-use Rattle.nj_text.specs.Words.{is_blank, is_blank_meaning, in_identifier, fault_of_meaning, next_fault}
+use Rattle.nj_text.specs.Words.{is_blank, in_identifier, fault_of, next_fault}
+use Rattle.nj_text.specs.Inside.Meanings.{is_blank_meaning}
 use Rattle.nj_text.specs.Calls.{State, reply, unless_fault, bytes_of, some_bytes}
 use Rattle.nj_text.proofs.Lists.{AllIn, AllIn-take_while, take_while-cons_yes, take_while-cons_no}
 use Rattle.nj_manifest.specs.declared.fault.Wanted.{Wanted}
@@ -21,7 +22,7 @@ use Rattle.nj_manifest.proofs.LeftmostSteps.{at, blank_no_pipe, Fits, by_fits, f
 pub identifier_no_blank : (u : TextUnit) → in_identifier u ≡ true → is_blank u ≡ false
 identifier_no_blank u h = no_other is_identifier_byte is_blank_meaning (not_byte is_identifier_byte 32 refl) u.means h
 
-identifier_no_fault : (u : TextUnit) → in_identifier u ≡ true → fault_of_meaning u.means u.spot ≡ None
+identifier_no_fault : (u : TextUnit) → in_identifier u ≡ true → fault_of u.means u.spot ≡ None
 identifier_no_fault u h = ordinary_no_fault is_identifier_byte u.means u.spot h
 
 -- ---- what is read after the blanks

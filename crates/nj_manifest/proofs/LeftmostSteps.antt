@@ -7,7 +7,8 @@ use Rattle.nj_text.specs.declared.spot.Spot.{Spot}
 use Rattle.nj_text.specs.Bytes.{is_space, drop_while}
 use Rattle.nj_text.specs.Units.{Meaning, Ordinary, LeadingTab, BadByte, BadEscape, TextUnit, is_ordinary_in}
 use Rattle.nj_text.specs.Lines.{Line, with_units, lines_after, spot_of_first}
-use Rattle.nj_text.specs.Words.{is_blank, is_blank_meaning, begins_with_byte, fault_of_meaning, next_fault}
+use Rattle.nj_text.specs.Words.{is_blank, begins_with_byte, fault_of, next_fault}
+use Rattle.nj_text.specs.Inside.Meanings.{is_blank_meaning}
 use Rattle.nj_text.specs.Calls.{State, Between, Inside, fault_spot}
 use Rattle.nj_text.proofs.Lists.{AllIn}
 use Rattle.nj_manifest.specs.declared.fault.Wanted.{Wanted}
@@ -84,7 +85,7 @@ pub opens-more : (t t' : ℕ → Bool) → ((b : ℕ) → t b ≡ true → t' b 
 opens-more t t' f [] h = refl
 opens-more t t' f (u ∷ us) h = ordinary-more t t' f u.means h
 
-pub ordinary_no_fault : (t : ℕ → Bool) (m : Meaning) (spot : Spot) → is_ordinary_in t m ≡ true → fault_of_meaning m spot ≡ None
+pub ordinary_no_fault : (t : ℕ → Bool) (m : Meaning) (spot : Spot) → is_ordinary_in t m ≡ true → fault_of m spot ≡ None
 ordinary_no_fault t (Ordinary b) spot h = refl
 ordinary_no_fault t m spot h = absurd cc
 
@@ -143,7 +144,7 @@ fault-place (u ∷ us) end f h = by_meaning u.means h
     same : (g : UnitFault) → ◌≡◌ {A = Option UnitFault} (Some g) (Some f) → g ≡ f
     same g e = cc
 
-    by_meaning : (m : Meaning) → fault_of_meaning m u.spot ≡ Some f → fault_spot f ≡ u.spot
+    by_meaning : (m : Meaning) → fault_of m u.spot ≡ Some f → fault_spot f ≡ u.spot
     by_meaning BadByte h = ap fault_spot (sym (same (lex.BadByte u.spot) h))
     by_meaning BadEscape h = ap fault_spot (sym (same (lex.BadEscape u.spot) h))
     by_meaning LeadingTab h = ap fault_spot (sym (same (lex.Tab u.spot) h))

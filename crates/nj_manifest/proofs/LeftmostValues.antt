@@ -6,7 +6,8 @@ use Rattle.nj_text.specs.declared.sign.Sign.TheVariants as sign
 use Rattle.nj_text.specs.declared.spot.Spot.{Spot}
 use Rattle.nj_text.specs.Units.{Meaning, Ordinary, Join, OpeningJoin, TextUnit}
 use Rattle.nj_text.specs.Lines.{Line, lines_after, spot_of_first}
-use Rattle.nj_text.specs.Words.{is_blank, is_blank_meaning, is_opening_meaning, after_opening, fault_of, fault_of_meaning, next_fault, first_fault, parts_of, WordText}
+use Rattle.nj_text.specs.Words.{is_blank, after_opening, fault_of, next_fault, first_fault, parts_of, WordText}
+use Rattle.nj_text.specs.Inside.Meanings.{is_blank_meaning, opens_line_meaning}
 use Rattle.nj_text.specs.Calls.{State, Between, reply, unless_fault, value_of}
 use Rattle.nj_manifest.specs.declared.fault.Wanted.TheVariants as wanted
 use Rattle.nj_manifest.specs.Faults.{Fault, Bad}
@@ -21,16 +22,16 @@ use Rattle.nj_manifest.proofs.LeftmostTurns.{ReadTo, sign_turn}
 
 -- ---- the first bad unit
 
-blank_no_fault : (m : Meaning) (spot : Spot) → is_blank_meaning m ≡ true → fault_of_meaning m spot ≡ None
+blank_no_fault : (m : Meaning) (spot : Spot) → is_blank_meaning m ≡ true → fault_of m spot ≡ None
 blank_no_fault (Ordinary b) spot h = refl
 blank_no_fault Join spot h = refl
 blank_no_fault m spot h = absurd cc
 
-opening_no_fault : (m : Meaning) (spot : Spot) → is_opening_meaning m ≡ true → fault_of_meaning m spot ≡ None
+opening_no_fault : (m : Meaning) (spot : Spot) → opens_line_meaning m ≡ true → fault_of m spot ≡ None
 opening_no_fault OpeningJoin spot h = refl
 opening_no_fault m spot h = absurd cc
 
-first_of_sound : (u : TextUnit) (us : List TextUnit) → fault_of u ≡ None → first_fault us ≡ first_fault (u ∷ us)
+first_of_sound : (u : TextUnit) (us : List TextUnit) → fault_of u.means u.spot ≡ None → first_fault us ≡ first_fault (u ∷ us)
 first_of_sound u us h = sym (ap (λ (f : Option UnitFault). option_or f (first_fault us)) h)
 
 first_after_blanks : (us : List TextUnit) → first_fault (skip us) ≡ first_fault us
@@ -43,17 +44,17 @@ first_after_blanks (u ∷ us) = by_test (is_blank u) refl (first_after_blanks us
 
 first_after_opening : (us : List TextUnit) → first_fault (after_opening us) ≡ first_fault us
 first_after_opening [] = refl
-first_after_opening (u ∷ us) = by_test (is_opening_meaning u.means) refl
+first_after_opening (u ∷ us) = by_test (opens_line_meaning u.means) refl
   where
-    by_test : (t : Bool) → is_opening_meaning u.means ≡ t → first_fault (cond t us (u ∷ us)) ≡ first_fault (u ∷ us)
+    by_test : (t : Bool) → opens_line_meaning u.means ≡ t → first_fault (cond t us (u ∷ us)) ≡ first_fault (u ∷ us)
     by_test true e = first_of_sound u us (opening_no_fault u.means u.spot e)
     by_test false e = refl
 
 first_after_sound : (used x : List TextUnit) → first_fault used ≡ None → first_fault (used ++ x) ≡ first_fault x
 first_after_sound [] x h = refl
-first_after_sound (u ∷ used) x h = by_unit (fault_of u) refl h (first_after_sound used x)
+first_after_sound (u ∷ used) x h = by_unit (fault_of u.means u.spot) refl h (first_after_sound used x)
   where
-    by_unit : (f : Option UnitFault) → fault_of u ≡ f → option_or f (first_fault used) ≡ None → (first_fault used ≡ None → first_fault (used ++ x) ≡ first_fault x) → option_or f (first_fault (used ++ x)) ≡ first_fault x
+    by_unit : (f : Option UnitFault) → fault_of u.means u.spot ≡ f → option_or f (first_fault used) ≡ None → (first_fault used ≡ None → first_fault (used ++ x) ≡ first_fault x) → option_or f (first_fault (used ++ x)) ≡ first_fault x
     by_unit None e g rest = rest g
     by_unit (Some bad) e g rest = absurd cc
 
@@ -71,9 +72,9 @@ record Sound (us : List TextUnit) (bad : UnitFault) : Type 0 where
 
 before_bad : (us : List TextUnit) (bad : UnitFault) → first_fault us ≡ Some bad → Sound us bad
 before_bad [] bad h = absurd cc
-before_bad (u ∷ us) bad h = by_unit (fault_of u) refl h (before_bad us bad)
+before_bad (u ∷ us) bad h = by_unit (fault_of u.means u.spot) refl h (before_bad us bad)
   where
-    by_unit : (f : Option UnitFault) → fault_of u ≡ f → option_or f (first_fault us) ≡ Some bad → (first_fault us ≡ Some bad → Sound us bad) → Sound (u ∷ us) bad
+    by_unit : (f : Option UnitFault) → fault_of u.means u.spot ≡ f → option_or f (first_fault us) ≡ Some bad → (first_fault us ≡ Some bad → Sound us bad) → Sound (u ∷ us) bad
     by_unit (Some other) e g rest = record { used = []; left = u ∷ us; cut = refl; sound = refl; next = e ∙ g }
     by_unit None e g rest =
         let r = rest g in

@@ -7,7 +7,8 @@ use Rattle.nj_text.specs.declared.spot.Spot.{Spot}
 use Rattle.nj_text.specs.Bytes.{drop_while, is_word_byte}
 use Rattle.nj_text.specs.Units.{Meaning, Ordinary, Escape, Reference, Join, LeadingTab, BadByte, BadEscape, TextUnit, is_ordinary_in}
 use Rattle.nj_text.specs.Lines.{Line, spot_of_first}
-use Rattle.nj_text.specs.Words.{is_blank, is_blank_meaning, opens_word, opens_word_meaning, in_word, in_word_meaning, fault_of_meaning, next_fault, parts_of, WordText}
+use Rattle.nj_text.specs.Words.{is_blank, opens_word, in_word, fault_of, next_fault, parts_of, WordText}
+use Rattle.nj_text.specs.Inside.Meanings.{is_blank_meaning, opens_word_meaning, in_word_meaning}
 use Rattle.nj_text.specs.Calls.{State, reply, unless_fault, begins_word, path_word_of}
 use Rattle.nj_text.proofs.Lists.{AllIn, AllIn-take_while, take_while-cons_yes}
 use Rattle.nj_manifest.specs.Faults.{Fault, Bad}
@@ -92,7 +93,7 @@ pub opening_in : (m : Meaning) → opens_word_meaning m ≡ true → in_word_mea
 opening_in Join h = refl
 opening_in m h = h
 
-opening_no_fault : (m : Meaning) (spot : Spot) → opens_word_meaning m ≡ true → fault_of_meaning m spot ≡ None
+opening_no_fault : (m : Meaning) (spot : Spot) → opens_word_meaning m ≡ true → fault_of m spot ≡ None
 opening_no_fault BadByte spot h = absurd cc
 opening_no_fault BadEscape spot h = absurd cc
 opening_no_fault LeadingTab spot h = absurd cc
@@ -103,7 +104,7 @@ opening_no_pipe (Ordinary b) h = not_byte is_word_byte 124 refl b h
 opening_no_pipe m h = refl
 
 -- a bad unit is in no word
-bad_no_word : (m : Meaning) (spot : Spot) (bad : UnitFault) → fault_of_meaning m spot ≡ Some bad → in_word_meaning m ≡ false
+bad_no_word : (m : Meaning) (spot : Spot) (bad : UnitFault) → fault_of m spot ≡ Some bad → in_word_meaning m ≡ false
 bad_no_word (Ordinary b) spot bad h = absurd cc
 bad_no_word (Escape b) spot bad h = absurd cc
 bad_no_word (Reference n) spot bad h = absurd cc

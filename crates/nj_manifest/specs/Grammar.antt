@@ -8,7 +8,7 @@ use Rattle.nj_text.specs.declared.sign.Sign.TheVariants as sign
 use Rattle.nj_text.specs.declared.spot.Spot.{Spot}
 use Rattle.nj_text.specs.Units.{Ordinary, TextUnit}
 use Rattle.nj_text.specs.Lines.{Line, line_spot, lines_after, spot_of_first, CommentLine, BlankLine, IndentedLine, PlainLine, kind_of}
-use Rattle.nj_text.specs.Words.{WordText, is_blank, is_opening_meaning, in_identifier, opens_word, in_word, first_fault, parts_of}
+use Rattle.nj_text.specs.Words.{WordText, is_blank, opens_line, in_identifier, opens_word, in_word, first_fault, parts_of}
 use Rattle.nj_text.specs.Words.{begins_with_byte}
 use Rattle.nj_text.specs.Calls.{bytes_of, is_empty, without_comments}
 use Rattle.nj_manifest.specs.declared.block.Keys.{Keys}
@@ -102,7 +102,7 @@ pub data SectionForm (want : Sign) : (us : List TextUnit) → List WordText → 
 -- a join that opens its line, or nothing (in a text no such join follows a sign of the same line)
 abbrev pub is_opening : List TextUnit → Bool
 is_opening [] = true
-is_opening (u ∷ []) = is_opening_meaning u.means
+is_opening (u ∷ []) = opens_line u
 is_opening (u ∷ v ∷ us) = false
 
 -- Blanks, and after them all the others, among which there is no bad unit. A value without units is placed where its
@@ -113,7 +113,7 @@ pub record ValueForm (us : List TextUnit) (end : Spot) (value : WordText) : Type
   pub run : List TextUnit
   pub cut : us ≡ opening ++ gap ++ run
   pub opens : is_opening opening ≡ true
-  pub longest_opening : opening ≡ [] → begins (λ u. is_opening_meaning u.means) us ≡ false
+  pub longest_opening : opening ≡ [] → begins opens_line us ≡ false
   pub blanks : AreBlanks gap
   pub longest : begins is_blank run ≡ false
   pub good : first_fault run ≡ None

@@ -11,7 +11,8 @@ use Rattle.nj_text.specs.Bytes.{is_identifier_byte, drop_while}
 use Rattle.nj_text.specs.Units.{Meaning, Ordinary, Escape, Reference, Join, OpeningJoin, Comment, LeadingTab, LineEnd, TextEnd, BadByte, BadEscape, TextUnit, is_ordinary_in, Position, AtStart, found_at, position_after, spot_after, cut}
 use Rattle.nj_text.specs.Lines.{Line, ending_of, before_first_line, lines_before, lines_of, with_units, lines_after, line_spot}
 use Rattle.nj_text.specs.Inside.Scans.{units_within, Begins, BeginsBadly}
-use Rattle.nj_text.specs.Words.{is_blank, is_blank_meaning, in_identifier, in_word, in_word_meaning, opens_word_meaning, next_fault, fault_of, fault_of_meaning, first_fault, begins_with_byte}
+use Rattle.nj_text.specs.Words.{is_blank, in_identifier, in_word, next_fault, fault_of, first_fault, begins_with_byte}
+use Rattle.nj_text.specs.Inside.Meanings.{is_blank_meaning, in_word_meaning, opens_word_meaning}
 use Rattle.nj_text.specs.Calls.{Inside, begins_word}
 use Rattle.nj_text.specs.declared.parts.TextKind.TheVariants as kind
 use Rattle.nj_text.specs.Inside.Gathering.{in_value_meaning, in_text}
@@ -21,7 +22,7 @@ use Rattle.nj_text.proofs.Lists.{drop_while-cons_yes, drop_while-cons_no, take_w
 
 -- ---- what begins
 
-pub fault_badly : (spot : Spot) (bs : List ℕ) (m : Meaning) (f : UnitFault) → BeginsBadly spot bs m → fault_of_meaning m spot ≡ Some f → Some f ≡ next_fault (units_within spot bs)
+pub fault_badly : (spot : Spot) (bs : List ℕ) (m : Meaning) (f : UnitFault) → BeginsBadly spot bs m → fault_of m spot ≡ Some f → Some f ≡ next_fault (units_within spot bs)
 fault_badly spot bs m f b e = rw b.2 (sym e)
 
 pub fault_at_end : (spot : Spot) (bs : List ℕ) → bs ≡ [] → None ≡ next_fault (units_within spot bs)
@@ -161,9 +162,9 @@ module _ {A : Type 0} (f : Meaning → Spot → A) (none : A) (at_line_end : (sp
       by_end (Some b) e k = sym (of_end u.means u.spot b e)
 
 pub next_fault_of_line : (us : List TextUnit) → HasLine (lines_of us) → next_fault (first_line (lines_of us)).units ≡ next_fault us
-next_fault_of_line us h = same (first_line (lines_of us)).units ∙ first_of_line fault_of_meaning None (λ s. refl) (λ s. refl) us h ∙ sym (same us)
+next_fault_of_line us h = same (first_line (lines_of us)).units ∙ first_of_line fault_of None (λ s. refl) (λ s. refl) us h ∙ sym (same us)
   where
-    same : (vs : List TextUnit) → next_fault vs ≡ of_first fault_of_meaning None (λ s. refl) (λ s. refl) vs
+    same : (vs : List TextUnit) → next_fault vs ≡ of_first fault_of None (λ s. refl) (λ s. refl) vs
     same [] = refl
     same (v ∷ vs) = refl
 
@@ -200,7 +201,7 @@ pub record IsValue (us : List TextUnit) : Type 0 where
   pub all : next_fault (drop_while (in_text kind.Value) us) ≡ None → (first_line (lines_of us)).units ≡ take_while (in_text kind.Value) us
   pub rest : next_fault (drop_while (in_text kind.Value) us) ≡ None → inside (lines_of (drop_while (in_text kind.Value) us)) ≡ Inside (with_units [] (first_line (lines_of us))) (other_lines (lines_of us))
 
-value_or_bad : (m : Meaning) (spot : Spot) → ending_of m ≡ None → ((in_value_meaning m ≡ true) × (fault_of_meaning m spot ≡ None)) ⊎ ((in_value_meaning m ≡ false) × ((f : UnitFault) × (fault_of_meaning m spot ≡ Some f)))
+value_or_bad : (m : Meaning) (spot : Spot) → ending_of m ≡ None → ((in_value_meaning m ≡ true) × (fault_of m spot ≡ None)) ⊎ ((in_value_meaning m ≡ false) × ((f : UnitFault) × (fault_of m spot ≡ Some f)))
 value_or_bad (Ordinary c) spot e = inl (refl, refl)
 value_or_bad (Escape c) spot e = inl (refl, refl)
 value_or_bad (Reference n) spot e = inl (refl, refl)
@@ -220,7 +221,7 @@ absurd_fault : (f : UnitFault) → Some f ≡ None → ⊥
 absurd_fault f e = absurd cc
 
 -- after a unit of the value
-value_continues : (u : TextUnit) (us : List TextUnit) (l : Line) (ls : List Line) → lines_of us ≡ l ∷ ls → ending_of u.means ≡ None → of_value u ≡ true → fault_of u ≡ None → IsValue us → IsValue (u ∷ us)
+value_continues : (u : TextUnit) (us : List TextUnit) (l : Line) (ls : List Line) → lines_of us ≡ l ∷ ls → ending_of u.means ≡ None → of_value u ≡ true → fault_of u.means u.spot ≡ None → IsValue us → IsValue (u ∷ us)
 value_continues u us l ls e n t f rest =
     let first : first_line (lines_of (u ∷ us)) ≡ record { units = u ∷ l.units; end = l.end; is_last = l.is_last } = rw (n, e) refl in
     let d = drop_while-cons_yes of_value u us t in
@@ -235,7 +236,7 @@ value_continues u us l ls e n t f rest =
     ends_same n e = rw (n, e) refl
 
 -- at a bad unit
-value_fails : (u : TextUnit) (us : List TextUnit) (l : Line) (ls : List Line) (f : UnitFault) → lines_of us ≡ l ∷ ls → ending_of u.means ≡ None → of_value u ≡ false → fault_of u ≡ Some f → IsValue (u ∷ us)
+value_fails : (u : TextUnit) (us : List TextUnit) (l : Line) (ls : List Line) (f : UnitFault) → lines_of us ≡ l ∷ ls → ending_of u.means ≡ None → of_value u ≡ false → fault_of u.means u.spot ≡ Some f → IsValue (u ∷ us)
 value_fails u us l ls f e n t k =
     let first : first_line (lines_of (u ∷ us)) ≡ record { units = u ∷ l.units; end = l.end; is_last = l.is_last } = rw (n, e) refl in
     let d = drop_while-cons_no of_value u us t in
@@ -252,7 +253,7 @@ value_ends u us b e =
     let t = values_end u b e in
     let d = drop_while-cons_no of_value u us t in
     let lines : lines_of (u ∷ us) ≡ record { units = []; end = u.spot; is_last = b } ∷ lines_of us = rw e refl in
-    let no_fault : fault_of u ≡ None = of_end fault_of_meaning None (λ s. refl) (λ s. refl) u.means u.spot b e in
+    let no_fault : fault_of u.means u.spot ≡ None = of_end fault_of None (λ s. refl) (λ s. refl) u.means u.spot b e in
     record {
       fault = ap (λ ls. first_fault (first_line ls).units) lines ∙ sym (ap next_fault d ∙ no_fault);
       all = λ h. ap (λ ls. (first_line ls).units) lines ∙ sym (take_while-cons_no of_value u us t);
@@ -263,7 +264,7 @@ pub value_of_line : (us : List TextUnit) → HasLine (lines_of us) → IsValue u
 value_of_line [] h = absurd (nil_has_no_line h)
 value_of_line (u ∷ us) h = by_end (ending_of u.means) refl (value_of_line us) h
   where
-    by_case : (has : HasLine (lines_of us)) → ending_of u.means ≡ None → IsValue us → ((of_value u ≡ true) × (fault_of u ≡ None)) ⊎ ((of_value u ≡ false) × ((f : UnitFault) × (fault_of u ≡ Some f))) → IsValue (u ∷ us)
+    by_case : (has : HasLine (lines_of us)) → ending_of u.means ≡ None → IsValue us → ((of_value u ≡ true) × (fault_of u.means u.spot ≡ None)) ⊎ ((of_value u ≡ false) × ((f : UnitFault) × (fault_of u.means u.spot ≡ Some f))) → IsValue (u ∷ us)
     by_case has e rest (inl p) = value_continues u us has.0 has.1 has.2 e p.0 p.1 rest
     by_case has e rest (inr p) = value_fails u us has.0 has.1 p.1.0 has.2 e p.0 p.1.1
 

@@ -13,7 +13,7 @@ use Rattle.nj_text.specs.Units.{Meaning, Ordinary, LineEnd, BadByte, BadEscape, 
 use Rattle.nj_text.specs.declared.runs.Run.{Run}
 use Rattle.nj_text.specs.Inside.Runs.{in_run}
 use Rattle.nj_text.specs.Inside.Scans.{advance, units_within, Begins, BeginsBadly}
-use Rattle.nj_text.specs.Words.{fault_of_meaning, next_fault, parts_of, PartText, Text, begins_with_ordinary, longer_run}
+use Rattle.nj_text.specs.Words.{fault_of, next_fault, parts_of, PartText, Text, begins_with_ordinary, longer_run}
 use Rattle.nj_text.specs.Inside.Gathering.{run_of, in_text, gathered, after_text, NoneInRun}
 use Rattle.nj_text.proofs.Lists.{AllIn, AllIn-weaker, AllIn-take_while, drop_while-append, take_while-append, take_while-cons_yes, take_while-cons_no, drop_while-cons_no}
 use Rattle.nj_text.proofs.Cuts.{plain_units, cut-run, unit-ordinary}
@@ -28,7 +28,7 @@ pub ends_by : (k : TextKind) (spot : Spot) (bytes : List ℕ) (m : Meaning) (n :
     → (gathered k (units_within spot bytes) ≡ []) × (after_text k (units_within spot bytes) ≡ units_within spot bytes)
 ends_by k spot bytes m n remainder e h = rw e (text_ends k (record { spot = spot; bytes = take n bytes; means = m }) remainder h)
 
-pub bad_at : (k : TextKind) (spot : Spot) (bytes : List ℕ) (m : Meaning) (n : ℕ) (remainder : List TextUnit) (f : UnitFault) → Begins spot bytes m n remainder → in_text k (record { spot = spot; bytes = take n bytes; means = m }) ≡ false → fault_of_meaning m spot ≡ Some f
+pub bad_at : (k : TextKind) (spot : Spot) (bytes : List ℕ) (m : Meaning) (n : ℕ) (remainder : List TextUnit) (f : UnitFault) → Begins spot bytes m n remainder → in_text k (record { spot = spot; bytes = take n bytes; means = m }) ≡ false → fault_of m spot ≡ Some f
     → next_fault (after_text k (units_within spot bytes)) ≡ Some f
 bad_at k spot bytes m n remainder f e h g = ap next_fault (ends_by k spot bytes m n remainder e h).1 ∙ ap next_fault e ∙ g
 

@@ -6,7 +6,8 @@ use Rattle.nj_text.specs.declared.spot.Spot.{Spot}
 use Rattle.nj_text.specs.Bytes.{is_space, is_ordinary_byte, begins_with, drop_while}
 use Rattle.nj_text.specs.Units.{Meaning, Join, TextUnit, cut}
 use Rattle.nj_text.specs.Inside.Scans.{advance, units_within, Begins, BeginsBadly, begins_with_space_byte}
-use Rattle.nj_text.specs.Words.{is_blank, is_blank_meaning}
+use Rattle.nj_text.specs.Words.{is_blank}
+use Rattle.nj_text.specs.Inside.Meanings.{is_blank_meaning}
 use Rattle.nj_text.proofs.Lists.{AllIn, AllIn-weaker, AllIn-take_while, drop_while-append}
 use Rattle.nj_text.proofs.Cuts.{plain_units, cut-run}
 

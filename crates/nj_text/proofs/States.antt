@@ -11,7 +11,8 @@ use Rattle.nj_text.specs.declared.word.Word.{Word}
 use Rattle.nj_text.specs.declared.word.Part.{Part}
 use Rattle.nj_text.specs.Units.{OpeningJoin, TextUnit, AtStart, Within, cut}
 use Rattle.nj_text.specs.Lines.{Line, lines_of, before_first_line, with_units, line_spot}
-use Rattle.nj_text.specs.Words.{is_blank, WordText, word_text, part_text, is_opening_meaning, after_opening}
+use Rattle.nj_text.specs.Words.{is_blank, WordText, word_text, part_text, after_opening}
+use Rattle.nj_text.specs.Inside.Meanings.{opens_line_meaning}
 use Rattle.nj_text.specs.Calls.{State, Between, Inside, Reply, reply, after_blanks, value_at, value_of, sign_of, first_line_spot, ReturnsOrLacksMemory, no_word, skip_blanks_of, is_inside}
 use Rattle.nj_text.specs.Bytes.{drop_while}
 use Rattle.nj_text.specs.Inside.Scans.{units_within}
@@ -72,12 +73,12 @@ pub value_opening : (place : Spot) (joined : List ℕ) (spot : Spot) (bytes : Li
 value_opening place joined spot bytes = ap value_of (opened_is place joined spot bytes)
 
 -- within a line no join opens it
-opening_is_unsaid : IsUnsaid is_opening_meaning
+opening_is_unsaid : IsUnsaid opens_line_meaning
 opening_is_unsaid = record { ordinary = λ b. refl; escape = λ b. refl; reference = λ n. refl; join = refl; line_end = refl; bad_byte = refl; bad_escape = refl }
 
 abbrev first_opens : List TextUnit → Bool
 first_opens [] = false
-first_opens (u ∷ us) = is_opening_meaning u.means
+first_opens (u ∷ us) = opens_line_meaning u.means
 
 opens_nothing : (us : List TextUnit) → first_opens us ≡ false → after_opening us ≡ us
 opens_nothing [] h = refl
@@ -86,12 +87,12 @@ opens_nothing (u ∷ us) h = rw h refl
 within_opens : (spot : Spot) (bytes : List ℕ) → first_opens (cut Within 0 spot bytes) ≡ false
 unfolding cut
 within_opens spot [] = refl
-within_opens spot (b ∷ bs) = unit_is_unsaid is_opening_meaning opening_is_unsaid b bs
+within_opens spot (b ∷ bs) = unit_is_unsaid opens_line_meaning opening_is_unsaid b bs
 
 line_opens : (spot : Spot) (bytes : List ℕ) → after_opening (line spot bytes).units ≡ (line spot bytes).units
-line_opens spot bytes = opens_nothing (line spot bytes).units (same (line spot bytes).units ∙ first_of_line (λ m s. is_opening_meaning m) false (λ s. refl) (λ s. refl) (cut Within 0 spot bytes) (cut_has_line Within 0 spot bytes) ∙ sym (same (cut Within 0 spot bytes)) ∙ within_opens spot bytes)
+line_opens spot bytes = opens_nothing (line spot bytes).units (same (line spot bytes).units ∙ first_of_line (λ m s. opens_line_meaning m) false (λ s. refl) (λ s. refl) (cut Within 0 spot bytes) (cut_has_line Within 0 spot bytes) ∙ sym (same (cut Within 0 spot bytes)) ∙ within_opens spot bytes)
   where
-    same : (vs : List TextUnit) → first_opens vs ≡ of_first (λ m s. is_opening_meaning m) false (λ s. refl) (λ s. refl) vs
+    same : (vs : List TextUnit) → first_opens vs ≡ of_first (λ m s. opens_line_meaning m) false (λ s. refl) (λ s. refl) vs
     same [] = refl
     same (v ∷ vs) = refl
 

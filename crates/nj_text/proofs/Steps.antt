@@ -12,7 +12,8 @@ use Rattle.nj_text.specs.Bytes.{is_ordinary_byte, is_identifier_byte, drop_while
 use Rattle.nj_text.specs.Units.{Meaning, Within, unit_at, position_after, spot_after, is_ordinary_in, cut}
 use Rattle.nj_text.specs.Lines.{Line, lines_of, with_units, line_spot}
 use Rattle.nj_text.specs.Inside.Scans.{advance, units_within, BeginsBadly}
-use Rattle.nj_text.specs.Words.{is_blank, in_identifier, in_word, opens_word_meaning, next_fault, parts_of, PartText, WordText}
+use Rattle.nj_text.specs.Words.{is_blank, in_identifier, in_word, next_fault, parts_of, PartText, WordText}
+use Rattle.nj_text.specs.Inside.Meanings.{opens_word_meaning}
 use Rattle.nj_text.specs.Calls.{State, Inside, Reply, reply, failing, unless_fault, after_blanks, bytes_of, some_bytes, ident_at, begins_word, word_here, word_at, value_at}
 use Rattle.nj_text.specs.Inside.Gathering.{gathered, after_text, FailsText}
 use Rattle.nj_text.specs.Inside.States.{first_line, other_lines, inside, lines_within, FailsStep}

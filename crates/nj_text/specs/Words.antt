@@ -13,42 +13,27 @@ use Rattle.nj_text.specs.Units.{Meaning, Ordinary, Escape, Reference, Join, Open
 -- ---- tests on units
 
 -- blanks come between the parts of a line: spaces and joins
-abbrev pub is_blank_meaning : Meaning → Bool
-is_blank_meaning (Ordinary b) = is_space b
-is_blank_meaning Join = true
-is_blank_meaning m = false
-
 abbrev pub is_blank : TextUnit → Bool
-is_blank u = is_blank_meaning u.means
+is_blank u = elim u.means [ Ordinary b ↦ is_space b | Join ↦ true | other ↦ false ]
 
-abbrev pub is_opening_meaning : Meaning → Bool
-is_opening_meaning OpeningJoin = true
-is_opening_meaning m = false
+-- a join that is the first unit of its line
+abbrev pub opens_line : TextUnit → Bool
+opens_line u = elim u.means [ OpeningJoin ↦ true | other ↦ false ]
 
 -- the units after a join that opens their line, if one does
 abbrev pub after_opening : List TextUnit → List TextUnit
 after_opening [] = []
-after_opening (u ∷ us) = if is_opening_meaning u.means then us else u ∷ us
+after_opening (u ∷ us) = if opens_line u then us else u ∷ us
 
 abbrev pub in_identifier : TextUnit → Bool
 in_identifier u = is_ordinary_in is_identifier_byte u.means
 
-abbrev pub opens_word_meaning : Meaning → Bool
-opens_word_meaning (Ordinary b) = is_word_byte b
-opens_word_meaning (Escape b) = true
-opens_word_meaning (Reference name) = true
-opens_word_meaning m = false
-
 abbrev pub opens_word : TextUnit → Bool
-opens_word u = opens_word_meaning u.means
+opens_word u = elim u.means [ Ordinary b ↦ is_word_byte b | Escape b ↦ true | Reference name ↦ true | other ↦ false ]
 
 -- a join inside a word does not end it
-abbrev pub in_word_meaning : Meaning → Bool
-in_word_meaning Join = true
-in_word_meaning m = opens_word_meaning m
-
 abbrev pub in_word : TextUnit → Bool
-in_word u = in_word_meaning u.means
+in_word u = elim u.means [ Join ↦ true | other ↦ opens_word u ]
 
 -- whether the units begin with this ordinary byte
 abbrev pub begins_with_byte : ℕ → List TextUnit → Bool
@@ -57,24 +42,22 @@ begins_with_byte b (u ∷ us) = is_ordinary_in (λ c. c == b) u.means
 
 -- ---- bad units
 
-abbrev pub fault_of_meaning : Meaning → Spot → Option UnitFault
-fault_of_meaning BadByte spot = Some (fault.BadByte spot)
-fault_of_meaning BadEscape spot = Some (fault.BadEscape spot)
-fault_of_meaning LeadingTab spot = Some (fault.Tab spot)
-fault_of_meaning m spot = None
-
-abbrev pub fault_of : TextUnit → Option UnitFault
-fault_of u = fault_of_meaning u.means u.spot
+-- the fault of a unit at this place, where it is a bad one
+abbrev pub fault_of : Meaning → Spot → Option UnitFault
+fault_of BadByte spot = Some (fault.BadByte spot)
+fault_of BadEscape spot = Some (fault.BadEscape spot)
+fault_of LeadingTab spot = Some (fault.Tab spot)
+fault_of m spot = None
 
 -- the fault of the first of the units, where it is a bad one
 abbrev pub next_fault : List TextUnit → Option UnitFault
 next_fault [] = None
-next_fault (u ∷ us) = fault_of u
+next_fault (u ∷ us) = fault_of u.means u.spot
 
 -- the fault of the first bad unit among them
 abbrev pub first_fault : List TextUnit → Option UnitFault
 first_fault [] = None
-first_fault (u ∷ us) = option_or (fault_of u) (first_fault us)
+first_fault (u ∷ us) = option_or (fault_of u.means u.spot) (first_fault us)
 
 -- ---- the meaning of the units of a word or a value
 
