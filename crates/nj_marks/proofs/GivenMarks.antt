@@ -8,7 +8,8 @@ use Rattle.std.proofs.lemmas.List.Elements.{recursion_from_All, All-from_recursi
 use Rattle.std.proofs.lemmas.List.Splits.{slice_split-cons_yes, slice_split-cons_no, length-slice_split, join_with_byte-slice_split}
 use Rattle.std.proofs.lemmas.Slice.Eq.{bytes_eq-Decides}
 use Rattle.nj_marks.specs.Laws.{WrittenMarksAreGiven, GivenMarksAreWritten}
-use Rattle.nj_marks.specs.Marks.{mark_text, number_of, numbers_in, is_dot, given_mark}
+use Rattle.nj_marks.specs.Marks.{mark_text, number_of, numbers_in, given_mark}
+use Rattle.nj_marks.specs.Inside.Scanning.{is_dot}
 use Rattle.nj_marks.proofs.Numerals.{number-written, number-decimal, numeral-decimal, no_dot-decimal, not_start}
 use Rattle.nj_marks.proofs.Texts.{given_start, given_address}
 

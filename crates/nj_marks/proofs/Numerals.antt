@@ -9,8 +9,8 @@ use Rattle.std.proofs.lemmas.Str.Parse.{IsNumeralModel, numerals_by_value, tells
 use Rattle.std.proofs.lemmas.Fmt.{digits_decimal, digits_value-decimal, decimal-digits_value, decimal_nonempty, first_decimal}
 use Rattle.std.specs.List.{list_any}
 use Rattle.std.specs.Fmt.{digits}
-use Rattle.nj_marks.specs.Marks.{is_numeral, number_of, is_dot}
-use Rattle.nj_marks.specs.Inside.Scanning.{has_plain_front}
+use Rattle.nj_marks.specs.Marks.{is_numeral, number_of}
+use Rattle.nj_marks.specs.Inside.Scanning.{is_dot, has_plain_front}
 
 own : IsNumeralModel (λ ds. all_ascii_digits ds ≡ true) (digits_value 10)
 own = numerals_by_value (λ ds. all_ascii_digits ds ≡ true) tells_all_ascii_digits

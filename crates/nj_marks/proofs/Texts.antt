@@ -7,7 +7,8 @@ use Rattle.std.proofs.lemmas.List.{take_more}
 use Rattle.std.proofs.lemmas.List.Splits.{slice_split-cons_no, slice_split_first}
 use Rattle.std.specs.Prelude.{codes, decimal}
 use Rattle.std.specs.Str.{bytes_eq}
-use Rattle.nj_marks.specs.Marks.{is_dot, numbers_in, mark_text, given_mark}
+use Rattle.nj_marks.specs.Marks.{numbers_in, mark_text, given_mark}
+use Rattle.nj_marks.specs.Inside.Scanning.{is_dot}
 
 -- a text without a dot is one part
 pub parts-none : (xs : List ℕ) → position_or_len is_dot xs ≡ length xs → slice_split is_dot xs ≡ xs ∷ []

@@ -26,12 +26,9 @@ abbrev pub numbers_in : List (List ℕ) → Option (List ℕ)
 numbers_in [] = Some []
 numbers_in (part ∷ parts) = option_and_then (λ number. option_map (λ numbers. number ∷ numbers) (numbers_in parts)) (number_of part)
 
-abbrev pub is_dot : ℕ → Bool
-is_dot b = b == 46
-
 -- the numbers of the mark that a text gives, if it gives one
 unfoldable pub given_mark : List ℕ → Option (List ℕ)
-given_mark text = if bytes_eq text (codes "start") then Some [] else numbers_in (slice_split is_dot text)
+given_mark text = if bytes_eq text (codes "start") then Some [] else numbers_in (slice_split (λ b. b == 46) text)
 
 -- the text of the mark gives the mark
 abbrev pub ReadsBack : (mark : List ℕ) → Type 0

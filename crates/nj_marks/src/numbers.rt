@@ -3,9 +3,9 @@
 ghost use Rattle.std.specs.Prelude.{◌≡◌, ◌∷◌, ◌<◌, [], Some, IfOk, IfErr, IfSome, length};
 ghost use Rattle.std.specs.Option.{option_copied};
 ghost use Rattle.std.specs.List.{slice_split};
-ghost use Rattle.nj_marks.specs.Marks.{number_of, numbers_in, is_dot};
+ghost use Rattle.nj_marks.specs.Marks.{number_of, numbers_in};
 ghost use Rattle.nj_marks.specs.Reading.{IsReadFault};
-ghost use Rattle.nj_marks.specs.Inside.Scanning.{has_plain_front, parts_left};
+ghost use Rattle.nj_marks.specs.Inside.Scanning.{has_plain_front, is_dot, parts_left};
 
 use crate::fault::MarkFault;
 use std::alloc::Global;

@@ -1,13 +1,15 @@
 -- How the code reads a number. Nothing here has to be believed.
 use Rattle.std.specs.Prelude.{ℕ, ◌==◌, ◌&&◌, Bool, false, not, Option, Some, None, List, [], ◌∷◌}
 use Rattle.std.specs.List.{slice_split}
-use Rattle.nj_marks.specs.Marks.{is_dot}
 
 -- the bytes begin with neither a sign nor a leading zero
 abbrev pub has_plain_front : List ℕ → Bool
 has_plain_front [] = false
 has_plain_front (digit ∷ []) = not (digit == 43)
 has_plain_front (digit ∷ next ∷ digits) = not (digit == 43) && not (digit == 48)
+
+abbrev pub is_dot : ℕ → Bool
+is_dot b = b == 46
 
 -- the parts of what is left of a text
 abbrev pub parts_left : Option (List ℕ) → List (List ℕ)
