@@ -4,7 +4,6 @@ use Rattle.std.specs.Prelude.{⊤, codes}
 use Rattle.std.specs.Char.{encode_utf8}
 use Rattle.std.specs.Str.{chars, is_utf8}
 use Rattle.nj_text.specs.declared.spot.Spot.{Spot}
-use Rattle.nj_text.specs.Numbers.{value_of_digits}
 use Rattle.nj_manifest.specs.declared.fault.Wanted.TheVariants as wanted
 use Rattle.nj_manifest.proofs.StatementRows.{on_strings, at}
 use Rattle.nj_scope.specs.Readings.{Reading}
@@ -20,7 +19,7 @@ use Rattle.nj_graph.specs.Reading.{Whole, Refused, Lacking, ReadingText, stateme
 
 -- what a row unfolds to compute on its files
 unfoldable pub on_files : ⊤
-unfolding on_strings value_of_digits is_utf8 chars encode_utf8 bounds clean_path_of without_leftmost_pair edges_read variable_cycle_of parsed_in statements_read opened_in main_read
+unfolding on_strings is_utf8 chars encode_utf8 bounds clean_path_of without_leftmost_pair edges_read variable_cycle_of parsed_in statements_read opened_in main_read
 on_files = tt
 
 -- ---- what a row shows

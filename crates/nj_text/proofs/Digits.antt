@@ -1,38 +1,35 @@
 -- The number that is read digit by digit.
-use Rattle.std.proofs.Common.{◌≡◌, ℕ, suc, ◌+◌, ◌-◌, ◌*◌, ◌^◌, ◌<◌, ◌≤◌, min, Bool, true, false, not, ◌==◌, Option, Some, List, [], ◌∷◌, ◌++◌, length, take, drop, get_or, refl, sym, subst, ap, ◌∙◌, arith, length-append}
+use Rattle.std.proofs.Common.{◌≡◌, ℕ, suc, ◌+◌, ◌-◌, ◌*◌, ◌<◌, ◌≤◌, min, Bool, true, false, cond, not, ◌==◌, Option, Some, List, [], ◌∷◌, ◌++◌, length, take, drop, get_or, refl, sym, subst, ap, ◌∙◌, arith}
 use Rattle.std.specs.Prelude.{unwrap_or}
-use Rattle.std.specs.List.{take_while}
-use Rattle.std.proofs.Math.Nat.{pow-suc}
-use Rattle.std.proofs.Math.Numerals.{suc-eq-add-one}
+use Rattle.std.specs.List.{take_while, position_or_len, before_first, after_first}
+use Rattle.std.specs.Char.{digit_value}
+use Rattle.std.specs.Str.Parse.{digits_value}
 use Rattle.std.proofs.Math.Seq.{drop-cons}
 use Rattle.std.proofs.lemmas.List.{take_more, take-append-drop, take_all, append-nil}
 use Rattle.std.proofs.lemmas.Bool.Decides.{nat_tests}
+use Rattle.std.proofs.lemmas.Int.Digits.{digits_value_push}
+use Rattle.std.proofs.lemmas.Str.{digit_value_digit}
 use Rattle.nj_text.specs.Bytes.{is_digit}
-use Rattle.nj_text.specs.Numbers.{value_of_digits, greatest, number_of, leading_number_of, is_dot, before_dot, after_dot}
-use Rattle.nj_text.proofs.Lists.{AllIn, take_while-append, take_while-cons_yes, take_while-cons_no, drop_while-cons_yes, drop_while-cons_no}
+use Rattle.nj_text.specs.Numbers.{greatest, number_of, leading_number_of}
+use Rattle.nj_text.proofs.Lists.{AllIn, take_while-append, take_while-cons_yes, take_while-cons_no}
 
-weigh : (c n v d : ℕ) → c * 10 ^ (n + 1) + (v * 10 + d) ≡ (c * 10 ^ n + v) * 10 + d
-weigh c n v d =
-    let tenfold : 10 ^ (n + 1) ≡ 10 ^ n * 10 = ap (λ k. 10 ^ k) (sym (suc-eq-add-one n)) ∙ pow-suc 10 n in
-    rw tenfold (by_power (10 ^ n))
-  where
-    by_power : (p : ℕ) → c * (p * 10) + (v * 10 + d) ≡ (c * p + v) * 10 + d
-    by_power p = grind arith
-
--- a digit after: ten times the number, and the digit
-value_of_digits-push : (ds : List ℕ) (d : ℕ) → value_of_digits (ds ++ d ∷ []) ≡ value_of_digits ds * 10 + (d - 48)
-unfolding value_of_digits
-value_of_digits-push [] d = grind arith
-value_of_digits-push (c ∷ ds) d = rw (length-append ds (d ∷ []), value_of_digits-push ds d) (weigh (c - 48) (length ds) (value_of_digits ds) (d - 48))
+-- the value of a digit
+digit-is : (d : ℕ) → is_digit d ≡ true → digit_value d ≡ d - 48
+digit-is d h =
+    let low : 48 ≤ d = grind (arith, nat_tests, h) in
+    let high : d ≤ 57 = grind (arith, nat_tests, h) in
+    let value = digit_value_digit d (low, high) in
+    omega arith
 
 -- a number that was held at the greatest stays there
 held : (n d g : ℕ) → min (min n g * 10 + d) g ≡ min (n * 10 + d) g
 held n d g = omega arith
 
-pub number_of-push : (ds : List ℕ) (d : ℕ) → number_of (ds ++ d ∷ []) ≡ Some (min (unwrap_or (number_of ds) 0 * 10 + (d - 48)) greatest)
-unfolding value_of_digits
-number_of-push [] d = ap (λ n. Some (min n greatest)) (value_of_digits-push [] d)
-number_of-push (c ∷ ds) d = ap (λ n. Some (min n greatest)) (value_of_digits-push (c ∷ ds) d) ∙ ap Some (sym (held (value_of_digits (c ∷ ds)) (d - 48) greatest))
+-- a digit after: ten times the number, and the digit
+pub number_of-push : (ds : List ℕ) (d : ℕ) → is_digit d ≡ true → number_of (ds ++ d ∷ []) ≡ Some (min (unwrap_or (number_of ds) 0 * 10 + (d - 48)) greatest)
+number_of-push [] d h = ap (λ n. Some (min (0 * 10 + n) greatest)) (digit-is d h)
+number_of-push (c ∷ ds) d h =
+    ap (λ n. Some (min n greatest)) (digits_value_push 10 (c ∷ ds) d ∙ ap (λ n. digits_value 10 (c ∷ ds) * 10 + n) (digit-is d h)) ∙ ap Some (sym (held (digits_value 10 (c ∷ ds)) (d - 48) greatest))
 
 -- ---- the loop over the digits
 
@@ -54,7 +51,7 @@ pub read-digit : (text : List ℕ) (i : ℕ) (before : Option ℕ) (after : ℕ)
 read-digit text i before after h read e a =
     let more : take (i + 1) text ≡ take i text ++ get_or text i 0 ∷ [] = take_more text i 0 h in
     let all = AllIn-push is_digit (take i text) (get_or text i 0) read.0 e in
-    let number = ap Some a ∙ ap (λ (n : Option ℕ). Some (min (unwrap_or n 0 * 10 + (get_or text i 0 - 48)) greatest)) read.1 ∙ sym (number_of-push (take i text) (get_or text i 0)) in
+    let number = ap Some a ∙ ap (λ (n : Option ℕ). Some (min (unwrap_or n 0 * 10 + (get_or text i 0 - 48)) greatest)) read.1 ∙ sym (number_of-push (take i text) (get_or text i 0) e) in
     rw more (all, number)
 
 -- a byte that is not a digit ends the number
@@ -73,12 +70,24 @@ read-all text i number h read =
 
 -- ---- the first `.`
 
+abbrev is_dot : ℕ → Bool
+is_dot b = b == 46
+
+abbrev before_dot : List ℕ → List ℕ
+before_dot text = before_first is_dot text
+
+abbrev pub after_dot : List ℕ → List ℕ
+after_dot text = after_first is_dot text
+
 -- a byte that is not `.` comes before it
 pub after_dot-other : (b : ℕ) (text : List ℕ) → (b == 46) ≡ false → after_dot (b ∷ text) ≡ after_dot text
-after_dot-other b text e = ap (drop 1) (drop_while-cons_yes (λ b. not (is_dot b)) b text (ap not e))
+after_dot-other b text e =
+    let n = position_or_len is_dot text in
+    let more : 1 + n + 1 ≡ suc (n + 1) = omega arith in
+    ap (λ t. drop (cond (not t) (1 + n) 0 + 1) (b ∷ text)) e ∙ ap (λ k. drop k (b ∷ text)) more
 
 pub after_dot-dot : (b : ℕ) (text : List ℕ) → (b == 46) ≡ true → after_dot (b ∷ text) ≡ text
-after_dot-dot b text e = ap (drop 1) (drop_while-cons_no (λ b. not (is_dot b)) b text (ap not e))
+after_dot-dot b text e = ap (λ t. drop (cond (not t) (1 + position_or_len is_dot text) 0 + 1) (b ∷ text)) e
 
 -- a `.` is not a digit
 no_dot : (b : ℕ) → is_digit b ≡ true → not (is_dot b) ≡ true

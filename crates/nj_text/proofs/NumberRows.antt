@@ -1,28 +1,23 @@
 -- Worked rows of numbers and versions, computed on the definitions.
 use Rattle.std.proofs.Common.{◌≡◌, Some, None, [], refl}
 use Rattle.std.specs.Prelude.{codes}
-use Rattle.nj_text.specs.Numbers.{value_of_digits, leading_number_of, version_pair_of}
+use Rattle.nj_text.specs.Numbers.{leading_number_of, version_pair_of}
 
 -- ---- numbers
 
 digits_alone : leading_number_of (codes "451") ≡ Some 451
-unfolding value_of_digits
 digits_alone = refl
 
 digits_in_front : leading_number_of (codes "2x") ≡ Some 2
-unfolding value_of_digits
 digits_in_front = refl
 
 zeros_in_front : leading_number_of (codes "007") ≡ Some 7
-unfolding value_of_digits
 zeros_in_front = refl
 
 zero : leading_number_of (codes "0") ≡ Some 0
-unfolding value_of_digits
 zero = refl
 
 digits_after_others : leading_number_of (codes "12 34") ≡ Some 12
-unfolding value_of_digits
 digits_after_others = refl
 
 no_text : leading_number_of [] ≡ None
@@ -45,70 +40,54 @@ beside_the_digits : leading_number_of (codes "/1") ≡ None
 beside_the_digits = refl
 
 beside_the_digits_above : leading_number_of (codes "9:") ≡ Some 9
-unfolding value_of_digits
 beside_the_digits_above = refl
 
 below_the_greatest : leading_number_of (codes "18446744073709551614") ≡ Some 18446744073709551614
-unfolding value_of_digits
 below_the_greatest = refl
 
 the_greatest : leading_number_of (codes "18446744073709551615") ≡ Some 18446744073709551615
-unfolding value_of_digits
 the_greatest = refl
 
 above_the_greatest : leading_number_of (codes "18446744073709551616") ≡ Some 18446744073709551615
-unfolding value_of_digits
 above_the_greatest = refl
 
 far_above_the_greatest : leading_number_of (codes "100000000000000000000000000007") ≡ Some 18446744073709551615
-unfolding value_of_digits
 far_above_the_greatest = refl
 
 -- ---- versions
 
 three_parts : version_pair_of (codes "1.8.2") ≡ (1, 8)
-unfolding value_of_digits
 three_parts = refl
 
 two_parts : version_pair_of (codes "1.11") ≡ (1, 11)
-unfolding value_of_digits
 two_parts = refl
 
 one_part : version_pair_of (codes "1") ≡ (1, 0)
-unfolding value_of_digits
 one_part = refl
 
 nothing_after_the_dot : version_pair_of (codes "1.") ≡ (1, 0)
-unfolding value_of_digits
 nothing_after_the_dot = refl
 
 nothing_before_the_dot : version_pair_of (codes ".5") ≡ (0, 5)
-unfolding value_of_digits
 nothing_before_the_dot = refl
 
 two_dots_at_once : version_pair_of (codes "1..5") ≡ (1, 0)
-unfolding value_of_digits
 two_dots_at_once = refl
 
 letter_before_the_dot : version_pair_of (codes "x.5") ≡ (0, 5)
-unfolding value_of_digits
 letter_before_the_dot = refl
 
 digits_and_letters : version_pair_of (codes "1rc.5git") ≡ (1, 5)
-unfolding value_of_digits
 digits_and_letters = refl
 
 space_in_front : version_pair_of (codes " 1.5") ≡ (0, 5)
-unfolding value_of_digits
 space_in_front = refl
 
 space_after_the_dot : version_pair_of (codes "1. 5") ≡ (1, 0)
-unfolding value_of_digits
 space_after_the_dot = refl
 
 no_version : version_pair_of [] ≡ (0, 0)
 no_version = refl
 
 great_parts : version_pair_of (codes "18446744073709551616.18446744073709551617") ≡ (18446744073709551615, 18446744073709551615)
-unfolding value_of_digits
 great_parts = refl

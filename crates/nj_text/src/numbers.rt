@@ -1,8 +1,9 @@
 //! Numbers and versions in texts.
 
-ghost use Rattle.std.specs.Prelude.{◌≡◌, ◌+◌, ◌-◌, ◌*◌, true, min};
+ghost use Rattle.std.specs.Prelude.{◌≡◌, ◌+◌, ◌-◌, ◌*◌, ◌==◌, true, min};
+ghost use Rattle.std.specs.List.{after_first};
 ghost use Rattle.nj_text.specs.Bytes.{is_digit};
-ghost use Rattle.nj_text.specs.Numbers.{greatest, leading_number_of, after_dot, version_pair_of};
+ghost use Rattle.nj_text.specs.Numbers.{greatest, leading_number_of, version_pair_of};
 
 /// The number that the digits at the front of the text write, in base ten; `None` where the text
 /// does not begin with a digit. A number above 18446744073709551615 is reported as that one.
@@ -48,7 +49,7 @@ fn with_digit(number: u64, digit: u8) -> u64
 
 /// What follows the first `.`; nothing if there is none.
 fn after_dot(text: &[u8]) -> &[u8]
-    ensures { result.now ≡ after_dot text.now }
+    ensures { result.now ≡ after_first (λ b. b == 46) text.now }
 {
     let mut rest = text;
     'bytes: while let [byte, remainder @ ..] = rest {

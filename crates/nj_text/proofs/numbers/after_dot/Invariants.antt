@@ -1,5 +1,5 @@
 use Rattle.std.proofs.Common.{◌≡◌, length}
-use Rattle.nj_text.specs.Numbers.{after_dot}
+use Rattle.nj_text.proofs.Digits.{after_dot}
 use Rattle.nj_text.proofs.numbers.after_dot.Given as goal
 
 abbrev pub invariant-bytes : goal.invariant-bytes
