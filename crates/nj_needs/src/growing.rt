@@ -7,7 +7,7 @@ ghost use Rattle.nj_edges.specs.Files.{path_at, AreFiles};
 ghost use Rattle.nj_needs.specs.Growing.{grown_targets, RoundsAppend, GrownTargetsStay, GrownTargetsReachTheFollowed};
 
 use crate::frame::Frame;
-use crate::turns::Turns;
+use crate::looks::look_at;
 use crate::walk::top_edge;
 use nj_edges::{EdgeGraph, EdgeNo, FileNo};
 use std::alloc::{AllocError, Global};
@@ -33,7 +33,7 @@ pub fn grow_targets(
     let mut place = 0;
     let mut flags = vec![in alloc; false; graph.edge_count()]?;
     'turns: loop {
-        let found = Turns::new(graph, &files).look(top_edge(&path), place);
+        let found = look_at(graph, &files, top_edge(&path), place);
         let Some(maker) = found else {
             let Some(frame) = path.pop() else {
                 return Ok(files);

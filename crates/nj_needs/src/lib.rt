@@ -4,11 +4,11 @@
 mod frame;
 mod growing;
 mod laws;
+mod looks;
 mod needs;
 mod resuming;
 mod returned;
 mod saved;
-mod turns;
 mod walk;
 
 pub use growing::{grow_targets, growing_law};

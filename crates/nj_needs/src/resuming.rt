@@ -11,7 +11,7 @@ ghost use Rattle.nj_needs.specs.Needs.{AreWithin};
 ghost use Rattle.nj_needs.specs.Inside.Standing.{IsWalk, left_of, top_of};
 ghost use Rattle.nj_needs.specs.Walks.{rest_of};
 
-use crate::turns::Turns;
+use crate::needs::beginning::turns::Turns;
 use crate::walk::Walk;
 
 /// Whether each step of a mark leads to an edge. Allocates nothing, and takes a look for each

@@ -7,7 +7,7 @@ ghost use Rattle.nj_needs.specs.Inside.Standing.{IsWalk, TurnIs, top_of};
 ghost use Rattle.nj_needs.specs.Inside.Tops.{IsTop};
 
 use crate::frame::Frame;
-use crate::turns::Turns;
+use crate::needs::beginning::turns::Turns;
 use std::alloc::{AllocError, Global};
 
 /// Where a walk is: the open edges, the first that was opened first; the next place in the

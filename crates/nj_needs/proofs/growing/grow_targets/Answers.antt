@@ -6,14 +6,14 @@ use Rattle.nj_needs.specs.Inside.Tops.{IsTop}
 use Rattle.nj_needs.proofs.GrowingSteps.{comes, below, top-edge, len-flags, pass, pass-less, opened, open-less, ended, close-below, closed, close-less}
 use Rattle.nj_needs.proofs.growing.grow_targets.Goals as goal
 
-pub look-found-requires : goal.look-found-requires
-look-found-requires c =
+pub look_at-found-requires-clause-edge_in : goal.look_at-found-requires-clause-edge_in
+look_at-found-requires-clause-edge_in c =
     let g = c.args.graph.now in
     let ts = c.args.targets.now in
     let acyclic = c.edge_count.ensures.acyclic in
     let w = c.turns in
     let top : IsTop w.path.items c.top_edge.result = subst (λ p. IsTop p c.top_edge.result) c.deref-in-turns.ensures.value c.top_edge.ensures in
-    rw c.new.ensures.graph (top-edge g ts acyclic w.files.items w.path.items w.place w.flags.items w.invariant c.top_edge.result top)
+    top-edge g ts acyclic w.files.items w.path.items w.place w.flags.items w.invariant c.top_edge.result top
 
 pub returns-in_default-pop-clause-grown : goal.returns-in_default-pop-clause-grown
 returns-in_default-pop-clause-grown c =
@@ -21,10 +21,8 @@ returns-in_default-pop-clause-grown c =
     let ts = c.args.targets.now in
     let acyclic = c.edge_count.ensures.acyclic in
     let w = c.turns in
-    let graph : c.new.result.graph.now ≡ g = rw c.new.ensures.graph refl in
-    let list : c.new.result.targets.now ≡ w.files.items = rw c.new.ensures.targets c.deref.ensures.value in
     let past : slice_get (top_of g w.files.items w.path.items) w.place ≡ None =
-    comes c.new.result.graph.now g c.new.result.targets.now w.files.items c.deref-in-turns.result.now w.path.items c.top_edge.result (None) w.place graph list
+    comes g g c.deref.result.now w.files.items c.deref-in-turns.result.now w.path.items c.top_edge.result (None) w.place refl c.deref.ensures.value
     c.deref-in-turns.ensures.value c.top_edge.ensures c.in_default.ensures.found in
     let same : w.path.items ≡ c.pop.new.self.items = c.in_default-pop.ensures.items ∙ append-nil c.pop.new.self.items in
     let empty : w.path.items ≡ [] = same ∙ nil_from_length c.pop.new.self.items (omega (arith, c.in_default-pop.ensures.cases)) in
@@ -36,10 +34,8 @@ index_mut-requires c =
     let ts = c.args.targets.now in
     let acyclic = c.edge_count.ensures.acyclic in
     let w = c.turns in
-    let graph : c.new.result.graph.now ≡ g = rw c.new.ensures.graph refl in
-    let list : c.new.result.targets.now ≡ w.files.items = rw c.new.ensures.targets c.deref.ensures.value in
     let past : slice_get (top_of g w.files.items w.path.items) w.place ≡ None =
-    comes c.new.result.graph.now g c.new.result.targets.now w.files.items c.deref-in-turns.result.now w.path.items c.top_edge.result (None) w.place graph list
+    comes g g c.deref.result.now w.files.items c.deref-in-turns.result.now w.path.items c.top_edge.result (None) w.place refl c.deref.ensures.value
     c.deref-in-turns.ensures.value c.top_edge.ensures c.in_default.ensures.found in
     omega (arith, close-below g ts acyclic w.files.items w.path.items w.place w.flags.items w.invariant c.in-Some-pop.frame c.pop.new.self.items c.in-Some-pop.ensures.items past, len-flags g ts acyclic w.files.items w.path.items w.place w.flags.items w.invariant)
 
@@ -49,10 +45,8 @@ add_validations-requires c =
     let ts = c.args.targets.now in
     let acyclic = c.edge_count.ensures.acyclic in
     let w = c.turns in
-    let graph : c.new.result.graph.now ≡ g = rw c.new.ensures.graph refl in
-    let list : c.new.result.targets.now ≡ w.files.items = rw c.new.ensures.targets c.deref.ensures.value in
     let past : slice_get (top_of g w.files.items w.path.items) w.place ≡ None =
-    comes c.new.result.graph.now g c.new.result.targets.now w.files.items c.deref-in-turns.result.now w.path.items c.top_edge.result (None) w.place graph list
+    comes g g c.deref.result.now w.files.items c.deref-in-turns.result.now w.path.items c.top_edge.result (None) w.place refl c.deref.ensures.value
     c.deref-in-turns.ensures.value c.top_edge.ensures c.in_default.ensures.found in
     close-below g ts acyclic w.files.items w.path.items w.place w.flags.items w.invariant c.in-Some-pop.frame c.pop.new.self.items c.in-Some-pop.ensures.items past
 
@@ -62,10 +56,8 @@ turns-smaller-in_default c =
     let ts = c.args.targets.now in
     let acyclic = c.edge_count.ensures.acyclic in
     let w = c.turns in
-    let graph : c.new.result.graph.now ≡ g = rw c.new.ensures.graph refl in
-    let list : c.new.result.targets.now ≡ w.files.items = rw c.new.ensures.targets c.deref.ensures.value in
     let past : slice_get (top_of g w.files.items w.path.items) w.place ≡ None =
-    comes c.new.result.graph.now g c.new.result.targets.now w.files.items c.deref-in-turns.result.now w.path.items c.top_edge.result (None) w.place graph list
+    comes g g c.deref.result.now w.files.items c.deref-in-turns.result.now w.path.items c.top_edge.result (None) w.place refl c.deref.ensures.value
     c.deref-in-turns.ensures.value c.top_edge.ensures c.in_default.ensures.found in
     close-less g ts acyclic w.files.items w.path.items w.place w.flags.items w.invariant c.in-Some-pop.frame c.pop.new.self.items c.in-Some-pop.ensures.items past
 
@@ -75,10 +67,8 @@ turns-preserved-in_default c =
     let ts = c.args.targets.now in
     let acyclic = c.edge_count.ensures.acyclic in
     let w = c.turns in
-    let graph : c.new.result.graph.now ≡ g = rw c.new.ensures.graph refl in
-    let list : c.new.result.targets.now ≡ w.files.items = rw c.new.ensures.targets c.deref.ensures.value in
     let past : slice_get (top_of g w.files.items w.path.items) w.place ≡ None =
-    comes c.new.result.graph.now g c.new.result.targets.now w.files.items c.deref-in-turns.result.now w.path.items c.top_edge.result (None) w.place graph list
+    comes g g c.deref.result.now w.files.items c.deref-in-turns.result.now w.path.items c.top_edge.result (None) w.place refl c.deref.ensures.value
     c.deref-in-turns.ensures.value c.top_edge.ensures c.in_default.ensures.found in
     rw c.in_ok-add_validations.ensures.1 (closed g ts acyclic w.files.items w.path.items w.place w.flags.items w.invariant c.in-Some-pop.frame c.pop.new.self.items c.in-Some-pop.ensures.items past c.in_ok-add_validations.ensures.0 c.in_ok-add_validations.ensures.2)
 
@@ -88,10 +78,8 @@ undone-requires c =
     let ts = c.args.targets.now in
     let acyclic = c.edge_count.ensures.acyclic in
     let w = c.turns in
-    let graph : c.new.result.graph.now ≡ g = rw c.new.ensures.graph refl in
-    let list : c.new.result.targets.now ≡ w.files.items = rw c.new.ensures.targets c.deref.ensures.value in
     let at : slice_get (top_of g w.files.items w.path.items) w.place ≡ Some c.in-Some.maker =
-    comes c.new.result.graph.now g c.new.result.targets.now w.files.items c.deref-in-turns.result.now w.path.items c.top_edge.result (Some c.in-Some.maker) w.place graph list
+    comes g g c.deref.result.now w.files.items c.deref-in-turns.result.now w.path.items c.top_edge.result (Some c.in-Some.maker) w.place refl c.deref.ensures.value
     c.deref-in-turns.ensures.value c.top_edge.ensures c.in-Some.ensures.found in
     λ x is.
     let low = below g ts acyclic w.files.items w.path.items w.place w.flags.items w.invariant x (at ∙ ap Some is) in
@@ -103,10 +91,8 @@ turns-smaller-in-Some-undone c =
     let ts = c.args.targets.now in
     let acyclic = c.edge_count.ensures.acyclic in
     let w = c.turns in
-    let graph : c.new.result.graph.now ≡ g = rw c.new.ensures.graph refl in
-    let list : c.new.result.targets.now ≡ w.files.items = rw c.new.ensures.targets c.deref.ensures.value in
     let at : slice_get (top_of g w.files.items w.path.items) w.place ≡ Some c.in-Some.maker =
-    comes c.new.result.graph.now g c.new.result.targets.now w.files.items c.deref-in-turns.result.now w.path.items c.top_edge.result (Some c.in-Some.maker) w.place graph list
+    comes g g c.deref.result.now w.files.items c.deref-in-turns.result.now w.path.items c.top_edge.result (Some c.in-Some.maker) w.place refl c.deref.ensures.value
     c.deref-in-turns.ensures.value c.top_edge.ensures c.in-Some.ensures.found in
     let e = c.in-Some-undone.edge in
     let left = c.in-Some-undone.ensures.left in
@@ -119,10 +105,8 @@ turns-preserved-in-Some-undone c =
     let ts = c.args.targets.now in
     let acyclic = c.edge_count.ensures.acyclic in
     let w = c.turns in
-    let graph : c.new.result.graph.now ≡ g = rw c.new.ensures.graph refl in
-    let list : c.new.result.targets.now ≡ w.files.items = rw c.new.ensures.targets c.deref.ensures.value in
     let at : slice_get (top_of g w.files.items w.path.items) w.place ≡ Some c.in-Some.maker =
-    comes c.new.result.graph.now g c.new.result.targets.now w.files.items c.deref-in-turns.result.now w.path.items c.top_edge.result (Some c.in-Some.maker) w.place graph list
+    comes g g c.deref.result.now w.files.items c.deref-in-turns.result.now w.path.items c.top_edge.result (Some c.in-Some.maker) w.place refl c.deref.ensures.value
     c.deref-in-turns.ensures.value c.top_edge.ensures c.in-Some.ensures.found in
     let e = c.in-Some-undone.edge in
     let left = c.in-Some-undone.ensures.left in
@@ -135,10 +119,8 @@ turns-smaller c =
     let ts = c.args.targets.now in
     let acyclic = c.edge_count.ensures.acyclic in
     let w = c.turns in
-    let graph : c.new.result.graph.now ≡ g = rw c.new.ensures.graph refl in
-    let list : c.new.result.targets.now ≡ w.files.items = rw c.new.ensures.targets c.deref.ensures.value in
     let at : slice_get (top_of g w.files.items w.path.items) w.place ≡ Some c.in-Some.maker =
-    comes c.new.result.graph.now g c.new.result.targets.now w.files.items c.deref-in-turns.result.now w.path.items c.top_edge.result (Some c.in-Some.maker) w.place graph list
+    comes g g c.deref.result.now w.files.items c.deref-in-turns.result.now w.path.items c.top_edge.result (Some c.in-Some.maker) w.place refl c.deref.ensures.value
     c.deref-in-turns.ensures.value c.top_edge.ensures c.in-Some.ensures.found in
     let flagged : (m : ℕ) → c.in-Some.maker ≡ Some m → get_or w.flags.items m false ≡ true =
     λ m is. ap (λ (fs : List Bool). get_or fs m false) (sym c.deref-in-turns-2.ensures.value) ∙ c.in-None.ensures.done m is in
@@ -150,10 +132,8 @@ turns-preserved c =
     let ts = c.args.targets.now in
     let acyclic = c.edge_count.ensures.acyclic in
     let w = c.turns in
-    let graph : c.new.result.graph.now ≡ g = rw c.new.ensures.graph refl in
-    let list : c.new.result.targets.now ≡ w.files.items = rw c.new.ensures.targets c.deref.ensures.value in
     let at : slice_get (top_of g w.files.items w.path.items) w.place ≡ Some c.in-Some.maker =
-    comes c.new.result.graph.now g c.new.result.targets.now w.files.items c.deref-in-turns.result.now w.path.items c.top_edge.result (Some c.in-Some.maker) w.place graph list
+    comes g g c.deref.result.now w.files.items c.deref-in-turns.result.now w.path.items c.top_edge.result (Some c.in-Some.maker) w.place refl c.deref.ensures.value
     c.deref-in-turns.ensures.value c.top_edge.ensures c.in-Some.ensures.found in
     let flagged : (m : ℕ) → c.in-Some.maker ≡ Some m → get_or w.flags.items m false ≡ true =
     λ m is. ap (λ (fs : List Bool). get_or fs m false) (sym c.deref-in-turns-2.ensures.value) ∙ c.in-None.ensures.done m is in

@@ -10,7 +10,7 @@ use Rattle.nj_needs.specs.Graphs.{makers_of, count_of, row_of}
 use Rattle.nj_needs.specs.Inside.Tops.{row_in}
 use Rattle.nj_needs.specs.Marks.{is_valid}
 use Rattle.nj_needs.specs.Needs.{AreWithin}
-use Rattle.nj_needs.specs.declared.turns.Turns.{Turns}
+use Rattle.nj_needs.specs.declared.needs.beginning.turns.Turns.{Turns}
 use Rattle.nj_needs.proofs.Members.{Among, Among-get, Contains-from_Among}
 use Rattle.nj_needs.proofs.ResumeLemmas.{valid-none, valid-source, valid-maker}
 use Rattle.nj_needs.proofs.resuming.leads.Goals as goal

@@ -1,7 +1,7 @@
 use Rattle.std.proofs.Common.{◌≡◌, [], refl, ap, ◌∙◌}
 use Rattle.nj_needs.specs.Inside.Standing.{left_of}
 use Rattle.nj_needs.specs.Walks.{commands_of}
-use Rattle.nj_needs.specs.declared.turns.Turns.{Turns}
+use Rattle.nj_needs.specs.declared.needs.beginning.turns.Turns.{Turns}
 use Rattle.nj_needs.specs.declared.walk.Walk.{Walk}
 use Rattle.nj_needs.proofs.Striking.{without-none}
 use Rattle.nj_needs.proofs.needs.Needs.new.Goals as goal

@@ -3,7 +3,7 @@ use Rattle.nj_cycles.specs.Cycles.{IsAcyclic}
 use Rattle.nj_needs.specs.Graphs.{makers_of, count_of, row_of}
 use Rattle.nj_needs.specs.Marks.{is_valid}
 use Rattle.nj_needs.specs.Needs.{AreWithin}
-use Rattle.nj_needs.specs.declared.turns.Turns.{Turns}
+use Rattle.nj_needs.specs.declared.needs.beginning.turns.Turns.{Turns}
 use Rattle.nj_needs.proofs.Members.{Contains-from_Among}
 use Rattle.nj_needs.proofs.ResumeLemmas.{valid-short}
 use Rattle.nj_needs.proofs.Walking.{Below-targets}

@@ -3,12 +3,12 @@ use Rattle.std.specs.Prelude.{slice_get}
 use Rattle.std.proofs.lemmas.Bool.{ltb-true}
 use Rattle.nj_needs.specs.Inside.Tops.{row_in}
 use Rattle.nj_needs.proofs.Bridges.{row-at}
-use Rattle.nj_needs.proofs.turns.Turns.maker_at.Goals as goal
+use Rattle.nj_needs.proofs.looks.maker_at.Goals as goal
 
 pub returns-in_ok-file-in-None-clause-maker : goal.returns-in_ok-file-in-None-clause-maker
 returns-in_ok-file-in-None-clause-maker c =
-    let g = c.args.self.now.graph.now in
-    let targets = c.args.self.now.targets.now in
+    let g = c.args.graph.now in
+    let targets = c.args.targets.now in
     let file = c.in_ok-file-in-None.field-0.now in
     let found = c.in_ok-file-in-None.ensures.lookup in
     ap Some c.maker.ensures.maker ∙ sym (row-at g targets c.args.place file (ltb-true c.args.place (length targets) (sym found.0)) found.1)

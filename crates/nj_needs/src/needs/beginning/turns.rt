@@ -1,14 +1,17 @@
 //! The walk's only way to the graph. Each look at a place of a row, and each closing of an edge, is
 //! one turn, and is counted.
+//!
+//! The fields are private, and the constructor is visible only in the module above, where a walk
+//! begins. So whoever is handed a `Turns` takes turns by it alone, and no count can be dropped.
 
-ghost use Rattle.std.specs.Prelude.{◌≡◌, ◌+◌, ◌^◌, ◌<◌, length, true, All, IfSome, is_some, option_map, slice_get, slice_set, if◌then◌else◌};
+ghost use Rattle.std.specs.Prelude.{◌≡◌, ◌+◌, ◌^◌, ◌<◌, length, true, All, IfSome, is_some, slice_get, slice_set, if◌then◌else◌};
 ghost use Rattle.std.specs.Option.{ForSome};
 ghost use Rattle.nj_cycles.specs.Cycles.{IsAcyclic};
 ghost use Rattle.nj_needs.specs.Graphs.{makers_of, count_of, is_phony, row_of};
 ghost use Rattle.nj_needs.specs.Inside.Tops.{counted, row_in};
 ghost use Rattle.nj_needs.specs.Needs.{AreWithin};
-ghost use Rattle.nj_needs.specs.Walks.{number_of};
 
+use crate::looks::look_at;
 use nj_edges::{EdgeGraph, EdgeNo, FileNo};
 
 /// The graph and the targets, and how many turns were taken. The count stays at the greatest `u64`.
@@ -22,7 +25,7 @@ pub(crate) struct Turns<'g> {
 
 impl<'g> Turns<'g> {
     /// No turn was taken yet.
-    pub fn new(graph: &'g EdgeGraph, targets: &'g [FileNo]) -> Turns<'g>
+    pub(super) fn new(graph: &'g EdgeGraph, targets: &'g [FileNo]) -> Turns<'g>
         requires { All (λ f. f.0 < length graph.now.files) targets.now }
         ensures graph { result.graph ≡ graph.entry }
         ensures targets { result.targets ≡ targets.entry }
@@ -57,25 +60,9 @@ impl<'g> Turns<'g> {
         ensures turn { self.new.taken
             ≡ (if is_some result then counted self.old.taken else self.old.taken) }
     {
-        let maker = self.maker_at(edge, place)?;
+        let maker = look_at(self.graph, self.targets, edge, place)?;
         self.taken = self.taken.saturating_add(1);
-        Some(maker.map(|maker| maker.0))
-    }
-
-    // What makes the input there, or the target if there is no edge.
-    fn maker_at(&self, edge: Option<usize>, place: usize) -> Option<Option<EdgeNo>>
-        requires { ForSome edge (λ e. e < count_of self.now.graph.now) }
-        ensures maker { option_map number_of result
-            ≡ slice_get (row_in self.now.graph.now self.now.targets.now edge) place }
-        ensures fits { IfSome result (λ _. place + 1 < 2 ^ 64) }
-    {
-        match edge {
-            Some(edge) => self.graph.maker_at(EdgeNo(edge), place),
-            None => {
-                let file = *self.targets.get(place)?;
-                Some(self.graph.maker(file))
-            }
-        }
+        Some(maker)
     }
 
     /// Closes an edge: sets its flag. Returns whether it is phony.

@@ -1,0 +1,48 @@
+//! A look at a place of a row: of the inputs of an edge, or of the targets.
+
+ghost use Rattle.std.specs.Prelude.{◌≡◌, ◌+◌, ◌^◌, ◌<◌, length, All, IfSome, option_map, slice_get};
+ghost use Rattle.std.specs.Option.{ForSome};
+ghost use Rattle.nj_needs.specs.Graphs.{count_of};
+ghost use Rattle.nj_needs.specs.Inside.Tops.{row_in};
+ghost use Rattle.nj_needs.specs.Walks.{number_of};
+
+use nj_edges::{EdgeGraph, EdgeNo, FileNo};
+
+/// What makes the input at a place of an edge, or the target there if there is no edge. `None` past
+/// the end, and `Some(None)` at a source. It counts nothing: a walk looks by its `Turns`, which
+/// alone has its graph.
+pub(crate) fn look_at(
+    graph: &EdgeGraph,
+    targets: &[FileNo],
+    edge: Option<usize>,
+    place: usize,
+) -> Option<Option<usize>>
+    requires targets_in { All (λ f. f.0 < length graph.now.files) targets.now }
+    requires edge_in { ForSome edge (λ e. e < count_of graph.now) }
+    ensures found { result ≡ slice_get (row_in graph.now targets.now edge) place }
+    ensures fits { IfSome result (λ _. place + 1 < 2 ^ 64) }
+{
+    let maker = maker_at(graph, targets, edge, place)?;
+    Some(maker.map(|maker| maker.0))
+}
+
+fn maker_at(
+    graph: &EdgeGraph,
+    targets: &[FileNo],
+    edge: Option<usize>,
+    place: usize,
+) -> Option<Option<EdgeNo>>
+    requires targets_in { All (λ f. f.0 < length graph.now.files) targets.now }
+    requires edge_in { ForSome edge (λ e. e < count_of graph.now) }
+    ensures maker { option_map number_of result
+        ≡ slice_get (row_in graph.now targets.now edge) place }
+    ensures fits { IfSome result (λ _. place + 1 < 2 ^ 64) }
+{
+    match edge {
+        Some(edge) => graph.maker_at(EdgeNo(edge), place),
+        None => {
+            let file = *targets.get(place)?;
+            Some(graph.maker(file))
+        }
+    }
+}
