@@ -1,10 +1,12 @@
-/* sweep_memory.py preloads this. The allocation with the number FAIL_ALLOC, counted from 1, fails;
-   if FAIL_ALLOC_AFTER is set, so does every later one. When the first one fails, the file
-   FAIL_ALLOC_REPORT is created. The program calls only `malloc` and `realloc`; the other functions
-   are here in case that changes. */
+/* sweep_memory.py and smoke_memory.py preload this. The allocation with the number FAIL_ALLOC,
+   counted from 1, fails; if FAIL_ALLOC_AFTER is set, so does every later one. When the first one
+   fails, the file FAIL_ALLOC_REPORT is created. At the end the number of allocations, 0 if
+   FAIL_ALLOC is not set, is written to the file FAIL_ALLOC_COUNT. The program calls only `malloc`
+   and `realloc`; the other functions are here in case that changes. */
 #include <errno.h>
 #include <fcntl.h>
 #include <stddef.h>
+#include <stdio.h>
 #include <stdlib.h>
 #include <sys/syscall.h>
 #include <unistd.h>
@@ -18,13 +20,21 @@ extern void *__libc_memalign(size_t, size_t);
 static long count;
 static long first;
 
-/* This makes system calls itself, since `open` may belong to another preloaded library. */
-static void report(void) {
-    const char *name = getenv("FAIL_ALLOC_REPORT");
+/* Writes a text to the file that a variable names. This makes system calls itself, since `open` may
+   belong to another preloaded library. */
+static void write_to(const char *variable, const char *text, size_t length) {
+    const char *name = getenv(variable);
     long file = name ? syscall(SYS_openat, AT_FDCWD, name, O_CREAT | O_WRONLY, 0600) : -1;
     if (file >= 0) {
+        syscall(SYS_write, file, text, length);
         syscall(SYS_close, file);
     }
+}
+
+__attribute__((destructor)) static void write_count(void) {
+    char text[24];
+    int length = snprintf(text, sizeof text, "%ld\n", count);
+    write_to("FAIL_ALLOC_COUNT", text, (size_t)length);
 }
 
 static int fails(void) {
@@ -37,7 +47,7 @@ static int fails(void) {
     }
     count++;
     if (count == first) {
-        report();
+        write_to("FAIL_ALLOC_REPORT", "", 0);
     }
     if (count == first || (count > first && getenv("FAIL_ALLOC_AFTER"))) {
         errno = ENOMEM;
