@@ -88,9 +88,9 @@ test:
 # docs/ARCHITECTURE.md names every module, that each type with a private field has a model, that what
 # must be believed is apart from plumbing, that the code in README.md and docs/LIBRARY.md is the code of
 # library_example, that include/ninja_explain.h declares what nj_c exports, that the man page and the
-# completions have every tool and option, that the completions work, that a long walk has as many
-# allocations as a short one, and that names which collide under a known number cost no more than
-# others. The programs on the library are run too.
+# completions have every tool and option, that the completions work, that runs change no file, that a
+# long walk has as many allocations as a short one, and that names which collide under a known number
+# cost no more than others. The programs on the library are run too.
 smoke: $(BUILT) $(AFFECTED) $(DRAW) $(KEYS) $(AUDIT)
 	@status=0; \
 	python3 scripts/check_docs.py || status=1; \
@@ -103,6 +103,7 @@ smoke: $(BUILT) $(AFFECTED) $(DRAW) $(KEYS) $(AUDIT)
 	python3 scripts/check_flood.py $(BUILT) || status=1; \
 	python3 scripts/smoke.py $(BUILT) || status=1; \
 	python3 scripts/smoke_memory.py $(BUILT) || status=1; \
+	python3 scripts/smoke_system.py $(BUILT) || status=1; \
 	python3 scripts/smoke_reach.py $(AFFECTED) $(DRAW) || status=1; \
 	python3 scripts/smoke_keys.py $(BUILT) $(KEYS) || status=1; \
 	python3 scripts/smoke_audit.py $(AUDIT) $(BUILT) || status=1; \
