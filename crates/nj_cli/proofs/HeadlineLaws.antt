@@ -26,7 +26,8 @@ use Rattle.nj_args.specs.RunMarks.{run_mark_text}
 use Rattle.nj_args.proofs.RunMarks.{run-mark_reads_back}
 use Rattle.nj_args.specs.declared.faults.UsageFault.TheVariants.{BadMark}
 use Rattle.nj_tools.specs.Compdb.{unheld_edge}
-use Rattle.nj_tools.specs.CommandStrings.{command_line, command_lines, written}
+use Rattle.nj_tools.specs.CommandStrings.{command_lines, written}
+use Rattle.nj_tools.specs.Inside.Commands.{command_line}
 use Rattle.nj_cli.specs.Answers.{leads, commands_left, IsMarkOf, commands_text, output_of, Ending, finished, stopped, faulty, out_of_range, PageEnds, EndsFrom, CommandsEnd, TargetsEnd, CompdbEnds, EndsWith}
 use Rattle.nj_cli.specs.Headline.{AreNeeded, WritesTheNeeded, IsRun, ArePageStrings, PageStringsJoin, StoppedRunsContinue, OneEnding}
 use Rattle.nj_cli.specs.Headline.ArePageStrings.{no_runs, finishes, stops}

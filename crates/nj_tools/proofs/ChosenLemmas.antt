@@ -9,9 +9,10 @@ use Rattle.std.specs.declared.cmp.Ordering.TheVariants.{Less, Equal, Greater}
 use Rattle.std.proofs.lemmas.Bool.{cases_lt}
 use Rattle.std.proofs.lemmas.Cmp.{nat_list_cmp_total}
 use Rattle.std.proofs.lemmas.List.Sorted.{searchable_from_sorted, list_any-IsPermutation, length_permutation, IsPermutation-map}
+use Rattle.nj_text.specs.Calls.{is_empty}
 use Rattle.nj_edges.specs.Edges.{is_among}
 use Rattle.nj_graph.specs.Graph.{is_before}
-use Rattle.nj_tools.specs.Compdb.{has_any, is_chosen}
+use Rattle.nj_tools.specs.Compdb.{is_chosen}
 
 module _ {X : Type 0} (bytes : X → List ℕ) where
   -- ---- a name among others
@@ -59,7 +60,7 @@ module _ {X : Type 0} (bytes : X → List ℕ) where
 
   -- ---- in another order
 
-  any-same : (xs ys : List (List ℕ)) → length xs ≡ length ys → has_any xs ≡ has_any ys
+  any-same : (xs ys : List (List ℕ)) → length xs ≡ length ys → is_empty xs ≡ is_empty ys
   any-same [] [] same = refl
   any-same [] (y ∷ ys) same = absurd (omega (arith, same))
   any-same (x ∷ xs) [] same = absurd (omega (arith, same))
@@ -70,5 +71,5 @@ module _ {X : Type 0} (bytes : X → List ℕ) where
       let names_moved = IsPermutation-map bytes xs ys moved in
       let any = any-same (map bytes xs) (map bytes ys) (sym (length_permutation (map bytes xs) (map bytes ys) names_moved)) in
       let among = list_any-IsPermutation (bytes_eq rule) (map bytes xs) (map bytes ys) names_moved in
-      ap (λ b. not b || is_among (map bytes ys) rule) (sym any) ∙ ap (λ b. not (has_any (map bytes xs)) || b) (sym among)
+      ap (λ b. b || is_among (map bytes ys) rule) (sym any) ∙ ap (λ b. is_empty (map bytes xs) || b) (sym among)
       ∙ ap (λ n. is_chosen n rule) all

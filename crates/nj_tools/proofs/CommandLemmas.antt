@@ -9,7 +9,8 @@ use Rattle.nj_needs.specs.Graphs.{row_of, makers_of, count_of}
 use Rattle.nj_needs.specs.Pages.{IsMarkAfter}
 use Rattle.nj_needs.proofs.PageLaws.{IsMarkAfter-push}
 use Rattle.nj_needs.specs.Walks.{WalkState, IsFirstPlaceOf}
-use Rattle.nj_tools.specs.CommandStrings.{command_line, command_lines, written, left_after}
+use Rattle.nj_tools.specs.CommandStrings.{command_lines, written, left_after}
+use Rattle.nj_tools.specs.Inside.Commands.{command_line}
 
 abbrev pub fewer : Option ℕ → Option ℕ
 fewer limit = option_map (λ count. count - 1) limit

@@ -7,6 +7,7 @@ use Rattle.std.proofs.lemmas.List.Concat.{flat_map-append}
 use Rattle.std.proofs.lemmas.List.Sums.{take_while-cons}
 use Rattle.std.proofs.lemmas.Result.{err_from_is_err_and}
 use Rattle.std.specs.Result.{IsErrAnd}
+use Rattle.nj_text.specs.Calls.{is_empty}
 use Rattle.nj_scope.specs.Readings.{IsPrefix}
 use Rattle.nj_scope.specs.ReadingList.{ReadStatement}
 use Rattle.nj_edges.specs.declared.files.FileNo.{FileNo}
@@ -22,7 +23,7 @@ use Rattle.nj_tools.specs.Sinks.{SinkState, Takes}
 use Rattle.nj_tools.specs.Inside.Blocks.{IsUnderway}
 use Rattle.nj_tools.specs.Texts.{FailsWithin, TakesFront, StopsWithin}
 use Rattle.nj_tools.specs.Lines.{line}
-use Rattle.nj_tools.specs.Compdb.{Compilation, has_any, is_chosen, has_object, listed_edges, compilation_of, first_path, is_text, json_string, object_text, objects_text, held_before, unheld_edge, end_text, compdb_text, NamesEdge, WritesCompdb}
+use Rattle.nj_tools.specs.Compdb.{Compilation, is_chosen, has_object, listed_edges, compilation_of, first_path, is_text, json_string, object_text, objects_text, held_before, unheld_edge, end_text, compdb_text, NamesEdge, WritesCompdb}
 use Rattle.nj_tools.specs.Inside.CompdbHeld.{in_json, held_compilation, object_of_strings}
 use Rattle.nj_tools.proofs.BlockLemmas.{TakesFront-whole, StopsWithin-whole, StopsWithin-more, IsUnderway-more, FailsWithin-unjoined, Takes-unjoined, puts-no_memory}
 use Rattle.nj_tools.proofs.SinkLemmas.{Takes-nil}
@@ -341,7 +342,7 @@ module _ (entries : List ReadStatement) (directory : List ℕ) (chosen rules : L
   listed-same : listed_edges entries chosen ≡ listed_edges entries rules
   unfolding listed_edges
   listed-same =
-      ap (λ (f : List ℕ → Bool). edges_from 0 (λ e. not e.paths.is_phony && has_any (inputs_of e.paths) && f (rule_name_of entries e)) (edges_read entries)) (λ i rule. same rule i)
+      ap (λ (f : List ℕ → Bool). edges_from 0 (λ e. not e.paths.is_phony && not (is_empty (inputs_of e.paths)) && f (rule_name_of entries e)) (edges_read entries)) (λ i rule. same rule i)
 
   unheld-same : unheld_edge entries chosen expand ≡ unheld_edge entries rules expand
   unheld-same = ap (λ ns. find (λ edge. not (is_text (compilation_of entries expand edge))) ns) listed-same

@@ -13,7 +13,8 @@ use Rattle.nj_edges.specs.Files.{path_at}
 use Rattle.nj_graph.specs.Graph.{GraphText, IsGraphOf, edges_of, files_of, rule_name_at}
 use Rattle.nj_graph.proofs.Stated.{graph-edges}
 use Rattle.nj_tools.specs.Lines.{line, lines_after}
-use Rattle.nj_tools.specs.Queries.{section, inputs_by_kind, validations_section, maker_text, outputs_of_all, validated_section, query_in, query_text, file_query}
+use Rattle.nj_tools.specs.Queries.{section, inputs_by_kind, maker_text, outputs_of_all, query_in, query_text, file_query}
+use Rattle.nj_tools.specs.Inside.QueriesHeld.{validations_section, validated_section}
 
 -- ---- files and edges
 
@@ -96,7 +97,7 @@ maker-none entries edges = refl
 pub maker-parts : (entries : List ReadStatement) (edges : List EdgePaths) (edge : ℕ) (name : List ℕ) (validations : List (List ℕ))
     → name ≡ rule_name_at entries edge → validations ≡ (edge_at edges edge).validations
     → line (codes "  input: " ++ name) ++ (inputs_by_kind (edge_at edges edge) ++ validations_section validations) ≡ maker_text entries edges (Some edge)
-unfolding maker_text
+unfolding maker_text validations_section
 maker-parts entries edges edge name validations named are =
     let inputs = inputs_by_kind (edge_at edges edge) in
     ap (λ n. line (codes "  input: " ++ n) ++ (inputs ++ validations_section validations)) named
@@ -112,7 +113,7 @@ pub file-parts : (entries : List ReadStatement) (g : GraphText) (file : FileNo) 
     → users ≡ users_of (edges_of g) (path_at (files_of g) file) → validation_users ≡ validation_users_of (edges_of g) (path_at (files_of g) file)
     → line (path ++ codes ":") ++ (maker_text entries (edges_of g) maker ++ (users_part (edges_of g) users ++ validated_section (edges_of g) validation_users))
     ≡ file_text entries g file
-unfolding query_in section
+unfolding query_in section validated_section
 file-parts entries g file path maker users validation_users is maker_is users_are validation_users_are =
     let edges = edges_of g in
     let at = path_at (files_of g) file in

@@ -4,7 +4,8 @@ use Rattle.std.specs.Prelude.{codes}
 use Rattle.nj_text.specs.Words.{Text, Name}
 use Rattle.nj_scope.specs.Rules.{RuleText, phony_rule}
 use Rattle.nj_edges.specs.Edges.{EdgePaths}
-use Rattle.nj_tools.specs.Queries.{section, inputs_by_kind, validations_section, validated_section}
+use Rattle.nj_tools.specs.Queries.{section, inputs_by_kind}
+use Rattle.nj_tools.specs.Inside.QueriesHeld.{validations_section, validated_section}
 use Rattle.nj_tools.specs.RuleLists.{rule_line}
 
 -- the bytes of lines

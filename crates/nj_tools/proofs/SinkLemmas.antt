@@ -1,26 +1,27 @@
 -- How what a sink took, one call after another, joins.
-use Rattle.std.proofs.Common.{◌≡◌, ◌≢◌, ℕ, zero, suc, ◌-◌, Bool, ◌||◌, List, [], ◌∷◌, ◌++◌, length, take, drop, Ok, refl, ap, ◌∙◌, arith, append_assoc, take-append-drop}
+use Rattle.std.proofs.Common.{◌≡◌, ◌≢◌, ℕ, zero, suc, ◌-◌, Bool, not, ◌||◌, List, [], ◌∷◌, ◌++◌, length, take, drop, Ok, refl, ap, ◌∙◌, arith, append_assoc, take-append-drop}
 use Rattle.std.proofs.lemmas.List.{take_rest}
 use Rattle.std.proofs.KnownBytes.{Appends-nil, Appends-trans}
+use Rattle.nj_text.specs.Calls.{is_empty}
 use Rattle.nj_tools.specs.Inside.Blocks.{IsUnderway}
-use Rattle.nj_tools.specs.Sinks.{SinkState, Takes, FailsAfter, Puts, has_bytes}
+use Rattle.nj_tools.specs.Sinks.{SinkState, Takes, FailsAfter, Puts}
 
 -- at first nothing was taken
 pub Takes-nil : (s : SinkState) → Takes s s []
 Takes-nil s = record { taken = Appends-nil s.taken; failures = refl; took_since_failure = refl }
 
 -- there are bytes in two parts, where there are in one of them
-has_bytes-append : (xs ys : List ℕ) (b : Bool) → (has_bytes ys || (has_bytes xs || b)) ≡ (has_bytes (xs ++ ys) || b)
-has_bytes-append [] ys b = refl
-has_bytes-append (x ∷ xs) [] b = refl
-has_bytes-append (x ∷ xs) (y ∷ ys) b = refl
+some_bytes-append : (xs ys : List ℕ) (b : Bool) → (not (is_empty ys) || (not (is_empty xs) || b)) ≡ (not (is_empty (xs ++ ys)) || b)
+some_bytes-append [] ys b = refl
+some_bytes-append (x ∷ xs) [] b = refl
+some_bytes-append (x ∷ xs) (y ∷ ys) b = refl
 
 pub Takes-trans : (a b c : SinkState) (xs ys : List ℕ) → Takes a b xs → Takes b c ys → Takes a c (xs ++ ys)
 Takes-trans a b c xs ys p q = record {
   taken = Appends-trans _ _ _ _ _ p.taken q.taken;
   failures = q.failures ∙ p.failures;
   took_since_failure =
-      q.took_since_failure ∙ ap (λ t. has_bytes ys || t) p.took_since_failure ∙ has_bytes-append xs ys _;
+      q.took_since_failure ∙ ap (λ t. not (is_empty ys) || t) p.took_since_failure ∙ some_bytes-append xs ys _;
 }
 
 -- a failure after bytes that were taken

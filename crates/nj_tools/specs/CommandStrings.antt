@@ -1,5 +1,5 @@
 -- What `commands` writes: for each edge its command, as a line.
-use Rattle.std.specs.Prelude.{◌≡◌, ◌≢◌, ℕ, not, Option, Some, None, List, [], ◌∷◌, ◌++◌, map, take, drop, filter, codes}
+use Rattle.std.specs.Prelude.{◌≡◌, ◌≢◌, ℕ, not, Option, Some, None, List, [], ◌∷◌, map, take, drop, filter, codes}
 use Rattle.std.specs.List.{flat_map}
 use Rattle.nj_scope.specs.ReadingList.{ReadStatement}
 use Rattle.nj_edges.specs.declared.files.FileNo.{FileNo}
@@ -12,14 +12,11 @@ use Rattle.nj_needs.specs.Order.{made_by, first_occurrences}
 use Rattle.nj_needs.specs.Pages.{IsMarkAfter}
 use Rattle.nj_needs.specs.Walks.{WalkState}
 use Rattle.nj_graph.specs.Graph.{late_text_of}
+use Rattle.nj_tools.specs.Lines.{line}
 
--- the command of the edge of a number, and a line end
-abbrev pub command_line : List ReadStatement → (number : ℕ) → List ℕ
-command_line entries number = late_text_of entries number (codes "command") ++ 10 ∷ []
-
--- the lines of edges, in their order; edges whose commands are the same have a line each
+-- the commands of edges, by number, in their order; edges whose commands are the same have a line each
 abbrev pub command_lines : List ReadStatement → (numbers : List ℕ) → List ℕ
-command_lines entries numbers = flat_map (command_line entries) numbers
+command_lines entries numbers = flat_map (λ number. line (late_text_of entries number (codes "command"))) numbers
 
 -- ---- the needed edges
 

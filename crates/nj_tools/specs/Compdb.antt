@@ -1,9 +1,10 @@
 -- What `compdb` writes: a compilation database, which is a list of objects in JSON.
-use Rattle.std.specs.Prelude.{◌≡◌, ℕ, ◌<◌, Bool, true, false, ◌&&◌, ◌||◌, not, if◌then◌else◌, Option, Some, None, unwrap_or, List, [], ◌∷◌, ◌++◌}
+use Rattle.std.specs.Prelude.{◌≡◌, ℕ, ◌<◌, Bool, ◌&&◌, ◌||◌, not, if◌then◌else◌, Option, Some, None, unwrap_or, List, [], ◌∷◌, ◌++◌}
 use Rattle.std.specs.Prelude.{map, find, take_while, flat_map, slice_get, codes, Result, Ok, Err}
 use Rattle.std.specs.Str.{is_utf8}
 use Rattle.serde_json.specs.Data.{string}
 use Rattle.serde_json.specs.Written.{compact_text}
+use Rattle.nj_text.specs.Calls.{is_empty}
 use Rattle.nj_scope.specs.ReadingList.{ReadStatement}
 use Rattle.nj_edges.specs.Edges.{edge_at, inputs_of, outputs_of, is_among, edges_from}
 use Rattle.nj_statements.specs.EdgeList.{EdgeText, edges_read, paths_of_edges}
@@ -17,17 +18,13 @@ use Rattle.nj_tools.specs.declared.fault.ToolFault.TheVariants.{TextNotUtf8, Wri
 
 -- ---- which edges
 
-abbrev pub has_any : List (List ℕ) → Bool
-has_any [] = false
-has_any (path ∷ paths) = true
-
 -- no rule is named, or this one is; a name that is given twice counts once
 abbrev pub is_chosen : (rules : List (List ℕ)) → (rule : List ℕ) → Bool
-is_chosen rules rule = not (has_any rules) || is_among rules rule
+is_chosen rules rule = is_empty rules || is_among rules rule
 
 -- an edge has an object if it has a command and an input, and its rule is chosen
 abbrev pub has_object : List ReadStatement → (rules : List (List ℕ)) → EdgeText → Bool
-has_object entries rules e = not e.paths.is_phony && has_any (inputs_of e.paths) && is_chosen rules (rule_name_of entries e)
+has_object entries rules e = not e.paths.is_phony && not (is_empty (inputs_of e.paths)) && is_chosen rules (rule_name_of entries e)
 
 -- the edges that have one, by number
 unfoldable pub listed_edges : List ReadStatement → (rules : List (List ℕ)) → List ℕ

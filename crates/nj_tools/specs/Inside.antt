@@ -1,6 +1,7 @@
 -- How the code meets the definitions beside this folder. No contract of a public call needs these.
 pub mod Blocks
 pub mod Collections
+pub mod Commands
 pub mod CompdbHeld
 pub mod MemorySinksHeld
 pub mod QueriesHeld

@@ -1,5 +1,6 @@
 -- What `query` writes of a file: what it is made of, and what is made of it.
-use Rattle.std.specs.Prelude.{ℕ, Option, Some, None, List, [], ◌∷◌, ◌++◌, flat_map, codes}
+use Rattle.std.specs.Prelude.{ℕ, if◌then◌else◌, Option, Some, None, List, [], ◌++◌, flat_map, codes}
+use Rattle.nj_text.specs.Calls.{is_empty}
 use Rattle.nj_scope.specs.ReadingList.{ReadStatement}
 use Rattle.nj_edges.specs.Edges.{EdgePaths, edge_at, outputs_of, maker_of, users_of, validation_users_of}
 use Rattle.nj_statements.specs.EdgeList.{edges_read, paths_of_edges}
@@ -17,33 +18,26 @@ inputs_by_kind e =
     ++ lines_after (codes "    | ") e.implicit_inputs
     ++ lines_after (codes "    || ") e.order_only_inputs
 
--- only where there are any
-unfoldable pub validations_section : (paths : List (List ℕ)) → List ℕ
-validations_section [] = []
-validations_section (path ∷ paths) = section (codes "  validations:") (path ∷ paths)
-
--- the edge that makes the file; a source has no such lines
+-- the edge that makes the file, with a section of its validations where there are any; a source has no such lines
 unfoldable pub maker_text : List ReadStatement → List EdgePaths → (maker : Option ℕ) → List ℕ
 maker_text entries edges None = []
 maker_text entries edges (Some edge) =
+    let e = edge_at edges edge in
     line (codes "  input: " ++ rule_name_at entries edge)
-    ++ inputs_by_kind (edge_at edges edge) ++ validations_section (edge_at edges edge).validations
+    ++ inputs_by_kind e ++ (if is_empty e.validations then [] else section (codes "  validations:") e.validations)
 
 -- the outputs of edges
 abbrev pub outputs_of_all : List EdgePaths → (numbers : List ℕ) → List (List ℕ)
 outputs_of_all edges numbers = flat_map (λ edge. outputs_of (edge_at edges edge)) numbers
 
--- only where an edge names the file as a validation
-unfoldable pub validated_section : List EdgePaths → (users : List ℕ) → List ℕ
-validated_section edges [] = []
-validated_section edges (user ∷ users) = section (codes "  validation for:") (outputs_of_all edges (user ∷ users))
-
+-- a section of validations only where an edge names the file as one
 unfoldable pub query_in : List ReadStatement → List EdgePaths → (path : List ℕ) → List ℕ
 query_in entries edges path =
+    let users = validation_users_of edges path in
     line (path ++ codes ":")
     ++ maker_text entries edges (maker_of edges path)
     ++ section (codes "  outputs:") (outputs_of_all edges (users_of edges path))
-    ++ validated_section edges (validation_users_of edges path)
+    ++ (if is_empty users then [] else section (codes "  validation for:") (outputs_of_all edges users))
 
 -- of one file
 abbrev pub file_query : List ReadStatement → (path : List ℕ) → List ℕ

@@ -1,6 +1,7 @@
 -- What is known of a sink, and what a sink and a whole write do to it.
-use Rattle.std.specs.Prelude.{◌≡◌, ◌≢◌, ℕ, zero, suc, ◌+◌, ◌-◌, ◌^◌, ◌≤◌, min, Bool, true, false, ◌||◌, List, [], ◌∷◌, ◌++◌, length, take, Option, Result, Ok, Err}
+use Rattle.std.specs.Prelude.{◌≡◌, ◌≢◌, ℕ, zero, suc, ◌+◌, ◌-◌, ◌^◌, ◌≤◌, min, Bool, false, not, ◌||◌, List, [], ◌∷◌, ◌++◌, length, take, Option, Result, Ok, Err}
 use Rattle.std.specs.Io.KnownBytes.{Appends}
+use Rattle.nj_text.specs.Calls.{is_empty}
 use Rattle.nj_tools.specs.declared.sinks.SinkFault.{SinkFault}
 
 -- what is known of a sink
@@ -12,11 +13,6 @@ pub record SinkState : Type 0 where
   -- whether it took a byte since it was made, or since it last failed
   pub took_since_failure : Bool
 
--- whether there are bytes
-abbrev pub has_bytes : List ℕ → Bool
-has_bytes [] = false
-has_bytes (byte ∷ bytes) = true
-
 -- one more failure, in a count that stays at its greatest value
 abbrev pub one_more : ℕ → ℕ
 one_more failures = min (failures + 1) (2 ^ 64 - 1)
@@ -25,7 +21,7 @@ one_more failures = min (failures + 1) (2 ^ 64 - 1)
 pub record Takes (old new : SinkState) (bytes : List ℕ) : Type 0 where
   pub taken : Appends old.taken new.taken bytes
   pub failures : new.failures ≡ old.failures
-  pub took_since_failure : new.took_since_failure ≡ (has_bytes bytes || old.took_since_failure)
+  pub took_since_failure : new.took_since_failure ≡ (not (is_empty bytes) || old.took_since_failure)
 
 -- the sink took these bytes, then failed once, and took nothing after that
 pub record FailsAfter (old new : SinkState) (bytes : List ℕ) : Type 0 where

@@ -6,8 +6,9 @@ ghost use Rattle.nj_graph.specs.Graph.{edges_of, files_of, IsGraphOf};
 ghost use Rattle.nj_tools.specs.Inside.Blocks.{PutsText};
 ghost use Rattle.nj_needs.specs.Order.{made_by};
 ghost use Rattle.nj_needs.specs.Walks.{number_of};
-ghost use Rattle.nj_tools.specs.CommandStrings.{command_line, command_lines, written, StopsAt, single, own_commands};
+ghost use Rattle.nj_tools.specs.CommandStrings.{command_lines, written, StopsAt, single, own_commands};
 ghost use Rattle.nj_tools.specs.Inside.Collections.{own_makers};
+ghost use Rattle.nj_tools.specs.Inside.Commands.{command_line};
 ghost use Rattle.nj_tools.specs.Inside.Seen.{AreSeen, new_commands};
 ghost use Rattle.nj_tools.specs.Texts.{WritesText};
 

@@ -13,11 +13,13 @@ ghost use Rattle.nj_tools.specs.Queries.{
   query_in,
   maker_text,
   inputs_by_kind,
-  validations_section,
-  validated_section,
   outputs_of_all,
 };
-ghost use Rattle.nj_tools.specs.Inside.QueriesHeld.{sign_of};
+ghost use Rattle.nj_tools.specs.Inside.QueriesHeld.{
+  sign_of,
+  validations_section,
+  validated_section,
+};
 ghost use Rattle.nj_tools.specs.Texts.{WritesText};
 
 use crate::fault::ToolFault;

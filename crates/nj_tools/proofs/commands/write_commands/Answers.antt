@@ -1,7 +1,8 @@
 use Rattle.std.proofs.Common.{◌≡◌, ◌≢◌, Some, [], ◌∷◌, ◌++◌, ap, subst, ◌∙◌, rules}
 use Rattle.nj_scope.specs.Readings.{IsPrefix}
 use Rattle.nj_tools.specs.declared.fault.ToolFault.TheVariants.{Write, OutOfMemory}
-use Rattle.nj_tools.specs.CommandStrings.{command_line, command_lines, written, left_after}
+use Rattle.nj_tools.specs.CommandStrings.{command_lines, written, left_after}
+use Rattle.nj_tools.specs.Inside.Commands.{command_line}
 use Rattle.nj_tools.proofs.BlockLemmas.{IsUnderway-more, FailsWithin-unjoined, FailsWithin-whole, Takes-unjoined, stops-at_line, stops-with}
 use Rattle.nj_tools.proofs.CommandLemmas.{fewer, written-nil, left-next, so_far-next, so_far-all, lines-last, lines-front, IsMarkAfter-next}
 use Rattle.nj_tools.proofs.commands.write_commands.Goals as goal

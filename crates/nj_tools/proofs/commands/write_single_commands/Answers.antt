@@ -2,7 +2,8 @@ use Rattle.std.proofs.Common.{◌+◌, [], ◌∷◌, length, take, drop, ap, su
 use Rattle.nj_scope.specs.Readings.{IsPrefix}
 use Rattle.nj_tools.specs.declared.fault.ToolFault.TheVariants.{Write}
 use Rattle.std.proofs.lemmas.List.{take_all, take_at, append-nil}
-use Rattle.nj_tools.specs.CommandStrings.{command_line, command_lines, own_commands}
+use Rattle.nj_tools.specs.CommandStrings.{command_lines, own_commands}
+use Rattle.nj_tools.specs.Inside.Commands.{command_line}
 use Rattle.nj_tools.specs.Inside.Collections.{own_makers}
 use Rattle.nj_tools.specs.Inside.Seen.{AreSeen}
 use Rattle.nj_tools.specs.Sinks.{Takes}

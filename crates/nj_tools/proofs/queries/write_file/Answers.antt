@@ -5,7 +5,8 @@ use Rattle.nj_edges.specs.Files.{path_at}
 use Rattle.nj_graph.specs.Graph.{edges_of, files_of}
 use Rattle.nj_tools.specs.Inside.Blocks.{PutsText}
 use Rattle.nj_tools.specs.Lines.{line, lines_after}
-use Rattle.nj_tools.specs.Queries.{maker_text, outputs_of_all, validated_section}
+use Rattle.nj_tools.specs.Queries.{maker_text, outputs_of_all}
+use Rattle.nj_tools.specs.Inside.QueriesHeld.{validated_section}
 use Rattle.nj_tools.proofs.BlockLemmas.{puts-then, puts-stop}
 use Rattle.nj_tools.proofs.SequenceLemmas.{stops-first}
 use Rattle.nj_tools.proofs.QueryLemmas.{number_of, users_part, file-parts}

@@ -6,7 +6,8 @@ use Rattle.nj_statements.proofs.LateLemmas.{paths-are}
 use Rattle.nj_graph.specs.Graph.{edges_of, files_of}
 use Rattle.nj_tools.specs.Inside.Blocks.{IsUnderway, PutsText}
 use Rattle.nj_tools.specs.Lines.{line}
-use Rattle.nj_tools.specs.Queries.{inputs_by_kind, maker_text, validations_section}
+use Rattle.nj_tools.specs.Queries.{inputs_by_kind, maker_text}
+use Rattle.nj_tools.specs.Inside.QueriesHeld.{validations_section}
 use Rattle.nj_tools.proofs.BlockLemmas.{puts-nothing, puts-then}
 use Rattle.nj_tools.proofs.SequenceLemmas.{stops-first}
 use Rattle.nj_tools.proofs.QueryLemmas.{number_of, maker-none, maker-parts}
