@@ -143,7 +143,7 @@ def doubling(words):
 def chosen_names(words):
     """Names that collide where the number of a run is known, beside others."""
     with tempfile.TemporaryDirectory() as folder:
-        chosen = flood.colliding_names(folder, 5_000)
+        chosen = flood.chosen_names(folder, 5_000)
         for table, collide, usual in flood.seconds([words.program, "-t", "rules"], folder, chosen, flood.LINES, words.rounds):
             yield [table, collide, usual, collide / usual]
 

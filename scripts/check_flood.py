@@ -3,8 +3,9 @@
 
 The program has to draw the number from which the hashes of a run start; no contract can state this.
 For each table of names the program reads two manifests (from bench/flood.py): one whose names
-collide if the number is 0, as in `HashKeys::default`, and one of other names. The least processor
-time of several runs counts. The first manifest may take at most four times as long as the second.
+collide if the number is 0, as in `HashKeys::default`, and one of other names. It reads two more for
+near paths, of which pairs collide more often than others. The least processor time of several runs
+counts. The first manifest may take at most four times as long as the second.
 
 Prints each table for which it takes longer. The status is 1 if there is one. Without `cc`, which is
 needed to find the names, nothing is checked.
@@ -29,10 +30,10 @@ MOST = 4
 def slow_tables(words, folder):
     """For each table the reason why it is too slow, or None. The words run a program that loads
     build.ninja in its working directory."""
-    chosen = flood.colliding_names(folder, NAMES, BITS)
+    chosen = flood.chosen_names(folder, NAMES, BITS)
     for table, seconds, usual in flood.seconds(words, folder, chosen, ROUNDS, TIMES):
         is_slow = seconds > MOST * usual
-        yield f"{table}: names that collide take {seconds:.3f} s, others {usual:.3f} s" if is_slow else None
+        yield f"{table}: chosen names take {seconds:.3f} s, others {usual:.3f} s" if is_slow else None
 
 
 def main():
