@@ -2,6 +2,7 @@
 use Rattle.std.proofs.Common.{◌≡◌, ℕ, suc, ◌+◌, ◌<◌, ◌≤◌, Bool, true, false, cond, ◌&&◌, Result, Ok, Err, List, [], ◌∷◌, ◌++◌, refl, sym, ap, subst, ◌∙◌, append_assoc, arith}
 use Rattle.std.proofs.lemmas.List.{append-nil}
 use Rattle.std.specs.Result.{IsErr, IsErrAnd}
+use Rattle.std.proofs.lemmas.Bool.{false≢true}
 use Rattle.nj_text.specs.declared.fault.UnitFault.{UnitFault}
 use Rattle.nj_text.specs.declared.fault.UnitFault.TheVariants as unit_fault
 use Rattle.nj_text.specs.declared.fault.LexFault.{LexFault}
@@ -11,8 +12,8 @@ use Rattle.nj_text.specs.declared.line_start.LineStart.TheVariants as start
 use Rattle.nj_text.specs.Bytes.{drop_while}
 use Rattle.nj_text.specs.Units.{TextUnit}
 use Rattle.nj_text.specs.Lines.{Line, with_units, lines_after, Kind, CommentLine, TabLine, BlankLine, IndentedLine, PlainLine, kind_of, is_space_unit, kind_after_spaces, begins_with_space}
-use Rattle.nj_text.specs.Calls as calls
-use Rattle.nj_text.specs.Calls.{State, Between, Inside, Failed, Answers, start_line_of, begun, begun_by, is_comment, is_empty, without_comments}
+use Rattle.nj_text.specs.Inside.States.{reply}
+use Rattle.nj_text.specs.Calls.{State, Between, Inside, Failed, Answers, start_line_of, begun, begun_by, is_comment, is_empty, without_comments, Reply}
 use Rattle.nj_manifest.specs.declared.block.Keys.{Keys}
 use Rattle.nj_manifest.specs.declared.fault.ParseFault.{ParseFault}
 use Rattle.nj_manifest.specs.declared.fault.ParseFault.TheVariants as fault
@@ -56,14 +57,11 @@ BeginsLine allowed limit whole s =
 
 -- What the start of a line tells about the block, and where the lexer is then. The limit is the weight of the lines
 -- that were left.
-abbrev pub Begins : Keys → (limit : ℕ) → Parse (List LineText) → Result LineStart UnitFault → State → Type 0
-Begins allowed limit whole (Ok start.Indented) s = BeginsLine allowed limit whole s
-Begins allowed limit whole (Ok start.Middle) s = ⊥
-Begins allowed limit whole (Ok other) s = (whole ≡ no_lines (lines_from s)) × IsBetweenStatements s
-Begins allowed limit whole (Err f) s = whole ≡ Err (Bad f)
-
-abbrev BeginsAs : Keys → ℕ → Parse (List LineText) → calls.Reply LineStart → Type 0
-BeginsAs allowed limit whole r = Begins allowed limit whole r.outcome r.after
+abbrev pub Begins : Keys → (limit : ℕ) → Parse (List LineText) → Reply LineStart → Type 0
+Begins allowed limit whole (Ok (start.Indented, s)) = BeginsLine allowed limit whole s
+Begins allowed limit whole (Ok (start.Middle, s)) = ⊥
+Begins allowed limit whole (Ok (other, s)) = (whole ≡ no_lines (lines_from s)) × IsBetweenStatements s
+Begins allowed limit whole (Err f) = whole ≡ Err (Bad f)
 
 after-last : (l : Line) (ls : List Line) → l.is_last ≡ true → lines_after l ls ≡ with_units [] l ∷ ls
 after-last l ls h = ap (λ t. cond t (with_units [] l ∷ ls) ls) h
@@ -90,12 +88,12 @@ indented-weight l h = by_units l.is_last l.units h
     by_units false (u ∷ us) h = refl
 
 begun-kind : (allowed : Keys) (limit : ℕ) (k : Kind) (l : Line) (ls : List Line) → kind_of l ≡ k → is_comment k ≡ false → lines_weight (l ∷ ls) ≤ limit
-    → BeginsAs allowed limit (block_by allowed k l ls (block allowed ls)) (begun_by k l ls)
+    → Begins allowed limit (block_by allowed k l ls (block allowed ls)) (begun_by k l ls)
 begun-kind allowed limit CommentLine l ls e h g = absurd cc
 begun-kind allowed limit (TabLine tab) l ls e h g = refl
 begun-kind allowed limit BlankLine l ls e h g = by_end (l.is_last && is_empty l.units) refl
   where
-    by_end : (t : Bool) → (l.is_last && is_empty l.units) ≡ t → BeginsAs allowed limit (no_lines (lines_after l ls)) (cond t (calls.reply start.End (Between (l ∷ ls))) (calls.reply start.Blank (Between (lines_after l ls))))
+    by_end : (t : Bool) → (l.is_last && is_empty l.units) ≡ t → Begins allowed limit (no_lines (lines_after l ls)) (cond t (reply start.End (Between (l ∷ ls))) (reply start.Blank (Between (lines_after l ls))))
     by_end true e = (ap no_lines (same-end l ls e), tt)
     by_end false e = (refl, tt)
 begun-kind allowed limit IndentedLine l ls e h g = let w = indented-weight l e in (l, ls, refl, refl, omega arith)
@@ -109,26 +107,25 @@ block-comment allowed BlankLine l ls others h = absurd cc
 block-comment allowed IndentedLine l ls others h = absurd cc
 block-comment allowed PlainLine l ls others h = absurd cc
 
-begun-begins : (allowed : Keys) (limit : ℕ) (ls : List Line) → lines_weight ls ≤ limit → BeginsAs allowed limit (block allowed ls) (begun (without_comments ls))
+begun-begins : (allowed : Keys) (limit : ℕ) (ls : List Line) → lines_weight ls ≤ limit → Begins allowed limit (block allowed ls) (begun (without_comments ls))
 unfolding block
 begun-begins allowed limit [] h = (refl, tt)
 begun-begins allowed limit (l ∷ ls) h = by_comment (is_comment (kind_of l)) refl (begun-begins allowed limit ls (omega arith))
   where
-    by_last : (t : Bool) → l.is_last ≡ t → BeginsAs allowed limit (block allowed ls) (begun (without_comments ls))
-        → BeginsAs allowed limit (cond t (no_lines (cond t (with_units [] l ∷ without_comments ls) (without_comments ls))) (block allowed ls)) (begun (cond t (with_units [] l ∷ without_comments ls) (without_comments ls)))
+    by_last : (t : Bool) → l.is_last ≡ t → Begins allowed limit (block allowed ls) (begun (without_comments ls))
+        → Begins allowed limit (cond t (no_lines (cond t (with_units [] l ∷ without_comments ls) (without_comments ls))) (block allowed ls)) (begun (cond t (with_units [] l ∷ without_comments ls) (without_comments ls)))
     by_last true e rest = rw e (refl, tt)
     by_last false e rest = rest
 
-    by_comment : (t : Bool) → is_comment (kind_of l) ≡ t → BeginsAs allowed limit (block allowed ls) (begun (without_comments ls))
-        → BeginsAs allowed limit (block_by allowed (kind_of l) l ls (block allowed ls)) (begun (cond t (lines_after l (without_comments ls)) (l ∷ ls)))
+    by_comment : (t : Bool) → is_comment (kind_of l) ≡ t → Begins allowed limit (block allowed ls) (begun (without_comments ls))
+        → Begins allowed limit (block_by allowed (kind_of l) l ls (block allowed ls)) (begun (cond t (lines_after l (without_comments ls)) (l ∷ ls)))
     by_comment false e rest = begun-kind allowed limit (kind_of l) l ls refl e h
     by_comment true e rest =
-        subst (λ (whole : Parse (List LineText)). BeginsAs allowed limit whole (begun (lines_after l (without_comments ls)))) (sym (block-comment allowed (kind_of l) l ls (block allowed ls) e)) (by_last l.is_last refl rest)
+        subst (λ (whole : Parse (List LineText)). Begins allowed limit whole (begun (lines_after l (without_comments ls)))) (sym (block-comment allowed (kind_of l) l ls (block allowed ls) e)) (by_last l.is_last refl rest)
 
 -- what the lexer returns at the start of a line
-pub start-begins : (allowed : Keys) (ls : List Line) (outcome : Result LineStart UnitFault) (s : State) → ((start_line_of (Between ls)).outcome ≡ outcome) × (s ≡ (start_line_of (Between ls)).after) → Begins allowed (lines_weight ls) (block allowed ls) outcome s
-start-begins allowed ls outcome s h =
-    subst (λ a. Begins allowed (lines_weight ls) (block allowed ls) a s) h.0 (subst (Begins allowed (lines_weight ls) (block allowed ls) (begun (without_comments ls)).outcome) (sym h.1) (begun-begins allowed (lines_weight ls) ls (omega arith)))
+pub start-begins : (allowed : Keys) (ls : List Line) (r : Reply LineStart) → start_line_of (Between ls) ≡ r → Begins allowed (lines_weight ls) (block allowed ls) r
+start-begins allowed ls r h = subst (Begins allowed (lines_weight ls) (block allowed ls)) h (begun-begins allowed (lines_weight ls) ls (omega arith))
 
 -- a line is followed by the rest of the block
 pub block-after : (allowed : Keys) (l : Line) (ls : List Line) → block allowed (lines_after l ls) ≡ or_last l (no_lines (lines_after l ls)) (block allowed ls)
@@ -163,17 +160,15 @@ still-begins allowed (Failed f) = tt
 abbrev pub Started : LineStart → (before after : State) → Type 0
 Started start before after = Answers {X = LineStart} (λ s. s) (Ok start) after (start_line_of before)
 
+abbrev begins_indented : Reply LineStart → Bool
+begins_indented (Ok (start.Indented, s)) = true
+begins_indented other = false
+
 -- An indented line comes only after the start of a line.
 started-indented : (allowed : Keys) (s middle : State) → Started start.Indented s middle → (ms : List Line) × (s ≡ Between ms) × BeginsLine allowed (lines_weight ms) (block allowed ms) middle
-started-indented allowed (Between ms) middle h = (ms, refl, start-begins allowed ms (Ok start.Indented) middle h)
-started-indented allowed (Inside l ls) middle h = absurd (middle_is_indented h.0)
-  where
-    middle_is_indented : ◌≡◌ {A = Result LineStart UnitFault} (Ok start.Middle) (Ok start.Indented) → ⊥
-    middle_is_indented e = absurd cc
-started-indented allowed (Failed f) middle h = absurd (fault_is_start h.0)
-  where
-    fault_is_start : ◌≡◌ {A = Result LineStart UnitFault} (Err f) (Ok start.Indented) → ⊥
-    fault_is_start e = absurd cc
+started-indented allowed (Between ms) middle h = (ms, refl, start-begins allowed ms (Ok (start.Indented, middle)) h)
+started-indented allowed (Inside l ls) middle h = absurd (false≢true (ap begins_indented h))
+started-indented allowed (Failed f) middle h = absurd (false≢true (ap begins_indented h))
 
 -- where a line that was read leaves the lexer
 line-after : (allowed : Keys) (l : Line) (ls : List Line) (middle : State) (line : LineText) (after : State) → middle ≡ Inside (without_spaces l) ls → line_next allowed middle ≡ Ok (line, after) → after ≡ Between (lines_after l ls)
@@ -207,13 +202,13 @@ after-turn allowed front l ms middle line after left whole i b w e =
 pub block-turn : (allowed : Keys) (front : List LineText) (before s middle : State) (line : LineText) (after : State) → StillReads allowed front before s → Started start.Indented s middle → line_next allowed middle ≡ Ok (line, after)
     → StillReads allowed (front ++ line ∷ []) before after
 block-turn allowed front (Between ls) s middle line after still h e =
-    let b = start-begins allowed still.0 (Ok start.Indented) middle (rw still.1 at h) in
+    let b = start-begins allowed still.0 (Ok (start.Indented, middle)) (ap start_line_of (sym still.1) ∙ h) in
     (lines_after b.0 b.1, line-after allowed b.0 b.1 middle line after b.2 e, after-turn allowed front b.0 b.1 middle line after (block allowed still.0) (block allowed ls) b.2 b.3 still.2 e)
 block-turn allowed front (Inside l ls) s middle line after still h e = tt
 block-turn allowed front (Failed f) s middle line after still h e = tt
 
 -- a line of another kind ends the block
-ends-block : (allowed : Keys) (limit : ℕ) (whole : Parse (List LineText)) (x : LineStart) (s : State) → (x ≡ start.Indented → ⊥) → Begins allowed limit whole (Ok x) s → (whole ≡ no_lines (lines_from s)) × IsBetweenStatements s
+ends-block : (allowed : Keys) (limit : ℕ) (whole : Parse (List LineText)) (x : LineStart) (s : State) → (x ≡ start.Indented → ⊥) → Begins allowed limit whole (Ok (x, s)) → (whole ≡ no_lines (lines_from s)) × IsBetweenStatements s
 ends-block allowed limit whole start.Indented s other h = absurd (other refl)
 ends-block allowed limit whole start.Middle s other h = absurd h
 ends-block allowed limit whole start.End s other h = h
@@ -223,7 +218,7 @@ ends-block allowed limit whole start.Plain s other h = h
 pub block-end : {X : Type 0} (view : X → List LineText) (allowed : Keys) (before s after : State) (x : LineStart) (lines : X) → StillReads allowed (view lines) before s → (x ≡ start.Indented → ⊥) → Started x s after
     → ParsesFrom view before after (block allowed) (Ok lines)
 block-end view allowed (Between ls) s after x lines still other h =
-    let e = ends-block allowed (lines_weight still.0) (block allowed still.0) x after other (start-begins allowed still.0 (Ok x) after (rw still.1 at h)) in
+    let e = ends-block allowed (lines_weight still.0) (block allowed still.0) x after other (start-begins allowed still.0 (Ok (x, after)) (ap start_line_of (sym still.1) ∙ h)) in
     (sym still.2 ∙ ap (in_front (view lines)) e.0 ∙ ap (λ (front : List LineText). Ok (front, lines_from after)) (append-nil (view lines)), e.1)
 block-end view allowed (Inside l ls) s after x lines still other h = tt
 block-end view allowed (Failed f) s after x lines still other h = tt
@@ -258,20 +253,20 @@ fails-from view (Failed g) after reading (Err e) f h so = tt
 pub block-start-fails : (allowed : Keys) (front : List LineText) (before s after : State) (f : LexFault) → StillReads allowed front before s → Answers {X = LineStart} (λ s. s) (Err f) after (start_line_of s) → FailsFrom before (block allowed) (fault.Lex f)
 block-start-fails allowed front (Between ls) s after lex.OutOfMemory still h = tt
 block-start-fails allowed front (Between ls) s after (lex.BadByte spot) still h =
-    let e = start-begins allowed still.0 (Err (unit_fault.BadByte spot)) after (rw still.1 at h) in
+    let e = start-begins allowed still.0 (Err (unit_fault.BadByte spot)) (ap start_line_of (sym still.1) ∙ h.0) in
     sym still.2 ∙ ap (in_front front) e
 block-start-fails allowed front (Between ls) s after (lex.Tab spot) still h =
-    let e = start-begins allowed still.0 (Err (unit_fault.Tab spot)) after (rw still.1 at h) in
+    let e = start-begins allowed still.0 (Err (unit_fault.Tab spot)) (ap start_line_of (sym still.1) ∙ h.0) in
     sym still.2 ∙ ap (in_front front) e
 block-start-fails allowed front (Between ls) s after (lex.BadEscape spot) still h =
-    let e = start-begins allowed still.0 (Err (unit_fault.BadEscape spot)) after (rw still.1 at h) in
+    let e = start-begins allowed still.0 (Err (unit_fault.BadEscape spot)) (ap start_line_of (sym still.1) ∙ h.0) in
     sym still.2 ∙ ap (in_front front) e
 block-start-fails allowed front (Inside l ls) s after f still h = tt
 block-start-fails allowed front (Failed g) s after f still h = tt
 
 pub block-line-fails : (allowed : Keys) (front : List LineText) (before s middle : State) (f : ParseFault) → StillReads allowed front before s → Started start.Indented s middle → Fails f (line_next allowed middle) → FailsFrom before (block allowed) f
 block-line-fails allowed front (Between ls) s middle f still h fails =
-    let b = start-begins allowed still.0 (Ok start.Indented) middle (rw still.1 at h) in
+    let b = start-begins allowed still.0 (Ok (start.Indented, middle)) (ap start_line_of (sym still.1) ∙ h) in
     fails-so f (line_next allowed middle) (block allowed ls) (λ e failed. sym still.2 ∙ ap (in_front front) b.3 ∙ failed-line b.0 b.1 e (ap (line_next allowed) (sym b.2) ∙ failed)) fails
   where
     failed-line : (l : Line) (ms : List Line) (e : Fault) → line_next allowed (Inside (without_spaces l) ms) ≡ Err e → in_front front (block_by allowed IndentedLine l ms (block allowed ms)) ≡ Err e

@@ -1,5 +1,5 @@
 -- What a call of the lexer gave, as a step.
-use Rattle.std.proofs.Common.{◌≡◌, Result, Ok, Err, refl}
+use Rattle.std.proofs.Common.{◌≡◌, Result, Ok, Err, ap}
 use Rattle.std.specs.Result.{IsErr, IsErrAnd}
 use Rattle.nj_text.specs.declared.fault.UnitFault.{UnitFault}
 use Rattle.nj_text.specs.declared.fault.UnitFault.TheVariants as unit_fault
@@ -13,11 +13,11 @@ use Rattle.nj_manifest.specs.LineSteps.{Step, called}
 use Rattle.nj_manifest.specs.Parsers.{Fails}
 use Rattle.nj_manifest.specs.Inside.ParserContracts.{TakesStep}
 
-pub gave : {Y : Type 0} (y : Y) (after : State) (r : Reply Y) → (r.outcome ≡ Ok y) × (after ≡ r.after) → called r ≡ Ok (y, after)
-gave y after r h = rw h.0 (rw h.1 refl)
+pub gave : {Y : Type 0} (y : Y) (after : State) (r : Reply Y) → r ≡ Ok (y, after) → called r ≡ Ok (y, after)
+gave y after r h = ap called h
 
-failed-so : {Y : Type 0} (f : UnitFault) (r : Reply Y) → r.outcome ≡ Err f → called r ≡ Err (Bad f)
-failed-so f r h = rw h refl
+failed-so : {Y : Type 0} (f : UnitFault) (r : Reply Y) → r ≡ Err f → called r ≡ Err (Bad f)
+failed-so f r h = ap called h
 
 -- a step that fails with a fault of the lexer
 pub fails-by : {X Y : Type 0} (f : LexFault) (before after : State) (r : Reply X) (whole : Result Y Fault) → FailsOrLacksMemory (unit_of f) before after r → ((unit : UnitFault) → called r ≡ Err (Bad unit) → whole ≡ Err (Bad unit)) → Fails (fault.Lex f) whole

@@ -9,12 +9,12 @@ use Rattle.nj_text.specs.declared.spot.Spot.{Spot}
 use Rattle.nj_text.specs.Bytes.{drop_while}
 use Rattle.nj_text.specs.Lines.{Line, lines_after}
 use Rattle.nj_text.specs.Words.{WordText, is_blank}
-use Rattle.nj_text.specs.Calls.{State, Between, Inside, start_line_of, skip_blanks_of, sign_of, path_word_of, spot_of, fault_spot}
+use Rattle.nj_text.specs.Calls.{State, Between, Inside, start_line_of, skip_blanks_of, sign_of, path_word_of, spot_of, fault_spot, Reply}
 use Rattle.nj_manifest.specs.declared.block.Keys.TheVariants as keys
 use Rattle.nj_manifest.specs.declared.fault.Wanted.{Wanted}
 use Rattle.nj_manifest.specs.declared.fault.Wanted.TheVariants as wanted
 use Rattle.nj_manifest.specs.Faults.{Fault, Bad, Expected, DyndepShape}
-use Rattle.nj_manifest.specs.LineSteps.{Step, ◌>>=◌, answered, called, name_next, expect_sign, section_next}
+use Rattle.nj_manifest.specs.LineSteps.{Step, ◌>>=◌, called, name_next, expect_sign, section_next}
 use Rattle.nj_manifest.specs.Statements.{equals_value, block}
 use Rattle.nj_manifest.specs.Dyndeps.{is_same_spot, version_line, word_of_form, no_path_by, no_path, no_section, first_output, output_next, added_inputs, EntryText, entry_line, restat_line, line_too_many, if_indented, restat_block}
 use Rattle.nj_manifest.specs.Inside.ParserContracts.{IsBetweenStatements}
@@ -53,12 +53,12 @@ module _ (l : Line) (ls : List Line) where
       let k = unless_missing-ok _ _ (Ok n.0.1) s' n.2 in
       subst (On l ls) (oks k.1) (name-inside want l ls s n.0 o n.1)
 
-  pub no_path-answered : (spot : Spot) (a : Result (Option WordText) UnitFault) (after s' : State) → no_path_by spot a after ≡ Ok s' → answered a after ≡ Ok (None, s')
-  no_path-answered spot (Ok None) after s' h = ap (λ (s : State). Ok (None, s)) (oks h)
-  no_path-answered spot (Ok (Some word)) after s' h = no_ok h
-  no_path-answered spot (Err unit) after s' h = by_test (is_same_spot (fault_spot unit) spot) h
+  pub no_path-called : (spot : Spot) (r : Reply (Option WordText)) (s' : State) → no_path_by spot r ≡ Ok s' → called r ≡ Ok (None, s')
+  no_path-called spot (Ok (None, after)) s' h = ap (λ (s : State). Ok (None, s)) (oks h)
+  no_path-called spot (Ok (Some word, after)) s' h = no_ok h
+  no_path-called spot (Err unit) s' h = by_test (is_same_spot (fault_spot unit) spot) h
     where
-      by_test : (t : Bool) → ◌≡◌ {A = Result State Fault} (unless_missing t (DyndepShape spot) (Err (Bad unit))) (Ok s') → ◌≡◌ {A = Step (Option WordText)} (answered (Err unit) after) (Ok (None, s'))
+      by_test : (t : Bool) → ◌≡◌ {A = Result State Fault} (unless_missing t (DyndepShape spot) (Err (Bad unit))) (Ok s') → ◌≡◌ {A = Step (Option WordText)} (Err (Bad unit)) (Ok (None, s'))
       by_test true g = no_ok g
       by_test false g = no_ok g
 
@@ -66,7 +66,7 @@ module _ (l : Line) (ls : List Line) where
   unfolding no_path
   no_path-inside s s' o h =
       let here = skip_blanks_of s in
-      word-inside l ls here (None, s') (skip-inside s o) (no_path-answered (spot_of here) (path_word_of here).outcome (path_word_of here).after s' h)
+      word-inside l ls here (None, s') (skip-inside s o) (no_path-called (spot_of here) (path_word_of here) s' h)
 
   no_section-inside : (want : Sign) (s s' : State) → InLine want → On l ls s → no_section want s ≡ Ok s' → On l ls s'
   unfolding no_section
@@ -143,18 +143,16 @@ version-ends l ls s h = version_line-inside l ls (Inside l ls) s (l.units, refl)
 
 -- ---- blocks
 
-pub called-ok : {A : Type 0} (a : Result A UnitFault) (after : State) (x : A) (s : State) → answered a after ≡ Ok (x, s) → (a ≡ Ok x) × (s ≡ after)
-called-ok {A = A} (Ok y) after x s h =
-    let both : ◌≡◌ {A = A × State} (y, after) (x, s) = oks h in
-    (ap (λ (r : A × State). Ok r.0) both, sym (ap (λ (r : A × State). r.1) both))
-called-ok (Err f) after x s h = no_ok h
+pub called-ok : {A : Type 0} (r : Reply A) (x : A) (s : State) → called r ≡ Ok (x, s) → r ≡ Ok (x, s)
+called-ok (Ok y) x s h = ap Ok (oks h)
+called-ok (Err f) x s h = no_ok h
 
 -- where a line was begun, or was not
 settled : (ls : List Line) (x : LineStart) (m s : State) (k : State → Result State Fault) → called (start_line_of (Between ls)) ≡ Ok (x, m) → if_indented x m k ≡ Ok s
     → ((l : Line) (others : List Line) → m ≡ Inside (without_spaces l) others → k m ≡ Ok s → IsBetweenStatements s) → IsBetweenStatements s
-settled ls x m s k h g indented = by_start x (start-begins keys.All ls (Ok x) m (called-ok (start_line_of (Between ls)).outcome (start_line_of (Between ls)).after x m h)) g
+settled ls x m s k h g indented = by_start x (start-begins keys.All ls (Ok (x, m)) (called-ok (start_line_of (Between ls)) x m h)) g
   where
-    by_start : (x : LineStart) → Begins keys.All (lines_weight ls) (block keys.All ls) (Ok x) m → if_indented x m k ≡ Ok s → IsBetweenStatements s
+    by_start : (x : LineStart) → Begins keys.All (lines_weight ls) (block keys.All ls) (Ok (x, m)) → if_indented x m k ≡ Ok s → IsBetweenStatements s
     by_start start.Indented b g = indented b.0 b.1 b.2 g
     by_start start.Middle b g = absurd b
     by_start start.End b g = subst IsBetweenStatements (oks g) b.1

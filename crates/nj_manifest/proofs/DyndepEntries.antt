@@ -8,6 +8,7 @@ use Rattle.nj_text.specs.Units.{TextUnit}
 use Rattle.nj_text.specs.Lines.{Line, with_units, lines_after}
 use Rattle.nj_text.specs.Words.{WordText, is_blank, next_fault}
 use Rattle.nj_text.specs.Calls.{State, Between, Inside, Failed, is_sign, begins_word, skip_blanks_of, sign_of, path_word_of, word_at, spot_of}
+use Rattle.nj_text.specs.Inside.States.{unless_bad}
 use Rattle.nj_manifest.specs.declared.fault.Wanted.{Wanted}
 use Rattle.nj_manifest.specs.declared.fault.Wanted.TheVariants as wanted
 use Rattle.nj_manifest.specs.Faults.{Expected}
@@ -22,7 +23,7 @@ use Rattle.nj_manifest.proofs.FormsTokens.{within, end_stops, colon_stops, after
 use Rattle.nj_manifest.proofs.FormsWords.{fault_after_blanks, word-form, word-read, no_word-read, words-form}
 use Rattle.nj_manifest.proofs.FormsLines.{section_after-form, section_after-read, colon_after-form, end_after_at-form, end_after-read, keyword_of, at_implicit, pipe_is_not_end, colon_is_not_end}
 use Rattle.nj_manifest.proofs.LeftmostRuns.{none_passed, skip, skip_stops}
-use Rattle.nj_manifest.proofs.DyndepEnds.{oks, no_path-answered, first_output-after, called-ok}
+use Rattle.nj_manifest.proofs.DyndepEnds.{oks, no_path-called, first_output-after, called-ok}
 
 -- ---- blanks that are skipped twice
 
@@ -31,7 +32,7 @@ skip-skip us = none_passed is_blank (skip us) (skip_stops us)
 
 path-skips : (s : State) → path_word_of (skip_blanks_of s) ≡ path_word_of s
 path-skips (Between ls) = refl
-path-skips (Inside l ls) = ap (λ (us : List TextUnit). word_at (with_units us l) ls) (skip-skip l.units)
+path-skips (Inside l ls) = ap (λ (us : List TextUnit). unless_bad word_at (with_units us l) ls) (skip-skip l.units)
 path-skips (Failed f) = refl
 
 -- ---- no path
@@ -40,7 +41,7 @@ no_path-words : (l : Line) (ls : List Line) (s s' : State) → no_path s ≡ Ok 
 unfolding no_path
 no_path-words l ls s s' h =
     let here = skip_blanks_of s in
-    words_next-ends s s' (ap called (sym (path-skips s)) ∙ no_path-answered l ls (spot_of here) (path_word_of here).outcome (path_word_of here).after s' h)
+    words_next-ends s s' (ap called (sym (path-skips s)) ∙ no_path-called l ls (spot_of here) (path_word_of here) s' h)
 
 no_words : (us rest : List TextUnit) (words : List WordText) → words ≡ [] → WordsForm us words rest → rest ≡ us
 no_words us rest words e WordsForm.none = refl
@@ -56,8 +57,8 @@ unfolding no_path
 no_path-read l ls us n b =
     let s = within l ls us in
     let here = skip_blanks_of s in
-    let found = called-ok (path_word_of here).outcome (path_word_of here).after None (within l ls (skip us)) (ap called (path-skips s) ∙ no_word-read l ls us n b) in
-    ap (λ (a : Result (Option WordText) UnitFault). no_path_by (spot_of here) a (path_word_of here).after) found.0 ∙ ap Ok (sym found.1)
+    let found = called-ok (path_word_of here) None (within l ls (skip us)) (ap called (path-skips s) ∙ no_word-read l ls us n b) in
+    ap (no_path_by (spot_of here)) found
 
 -- ---- words of the form
 

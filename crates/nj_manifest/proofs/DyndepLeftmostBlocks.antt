@@ -9,7 +9,7 @@ use Rattle.nj_text.specs.declared.spot.Spot.{Spot}
 use Rattle.nj_text.specs.Units.{TextUnit}
 use Rattle.nj_text.specs.Lines.{Line, with_units, lines_after, Kind, CommentLine, TabLine, BlankLine, IndentedLine, PlainLine, kind_of, is_space_unit, text_kind}
 use Rattle.nj_text.specs.Words.{is_blank}
-use Rattle.nj_text.specs.Calls as calls
+use Rattle.nj_text.specs.Inside.States.{reply}
 use Rattle.nj_text.specs.Calls.{State, Between, Reply, start_line_of, begun, begun_by, is_comment, is_empty, without_comments}
 use Rattle.nj_text.proofs.Lists.{AllIn}
 use Rattle.nj_manifest.specs.declared.fault.Wanted.TheVariants as wanted
@@ -95,7 +95,7 @@ module _ (k : State → Result State Fault) where
   pub in_plain : (l : Line) (ms : List Line) → kind_of l ≡ PlainLine → (s : State) × (in_lines k (l ∷ ms) ≡ Ok s)
   in_plain l ms h = (_, in_kind l ms PlainLine h refl)
 
-  blank_reply : (t : Bool) (a b : State) → (s : State) × (of_reply (cond t (calls.reply start.End a) (calls.reply start.Blank b)) ≡ Ok s)
+  blank_reply : (t : Bool) (a b : State) → (s : State) × (of_reply (cond t (reply start.End a) (reply start.Blank b)) ≡ Ok s)
   blank_reply true a b = (a, refl)
   blank_reply false a b = (b, refl)
 

@@ -11,7 +11,7 @@ use Rattle.nj_text.specs.Calls.{State, Reply, skip_blanks_of, ident_of, sign_of,
 use Rattle.nj_manifest.specs.declared.fault.Wanted.{Wanted}
 use Rattle.nj_manifest.specs.declared.fault.Wanted.TheVariants as wanted
 use Rattle.nj_manifest.specs.Faults.{Fault, Bad, Expected, UnknownKey, DyndepShape}
-use Rattle.nj_manifest.specs.LineSteps.{Step, ◌>>=◌, answered, called, NameText, name_next, expect_sign, words_from, words_within, words_next, section_next}
+use Rattle.nj_manifest.specs.LineSteps.{Step, ◌>>=◌, called, NameText, name_next, expect_sign, words_from, words_within, words_next, section_next}
 use Rattle.nj_manifest.specs.Statements.{equals_value}
 use Rattle.nj_manifest.specs.Dyndeps.{EntryText, word_of_form, is_same_spot, no_path_by, no_path, no_section, first_output, output_next, added_inputs, entry_line}
 use Rattle.nj_manifest.proofs.Choices.{named, if_there, words_if, unless_missing}
@@ -49,12 +49,9 @@ kept-bind : {A B : Type 0} (r : Result A Fault) (f : A → Result B Fault) → K
 kept-bind (Ok x) f k h = h x
 kept-bind (Err e) f k h = k
 
-kept-answered : {A : Type 0} (a : Result A UnitFault) (s : State) → Kept (answered a s)
-kept-answered (Ok x) s = tt
-kept-answered (Err f) s = refl
-
 pub kept-called : {A : Type 0} (r : Reply A) → Kept (called r)
-kept-called r = kept-answered r.outcome r.after
+kept-called (Ok x) = tt
+kept-called (Err f) = refl
 
 kept-named : (want : Wanted) (spot : Spot) (name : Option (List ℕ)) (s : State) → Kept (named want spot name s)
 kept-named want spot (Some name) s = tt
@@ -125,26 +122,26 @@ word-reported {B = B} word want s f g h = by_name (name_next want s) (kept-name 
     by_name (Err e) k = ap Err k
 
 -- no path
-abbrev pub path_by : Spot → Result (Option WordText) UnitFault → State → Step Bool
-path_by spot (Ok None) after = Ok (true, after)
-path_by spot (Ok (Some word)) after = Err (marked spot)
-path_by spot (Err unit) after = unless_missing (is_same_spot (fault_spot unit) spot) (marked spot) (Err (Bad unit))
+abbrev pub path_by : Spot → Reply (Option WordText) → Step Bool
+path_by spot (Ok (None, after)) = Ok (true, after)
+path_by spot (Ok (Some word, after)) = Err (marked spot)
+path_by spot (Err unit) = unless_missing (is_same_spot (fault_spot unit) spot) (marked spot) (Err (Bad unit))
 
 abbrev pub path_step : State → Step Bool
-path_step s = let here = skip_blanks_of s in path_by (spot_of here) (path_word_of here).outcome (path_word_of here).after
+path_step s = let here = skip_blanks_of s in path_by (spot_of here) (path_word_of here)
 
 path-reported : {B : Type 0} (s : State) (f g : State → Result B Fault) → ((t : State) → reported (f t) ≡ g t) → reported (path_step s >>= λ c. f c.1) ≡ (no_path s >>= g)
 unfolding no_path
-path-reported {B = B} s f g h = let here = skip_blanks_of s in by_outcome (spot_of here) (path_word_of here).outcome (path_word_of here).after
+path-reported {B = B} s f g h = let here = skip_blanks_of s in by_reply (spot_of here) (path_word_of here)
   where
     by_test : (t : Bool) (spot : Spot) (unit : UnitFault) → reported (◌>>=◌ {A = Bool × State} (unless_missing t (marked spot) (Err (Bad unit))) (λ c. f c.1)) ≡ (◌>>=◌ {A = State} (unless_missing t (DyndepShape spot) (Err (Bad unit))) g)
     by_test true spot unit = refl
     by_test false spot unit = refl
 
-    by_outcome : (spot : Spot) (a : Result (Option WordText) UnitFault) (after : State) → reported (path_by spot a after >>= λ c. f c.1) ≡ (no_path_by spot a after >>= g)
-    by_outcome spot (Ok None) after = h after
-    by_outcome spot (Ok (Some word)) after = refl
-    by_outcome spot (Err unit) after = by_test (is_same_spot (fault_spot unit) spot) spot unit
+    by_reply : (spot : Spot) (r : Reply (Option WordText)) → reported (path_by spot r >>= λ c. f c.1) ≡ (no_path_by spot r >>= g)
+    by_reply spot (Ok (None, after)) = h after
+    by_reply spot (Ok (Some word, after)) = refl
+    by_reply spot (Err unit) = by_test (is_same_spot (fault_spot unit) spot) spot unit
 
 -- no section with this sign
 abbrev pub unbarred : Spot → Bool × State → Step Bool

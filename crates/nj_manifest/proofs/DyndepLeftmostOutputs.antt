@@ -8,7 +8,8 @@ use Rattle.nj_text.specs.Bytes.{drop_while}
 use Rattle.nj_text.specs.Units.{TextUnit}
 use Rattle.nj_text.specs.Lines.{Line, with_units, spot_of_first}
 use Rattle.nj_text.specs.Words.{is_blank, opens_word, in_word, next_fault, WordText}
-use Rattle.nj_text.specs.Calls.{State, reply, unless_fault, is_empty, is_sign, state_after_sign}
+use Rattle.nj_text.specs.Calls.{State, unless_fault, is_empty, is_sign, state_after_sign}
+use Rattle.nj_text.specs.Inside.States.{reply}
 use Rattle.nj_text.proofs.Lists.{AllIn, AllIn-take_while, take_while-cons_yes}
 use Rattle.nj_manifest.specs.declared.fault.Wanted.TheVariants as wanted
 use Rattle.nj_manifest.specs.Faults.{Fault, Bad, Expected}

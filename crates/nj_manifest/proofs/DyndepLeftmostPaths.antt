@@ -10,7 +10,8 @@ use Rattle.nj_text.specs.Bytes.{drop_while, is_space}
 use Rattle.nj_text.specs.Units.{TextUnit}
 use Rattle.nj_text.specs.Lines.{Line, with_units, spot_of_first}
 use Rattle.nj_text.specs.Words.{is_blank, opens_word, in_word, next_fault, parts_of, WordText}
-use Rattle.nj_text.specs.Calls.{State, Between, Inside, Failed, Reply, reply, unless_fault, begins_word, fault_spot, is_empty, is_sign, state_after_sign}
+use Rattle.nj_text.specs.Calls.{State, Between, Inside, Failed, Reply, unless_fault, begins_word, fault_spot, is_empty, is_sign, state_after_sign}
+use Rattle.nj_text.specs.Inside.States.{reply}
 use Rattle.nj_text.proofs.Lists.{AllIn}
 use Rattle.nj_manifest.specs.declared.fault.Wanted.{Wanted}
 use Rattle.nj_manifest.specs.Faults.{Fault, Bad}
@@ -87,7 +88,7 @@ word_by f t g there other = unless_fault f (cond t (unless_fault g there) other)
 abbrev path_here : List TextUnit → Line → List Line → Step Bool
 path_here us e ms =
     let r = word_by (next_fault us) (begins_word us) (next_fault (drop_while in_word us)) (reply (Some (record { spot = spot_of_first us e.end; parts = parts_of (take_while in_word us) })) (at (drop_while in_word us) e ms)) (reply None (at us e ms)) in
-    path_by (spot_of_first us e.end) r.outcome r.after
+    path_by (spot_of_first us e.end) r
 
 begins_word-is : (us : List TextUnit) → begins_word us ≡ begins opens_word us
 begins_word-is [] = refl
@@ -97,13 +98,10 @@ module _ (us : List TextUnit) (e : Line) (ms : List Line) where
   abbrev by_parts : Option UnitFault → Bool → Option UnitFault → Step Bool
   by_parts f t g =
       let r = word_by f t g (reply (Some (record { spot = spot_of_first us e.end; parts = parts_of (take_while in_word us) })) (at (drop_while in_word us) e ms)) (reply None (at us e ms)) in
-      path_by (spot_of_first us e.end) r.outcome r.after
+      path_by (spot_of_first us e.end) r
 
-  same_spot : (bad : UnitFault) (t : Bool) → is_same_spot (fault_spot bad) (spot_of_first us e.end) ≡ t → path_by (spot_of_first us e.end) (Err bad) (at us e ms) ≡ unless_missing t (marked (spot_of_first us e.end)) (Err (Bad bad))
+  same_spot : (bad : UnitFault) (t : Bool) → is_same_spot (fault_spot bad) (spot_of_first us e.end) ≡ t → path_by (spot_of_first us e.end) (Err bad) ≡ unless_missing t (marked (spot_of_first us e.end)) (Err (Bad bad))
   same_spot bad t h = ap (λ (t : Bool). unless_missing t (marked (spot_of_first us e.end)) (Err (Bad bad))) h
-
-path_by-after : (spot : Spot) (bad : UnitFault) (s t : State) → path_by spot (Err bad) s ≡ path_by spot (Err bad) t
-path_by-after spot bad s t = refl
 
 word_after : (us : List TextUnit) (e : Line) (bad : UnitFault) → are_apart us ≡ true → begins opens_word us ≡ true → next_fault (drop_while in_word us) ≡ Some bad → is_same_spot (fault_spot bad) (spot_of_first us e.end) ≡ false
 word_after [] e bad a o h = absurd cc
@@ -140,7 +138,7 @@ word_again : (us : List TextUnit) (e : Line) (ms : List Line) → path_step (at 
 word_again us e ms =
     ap (λ (w : List TextUnit).
     let r = word_by (next_fault w) (begins_word w) (next_fault (drop_while in_word w)) (reply (Some (record { spot = spot_of_first w e.end; parts = parts_of (take_while in_word w) })) (at (drop_while in_word w) e ms)) (reply None (at w e ms)) in
-    path_by (spot_of_first (skip us) e.end) r.outcome r.after) (skip_again us)
+    path_by (spot_of_first (skip us) e.end) r) (skip_again us)
 
 -- Among units that are apart, both give the same.
 pub path_is_clear : (us : List TextUnit) (e : Line) (ms : List Line) → are_apart us ≡ true → path_step (at us e ms) ≡ clear_step (at us e ms)

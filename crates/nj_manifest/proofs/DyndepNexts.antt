@@ -7,11 +7,11 @@ use Rattle.nj_text.specs.declared.line_start.LineStart.{LineStart}
 use Rattle.nj_text.specs.declared.line_start.LineStart.TheVariants as start
 use Rattle.nj_text.specs.Words.{WordText}
 use Rattle.nj_text.specs.Lines.{Line, lines_after, Kind, CommentLine, TabLine, BlankLine, IndentedLine, PlainLine, kind_of}
-use Rattle.nj_text.specs.Calls.{State, Between, Inside, start_line_of, without_comments}
+use Rattle.nj_text.specs.Calls.{State, Between, Inside, start_line_of, without_comments, Reply}
 use Rattle.nj_manifest.specs.declared.block.Keys.TheVariants as keys
 use Rattle.nj_manifest.specs.declared.fault.Wanted.TheVariants as wanted
 use Rattle.nj_manifest.specs.Faults.{Fault}
-use Rattle.nj_manifest.specs.LineSteps.{◌>>=◌, answered, called, NameText, name_next}
+use Rattle.nj_manifest.specs.LineSteps.{◌>>=◌, called, NameText, name_next}
 use Rattle.nj_manifest.specs.Statements.{LineText, Parse, lines_from, equals_value, line_next, block_by, block}
 use Rattle.nj_manifest.specs.Openings.{opening_by, opening, or_last, without_spaces}
 use Rattle.nj_manifest.specs.Dyndeps.{EntryText, entry_line, word_of_form, restat_line, line_too_many, if_indented, restat_block, entry_from, next_entry}
@@ -57,8 +57,8 @@ line-restat m t line h n =
 
 -- ---- a block
 
-begins : (ls : List Line) (x : LineStart) (m : State) → called (start_line_of (Between ls)) ≡ Ok (x, m) → Begins keys.All (lines_weight ls) (block keys.All ls) (Ok x) m
-begins ls x m h = start-begins keys.All ls (Ok x) m (called-ok (start_line_of (Between ls)).outcome (start_line_of (Between ls)).after x m h)
+begins : (ls : List Line) (x : LineStart) (m : State) → called (start_line_of (Between ls)) ≡ Ok (x, m) → Begins keys.All (lines_weight ls) (block keys.All ls) (Ok (x, m))
+begins ls x m h = start-begins keys.All ls (Ok (x, m)) (called-ok (start_line_of (Between ls)) x m h)
 
 -- a line, and those that follow it
 one_line : (ls : List Line) (l : Line) (others : List Line) (m t : State) (line : LineText) (more : List LineText × List Line) → m ≡ Inside (without_spaces l) others → block keys.All ls ≡ block_by keys.All IndentedLine l others (block keys.All others) → line_next keys.All m ≡ Ok (line, t)
@@ -78,7 +78,7 @@ restat-form ls s h =
     then line = restat_line line >>= λ restat. called (start_line_of restat) >>= λ second. if_indented second.0 second.1 line_too_many
 
     by_second : (l : Line) (others : List Line) (m t : State) (line : LineText) → m ≡ Inside (without_spaces l) others → block keys.All ls ≡ block_by keys.All IndentedLine l others (block keys.All others) → line_next keys.All m ≡ Ok (line, t) → line.name ≡ codes "restat"
-        → (y : LineStart) (n : State) → Begins keys.All (lines_weight (lines_after l others)) (block keys.All (lines_after l others)) (Ok y) n → if_indented y n line_too_many ≡ Ok s → RestatForm ls (lines_from s)
+        → (y : LineStart) (n : State) → Begins keys.All (lines_weight (lines_after l others)) (block keys.All (lines_after l others)) (Ok (y, n)) → if_indented y n line_too_many ≡ Ok s → RestatForm ls (lines_from s)
     by_second l others m t line is reads read key y n b g = by_kind y b g
       where
         ended_there : block keys.All (lines_after l others) ≡ no_lines (lines_from n) → n ≡ s → RestatForm ls (lines_from s)
@@ -86,7 +86,7 @@ restat-form ls s h =
             subst (λ (u : State). RestatForm ls (lines_from u)) same
             (record { lines = line ∷ []; block = block-form keys.All ls (line ∷ []) (lines_from n) (one_line ls l others m t line ([], lines_from n) is reads read e); one_at_most = inr (line, refl, key) })
 
-        by_kind : (y : LineStart) → Begins keys.All (lines_weight (lines_after l others)) (block keys.All (lines_after l others)) (Ok y) n → if_indented y n line_too_many ≡ Ok s → RestatForm ls (lines_from s)
+        by_kind : (y : LineStart) → Begins keys.All (lines_weight (lines_after l others)) (block keys.All (lines_after l others)) (Ok (y, n)) → if_indented y n line_too_many ≡ Ok s → RestatForm ls (lines_from s)
         by_kind start.Indented b g = too_many-fails n s g
         by_kind start.Middle b g = absurd b
         by_kind start.End b g = ended_there b.0 (oks g)
@@ -102,7 +102,7 @@ restat-form ls s h =
         let begun = ap (λ (t : State). called (start_line_of t)) (sym end) ∙ second.1 in
         by_second l others m restat.0 line.0 is reads line.2 line.1 second.0.0 second.0.1 (begins (lines_after l others) second.0.0 second.0.1 begun) second.2
 
-    by_start : (x : LineStart) (m : State) → Begins keys.All (lines_weight ls) (block keys.All ls) (Ok x) m → if_indented x m then ≡ Ok s → RestatForm ls (lines_from s)
+    by_start : (x : LineStart) (m : State) → Begins keys.All (lines_weight ls) (block keys.All ls) (Ok (x, m)) → if_indented x m then ≡ Ok s → RestatForm ls (lines_from s)
     by_start start.Indented m b g = in_block b.0 b.1 m b.2 b.3 g
     by_start start.Middle m b g = absurd b
     by_start start.End m b g = subst (λ (u : State). RestatForm ls (lines_from u)) (oks g) (no_block ls m b.0)
@@ -148,26 +148,23 @@ line_there l others rest lines h =
     )
 
 quiet : (ls rest : List Line) → block keys.All ls ≡ Ok ([], rest) → Quiet ls rest
-quiet ls rest h = by_outcome (start_line_of (Between ls)).outcome refl (start-begins keys.All ls (start_line_of (Between ls)).outcome (start_line_of (Between ls)).after (refl, refl))
+quiet ls rest h = by_reply (start_line_of (Between ls)) refl (start-begins keys.All ls (start_line_of (Between ls)) refl)
   where
-    as_called : (a : Result LineStart UnitFault) → (start_line_of (Between ls)).outcome ≡ a → called (start_line_of (Between ls)) ≡ answered a (start_line_of (Between ls)).after
-    as_called a e = ap (λ (b : Result LineStart UnitFault). answered b (start_line_of (Between ls)).after) e
-
     left_of : (m : State) → block keys.All ls ≡ no_lines (lines_from m) → lines_from m ≡ rest
     left_of m b = ap (λ (r : List LineText × List Line). r.1) (oks (sym b ∙ h))
 
-    by_outcome : (a : Result LineStart UnitFault) → (start_line_of (Between ls)).outcome ≡ a → Begins keys.All (lines_weight ls) (block keys.All ls) a (start_line_of (Between ls)).after → Quiet ls rest
-    by_outcome (Err unit) e b = no_err (sym h ∙ b)
-    by_outcome (Ok start.Indented) e b =
+    by_reply : (r : Reply LineStart) → start_line_of (Between ls) ≡ r → Begins keys.All (lines_weight ls) (block keys.All ls) r → Quiet ls rest
+    by_reply (Err unit) e b = no_err (sym h ∙ b)
+    by_reply (Ok (start.Indented, m)) e b =
         let there = line_there b.0 b.1 rest [] (sym b.3 ∙ h) in
         no_more there.0 there.1 there.5
-    by_outcome (Ok start.Middle) e b = absurd b
-    by_outcome (Ok start.End) e b = record { begun = start.End; after = (start_line_of (Between ls)).after; starts = as_called (Ok start.End) e; stays = λ k. refl; left = left_of (start_line_of (Between ls)).after b.0 }
-    by_outcome (Ok start.Blank) e b = record { begun = start.Blank; after = (start_line_of (Between ls)).after; starts = as_called (Ok start.Blank) e; stays = λ k. refl; left = left_of (start_line_of (Between ls)).after b.0 }
-    by_outcome (Ok start.Plain) e b = record { begun = start.Plain; after = (start_line_of (Between ls)).after; starts = as_called (Ok start.Plain) e; stays = λ k. refl; left = left_of (start_line_of (Between ls)).after b.0 }
+    by_reply (Ok (start.Middle, m)) e b = absurd b
+    by_reply (Ok (start.End, m)) e b = record { begun = start.End; after = m; starts = ap called e; stays = λ k. refl; left = left_of m b.0 }
+    by_reply (Ok (start.Blank, m)) e b = record { begun = start.Blank; after = m; starts = ap called e; stays = λ k. refl; left = left_of m b.0 }
+    by_reply (Ok (start.Plain, m)) e b = record { begun = start.Plain; after = m; starts = ap called e; stays = λ k. refl; left = left_of m b.0 }
 
 spoken : (ls rest : List Line) (line : LineText) → block keys.All ls ≡ Ok (line ∷ [], rest) → Spoken ls rest line
-spoken ls rest line h = by_outcome (start_line_of (Between ls)).outcome refl (start-begins keys.All ls (start_line_of (Between ls)).outcome (start_line_of (Between ls)).after (refl, refl))
+spoken ls rest line h = by_reply (start_line_of (Between ls)) refl (start-begins keys.All ls (start_line_of (Between ls)) refl)
   where
     empty : {P : Type 0} (m : State) → block keys.All ls ≡ no_lines (lines_from m) → P
     empty m b = no_more line [] (ap (λ (r : List LineText × List Line). r.0) (oks (sym h ∙ b)))
@@ -178,24 +175,24 @@ spoken ls rest line h = by_outcome (start_line_of (Between ls)).outcome refl (st
     tails : {x : LineText} {xs : List LineText} → x ∷ xs ≡ line ∷ [] → xs ≡ []
     tails e = cc
 
-    by_outcome : (a : Result LineStart UnitFault) → (start_line_of (Between ls)).outcome ≡ a → Begins keys.All (lines_weight ls) (block keys.All ls) a (start_line_of (Between ls)).after → Spoken ls rest line
-    by_outcome (Err unit) e b = no_err (sym h ∙ b)
-    by_outcome (Ok start.Indented) e b =
+    by_reply : (r : Reply LineStart) → start_line_of (Between ls) ≡ r → Begins keys.All (lines_weight ls) (block keys.All ls) r → Spoken ls rest line
+    by_reply (Err unit) e b = no_err (sym h ∙ b)
+    by_reply (Ok (start.Indented, m)) e b =
         let there = line_there b.0 b.1 rest (line ∷ []) (sym b.3 ∙ h) in
         record {
-          after = (start_line_of (Between ls)).after;
+          after = m;
           first = b.0;
           others = b.1;
           end = there.2;
-          starts = ap (λ (a : Result LineStart UnitFault). answered a (start_line_of (Between ls)).after) e;
+          starts = ap called e;
           is = b.2;
           reads = ap (line_next keys.All) b.2 ∙ (there.3 ∙ ap (λ (x : LineText). Ok (x, there.2)) (heads there.5));
           none = there.4 ∙ ap (λ (xs : List LineText). Ok (xs, rest)) (tails there.5);
         }
-    by_outcome (Ok start.Middle) e b = absurd b
-    by_outcome (Ok start.End) e b = empty (start_line_of (Between ls)).after b.0
-    by_outcome (Ok start.Blank) e b = empty (start_line_of (Between ls)).after b.0
-    by_outcome (Ok start.Plain) e b = empty (start_line_of (Between ls)).after b.0
+    by_reply (Ok (start.Middle, m)) e b = absurd b
+    by_reply (Ok (start.End, m)) e b = empty m b.0
+    by_reply (Ok (start.Blank, m)) e b = empty m b.0
+    by_reply (Ok (start.Plain, m)) e b = empty m b.0
 
 restat-read : (ls rest : List Line) → RestatForm ls rest → (s : State) × (restat_block (Between ls) ≡ Ok s) × (lines_from s ≡ rest)
 unfolding restat_block

@@ -12,6 +12,7 @@ use Rattle.nj_text.specs.Lines.{Line, with_units, lines_after, spot_of_first}
 use Rattle.nj_text.specs.Words.{is_blank, in_identifier, begins_with_byte, fault_of, next_fault}
 use Rattle.nj_text.specs.Inside.Meanings.{is_blank_meaning, opens_word_meaning}
 use Rattle.nj_text.specs.Calls as calls
+use Rattle.nj_text.specs.Inside.States.{reply, unless_bad}
 use Rattle.nj_text.specs.Calls.{State, Between, Inside, Reply, bytes_of, some_bytes, is_empty, begins_word, is_sign, state_after_sign, sign_of}
 use Rattle.nj_manifest.specs.declared.fault.Wanted.{Wanted}
 use Rattle.nj_manifest.specs.LineSteps.{Step, ◌>>=◌, called, NameText, name_next, expect_sign}
@@ -82,7 +83,7 @@ identifier_no_blank u h = ordinary_no_blank is_identifier_byte refl u.means h
 
 -- what is read of a run of units that may be none
 abbrev name_of : Wanted → Option UnitFault → Spot → (run : List TextUnit) → State → Step NameText
-name_of want f spot run s = called (calls.unless_fault f (calls.reply (some_bytes (bytes_of run)) s)) >>= λ n. named want spot n.0 n.1
+name_of want f spot run s = called (calls.unless_fault f (reply (some_bytes (bytes_of run)) s)) >>= λ n. named want spot n.0 n.1
 
 -- the same after the blanks
 abbrev name_here : Wanted → Line → List Line → List TextUnit → Step NameText
@@ -167,7 +168,7 @@ name-read want l ls us rest name f =
 -- ---- signs
 
 sign_at_units : Sign → Line → List Line → List TextUnit → Step Bool
-sign_at_units want l ls us = called (calls.sign_at want (with_units us l) ls)
+sign_at_units want l ls us = called (unless_bad (calls.sign_at want) (with_units us l) ls)
 
 -- blanks before a sign do not matter
 pub sign_skips : (want : Sign) (l : Line) (ls : List Line) (us : List TextUnit) → called (sign_of want (within l ls (skip us))) ≡ called (sign_of want (within l ls us))
@@ -188,7 +189,7 @@ IsNotThere want l ls us y = (is_sign want us ≡ false) × (y.0 ≡ false) × (y
 sign-cases : (want : Sign) (l : Line) (ls : List Line) (us : List TextUnit) (y : Bool × State) → called (sign_of want (within l ls us)) ≡ Ok y → IsThere want l ls (skip us) y ⊎ IsNotThere want l ls (skip us) y
 sign-cases want l ls us y h = by_test (is_sign want (skip us)) refl (called-fault (next_fault (skip us)) _ y h)
   where
-    by_test : (t : Bool) → is_sign want (skip us) ≡ t → called (cond t (calls.reply true (after_it want l ls (skip us))) (calls.reply false (within l ls (skip us)))) ≡ Ok y → IsThere want l ls (skip us) y ⊎ IsNotThere want l ls (skip us) y
+    by_test : (t : Bool) → is_sign want (skip us) ≡ t → called (cond t (reply true (after_it want l ls (skip us))) (reply false (within l ls (skip us)))) ≡ Ok y → IsThere want l ls (skip us) y ⊎ IsNotThere want l ls (skip us) y
     by_test true e g = inl (e, sym (value-is true (after_it want l ls (skip us)) y g), sym (after-is true (after_it want l ls (skip us)) y g))
     by_test false e g = inr (e, sym (value-is false (within l ls (skip us)) y g), sym (after-is false (within l ls (skip us)) y g))
 
@@ -292,7 +293,7 @@ sign-left_out want l ls us s h = by_case (sign-cases want l ls us (false, s) h)
     by_case (inr not_there) = not_there.2
 
 sign_at-gives : (want : Sign) (l : Line) (ls : List Line) (us : List TextUnit) (f : Option UnitFault) (t : Bool) → f ≡ None → is_sign want us ≡ t
-    → called (calls.unless_fault f (cond (is_sign want us) (calls.reply true (after_it want l ls us)) (calls.reply false (within l ls us)))) ≡ called (cond t (calls.reply true (after_it want l ls us)) (calls.reply false (within l ls us)))
+    → called (calls.unless_fault f (cond (is_sign want us) (reply true (after_it want l ls us)) (reply false (within l ls us)))) ≡ called (cond t (reply true (after_it want l ls us)) (reply false (within l ls us)))
 sign_at-gives want l ls us f t e h = rw (e, h) refl
 
 pub sign-none : (want : Sign) (l : Line) (ls : List Line) (us : List TextUnit) → next_fault (skip us) ≡ None → is_sign want (skip us) ≡ false → called (sign_of want (within l ls us)) ≡ Ok (false, within l ls (skip us))

@@ -8,6 +8,7 @@ use Rattle.nj_text.specs.Units.{TextUnit}
 use Rattle.nj_text.specs.Lines.{Line, spot_of_first, lines_after}
 use Rattle.nj_text.specs.Words.{WordText, opens_line, after_opening, first_fault, parts_of}
 use Rattle.nj_text.specs.Calls as calls
+use Rattle.nj_text.specs.Inside.States.{reply}
 use Rattle.nj_text.specs.Calls.{State, Between, value_of}
 use Rattle.nj_manifest.specs.declared.fault.Wanted.TheVariants as wanted
 use Rattle.nj_manifest.specs.LineSteps.{Step, called, expect_sign}
@@ -50,7 +51,7 @@ opening_passed us (u ∷ v ∷ ws) others o = absurd (false≢true o.opens)
 
 -- what a call gives, of its parts
 abbrev value_by : Line → List Line → Option UnitFault → List TextUnit → Step WordText
-value_by l ls f us = called (calls.unless_fault f (calls.reply (record { spot = spot_of_first us l.end; parts = parts_of us }) (within l ls [])))
+value_by l ls f us = called (calls.unless_fault f (reply (record { spot = spot_of_first us l.end; parts = parts_of us }) (within l ls [])))
 
 value_by-read : (l : Line) (ls : List Line) (f : Option UnitFault) (us : List TextUnit) (value : WordText) (s : State) → value_by l ls f us ≡ Ok (value, s) → (f ≡ None) × (value ≡ record { spot = spot_of_first us l.end; parts = parts_of us }) × (s ≡ within l ls [])
 value_by-read l ls (Some f) us value s h = absurd cc

@@ -11,6 +11,7 @@ use Rattle.nj_text.specs.Lines.{Line, spot_of_first}
 use Rattle.nj_text.specs.Words.{WordText, is_blank, in_word, opens_word, fault_of, next_fault, parts_of}
 use Rattle.nj_text.specs.Inside.Meanings.{is_blank_meaning, opens_word_meaning}
 use Rattle.nj_text.specs.Calls as calls
+use Rattle.nj_text.specs.Inside.States.{reply}
 use Rattle.nj_text.specs.Calls.{State, begins_word, is_sign, sign_of, path_word_of}
 use Rattle.nj_text.proofs.Lists.{take_while-cons_yes}
 use Rattle.nj_manifest.specs.LineSteps.{Step, ◌>>=◌, called, words_from, words_next, section_next}
@@ -53,7 +54,7 @@ fault_after_blanks (u ∷ us) h = by_test (is_blank u) refl h
 -- what a call gives, of its parts
 abbrev word_by : Line → List Line → (here remainder : Option UnitFault) → (opens : Bool) → (us run rest : List TextUnit) → Step (Option WordText)
 word_by l ls f g t us run rest =
-    called (calls.unless_fault f (cond t (calls.unless_fault g (calls.reply (Some (record { spot = spot_of_first us l.end; parts = parts_of run })) (within l ls rest))) (calls.reply None (within l ls us))))
+    called (calls.unless_fault f (cond t (calls.unless_fault g (reply (Some (record { spot = spot_of_first us l.end; parts = parts_of run })) (within l ls rest))) (reply None (within l ls us))))
 
 abbrev WordRead : Line → List Line → List TextUnit → Option WordText → State → Type 0
 WordRead l ls us None s = (begins_word us ≡ false) × (s ≡ within l ls us)

@@ -12,6 +12,7 @@ use Rattle.nj_text.specs.Units.{TextUnit}
 use Rattle.nj_text.specs.Lines.{Line, with_units, lines_after}
 use Rattle.nj_text.specs.Words.{WordText, in_identifier, is_blank, after_opening, in_word, next_fault, first_fault}
 use Rattle.nj_text.specs.Calls as calls
+use Rattle.nj_text.specs.Inside.States.{reply}
 use Rattle.nj_text.specs.Calls.{State, Between, Inside, Failed, Reply, skip_blanks_of, ident_of, sign_of, path_word_of, value_of, spot_of, after_blanks, state_after_sign, is_sign, is_empty, begins_word, word_here, some_bytes, bytes_of}
 use Rattle.nj_manifest.specs.declared.fault.Wanted.{Wanted}
 use Rattle.nj_manifest.specs.declared.fault.Wanted.TheVariants as wanted
@@ -65,7 +66,7 @@ if_there-after : (want : Wanted) (t : Bool) (s s' : State) → if_there want t s
 if_there-after want true s s' h = (refl, cc)
 if_there-after want false s s' h = absurd cc
 
-sign-there : (want : Wanted) (t : Bool) (there other : State) (y : Bool × State) (s : State) → called (cond t (calls.reply true there) (calls.reply false other)) ≡ Ok y → if_there want y.0 y.1 ≡ Ok s → s ≡ there
+sign-there : (want : Wanted) (t : Bool) (there other : State) (y : Bool × State) (s : State) → called (cond t (reply true there) (reply false other)) ≡ Ok y → if_there want y.0 y.1 ≡ Ok s → s ≡ there
 sign-there want true there other y s e h = sym (after-is _ _ y e ∙ (if_there-after want y.0 y.1 s h).1)
 sign-there want false there other y s e h = absurd (false≢true (value-is _ _ y e ∙ (if_there-after want y.0 y.1 s h).0))
 
@@ -96,9 +97,9 @@ value-inside l ls s y o h =
 -- ---- words
 
 word_here-inside : (l : Line) (ls : List Line) (t : Bool) (y : Option WordText × State)
-    → called (cond t (calls.unless_fault (next_fault (drop_while in_word l.units)) (calls.reply (Some (word_here l)) (Inside (with_units (drop_while in_word l.units) l) ls))) (calls.reply None (Inside l ls))) ≡ Ok y → On l ls y.1
+    → called (cond t (calls.unless_fault (next_fault (drop_while in_word l.units)) (reply (Some (word_here l)) (Inside (with_units (drop_while in_word l.units) l) ls))) (reply None (Inside l ls))) ≡ Ok y → On l ls y.1
 word_here-inside l ls true y e =
-    let f = called-fault (next_fault (drop_while in_word l.units)) (calls.reply (Some (word_here l)) (Inside (with_units (drop_while in_word l.units) l) ls)) y e in
+    let f = called-fault (next_fault (drop_while in_word l.units)) (reply (Some (word_here l)) (Inside (with_units (drop_while in_word l.units) l) ls)) y e in
     (drop_while in_word l.units, sym (after-is _ _ y f))
 word_here-inside l ls false y e = (l.units, sym (after-is _ _ y e))
 
@@ -135,7 +136,7 @@ words_if-inside l ls false s y o h = subst (On l ls) (after-is _ _ y h) o
 abbrev pub InLine : Sign → Type 0
 InLine want = (l : Line) (ls : List Line) → On l ls (state_after_sign want l ls)
 
-sign-on : (want : Sign) (l : Line) (ls : List Line) (t : Bool) (y : Bool × State) → InLine want → called (cond t (calls.reply true (state_after_sign want l ls)) (calls.reply false (Inside l ls))) ≡ Ok y → On l ls y.1
+sign-on : (want : Sign) (l : Line) (ls : List Line) (t : Bool) (y : Bool × State) → InLine want → called (cond t (reply true (state_after_sign want l ls)) (reply false (Inside l ls))) ≡ Ok y → On l ls y.1
 sign-on want l ls true y i e = subst (On l ls) (after-is _ _ y e) (i l ls)
 sign-on want l ls false y i e = (l.units, sym (after-is _ _ y e))
 

@@ -8,7 +8,8 @@ use Rattle.nj_text.specs.Units.{TextUnit, is_ordinary_in}
 use Rattle.nj_text.specs.Lines.{Line, spot_of_first}
 use Rattle.nj_text.specs.Words.{is_blank, in_identifier, fault_of, next_fault}
 use Rattle.nj_text.specs.Inside.Meanings.{is_blank_meaning}
-use Rattle.nj_text.specs.Calls.{State, reply, unless_fault, bytes_of, some_bytes}
+use Rattle.nj_text.specs.Calls.{State, unless_fault, bytes_of, some_bytes}
+use Rattle.nj_text.specs.Inside.States.{reply}
 use Rattle.nj_text.proofs.Lists.{AllIn, AllIn-take_while, take_while-cons_yes, take_while-cons_no}
 use Rattle.nj_manifest.specs.declared.fault.Wanted.{Wanted}
 use Rattle.nj_manifest.specs.Faults.{Fault, Bad, Expected}

@@ -7,7 +7,8 @@ use Rattle.nj_text.specs.Units.{Ordinary, TextUnit, is_ordinary_in}
 use Rattle.nj_text.specs.Lines.{Line, with_units}
 use Rattle.nj_text.specs.Words.{is_blank, begins_with_byte, next_fault, WordText}
 use Rattle.nj_text.specs.Inside.Meanings.{is_blank_meaning, opens_word_meaning}
-use Rattle.nj_text.specs.Calls.{State, reply, unless_fault, is_sign, state_after_sign}
+use Rattle.nj_text.specs.Calls.{State, unless_fault, is_sign, state_after_sign}
+use Rattle.nj_text.specs.Inside.States.{reply}
 use Rattle.nj_manifest.specs.Faults.{Fault}
 use Rattle.nj_manifest.specs.LineSteps.{Step, ◌>>=◌, called, words_next, section_next}
 use Rattle.nj_manifest.proofs.Choices.{words_if}

@@ -6,7 +6,8 @@ use Rattle.nj_text.specs.declared.sign.Sign.TheVariants as sign
 use Rattle.nj_text.specs.Units.{TextUnit, is_ordinary_in}
 use Rattle.nj_text.specs.Lines.{Line, with_units, lines_after, spot_of_first}
 use Rattle.nj_text.specs.Words.{is_blank, begins_with_byte, next_fault}
-use Rattle.nj_text.specs.Calls.{State, Between, reply, unless_fault, is_empty, is_sign, state_after_sign}
+use Rattle.nj_text.specs.Calls.{State, Between, unless_fault, is_empty, is_sign, state_after_sign}
+use Rattle.nj_text.specs.Inside.States.{reply}
 use Rattle.nj_text.proofs.Lists.{AllIn}
 use Rattle.nj_manifest.specs.declared.fault.Wanted.{Wanted}
 use Rattle.nj_manifest.specs.declared.fault.Wanted.TheVariants as wanted

@@ -8,7 +8,8 @@ use Rattle.nj_text.specs.Units.{Meaning, Ordinary, Join, OpeningJoin, TextUnit}
 use Rattle.nj_text.specs.Lines.{Line, lines_after, spot_of_first}
 use Rattle.nj_text.specs.Words.{is_blank, after_opening, fault_of, next_fault, first_fault, parts_of, WordText}
 use Rattle.nj_text.specs.Inside.Meanings.{is_blank_meaning, opens_line_meaning}
-use Rattle.nj_text.specs.Calls.{State, Between, reply, unless_fault, value_of}
+use Rattle.nj_text.specs.Calls.{State, Between, unless_fault, value_of}
+use Rattle.nj_text.specs.Inside.States.{reply}
 use Rattle.nj_manifest.specs.declared.fault.Wanted.TheVariants as wanted
 use Rattle.nj_manifest.specs.Faults.{Fault, Bad}
 use Rattle.nj_manifest.specs.LineSteps.{Step, ◌>>=◌, called, expect_sign}

@@ -9,7 +9,8 @@ use Rattle.nj_text.specs.Units.{Meaning, Ordinary, Escape, Reference, Join, Lead
 use Rattle.nj_text.specs.Lines.{Line, spot_of_first}
 use Rattle.nj_text.specs.Words.{is_blank, opens_word, in_word, fault_of, next_fault, parts_of, WordText}
 use Rattle.nj_text.specs.Inside.Meanings.{is_blank_meaning, opens_word_meaning, in_word_meaning}
-use Rattle.nj_text.specs.Calls.{State, reply, unless_fault, begins_word, path_word_of}
+use Rattle.nj_text.specs.Calls.{State, unless_fault, begins_word, path_word_of}
+use Rattle.nj_text.specs.Inside.States.{reply}
 use Rattle.nj_text.proofs.Lists.{AllIn, AllIn-take_while, take_while-cons_yes}
 use Rattle.nj_manifest.specs.Faults.{Fault, Bad}
 use Rattle.nj_manifest.specs.LineSteps.{Step, called, words_from, words_next}

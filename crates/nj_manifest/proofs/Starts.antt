@@ -1,5 +1,6 @@
 -- Where the next statement of lines begins, by what the lexer returns at their start.
-use Rattle.std.proofs.Common.{◌≡◌, ℕ, suc, ◌<◌, ◌≤◌, Bool, true, false, cond, ◌&&◌, Result, Ok, Err, List, [], ◌∷◌, refl, sym, ap, subst, arith}
+use Rattle.std.proofs.Common.{◌≡◌, ℕ, suc, ◌<◌, ◌≤◌, Bool, true, false, cond, ◌&&◌, Result, Ok, Err, List, [], ◌∷◌, refl, sym, ap, subst, ◌∙◌, arith}
+use Rattle.std.proofs.lemmas.Bool.{false≢true}
 use Rattle.nj_text.specs.declared.fault.UnitFault.{UnitFault}
 use Rattle.nj_text.specs.declared.fault.UnitFault.TheVariants as unit_fault
 use Rattle.nj_text.specs.declared.fault.LexFault.{LexFault}
@@ -9,7 +10,7 @@ use Rattle.nj_text.specs.declared.line_start.LineStart.TheVariants as start
 use Rattle.nj_text.specs.declared.spot.Spot.{Spot}
 use Rattle.nj_text.specs.Units.{TextUnit}
 use Rattle.nj_text.specs.Lines.{Line, with_units, lines_after, Kind, CommentLine, TabLine, BlankLine, IndentedLine, PlainLine, kind_of}
-use Rattle.nj_text.specs.Calls as calls
+use Rattle.nj_text.specs.Inside.States.{reply}
 use Rattle.nj_text.specs.Calls.{State, Reply, Between, Inside, Failed, Answers, start_line_of, begun, begun_by, is_comment, is_empty, without_comments, spot_of}
 use Rattle.nj_manifest.specs.declared.fault.ParseFault.TheVariants as fault
 use Rattle.nj_manifest.specs.Faults.{Fault, Bad, UnexpectedIndent}
@@ -30,13 +31,13 @@ abbrev pub BeginsHere : Next → State → Type 0
 BeginsHere next s = (l : Line) × (ls : List Line) × (s ≡ Inside l ls) × (kind_of l ≡ PlainLine) × (next ≡ Ok (Begun l ls))
 
 -- what the start of a line tells about the next statement
-abbrev pub Begins : Next → Result LineStart UnitFault → State → Type 0
-Begins next (Ok start.End) s = (next ≡ ended (lines_from s)) × (ls : List Line) × (s ≡ Between ls)
-Begins next (Ok start.Blank) s = (ls : List Line) × (s ≡ Between ls) × (next ≡ opening ls)
-Begins next (Ok start.Indented) s = next ≡ Err (UnexpectedIndent (front_at (spot_of s)))
-Begins next (Ok start.Plain) s = BeginsHere next s
-Begins next (Ok start.Middle) s = BeginsHere next s
-Begins next (Err f) s = next ≡ Err (Bad f)
+abbrev pub Begins : Next → Reply LineStart → Type 0
+Begins next (Ok (start.End, s)) = (next ≡ ended (lines_from s)) × (ls : List Line) × (s ≡ Between ls)
+Begins next (Ok (start.Blank, s)) = (ls : List Line) × (s ≡ Between ls) × (next ≡ opening ls)
+Begins next (Ok (start.Indented, s)) = next ≡ Err (UnexpectedIndent (front_at (spot_of s)))
+Begins next (Ok (start.Plain, s)) = BeginsHere next s
+Begins next (Ok (start.Middle, s)) = BeginsHere next s
+Begins next (Err f) = next ≡ Err (Bad f)
 
 -- a last line without units is blank, and nothing comes after it
 next-empty : (l : Line) (ls : List Line) → l.is_last ≡ true → opening (with_units [] l ∷ ls) ≡ ended (with_units [] l ∷ ls)
@@ -52,15 +53,15 @@ without-units l h = ap (λ (us : List TextUnit). with_units us l) (sym (no-units
 
 abbrev BeginsBlank : Line → List Line → (last empty : Bool) → Type 0
 BeginsBlank l ls last empty =
-    let r = cond (last && empty) (calls.reply start.End (Between (l ∷ ls))) (calls.reply start.Blank (Between (cond last (with_units [] l ∷ ls) ls))) in
-    Begins (cond last (ended (cond last (with_units [] l ∷ ls) ls)) (opening ls)) r.outcome r.after
+    Begins (cond last (ended (cond last (with_units [] l ∷ ls) ls)) (opening ls))
+    (cond (last && empty) (reply start.End (Between (l ∷ ls))) (reply start.Blank (Between (cond last (with_units [] l ∷ ls) ls))))
 
 begun-blank : (l : Line) (ls : List Line) (last empty : Bool) → l.is_last ≡ last → is_empty l.units ≡ empty → BeginsBlank l ls last empty
 begun-blank l ls false empty e h = (ls, refl, refl)
 begun-blank l ls true true e h = (ap (λ (m : Line). ended (m ∷ ls)) (without-units l h), l ∷ ls, refl)
 begun-blank l ls true false e h = (with_units [] l ∷ ls, refl, sym (next-empty l ls e))
 
-begun-kind : (k : Kind) (l : Line) (ls : List Line) → kind_of l ≡ k → is_comment k ≡ false → Begins (opening_by k l ls (opening ls)) (begun_by k l ls).outcome (begun_by k l ls).after
+begun-kind : (k : Kind) (l : Line) (ls : List Line) → kind_of l ≡ k → is_comment k ≡ false → Begins (opening_by k l ls (opening ls)) (begun_by k l ls)
 begun-kind CommentLine l ls e h = absurd cc
 begun-kind (TabLine tab) l ls e h = refl
 begun-kind BlankLine l ls e h = begun-blank l ls l.is_last (is_empty l.units) refl refl
@@ -68,7 +69,7 @@ begun-kind IndentedLine l ls e h = refl
 begun-kind PlainLine l ls e h = (l, ls, refl, e, refl)
 
 abbrev BeginsAt : Next → List Line → Type 0
-BeginsAt next ls = Begins next (begun ls).outcome (begun ls).after
+BeginsAt next ls = Begins next (begun ls)
 
 next-comment : (k : Kind) (l : Line) (ls : List Line) (others : Next) → is_comment k ≡ true → opening_by k l ls others ≡ or_last l (ended (lines_after l (without_comments ls))) others
 next-comment CommentLine l ls others h = refl
@@ -92,32 +93,28 @@ begun-next (l ∷ ls) = by_comment (is_comment (kind_of l)) refl (begun-next ls)
     by_comment true e rest = rw (next-comment (kind_of l) l ls (opening ls) e) (by_last l.is_last refl rest)
 
 -- what the lexer returns at the start of a line
-abbrev Answered : Result LineStart UnitFault → (after : State) → Reply LineStart → Type 0
-Answered outcome after r = (r.outcome ≡ outcome) × (after ≡ r.after)
-
-start-begins : (ls : List Line) (outcome : Result LineStart UnitFault) (s : State) → Answered outcome s (start_line_of (Between ls)) → Begins (opening ls) outcome s
-start-begins ls outcome s h = subst (λ a. Begins (opening ls) a s) h.0 (subst (Begins (opening ls) (begun (without_comments ls)).outcome) (sym h.1) (begun-next ls))
+start-begins : (ls : List Line) (r : Reply LineStart) → start_line_of (Between ls) ≡ r → Begins (opening ls) r
+start-begins ls r h = subst (Begins (opening ls)) h (begun-next ls)
 
 -- The line that was begun is a plain one.
-middle-begins : (l : Line) (ls : List Line) (outcome : Result LineStart UnitFault) (s : State) → kind_of l ≡ PlainLine → Answered outcome s (start_line_of (Inside l ls)) → Begins (opening (l ∷ ls)) outcome s
+middle-begins : (l : Line) (ls : List Line) (r : Reply LineStart) → kind_of l ≡ PlainLine → start_line_of (Inside l ls) ≡ r → Begins (opening (l ∷ ls)) r
 unfolding opening
-middle-begins l ls (Ok x) s e h =
+middle-begins l ls r e h =
     let here : opening_by (kind_of l) l ls (opening ls) ≡ Ok (Begun l ls) = rw e refl in
     let begun : BeginsHere (opening_by (kind_of l) l ls (opening ls)) (Inside l ls) = (l, ls, refl, e, here) in
-    subst (λ a. Begins (opening_by (kind_of l) l ls (opening ls)) a s) h.0 (subst (BeginsHere (opening_by (kind_of l) l ls (opening ls))) (sym h.1) begun)
-middle-begins l ls (Err f) s e h = absurd cc
+    subst (Begins (opening_by (kind_of l) l ls (opening ls))) h begun
 
-pub begins : (before after : State) (outcome : Result LineStart UnitFault) → IsBetweenStatements before → Answered outcome after (start_line_of before) → Begins (opening (lines_from before)) outcome after
-begins (Between ls) after outcome comes h = start-begins ls outcome after h
-begins (Inside l ls) after outcome comes h = middle-begins l ls outcome after comes h
-begins (Failed f) after outcome comes h = absurd comes
+pub begins : (before : State) (r : Reply LineStart) → IsBetweenStatements before → start_line_of before ≡ r → Begins (opening (lines_from before)) r
+begins (Between ls) r comes h = start-begins ls r h
+begins (Inside l ls) r comes h = middle-begins l ls r comes h
+begins (Failed f) r comes h = absurd comes
 
 -- the fault at a line's start, as it is answered
 pub begins-badly : (before after : State) (f : LexFault) → IsBetweenStatements before → Answers {X = LineStart} (λ start. start) (Err f) after (start_line_of before) → Fails (fault.Lex f) (opening (lines_from before))
 begins-badly before after lex.OutOfMemory comes h = tt
-begins-badly before after (lex.BadByte spot) comes h = begins before after (Err (unit_fault.BadByte spot)) comes h
-begins-badly before after (lex.Tab spot) comes h = begins before after (Err (unit_fault.Tab spot)) comes h
-begins-badly before after (lex.BadEscape spot) comes h = begins before after (Err (unit_fault.BadEscape spot)) comes h
+begins-badly before after (lex.BadByte spot) comes h = begins before (Err (unit_fault.BadByte spot)) comes h.0
+begins-badly before after (lex.Tab spot) comes h = begins before (Err (unit_fault.Tab spot)) comes h.0
+begins-badly before after (lex.BadEscape spot) comes h = begins before (Err (unit_fault.BadEscape spot)) comes h.0
 
 -- ---- a measure of the lines that are left
 
@@ -150,34 +147,45 @@ ahead-comments (l ∷ ls) = by_comment (is_comment (kind_of l)) (ahead-comments 
     by_comment false h = omega arith
     by_comment true h = by_last l.is_last refl h
 
--- the lines after a blank one
-blank-kind : (k : Kind) (l : Line) (ls : List Line) (after : State) → (begun_by k l ls).outcome ≡ Ok start.Blank → after ≡ (begun_by k l ls).after → lines_ahead after < ahead (l ∷ ls)
-blank-kind CommentLine l ls after a s = absurd cc
-blank-kind (TabLine tab) l ls after a s = absurd cc
-blank-kind IndentedLine l ls after a s = absurd cc
-blank-kind PlainLine l ls after a s = absurd cc
-blank-kind BlankLine l ls after a s = by_end (l.is_last && is_empty l.units) refl a s
-  where
-    by_end : (t : Bool) → (l.is_last && is_empty l.units) ≡ t → (cond t (calls.reply start.End (Between (l ∷ ls))) (calls.reply start.Blank (Between (lines_after l ls)))).outcome ≡ Ok start.Blank
-        → after ≡ (cond t (calls.reply start.End (Between (l ∷ ls))) (calls.reply start.Blank (Between (lines_after l ls)))).after → lines_ahead after < ahead (l ∷ ls)
-    by_end true e b g = absurd cc
-    by_end false e b g = rw g (ahead-after l ls e)
+-- whether a blank line was begun
+abbrev begins_blank : Reply LineStart → Bool
+begins_blank (Ok (start.Blank, s)) = true
+begins_blank other = false
 
-blank-begun : (ls : List Line) (after : State) → (begun ls).outcome ≡ Ok start.Blank → after ≡ (begun ls).after → lines_ahead after < ahead ls
-blank-begun [] after a s = absurd cc
-blank-begun (l ∷ ls) after a s = blank-kind (kind_of l) l ls after a s
+not_blank : {P : Type 0} (r : Reply LineStart) (after : State) → begins_blank r ≡ false → r ≡ Ok (start.Blank, after) → P
+not_blank r after n h = absurd (false≢true (sym n ∙ ap begins_blank h))
+
+abbrev state_in : Reply LineStart → State
+state_in (Ok (x, s)) = s
+state_in (Err f) = Failed f
+
+-- the lines after a blank one
+blank-kind : (k : Kind) (l : Line) (ls : List Line) (after : State) → begun_by k l ls ≡ Ok (start.Blank, after) → lines_ahead after < ahead (l ∷ ls)
+blank-kind CommentLine l ls after h = not_blank (begun_by CommentLine l ls) after refl h
+blank-kind (TabLine tab) l ls after h = not_blank (begun_by (TabLine tab) l ls) after refl h
+blank-kind IndentedLine l ls after h = not_blank (begun_by IndentedLine l ls) after refl h
+blank-kind PlainLine l ls after h = not_blank (begun_by PlainLine l ls) after refl h
+blank-kind BlankLine l ls after h = by_end (l.is_last && is_empty l.units) refl h
+  where
+    by_end : (t : Bool) → (l.is_last && is_empty l.units) ≡ t → cond t (reply start.End (Between (l ∷ ls))) (reply start.Blank (Between (lines_after l ls))) ≡ Ok (start.Blank, after) → lines_ahead after < ahead (l ∷ ls)
+    by_end true e g = not_blank (reply start.End (Between (l ∷ ls))) after refl g
+    by_end false e g = subst (λ s. lines_ahead s < ahead (l ∷ ls)) (ap state_in g) (ahead-after l ls e)
+
+blank-begun : (ls : List Line) (after : State) → begun ls ≡ Ok (start.Blank, after) → lines_ahead after < ahead ls
+blank-begun [] after h = not_blank (begun []) after refl h
+blank-begun (l ∷ ls) after h = blank-kind (kind_of l) l ls after h
 
 -- Behind a blank line there are fewer.
 pub blank-falls : (before after : State) → Answers (λ start. start) (Ok start.Blank) after (start_line_of before) → lines_ahead after < lines_ahead before
 blank-falls (Between ls) after h =
-    let within = blank-begun (without_comments ls) after h.0 h.1 in
+    let within = blank-begun (without_comments ls) after h in
     let comments = ahead-comments ls in
     omega (arith, within, comments)
-blank-falls (Inside l ls) after h = absurd cc
-blank-falls (Failed f) after h = absurd cc
+blank-falls (Inside l ls) after h = not_blank (start_line_of (Inside l ls)) after refl h
+blank-falls (Failed f) after h = not_blank (start_line_of (Failed f)) after refl h
 
-pub begins-as : (before after : State) (got want : LineStart) → got ≡ want → IsBetweenStatements before → Answers (λ start. start) (Ok got) after (start_line_of before) → Begins (opening (lines_from before)) (Ok want) after
-begins-as before after got want e comes h = subst (λ x. Begins (opening (lines_from before)) (Ok x) after) e (begins before after (Ok got) comes h)
+pub begins-as : (before after : State) (got want : LineStart) → got ≡ want → IsBetweenStatements before → Answers (λ start. start) (Ok got) after (start_line_of before) → Begins (opening (lines_from before)) (Ok (want, after))
+begins-as before after got want e comes h = subst (λ x. Begins (opening (lines_from before)) (Ok (x, after))) e (begins before (Ok (got, after)) comes h)
 
 pub blank-falls-as : (before after : State) (got : LineStart) → got ≡ start.Blank → Answers (λ start. start) (Ok got) after (start_line_of before) → lines_ahead after < lines_ahead before
 blank-falls-as before after got e h = blank-falls before after (subst (λ x. Answers (λ start. start) (Ok x) after (start_line_of before)) e h)

@@ -7,7 +7,8 @@ use Rattle.nj_text.specs.Units.{Meaning, Ordinary, Escape, Reference, Join, Open
 use Rattle.nj_text.specs.Lines.{Line, with_units}
 use Rattle.nj_text.specs.Words.{is_blank, in_word, next_fault, WordText}
 use Rattle.nj_text.specs.Inside.Meanings.{in_word_meaning, opens_word_meaning}
-use Rattle.nj_text.specs.Calls.{State, Between, Inside, Failed, reply, unless_fault, after_blanks, begins_word, word_here, path_word_of}
+use Rattle.nj_text.specs.Calls.{State, Between, Inside, Failed, unless_fault, after_blanks, begins_word, word_here, path_word_of}
+use Rattle.nj_text.specs.Inside.States.{reply}
 use Rattle.nj_manifest.specs.Faults.{Fault}
 use Rattle.nj_manifest.specs.LineSteps.{Step, ◌>>=◌, called, words_from, words_within, units_left, words_next}
 

@@ -2,7 +2,6 @@
 use Rattle.std.specs.Prelude.{ℕ, Bool, true, false, ◌&&◌, not, ◌==◌, if◌then◌else◌, Option, Some, None, Result, Ok, Err, List, codes}
 use Rattle.std.specs.List.{flat_map}
 use Rattle.std.specs.Str.{bytes_eq}
-use Rattle.nj_text.specs.declared.fault.UnitFault.{UnitFault}
 use Rattle.nj_text.specs.declared.sign.Sign.{Sign}
 use Rattle.nj_text.specs.declared.sign.Sign.TheVariants as sign
 use Rattle.nj_text.specs.declared.line_start.LineStart.{LineStart}
@@ -11,7 +10,7 @@ use Rattle.nj_text.specs.declared.spot.Spot.{Spot}
 use Rattle.nj_text.specs.Numbers.{version_pair_of}
 use Rattle.nj_text.specs.Lines.{Line}
 use Rattle.nj_text.specs.Words.{PartText, Text, Name, WordText}
-use Rattle.nj_text.specs.Calls.{State, Inside, start_line_of, skip_blanks_of, sign_of, path_word_of, spot_of}
+use Rattle.nj_text.specs.Calls.{State, Reply, Inside, start_line_of, skip_blanks_of, sign_of, path_word_of, spot_of}
 use Rattle.nj_text.specs.Calls.{fault_spot, first_line_spot}
 use Rattle.nj_manifest.specs.declared.fault.Wanted.{Wanted}
 use Rattle.nj_manifest.specs.declared.fault.Wanted.TheVariants as wanted
@@ -66,16 +65,14 @@ word_of_form word wanted s = do
 abbrev pub is_same_spot : Spot → Spot → Bool
 is_same_spot a b = a.line == b.line && a.column == b.column
 
-abbrev pub no_path_by : Spot → Result (Option WordText) UnitFault → State → Result State Fault
-no_path_by spot (Ok None) after = Ok after
-no_path_by spot (Ok (Some word)) after = Err (DyndepShape spot)
-no_path_by spot (Err unit) after = if is_same_spot (fault_spot unit) spot then Err (Bad unit) else Err (DyndepShape spot)
+abbrev pub no_path_by : Spot → Reply (Option WordText) → Result State Fault
+no_path_by spot (Ok (None, after)) = Ok after
+no_path_by spot (Ok (Some word, after)) = Err (DyndepShape spot)
+no_path_by spot (Err unit) = if is_same_spot (fault_spot unit) spot then Err (Bad unit) else Err (DyndepShape spot)
 
 -- There is no path here. One that is here departs from the form at its first unit, whether or not a bad unit breaks it later.
 unfoldable pub no_path : State → Result State Fault
-no_path s =
-    let here = skip_blanks_of s in
-    no_path_by (spot_of here) (path_word_of here).outcome (path_word_of here).after
+no_path s = let here = skip_blanks_of s in no_path_by (spot_of here) (path_word_of here)
 
 -- no section begins here with this sign
 unfoldable pub no_section : Sign → State → Result State Fault

@@ -1,6 +1,6 @@
 -- Reading on along a line, call by call of the lexer.
 use Rattle.std.specs.Prelude.{ℕ, zero, suc, if◌then◌else◌, Option, Some, None, ok_or, Result, Ok, Err, List, [], ◌∷◌, length}
-use Rattle.nj_text.specs.declared.fault.UnitFault.{UnitFault}
+use Rattle.std.specs.Result.{result_map_both}
 use Rattle.nj_text.specs.declared.sign.Sign.{Sign}
 use Rattle.nj_text.specs.declared.sign.Sign.TheVariants as sign
 use Rattle.nj_text.specs.declared.spot.Spot.{Spot}
@@ -19,13 +19,9 @@ abbrev pub ◌>>=◌ : {A B E : Type 0} → Result A E → (A → Result B E) �
 (Ok x) >>= f = f x
 (Err e) >>= f = Err e
 
-abbrev pub answered : {A : Type 0} → Result A UnitFault → State → Step A
-answered (Ok x) after = Ok (x, after)
-answered (Err f) after = Err (Bad f)
-
 -- a call of the lexer
 abbrev pub called : {A : Type 0} → Reply A → Step A
-called r = answered r.outcome r.after
+called r = result_map_both (λ x. x) (λ f. Bad f) r
 
 -- a name and the place of its first byte
 pub record NameText : Type 0 where

@@ -12,10 +12,10 @@ use Rattle.nj_text.specs.Units.{Meaning, Ordinary, Escape, Reference, Join, Open
 use Rattle.nj_text.specs.Inside.Scans.{spots_after}
 use Rattle.nj_text.specs.Lines.{Line, ending_of, before_first_line, lines_before, lines_of, with_units, Kind, IndentedLine, PlainLine, is_space_unit, text_kind, kind_with, kind_after_spaces, begins_with_space, kind_of}
 use Rattle.nj_text.specs.Inside.Scans.{advance, on_next_line, units_within, Begins, BeginsBadly, begins_with_space_byte}
-use Rattle.nj_text.specs.Calls.{Between, Inside, reply, failing, begun, begun_by, is_comment, without_comments}
+use Rattle.nj_text.specs.Calls.{Between, Inside, begun, begun_by, is_comment, without_comments}
 use Rattle.nj_text.specs.declared.cursor.Cursor.{Cursor}
 use Rattle.nj_text.specs.declared.line_start.Begun.{Begun}
-use Rattle.nj_text.specs.Inside.States.{BegunIs, BegunAfterSpaces, first_line, other_lines, inside, lines_from, lines_within, space_units}
+use Rattle.nj_text.specs.Inside.States.{reply, failing, BegunIs, BegunAfterSpaces, first_line, other_lines, inside, lines_from, lines_within, space_units}
 use Rattle.nj_text.proofs.Lists.{AllIn, AllIn-take_while, drop_while-cons_no, drop_while-cons_yes, drop_while-append, take_while-cons_yes, length-take_while, drop-prefix_len}
 use Rattle.nj_text.proofs.Cuts.{cut-skip, spots_advance, advance-advance, advance-zero, unit-ordinary}
 use Rattle.std.proofs.lemmas.List.{nil_from_length}

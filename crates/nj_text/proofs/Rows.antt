@@ -11,7 +11,7 @@ use Rattle.nj_text.specs.declared.spot.Spot.{Spot}
 use Rattle.nj_text.specs.Units.{units, cut, Meaning, Comment, LineEnd, TextEnd, Ordinary, Join, OpeningJoin, Escape, Reference, BadByte, BadEscape, LeadingTab}
 use Rattle.nj_text.specs.Lines.{text_lines, kind_of, CommentLine, TabLine, PlainLine, BlankLine, IndentedLine, line_spot}
 use Rattle.nj_text.specs.Words.{PartText, Text, Name, WordText}
-use Rattle.nj_text.specs.Calls.{State, Reply, at_front, start_line_of, ident_of, sign_of, path_word_of, value_of, spot_of}
+use Rattle.nj_text.specs.Calls.{State, Failed, Reply, at_front, start_line_of, ident_of, sign_of, path_word_of, value_of, spot_of}
 
 -- ---- units
 
@@ -151,12 +151,12 @@ data Expected : Type 0 where
 abbrev Call : Type 0
 Call = State → Expected × State
 
-abbrev answered : {A : Type 0} → (A → Expected) → Result A UnitFault → Expected
-answered show (Ok x) = show x
-answered show (Err f) = Fault f
+abbrev answered : {A : Type 0} → (A → Expected) → Reply A → Expected × State
+answered show (Ok (x, after)) = (show x, after)
+answered show (Err f) = (Fault f, Failed f)
 
 abbrev shown : {A : Type 0} → (A → Expected) → (State → Reply A) → Call
-shown show call s = (answered show (call s).outcome, (call s).after)
+shown show call s = answered show (call s)
 
 abbrev found_word : WordText → Expected
 found_word w = Word w.spot w.parts

@@ -11,8 +11,8 @@ use Rattle.nj_text.specs.Units.{Ordinary, TextUnit, Within, unit_at, is_ordinary
 use Rattle.nj_text.specs.Lines.{Line, ending_of, lines_of, lines_before, before_first_line, with_units, lines_after}
 use Rattle.nj_text.specs.Words.{begins_with_byte, next_fault}
 use Rattle.nj_text.specs.Inside.Scans.{advance, units_within, has_sign, sign_size, sign_length}
-use Rattle.nj_text.specs.Calls.{State, Between, Inside, Reply, reply, failing, is_empty, is_sign, state_after_sign, sign_at}
-use Rattle.nj_text.specs.Inside.States.{first_line, other_lines, inside, lines_within, ends_next}
+use Rattle.nj_text.specs.Calls.{State, Between, Inside, Reply, is_empty, is_sign, state_after_sign, sign_at}
+use Rattle.nj_text.specs.Inside.States.{reply, failing, unless_bad, first_line, other_lines, inside, lines_within, ends_next}
 use Rattle.nj_text.proofs.Cuts.{unit-ordinary, cut-ordinary, advance-advance}
 use Rattle.nj_text.proofs.Gathered.{not_ordinary}
 use Rattle.nj_text.proofs.LineStarts.{cut_has_line, fails_if_no_byte}
@@ -22,16 +22,16 @@ use Rattle.nj_text.proofs.Steps.{line, others, fails_here, continues_here}
 abbrev sign_or_none : Sign → Spot → List ℕ → Bool → Reply Bool
 sign_or_none want spot bytes t = cond t (reply true (state_after_sign want (line spot bytes) (others spot bytes))) (reply false (Inside (line spot bytes) (others spot bytes)))
 
-pub sign_fails : (want : Sign) (spot : Spot) (bytes : List ℕ) (f : UnitFault) → Some f ≡ next_fault (units_within spot bytes) → sign_at want (line spot bytes) (others spot bytes) ≡ failing f
+pub sign_fails : (want : Sign) (spot : Spot) (bytes : List ℕ) (f : UnitFault) → Some f ≡ next_fault (units_within spot bytes) → unless_bad (sign_at want) (line spot bytes) (others spot bytes) ≡ failing f
 sign_fails want spot bytes f e = fails_here spot bytes f (sign_or_none want spot bytes (is_sign want (line spot bytes).units)) e
 
-sign_by : (want : Sign) (spot : Spot) (bytes : List ℕ) (t : Bool) → None ≡ next_fault (units_within spot bytes) → is_sign want (line spot bytes).units ≡ t → sign_at want (line spot bytes) (others spot bytes) ≡ sign_or_none want spot bytes t
+sign_by : (want : Sign) (spot : Spot) (bytes : List ℕ) (t : Bool) → None ≡ next_fault (units_within spot bytes) → is_sign want (line spot bytes).units ≡ t → unless_bad (sign_at want) (line spot bytes) (others spot bytes) ≡ sign_or_none want spot bytes t
 sign_by want spot bytes t n e = continues_here spot bytes (sign_or_none want spot bytes (is_sign want (line spot bytes).units)) n ∙ ap (sign_or_none want spot bytes) e
 
 -- ---- line ends
 
 pub line_end_taken : (want : Sign) (spot : Spot) (bytes : List ℕ) (after : List Line) → want ≡ sign.LineEnd → None ≡ next_fault (units_within spot bytes) → (line spot bytes).units ≡ [] → lines_after (line spot bytes) (others spot bytes) ≡ after
-    → sign_at want (line spot bytes) (others spot bytes) ≡ reply true (Between after)
+    → unless_bad (sign_at want) (line spot bytes) (others spot bytes) ≡ reply true (Between after)
 line_end_taken want spot bytes after w n e l = rw w (sign_by sign.LineEnd spot bytes true n (ap is_empty e) ∙ ap (λ ls. reply true (Between ls)) l)
 
 has_units : (us : List TextUnit) → (first : ends_next us ≡ false) → ((l : Line) × (ls : List Line) × (lines_of us ≡ l ∷ ls)) → is_empty (first_line (lines_of us)).units ≡ false
@@ -46,7 +46,7 @@ has_units (u ∷ us) first h = by_end (ending_of u.means) refl first h
     by_end (Some b) e f k = absurd cc
 
 pub no_line_end : (want : Sign) (spot : Spot) (bytes : List ℕ) → want ≡ sign.LineEnd → None ≡ next_fault (units_within spot bytes) → ends_next (units_within spot bytes) ≡ false
-    → sign_at want (line spot bytes) (others spot bytes) ≡ reply false (inside (lines_within spot bytes))
+    → unless_bad (sign_at want) (line spot bytes) (others spot bytes) ≡ reply false (inside (lines_within spot bytes))
 no_line_end want spot bytes w n e = rw w (sign_by sign.LineEnd spot bytes false n (has_units (units_within spot bytes) e (cut_has_line Within 0 spot bytes)))
 
 -- ---- bytes
@@ -129,7 +129,7 @@ same_sign sign.PipeAt spot bytes n = by_test (begins_with 124 bytes) refl
 same_sign sign.LineEnd spot bytes n = absurd (n refl)
 
 pub no_sign : (want : Sign) (spot : Spot) (bytes : List ℕ) → (want ≡ sign.LineEnd → ⊥) → None ≡ next_fault (units_within spot bytes) → sign_length want bytes ≡ 0
-    → sign_at want (line spot bytes) (others spot bytes) ≡ reply false (inside (lines_within spot bytes))
+    → unless_bad (sign_at want) (line spot bytes) (others spot bytes) ≡ reply false (inside (lines_within spot bytes))
 no_sign want spot bytes w n z = sign_by want spot bytes false n (same_sign want spot bytes w ∙ by_test (has_sign want bytes) refl z)
   where
     some_size : (s : Sign) → sign_size s ≡ 0 → ⊥
@@ -180,7 +180,7 @@ taken_by sign.PipeAt spot bytes e = two_taken 124 64 refl refl spot bytes e
 taken_by sign.LineEnd spot bytes e = absurd cc
 
 pub sign_taken : (want : Sign) (spot : Spot) (bytes : List ℕ) (n : ℕ) (there : Spot) (rest : List ℕ) → (want ≡ sign.LineEnd → ⊥) → None ≡ next_fault (units_within spot bytes) → n ≡ sign_length want bytes → (n ≡ 0 → ⊥)
-    → there ≡ advance n spot → rest ≡ drop n bytes → sign_at want (line spot bytes) (others spot bytes) ≡ reply true (inside (lines_within there rest))
+    → there ≡ advance n spot → rest ≡ drop n bytes → unless_bad (sign_at want) (line spot bytes) (others spot bytes) ≡ reply true (inside (lines_within there rest))
 sign_taken want spot bytes n there rest w f l z t r =
     let has : has_sign want bytes ≡ true = by_test (has_sign want bytes) refl l in
     let size : n ≡ sign_size want = l ∙ ap (λ b. cond b (sign_size want) 0) has in

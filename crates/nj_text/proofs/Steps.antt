@@ -14,9 +14,9 @@ use Rattle.nj_text.specs.Lines.{Line, lines_of, with_units, line_spot}
 use Rattle.nj_text.specs.Inside.Scans.{advance, units_within, BeginsBadly}
 use Rattle.nj_text.specs.Words.{is_blank, in_identifier, in_word, next_fault, parts_of, PartText, WordText}
 use Rattle.nj_text.specs.Inside.Meanings.{opens_word_meaning}
-use Rattle.nj_text.specs.Calls.{State, Inside, Reply, reply, failing, unless_fault, after_blanks, bytes_of, some_bytes, ident_at, begins_word, word_here, word_at, value_at}
+use Rattle.nj_text.specs.Calls.{State, Inside, Reply, unless_fault, after_blanks, bytes_of, some_bytes, ident_at, begins_word, word_here, word_at, value_at}
 use Rattle.nj_text.specs.Inside.Gathering.{gathered, after_text, FailsText}
-use Rattle.nj_text.specs.Inside.States.{first_line, other_lines, inside, lines_within, FailsStep}
+use Rattle.nj_text.specs.Inside.States.{reply, failing, unless_bad, first_line, other_lines, inside, lines_within, FailsStep}
 use Rattle.nj_text.proofs.Lists.{AllIn, AllIn-weaker, AllIn-take_while, take_while-append, take_while-cons_no, drop_while-append, drop_while-cons_no}
 use Rattle.nj_text.proofs.Cuts.{plain_units, cut-run, unit-ordinary}
 use Rattle.nj_text.proofs.Gathered.{not_ordinary, none_after}
@@ -108,7 +108,7 @@ identifier_units spot bytes xs ys e h n =
     )
 
 pub identifier_here : (spot there : Spot) (bytes xs ys : List ℕ) → bytes ≡ xs ++ ys → xs ≡ take_while is_identifier_byte bytes → ys ≡ drop_while is_identifier_byte bytes → there ≡ advance (length xs) spot → None ≡ next_fault (units_within spot bytes)
-    → ident_at (line spot bytes) (others spot bytes) ≡ reply (some_bytes xs) (inside (lines_within there ys))
+    → unless_bad ident_at (line spot bytes) (others spot bytes) ≡ reply (some_bytes xs) (inside (lines_within there ys))
 identifier_here spot there bytes xs ys whole run remainder t f =
     let us = units_within spot bytes in
     let parts = identifier_units spot bytes xs ys whole (subst (AllIn is_identifier_byte) (sym run) (AllIn-take_while is_identifier_byte bytes)) (subst (NoneInRun is_identifier_byte) (sym remainder) (none_after is_identifier_byte bytes)) in
@@ -143,19 +143,19 @@ word_or_none spot bytes t =
     (reply None (Inside (line spot bytes) (others spot bytes)))
 
 pub no_word_here : (spot : Spot) (bytes : List ℕ) → None ≡ next_fault (units_within spot bytes) → begins_word (units_within spot bytes) ≡ false
-    → word_at (line spot bytes) (others spot bytes) ≡ reply None (inside (lines_within spot bytes))
+    → unless_bad word_at (line spot bytes) (others spot bytes) ≡ reply None (inside (lines_within spot bytes))
 no_word_here spot bytes f b =
     continues_here spot bytes (word_or_none spot bytes (begins_word (line spot bytes).units)) f ∙ ap (word_or_none spot bytes) (begins_here spot bytes ∙ b)
 
 pub word_fails_here : (spot : Spot) (bytes : List ℕ) (f : UnitFault) → None ≡ next_fault (units_within spot bytes) → begins_word (units_within spot bytes) ≡ true → next_fault (after_text kind.Word (units_within spot bytes)) ≡ Some f
-    → word_at (line spot bytes) (others spot bytes) ≡ failing f
+    → unless_bad word_at (line spot bytes) (others spot bytes) ≡ failing f
 word_fails_here spot bytes f n b e =
     continues_here spot bytes (word_or_none spot bytes (begins_word (line spot bytes).units)) n ∙ ap (word_or_none spot bytes) (begins_here spot bytes ∙ b)
     ∙ ap (λ o. unless_fault o (reply (Some (word_here (line spot bytes))) (Inside (with_units (drop_while in_word (line spot bytes).units) (line spot bytes)) (others spot bytes)))) (fault_after_word spot bytes ∙ e)
 
 pub word_is_here : (spot : Spot) (bytes : List ℕ) (parts : List PartText) (there : Spot) (rest : List ℕ) → None ≡ next_fault (units_within spot bytes) → begins_word (units_within spot bytes) ≡ true
     → next_fault (after_text kind.Word (units_within spot bytes)) ≡ None → parts ≡ gathered kind.Word (units_within spot bytes) → units_within there rest ≡ after_text kind.Word (units_within spot bytes)
-    → word_at (line spot bytes) (others spot bytes) ≡ reply (Some (record { spot = spot; parts = parts })) (inside (lines_within there rest))
+    → unless_bad word_at (line spot bytes) (others spot bytes) ≡ reply (Some (record { spot = spot; parts = parts })) (inside (lines_within there rest))
 word_is_here spot bytes parts there rest n b e p r =
     let us = units_within spot bytes in
     let place : line_spot (line spot bytes) ≡ spot = spot_of_line Within spot bytes in
@@ -197,15 +197,15 @@ pub begins_at_end : (spot : Spot) (bytes : List ℕ) → bytes ≡ [] → false 
 unfolding cut
 begins_at_end spot bytes e = rw e refl
 
-pub identifier_fails : (spot : Spot) (bytes : List ℕ) (f : UnitFault) → Some f ≡ next_fault (units_within spot bytes) → ident_at (line spot bytes) (others spot bytes) ≡ failing f
+pub identifier_fails : (spot : Spot) (bytes : List ℕ) (f : UnitFault) → Some f ≡ next_fault (units_within spot bytes) → unless_bad ident_at (line spot bytes) (others spot bytes) ≡ failing f
 identifier_fails spot bytes f e =
     fails_here spot bytes f (reply (some_bytes (bytes_of (take_while in_identifier (line spot bytes).units))) (Inside (with_units (drop_while in_identifier (line spot bytes).units) (line spot bytes)) (others spot bytes))) e
 
-pub word_fails_at_once : (spot : Spot) (bytes : List ℕ) (f : UnitFault) → Some f ≡ next_fault (units_within spot bytes) → word_at (line spot bytes) (others spot bytes) ≡ failing f
+pub word_fails_at_once : (spot : Spot) (bytes : List ℕ) (f : UnitFault) → Some f ≡ next_fault (units_within spot bytes) → unless_bad word_at (line spot bytes) (others spot bytes) ≡ failing f
 word_fails_at_once spot bytes f e = fails_here spot bytes f (word_or_none spot bytes (begins_word (line spot bytes).units)) e
 
 pub word_fails_or_lacks : (spot : Spot) (bytes : List ℕ) (f : WordFault) → None ≡ next_fault (units_within spot bytes) → begins_word (units_within spot bytes) ≡ true → FailsText f (next_fault (after_text kind.Word (units_within spot bytes)))
-    → FailsStep (word_at (line spot bytes) (others spot bytes)) f
+    → FailsStep (unless_bad word_at (line spot bytes) (others spot bytes)) f
 word_fails_or_lacks spot bytes (word_fault.Unit f) n b e = word_fails_here spot bytes f n b e
 word_fails_or_lacks spot bytes word_fault.OutOfMemory n b e = tt
 

@@ -1,6 +1,7 @@
 -- What each call of the lexer returns, and where it leaves the lexer.
 use Rattle.std.specs.Prelude.{◌≡◌, ℕ, Bool, true, false, ◌&&◌, not, if◌then◌else◌, Option, Some, None, Result, Ok, Err, List, [], ◌∷◌, drop}
 use Rattle.std.specs.List.{take_while, flat_map}
+use Rattle.std.specs.Option.{option_map_or}
 use Rattle.nj_text.specs.declared.fault.UnitFault.{UnitFault}
 use Rattle.nj_text.specs.declared.fault.UnitFault.TheVariants as fault
 use Rattle.nj_text.specs.declared.fault.LexFault.{LexFault}
@@ -22,21 +23,19 @@ pub data State : Type 0 where
   Inside : (line : Line) (lines : List Line) → State
   Failed : (fault : UnitFault) → State
 
--- what a call returns, and where it leaves the lexer
-pub record Reply (A : Type 0) : Type 0 where
-  pub outcome : Result A UnitFault
-  pub after : State
-
-abbrev pub reply : {A : Type 0} → A → State → Reply A
-reply x after = record { outcome = Ok x; after = after }
-
-abbrev pub failing : {A : Type 0} → UnitFault → Reply A
-failing f = record { outcome = Err f; after = Failed f }
+-- what a call returns, and the lexer after it; or the fault at which the lexer fails, for good
+abbrev pub Reply : Type 0 → Type 0
+Reply A = Result (A × State) UnitFault
 
 -- a fault comes first
 abbrev pub unless_fault : {A : Type 0} → Option UnitFault → Reply A → Reply A
-unless_fault None r = r
-unless_fault (Some f) r = failing f
+unless_fault fault r = option_map_or (λ f. Err f) fault r
+
+-- A call inside a line fails at a bad unit that comes next. Between lines it returns this, and a lexer that failed fails.
+abbrev pub in_line : {A : Type 0} → A → (Line → List Line → Reply A) → State → Reply A
+in_line between within (Between ls) = Ok (between, Between ls)
+in_line between within (Inside l ls) = unless_fault (next_fault l.units) (within l ls)
+in_line between within (Failed f) = Err f
 
 -- a lexer at the front of a text
 abbrev pub at_front : List ℕ → State
@@ -50,12 +49,12 @@ is_empty (x ∷ xs) = false
 
 -- how a line that is not a comment begins
 abbrev pub begun_by : Kind → Line → List Line → Reply LineStart
-begun_by CommentLine l ls = reply start.Plain (Inside l ls)
-begun_by (TabLine tab) l ls = failing (fault.Tab tab)
+begun_by CommentLine l ls = Ok (start.Plain, Inside l ls)
+begun_by (TabLine tab) l ls = Err (fault.Tab tab)
 begun_by BlankLine l ls =
-    if l.is_last && is_empty l.units then reply start.End (Between (l ∷ ls)) else reply start.Blank (Between (lines_after l ls))
-begun_by IndentedLine l ls = reply start.Indented (Inside (with_units (drop_while is_space_unit l.units) l) ls)
-begun_by PlainLine l ls = reply start.Plain (Inside l ls)
+    if l.is_last && is_empty l.units then Ok (start.End, Between (l ∷ ls)) else Ok (start.Blank, Between (lines_after l ls))
+begun_by IndentedLine l ls = Ok (start.Indented, Inside (with_units (drop_while is_space_unit l.units) l) ls)
+begun_by PlainLine l ls = Ok (start.Plain, Inside l ls)
 
 abbrev pub is_comment : Kind → Bool
 is_comment CommentLine = true
@@ -67,13 +66,13 @@ without_comments [] = []
 without_comments (l ∷ ls) = if is_comment (kind_of l) then lines_after l (without_comments ls) else l ∷ ls
 
 abbrev pub begun : List Line → Reply LineStart
-begun [] = reply start.End (Between [])
+begun [] = Ok (start.End, Between [])
 begun (l ∷ ls) = begun_by (kind_of l) l ls
 
 abbrev pub start_line_of : State → Reply LineStart
 start_line_of (Between ls) = begun (without_comments ls)
-start_line_of (Inside l ls) = reply start.Middle (Inside l ls)
-start_line_of (Failed f) = failing f
+start_line_of (Inside l ls) = Ok (start.Middle, Inside l ls)
+start_line_of (Failed f) = Err f
 
 -- ---- ident
 
@@ -94,14 +93,10 @@ some_bytes [] = None
 some_bytes (b ∷ bs) = Some (b ∷ bs)
 
 abbrev pub ident_at : Line → List Line → Reply (Option (List ℕ))
-ident_at l ls =
-    unless_fault (next_fault l.units)
-    (reply (some_bytes (bytes_of (take_while in_identifier l.units))) (Inside (with_units (drop_while in_identifier l.units) l) ls))
+ident_at l ls = Ok (some_bytes (bytes_of (take_while in_identifier l.units)), Inside (with_units (drop_while in_identifier l.units) l) ls)
 
 abbrev pub ident_of : State → Reply (Option (List ℕ))
-ident_of (Between ls) = reply None (Between ls)
-ident_of (Inside l ls) = ident_at (after_blanks l) ls
-ident_of (Failed f) = failing f
+ident_of s = in_line None ident_at (skip_blanks_of s)
 
 -- ---- sign
 
@@ -120,14 +115,10 @@ state_after_sign sign.PipeAt l ls = Inside (with_units (drop 2 l.units) l) ls
 state_after_sign want l ls = Inside (with_units (drop 1 l.units) l) ls
 
 abbrev pub sign_at : Sign → Line → List Line → Reply Bool
-sign_at want l ls =
-    unless_fault (next_fault l.units)
-    (if is_sign want l.units then reply true (state_after_sign want l ls) else reply false (Inside l ls))
+sign_at want l ls = if is_sign want l.units then Ok (true, state_after_sign want l ls) else Ok (false, Inside l ls)
 
 abbrev pub sign_of : Sign → State → Reply Bool
-sign_of want (Between ls) = reply false (Between ls)
-sign_of want (Inside l ls) = sign_at want (after_blanks l) ls
-sign_of want (Failed f) = failing f
+sign_of want s = in_line false (sign_at want) (skip_blanks_of s)
 
 -- ---- path_word
 
@@ -140,26 +131,12 @@ word_here l = record { spot = line_spot l; parts = parts_of (take_while in_word 
 
 abbrev pub word_at : Line → List Line → Reply (Option WordText)
 word_at l ls =
-    unless_fault (next_fault l.units)
-    (if begins_word l.units
-    then unless_fault (next_fault (drop_while in_word l.units))
-    (reply (Some (word_here l)) (Inside (with_units (drop_while in_word l.units) l) ls))
-    else reply None (Inside l ls))
+    let rest = drop_while in_word l.units in
+    if begins_word l.units then unless_fault (next_fault rest) (Ok (Some (word_here l), Inside (with_units rest l) ls))
+    else Ok (None, Inside l ls)
 
 abbrev pub path_word_of : State → Reply (Option WordText)
-path_word_of (Between ls) = reply None (Between ls)
-path_word_of (Inside l ls) = word_at (after_blanks l) ls
-path_word_of (Failed f) = failing f
-
--- ---- value
-
-abbrev pub value_at : Line → List Line → Reply WordText
-value_at l ls =
-    unless_fault (first_fault l.units)
-    (reply (record { spot = line_spot l; parts = parts_of l.units }) (Inside (with_units [] l) ls))
-
-abbrev pub no_word : Spot → WordText
-no_word spot = record { spot = spot; parts = [] }
+path_word_of s = in_line None word_at (skip_blanks_of s)
 
 -- ---- spot
 
@@ -177,10 +154,16 @@ spot_of (Between ls) = first_line_spot ls
 spot_of (Inside l ls) = line_spot l
 spot_of (Failed f) = fault_spot f
 
+-- ---- value
+
+abbrev pub value_at : Line → List Line → Reply WordText
+value_at l ls =
+    unless_fault (first_fault l.units) (Ok (record { spot = line_spot l; parts = parts_of l.units }, Inside (with_units [] l) ls))
+
 abbrev pub value_of : State → Reply WordText
-value_of (Between ls) = reply (no_word (first_line_spot ls)) (Between ls)
+value_of (Between ls) = Ok (record { spot = first_line_spot ls; parts = [] }, Between ls)
 value_of (Inside l ls) = value_at (after_blanks (with_units (after_opening l.units) l)) ls
-value_of (Failed f) = failing f
+value_of (Failed f) = Err f
 
 -- ---- what a call of the program does
 
@@ -191,14 +174,14 @@ unit_of (lex.Tab spot) = Some (fault.Tab spot)
 unit_of (lex.BadEscape spot) = Some (fault.BadEscape spot)
 unit_of lex.OutOfMemory = None
 
--- It fails with the fault of the definition, and leaves the lexer where the definition does; never out of memory.
+-- It fails with the fault of the definition, for good; never out of memory.
 abbrev pub Fails : {Y : Type 0} → Option UnitFault → (after : State) → Reply Y → Type 0
-Fails (Some f) after expected = (expected.outcome ≡ Err f) × (after ≡ expected.after)
+Fails (Some f) after expected = (expected ≡ Err f) × (after ≡ Failed f)
 Fails None after expected = ⊥
 
 -- It returns what the definition gives, and leaves the lexer where the definition does.
 abbrev pub Answers : {X Y : Type 0} → (X → Y) → Result X LexFault → (after : State) → Reply Y → Type 0
-Answers view (Ok x) after expected = (expected.outcome ≡ Ok (view x)) × (after ≡ expected.after)
+Answers view (Ok x) after expected = expected ≡ Ok (view x, after)
 Answers view (Err f) after expected = Fails (unit_of f) after expected
 
 abbrev pub is_inside : State → Bool
@@ -206,10 +189,10 @@ is_inside (Inside l ls) = true
 is_inside s = false
 
 abbrev pub FailsOrLacksMemory : {Y : Type 0} → Option UnitFault → (before after : State) → Reply Y → Type 0
-FailsOrLacksMemory (Some f) before after expected = (expected.outcome ≡ Err f) × (after ≡ expected.after)
+FailsOrLacksMemory (Some f) before after expected = (expected ≡ Err f) × (after ≡ Failed f)
 FailsOrLacksMemory None before after expected = (is_inside before ≡ true) × (after ≡ before)
 
 -- The same of a call that takes memory, which it does inside a line only: out of memory leaves the lexer as it was.
 abbrev pub ReturnsOrLacksMemory : {X Y : Type 0} → (X → Y) → Result X LexFault → (before after : State) → Reply Y → Type 0
-ReturnsOrLacksMemory view (Ok x) before after expected = (expected.outcome ≡ Ok (view x)) × (after ≡ expected.after)
+ReturnsOrLacksMemory view (Ok x) before after expected = expected ≡ Ok (view x, after)
 ReturnsOrLacksMemory view (Err f) before after expected = FailsOrLacksMemory (unit_of f) before after expected

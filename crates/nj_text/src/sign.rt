@@ -6,7 +6,7 @@ ghost use Rattle.nj_text.specs.Words.{next_fault};
 ghost use Rattle.nj_text.specs.Bytes.{begins_with};
 ghost use Rattle.nj_text.specs.Inside.Scans.{sign_length};
 ghost use Rattle.nj_text.specs.Calls.{after_blanks, sign_at};
-ghost use Rattle.nj_text.specs.Inside.States.{EndsLine, SignIs, line_at, other_lines_at};
+ghost use Rattle.nj_text.specs.Inside.States.{EndsLine, SignIs, unless_bad, line_at, other_lines_at};
 
 use crate::blanks::skip_blanks;
 use crate::cursor::Cursor;
@@ -98,7 +98,8 @@ pub enum SignTaken<'a> {
 fn take_line_end(cursor: Cursor<'_>) -> SignTaken<'_>
     requires { next_fault (units_within cursor.spot cursor.rest.now) ≡ None }
     ensures { SignIs
-        (sign_at Sign.LineEnd (line_at cursor.entry) (other_lines_at cursor.entry)) result }
+        (unless_bad (sign_at Sign.LineEnd) (line_at cursor.entry) (other_lines_at cursor.entry))
+        result }
 {
     let Some(after) = past_line_end(cursor) else {
         return SignTaken::No(cursor);
@@ -110,7 +111,8 @@ fn take_line_end(cursor: Cursor<'_>) -> SignTaken<'_>
 #[inline(always)]
 pub fn take_sign(want: Sign, start: Cursor<'_>) -> SignTaken<'_>
     ensures { SignIs
-        (sign_at want (after_blanks (line_at start.entry)) (other_lines_at start.entry)) result }
+        (unless_bad (sign_at want) (after_blanks (line_at start.entry))
+        (other_lines_at start.entry)) result }
 {
     let cursor = skip_blanks(start);
     if let Some(fault) = bad_unit(cursor) {

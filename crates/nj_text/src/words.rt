@@ -4,7 +4,7 @@ ghost use Rattle.std.specs.Prelude.{◌≡◌};
 ghost use Rattle.std.specs.Option.{option_map};
 ghost use Rattle.nj_text.specs.Words.{word_text};
 ghost use Rattle.nj_text.specs.Calls.{after_blanks, ident_at, word_at, value_at};
-ghost use Rattle.nj_text.specs.Inside.States.{Steps, StepsOrLacksMemory, line_at, other_lines_at};
+ghost use Rattle.nj_text.specs.Inside.States.{Steps, StepsOrLacksMemory, unless_bad, line_at, other_lines_at};
 
 use crate::blanks::skip_blanks;
 use crate::cursor::Cursor;
@@ -19,7 +19,8 @@ use std::alloc::Global;
 #[inline(always)]
 pub fn identifier(start: Cursor<'_>) -> Result<(Option<&[u8]>, Cursor<'_>), UnitFault>
     ensures { Steps (option_map (λ bytes. bytes.now))
-        (ident_at (after_blanks (line_at start.entry)) (other_lines_at start.entry)) result }
+        (unless_bad ident_at (after_blanks (line_at start.entry)) (other_lines_at start.entry))
+        result }
 {
     let cursor = skip_blanks(start);
     if let Some(fault) = bad_unit(cursor) {
@@ -39,7 +40,8 @@ pub fn word<'a>(
     start: Cursor<'a>,
 ) -> Result<(Option<Word<'a>>, Cursor<'a>), WordFault>
     ensures { StepsOrLacksMemory (option_map word_text)
-        (word_at (after_blanks (line_at start.entry)) (other_lines_at start.entry)) result }
+        (unless_bad word_at (after_blanks (line_at start.entry)) (other_lines_at start.entry))
+        result }
 {
     let cursor = skip_blanks(start);
     if let Some(fault) = bad_unit(cursor) {

@@ -17,7 +17,22 @@ use Rattle.nj_text.specs.declared.line_start.Begun.TheVariants as line_start
 use Rattle.nj_text.specs.Units.{TextUnit, Ordinary, OpeningJoin, AtStart, AfterSpaces, Within, first_spot, cut}
 use Rattle.nj_text.specs.Inside.Scans.{advance, units_within}
 use Rattle.nj_text.specs.Lines.{Line, lines_of, before_first_line, lines_after, ending_of}
-use Rattle.nj_text.specs.Calls.{State, Between, Inside, Failed, Reply, reply, failing, begun, unit_of}
+use Rattle.nj_text.specs.Words.{next_fault}
+use Rattle.nj_text.specs.Calls.{State, Between, Inside, Failed, Reply, unless_fault, begun, unit_of}
+
+-- ---- replies
+
+abbrev pub reply : {A : Type 0} → A → State → Reply A
+reply x after = Ok (x, after)
+
+abbrev pub failing : {A : Type 0} → UnitFault → Reply A
+failing f = Err f
+
+-- what a call within a line gives, where a bad unit may come next
+abbrev pub unless_bad : {A : Type 0} → (Line → List Line → Reply A) → Line → List Line → Reply A
+unless_bad call l ls = unless_fault (next_fault l.units) (call l ls)
+
+-- ---- lines
 
 abbrev pub first_line : List Line → Line
 first_line [] = record { units = []; end = first_spot; is_last = true }

@@ -30,5 +30,6 @@ words-preserved c =
 pub returns : goal.returns
 returns c =
     let gone : called (path_word_of c.words.lexer) ≡ Ok (None, c.path_word.new.self) =
-    rw (ap (option_map word_text) (sym c.in_default.is)) (gave (option_map word_text c.in_ok-word.field-0) c.path_word.new.self (path_word_of c.words.lexer) c.in_ok-word.ensures) in
+    gave (option_map word_text c.in_ok-word.field-0) c.path_word.new.self (path_word_of c.words.lexer) c.in_ok-word.ensures
+    ∙ ap (λ w. Ok (option_map word_text w, c.path_word.new.self)) c.in_default.is in
     words-end (words_next c.args.lexer.now) (map word_text c.words.words.items) c.words.lexer c.path_word.new.self c.words.invariant gone

@@ -2,7 +2,8 @@ use Rattle.std.proofs.Common.{refl, sym, ap, ◌∙◌, drop}
 use Rattle.nj_text.specs.declared.line_start.LineStart.TheVariants as start
 use Rattle.nj_text.specs.Units.{Ordinary, Escape, Reference, Join, BadByte, BadEscape}
 use Rattle.nj_text.specs.Inside.Scans.{units_within, advance, on_next_line}
-use Rattle.nj_text.specs.Calls.{Between, reply}
+use Rattle.nj_text.specs.Calls.{Between}
+use Rattle.nj_text.specs.Inside.States.{reply}
 use Rattle.nj_text.proofs.LineStarts.{after_end, after_line_end, after_tab, after_plain, after_badly, not_nine, lines_moved, plain_ordinary}
 use Rattle.nj_text.proofs.line_start.begin_after_spaces.Goals as goal
 

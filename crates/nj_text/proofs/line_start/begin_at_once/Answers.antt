@@ -3,8 +3,8 @@ use Rattle.nj_text.specs.declared.line_start.LineStart.TheVariants as start
 use Rattle.nj_text.specs.Units.{Ordinary, Escape, Reference, OpeningJoin, BadByte, BadEscape}
 use Rattle.nj_text.specs.Lines.{before_first_line}
 use Rattle.nj_text.specs.Inside.Scans.{units_within, advance, on_next_line}
-use Rattle.nj_text.specs.Calls.{Between, reply}
-use Rattle.nj_text.specs.Inside.States.{inside}
+use Rattle.nj_text.specs.Calls.{Between}
+use Rattle.nj_text.specs.Inside.States.{reply, inside}
 use Rattle.nj_text.proofs.LineStarts.{at_once_end, at_once_line_end, at_once_join, at_once_tab, at_once_plain, at_once_badly, not_nine, lines_moved, within_moved, plain_ordinary}
 use Rattle.nj_text.proofs.line_start.begin_at_once.Goals as goal
 
