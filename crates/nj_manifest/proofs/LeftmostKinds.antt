@@ -4,7 +4,8 @@ use Rattle.std.specs.List.{take_while}
 use Rattle.nj_text.specs.declared.spot.Spot.{Spot}
 use Rattle.nj_text.specs.Bytes.{drop_while, is_space, is_identifier_byte}
 use Rattle.nj_text.specs.Units.{Meaning, Ordinary, Comment, LeadingTab, TextUnit, is_ordinary_in}
-use Rattle.nj_text.specs.Lines.{Kind, TabLine, IndentedLine, PlainLine, is_space_unit, text_kind, kind_with, kind_after_spaces, begins_with_space, spot_of_first}
+use Rattle.nj_text.specs.Lines.{Kind, TabLine, IndentedLine, PlainLine, is_space_unit, kind_with, kind_after_spaces, begins_with_space, spot_of_first}
+use Rattle.nj_text.specs.Inside.Meanings.{text_kind}
 use Rattle.nj_text.specs.Words.{in_identifier}
 use Rattle.nj_text.proofs.Lists.{AllIn, AllIn-take_while}
 use Rattle.nj_manifest.proofs.LeftmostRuns.{begins, both_parts, after_stops, run_passed, none_passed, no_other, not_byte}

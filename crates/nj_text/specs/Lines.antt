@@ -67,15 +67,11 @@ pub data Kind : Type 0 where
 abbrev pub is_space_unit : TextUnit → Bool
 is_space_unit u = is_ordinary_in is_space u.means
 
-abbrev pub text_kind : (indented : Bool) → Kind
-text_kind true = IndentedLine
-text_kind false = PlainLine
-
 -- a line with this unit after its leading spaces, which may be none
 abbrev pub kind_with : Meaning → Spot → (indented : Bool) → Kind
 kind_with Comment spot indented = CommentLine
 kind_with LeadingTab spot indented = TabLine spot
-kind_with m spot indented = text_kind indented
+kind_with m spot indented = if indented then IndentedLine else PlainLine
 
 abbrev pub kind_after_spaces : List TextUnit → (indented : Bool) → Kind
 kind_after_spaces [] indented = BlankLine

@@ -104,13 +104,8 @@ found_at Within b bs = unit_at b bs
 -- ---- the cut
 
 -- the position after a unit
-abbrev pub after_space : Position → Position
-after_space Within = Within
-after_space AtStart = AfterSpaces
-after_space AfterSpaces = AfterSpaces
-
 abbrev pub position_after : Position → Meaning → Position
-position_after position (Ordinary b) = if is_space b then after_space position else Within
+position_after position (Ordinary b) = if is_space b then elim position [ Within ↦ Within | other ↦ AfterSpaces ] else Within
 position_after position LineEnd = AtStart
 position_after position m = Within
 
