@@ -9,7 +9,8 @@ use Rattle.nj_manifest.specs.Faults.{Fault, DyndepVersion}
 use Rattle.nj_manifest.specs.LineSteps.{◌>>=◌, name_next}
 use Rattle.nj_manifest.specs.Statements.{equals_value, lines_from}
 use Rattle.nj_manifest.specs.Openings.{opening_by, opening}
-use Rattle.nj_manifest.specs.Dyndeps.{value_bytes, is_first_version, version_line, version_from, version_next}
+use Rattle.nj_manifest.specs.Expansion.{expanded, no_values}
+use Rattle.nj_manifest.specs.Dyndeps.{is_first_version, version_line, version_from, version_next}
 use Rattle.nj_manifest.specs.DyndepVersions.{first_version, VersionLineForm, VersionForm, VersionsAreTheForms}
 use Rattle.nj_manifest.proofs.Choices.{unless_missing, ended}
 use Rattle.nj_manifest.proofs.Framing.{bind-ok}
@@ -40,7 +41,7 @@ line-form l ls s h =
         spot = word.spot;
         value = value.0.0;
         binding = record { after_name = it.0; after_sign = is.0; of_name = word.here; equals = is.1; of_value = is.2 };
-        version = is_the_first (version_pair_of (value_bytes value.0.0.parts)) k.0;
+        version = is_the_first (version_pair_of (expanded no_values value.0.0.parts)) k.0;
       },
       sym (oks k.1) ∙ is.3,
     )

@@ -4,8 +4,9 @@ use Rattle.nj_text.specs.declared.spot.Spot.{Spot}
 use Rattle.nj_text.specs.Numbers.{version_pair_of}
 use Rattle.nj_text.specs.Lines.{Line, lines_after, CommentLine, BlankLine, PlainLine, kind_of}
 use Rattle.nj_text.specs.Words.{WordText}
+use Rattle.nj_manifest.specs.Expansion.{expanded, no_values}
 use Rattle.nj_manifest.specs.Grammar.{BindingForm}
-use Rattle.nj_manifest.specs.Dyndeps.{value_bytes, version_next}
+use Rattle.nj_manifest.specs.Dyndeps.{version_next}
 
 -- major 1 and minor 0
 abbrev pub first_version : ℕ × ℕ
@@ -16,7 +17,7 @@ pub record VersionLineForm (l : Line) : Type 0 where
   pub spot : Spot
   pub value : WordText
   pub binding : BindingForm l.units l.end (record { spot = spot; name = codes "ninja_dyndep_version" }) value
-  pub version : version_pair_of (value_bytes value.parts) ≡ first_version
+  pub version : version_pair_of (expanded no_values value.parts) ≡ first_version
 
 -- The version of some lines, and the lines after it. Comments and blank lines are skipped.
 pub data VersionForm : List Line → (rest : List Line) → Type 0 where

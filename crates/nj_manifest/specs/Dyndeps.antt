@@ -1,6 +1,5 @@
 -- Dyndep files ("Dyndep file reference" in the Ninja manual): the version, and then a statement for each entry.
 use Rattle.std.specs.Prelude.{ℕ, Bool, true, false, ◌&&◌, not, ◌==◌, if◌then◌else◌, Option, Some, None, Result, Ok, Err, List, codes}
-use Rattle.std.specs.List.{flat_map}
 use Rattle.std.specs.Str.{bytes_eq}
 use Rattle.nj_text.specs.declared.sign.Sign.{Sign}
 use Rattle.nj_text.specs.declared.sign.Sign.TheVariants as sign
@@ -9,25 +8,18 @@ use Rattle.nj_text.specs.declared.line_start.LineStart.TheVariants as start
 use Rattle.nj_text.specs.declared.spot.Spot.{Spot}
 use Rattle.nj_text.specs.Numbers.{version_pair_of}
 use Rattle.nj_text.specs.Lines.{Line}
-use Rattle.nj_text.specs.Words.{PartText, Text, Name, WordText}
+use Rattle.nj_text.specs.Words.{WordText}
 use Rattle.nj_text.specs.Calls.{State, Reply, Inside, start_line_of, skip_blanks_of, sign_of, path_word_of, spot_of}
 use Rattle.nj_text.specs.Calls.{fault_spot, first_line_spot}
 use Rattle.nj_manifest.specs.declared.fault.Wanted.{Wanted}
 use Rattle.nj_manifest.specs.declared.fault.Wanted.TheVariants as wanted
 use Rattle.nj_manifest.specs.Faults.{Fault, Bad, Expected, DyndepVersion, DyndepShape}
 use Rattle.nj_manifest.specs.LineSteps.{Step, ◌>>=◌, called, name_next, expect_sign, whole_line, section_next}
+use Rattle.nj_manifest.specs.Expansion.{expanded, no_values}
 use Rattle.nj_manifest.specs.Statements.{Parse, lines_from, equals_value}
 use Rattle.nj_manifest.specs.Openings.{Opening, Begun, Ended, opening}
 
 -- ---- the version
-
--- the bytes of a value; a reference has none, since a dyndep file binds no name
-abbrev pub part_bytes : PartText → List ℕ
-part_bytes (Text bytes) = bytes
-part_bytes (Name name) = codes ""
-
-abbrev pub value_bytes : List PartText → List ℕ
-value_bytes parts = flat_map part_bytes parts
 
 -- major 1 and minor 0, whatever follows these numbers
 abbrev pub is_first_version : ℕ × ℕ → Bool
@@ -38,7 +30,7 @@ unfoldable pub version_line : State → Result State Fault
 version_line s = do
   name ← name_next wanted.Statement s
   value ← if bytes_eq name.0.name (codes "ninja_dyndep_version") then equals_value name.1 else Err (DyndepVersion name.0.spot)
-  if is_first_version (version_pair_of (value_bytes value.0.parts)) then Ok value.1 else Err (DyndepVersion name.0.spot)
+  if is_first_version (version_pair_of (expanded no_values value.0.parts)) then Ok value.1 else Err (DyndepVersion name.0.spot)
 
 abbrev pub version_from : Opening → Result (List Line) Fault
 version_from (Begun l ls) = version_line (Inside l ls) >>= λ end. Ok (lines_from end)

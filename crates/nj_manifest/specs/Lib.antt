@@ -5,6 +5,7 @@ pub mod DyndepLeftmost
 pub mod DyndepParsers
 pub mod DyndepVersions
 pub mod Dyndeps
+pub mod Expansion
 pub mod Faults
 pub mod Grammar
 pub mod Laws

@@ -3,8 +3,9 @@
 ghost use Rattle.std.specs.Prelude.{◌≡◌, IfOk, map};
 ghost use Rattle.nj_text.specs.Words.{word_text, part_text};
 ghost use Rattle.nj_manifest.specs.Contents.{words_text};
+ghost use Rattle.nj_manifest.specs.Expansion.{expanded, no_values};
 ghost use Rattle.nj_manifest.specs.Inside.ParserContracts.{TakesStep, LeadsTo};
-ghost use Rattle.nj_manifest.specs.Dyndeps.{value_bytes, version_line, word_of_form, no_path, no_section, output_next, added_inputs, entry_line, restat_line, line_too_many, restat_block};
+ghost use Rattle.nj_manifest.specs.Dyndeps.{version_line, word_of_form, no_path, no_section, output_next, added_inputs, entry_line, restat_line, line_too_many, restat_block};
 ghost use Rattle.nj_manifest.specs.DyndepParsers.{entry_text};
 
 use crate::block::equals_value;
@@ -26,7 +27,7 @@ pub struct Entry<'a> {
 
 /// The bytes of a value in which each reference is empty.
 fn value_bytes(alloc: Global, parts: &[Part]) -> Result<Vec<u8>, AllocError>
-    ensures { IfOk result (λ bytes. bytes.items ≡ value_bytes (map part_text parts.now)) }
+    ensures { IfOk result (λ bytes. bytes.items ≡ expanded no_values (map part_text parts.now)) }
 {
     let mut bytes = Vec::new(alloc);
     'parts: for part in parts {

@@ -1,9 +1,8 @@
 -- Scopes: which variables and rules a statement sees.
 use Rattle.std.specs.Prelude.{◌≡◌, ℕ, Option, Some, None, option_and_then, unwrap_or, List, [], ◌∷◌, slice_get, bytes_eq}
 use Rattle.std.specs.Option.{option_or}
-use Rattle.std.specs.List.{flat_map}
 use Rattle.std.specs.Map.{lookup}
-use Rattle.nj_text.specs.Words.{PartText, Text, Name}
+pub use Rattle.nj_manifest.specs.Expansion.{part_expanded, expanded}
 
 -- A scope is given by its number and the numbers of the scopes around it, the nearest first. The value of a name in it: the
 -- value in the scope itself, else in the scopes around it.
@@ -18,14 +17,6 @@ Bounds = ℕ → List ℕ → Option (List ℕ)
 -- the value of a name in a scope; an unknown name is empty
 abbrev pub value_in : Bounds → (scope : List ℕ) → (name : List ℕ) → List ℕ
 value_in bound scope name = unwrap_or (nearest (λ s. bound s name) scope) []
-
--- the value of parts, where names have these values
-abbrev pub part_expanded : (value : List ℕ → List ℕ) → PartText → List ℕ
-part_expanded value (Text bytes) = bytes
-part_expanded value (Name name) = value name
-
-abbrev pub expanded : (value : List ℕ → List ℕ) → List PartText → List ℕ
-expanded value parts = flat_map (part_expanded value) parts
 
 -- a scope with those around it, where each was opened in its parent
 pub data IsScope (parent : ℕ → Option ℕ) : ℕ → List ℕ → Type 0 where

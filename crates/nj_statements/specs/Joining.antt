@@ -4,20 +4,17 @@ use Rattle.std.specs.Option.{option_or}
 use Rattle.std.specs.Prelude.{find, filter, length, slice_get, bytes_eq}
 use Rattle.std.specs.List.{list_any}
 use Rattle.nj_manifest.specs.Statements.{StatementText, BuildText}
+pub use Rattle.nj_manifest.specs.Expansion.{no_values}
 use Rattle.nj_manifest.specs.Dyndeps.{EntryText}
 use Rattle.nj_scope.specs.ReadingList.{Discovered, ReadStatement}
 use Rattle.nj_edges.specs.Edges.{first_output, maker_of}
 use Rattle.nj_faults.specs.declared.fault.GraphFault.{GraphFault}
 use Rattle.nj_faults.specs.declared.fault.Cause.TheVariants.{DyndepExtra, DyndepTwice, DyndepNoStatement}
 use Rattle.nj_faults.specs.Faults.{fault_at}
-use Rattle.nj_statements.specs.EdgeList.{Values, EdgeText, Pending, path_given, paths_given, edges_read, paths_of_edges, pending_read}
+use Rattle.nj_statements.specs.EdgeList.{EdgeText, Pending, path_given, paths_given, edges_read, paths_of_edges, pending_read}
 use Rattle.nj_statements.specs.BuildFaults.{fault_if, first_fault, empty_path, outputs_fault}
 
 -- ---- the statements that are joined
-
--- a dyndep file binds no name, so that references in its words are empty
-abbrev pub no_values : Values
-no_values name = []
 
 abbrev pub is_build : StatementText → Bool
 is_build (BuildText outputs rule inputs lines) = true
